@@ -1,0 +1,161 @@
+// The choice between the two LDPC base graphs, and their sizes (3GPP TS 38.212, 5.3.2, 6.2.2 and 7.2.2).
+// `pick` answers the base graph of a transport block by its size and its code rate.
+// Its contract: the answer is `picked` of specs/Graph.antt, the three comparisons of the standard in whole
+// numbers, or the first of the two faults.
+// Stands on std alone, with `thiserror` for the fault; nothing here takes memory.
+#![tactic(auto)]
+
+ghost use Rattle.std.specs.Prelude.{◌≡◌};
+ghost use Rattle.nr_graphpick.specs.Graph.{rows_of, cols_of, info_cols_of, picked};
+
+use std::fmt;
+use thiserror::Error;
+
+/// The largest transport block that is handled, in bits.
+const MOST_BITS: u32 = 1_310_720;
+
+/// The largest code rate, in 2048ths: 1.
+const FULL_RATE: u32 = 2048;
+
+/// An LDPC base graph (TS 38.212, 5.3.2). It is printed as its number, `1` or `2`.
+#[derive(Clone, Copy, Debug, PartialEq, Eq)]
+pub enum Graph {
+    /// LDPC base graph 1, for long transport blocks at high code rates.
+    One,
+    /// LDPC base graph 2, for short transport blocks and for low code rates.
+    Two,
+}
+
+impl Graph {
+    /// How many rows of Zc by Zc blocks the parity-check matrix has: 46 or 42 (TS 38.212, 5.3.2).
+    pub fn rows(self) -> u32
+        ensures { result ≡ rows_of self }
+    {
+        match self {
+            Graph::One => 46,
+            Graph::Two => 42,
+        }
+    }
+
+    /// How many columns of Zc by Zc blocks it has: 68 or 52 (TS 38.212, 5.3.2).
+    pub fn cols(self) -> u32
+        ensures { result ≡ cols_of self }
+    {
+        match self {
+            Graph::One => 68,
+            Graph::Two => 52,
+        }
+    }
+
+    /// How many of its columns, the first ones, stand for information bits: 22 or 10 (TS 38.212, 5.2.2).
+    pub fn info_cols(self) -> u32
+        ensures { result ≡ info_cols_of self }
+    {
+        match self {
+            Graph::One => 22,
+            Graph::Two => 10,
+        }
+    }
+}
+
+impl fmt::Display for Graph {
+    ghost use Rattle.std.specs.Prelude.{Some};
+    ghost use Rattle.nr_graphpick.specs.Graph.{digits_of};
+
+    ghost output = { λ graph. Some (digits_of graph) };
+
+    fn fmt<W: fmt::Write>(&self, f: &mut fmt::Formatter<W>) -> fmt::Result {
+        match self {
+            Graph::One => f.write_str("1"),
+            Graph::Two => f.write_str("2"),
+        }
+    }
+}
+
+/// Why no base graph is picked.
+#[derive(Clone, Copy, Debug, PartialEq, Eq, Error)]
+pub enum PickFault {
+    /// The code rate is not in 1..=2048 2048ths.
+    #[error("RateRange")]
+    RateRange,
+    /// The transport block does not have 1..=1,310,720 bits.
+    #[error("SizeRange")]
+    SizeRange,
+}
+
+/// Picks the base graph of a transport block of `a` bits at the code rate `rate2048` / 2048
+/// (TS 38.212, 6.2.2 and 7.2.2).
+///
+/// Base graph 2 is taken where `a` is at most 292, or `a` is at most 3824 and the rate at most 0.67, or the
+/// rate is at most 0.25; else base graph 1. The rate is compared in whole numbers, as
+/// `100 * rate2048 <= 137216` and `4 * rate2048 <= 2048`.
+///
+/// Errors, in this order: `RateRange`, where `rate2048` is not in 1..=2048; `SizeRange`, where `a` is not in
+/// 1..=1,310,720.
+pub fn pick(a: u32, rate2048: u32) -> Result<Graph, PickFault>
+    ensures { result ≡ picked a rate2048 }
+{
+    if !(1..=FULL_RATE).contains(&rate2048) {
+        return Err(PickFault::RateRange);
+    }
+    if !(1..=MOST_BITS).contains(&a) {
+        return Err(PickFault::SizeRange);
+    }
+    if a <= 292 || (a <= 3824 && 100 * rate2048 <= 137_216) || 4 * rate2048 <= 2048 {
+        Ok(Graph::Two)
+    } else {
+        Ok(Graph::One)
+    }
+}
+
+#[cfg(test)]
+mod tests {
+    use super::*;
+
+    #[test]
+    fn sizes(rt: HostRuntime) {
+        let (one, two) = (Graph::One, Graph::Two);
+        assert_eq!(rt; (one.rows(), one.cols(), one.info_cols()), (46, 68, 22));
+        assert_eq!(rt; (two.rows(), two.cols(), two.info_cols()), (42, 52, 10));
+    }
+
+    // Around each of the standard's bounds: 292 bits, 3824 bits, the rates 0.67 (1372.16 2048ths) and 0.25.
+    #[test]
+    fn picks(rt: HostRuntime) {
+        let cases = [
+            (1, 2048, Ok(Graph::Two)),
+            (292, 2048, Ok(Graph::Two)),
+            (293, 2048, Ok(Graph::One)),
+            (296, 1372, Ok(Graph::Two)),
+            (296, 1373, Ok(Graph::One)),
+            (3824, 1372, Ok(Graph::Two)),
+            (3825, 1372, Ok(Graph::One)),
+            (3832, 512, Ok(Graph::Two)),
+            (3832, 513, Ok(Graph::One)),
+            (1_310_720, 512, Ok(Graph::Two)),
+            (1_310_720, 513, Ok(Graph::One)),
+            (1_310_721, 512, Err(PickFault::SizeRange)),
+            (0, 1, Err(PickFault::SizeRange)),
+            (0, 0, Err(PickFault::RateRange)),
+            (8, 2049, Err(PickFault::RateRange)),
+        ];
+        for (a, rate2048, want) in cases {
+            assert_eq!(rt; pick(a, rate2048), want, "{a} bits at {rate2048}");
+        }
+    }
+
+    #[test]
+    fn texts(rt: HostRuntime) -> Result<(), std::test::Fail> {
+        assert_eq!(rt; Graph::One.to_string(rt.alloc())?.as_str(), "1");
+        assert_eq!(rt; Graph::Two.to_string(rt.alloc())?.as_str(), "2");
+        assert_eq!(rt;
+            PickFault::RateRange.to_string(rt.alloc())?.as_str(),
+            "RateRange"
+        );
+        assert_eq!(rt;
+            PickFault::SizeRange.to_string(rt.alloc())?.as_str(),
+            "SizeRange"
+        );
+        Ok(())
+    }
+}
