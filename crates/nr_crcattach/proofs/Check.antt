@@ -1,0 +1,93 @@
+-- A list followed by its parity bits leaves remainder 0.
+use Rattle.std.proofs.Common.{◌≡◌, ℕ, ◌+◌, ◌*◌, ◌/◌, ◌%◌, ◌^◌, ◌<◌, ◌≤◌, ◌==◌, if◌then◌else◌, zero, suc, Bool, List, [], ◌∷◌, ◌++◌, length, refl, sym, ◌∙◌, ap, arith, bit_xor, length-append, append_assoc}
+use Rattle.std.specs.Int.{bit_at}
+use Rattle.std.proofs.lemmas.Bool.{cond_below, cond_above}
+use Rattle.std.proofs.lemmas.Nat.{mod-pow-add, mod_below, pow_pos}
+use Rattle.std.proofs.lemmas.Nat.Bits.{bit_at-lt}
+use Rattle.std.proofs.Math.Nat.{mod-eq_of_lt}
+use lib.Bits.{xor_self, xor_shifted}
+use Rattle.nr_crcattach.specs.declared.Poly.{Poly}
+use Rattle.nr_crcattach.specs.declared.Poly.TheVariants.{A24, C16}
+use Rattle.nr_crcattach.specs.Crc.{degree, times_d, rho, residue, high_first, crc_of, IsDivided}
+use Rattle.nr_crcattach.specs.Attachment.{attached, block_poly, with_check}
+use Rattle.nr_crcattach.proofs.Residues.{times_d-zero, times_d-zero_only, residue-lt, residue-append, residue-suc, rho-pow}
+
+-- n bits
+pub length-high_first : (n v : ℕ) → length (high_first n v) ≡ n
+unfolding high_first
+length-high_first zero v = refl
+length-high_first (suc n) v = ap suc (length-high_first n v)
+
+-- the highest of suc n bits stands before the others
+pub high_first-next : (n v : ℕ) (bits : List Bool) → (bits ++ (bit_at v n == 1) ∷ []) ++ high_first n v ≡ bits ++ high_first (suc n) v
+unfolding high_first
+high_first-next n v bits = append_assoc bits ((bit_at v n == 1) ∷ []) (high_first n v)
+
+-- parity bits lengthen a list by their number
+pub length-with_check : (p : Poly) (bits : List Bool) → length (with_check p bits) ≡ length bits + degree p
+length-with_check p bits =
+    length-append bits (high_first (degree p) (crc_of p bits)) ∙ ap (λ n. length bits + n) (length-high_first (degree p) (crc_of p bits))
+
+-- the generator of a transport block of more than 3824 bits
+block_poly-long : (block : List Bool) → 3824 < length block → block_poly block ≡ A24
+block_poly-long block long = sym (cond_below 3824 (length block) A24 C16 long)
+
+-- the generator of any other
+block_poly-short : (block : List Bool) → length block ≤ 3824 → block_poly block ≡ C16
+block_poly-short block short = sym (cond_above 3824 (length block) A24 C16 C16 short refl)
+
+-- a transport block of more than 3824 bits has 24 bits more
+pub length-attached_long : (block : List Bool) → 3824 < length block → length (attached block) ≡ length block + 24
+length-attached_long block long =
+    length-with_check (block_poly block) block ∙ ap (λ p. length block + degree p) (block_poly-long block long)
+
+-- any other has 16 bits more
+pub length-attached_short : (block : List Bool) → length block ≤ 3824 → length (attached block) ≡ length block + 16
+length-attached_short block short =
+    length-with_check (block_poly block) block ∙ ap (λ p. length block + degree p) (block_poly-short block short)
+
+-- a bit above n lower bits
+top_bit : (bit n low : ℕ) → bit < 2 → low < 2 ^ n → bit_xor (if bit == 1 then 2 ^ n else 0) low ≡ bit * 2 ^ n + low
+top_bit zero n low is_bit below = omega arith
+top_bit (suc zero) n low is_bit below = ap (λ (high : ℕ). bit_xor high low) (let one : 2 ^ n ≡ 1 * 2 ^ n = omega arith in one) ∙ xor_shifted 1 n low below
+top_bit (suc (suc bit)) n low is_bit below = absurd (omega arith)
+
+-- the bits of a number below the generator's degree are their own remainder
+residue-high_first : (p : Poly) (n v : ℕ) → n ≤ degree p → residue p 0 (high_first n v) ≡ v % 2 ^ n
+unfolding residue high_first
+residue-high_first p zero v short = omega arith
+residue-high_first p (suc n) v short =
+    let power : length (high_first n v) + 0 ≡ n = omega (arith, length-high_first n v) in
+    let alone : rho p (length (high_first n v) + 0) ≡ 2 ^ n = ap (rho p) power ∙ rho-pow p n (omega arith) in
+    let rest : residue p 0 (high_first n v) ≡ v % 2 ^ n = residue-high_first p n v (omega arith) in
+    let split : v % 2 ^ (1 + n) ≡ (v / 2 ^ n % 2 ^ 1) * 2 ^ n + v % 2 ^ n = mod-pow-add v 1 n in
+    let next : 1 + n ≡ suc n = omega arith in
+    ap (λ r. bit_xor (if bit_at v n == 1 then r else 0) (residue p 0 (high_first n v))) alone
+    ∙ ap (bit_xor (if bit_at v n == 1 then 2 ^ n else 0)) rest
+    ∙ top_bit (bit_at v n) n (v % 2 ^ n) (bit_at-lt v n) (mod_below v (2 ^ n) (pow_pos n))
+    ∙ sym split ∙ ap (λ k. v % 2 ^ k) next
+
+-- a list followed by its parity bits is divided by their generator
+pub IsDivided-with_check : (p : Poly) (bits : List Bool) → IsDivided p (with_check p bits)
+IsDivided-with_check p bits =
+    let l = degree p in
+    let check = crc_of p bits in
+    let length_is : length (high_first l check) + 0 ≡ l = omega (arith, length-high_first l check) in
+    let own : residue p 0 (high_first l check) ≡ check =
+    residue-high_first p l check (omega arith) ∙ (let below : check < 2 ^ l = residue-lt p l bits in let small : check % 2 ^ l ≡ check = mod-eq_of_lt below in small) in
+    residue-append p 0 bits (high_first l check)
+    ∙ ap (λ s. bit_xor (residue p s bits) (residue p 0 (high_first l check))) length_is
+    ∙ ap (bit_xor check) own
+    ∙ xor_self check
+
+-- a power of D leaves remainder 0 only where the list does
+pub residue-zero_only : (p : Poly) (s : ℕ) (bits : List Bool) → residue p s bits ≡ 0 → residue p 0 bits ≡ 0
+residue-zero_only p zero bits none = none
+residue-zero_only p (suc s) bits none =
+    residue-zero_only p s bits (times_d-zero_only p (residue p s bits) (sym (residue-suc p s bits) ∙ none))
+
+-- and it does so there
+pub residue-zero : (p : Poly) (s : ℕ) (bits : List Bool) → residue p 0 bits ≡ 0 → residue p s bits ≡ 0
+residue-zero p zero bits none = none
+residue-zero p (suc s) bits none =
+    residue-suc p s bits ∙ ap (times_d p) (residue-zero p s bits none) ∙ times_d-zero p

@@ -1,0 +1,5 @@
+pub mod Check
+pub mod Generators
+pub mod Register
+pub mod Residues
+pub mod Sums

@@ -1,0 +1,59 @@
+-- One more bit enters the register: `residue-next` at the code's numbers.
+use Rattle.std.proofs.Common.{◌≡◌, ℕ, ◌+◌, ◌-◌, ◌*◌, ◌%◌, ◌^◌, ◌<◌, Bool, true, false, [], ◌∷◌, ◌++◌, length-drop, take, drop, refl, sym, ◌∙◌, ap, arith, bit_xor}
+use Rattle.std.proofs.lemmas.Nat.{one_shl, pow_pos, xor_lt}
+use Rattle.std.proofs.lemmas.List.{take_more, get_or-drop}
+use Rattle.nr_crcattach.specs.declared.Poly.{Poly}
+use Rattle.nr_crcattach.specs.Crc.{degree, residue, times_d}
+use Rattle.nr_crcattach.proofs.Generators.{degree-le, degree-positive}
+use Rattle.nr_crcattach.proofs.Register.{entering, entering-lt, residue-next}
+use Rattle.nr_crcattach.proofs.crc_range.Goals as goal
+use mir.Val.{bool_byte}
+
+-- the code's bit << top
+shl-entering : (p : Poly) (byte top : ℕ) (bit : Bool) → byte ≡ bool_byte bit → top ≡ degree p → byte * 2 ^ (top - 1) % 2 ^ 32 ≡ entering (degree p) bit
+shl-entering p byte top true is_bit is_top =
+    ap (λ b. b * 2 ^ (top - 1) % 2 ^ 32) is_bit ∙ one_shl (top - 1) 32 (omega (arith, degree-le p)) ∙ ap (λ n. 2 ^ (n - 1)) is_top
+shl-entering p byte top false is_bit is_top =
+    let none : 0 * 2 ^ (top - 1) % 2 ^ 32 ≡ 0 = omega arith in
+    ap (λ b. b * 2 ^ (top - 1) % 2 ^ 32) is_bit ∙ none
+
+pub loop-i-init : goal.loop-i-init
+unfolding residue
+loop-i-init c = record { value = refl; fits = pow_pos (degree c.args.poly) }
+
+pub times_d-register-requires : goal.times_d-register-requires
+times_d-register-requires c =
+    let p = c.args.poly in
+    let bit = shl-entering p c.from.result c.degree-top.result c.get.result c.from.ensures c.degree-top.ensures in
+    let added : bit_xor c.loop-i.register (entering (degree p) c.get.result) < 2 ^ degree p =
+    xor_lt (degree p) c.loop-i.register (entering (degree p) c.get.result) c.loop-i.invariant.fits (entering-lt (degree p) c.get.result (degree-positive p)) in
+    rw bit added
+
+pub loop-i-preserved : goal.loop-i-preserved
+loop-i-preserved c =
+    let p = c.args.poly in
+    let l = degree p in
+    let rest = drop c.args.from c.args.bits.now.items in
+    let seen = take c.loop-i.i rest in
+    let bit = c.get.result in
+    let shifted : c.from.result * 2 ^ (c.degree-top.result - 1) % 2 ^ 32 ≡ entering l bit = shl-entering p c.from.result c.degree-top.result bit c.from.ensures c.degree-top.ensures in
+    let more : take (c.loop-i.i + 1) rest ≡ seen ++ bit ∷ [] =
+    take_more rest c.loop-i.i false (omega (arith, length-drop c.args.from c.args.bits.now.items))
+    ∙ ap (λ b. seen ++ b ∷ []) (get_or-drop c.args.from c.args.bits.now.items c.loop-i.i false ∙ sym c.get.ensures) in
+    record {
+      value =
+          c.times_d-register.ensures.value
+          ∙ ap (λ r. times_d p (bit_xor c.loop-i.register r)) shifted
+          ∙ ap (λ r. times_d p (bit_xor r (entering l bit))) c.loop-i.invariant.value
+          ∙ sym (residue-next p seen bit)
+          ∙ ap (residue p l) (sym more);
+      fits = c.times_d-register.ensures.fits;
+    }
+
+pub returns : goal.returns
+returns c =
+    let all : c.loop-i.i ≡ c.args.len = omega arith in
+    record {
+      value = rw (← all) c.loop-i.invariant.value;
+      fits = c.loop-i.invariant.fits;
+    }

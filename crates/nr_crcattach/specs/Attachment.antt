@@ -1,0 +1,37 @@
+-- Attachment of parity bits, TS 38.212 clauses 5.1, 6.2.1 and 7.2.1.
+use Rattle.std.specs.Prelude.{◌≡◌, ◌+◌, ◌<◌, ◌≤◌, Bool, List, ◌++◌, length, nat_lt, if◌then◌else◌}
+use Rattle.nr_crcattach.specs.declared.Poly.{Poly}
+use Rattle.nr_crcattach.specs.declared.Poly.TheVariants.{A24, C16}
+use Rattle.nr_crcattach.specs.Crc.{IsDivided, crc_of, degree, high_first}
+
+-- the bits followed by their parity bits (clause 5.1)
+abbrev pub with_check : Poly → List Bool → List Bool
+with_check p bits = bits ++ high_first (degree p) (crc_of p bits)
+
+-- the generator for a transport block: CRC24A above 3824 bits, else CRC16 (clauses 6.2.1 and 7.2.1)
+abbrev pub block_poly : List Bool → Poly
+block_poly block = if nat_lt 3824 (length block) then A24 else C16
+
+-- a transport block followed by its parity bits (clauses 6.2.1 and 7.2.1)
+abbrev pub attached : List Bool → List Bool
+attached block = with_check (block_poly block) block
+
+-- every list followed by its parity bits leaves remainder 0 by their generator
+abbrev pub CheckedListsDivide : Type 0
+CheckedListsDivide = (p : Poly) (bits : List Bool) → IsDivided p (with_check p bits)
+
+-- every transport block followed by its parity bits leaves remainder 0 by its generator
+abbrev pub AttachedBlocksDivide : Type 0
+AttachedBlocksDivide = (block : List Bool) → IsDivided (block_poly block) (attached block)
+
+-- parity bits lengthen a list by their number
+abbrev pub CheckedListsLengthen : Type 0
+CheckedListsLengthen = (p : Poly) (bits : List Bool) → length (with_check p bits) ≡ length bits + degree p
+
+-- a transport block of more than 3824 bits is lengthened by 24 bits
+abbrev pub LongBlocksLengthen : Type 0
+LongBlocksLengthen = (block : List Bool) → 3824 < length block → length (attached block) ≡ length block + 24
+
+-- any other transport block is lengthened by 16 bits
+abbrev pub ShortBlocksLengthen : Type 0
+ShortBlocksLengthen = (block : List Bool) → length block ≤ 3824 → length (attached block) ≡ length block + 16

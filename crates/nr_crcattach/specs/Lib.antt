@@ -1,0 +1,2 @@
+pub mod Attachment
+pub mod Crc

@@ -1,0 +1,166 @@
+// The cyclic redundancy checks of NR (TS 38.212 clause 5.1) and their attachment to transport blocks
+// (6.2.1, 7.2.1) and to code blocks (5.2.2). A list of bits is a polynomial, its first bit the highest
+// coefficient; every call is stated by the remainders of that polynomial (`specs/Crc.antt`) and by the list
+// with its parity bits behind it (`specs/Attachment.antt`), never by the register that the code shifts. The
+// main contract is that of `attach`, and `attachment_divides` is the law that what was attached leaves
+// remainder 0. It stands on `nr_bitvec`.
+#![tactic(auto)]
+
+ghost use Rattle.nr_crcattach.specs.Attachment.{AttachedBlocksDivide, CheckedListsDivide, CheckedListsLengthen, LongBlocksLengthen, ShortBlocksLengthen, attached, with_check};
+ghost use Rattle.nr_crcattach.specs.Crc.{IsDivided, JoinedListsAdd, PowersMultiply, TimesDIsAdditive, crc_of, degree, generator, times_d};
+ghost use Rattle.std.specs.Prelude.{◌≡◌, ◌+◌, ◌<◌, ◌≤◌, ◌^◌, ◌↔◌, IfOk, IsTrue, drop, length, take};
+ghost use Rattle.nr_crcattach.specs.declared.Poly.{Poly};
+
+use nr_bitvec::Bits;
+use std::alloc::{AllocError, Global};
+
+// A transport block of more bits than this has 24 parity bits, any other 16 (TS 38.212, 6.2.1 and 7.2.1).
+const MOST_FOR_C16: usize = 3824;
+
+/// A generator polynomial of TS 38.212 clause 5.1.
+#[derive(Clone, Copy, Debug, PartialEq, Eq)]
+pub enum Poly {
+    /// gCRC24A, for long transport blocks: 24 parity bits.
+    A24,
+    /// gCRC24B, for code blocks: 24 parity bits.
+    B24,
+    /// gCRC16, for short transport blocks: 16 parity bits.
+    C16,
+}
+
+impl Poly {
+    // The number of parity bits.
+    fn degree(self) -> u32
+        ensures { result ≡ degree self }
+    {
+        match self {
+            Poly::A24 | Poly::B24 => 24,
+            Poly::C16 => 16,
+        }
+    }
+
+    // The coefficients, that of D^0 lowest.
+    fn generator(self) -> u32
+        ensures { result ≡ generator self }
+    {
+        match self {
+            Poly::A24 => 0x186_4cfb,
+            Poly::B24 => 0x180_0063,
+            Poly::C16 => 0x1_1021,
+        }
+    }
+
+    // A remainder times D.
+    fn times_d(self, remainder: u32) -> u32
+        requires { remainder < 2 ^ degree self }
+        ensures value { result ≡ times_d self remainder }
+        ensures fits { result < 2 ^ degree self }
+    {
+        let doubled = 2 * remainder;
+        if doubled < 1 << self.degree() {
+            doubled
+        } else {
+            doubled ^ self.generator()
+        }
+    }
+}
+
+/// The parity bits of `bits` by the generator `poly`, as a number of 24 or 16 bits, the first parity bit
+/// highest (TS 38.212, 5.1). Takes no memory.
+pub fn crc(poly: Poly, bits: &Bits) -> u32
+    ensures value { result ≡ crc_of poly bits.now.items }
+    ensures fits { result < 2 ^ degree poly }
+{
+    crc_range(poly, bits, 0, bits.len())
+}
+
+/// The parity bits of the `len` bits from bit `from` on, as `crc` gives them for a list of these bits alone.
+/// The range lies within the list. Takes no memory.
+pub fn crc_range(poly: Poly, bits: &Bits, from: usize, len: usize) -> u32
+    requires { from + len ≤ length bits.now.items }
+    ensures value { result ≡ crc_of poly (take len (drop from bits.now.items)) }
+    ensures fits { result < 2 ^ degree poly }
+{
+    // A list's length is at most 2^24, so that no place below `from + len` overflows.
+    let _ = bits.len();
+    let top = poly.degree() - 1;
+    let mut register = 0;
+    for i in 0..len {
+        let entering = u32::from(bits.get(from + i)) << top;
+        register = poly.times_d(register ^ entering);
+    }
+    register
+}
+
+/// Whether `bits`, as a polynomial, leaves remainder 0 by the generator `poly` (TS 38.212, 5.1), as a list
+/// followed by its parity bits does. Takes no memory.
+pub fn divides(poly: Poly, bits: &Bits) -> bool
+    ensures { IsTrue result ↔ IsDivided poly bits.now.items }
+{
+    // The parity bits are the remainder times a power of D, which is 0 only where the remainder is.
+    crc(poly, bits) == 0
+}
+
+/// A transport block followed by its parity bits: 24 by CRC24A where it has more than 3824 bits, else 16 by
+/// CRC16 (TS 38.212, 6.2.1 and 7.2.1). The block has at most 2^24 - 24 bits. Refused for want of memory alone.
+pub fn attach(alloc: Global, block: &Bits) -> Result<Bits, AllocError>
+    requires { length block.now.items + 24 ≤ 2 ^ 24 }
+    ensures { IfOk result (λ b. b.items ≡ attached block.now.items) }
+{
+    let poly = if block.len() > MOST_FOR_C16 {
+        Poly::A24
+    } else {
+        Poly::C16
+    };
+    followed_by_check(alloc, poly, block)
+}
+
+/// The bits of a code block, at most 2^24 - 24, followed by their 24 parity bits by CRC24B (TS 38.212, 5.2.2).
+/// Refused for want of memory alone.
+pub fn attach_code(alloc: Global, bits: &Bits) -> Result<Bits, AllocError>
+    requires { length bits.now.items + 24 ≤ 2 ^ 24 }
+    ensures { IfOk result (λ b. b.items ≡ with_check Poly.B24 bits.now.items) }
+{
+    followed_by_check(alloc, Poly::B24, bits)
+}
+
+// The bits followed by their parity bits, the highest first.
+fn followed_by_check(alloc: Global, poly: Poly, bits: &Bits) -> Result<Bits, AllocError>
+    requires { length bits.now.items + 24 ≤ 2 ^ 24 }
+    ensures { IfOk result (λ b. b.items ≡ with_check poly bits.now.items) }
+{
+    let mut checked = Bits::new(alloc);
+    checked.extend(bits)?;
+    let check = crc(poly, bits);
+    for place in (0..poly.degree()).rev() {
+        checked.push(check >> place & 1 == 1)?;
+    }
+    Ok(checked)
+}
+
+/// The law of attachment: every list followed by its parity bits leaves remainder 0 by their generator, and
+/// so does every transport block as `attach` gives it.
+pub fn attachment_divides()
+    ensures check { CheckedListsDivide }
+    ensures block { AttachedBlocksDivide }
+{}
+
+/// The law of lengths: parity bits lengthen a list by their number, and a transport block by 24 bits exactly
+/// where it has more than 3824, else by 16.
+pub fn attachment_lengthens()
+    ensures check { CheckedListsLengthen }
+    ensures long { LongBlocksLengthen }
+    ensures short { ShortBlocksLengthen }
+{}
+
+/// The laws of sums: a sum times D is the sum of both times D, one more power of D is the remainder times D,
+/// and the remainder of two lists joined is the sum of both, the first's raised by as many powers as the
+/// second has bits.
+pub fn residues_add()
+    ensures sum { TimesDIsAdditive }
+    ensures power { PowersMultiply }
+    ensures joined { JoinedListsAdd }
+{}
+
+#[cfg(test)]
+mod tests;
