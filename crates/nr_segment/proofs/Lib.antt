@@ -1,0 +1,3 @@
+mod CodeBlockLemmas
+mod PlanLemmas
+mod SizeSearch

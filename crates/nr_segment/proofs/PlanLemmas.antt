@@ -1,0 +1,256 @@
+-- What the numbers of a plan keep to.
+use Rattle.std.proofs.Common.{◌≡◌, ℕ, suc, zero, ◌+◌, ◌-◌, ◌*◌, ◌/◌, ◌%◌, ◌<◌, ◌≤◌, ◌⊎◌, nat_lt, nat_le, nat_eq, not, Bool, true, false, subst, cond, Option, Some, None, IsSome, unwrap_or, Ok, Err, refl, lit<, lit≤, inl, inr, eq-eqb, arith, ap, ◌∙◌}
+use Rattle.std.proofs.Math.Nat.{mul-le-mul_left, mul-le-mul_right, mul-sub}
+use Rattle.std.proofs.lemmas.Bool.{cases_lt}
+use Rattle.std.proofs.lemmas.Bool.Decides.{nat_tests}
+use Rattle.std.specs.Int.{div_ceil}
+use Rattle.nr_graphpick.specs.Graph.{info_cols_of, cols_of}
+use Rattle.nr_graphpick.specs.declared.Graph.{Graph}
+use Rattle.nr_graphpick.specs.declared.Graph.TheVariants.{One, Two}
+use Rattle.nr_lifting.specs.Sizes.{sizes, is_in, least_size, set_index}
+use Rattle.nr_segment.specs.declared.numbers.SegFault.TheVariants.{Short, Long, Uneven}
+use Rattle.nr_segment.specs.Plan.{check_bits, block_count, total_bits, block_bits, info_columns, lifting_size, numbers_of, plan_of, Numbers, IsSound}
+use Rattle.nr_segment.proofs.SizeSearch.{least_size-holds, least_size-half, least_size-listed, least_size-some, listed-most, set_index-some}
+
+-- an option that has a value has the one that it is unwrapped to
+some-unwrap_or : (o : Option ℕ) → IsSome o → o ≡ Some (unwrap_or o 0)
+some-unwrap_or (Some x) some = refl
+some-unwrap_or None some = cc
+
+-- how b bits are shared out to c code blocks of kdash bits, l of them for a CRC, over kb columns out of cols
+pub record IsShared (b l c kdash kb cols : ℕ) : Type 0 where
+  pub some : 0 < c
+  pub few : c ≤ 344
+  pub several : l ≡ cond (nat_lt 1 c) 24 0
+  pub checked : l < kdash
+  pub total : c * kdash ≡ b + c * l
+  pub least : 24 ≤ kdash
+  pub spread : kdash ≤ kb * 384
+  pub wide : 4 ≤ kb
+  pub narrow : kb ≤ cols
+  pub cols_most : cols ≤ 22
+
+-- several code blocks: `most` is the largest one, less its CRC, and l is 24
+several : (most b c kdash : ℕ) → 0 < most → 0 < b → b ≤ c * most → 0 < c → c * kdash ≡ b + c * 24
+    → (24 < kdash) × (kdash ≤ most + 24)
+several most b c kdash most_some b_some covers some total = (above (cases_lt 24 kdash), below (cases_lt (most + 24) kdash))
+  where
+    above : (24 < kdash) ⊎ (kdash ≤ 24) → 24 < kdash
+    above (inl lt) = lt
+    above (inr le) = absurd (let up : c * kdash ≤ c * 24 = mul-le-mul_left c le in omega arith)
+
+    below : (most + 24 < kdash) ⊎ (kdash ≤ most + 24) → kdash ≤ most + 24
+    below (inl lt) =
+        let more : most + 25 ≤ kdash = omega arith in
+        absurd (let up : c * (most + 25) ≤ c * kdash = mul-le-mul_left c more in omega arith)
+    below (inr le) = le
+
+-- all b bits stand in one code block
+one-block : (b kb cols : ℕ) → 24 ≤ b → b ≤ kb * 384 → 4 ≤ kb → kb ≤ cols → cols ≤ 22
+    → IsShared b 0 1 ((b + 1 * 0) / 1) kb cols
+one-block b kb cols least spread wide narrow cols_most = record {
+  some = omega arith;
+  few = omega arith;
+  several = refl;
+  checked = omega arith;
+  total = omega arith;
+  least = omega arith;
+  spread = omega arith;
+  wide = wide;
+  narrow = narrow;
+  cols_most = cols_most;
+}
+
+-- they are shared out to c code blocks
+several-blocks : (most b c kb cols : ℕ) → 0 < most → 0 < b → 1 < c → c ≤ 344 → b ≤ c * most
+    → most + 24 ≤ kb * 384 → 4 ≤ kb → kb ≤ cols → cols ≤ 22 → (b + c * 24) % c ≡ 0
+    → IsShared b 24 c ((b + c * 24) / c) kb cols
+several-blocks most b c kb cols most_some b_some many few covers spread wide narrow cols_most even =
+    let total : c * ((b + c * 24) / c) ≡ b + c * 24 = omega arith in
+    let size : (24 < (b + c * 24) / c) × ((b + c * 24) / c ≤ most + 24) =
+    several most b c ((b + c * 24) / c) most_some b_some covers (omega arith) total in
+    let is_many : nat_lt 1 c ≡ true = grind (arith, nat_tests) in
+    record {
+      some = omega arith;
+      few = few;
+      several = rw is_many;
+      checked = size.0;
+      total = total;
+      least = omega arith;
+      spread = omega arith;
+      wide = wide;
+      narrow = narrow;
+      cols_most = cols_most;
+    }
+
+-- with base graph 1
+shared-one : (b : ℕ) → 24 ≤ b → b ≤ 1310744 → total_bits One b % block_count One b ≡ 0
+    → IsShared b (check_bits One b) (block_count One b) (block_bits One b) (info_columns One b) 22
+shared-one b least most even = go (nat_le b 8448) refl even
+  where
+    go : (one : Bool) → nat_le b 8448 ≡ one
+        → (b + cond one 1 (div_ceil b 8424) * cond one 0 24) % cond one 1 (div_ceil b 8424) ≡ 0
+        → IsShared b (cond one 0 24) (cond one 1 (div_ceil b 8424))
+        ((b + cond one 1 (div_ceil b 8424) * cond one 0 24) / cond one 1 (div_ceil b 8424)) 22 22
+    go true is even =
+        let short : b ≤ 8448 = grind (arith, nat_tests) in
+        one-block b 22 22 least short (lit≤ tt) (lit≤ tt) (lit≤ tt)
+    go false is even =
+        let long : 8448 < b = grind (arith, nat_tests) in
+        several-blocks 8424 b (div_ceil b 8424) 22 22 (lit< tt) (omega arith) (omega arith) (omega arith) (omega arith)
+        (lit≤ tt) (lit≤ tt) (lit≤ tt) (lit≤ tt) even
+
+-- the columns of base graph 2 are enough for one code block
+columns-two : (b : ℕ) → b ≤ 3840 → b ≤ info_columns Two b * 384
+columns-two b short = grind (arith, nat_tests)
+
+-- there are six to ten of them
+columns-two-range : (b : ℕ) → (4 ≤ info_columns Two b) × (info_columns Two b ≤ 10)
+columns-two-range b = (grind (arith, nat_tests), grind (arith, nat_tests))
+
+-- with base graph 2
+shared-two : (b : ℕ) → 24 ≤ b → b ≤ 1310744 → total_bits Two b % block_count Two b ≡ 0
+    → IsShared b (check_bits Two b) (block_count Two b) (block_bits Two b) (info_columns Two b) 10
+shared-two b least most even = go (nat_le b 3840) refl even
+  where
+    go : (one : Bool) → nat_le b 3840 ≡ one
+        → (b + cond one 1 (div_ceil b 3816) * cond one 0 24) % cond one 1 (div_ceil b 3816) ≡ 0
+        → IsShared b (cond one 0 24) (cond one 1 (div_ceil b 3816))
+        ((b + cond one 1 (div_ceil b 3816) * cond one 0 24) / cond one 1 (div_ceil b 3816)) (info_columns Two b) 10
+    go true is even =
+        let short : b ≤ 3840 = grind (arith, nat_tests) in
+        let range : (4 ≤ info_columns Two b) × (info_columns Two b ≤ 10) = columns-two-range b in
+        one-block b (info_columns Two b) 10 least (columns-two b short) range.0 range.1 (lit≤ tt)
+    go false is even =
+        let long : 3840 < b = grind (arith, nat_tests) in
+        let range : (4 ≤ info_columns Two b) × (info_columns Two b ≤ 10) = columns-two-range b in
+        let ten : info_columns Two b ≡ 10 = grind (arith, nat_tests) in
+        several-blocks 3816 b (div_ceil b 3816) (info_columns Two b) 10 (lit< tt) (omega arith) (omega arith)
+        (omega arith) (omega arith) (omega arith) range.0 range.1 (lit≤ tt) even
+
+-- the bits are shared out so with either base graph
+pub shared : (graph : Graph) (b : ℕ) → 24 ≤ b → b ≤ 1310744 → total_bits graph b % block_count graph b ≡ 0
+    → IsShared b (check_bits graph b) (block_count graph b) (block_bits graph b) (info_columns graph b) (info_cols_of graph)
+shared One b least most even = shared-one b least most even
+shared Two b least most even = shared-two b least most even
+
+-- the share of each code block without its CRC
+share : (b c kdash l : ℕ) → l < kdash → c * kdash ≡ b + c * l → c * (kdash - l) ≡ b
+share b c kdash l checked total = let less : c * kdash - c * l ≡ b = omega arith in mul-sub c kdash l ∙ less
+
+-- Zc is the least size for K' bits in Kb columns
+pub size-found : (graph : Graph) (b : ℕ) → block_bits graph b ≤ info_columns graph b * 384
+    → least_size (info_columns graph b) (block_bits graph b) ≡ Some (lifting_size graph b)
+unfolding lifting_size
+size-found graph b spread = some-unwrap_or _ (least_size-some (info_columns graph b) (block_bits graph b) spread)
+
+-- a size that holds bits is not zero
+size-positive : (kb need z : ℕ) → need ≤ kb * z → 24 ≤ need → 0 < z
+size-positive kb need zero holds some = absurd (omega arith)
+size-positive kb need (suc z) holds some = omega arith
+
+-- N is at most 66 times the largest size
+coded-most : (graph : Graph) (z : ℕ) → z ≤ 384 → (cols_of graph - 2) * z ≤ 25344
+coded-most One z most = omega arith
+coded-most Two z most = omega arith
+
+-- the numbers are sound where the bits are shared out
+sound-numbers : (graph : Graph) (b : ℕ) → 24 ≤ b → b ≤ 1310744
+    → IsShared b (check_bits graph b) (block_count graph b) (block_bits graph b) (info_columns graph b) (info_cols_of graph)
+    → IsSound graph b (numbers_of graph b)
+unfolding numbers_of
+sound-numbers graph b least most s =
+    let found : least_size (info_columns graph b) (block_bits graph b) ≡ Some (lifting_size graph b) =
+    size-found graph b s.spread in
+    let listed : is_in (lifting_size graph b) sizes ≡ true = least_size-listed _ _ _ found in
+    let holds : block_bits graph b ≤ info_columns graph b * lifting_size graph b = least_size-holds _ _ _ found in
+    let narrow : info_columns graph b * lifting_size graph b ≤ info_cols_of graph * lifting_size graph b =
+    mul-le-mul_right (lifting_size graph b) s.narrow in
+    let cols : info_cols_of graph * lifting_size graph b ≤ 22 * lifting_size graph b =
+    mul-le-mul_right (lifting_size graph b) s.cols_most in
+    let size_most : lifting_size graph b ≤ 384 = listed-most (lifting_size graph b) listed in
+    let low : info_columns graph b < block_bits graph b = omega arith in
+    let half : 2 * lifting_size graph b < block_bits graph b =
+    least_size-half (info_columns graph b) (block_bits graph b) (lifting_size graph b) s.wide low found in
+    record {
+      least = least;
+      most = most;
+      some = s.some;
+      few = s.few;
+      several = s.several;
+      checked = s.checked;
+      shared = share b (block_count graph b) (block_bits graph b) (check_bits graph b) s.checked s.total;
+      listed = listed;
+      set_is = some-unwrap_or _ (set_index-some (lifting_size graph b) listed);
+      size_some = size-positive (info_columns graph b) (block_bits graph b) (lifting_size graph b) holds s.least;
+      size_most = size_most;
+      columns = refl;
+      coded = refl;
+      held = omega arith;
+      unpunctured = half;
+      k_most = omega arith;
+      n_most = coded-most graph (lifting_size graph b) size_most;
+    }
+
+-- the numbers of every plan are sound
+pub sound-plan : (graph : Graph) (b : ℕ) (p : Numbers) → plan_of graph b ≡ Ok p → IsSound graph b p
+unfolding plan_of
+sound-plan graph b p planned =
+    go (nat_lt b 24) (nat_lt 1310744 b) (nat_eq (total_bits graph b % block_count graph b) 0) refl refl refl planned
+  where
+    go : (short long even : Bool) → nat_lt b 24 ≡ short → nat_lt 1310744 b ≡ long
+        → nat_eq (total_bits graph b % block_count graph b) 0 ≡ even
+        → cond short (Err Short) (cond long (Err Long) (cond (not even) (Err Uneven) (Ok (numbers_of graph b)))) ≡ Ok p
+        → IsSound graph b p
+    go true long even is_short is_long is_even planned = cc
+    go false true even is_short is_long is_even planned = cc
+    go false false false is_short is_long is_even planned = cc
+    go false false true is_short is_long is_even planned =
+        let least : 24 ≤ b = grind (arith, nat_tests) in
+        let most : b ≤ 1310744 = grind (arith, nat_tests) in
+        let whole : total_bits graph b % block_count graph b ≡ 0 = grind (arith, nat_tests) in
+        let same : numbers_of graph b ≡ p = cc in
+        subst (IsSound graph b) same (sound-numbers graph b least most (shared graph b least most whole))
+
+-- there is a plan where no fault stands
+accepted : (graph : Graph) (b : ℕ) → 24 ≤ b → b ≤ 1310744 → total_bits graph b % block_count graph b ≡ 0
+    → plan_of graph b ≡ Ok (numbers_of graph b)
+unfolding plan_of
+accepted graph b least most whole =
+    let is_short : nat_lt b 24 ≡ false = grind (arith, nat_tests) in
+    let is_long : nat_lt 1310744 b ≡ false = grind (arith, nat_tests) in
+    let is_even : nat_eq (total_bits graph b % block_count graph b) 0 ≡ true = eq-eqb _ _ whole in
+    rw (is_short, is_long, is_even)
+
+-- Zc is found where no fault stands
+size-planned : (graph : Graph) (b l c : ℕ) → 24 ≤ b → b ≤ 1310744 → l ≡ check_bits graph b
+    → c ≡ block_count graph b → (b + c * l) % c ≡ 0
+    → least_size (info_columns graph b) ((b + c * l) / c) ≡ Some (lifting_size graph b)
+size-planned graph b l c least most checks blocks whole =
+    rw (checks, blocks) (size-found graph b (shared graph b least most (rw (checks, blocks) at whole)).spread)
+
+-- so there is a size
+pub some-size : (graph : Graph) (b l c kb : ℕ) → 24 ≤ b → b ≤ 1310744 → l ≡ check_bits graph b
+    → c ≡ block_count graph b → (b + c * l) % c ≡ 0 → kb ≡ info_columns graph b
+    → IsSome (least_size kb ((b + c * l) / c))
+some-size graph b l c kb least most checks blocks whole is_kb =
+    rw (is_kb, size-planned graph b l c least most checks blocks whole)
+
+-- and it has a set index
+pub some-set : (kb need z : ℕ) → least_size kb need ≡ Some z → IsSome (set_index z)
+some-set kb need z found = set_index-some z (least_size-listed kb need z found)
+
+-- numbers that are worked out one after the other are those of the plan
+pub planned-numbers : (graph : Graph) (b l c kb z set : ℕ) → 24 ≤ b → b ≤ 1310744 → l ≡ check_bits graph b
+    → c ≡ block_count graph b → (b + c * l) % c ≡ 0 → kb ≡ info_columns graph b
+    → least_size kb ((b + c * l) / c) ≡ Some z → set_index z ≡ Some set
+    → plan_of graph b ≡ Ok (record { l = l; c = c; kdash = (b + c * l) / c; kb = kb; z = z; set = set; k = info_cols_of graph * z; n = (cols_of graph - 2) * z })
+unfolding numbers_of
+planned-numbers graph b l c kb z set least most checks blocks whole is_kb is_z is_set =
+    let found : least_size (info_columns graph b) ((b + c * l) / c) ≡ Some (lifting_size graph b) =
+    size-planned graph b l c least most checks blocks whole in
+    let size : lifting_size graph b ≡ z = cc in
+    let index : unwrap_or (set_index (lifting_size graph b)) 0 ≡ set =
+    ap (λ o. unwrap_or o 0) (ap set_index size ∙ is_set) in
+    let fits : total_bits graph b % block_count graph b ≡ 0 = rw (← checks, ← blocks) whole in
+    accepted graph b least most fits ∙ rw (← checks, ← blocks, ← is_kb, index, size)

@@ -1,0 +1,120 @@
+-- The search for the least lifting size.
+use Rattle.std.proofs.Common.{◌≡◌, ℕ, ◌*◌, ◌<◌, ◌≤◌, ◌&&◌, ◌||◌, ◌⊎◌, nat_lt, Bool, true, false, cond, nat_le, Some, IsSome, is_some, List, [], ◌∷◌, find, nat_eq, refl, inl, inr, arith, rules, ap, ◌∙◌, sym}
+use Rattle.std.proofs.Math.Nat.{mul-le-mul_right}
+use Rattle.std.proofs.lemmas.Bool.Decides.{nat_tests}
+use Rattle.std.specs.List.{list_all}
+use Rattle.nr_lifting.specs.Sizes.{sizes, is_in, least_size, set_index, climbs}
+
+-- what a search finds passes the test
+find-passes : (test : ℕ → Bool) (xs : List ℕ) (z : ℕ) → find test xs ≡ Some z → test z ≡ true
+find-passes test [] z found = cc
+find-passes test (x ∷ xs) z found = go (test x) refl (find-passes test xs z) found
+  where
+    go : (b : Bool) → test x ≡ b → (find test xs ≡ Some z → test z ≡ true)
+        → cond b (Some x) (find test xs) ≡ Some z → test z ≡ true
+    go true passes later found = cc
+    go false fails later found = later found
+
+-- what a search finds is in the list
+find-listed : (test : ℕ → Bool) (xs : List ℕ) (z : ℕ) → find test xs ≡ Some z → is_in z xs ≡ true
+find-listed test [] z found = cc
+find-listed test (x ∷ xs) z found = go (test x) (find-listed test xs z) found
+  where
+    go : (b : Bool) → (find test xs ≡ Some z → is_in z xs ≡ true)
+        → cond b (Some x) (find test xs) ≡ Some z → is_in z (x ∷ xs) ≡ true
+    go true later found = let same : x ≡ z = cc in grind (arith, nat_tests)
+    go false later found = let listed : is_in z xs ≡ true = later found in grind (arith, nat_tests)
+
+-- a number of a list is its first one or is among the later ones
+listed-cases : (z x : ℕ) (xs : List ℕ) → is_in z (x ∷ xs) ≡ true → (x ≡ z) ⊎ (is_in z xs ≡ true)
+listed-cases z x xs listed = go (nat_eq x z) refl listed
+  where
+    go : (b : Bool) → nat_eq x z ≡ b → (b || is_in z xs) ≡ true → (x ≡ z) ⊎ (is_in z xs ≡ true)
+    go true same listed = inl (grind (arith, nat_tests))
+    go false other listed = inr listed
+
+-- a search finds something where a number of the list passes
+find-some : (test : ℕ → Bool) (xs : List ℕ) (z : ℕ) → is_in z xs ≡ true → test z ≡ true → IsSome (find test xs)
+find-some test [] z listed passes = cc
+find-some test (x ∷ xs) z listed passes =
+    go (test x) refl (listed-cases z x xs listed) (λ later. find-some test xs z later passes)
+  where
+    go : (b : Bool) → test x ≡ b → (x ≡ z) ⊎ (is_in z xs ≡ true) → (is_in z xs ≡ true → IsSome (find test xs))
+        → IsSome (cond b (Some x) (find test xs))
+    go true is which later = search rules
+    go false is (inl same) later = let passes : test x ≡ true = ap test same ∙ passes in cc
+    go false is (inr listed) later = later listed
+
+-- what holds of each number of a list holds of one
+all-listed : (test : ℕ → Bool) (xs : List ℕ) (z : ℕ) → list_all test xs ≡ true → is_in z xs ≡ true → test z ≡ true
+all-listed test [] z all listed = cc
+all-listed test (x ∷ xs) z all listed =
+    go (test x) refl all (listed-cases z x xs listed) (all-listed test xs z)
+  where
+    go : (b : Bool) → test x ≡ b → (b && list_all test xs) ≡ true → (x ≡ z) ⊎ (is_in z xs ≡ true)
+        → (list_all test xs ≡ true → is_in z xs ≡ true → test z ≡ true) → test z ≡ true
+    go true is all (inl same) later = sym (ap test same) ∙ is
+    go true is all (inr listed) later = later all listed
+    go false is all which later = cc
+
+-- where the sizes climb by at most twice, the one found for `need` is below half of `need`
+find-half : (kb need before : ℕ) (xs : List ℕ) (z : ℕ) → 4 ≤ kb → climbs before xs ≡ true → kb * before < need
+    → find (λ size. nat_le need (kb * size)) xs ≡ Some z → 2 * z < need
+unfolding climbs
+find-half kb need before [] z wide climb low found = cc
+find-half kb need before (x ∷ xs) z wide climb low found =
+    go (nat_le need (kb * x)) refl (step before x xs climb) (λ next low. find-half kb need x xs z wide next low) found
+  where
+    step : (before x : ℕ) (xs : List ℕ) → climbs before (x ∷ xs) ≡ true → (x ≤ 2 * before) × (climbs x xs ≡ true)
+    step before x xs climb = split (nat_lt before x) (nat_le x (2 * before)) refl climb
+      where
+        split : (a b : Bool) → nat_le x (2 * before) ≡ b → ((a && b) && climbs x xs) ≡ true
+            → (x ≤ 2 * before) × (climbs x xs ≡ true)
+        split true true is climb = (grind (arith, nat_tests), climb)
+        split true false is climb = cc
+        split false b is climb = cc
+
+    go : (b : Bool) → nat_le need (kb * x) ≡ b → (x ≤ 2 * before) × (climbs x xs ≡ true)
+        → (climbs x xs ≡ true → kb * x < need → find (λ size. nat_le need (kb * size)) xs ≡ Some z → 2 * z < need)
+        → cond b (Some x) (find (λ size. nat_le need (kb * size)) xs) ≡ Some z → 2 * z < need
+    go true is next later found =
+        let same : x ≡ z = cc in
+        let wider : 4 * before ≤ kb * before = mul-le-mul_right before wide in
+        omega arith
+    go false is next later found =
+        let low : kb * x < need = grind (arith, nat_tests) in later next.1 low found
+
+-- the least size holds what it is asked to hold
+pub least_size-holds : (kb need z : ℕ) → least_size kb need ≡ Some z → need ≤ kb * z
+unfolding least_size
+least_size-holds kb need z found =
+    let holds : nat_le need (kb * z) ≡ true = find-passes (λ size. nat_le need (kb * size)) sizes z found in
+    grind (arith, nat_tests)
+
+-- the least size is a lifting size
+pub least_size-listed : (kb need z : ℕ) → least_size kb need ≡ Some z → is_in z sizes ≡ true
+unfolding least_size
+least_size-listed kb need z found = find-listed (λ size. nat_le need (kb * size)) sizes z found
+
+-- there is a size where the largest one, 384, is enough
+pub least_size-some : (kb need : ℕ) → need ≤ kb * 384 → IsSome (least_size kb need)
+unfolding least_size
+least_size-some kb need enough =
+    let holds : nat_le need (kb * 384) ≡ true = grind (arith, nat_tests) in
+    find-some (λ size. nat_le need (kb * size)) sizes 384 refl holds
+
+-- twice the least size is below what it is asked to hold, as each size is at most twice the next smaller one
+pub least_size-half : (kb need z : ℕ) → 4 ≤ kb → kb < need → least_size kb need ≡ Some z → 2 * z < need
+unfolding least_size climbs
+least_size-half kb need z wide low found = find-half kb need 1 sizes z wide refl (omega arith) found
+
+-- each lifting size has a set index
+pub set_index-some : (z : ℕ) → is_in z sizes ≡ true → IsSome (set_index z)
+unfolding set_index
+set_index-some z listed = all-listed (λ size. is_some (set_index size)) sizes z refl listed
+
+-- no lifting size is above 384
+pub listed-most : (z : ℕ) → is_in z sizes ≡ true → z ≤ 384
+listed-most z listed =
+    let most : nat_le z 384 ≡ true = all-listed (λ size. nat_le size 384) sizes z refl listed in
+    grind (arith, nat_tests)

@@ -1,0 +1,5 @@
+use Rattle.nr_segment.proofs.CodeBlockLemmas.{joined-part}
+use Rattle.nr_segment.proofs.code_block.join_puts_parts.Goals as goal
+
+pub returns : goal.returns
+returns c = joined-part

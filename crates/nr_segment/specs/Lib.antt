@@ -1,0 +1,2 @@
+pub mod CodeBlock
+pub mod Plan

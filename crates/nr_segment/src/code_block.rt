@@ -1,0 +1,73 @@
+// Code blocks: the transport block's bits that they hold, and the CRC24B of each of several.
+ghost use Rattle.std.specs.Prelude.{◌≡◌, ◌-◌, ◌<◌, length, map, IfOk, All};
+ghost use Rattle.nr_segment.specs.CodeBlock.{
+  numbers,
+  part_of,
+  code_bits,
+  joined,
+  CodeBlocksAreLong,
+  JoinPutsParts,
+  JoinUndoesCut,
+};
+
+use crate::numbers::Plan;
+use nr_bitvec::Bits;
+use nr_crcattach::attach_code;
+use std::alloc::{AllocError, Global};
+
+/// The index in the transport block of information bit `k` of code block `r` (TS 38.212, 5.2.2).
+pub fn part(plan: &Plan, r: u32, k: u32) -> u32
+    requires block { r < plan.now.c }
+    requires bit { k < plan.now.kdash - plan.now.l }
+    ensures index { result ≡ part_of (numbers plan.now) r k }
+    ensures inside { result < plan.now.b }
+{
+    r * (plan.kdash - plan.l) + k
+}
+
+/// The K' bits of code block `r` of the transport block `bits`: its share of the bits and, where there are
+/// several code blocks, their CRC24B (TS 38.212, 5.2.2). Fails only for want of memory.
+pub fn cut(alloc: Global, plan: &Plan, bits: &Bits, r: u32) -> Result<Bits, AllocError>
+    requires whole { length bits.now.items ≡ plan.now.b }
+    requires block { r < plan.now.c }
+    ensures { IfOk result (λ block. block.items ≡ code_bits (numbers plan.now) bits.now.items r) }
+{
+    let from = part(plan, r, 0) as usize;
+    let share = (plan.kdash - plan.l) as usize;
+    let shared = bits.copy_range(from, share)?;
+    if plan.c > 1 {
+        attach_code(alloc, &shared)
+    } else {
+        Ok(shared)
+    }
+}
+
+/// The bits of the transport block, from the K' bits of each code block in order. The CRC24B of each is
+/// dropped, and not tested. Fails only for want of memory.
+pub fn join(alloc: Global, plan: &Plan, blocks: &[Bits]) -> Result<Bits, AllocError>
+    requires all { length blocks.now ≡ plan.now.c }
+    requires long { All (λ block. length block.items ≡ plan.now.kdash) blocks.now }
+    ensures { IfOk result (λ bits. bits.items ≡ joined (numbers plan.now) (map (λ block. block.items) blocks.now)) }
+{
+    let share = (plan.kdash - plan.l) as usize;
+    let mut bits = Bits::new(alloc);
+    for block in blocks {
+        bits.extend(&block.copy_range(0, share)?)?;
+    }
+    Ok(bits)
+}
+
+/// Law: each code block has K' bits.
+pub fn code_blocks_are_long()
+    ensures { CodeBlocksAreLong }
+{}
+
+/// Law: `join` puts bit `k` of list `r` at index `part(r, k)`.
+pub fn join_puts_parts()
+    ensures { JoinPutsParts }
+{}
+
+/// Law: `join` undoes `cut`.
+pub fn join_undoes_cut()
+    ensures { JoinUndoesCut }
+{}
