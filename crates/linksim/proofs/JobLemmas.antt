@@ -1,0 +1,91 @@
+-- What clap's answers say of the options.
+use Rattle.std.proofs.Common.{◌≡◌, ◌∙◌, ℕ, ◌^◌, ◌<◌, true, List, Option, None, Some, ap, sym, refl, subst}
+use Rattle.std.specs.Prelude.{IsSomeAnd}
+use Rattle.std.specs.Str.Parse.{IsNumeral, digits_value, without_leading_plus}
+use Rattle.clap.proofs.OnLiterals.{clap_on_literals}
+use Rattle.clap.proofs.WalkLemmas.{one_text-rows}
+use Rattle.clap.specs.Words.{App, HasMatchesOf, Row, Text, found_of, is_simple, matches_of, one_of, one_text, rows_of, takes}
+use Rattle.clap.specs.declared.parser.matches.ArgMatches.{ArgMatches}
+use Rattle.clap.specs.declared.parser.matches.Found.{Found}
+use Rattle.linksim.specs.Commands.{check_app, cut_app}
+use Rattle.linksim.specs.Jobs.{IsNumberAt, check_rows, cut_rows, is_taken_as_check, is_taken_as_cut}
+
+-- clap's functions of the words speak of both commands
+cut_simple : is_simple cut_app ≡ true
+unfolding clap_on_literals
+cut_simple = refl
+
+check_simple : is_simple check_app ≡ true
+unfolding clap_on_literals
+check_simple = refl
+
+-- the matches of a command are those of the simple command that it is
+rows_from : (a b : App) (words : List Text) (m : ArgMatches) → a ≡ b → is_simple b ≡ true
+    → HasMatchesOf a words m → rows_of (found_of m) ≡ matches_of b words
+rows_from a b words m is simple matches =
+    (matches (ap is_simple is ∙ simple)).0 ∙ ap (λ app. matches_of app words) is
+
+-- what clap found for `cut`, and for `check`, are the rows that their jobs cite
+pub cut_rows-matches : (a : App) (words : List Text) (m : ArgMatches) → a ≡ cut_app
+    → HasMatchesOf a words m → rows_of (found_of m) ≡ cut_rows words
+unfolding cut_rows
+cut_rows-matches a words m is matches = rows_from a cut_app words m is cut_simple matches
+
+pub check_rows-matches : (a : App) (words : List Text) (m : ArgMatches) → a ≡ check_app
+    → HasMatchesOf a words m → rows_of (found_of m) ≡ check_rows words
+unfolding check_rows
+check_rows-matches a words m is matches = rows_from a check_app words m is check_simple matches
+
+-- clap takes the words at a command that is `cut`, or `check`, where it is said to
+pub cut-takes : (a : App) (words : List Text) → a ≡ cut_app → is_taken_as_cut words ≡ true → takes a words ≡ true
+unfolding is_taken_as_cut
+cut-takes a words is taken = ap (λ app. takes app words) is ∙ taken
+
+pub check-takes : (a : App) (words : List Text) → a ≡ check_app → is_taken_as_check words ≡ true → takes a words ≡ true
+unfolding is_taken_as_check
+check-takes a words is taken = ap (λ app. takes app words) is ∙ taken
+
+-- the text is a numeral that fits 32 bits
+abbrev pub IsWord : Text → Type 0
+IsWord text = IsNumeral 10 (without_leading_plus text) × (digits_value 10 (without_leading_plus text) < 2 ^ 32)
+
+-- the text is a numeral of this number
+abbrev IsNumeralOf : ℕ → Text → Type 0
+IsNumeralOf n text = IsNumeral 10 (without_leading_plus text) × (n ≡ digits_value 10 (without_leading_plus text))
+
+-- the number that `get_one` reads is the option's
+pub number_from : (f : Found) (id : Text) (n : ℕ) → (one_text f id ≡ None → Some n ≡ None)
+    → ((t : Text) → one_text f id ≡ Some t → IsWord t × (n ≡ digits_value 10 (without_leading_plus t)))
+    → IsNumberAt id (rows_of f) n
+number_from f id n none some =
+    let P : Option Text → Type 0 = λ o. IsSomeAnd o (IsNumeralOf n) in
+    subst P (one_text-rows f id) (go (one_text f id) refl)
+  where
+    go : (o : Option Text) → one_text f id ≡ o → IsSomeAnd o (IsNumeralOf n)
+    go None is =
+        let bad : Some n ≡ None = none is in
+        cc
+    go (Some t) is =
+        let read = some t is in
+        (read.0.0, read.1)
+
+-- an option has one number
+pub number-same : (id : Text) (rows : List Row) (a b : ℕ) → IsNumberAt id rows a → IsNumberAt id rows b → a ≡ b
+number-same id rows a b = go (one_of id rows)
+  where
+    go : (o : Option Text) → IsSomeAnd o (IsNumeralOf a) → IsSomeAnd o (IsNumeralOf b) → a ≡ b
+    go None first second = absurd first
+    go (Some t) first second = first.1 ∙ sym second.1
+
+-- where `get_one` reads no number, the option has none that fits 32 bits
+pub no_number : (f : Found) (id : Text) (n : ℕ) → n < 2 ^ 32
+    → ((t : Text) → one_text f id ≡ Some t → IsWord t → ⊥) → IsNumberAt id (rows_of f) n → ⊥
+no_number f id n small some given =
+    let P : Option Text → Type 0 = λ o. IsSomeAnd o (IsNumeralOf n) in
+    go (one_text f id) refl (subst P (sym (one_text-rows f id)) given)
+  where
+    go : (o : Option Text) → one_text f id ≡ o → IsSomeAnd o (IsNumeralOf n) → ⊥
+    go None is at = at
+    go (Some t) is at =
+        let below : digits_value 10 (without_leading_plus t) < 2 ^ 32 = rw (← at.1) small in
+        some t is (at.0, below)

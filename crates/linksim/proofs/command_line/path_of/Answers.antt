@@ -1,0 +1,15 @@
+use Rattle.std.proofs.Common.{◌≡◌, ◌∙◌, None, Some, ap, sym}
+use Rattle.clap.proofs.WalkLemmas.{first_value-rows}
+use Rattle.clap.specs.Words.{found_of}
+use Rattle.linksim.proofs.command_line.path_of.Goals as goal
+
+pub returns-in_ok-from_str-in-Some-clause-path : goal.returns-in_ok-from_str-in-Some-clause-path
+returns-in_ok-from_str-in-Some-clause-path c =
+    sym (first_value-rows (found_of c.args.matches.now) c.args.name.now) ∙ sym c.in-Some.ensures
+    ∙ ap Some (sym c.in_ok-from_str-in-Some.ensures.ok)
+
+pub returns-in-None-clause-given : goal.returns-in-None-clause-given
+returns-in-None-clause-given c = λ path given.
+    let bad : None ≡ Some path =
+    c.in-None.ensures ∙ first_value-rows (found_of c.args.matches.now) c.args.name.now ∙ given in
+    cc

@@ -1,0 +1,17 @@
+-- What a command answers where a part of it is refused.
+use Rattle.linksim.specs.declared.blocks.BlocksFault.{BlocksFault}
+use Rattle.linksim.specs.declared.blocks.BlocksFault.TheVariants as blocks_fault
+use Rattle.linksim.specs.declared.fault.RunFault.{RunFault}
+use Rattle.linksim.specs.declared.fault.RunFault.TheVariants.{Blocks, Memory, Table}
+use Rattle.nr_shifttable.specs.declared.fault.TableFault.{TableFault}
+use Rattle.nr_shifttable.specs.declared.fault.TableFault.TheVariants as table_fault
+
+-- a refusal of the blocks file, and want of memory as its own
+abbrev pub blocks_refusal : BlocksFault → RunFault
+blocks_refusal blocks_fault.Memory = Memory
+blocks_refusal said = Blocks said
+
+-- a refusal of the shift table file, and want of memory as its own
+abbrev pub table_refusal : TableFault → RunFault
+table_refusal table_fault.Memory = Memory
+table_refusal said = Table said

@@ -1,0 +1,12 @@
+pub mod Blocks
+pub mod CheckText
+pub mod Command
+pub mod Commands
+pub mod CutText
+pub mod Ending
+pub mod Faults
+pub mod Jobs
+pub mod Lines
+pub mod Refusals
+pub mod Tape
+pub mod Written

@@ -1,0 +1,228 @@
+ghost use Rattle.std.specs.Prelude.{◌≡◌, ◌≢◌, ◌≤◌, ◌↔◌, IsTrue, ℕ, true, [], codes, map, IfOk, IsOkUnless, MatchResult};
+ghost use Rattle.std.specs.String.{string_bytes};
+ghost use Rattle.clap.specs.Words.{HasMatchesOf, Text, app_of, found_of, kind_of, rows_of, takes, with_rule};
+ghost use Rattle.linksim.specs.Commands.{check_app, cut_app, file_rule, rate_rule};
+ghost use Rattle.linksim.specs.Jobs.{BeginsWith, HasCut, IsDefaultJob, IsJobOf, IsNumberAt, IsTextAt, check_rows, is_taken_as, is_taken_as_check, is_taken_as_cut};
+ghost use Rattle.linksim.specs.declared.job.Job.{Job as Asked};
+
+use crate::job::{Job, JobFault};
+use clap::error::ErrorKind;
+use clap::{Arg, ArgMatches, Command, Error, value_parser};
+use std::alloc::{AllocError, Global};
+
+// The target code rate times 2048 where no words are given.
+const DEFAULT_RATE: u32 = 2048;
+
+/// The job that the program's words ask for. The words are those after the program's name; the first
+/// is the command. No words at all ask for `cut --rate 2048 --blocks -`.
+///
+/// # Errors
+/// `Help` where the words ask for help, and `Usage` where they are no command of the program. `Memory`
+/// where memory runs out. What the texts say is clap's.
+pub fn job(alloc: Global, words: &[String]) -> Result<Job, JobFault>
+    ensures no_words { words.now ≡ [] → MatchResult result IsDefaultJob (λ e. e ≡ JobFault.Memory) }
+    ensures words { words.now ≢ [] → IfOk result (IsJobOf (map string_bytes words.now)) }
+
+    // Where clap takes the words, and they ask for a job, only want of memory refuses it.
+    ensures asked { (asked : Asked) → is_taken_as (map string_bytes words.now) asked ≡ true
+        → IsJobOf (map string_bytes words.now) asked → IsOkUnless result JobFault.Memory }
+{
+    let Some(command) = words.first() else {
+        return Ok(Job::Cut(DEFAULT_RATE, String::from_str(alloc, "-")?));
+    };
+    match command.as_str() {
+        "cut" => cut_job(alloc, words),
+        "check" => check_job(alloc, words),
+        _ => Err(other_fault(alloc, words)),
+    }
+}
+
+// The job of words that begin with `cut`.
+fn cut_job(alloc: Global, words: &[String]) -> Result<Job, JobFault>
+    requires { BeginsWith (codes "cut") (map string_bytes words.now) }
+    ensures job { IfOk result (IsJobOf (map string_bytes words.now)) }
+    ensures asked { (rate : ℕ) (path : Text) → is_taken_as_cut (map string_bytes words.now) ≡ true
+        → HasCut (map string_bytes words.now) rate path → IsOkUnless result JobFault.Memory }
+{
+    let mut command = cut_command(alloc)?;
+    let matches = parsed(alloc, &mut command, words)?;
+    let rate = rate_of(alloc, &mut command, &matches)?;
+    let path = path_of(alloc, &mut command, &matches, "blocks")?;
+    Ok(Job::Cut(rate, path))
+}
+
+// The job of words that begin with `check`.
+fn check_job(alloc: Global, words: &[String]) -> Result<Job, JobFault>
+    requires { BeginsWith (codes "check") (map string_bytes words.now) }
+    ensures job { IfOk result (IsJobOf (map string_bytes words.now)) }
+    ensures asked { (path : Text) → is_taken_as_check (map string_bytes words.now) ≡ true
+        → IsTextAt (codes "table") (check_rows (map string_bytes words.now)) path
+        → IsOkUnless result JobFault.Memory }
+{
+    let mut command = check_command(alloc)?;
+    let matches = parsed(alloc, &mut command, words)?;
+    let path = path_of(alloc, &mut command, &matches, "table")?;
+    Ok(Job::Check(path))
+}
+
+// The fault of words that begin with no command of the program: help, or how the program is used.
+fn other_fault(alloc: Global, words: &[String]) -> JobFault {
+    let mut command = match program(alloc) {
+        Ok(command) => command,
+        Err(AllocError) => return JobFault::Memory,
+    };
+    match command.try_get_matches_from_mut(words) {
+        Ok(_) => own_fault(alloc, &mut command, "a command is missing"),
+        Err(error) => fault_of(alloc, &error),
+    }
+}
+
+// The whole program, for its help and for the faults of words that begin with no command.
+fn program<'a>(alloc: Global) -> Result<Command<'a>, AllocError> {
+    Command::new(alloc, "linksim")
+        .bin_name("linksim")?
+        .about("The data coding chain of 5G NR (3GPP TS 38.212)")
+        .after_help("No words at all ask for 'linksim cut --rate 2048 --blocks -'.")
+        .no_binary_name(true)
+        .subcommand_required(true)
+        .subcommand(cut_command(alloc)?)?
+        .subcommand(check_command(alloc)?)
+}
+
+fn cut_command<'a>(alloc: Global) -> Result<Command<'a>, AllocError>
+    ensures { IfOk result (λ c. app_of c ≡ cut_app) }
+{
+    let command = Command::new(alloc, "cut").bin_name("linksim cut")?.about(
+        "Attaches the CRC to each transport block and cuts it into code blocks",
+    );
+    let command = with_file(
+        alloc,
+        command,
+        "blocks",
+        "The transport blocks, one a line in hexadecimal (-: standard input)",
+    )?;
+    with_rate(alloc, command)
+}
+
+fn check_command<'a>(alloc: Global) -> Result<Command<'a>, AllocError>
+    ensures { IfOk result (λ c. app_of c ≡ check_app) }
+{
+    let command = Command::new(alloc, "check")
+        .bin_name("linksim check")?
+        .about("Checks a table of shift values");
+    with_file(
+        alloc,
+        command,
+        "table",
+        "The shift table, as comma-separated values (-: standard input)",
+    )
+}
+
+// Adds a required option, whose value is the path of a file.
+fn with_file<'a>(
+    alloc: Global,
+    command: Command<'a>,
+    name: &'a str,
+    help: &'a str,
+) -> Result<Command<'a>, AllocError>
+    ensures { IfOk result (λ c. app_of c ≡ with_rule (app_of command.entry) (file_rule name.entry.now)) }
+{
+    let file = Arg::new(alloc, name)
+        .long(name)
+        .required(true)
+        .value_name("FILE")
+        .help(help);
+    command.arg(file)
+}
+
+fn with_rate<'a>(alloc: Global, command: Command<'a>) -> Result<Command<'a>, AllocError>
+    ensures { IfOk result (λ c. app_of c ≡ with_rule (app_of command.entry) rate_rule) }
+{
+    let rate = Arg::new(alloc, "rate")
+        .long("rate")
+        .value_name("N")
+        .value_parser(value_parser!(u32).range(1..=2048))
+        .default_value("2048")
+        .help("The target code rate times 2048, in 1..2048");
+    command.arg(rate)
+}
+
+// What clap reads of the words. It takes the first of them, the command, for the program's name.
+fn parsed<'a>(
+    alloc: Global,
+    command: &mut Command<'a>,
+    words: &'a [String],
+) -> Result<ArgMatches<'a>, JobFault>
+    ensures matches { IfOk result (HasMatchesOf (app_of command.old) (map string_bytes words.entry.now)) }
+    ensures taken { takes (app_of command.old) (map string_bytes words.entry.now) ≡ true
+        → IsOkUnless result JobFault.Memory }
+{
+    match command.try_get_matches_from_mut(words) {
+        Ok(matches) => Ok(matches),
+        Err(error) => Err(fault_of(alloc, &error)),
+    }
+}
+
+// The path that an option gives. Clap sees to it that the option is there.
+fn path_of(
+    alloc: Global,
+    command: &mut Command,
+    matches: &ArgMatches,
+    name: &str,
+) -> Result<String, JobFault>
+    ensures path { IfOk result (λ path.
+        IsTextAt name.now (rows_of (found_of matches.now)) (string_bytes path)) }
+    ensures given { (path : Text) → IsTextAt name.now (rows_of (found_of matches.now)) path
+        → IsOkUnless result JobFault.Memory }
+{
+    match matches.get_str(name) {
+        Some(path) => Ok(String::from_str(alloc, path)?),
+        None => Err(own_fault(alloc, command, "a path is missing")),
+    }
+}
+
+// The target code rate times 2048. Clap keeps it in its range.
+fn rate_of(alloc: Global, command: &mut Command, matches: &ArgMatches) -> Result<u32, JobFault>
+    ensures range { IfOk result (λ rate. (1 ≤ rate) × (rate ≤ 2048)) }
+    ensures rate { IfOk result (IsNumberAt (codes "rate") (rows_of (found_of matches.now))) }
+    ensures given { (rate : ℕ) → 1 ≤ rate → rate ≤ 2048
+        → IsNumberAt (codes "rate") (rows_of (found_of matches.now)) rate
+        → IsOkUnless result JobFault.Memory }
+{
+    match matches.get_one::<u32>("rate") {
+        Some(rate) if is_rate(rate) => Ok(rate),
+        _ => Err(own_fault(alloc, command, "the rate is not in 1..2048")),
+    }
+}
+
+// A target code rate times 2048.
+fn is_rate(rate: u32) -> bool
+    ensures { IsTrue result ↔ ((1 ≤ rate) × (rate ≤ 2048)) }
+{
+    (1..=2048).contains(&rate)
+}
+
+// A usage fault in clap's form, of a cause that clap does not test.
+fn own_fault(alloc: Global, command: &mut Command, message: &str) -> JobFault {
+    match command.error(ErrorKind::ValueValidation, message) {
+        Ok(error) => fault_of(alloc, &error),
+        Err(AllocError) => JobFault::Memory,
+    }
+}
+
+// The fault that clap's error tells of. What belongs on standard output is help.
+fn fault_of(alloc: Global, error: &Error) -> JobFault
+    ensures { kind_of error.now ≡ ErrorKind.OutOfMemory → result ≡ JobFault.Memory }
+{
+    if error.kind() == ErrorKind::OutOfMemory {
+        return JobFault::Memory;
+    }
+    match error.to_string(alloc) {
+        Err(AllocError) => JobFault::Memory,
+        Ok(text) if error.use_stderr() => JobFault::Usage(text),
+        Ok(text) => JobFault::Help(text),
+    }
+}
+
+#[cfg(test)]
+mod tests;

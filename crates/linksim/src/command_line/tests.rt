@@ -1,0 +1,100 @@
+use super::*;
+
+// The job of a line's words.
+fn job_of(alloc: Global, line: &str) -> Result<Job, JobFault> {
+    let mut words = Vec::new(alloc);
+    for word in line.split_whitespace() {
+        words
+            .push(String::from_str(alloc, word)?)
+            .map_err(|_| JobFault::Memory)?;
+    }
+    job(alloc, &words)
+}
+
+// The text of the fault of a line's words, and whether it is help.
+fn fault_text(alloc: Global, line: &str) -> Result<Option<(bool, String)>, AllocError> {
+    match job_of(alloc, line) {
+        Ok(_) => Ok(None),
+        Err(JobFault::Usage(text)) => Ok(Some((false, text))),
+        Err(JobFault::Help(text)) => Ok(Some((true, text))),
+        Err(JobFault::Memory) => Err(AllocError),
+    }
+}
+
+#[test]
+fn jobs_are_read(rt: HostRuntime) -> Result<(), JobFault> {
+    let alloc = rt.alloc();
+    for (line, rate, path) in [
+        ("", 2048, "-"),
+        ("cut --blocks -", 2048, "-"),
+        ("cut --rate 5 --blocks f", 5, "f"),
+        ("cut --blocks=f --rate=2048", 2048, "f"),
+    ] {
+        let want = Job::Cut(rate, String::from_str(alloc, path)?);
+        assert_eq!(rt; job_of(alloc, line)?, want, "at {line}");
+    }
+    let want = Job::Check(String::from_str(alloc, "t")?);
+    assert_eq!(rt; job_of(alloc, "check --table t")?, want);
+    Ok(())
+}
+
+#[test]
+fn usage_faults_say_why(rt: HostRuntime) -> Result<(), AllocError> {
+    let alloc = rt.alloc();
+    for (line, want) in [
+        (
+            "cut",
+            "error: the following required arguments were not provided:\n  --blocks <FILE>\n\nUsage: linksim cut --blocks <FILE>\n\nFor more information, try '--help'.\n",
+        ),
+        (
+            "cut --rate 0 --blocks f",
+            "error: invalid value '0' for '--rate <N>': 0 is not in 1..=2048\n\nFor more information, try '--help'.\n",
+        ),
+        (
+            "cut --rate 2049 --blocks f",
+            "error: invalid value '2049' for '--rate <N>': 2049 is not in 1..=2048\n\nFor more information, try '--help'.\n",
+        ),
+        (
+            "cut --blocks f --blocks g",
+            "error: the argument '--blocks <FILE>' cannot be used multiple times\n\nUsage: linksim cut [OPTIONS] --blocks <FILE>\n\nFor more information, try '--help'.\n",
+        ),
+        (
+            "check --table t --blocks f",
+            "error: unexpected argument '--blocks' found\n\nUsage: linksim check --table <FILE>\n\nFor more information, try '--help'.\n",
+        ),
+        (
+            "mend",
+            "error: unrecognized subcommand 'mend'\n\nUsage: linksim <COMMAND>\n\nFor more information, try '--help'.\n",
+        ),
+        (
+            "send",
+            "error: unrecognized subcommand 'send'\n\nUsage: linksim <COMMAND>\n\nFor more information, try '--help'.\n",
+        ),
+    ] {
+        let text = String::from_str(alloc, want)?;
+        assert_eq!(rt; fault_text(alloc, line)?, Some((false, text)), "at {line}");
+    }
+    Ok(())
+}
+
+#[test]
+fn help_is_shown(rt: HostRuntime) -> Result<(), AllocError> {
+    let alloc = rt.alloc();
+    let program =
+        "The data coding chain of 5G NR (3GPP TS 38.212)\n\nUsage: linksim <COMMAND>\n\nCommands:\n  cut    Attaches the CRC to each transport block and cuts it into code blocks\n  check  Checks a table of shift values\n  help   Print this message or the help of the given subcommand(s)\n\nOptions:\n  -h, --help  Print help\n\nNo words at all ask for 'linksim cut --rate 2048 --blocks -'.\n";
+    let cut =
+        "Attaches the CRC to each transport block and cuts it into code blocks\n\nUsage: linksim cut [OPTIONS] --blocks <FILE>\n\nOptions:\n      --blocks <FILE>  The transport blocks, one a line in hexadecimal (-: standard input)\n      --rate <N>       The target code rate times 2048, in 1..2048 [default: 2048]\n  -h, --help           Print help\n";
+    let check =
+        "Checks a table of shift values\n\nUsage: linksim check --table <FILE>\n\nOptions:\n      --table <FILE>  The shift table, as comma-separated values (-: standard input)\n  -h, --help          Print help\n";
+    for (line, want) in [
+        ("--help", program),
+        ("help", program),
+        ("cut --help", cut),
+        ("help cut", cut),
+        ("check --help", check),
+    ] {
+        let text = String::from_str(alloc, want)?;
+        assert_eq!(rt; fault_text(alloc, line)?, Some((true, text)), "at {line}");
+    }
+    Ok(())
+}

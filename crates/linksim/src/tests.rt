@@ -1,0 +1,302 @@
+//! Whole commands over Sources and a Sink in memory. The values are those of TS 38.212, worked by hand.
+
+ghost use Rattle.std.specs.Prelude.{◌≡◌, IfOk};
+
+use crate::blocks::BlocksFault;
+use crate::check::check;
+use crate::cut::cut;
+use crate::ending::Ending;
+use crate::fault::{DeskFault, RunFault};
+use crate::job::JobFault;
+use crate::sink::Tape;
+use nr_graphpick::Graph;
+use nr_segment::SegFault;
+use nr_shifttable::TableFault;
+use nr_shifttable::source::Feed;
+use std::alloc::{AllocError, Global};
+use std::fmt::Write;
+use std::process::Abort;
+use std::test::Fail;
+
+/// More octets than any text of these tests has, but for the one that measures size.
+const ROOM: u32 = 1 << 20;
+
+/// What a command answered, and what it wrote.
+type Outcome = (Result<(), RunFault>, Vec<u8>);
+
+/// A Source of this text, which does not fail.
+fn feed(alloc: Global, text: &[u8]) -> Result<Feed, AllocError>
+    ensures { IfOk result (λ feed. feed.failed ≡ 0) }
+{
+    Ok(Feed::new(Vec::from_slice(alloc, text)?, 65_536, 0))
+}
+
+/// `cut` of a blocks file, with a Tape of ample room.
+fn cut_of(alloc: Global, rate2048: u32, text: &[u8]) -> Result<Outcome, AllocError> {
+    let mut blocks = feed(alloc, text)?;
+    let mut tape = Tape::new(alloc, ROOM, ROOM, 0)?;
+    let answer = cut(alloc, rate2048, &mut blocks, &mut tape);
+    Ok((answer, Vec::from_slice(alloc, tape.bytes())?))
+}
+
+/// `check` of a table file, with a Tape of ample room.
+fn check_of(alloc: Global, text: &[u8]) -> Result<Outcome, AllocError> {
+    let mut table = feed(alloc, text)?;
+    let mut tape = Tape::new(alloc, ROOM, ROOM, 0)?;
+    let answer = check(alloc, &mut table, &mut tape);
+    Ok((answer, Vec::from_slice(alloc, tape.bytes())?))
+}
+
+/// The digit `0`, `count` times.
+fn zeros(alloc: Global, count: usize) -> Result<Vec<u8>, AllocError> {
+    vec![in alloc; b'0'; count]
+}
+
+const FIRST: &[u8] =
+    b"block 1 a 8 b 24 graph 2 c 1 l 0 kdash 24 kb 6 z 4 set 0 k 40 n 200\nattached 1 011021\ncode 1 0 011021\n";
+
+#[test]
+fn cuts(rt: HostRuntime) -> Result<(), Fail> {
+    let (answer, written) = cut_of(rt.alloc(), 2048, b"01\n")?;
+    assert_eq!(rt; answer, Ok(()));
+    assert_eq!(rt; written.as_slice(), FIRST);
+    let (answer, written) = cut_of(rt.alloc(), 2048, b"01")?;
+    assert_eq!(rt; answer, Ok(()));
+    assert_eq!(rt; written.as_slice(), FIRST);
+    Ok(())
+}
+
+#[test]
+fn refuses_blocks(rt: HostRuntime) -> Result<(), Fail> {
+    let cases: [(&[u8], BlocksFault); 7] = [
+        (b"", BlocksFault::Empty),
+        (b"\n", BlocksFault::Blank(1)),
+        (b"012", BlocksFault::Odd(1)),
+        (b"0g", BlocksFault::Digit(1)),
+        (b"01\n0g\n0", BlocksFault::Digit(2)),
+        (b"01\r\r\n", BlocksFault::Digit(1)),
+        (b"01\n\r\n", BlocksFault::Blank(2)),
+    ];
+    for (text, fault) in cases {
+        let (answer, written) = cut_of(rt.alloc(), 2048, text)?;
+        assert_eq!(rt; answer, Err(RunFault::Blocks(fault)), "at {text:?}");
+        assert_eq!(rt; written.len(), 0, "at {text:?}");
+    }
+    Ok(())
+}
+
+// 955 octets at a quarter: B 7664 in 3 code blocks, B' 7736. The fault of block 2 stops block 1's lines too.
+#[test]
+fn refuses_uneven_plans(rt: HostRuntime) -> Result<(), Fail> {
+    let mut text = Vec::from_slice(rt.alloc(), b"01\n")?;
+    text.extend_from_slice(&zeros(rt.alloc(), 2 * 955)?)?;
+    let (answer, written) = cut_of(rt.alloc(), 512, &text)?;
+    assert_eq!(rt;
+        answer,
+        Err(RunFault::Desk(2, DeskFault::Seg(SegFault::Uneven)))
+    );
+    assert_eq!(rt; written.len(), 0);
+    Ok(())
+}
+
+// A Source that is Broken at its k-th pull, for each k: one octet a pull, and one pull for the end.
+#[test]
+fn a_broken_source_is_read(rt: HostRuntime) -> Result<(), Fail> {
+    for fail in 1..=4 {
+        let octets = Vec::from_slice(rt.alloc(), b"01\n")?;
+        let mut tape = Tape::new(rt.alloc(), ROOM, ROOM, 0)?;
+        let answer = cut(rt.alloc(), 2048, &mut Feed::new(octets, 1, fail), &mut tape);
+        assert_eq!(rt;
+            answer,
+            Err(RunFault::Blocks(BlocksFault::Read)),
+            "at {fail}"
+        );
+        assert_eq!(rt; tape.bytes().len(), 0, "at {fail}");
+    }
+    let octets = Vec::from_slice(rt.alloc(), b"01\n")?;
+    let mut tape = Tape::new(rt.alloc(), ROOM, ROOM, 0)?;
+    let answer = cut(rt.alloc(), 2048, &mut Feed::new(octets, 1, 5), &mut tape);
+    assert_eq!(rt; answer, Ok(()));
+    Ok(())
+}
+
+// A Tape that takes one octet a put and is Broken at its k-th, for each k: the first k - 1 octets are written.
+#[test]
+fn a_broken_sink_has_the_beginning(rt: HostRuntime) -> Result<(), Fail> {
+    for fail in 1..=FIRST.len() as u32 {
+        let mut tape = Tape::new(rt.alloc(), ROOM, 1, fail)?;
+        let answer = cut(rt.alloc(), 2048, &mut feed(rt.alloc(), b"01")?, &mut tape);
+        assert_eq!(rt; answer, Err(RunFault::Write), "at {fail}");
+        let before = fail as usize - 1;
+        assert!(rt; before <= FIRST.len());
+        assert_eq!(rt; tape.bytes(), &FIRST[..before], "at {fail}");
+    }
+    Ok(())
+}
+
+#[test]
+fn takes_256_blocks(rt: HostRuntime) -> Result<(), Fail> {
+    let mut text = Vec::new(rt.alloc());
+    for _ in 0..256 {
+        text.extend_from_slice(b"01\n")?;
+    }
+    let (answer, written) = cut_of(rt.alloc(), 2048, &text)?;
+    assert_eq!(rt; answer, Ok(()));
+    assert_eq!(rt;
+        written.iter().filter(|octet| **octet == b'\n').count(),
+        3 * 256
+    );
+    text.extend_from_slice(b"x")?;
+    let (answer, written) = cut_of(rt.alloc(), 2048, &text)?;
+    assert_eq!(rt; answer, Err(RunFault::Blocks(BlocksFault::TooMany)));
+    assert_eq!(rt; written.len(), 0);
+    Ok(())
+}
+
+// 163,836 octets: B is 1,310,712, in 156 code blocks of 8,426 bits, the most that base graph 1 has.
+#[test]
+fn cuts_the_largest_block(rt: HostRuntime) -> Result<(), Fail> {
+    let mut blocks = feed(rt.alloc(), &zeros(rt.alloc(), 2 * 163_836)?)?;
+    let mut tape = Tape::new(rt.alloc(), ROOM, 4096, 0)?;
+    let answer = cut(rt.alloc(), 2048, &mut blocks, &mut tape);
+    assert_eq!(rt; answer, Ok(()));
+    let plan: &[u8] =
+        b"block 1 a 1310688 b 1310712 graph 1 c 156 l 24 kdash 8426 kb 22 z 384 set 1 k 8448 n 25344\n";
+    assert!(rt; tape.bytes().starts_with(plan));
+    assert_eq!(rt;
+        tape.bytes().iter().filter(|octet| **octet == b'\n').count(),
+        158
+    );
+    Ok(())
+}
+
+/// A record of the practice table: one value in all eight sets.
+fn push_record(
+    text: &mut String,
+    graph: u32,
+    row: u32,
+    column: u32,
+    value: u32,
+) -> Result<(), AllocError> {
+    write!(text, "{graph},{row},{column}")?;
+    for _ in 0..8 {
+        write!(text, ",{value}")?;
+    }
+    text.push_str("\n")
+}
+
+/// An accepted table of base graph 2, 105 records in ascending order: the four core rows, and for each further row
+/// two entries.
+fn practice_table(alloc: Global) -> Result<String, AllocError> {
+    let core: [&[u32]; 4] = [
+        &[0, 2, 4, 6, 8, 10, 11],
+        &[1, 3, 5, 7, 9, 11, 12],
+        &[0, 2, 4, 6, 8, 10, 12, 13],
+        &[1, 3, 5, 7, 9, 10, 13],
+    ];
+    let mut text = String::new(alloc);
+    for (row, columns) in (0..4).zip(core) {
+        for column in columns {
+            let value = u32::from(row == 2 && *column == 10);
+            push_record(&mut text, 2, row, *column, value)?;
+        }
+    }
+    for row in 4..42 {
+        push_record(&mut text, 2, row, row % 10, row)?;
+        push_record(&mut text, 2, row, 10 + row, 0)?;
+    }
+    Ok(text)
+}
+
+/// An accepted table of base graph 1: the least that its shape asks for, 13 records and one for each of 42 rows.
+fn least_table(alloc: Global) -> Result<String, AllocError> {
+    let core: [&[u32]; 4] = [&[0, 22, 23], &[0, 22, 23, 24], &[0, 24, 25], &[0, 22, 25]];
+    let mut text = String::new(alloc);
+    for (row, columns) in (0..4).zip(core) {
+        for column in columns {
+            push_record(&mut text, 1, row, *column, 0)?;
+        }
+    }
+    for row in 4..46 {
+        push_record(&mut text, 1, row, 22 + row, 0)?;
+    }
+    Ok(text)
+}
+
+#[test]
+fn checks(rt: HostRuntime) -> Result<(), Fail> {
+    let mut text = practice_table(rt.alloc())?;
+    let (answer, written) = check_of(rt.alloc(), text.as_bytes())?;
+    assert_eq!(rt; answer, Ok(()));
+    assert_eq!(rt; written.as_slice(), b"graph 2 entries 105\n".as_slice());
+    text.push_str(&least_table(rt.alloc())?)?;
+    let (answer, written) = check_of(rt.alloc(), text.as_bytes())?;
+    assert_eq!(rt; answer, Ok(()));
+    assert_eq!(rt;
+        written.as_slice(),
+        b"graph 1 entries 55\ngraph 2 entries 105\n".as_slice()
+    );
+    Ok(())
+}
+
+#[test]
+fn refuses_tables(rt: HostRuntime) -> Result<(), Fail> {
+    let mut twice = practice_table(rt.alloc())?;
+    push_record(&mut twice, 2, 0, 0, 0)?;
+    let cases: [(&[u8], TableFault); 4] = [
+        (b"", TableFault::Empty),
+        (b"2,0", TableFault::Fields),
+        (b"2,0,0,0,0,0,0,0,0,0,65536", TableFault::Range(1)),
+        (twice.as_bytes(), TableFault::Twice(106)),
+    ];
+    for (text, fault) in cases {
+        let (answer, written) = check_of(rt.alloc(), text)?;
+        assert_eq!(rt; answer, Err(RunFault::Table(fault)), "at {fault:?}");
+        assert_eq!(rt; written.len(), 0);
+    }
+    Ok(())
+}
+
+#[test]
+fn a_broken_table_source_is_read(rt: HostRuntime) -> Result<(), Fail> {
+    for fail in 1..=4 {
+        let octets = Vec::from_slice(rt.alloc(), b"2,0")?;
+        let mut tape = Tape::new(rt.alloc(), ROOM, ROOM, 0)?;
+        let answer = check(rt.alloc(), &mut Feed::new(octets, 1, fail), &mut tape);
+        assert_eq!(rt; answer, Err(RunFault::Table(TableFault::Read)), "at {fail}");
+        assert_eq!(rt; tape.bytes().len(), 0);
+    }
+    Ok(())
+}
+
+// The lines of standard error, and the statuses.
+#[test]
+fn endings(rt: HostRuntime) -> Result<(), Fail> {
+    let lines = [
+        (RunFault::Blocks(BlocksFault::Read), "blocks Read"),
+        (RunFault::Blocks(BlocksFault::Blank(1)), "blocks Blank 1"),
+        (RunFault::Blocks(BlocksFault::TooMany), "blocks TooMany"),
+        (RunFault::Table(TableFault::Twice(106)), "table Twice 106"),
+        (
+            RunFault::Table(TableFault::Core(Graph::Two)),
+            "table Core 2",
+        ),
+        (
+            RunFault::Desk(1, DeskFault::Seg(SegFault::Uneven)),
+            "block 1 Uneven",
+        ),
+        (RunFault::Write, "output Write"),
+        (RunFault::Memory, "memory"),
+    ];
+    for (fault, line) in lines {
+        assert_eq!(rt; fault.to_string(rt.alloc())?.as_str(), line);
+        assert_eq!(rt; Ending::from(Err(fault)).status(), 1, "at {line}");
+    }
+    let text = String::from_str(rt.alloc(), "why")?;
+    assert_eq!(rt; Ending::from(JobFault::Usage(text)).status(), 2);
+    let text = String::from_str(rt.alloc(), "how")?;
+    assert_eq!(rt; Ending::from(JobFault::Help(text)).status(), 0);
+    assert_eq!(rt; Ending::from(JobFault::Memory).status(), 1);
+    assert_eq!(rt; Ending::from(Ok(())).status(), 0);
+    Ok(())
+}

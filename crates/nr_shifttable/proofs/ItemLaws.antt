@@ -1,0 +1,124 @@
+-- What holds of the items of every file: each is within its base graph, and no two stand at one place.
+use Rattle.std.proofs.Common.{◌≡◌, ℕ, zero, suc, ◌+◌, ◌<◌, List, [], ◌∷◌, ◌++◌, length, get_or, Bool, true, false, not, nat_lt, ◌&&◌, ◌||◌, ◌==◌, cond, refl, ap, subst, arith, Option, Some, None, Vec, Global}
+use Rattle.std.specs.Prelude.{All, IfOk, Result, Ok, Err, option_and_then}
+use Rattle.std.specs.List.{list_all, list_any}
+use Rattle.std.proofs.lemmas.Bool.{ltb-true}
+use Rattle.std.proofs.lemmas.Bool.Decides.{Decides-by_and, Decides-ltb}
+use Rattle.std.proofs.lemmas.List.Elements.{All-nil, All-push}
+use Rattle.std.proofs.lemmas.List.Quantifiers.{all_pairs_push}
+use Rattle.nr_graphpick.specs.Graph.{cols_of, rows_of}
+use Rattle.nr_graphpick.specs.declared.Graph.{Graph}
+use Rattle.nr_shifttable.specs.Items.{Apart, IsInside, graph_of, has_place, is_header, item_in, item_of, item_of_numbers, items_from, numbers_of, same_place, with_item}
+use Rattle.nr_shifttable.specs.Records.{Record}
+use Rattle.nr_shifttable.specs.Said.{◌>>=◌, Gives, or_fault}
+use Rattle.nr_shifttable.specs.declared.entry.Item.{Item}
+use Rattle.nr_shifttable.specs.declared.fault.TableFault.{TableFault}
+
+-- what a chain of steps that answers says of each step
+some-same : {X : Type 0} {x y : X} → Some x ≡ Some y → x ≡ y
+some-same e = cc e
+
+ok-same : {X : Type 0} {x y : X} → ◌≡◌ {A = Result X TableFault} (Ok x) (Ok y) → x ≡ y
+ok-same e = cc e
+
+bind-ok : {X Y : Type 0} (r : Result X TableFault) (f : X → Result Y TableFault) (y : Y) → (r >>= f) ≡ Ok y → (x : X) × (r ≡ Ok x) × (f x ≡ Ok y)
+bind-ok (Ok x) f y e = (x, refl, e)
+bind-ok (Err d) f y e = cc e
+
+or-ok : {X : Type 0} (d : TableFault) (o : Option X) (x : X) → or_fault d o ≡ Ok x → o ≡ Some x
+or-ok d None x e = cc e
+or-ok d (Some z) x e = ap Some (ok-same e)
+
+if-ok : {Y : Type 0} (b : Bool) (d : TableFault) (r : Result Y TableFault) (y : Y) → cond b (Err d) r ≡ Ok y → (b ≡ false) × (r ≡ Ok y)
+if-ok true d r y e = cc e
+if-ok false d r y e = (refl, e)
+
+some-ok : (b : Bool) (r : Result (Option Item) TableFault) (x : Item) → cond b (Ok None) r ≡ Ok (Some x) → r ≡ Ok (Some x)
+some-ok true r x e = cc e
+some-ok false r x e = e
+
+-- the tests of an item in range hold
+both-true : (a b : Bool) → (a && b) ≡ true → (a ≡ true) × (b ≡ true)
+both-true true b e = (refl, e)
+both-true false b e = cc e
+
+chosen : {X : Type 0} (b : Bool) (x y : X) → cond b (Some x) None ≡ Some y → (b ≡ true) × (x ≡ y)
+chosen true x y e = (refl, some-same e)
+chosen false x y e = cc e
+
+inside-in : (graph : Graph) (row col : ℕ) (values : List ℕ) (x : Item) → item_in graph row col values ≡ Some x → IsInside x
+inside-in graph row col values x e =
+    let whole = chosen (nat_lt row (rows_of graph) && nat_lt col (cols_of graph) && list_all (λ v. nat_lt v 65536) values) _ x e in
+    let last = both-true (nat_lt row (rows_of graph) && nat_lt col (cols_of graph)) (list_all (λ v. nat_lt v 65536) values) whole.0 in
+    let first = both-true (nat_lt row (rows_of graph)) (nat_lt col (cols_of graph)) last.0 in
+    let short = Decides-by_and (λ v. nat_lt v 65536) (λ v. v < 65536) (list_all (λ v. nat_lt v 65536)) (λ v. Decides-ltb v 65536) refl (λ _ _. refl) values in
+    subst IsInside whole.1 (record {
+      row = ltb-true row (rows_of graph) first.0;
+      col = ltb-true col (cols_of graph) first.1;
+      values = short.0 last.1;
+    })
+
+inside-of : (numbers : List ℕ) (x : Item) → item_of_numbers numbers ≡ Some x → IsInside x
+inside-of [] x e = cc e
+inside-of (g ∷ []) x e = cc e
+inside-of (g ∷ row ∷ []) x e = cc e
+inside-of (g ∷ row ∷ col ∷ values) x e = by (graph_of g) e
+  where
+    by : (o : Option Graph) → option_and_then (λ graph. item_in graph row col values) o ≡ Some x → IsInside x
+    by None h = cc h
+    by (Some graph) h = inside-in graph row col values x h
+
+-- an item that a record gives is within its base graph, at the place of none before it
+pub item-kept : (k : ℕ) (earlier : List Item) (r : Record) (x : Item) → item_of k earlier r ≡ Ok (Some x) → (has_place earlier x ≡ false) × IsInside x
+unfolding item_of
+item-kept k earlier r x e =
+    let read = some-ok ((k == 1) && is_header r) _ x (if-ok (not (length r == 11)) _ _ (Some x) e).1 in
+    let numbers = bind-ok (or_fault _ (numbers_of r)) _ (Some x) read in
+    let found = bind-ok (or_fault _ (item_of_numbers numbers.0)) _ (Some x) numbers.2 in
+    let new = if-ok (has_place earlier found.0) _ _ (Some x) found.2 in
+    let same : found.0 ≡ x = some-same (ok-same new.1) in (
+      subst (λ (y : Item). has_place earlier y ≡ false) same new.0,
+      subst IsInside same (inside-of numbers.0 found.0 (or-ok _ (item_of_numbers numbers.0) found.0 found.1)),
+    )
+
+-- a list with one more item that is kept
+one-kept : (P : List Item → Type 0) → ((items : List Item) (x : Item) → P items → has_place items x ≡ false → IsInside x → P (items ++ x ∷ []))
+    → (k : ℕ) (items : List Item) (r : Record) (found : Option Item) → item_of k items r ≡ Ok found → P items → P (with_item items found)
+one-kept P more k items r None e p = p
+one-kept P more k items r (Some x) e p = let q = item-kept k items r x e in more items x p q.0 q.1
+
+-- what each new item keeps, all keep
+items-kept : (P : List Item → Type 0) → ((items : List Item) (x : Item) → P items → has_place items x ≡ false → IsInside x → P (items ++ x ∷ []))
+    → (k : ℕ) (items : List Item) (rs : List Record) (out : List Item) → items_from k items rs ≡ Ok out → P items → P out
+unfolding items_from
+items-kept P more k items [] out e p = subst P (ok-same e) p
+items-kept P more k items (r ∷ rs) out e p =
+    let first = bind-ok (item_of k items r) (λ found. items_from (k + 1) (with_item items found) rs) out e in
+    items-kept P more (k + 1) (with_item items first.0) rs out first.2 (one-kept P more k items r first.0 first.1 p)
+
+-- where none passes a test, each fails it
+none-passes : {X : Type 0} (p : X → Bool) (xs : List X) → list_any p xs ≡ false → (i : ℕ) (d : X) → i < length xs → p (get_or xs i d) ≡ false
+none-passes p [] h i d lt = absurd (omega arith)
+none-passes p (x ∷ xs) h i d lt = by (p x) refl h i lt (none-passes p xs)
+  where
+    by : (b : Bool) → p x ≡ b → (b || list_any p xs) ≡ false → (i : ℕ) → i < length (x ∷ xs)
+        → (list_any p xs ≡ false → (i : ℕ) (d : _) → i < length xs → p (get_or xs i d) ≡ false) → p (get_or (x ∷ xs) i d) ≡ false
+    by true e h i lt next = cc h
+    by false e h zero lt next = e
+    by false e h (suc i) lt next = next h i d (omega arith)
+
+-- No two items stand at one place.
+pub items-apart : (k : ℕ) (rs : List Record) (out : List Item) → items_from k [] rs ≡ Ok out → Apart out
+items-apart k rs out e = items-kept Apart
+    (λ items x p new _. all_pairs_push (λ y z. same_place y z ≡ false) items x p (λ i d lt. none-passes (λ y. same_place y x) items new i d lt))
+    k [] rs out e (λ i j d less within. absurd (omega arith))
+
+-- Each item is within its base graph.
+pub items-inside : (k : ℕ) (rs : List Record) (out : List Item) → items_from k [] rs ≡ Ok out → All IsInside out
+items-inside k rs out e = items-kept (All IsInside) (λ items x p _ inside. All-push IsInside items x p inside) k [] rs out e (All-nil IsInside)
+
+-- a law of what is said, of the answer that gives it
+pub gives-law : (P : List Item → Type 0) (r : Result (Vec Item Global) TableFault) (said : Result (List Item) TableFault)
+    → Gives (λ v. v.items) r said → ((out : List Item) → said ≡ Ok out → P out) → IfOk r (λ v. P v.items)
+gives-law P (Ok v) said g law = law v.items g
+gives-law P (Err e) said g law = tt

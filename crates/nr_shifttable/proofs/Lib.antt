@@ -1,0 +1,11 @@
+pub mod Columns
+pub mod Feeds
+pub mod FieldFacts
+pub mod ItemFacts
+pub mod ItemLaws
+pub mod NeverRead
+pub mod Order
+pub mod Parity
+pub mod RecordFacts
+pub mod Shape
+pub mod Slices

@@ -1,0 +1,16 @@
+use Rattle.std.proofs.Common.{◌≡◌, ◌+◌, nat_lt, ◌||◌, false, sym, arith}
+use Rattle.std.proofs.lemmas.Bool.{or_from, le-ltb}
+use Rattle.nr_shifttable.specs.Accepted.{own_column_ok, lacks_row, lone_zero, tail, extension_ok}
+use Rattle.nr_shifttable.proofs.Parity.{each_below-not}
+use Rattle.nr_shifttable.proofs.accept.extension_ok.Goals as goal
+
+pub returns-then-not-lone_zero : goal.returns-then-not-lone_zero
+unfolding extension_ok
+returns-then-not-lone_zero c =
+    let row = c.loop-row.row in
+    let es = c.args.entries.now in
+    let late : nat_lt row 4 ≡ false = le-ltb row 4 (omega arith) in
+    let there : lacks_row es row ≡ false = cc in
+    let wrong : lone_zero (c.args.n + row) (tail es row (c.args.n + 4)) ≡ false = cc in
+    sym (each_below-not c.args.rows row (own_column_ok c.args.n es) (omega arith)
+    (or_from (nat_lt row 4 || lacks_row es row) (lone_zero (c.args.n + row) (tail es row (c.args.n + 4))) (or_from (nat_lt row 4) (lacks_row es row) late there) wrong))

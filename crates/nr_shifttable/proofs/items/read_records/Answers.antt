@@ -1,0 +1,33 @@
+-- Each record adds its item, or its fault is the file's.
+use Rattle.std.proofs.Common.{List, inr, ap, sym, ◌+◌, ◌∙◌, arith, length}
+use Rattle.std.proofs.lemmas.Bool.Decides.{when_false, when_true}
+use Rattle.std.proofs.lemmas.Result.{err_from_is_err_and}
+use Rattle.csv.specs.Records.{fields_of}
+use Rattle.nr_shifttable.specs.Items.{item_of}
+use Rattle.nr_shifttable.specs.declared.entry.Item.{Item}
+use Rattle.nr_shifttable.proofs.ItemFacts.{items-end, items-fault, items-more}
+use Rattle.nr_shifttable.proofs.items.read_records.Goals as goal
+
+pub returns-in_err-found : goal.returns-in_err-found
+returns-in_err-found c =
+    let before = when_true _ _ c.if-branch.true c.in_ok-next.ensures.next in
+    let p = err_from_is_err_and c.from_residual-in_err-found.result c.from_residual-in_err-found.ensures.1 in
+    let judged = ap (λ (items : List Item). item_of (c.loop-items.number + 1) items (fields_of c.next.new.row)) (sym c.deref.ensures.value) ∙ sym c.item_of.ensures in
+    let said = items-fault (c.loop-items.number + 1) c.loop-items.items.items c.loop-items.records c.next.new.self (fields_of c.next.new.row) c.in_err-found.field-0.0
+    _ before (judged ∙ c.in_err-found.was) c.loop-items.invariant.said in
+    rw (p.1, p.2) (inr said)
+
+pub loop-items-preserved : goal.loop-items-preserved
+loop-items-preserved c =
+    let before = when_true _ _ c.if-branch.true c.in_ok-next.ensures.next in
+    let judged = ap (λ (items : List Item). item_of (c.loop-items.number + 1) items (fields_of c.next.new.row)) (sym c.deref.ensures.value) ∙ sym c.item_of.ensures in
+    record {
+      said = items-more (c.loop-items.number + 1) c.loop-items.items.items c.add.new.items.items c.loop-items.records c.next.new.self (fields_of c.next.new.row)
+          c.in_ok-found.found _ before (judged ∙ c.in_ok-found.was) c.in_ok-add.ensures.ok c.loop-items.invariant.said;
+      few = omega (arith, ap length before);
+    }
+
+pub returns : goal.returns
+returns c =
+    let end = when_false _ _ c.if-branch.false c.in_ok-next.ensures.next in
+    items-end (c.loop-items.number + 1) c.loop-items.items.items c.loop-items.records _ end.0 c.loop-items.invariant.said

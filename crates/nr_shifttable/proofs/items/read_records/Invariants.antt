@@ -1,0 +1,15 @@
+use Rattle.std.proofs.Common.{◌≡◌, ◌+◌, ◌≤◌, [], length}
+use Rattle.nr_shifttable.specs.Items.{items_from}
+use Rattle.nr_shifttable.specs.Records.{records_of}
+use Rattle.nr_shifttable.proofs.items.read_records.Given as goal
+
+-- what the records left say after the items so far is what all say, and there are no more records than octets
+abbrev pub invariant-loop-items : goal.invariant-loop-items
+invariant-loop-items l = record {
+  said : items_from (l.number + 1) l.items.items l.records ≡ items_from 1 [] (records_of l.text);
+  few : l.number + length l.records ≤ length l.text;
+}
+
+-- each turn that goes on takes a record
+abbrev pub decreases-loop-items : goal.decreases-loop-items
+decreases-loop-items l = length l.records

@@ -1,0 +1,14 @@
+use Rattle.std.proofs.Common.{refl, arith}
+use Rattle.csv.specs.Reading.{strip_bom}
+use Rattle.csv.specs.declared.parser.State.TheVariants as st
+use Rattle.nr_shifttable.specs.Records.{records_left}
+use Rattle.nr_shifttable.proofs.RecordFacts.{records-few, strip-length}
+use Rattle.nr_shifttable.proofs.records.Records.new.Goals as goal
+
+pub returns-clause-records : goal.returns-clause-records
+unfolding records_left
+returns-clause-records c = rw (c.from_reader-reader.ensures.state, c.from_reader-reader.ensures.source) refl
+
+pub returns-clause-few : goal.returns-clause-few
+returns-clause-few c = rw (c.from_reader-reader.ensures.state, c.from_reader-reader.ensures.source)
+    (omega (arith, records-few st.StartRecord (strip_bom c.args.text.now) refl, strip-length c.args.text.now))

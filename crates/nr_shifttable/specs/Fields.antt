@@ -1,0 +1,27 @@
+-- What a field of a record says.
+use Rattle.std.specs.Prelude.{ℕ, Bool, ◌==◌, ◌&&◌, ◌||◌, nat_le, if◌then◌else◌, List, [], ◌∷◌, length, Option, Some, None}
+use Rattle.std.specs.List.{list_all}
+use Rattle.std.specs.Char.{is_ascii_digit}
+use Rattle.std.specs.Str.Parse.{digits_value}
+
+-- a space or a tab
+abbrev pub is_blank : ℕ → Bool
+is_blank b = (b == 32) || (b == 9)
+
+-- a field without the blanks at its start
+abbrev pub from_first_mark : List ℕ → List ℕ
+from_first_mark [] = []
+from_first_mark (b ∷ bs) = if is_blank b then from_first_mark bs else b ∷ bs
+
+-- a field without the blanks at its end
+abbrev pub to_last_mark : List ℕ → List ℕ
+to_last_mark [] = []
+to_last_mark (b ∷ bs) = if list_all is_blank (b ∷ bs) then [] else b ∷ to_last_mark bs
+
+-- a field without the spaces and tabs at both its ends
+abbrev pub stripped : List ℕ → List ℕ
+stripped field = to_last_mark (from_first_mark field)
+
+-- the number that 1 to 10 decimal digits write
+unfoldable pub number_of : List ℕ → Option ℕ
+number_of text = if nat_le 1 (length text) && nat_le (length text) 10 && list_all is_ascii_digit text then Some (digits_value 10 text) else None

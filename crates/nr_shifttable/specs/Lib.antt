@@ -1,0 +1,9 @@
+pub mod Source
+pub mod Said
+pub mod Records
+pub mod Fields
+pub mod Items
+pub mod Accepted
+pub mod Orders
+pub mod Tails
+pub use Rattle.nr_graphpick.specs.Graph

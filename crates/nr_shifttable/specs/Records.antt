@@ -1,0 +1,43 @@
+-- The records of a text, as the crate `csv` reads it: fields between commas, a field perhaps in double quotes,
+-- each record on a line; a blank line is no record, and no record is a header.
+use Rattle.std.specs.Prelude.{◌≡◌, ◌+◌, ℕ, Bool, true, false, if◌then◌else◌, List, [], length, Option, Some, None}
+use Rattle.std.specs.Borrow.{Bor}
+use Rattle.csv.specs.Machine.{ends_at_end}
+use Rattle.csv.specs.Reading.{Ready, default_config, has_failed, is_flexible, reader_config, reader_state, reader_trim, records, records_from, source_of, strip_bom}
+use Rattle.csv.specs.declared.parser.State.{State}
+use Rattle.csv.specs.declared.reader.Reader.{Reader}
+use Rattle.csv.specs.declared.reader.Trim.TheVariants as trim
+
+-- a record is the list of its fields, and a field its octets
+abbrev pub Record : Type 0
+Record = List (List ℕ)
+
+-- the records of a text, behind a byte order mark if it has one
+abbrev pub records_of : List ℕ → List Record
+records_of text = records default_config (strip_bom text)
+
+-- the records of what is left of a text, in the state that the reading of the records before it left
+unfoldable pub records_left : State → List ℕ → List Record
+records_left s text = records_from default_config (length text + 1) s text
+
+-- what a reader over octets in memory has left of them
+abbrev pub text_left : Reader (Bor (List ℕ)) → Option (List ℕ)
+text_left r = source_of (λ s. Some s.now) r
+
+-- the records that a reader has left, where it knows its text
+abbrev pub records_known : State → Option (List ℕ) → List Record
+records_known s None = []
+records_known s (Some text) = records_left s text
+
+-- the records that a reader has left; none once it has come to the end
+abbrev pub rows_before_end : Bool → Reader (Bor (List ℕ)) → List Record
+rows_before_end ended r = if ended then [] else records_known (reader_state r) (text_left r)
+
+-- a reader that goes on, with no header, no trimming and records of any length, and stands between two records
+pub record IsPlain (r : Reader (Bor (List ℕ))) : Type 0 where
+  pub alive : has_failed r ≡ false
+  pub config : reader_config r ≡ default_config
+  pub trim : reader_trim r ≡ trim.None
+  pub flexible : is_flexible r ≡ true
+  pub ready : Ready r
+  pub between : ends_at_end (reader_state r) ≡ false

@@ -1,0 +1,30 @@
+-- What a pull of a source gives, and what a feed is.
+use Rattle.std.specs.Prelude.{◌≡◌, ℕ, ◌<◌, List, length, take, min, Bool, false, ◌==◌, Option, Some, None, Result, Ok, Err, MatchResult}
+use Rattle.std.specs.Io.KnownBytes.{Consumes, Keeps, IsAtEnd}
+
+-- A pull into buf takes its octets off the front of those to come, where they are known. None come only at
+-- the end or into an empty buffer. A failure takes none.
+abbrev pub Pulls : {E : Type 0} → Option (List ℕ) → Option (List ℕ) → Result ℕ E → List ℕ → Type 0
+Pulls old new r buf = MatchResult r (λ n. Consumes old new (take n buf) × (n ≡ 0 → 0 < length buf → IsAtEnd new)) (λ _. Keeps old new)
+
+-- how many failures a call has met: one where it answers an error
+abbrev pub failed_count : {T E : Type 0} → Result T E → ℕ
+failed_count (Ok x) = 0
+failed_count (Err e) = 1
+
+-- A feed: the octets still to come, how many a pull gives at most, how many pulls are answered before each one
+-- fails (None: none fails), and how many have failed.
+pub record Feeding : Type 0 where
+  pub octets : List ℕ
+  pub step : ℕ
+  pub sound : Option ℕ
+  pub failed : ℕ
+
+-- a feed's next pull fails
+abbrev pub fails_next : Option ℕ → Bool
+fails_next None = false
+fails_next (Some n) = n == 0
+
+-- how many octets a feed gives to a buffer of this length
+abbrev pub fed_count : Feeding → ℕ → ℕ
+fed_count f room = min (min (length f.octets) room) f.step

@@ -1,0 +1,164 @@
+//! The shape that an accepted table has in its parity columns (TS 38.212 clause 5.3.2).
+
+ghost use Rattle.std.specs.Prelude.{◌≡◌, ◌≤◌};
+ghost use Rattle.nr_shifttable.specs.Accepted.{Ascending, is_zero, zero_at, lone_zero, zero_pair, two_agree, three_agree, rows_agree, first_column_ok, diagonals_ok, extension_ok, rows_present, graph_checked};
+
+use crate::entry::Entry;
+use crate::fault::TableFault;
+use crate::sorted::{row_of, tail, values_at};
+use nr_graphpick::Graph;
+
+/// Are the values 0 in all sets?
+fn is_zero(values: &[u16]) -> bool
+    ensures { result ≡ is_zero values.now }
+{
+    values.iter().all(|value| *value == 0)
+}
+
+/// Does the entry stand at this column, with value 0 in all sets?
+fn zero_at(col: u32, entry: &Entry) -> bool
+    ensures { result ≡ zero_at col entry.now }
+{
+    u32::from(entry.col) == col && is_zero(&entry.values)
+}
+
+/// Is there one such entry, and no other?
+fn lone_zero(col: u32, entries: &[Entry]) -> bool
+    ensures { result ≡ lone_zero col entries.now }
+{
+    match entries {
+        [entry] => zero_at(col, entry),
+        _ => false,
+    }
+}
+
+/// Are there two such entries, at this column and the next, and no other?
+fn zero_pair(col: u32, entries: &[Entry]) -> bool
+    requires { col ≤ 24 }
+    ensures { result ≡ zero_pair col entries.now }
+{
+    match entries {
+        [first, second] => zero_at(col, first) && zero_at(col + 1, second),
+        _ => false,
+    }
+}
+
+/// Are at least two of three values equal?
+fn two_agree(a: u16, b: u16, c: u16) -> bool
+    ensures { result ≡ two_agree a b c }
+{
+    a == b || b == c || a == c
+}
+
+/// Are at least two of the three values equal in each lifting-size set?
+fn three_agree(a: &[u16; 8], b: &[u16; 8], c: &[u16; 8]) -> bool
+    ensures { result ≡ three_agree a.now b.now c.now }
+{
+    for set in 0..8 {
+        if !two_agree(a[set], b[set], c[set]) {
+            return false;
+        }
+    }
+    true
+}
+
+/// Do values that agree stand in rows 0 and 3 and in one of rows 1 and 2?
+#[tactic(auto, unfolding(crate::specs::Accepted::rows_agree))]
+fn rows_agree(
+    row0: Option<[u16; 8]>,
+    row1: Option<[u16; 8]>,
+    row2: Option<[u16; 8]>,
+    row3: Option<[u16; 8]>,
+) -> bool
+    ensures { result ≡ rows_agree row0 row1 row2 row3 }
+{
+    match (row0, row1, row2, row3) {
+        (Some(a), Some(b), None, Some(d)) => three_agree(&a, &b, &d),
+        (Some(a), None, Some(c), Some(d)) => three_agree(&a, &c, &d),
+        _ => false,
+    }
+}
+
+/// Does the first parity column, `n`, stand in rows 0 and 3 and in one of rows 1 and 2, with values that agree?
+#[tactic(auto, unfolding(crate::specs::Accepted::first_column_ok))]
+fn first_column_ok(n: u32, entries: &[Entry]) -> bool
+    requires { Ascending 0 entries.now }
+    ensures { result ≡ first_column_ok n entries.now }
+{
+    rows_agree(
+        values_at(entries, 0, n),
+        values_at(entries, 1, n),
+        values_at(entries, 2, n),
+        values_at(entries, 3, n),
+    )
+}
+
+/// Do rows 0 to 3 have the double diagonal of zeros in columns `n + 1` to `n + 3`, and nothing else there and
+/// above?
+#[tactic(auto, unfolding(crate::specs::Accepted::diagonals_ok))]
+fn diagonals_ok(n: u32, entries: &[Entry]) -> bool
+    requires order { Ascending 0 entries.now }
+    requires few { n ≤ 22 }
+    ensures { result ≡ diagonals_ok n entries.now }
+{
+    lone_zero(n + 1, tail(entries, 0, n + 1))
+        && zero_pair(n + 1, tail(entries, 1, n + 1))
+        && zero_pair(n + 2, tail(entries, 2, n + 1))
+        && lone_zero(n + 3, tail(entries, 3, n + 1))
+}
+
+/// Does each row from 4 on that has an entry have, from column `n + 4` on, zeros at its own column alone?
+#[tactic(auto, unfolding(crate::specs::Accepted::extension_ok))]
+fn extension_ok(n: u32, rows: u32, entries: &[Entry]) -> bool
+    requires order { Ascending 0 entries.now }
+    requires few { n ≤ 22 }
+    requires rows { rows ≤ 46 }
+    ensures { result ≡ extension_ok n rows entries.now }
+{
+    for row in 4..rows {
+        if !row_of(entries, row).is_empty() && !lone_zero(n + row, tail(entries, row, n + 4)) {
+            return false;
+        }
+    }
+    true
+}
+
+/// Does each row from 4 on have an entry?
+#[tactic(auto, unfolding(crate::specs::Accepted::rows_present))]
+fn rows_present(rows: u32, entries: &[Entry]) -> bool
+    requires { Ascending 0 entries.now }
+    ensures { result ≡ rows_present rows entries.now }
+{
+    for row in 4..rows {
+        if row_of(entries, row).is_empty() {
+            return false;
+        }
+    }
+    true
+}
+
+/// Judges the entries of one base graph, in ascending order. A table need not have the graph, so no entry at
+/// all is well.
+///
+/// Errors, in this order: `Core`, `Extension`, `MissingRow`.
+#[tactic(auto, unfolding(crate::specs::Accepted::graph_checked))]
+pub(crate) fn check(graph: Graph, entries: &[Entry]) -> Result<(), TableFault>
+    requires { Ascending 0 entries.now }
+    ensures { result ≡ graph_checked graph entries.now }
+{
+    let n = graph.info_cols();
+    let rows = graph.rows();
+    if entries.is_empty() {
+        return Ok(());
+    }
+    if !(first_column_ok(n, entries) && diagonals_ok(n, entries)) {
+        return Err(TableFault::Core(graph));
+    }
+    if !extension_ok(n, rows, entries) {
+        return Err(TableFault::Extension(graph));
+    }
+    if !rows_present(rows, entries) {
+        return Err(TableFault::MissingRow(graph));
+    }
+    Ok(())
+}

@@ -1,0 +1,160 @@
+//! The items of a table file: its records, judged one by one.
+
+ghost use Rattle.std.specs.Prelude.{◌≡◌, ◌^◌, ◌<◌, [], length, drop, nat_lt, if◌then◌else◌, Some, None, All, IfOk, OnErr, OnOk};
+ghost use Rattle.std.specs.List.{list_all};
+ghost use Rattle.csv.specs.Records.{fields_of};
+ghost use Rattle.nr_shifttable.specs.Items.{Apart, IsInside, has_place, is_header, item_of, item_of_numbers, items_from, numbers_of, same_place, with_item};
+ghost use Rattle.nr_shifttable.specs.Records.{records_of};
+ghost use Rattle.nr_shifttable.specs.Said.{Gives};
+
+use crate::entry::{Entry, Item};
+use crate::fault::TableFault;
+use crate::fields;
+use crate::records::Records;
+use csv::ByteRecord;
+use nr_graphpick::Graph;
+use std::alloc::{AllocError, Global};
+
+/// How many fields a record has: base graph, row, column, and a value for each lifting-size set.
+const FIELDS: usize = 11;
+
+/// The items of a table file's text, in the order of its records. Each has a row and a column of its base
+/// graph, and no two stand at one place.
+///
+/// Errors: for the first record that has one, `Fields` or `Csv`, `Number`, `Range`, `Twice`, in this order;
+/// `Memory` where a growth is refused.
+pub fn read_items(alloc: Global, text: &[u8]) -> Result<Vec<Item>, TableFault>
+    requires { length text.now < 2 ^ 32 }
+    ensures said { Gives (λ v. v.items) result (items_from 1 [] (records_of text.now)) }
+    ensures apart { IfOk result (λ v. Apart v.items) }
+    ensures inside { IfOk result (λ v. All IsInside v.items) }
+{
+    read_records(alloc, text)
+}
+
+/// The items, record by record.
+fn read_records(alloc: Global, text: &[u8]) -> Result<Vec<Item>, TableFault>
+    requires { length text.now < 2 ^ 32 }
+    ensures { Gives (λ v. v.items) result (items_from 1 [] (records_of text.now)) }
+{
+    let mut records = Records::new(alloc, text);
+    let mut row = ByteRecord::new(alloc);
+    let mut items = Vec::new(alloc);
+    let mut number = 0;
+    while records.next(&mut row)? {
+        number += 1;
+        let found = item_of(number, &items, &row)?;
+        add(&mut items, found)?;
+    }
+    Ok(items)
+}
+
+/// Adds an item to the others, if there is one.
+fn add(items: &mut Vec<Item>, found: Option<Item>) -> Result<(), AllocError>
+    ensures ok { OnOk result (items.new.items ≡ with_item items.old.items found) }
+    ensures err { OnErr result (items.new.items ≡ items.old.items) }
+{
+    if let Some(item) = found {
+        items.push(item)?;
+    }
+    Ok(())
+}
+
+/// What a record says, given its number from 1 and the items of the records before it. A header gives none.
+#[tactic(auto, unfolding(crate::specs::Items::item_of))]
+fn item_of(number: u32, earlier: &[Item], row: &ByteRecord) -> Result<Option<Item>, TableFault>
+    ensures { result ≡ item_of number earlier.now (fields_of row.now) }
+{
+    if row.len() != FIELDS {
+        return Err(if number == 1 {
+            TableFault::Fields
+        } else {
+            TableFault::Csv(number)
+        });
+    }
+    if number == 1 && is_header(row) {
+        return Ok(None);
+    }
+    let Some(numbers) = numbers_of(row) else {
+        return Err(TableFault::Number(number));
+    };
+    let Some(item) = item_of_numbers(&numbers) else {
+        return Err(TableFault::Range(number));
+    };
+    if has_place(earlier, &item) {
+        return Err(TableFault::Twice(number));
+    }
+    Ok(Some(item))
+}
+
+/// Is the first field the word `graph`?
+fn is_header(row: &ByteRecord) -> bool
+    ensures { result ≡ is_header (fields_of row.now) }
+{
+    match row.get(0) {
+        Some(field) => fields::stripped(field) == b"graph".as_slice(),
+        None => false,
+    }
+}
+
+/// The numbers of a record's eleven fields, if each field is one.
+fn numbers_of(row: &ByteRecord) -> Option<[u64; FIELDS]>
+    requires { length (fields_of row.now) ≡ 11 }
+    ensures { result ≡ numbers_of (fields_of row.now) }
+{
+    let mut numbers = [0; FIELDS];
+    for i in 0..FIELDS {
+        numbers[i] = fields::number_of(fields::stripped(row.get(i)?))?;
+    }
+    Some(numbers)
+}
+
+/// The item that a record's numbers say, if they are in range.
+fn item_of_numbers(numbers: &[u64; FIELDS]) -> Option<Item>
+    ensures { result ≡ item_of_numbers numbers.now }
+{
+    let graph = match numbers[0] {
+        1 => Graph::One,
+        2 => Graph::Two,
+        _ => return None,
+    };
+    let (row, col) = (numbers[1], numbers[2]);
+    if row >= u64::from(graph.rows()) || col >= u64::from(graph.cols()) {
+        return None;
+    }
+    let values = values_of(numbers)?;
+    let entry = Entry {
+        row: row as u16,
+        col: col as u16,
+        values,
+    };
+    Some(Item { graph, entry })
+}
+
+/// The values of the lifting-size sets, if each fits 16 bits.
+fn values_of(numbers: &[u64; FIELDS]) -> Option<[u16; 8]>
+    ensures { result ≡ (if list_all (λ v. nat_lt v 65536) (drop 3 numbers.now) then Some (drop 3 numbers.now) else None) }
+{
+    let mut values = [0; 8];
+    for set in 0..8 {
+        values[set] = u16::try_from(numbers[3 + set]).ok()?;
+    }
+    Some(values)
+}
+
+/// Does one of the items stand at the place of this one?
+///
+/// This goes over all of them for each record, which stays small: a base graph has at most 46 rows and 68
+/// columns, so that no more than 5,312 records pass before one is out of range or at the place of another.
+fn has_place(items: &[Item], item: &Item) -> bool
+    ensures { result ≡ has_place items.now item.now }
+{
+    items.iter().any(|other| same_place(other, item))
+}
+
+/// Do two items stand at one place: in the same base graph, row and column?
+fn same_place(one: &Item, other: &Item) -> bool
+    ensures { result ≡ same_place one.now other.now }
+{
+    one.graph == other.graph && one.entry.row == other.entry.row && one.entry.col == other.entry.col
+}

@@ -1,0 +1,238 @@
+//! Sources that never end or fail, and the records of a table file.
+
+ghost use Rattle.std.specs.Prelude.{◌≡◌, None};
+
+use crate::entry::{Entry, Item};
+use crate::fault::TableFault;
+use crate::items::read_items;
+use crate::source::{Broken, Feed, ReadFault, Source, read_to_end};
+use nr_graphpick::Graph;
+use std::alloc::Global;
+use std::test::Fail;
+
+/// A source that gives one octet a pull without end but fails at one pull, and counts its pulls.
+#[derive(Drop)]
+struct Endless {
+    pulls: u32,
+    fail: u32,
+    failed: u64,
+}
+
+impl Source for Endless {
+    ghost remaining = { λ _. None };
+
+    ghost failures = { λ source. source.failed };
+
+    fn pull(&mut self, buf: &mut [u8]) -> Result<usize, Broken> {
+        self.pulls = self.pulls.saturating_add(1);
+        if self.pulls == self.fail {
+            self.failed += 1;
+            return Err(Broken);
+        }
+        match buf.first_mut() {
+            Some(octet) => {
+                *octet = b'1';
+                Ok(1)
+            }
+            None => Ok(0),
+        }
+    }
+}
+
+fn without_end(fail: u32) -> Endless
+    ensures { result.failed ≡ 0 }
+{
+    Endless {
+        pulls: 0,
+        fail,
+        failed: 0,
+    }
+}
+
+// A source that never ends is refused at the first octet too many.
+#[test]
+fn endless_sources(rt: HostRuntime) {
+    for limit in [0, 1, 5, 70_000, 4_194_304] {
+        let mut source = without_end(0);
+        let read = read_to_end(rt.alloc(), &mut source, limit);
+        assert_eq!(rt; read.err(), Some(ReadFault::TooLong));
+        assert_eq!(rt; u64::from(source.pulls), limit as u64 + 1);
+    }
+}
+
+// After a failure the source is pulled no more.
+#[test]
+fn failing_sources(rt: HostRuntime) {
+    for fail in 1..10 {
+        let mut source = without_end(fail);
+        let read = read_to_end(rt.alloc(), &mut source, 100);
+        assert_eq!(rt; read.err(), Some(ReadFault::Broken));
+        assert_eq!(rt; source.pulls, fail);
+    }
+}
+
+#[test]
+fn feeds(rt: HostRuntime) -> Result<(), Fail> {
+    let text = b"shift".as_slice();
+    for (step, fail, limit, want) in [
+        (1, 0, 5, Ok(())),
+        (2, 0, 6, Ok(())),
+        (9, 0, 5, Ok(())),
+        (1, 0, 4, Err(ReadFault::TooLong)),
+        (9, 0, 4, Err(ReadFault::TooLong)),
+        (1, 1, 5, Err(ReadFault::Broken)),
+        (1, 6, 5, Err(ReadFault::Broken)),
+        (1, 7, 5, Ok(())),
+        (2, 3, 5, Err(ReadFault::Broken)),
+    ] {
+        let mut feed = Feed::new(Vec::from_slice(rt.alloc(), text)?, step, fail);
+        match read_to_end(rt.alloc(), &mut feed, limit) {
+            Ok(octets) => assert!(rt; want == Ok(()) && octets.as_slice() == text),
+            Err(fault) => assert!(rt; want == Err(fault)),
+        }
+    }
+    Ok(())
+}
+
+// A feed gives at most a step a pull, and goes on failing once it has failed.
+#[test]
+fn pulls(rt: HostRuntime) -> Result<(), Fail> {
+    let mut feed = Feed::new(Vec::from_slice(rt.alloc(), b"abc")?, 2, 3);
+    let mut buf = [0; 8];
+    assert_eq!(rt; feed.pull(&mut buf), Ok(2));
+    assert_eq!(rt; feed.pull(&mut buf), Ok(1));
+    assert_eq!(rt; buf[0], b'c');
+    assert_eq!(rt; feed.pull(&mut buf), Err(Broken));
+    assert_eq!(rt; feed.pull(&mut buf), Err(Broken));
+    Ok(())
+}
+
+fn items(alloc: Global, text: &str) -> Result<Vec<Item>, TableFault> {
+    let octets = text.as_bytes();
+    if octets.len() > 1000 {
+        return Err(TableFault::TooLong);
+    }
+    read_items(alloc, octets)
+}
+
+// Headers, blank lines, ends of lines, quotes, blanks round fields and leading zeros.
+#[test]
+fn accepted_records(rt: HostRuntime) {
+    let one = Item {
+        graph: Graph::One,
+        entry: Entry {
+            row: 45,
+            col: 67,
+            values: [1, 2, 3, 4, 5, 6, 7, 65535],
+        },
+    };
+    let two = Item {
+        graph: Graph::Two,
+        ..one
+    };
+    assert_eq!(rt; one == two, false);
+    for text in [
+        "1,45,67,1,2,3,4,5,6,7,65535",
+        "1,45,67,1,2,3,4,5,6,7,0065535\n",
+        "1,45,67,1,2,3,4,5,6,7,0000065535\r\n",
+        "\n\r\n1,45,67,1,2,3,4,5,6,7,65535\r\n\r\n\n",
+        " 1,45 ,\t67,1\t, \t2 \t,3,4,5,6,7,65535 \r\n",
+        "\"1\",\"45\",67,1,2,3,4,5,6,7,\" 65535\t\"\n",
+        "graph,row,column,s0,s1,s2,s3,s4,s5,s6,s7\n1,45,67,1,2,3,4,5,6,7,65535\n",
+        "\" graph \",,,,,,,,,,\r\n1,45,67,1,2,3,4,5,6,7,65535",
+    ] {
+        match items(rt.alloc(), text) {
+            Ok(items) => assert!(rt; items.as_slice() == [one].as_slice(), "{text}"),
+            Err(fault) => assert!(rt; false, "{fault} at {text}"),
+        }
+    }
+}
+
+// No record, and the same row and column in both base graphs.
+#[test]
+fn counts_of_items(rt: HostRuntime) {
+    for (text, want) in [
+        ("", 0),
+        ("\n\n", 0),
+        ("graph,,,,,,,,,,", 0),
+        (
+            "1,0,0,0,0,0,0,0,0,0,0\n2,0,0,0,0,0,0,0,0,0,0\n1,0,1,0,0,0,0,0,0,0,0\n1,1,0,0,0,0,0,0,0,0,0",
+            4,
+        ),
+    ] {
+        match items(rt.alloc(), text) {
+            Ok(items) => assert_eq!(rt; items.len(), want, "{text}"),
+            Err(fault) => assert!(rt; false, "{fault} at {text}"),
+        }
+    }
+}
+
+#[test]
+fn refused_records(rt: HostRuntime) {
+    for (text, want) in [
+        ("2,0", TableFault::Fields),
+        ("2,0,0,0,0,0,0,0,0,0,0,0", TableFault::Fields),
+        ("graph,row", TableFault::Fields),
+        ("2,0,0,0,0,0,0,0,0,0,0\n2,1", TableFault::Csv(2)),
+        (
+            "2,0,0,0,0,0,0,0,0,0,0\n\n2,0,1,0,0,0,0,0,0,0,0,0",
+            TableFault::Csv(2),
+        ),
+        ("2,0,0,0,0,0,0,0,0,0,x", TableFault::Number(1)),
+        ("2,0,0,0,0,0,0,0,0,0,+1", TableFault::Number(1)),
+        ("2,0,0,0,0,0,0,0,0,0,1 1", TableFault::Number(1)),
+        ("2,0,0,0,0,0,0,0,0,0,", TableFault::Number(1)),
+        ("2,0,0,0,0,0,0,0,0,0, \t", TableFault::Number(1)),
+        ("2,0,0,0,0,0,0,0,0,0,00000000000", TableFault::Number(1)),
+        (
+            "2,0,0,0,0,0,0,0,0,0,0\ngraph,,,,,,,,,,",
+            TableFault::Number(2),
+        ),
+        ("Graph,,,,,,,,,,", TableFault::Number(1)),
+        ("3,0,0,0,0,0,0,0,0,0,x", TableFault::Number(1)),
+        ("2,0,0,0,0,0,0,0,0,0,65536", TableFault::Range(1)),
+        ("2,0,0,0,0,0,0,0,0,0,9999999999", TableFault::Range(1)),
+        ("2,42,0,0,0,0,0,0,0,0,0", TableFault::Range(1)),
+        ("2,0,52,0,0,0,0,0,0,0,0", TableFault::Range(1)),
+        ("1,46,0,0,0,0,0,0,0,0,0", TableFault::Range(1)),
+        ("1,0,68,0,0,0,0,0,0,0,0", TableFault::Range(1)),
+        ("0,0,0,0,0,0,0,0,0,0,0", TableFault::Range(1)),
+        ("3,0,0,0,0,0,0,0,0,0,0", TableFault::Range(1)),
+        (
+            "2,1,2,0,0,0,0,0,0,0,0\n2,01,2,7,7,7,7,7,7,7,7",
+            TableFault::Twice(2),
+        ),
+        (
+            "graph,,,,,,,,,,\n2,1,2,0,0,0,0,0,0,0,0\n2,1,2,0,0,0,0,0,0,0,0",
+            TableFault::Twice(3),
+        ),
+        (
+            "2,1,2,0,0,0,0,0,0,0,0\n2,1,2,0,0,0,0,0,0,0,65536",
+            TableFault::Range(2),
+        ),
+        ("2,0,0,0,0,0,0,0,0,0,65536\n2,0", TableFault::Range(1)),
+    ] {
+        assert_eq!(rt; items(rt.alloc(), text).err(), Some(want), "{text}");
+    }
+}
+
+#[test]
+fn texts(rt: HostRuntime) -> Result<(), Fail> {
+    for (fault, want) in [
+        (TableFault::Read, "Read"),
+        (TableFault::Csv(2), "Csv 2"),
+        (TableFault::Fields, "Fields"),
+        (TableFault::Number(4_294_967_295), "Number 4294967295"),
+        (TableFault::Range(3), "Range 3"),
+        (TableFault::Twice(4), "Twice 4"),
+        (TableFault::Core(Graph::One), "Core 1"),
+        (TableFault::Extension(Graph::Two), "Extension 2"),
+        (TableFault::MissingRow(Graph::Two), "MissingRow 2"),
+        (TableFault::Empty, "Empty"),
+        (TableFault::TooLong, "TooLong"),
+        (TableFault::Memory, "Memory"),
+    ] {
+        assert_eq!(rt; fault.to_string(rt.alloc())?.as_str(), want);
+    }
+    Ok(())
+}

@@ -1,0 +1,176 @@
+//! Where octets come from, piece by piece, and reading a source to its end.
+
+ghost use Rattle.std.specs.Prelude.{◌≡◌, ◌==◌, if◌then◌else◌, ℕ, ◌+◌, ◌-◌, ◌^◌, ◌<◌, ◌≤◌, ◌⊎◌, ◌↔◌, ◌++◌, List, length, take, drop, min, Option, Some, None, option_map, IfOk, IfSome, IsErrOf, is_err};
+ghost use Rattle.nr_shifttable.specs.Source.{Pulls, failed_count, fails_next, fed_count, Feeding};
+ghost use Rattle.nr_shifttable.specs.declared.source.ReadFault.{ReadFault};
+
+use std::alloc::{AllocError, Global};
+use std::marker::Model;
+
+/// How many octets are asked for at once.
+const PIECE: usize = 65_536;
+
+/// The answer of a pull that failed.
+#[derive(Clone, Copy, Debug, PartialEq, Eq)]
+pub struct Broken;
+
+/// Where octets come from, piece by piece.
+pub trait Source {
+    /// The octets still to come, where they are known. Of a file or of standard input they are not.
+    ghost remaining: { Self → Option (List ℕ) };
+
+    /// How many pulls have failed.
+    ghost failures: { Self → ℕ };
+
+    /// Puts the next octets at the front of `buf` and answers how many they are, or fails and takes none.
+    /// The answer for a buffer that is not empty is 0 only at the end of the octets.
+    fn pull(&mut self, buf: &mut [u8]) -> Result<usize, Broken>
+        requires { failures self.old < 2 ^ 32 }
+        ensures within { IfOk result (λ n. n ≤ length buf.new) }
+        ensures octets { Pulls (remaining self.old) (remaining self.new) result buf.new }
+        ensures broken { failures self.new ≡ failures self.old + failed_count result };
+}
+
+/// Why a source is not read to its end.
+#[derive(Clone, Copy, Debug, PartialEq, Eq)]
+pub enum ReadFault {
+    /// The source failed.
+    Broken,
+    /// The source has more octets than allowed.
+    TooLong,
+    /// A growth was refused.
+    Memory,
+}
+
+impl From<AllocError> for ReadFault {
+    ghost use Rattle.std.specs.Prelude.{◌≡◌};
+    ghost use Rattle.nr_shifttable.specs.declared.source.ReadFault.TheVariants.{Memory};
+
+    ghost from_gives = { λ _ e. e ≡ Memory };
+
+    fn from(_error: AllocError) -> ReadFault {
+        ReadFault::Memory
+    }
+}
+
+/// Reads a source to its end, and answers its octets, at most `limit` of them.
+///
+/// Errors, where they are met: `Broken`, where a pull failed, and then the source is pulled no more;
+/// `TooLong`, where more than `limit` octets came, even from a source that never ends, since each turn but
+/// the last gives at least one octet; `Memory`.
+pub fn read_to_end<S: Source>(
+    alloc: Global,
+    source: &mut S,
+    limit: usize,
+) -> Result<Vec<u8>, ReadFault>
+    requires { S.failures source.old < 2 ^ 32 }
+    ensures whole { IfOk result (λ text. IfSome (S.remaining source.old) (λ all. text.items ≡ all)) }
+    ensures within { IfOk result (λ text. length text.items ≤ limit) }
+    ensures too_long { IsErrOf result ReadFault.TooLong → IfSome (S.remaining source.old) (λ all. limit < length all) }
+    ensures failed { IsErrOf result ReadFault.Broken ↔ (S.failures source.new ≡ S.failures source.old + 1) }
+    ensures kept { (S.failures source.new ≡ S.failures source.old) ⊎ IsErrOf result ReadFault.Broken }
+{
+    let mut text = Vec::new(alloc);
+    let mut memory = piece_memory(alloc)?;
+    let piece = memory.as_mut_slice();
+    loop {
+        let count = match source.pull(piece) {
+            Ok(count) => count,
+            Err(Broken) => return Err(ReadFault::Broken),
+        };
+        if count == 0 {
+            return Ok(text);
+        }
+        if count > limit - text.len() {
+            return Err(ReadFault::TooLong);
+        }
+        text.extend_from_slice(&piece[..count])?;
+    }
+}
+
+/// Room on the heap for the octets of one pull.
+fn piece_memory(alloc: Global) -> Result<Vec<u8>, AllocError>
+    ensures { IfOk result (λ memory. 0 < length memory.items) }
+{
+    vec![in alloc; 0; PIECE]
+}
+
+/// A source over memory.
+#[derive(Drop)]
+pub struct Feed {
+    octets: Vec<u8>,
+    at: usize,
+    step: u32,
+    sound: Option<u32>,
+    failed: u64,
+}
+
+impl Model for Feed {
+    ghost use Rattle.std.specs.Prelude.{◌<◌, ◌≤◌, length, drop};
+    ghost use Rattle.nr_shifttable.specs.Source.{Feeding};
+
+    ghost Value = { Feeding };
+
+    ghost view = { λ a. record { octets = drop a.at a.octets.items; step = a.step; sound = a.sound; failed = a.failed } };
+
+    ghost invariant = { λ a. (a.at ≤ length a.octets.items) × (0 < a.step) };
+}
+
+impl Feed {
+    /// A source that gives these octets, at most `step` a pull, and fails from its `fail`-th pull on, or
+    /// never where `fail` is 0. `step` is not 0.
+    pub fn new(octets: Vec<u8>, step: u32, fail: u32) -> Feed
+        requires { 0 < step }
+        ensures octets { ⟦<Feed as Source>⟧.remaining result ≡ Some octets.items }
+        ensures failures { ⟦<Feed as Source>⟧.failures result ≡ 0 }
+        ensures step { result.step ≡ step }
+        ensures sound { result.sound ≡ (if fail == 0 then None else Some (fail - 1)) }
+    {
+        Feed {
+            octets,
+            at: 0,
+            step,
+            sound: if fail == 0 { None } else { Some(fail - 1) },
+            failed: 0,
+        }
+    }
+}
+
+impl Source for Feed {
+    ghost remaining = { λ feed. Some feed.octets };
+
+    ghost failures = { λ feed. feed.failed };
+
+    fn pull(&mut self, buf: &mut [u8]) -> Result<usize, Broken>
+        requires { self.old.failed < 2 ^ 32 }
+        ensures within { IfOk result (λ n. n ≤ length buf.new) }
+        ensures octets { Pulls (Some self.old.octets) (Some self.new.octets) result buf.new }
+        ensures broken { self.new.failed ≡ self.old.failed + failed_count result }
+        ensures fails { is_err result ≡ fails_next self.old.sound }
+        ensures count { IfOk result (λ n. n ≡ fed_count self.old (length buf.old)) }
+        ensures later { self.new.sound ≡ option_map (λ n. n - 1) self.old.sound }
+        ensures step { self.new.step ≡ self.old.step }
+    {
+        match self.sound {
+            Some(0) => {
+                self.failed += 1;
+                return Err(Broken);
+            }
+            Some(sound) => self.sound = Some(sound - 1),
+            None => {}
+        }
+        let count = copy_front(&self.octets[self.at..], buf, self.step);
+        self.at += count;
+        Ok(count)
+    }
+}
+
+/// Copies as much of the front of `from` to the front of `to` as both and `most` allow, and answers how much.
+fn copy_front(from: &[u8], to: &mut [u8], most: u32) -> usize
+    ensures count { result ≡ min (min (length from.now) (length to.old)) most }
+    ensures copied { to.new ≡ take result from.now ++ drop result to.old }
+{
+    let count = from.len().min(to.len()).min(most as usize);
+    to[..count].copy_from_slice(&from[..count]);
+    count
+}

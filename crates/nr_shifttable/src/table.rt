@@ -1,0 +1,153 @@
+//! The accepted table of shift values.
+
+ghost use Rattle.std.specs.Prelude.{◌≡◌, ◌↔◌, ◌⊎◌, ◌+◌, ◌^◌, ◌<◌, ◌≤◌, All, IfOk, IfSome, IsErrOf, length, option_map, slice_index};
+ghost use Rattle.nr_shifttable.specs.Accepted.{entries_in, has_graph, row_of, column_of, values_at, table_of, table_said, accepted, IsTable};
+ghost use Rattle.nr_shifttable.specs.Items.{Apart, IsInside};
+ghost use Rattle.nr_shifttable.specs.Said.{Gives};
+
+use crate::accept::check;
+use crate::entry::{Entry, Item};
+use crate::fault::TableFault;
+use crate::items::read_items;
+use crate::sorted::{Sorted, values_at};
+use crate::source::{ReadFault, Source, read_to_end};
+use nr_graphpick::Graph;
+use std::alloc::Global;
+use std::marker::Model;
+
+/// The most octets that a table file may have.
+const LIMIT: usize = 4_194_304;
+
+/// A table of shift values that was accepted: the entries of base graph 1, of base graph 2, or of both
+/// (TS 38.212 clause 5.3.2). What is asked of it takes no memory, and a row or a column is found by halving.
+#[derive(Drop)]
+pub struct Table {
+    one: Sorted,
+    two: Sorted,
+}
+
+impl Model for Table {
+    ghost use Rattle.nr_shifttable.specs.Accepted.{Entries, IsTable};
+
+    ghost Value = { Entries };
+
+    ghost view = { λ t. record { one = t.one; two = t.two } };
+
+    ghost invariant = { λ t. IsTable (record { one = t.one; two = t.two }) };
+}
+
+impl Table {
+    /// Reads a table file to its end and judges it.
+    ///
+    /// The file is CSV text. Each record has eleven fields: base graph (1 or 2), row, column, and the shift
+    /// values of the eight lifting-size sets, as TS 38.212, Tables 5.3.2-2 and 5.3.2-3 give them; a first
+    /// record that begins with `graph` is a header. The order of the records does not matter.
+    ///
+    /// Errors, in the order of `TableFault`'s description: `Read` or `TooLong` while the octets are read; then
+    /// record by record `Csv`, `Fields`, `Number`, `Range`, `Twice`; then `Empty`; then by base graph `Core`,
+    /// `Extension`, `MissingRow`. `Memory` comes where a growth is refused.
+    pub fn read<S: Source>(alloc: Global, source: &mut S) -> Result<Table, TableFault>
+        requires { S.failures source.old < 2 ^ 32 }
+        ensures table { IfOk result IsTable }
+        ensures failed { IsErrOf result TableFault.Read ↔ (S.failures source.new ≡ S.failures source.old + 1) }
+        ensures kept { (S.failures source.new ≡ S.failures source.old) ⊎ IsErrOf result TableFault.Read }
+        ensures said { IfSome (S.remaining source.old) (λ text. IsErrOf result TableFault.Read ⊎ Gives (λ t. t) result (table_said text)) }
+    {
+        let text = match read_to_end(alloc, source, LIMIT) {
+            Ok(text) => text,
+            Err(ReadFault::Broken) => return Err(TableFault::Read),
+            Err(ReadFault::TooLong) => return Err(TableFault::TooLong),
+            Err(ReadFault::Memory) => return Err(TableFault::Memory),
+        };
+        Table::judge(alloc, &text)
+    }
+
+    /// The table of a whole text, judged.
+    #[tactic(auto, unfolding(crate::specs::Accepted::table_said))]
+    fn judge(alloc: Global, text: &[u8]) -> Result<Table, TableFault>
+        requires { length text.now ≤ 4194304 }
+        ensures table { IfOk result IsTable }
+        ensures judged { IsErrOf result TableFault.Read → ⊥ }
+        ensures said { Gives (λ t. t) result (table_said text.now) }
+    {
+        let items = read_items(alloc, text)?;
+        Table::from_items(alloc, items)
+    }
+
+    /// The table of a list of items, judged.
+    ///
+    /// Errors, in this order: `Empty`, where there is no item; then, for each base graph that has an entry,
+    /// base graph 1 first, `Core`, `Extension` and `MissingRow`. `Memory` comes where a growth is refused.
+    #[tactic(auto, unfolding(crate::specs::Accepted::accepted))]
+    pub(crate) fn from_items(alloc: Global, items: Vec<Item>) -> Result<Table, TableFault>
+        requires apart { Apart items.items }
+        requires in_range { All IsInside items.items }
+        ensures table { IfOk result IsTable }
+        ensures said { Gives (λ t. t) result (accepted (table_of items.items)) }
+    {
+        let one = Sorted::new(alloc, Graph::One, &items)?;
+        let two = Sorted::new(alloc, Graph::Two, &items)?;
+        if one.entries().is_empty() && two.entries().is_empty() {
+            return Err(TableFault::Empty);
+        }
+        check(Graph::One, one.entries())?;
+        check(Graph::Two, two.entries())?;
+        Ok(Table { one, two })
+    }
+
+    /// The entries of a base graph.
+    fn sorted(&self, graph: Graph) -> &Sorted
+        ensures { result.now ≡ entries_in graph self.now }
+    {
+        match graph {
+            Graph::One => &self.one,
+            Graph::Two => &self.two,
+        }
+    }
+
+    /// Whether the table has an entry of the base graph. If it has one, it has all that an accepted table
+    /// must have.
+    pub fn has(&self, graph: Graph) -> bool
+        ensures table { IsTable self.now }
+        ensures value { result ≡ has_graph graph self.now }
+    {
+        match graph {
+            Graph::One => !self.one.entries().is_empty(),
+            Graph::Two => !self.two.entries().is_empty(),
+        }
+    }
+
+    /// The shift value V at a row and a column of a base graph, for the lifting-size set `set` in 0..=7, as
+    /// it was read: it is not reduced modulo a lifting size. `None` where no entry stands there.
+    pub fn shift(&self, graph: Graph, row: u16, col: u16, set: u8) -> Option<u16>
+        requires { set < 8 }
+        ensures { result ≡ option_map (λ values. slice_index values set) (values_at (entries_in graph self.now) row col) }
+    {
+        let entries = self.sorted(graph).entries();
+        match values_at(entries, u32::from(row), u32::from(col)) {
+            Some(values) => Some(values[usize::from(set)]),
+            None => None,
+        }
+    }
+
+    /// The entries of a row of a base graph, in ascending order of their columns.
+    pub fn row_entries(&self, graph: Graph, row: u16) -> &[Entry]
+        ensures { result.now ≡ row_of (entries_in graph self.now) row }
+    {
+        self.sorted(graph).row(row)
+    }
+
+    /// The entries of a column of a base graph, in ascending order of their rows.
+    pub fn col_entries(&self, graph: Graph, col: u16) -> &[Entry]
+        ensures { result.now ≡ column_of (entries_in graph self.now) col }
+    {
+        self.sorted(graph).column(col)
+    }
+
+    /// How many entries the table has of a base graph.
+    pub fn entries(&self, graph: Graph) -> u32
+        ensures { result ≡ length (entries_in graph self.now) }
+    {
+        self.sorted(graph).len()
+    }
+}
