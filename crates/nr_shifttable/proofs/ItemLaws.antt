@@ -1,18 +1,21 @@
 -- What holds of the items of every file: each is within its base graph, and no two stand at one place.
-use Rattle.std.proofs.Common.{◌≡◌, ℕ, zero, suc, ◌+◌, ◌<◌, List, [], ◌∷◌, ◌++◌, length, get_or, Bool, true, false, not, nat_lt, ◌&&◌, ◌||◌, ◌==◌, cond, refl, ap, subst, arith, Option, Some, None, Vec, Global}
-use Rattle.std.specs.Prelude.{All, IfOk, Result, Ok, Err, option_and_then}
+use Rattle.std.proofs.Common.{◌≡◌, ℕ, zero, suc, ◌+◌, ◌<◌, List, [], ◌∷◌, ◌++◌, length, get_or, Bool, true, false, not, nat_lt, ◌&&◌, ◌||◌, ◌==◌, cond, refl, ap, subst, sym, ◌∙◌, arith, Option, Some, None, Vec, Global}
+use Rattle.std.specs.Prelude.{All, IfOk, Result, Ok, Err, codes, option_and_then, option_map}
 use Rattle.std.specs.List.{list_all, list_any}
 use Rattle.std.proofs.lemmas.Bool.{ltb-true}
 use Rattle.std.proofs.lemmas.Bool.Decides.{Decides-by_and, Decides-ltb}
-use Rattle.std.proofs.lemmas.List.Elements.{All-nil, All-push}
+use Rattle.std.proofs.lemmas.Slice.Eq.{bytes_eq-Decides}
+use Rattle.std.proofs.lemmas.List.Elements.{All-cons, All-head, All-nil, All-pop, All-push, All-tail}
 use Rattle.std.proofs.lemmas.List.Quantifiers.{all_pairs_push}
 use Rattle.nr_graphpick.specs.Graph.{cols_of, rows_of}
 use Rattle.nr_graphpick.specs.declared.Graph.{Graph}
+use Rattle.nr_shifttable.specs.Fields.{number_of, stripped}
 use Rattle.nr_shifttable.specs.Items.{Apart, IsInside, graph_of, has_place, is_header, item_in, item_of, item_of_numbers, items_from, numbers_of, same_place, with_item}
 use Rattle.nr_shifttable.specs.Records.{Record}
 use Rattle.nr_shifttable.specs.Said.{◌>>=◌, Gives, or_fault}
 use Rattle.nr_shifttable.specs.declared.entry.Item.{Item}
 use Rattle.nr_shifttable.specs.declared.fault.TableFault.{TableFault}
+use Rattle.nr_shifttable.specs.declared.fault.TableFault.TheVariants as fault
 
 -- what a chain of steps that answers says of each step
 some-same : {X : Type 0} {x y : X} → Some x ≡ Some y → x ≡ y
@@ -122,3 +125,80 @@ pub gives-law : (P : List Item → Type 0) (r : Result (Vec Item Global) TableFa
     → Gives (λ v. v.items) r said → ((out : List Item) → said ≡ Ok out → P out) → IfOk r (λ v. P v.items)
 gives-law P (Ok v) said g law = law v.items g
 gives-law P (Err e) said g law = tt
+
+-- the item that a record's fields write
+abbrev pub Writes : Record → Item → Type 0
+Writes r x = (numbers : List ℕ) × (numbers_of r ≡ Some numbers) × (item_of_numbers numbers ≡ Some x)
+
+-- what holds of the item that a record writes, if it writes one
+abbrev pub OfWritten : (Item → Type 0) → Record → Type 0
+OfWritten P r = (x : Item) → Writes r x → P x
+
+-- the word of a header is no number
+header-number : (text : List ℕ) → text ≡ codes "graph" → number_of text ≡ None
+unfolding number_of
+header-number text is = ap number_of is
+
+-- a header writes no item
+header-numbers : (r : Record) → is_header r ≡ true → numbers_of r ≡ None
+header-numbers [] e = cc e
+header-numbers (f ∷ fs) e = ap (option_and_then (λ n. option_map (λ ns. n ∷ ns) (numbers_of fs))) (header-number (stripped f) ((bytes_eq-Decides (stripped f) (codes "graph")).0 e))
+
+-- the item that a record gives is the one that it writes
+written-item : (k : ℕ) (earlier : List Item) (r : Record) (x : Item) → item_of k earlier r ≡ Ok (Some x) → Writes r x
+unfolding item_of
+written-item k earlier r x e =
+    let read = some-ok ((k == 1) && is_header r) _ x (if-ok (not (length r == 11)) _ _ (Some x) e).1 in
+    let numbers = bind-ok (or_fault _ (numbers_of r)) _ (Some x) read in
+    let found = bind-ok (or_fault _ (item_of_numbers numbers.0)) _ (Some x) numbers.2 in
+    let new = if-ok (has_place earlier found.0) _ _ (Some x) found.2 in
+    let same : found.0 ≡ x = some-same (ok-same new.1) in
+    (numbers.0, or-ok _ (numbers_of r) numbers.0 numbers.1, or-ok _ (item_of_numbers numbers.0) found.0 found.1 ∙ ap Some same)
+
+given-item : (k : ℕ) (earlier : List Item) (r : Record) (found : Option Item) (x : Item) → item_of k earlier r ≡ Ok found → Writes r x → found ≡ Some x
+unfolding item_of
+given-item k earlier r found x e w = by ((k == 1) && is_header r) refl (if-ok (not (length r == 11)) _ _ found e).1
+  where
+    by : (b : Bool) → ((k == 1) && is_header r) ≡ b → cond b (Ok None) (or_fault (fault.Number k) (numbers_of r) >>= λ numbers. or_fault (fault.Range k) (item_of_numbers numbers) >>= λ y. cond (has_place earlier y) (Err (fault.Twice k)) (Ok (Some y))) ≡ Ok found → found ≡ Some x
+    by true header h = let none = header-numbers r (both-true (k == 1) (is_header r) header).1 in cc (none, w.1)
+    by false header h =
+        let numbers = bind-ok (or_fault _ (numbers_of r)) _ found h in
+        let same : numbers.0 ≡ w.0 = cc (or-ok _ (numbers_of r) numbers.0 numbers.1, w.1) in
+        let one = bind-ok (or_fault _ (item_of_numbers numbers.0)) _ found numbers.2 in
+        let new = if-ok (has_place earlier one.0) _ _ found one.2 in
+        cc (or-ok _ (item_of_numbers numbers.0) one.0 one.1, same, w.2, new.1)
+
+-- the items that stood before stand among all
+items-front : (P : Item → Type 0) (k : ℕ) (items : List Item) (rs : List Record) (out : List Item) → items_from k items rs ≡ Ok out → All P out → All P items
+unfolding items_from
+items-front P k items [] out e all = subst (All P) (sym (ok-same e)) all
+items-front P k items (r ∷ rs) out e all =
+    let first = bind-ok (item_of k items r) (λ found. items_from (k + 1) (with_item items found) rs) out e in
+    front first.0 (items-front P (k + 1) (with_item items first.0) rs out first.2 all)
+  where
+    front : (found : Option Item) → All P (with_item items found) → All P items
+    front None kept = kept
+    front (Some x) kept = (All-pop P (items ++ x ∷ []) items (Some x) refl kept).0
+
+-- what holds of all items holds of each that a record writes, and back
+pub written-from_items : (P : Item → Type 0) (k : ℕ) (items : List Item) (rs : List Record) (out : List Item) → items_from k items rs ≡ Ok out → All P out → All (OfWritten P) rs
+unfolding items_from
+written-from_items P k items [] out e all = All-nil (OfWritten P)
+written-from_items P k items (r ∷ rs) out e all =
+    let first = bind-ok (item_of k items r) (λ found. items_from (k + 1) (with_item items found) rs) out e in
+    All-cons (OfWritten P) r rs
+    (λ x w. let is = given-item k items r first.0 x first.1 w in
+    let kept = subst (λ (found : Option Item). All P (with_item items found)) is (items-front P (k + 1) (with_item items first.0) rs out first.2 all) in
+    (All-pop P (items ++ x ∷ []) items (Some x) refl kept).1)
+    (written-from_items P (k + 1) (with_item items first.0) rs out first.2 all)
+
+pub items-from_written : (P : Item → Type 0) (k : ℕ) (items : List Item) (rs : List Record) (out : List Item) → items_from k items rs ≡ Ok out → All (OfWritten P) rs → All P items → All P out
+unfolding items_from
+items-from_written P k items [] out e all kept = subst (All P) (ok-same e) kept
+items-from_written P k items (r ∷ rs) out e all kept =
+    let first = bind-ok (item_of k items r) (λ found. items_from (k + 1) (with_item items found) rs) out e in
+    items-from_written P (k + 1) (with_item items first.0) rs out first.2 (All-tail (OfWritten P) r rs all) (more first.0 first.1)
+  where
+    more : (found : Option Item) → item_of k items r ≡ Ok found → All P (with_item items found)
+    more None is = kept
+    more (Some x) is = All-push P items x kept (All-head (OfWritten P) r rs all x (written-item k items r x is))

@@ -10,8 +10,8 @@ use Rattle.nr_shifttable.specs.declared.entry.Entry.{Entry}
 use Rattle.nr_shifttable.specs.declared.entry.Item.{Item}
 use Rattle.nr_shifttable.specs.declared.fault.TableFault.{TableFault}
 use Rattle.nr_shifttable.specs.declared.fault.TableFault.TheVariants.{Core, Extension, MissingRow, Empty, TooLong}
-use Rattle.nr_shifttable.specs.Items.{graph_eq, Apart, IsInside, items_from}
-use Rattle.nr_shifttable.specs.Records.{records_of}
+use Rattle.nr_shifttable.specs.Items.{graph_eq, IsInside, items_from}
+use Rattle.nr_shifttable.specs.Records.{Record, records_of}
 use Rattle.nr_shifttable.specs.Said.{◌>>=◌}
 
 -- the entries of each base graph, in ascending order of their places
@@ -168,7 +168,8 @@ pub record IsTable (t : Entries) : Type 0 where
   pub one_in_range : All (IsInRange One) t.one
   pub two_in_range : All (IsInRange Two) t.two
 
--- the same items in another order give the same table
+-- two files with the same records in another order, with no fault in either, give the same table
 abbrev pub OrderDoesNotMatter : Type 0
 OrderDoesNotMatter =
-    (items others : List Item) → IsPermutation items others → Apart items → All IsInside items → table_of items ≡ table_of others
+    (records others : List Record) (items more : List Item) → IsPermutation records others
+    → items_from 1 [] records ≡ Ok items → items_from 1 [] others ≡ Ok more → table_of items ≡ table_of more

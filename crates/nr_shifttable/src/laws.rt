@@ -3,7 +3,8 @@
 ghost use Rattle.nr_shifttable.specs.Accepted.{OrderDoesNotMatter};
 ghost use Rattle.nr_shifttable.specs.Tails.{AcceptedHasShape};
 
-/// The order of a table file's records does not matter: the same items in another order give the same table.
+/// The order of a table file's records does not matter: two files with the same records in another order, with no
+/// fault in either, give the same table.
 pub fn record_order()
     ensures { OrderDoesNotMatter }
 {}
