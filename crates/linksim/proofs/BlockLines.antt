@@ -4,7 +4,7 @@ use Rattle.std.proofs.lemmas.List.{drop_more, drop_all, append-nil}
 use Rattle.std.proofs.lemmas.Bool.Decides.{nat_tests}
 use Rattle.linksim.specs.declared.blocks.BlocksFault.{BlocksFault}
 use Rattle.linksim.specs.declared.blocks.BlocksFault.TheVariants as fault
-use Rattle.linksim.specs.Refusals.{◌>>=◌}
+use Rattle.nr_graphpick.specs.Refusal.{◌>>=◌}
 use Rattle.linksim.specs.Blocks.{without_last, parts_of, block_at, blocks_from, blocks_of}
 
 -- blocks before those of a result

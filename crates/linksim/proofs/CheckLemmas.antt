@@ -1,13 +1,17 @@
 -- What `check` says of a shift table file, step by step.
-use Rattle.std.proofs.Common.{◌≡◌, ℕ, ◌+◌, ◌⊎◌, ◌↔◌, inl, inr, Result, Ok, Err, IsErrOf, List, ap, refl, arith}
-use Rattle.nr_shifttable.specs.Accepted.{Entries, table_said}
+use Rattle.std.proofs.Common.{◌≡◌, ◌≢◌, ℕ, ◌+◌, ◌<◌, ◌⊎◌, ◌++◌, [], inl, inr, true, false, Result, Ok, Err, IsErrOf, List, ap, refl, length}
+use Rattle.std.specs.Prelude.{codes}
+use Rattle.std.specs.Fmt.{decimal}
+use Rattle.nr_graphpick.specs.Graph.{digits_of}
+use Rattle.nr_graphpick.specs.declared.Graph.{Graph}
+use Rattle.nr_shifttable.specs.Accepted.{Entries, entries_in, has_graph, table_said}
 use Rattle.nr_shifttable.specs.declared.fault.TableFault.{TableFault}
 use Rattle.nr_shifttable.specs.declared.fault.TableFault.TheVariants as table_fault
-use Rattle.linksim.specs.CheckText.{check_said, table_lines}
-use Rattle.linksim.specs.Command.{pull_count, put_count}
+use Rattle.linksim.specs.CheckText.{check_said, graph_line, graph_lines, table_lines}
 use Rattle.linksim.specs.Faults.{table_refusal}
-use Rattle.linksim.specs.Refusals.{◌>>=◌, with_fault}
-use Rattle.linksim.specs.declared.fault.RunFault.TheVariants.{Memory, Table}
+use Rattle.nr_graphpick.specs.Refusal.{◌>>=◌, with_fault}
+use Rattle.linksim.specs.declared.fault.RunFault.TheVariants.{Memory, Table, Write}
+use Rattle.linksim.proofs.WrittenLemmas.{some_at_end}
 
 -- a refused table file is a refused command
 check_said-refused : (text : List ℕ) (e : TableFault) → table_said text ≡ Err e → check_said text ≡ Err (Table e)
@@ -34,12 +38,26 @@ pub given-table-read : {X : Type 0} (r : Result X TableFault) (text : List ℕ) 
 given-table-read r text table sound (inl read) = absurd (sound read)
 given-table-read r text table sound (inr is) = check_said-read text table is
 
--- a fault of the table file tells of no failed put, and of as many failed pulls as there were
-pub put_count-table_refusal : (e : TableFault) → put_count (table_refusal e) ≡ 0
-put_count-table_refusal table_fault.Memory = refl
-put_count-table_refusal e = refl
+-- a fault of the table file tells of no failed put, and of a failed pull where it is Read
+pub table_refusal-put : (e : TableFault) → table_refusal e ≢ Write
+table_refusal-put table_fault.Memory is = cc
+table_refusal-put e is = cc
 
-pub pulled-refused : (X : Type 0) (old new : ℕ) (e : TableFault) → (IsErrOf {T = X} (Err e) table_fault.Read ↔ (new ≡ old + 1)) → (new ≡ old) ⊎ IsErrOf {T = X} (Err e) table_fault.Read → new ≡ old + pull_count (table_refusal e)
-pulled-refused X old new table_fault.Read failed kept = failed.0 refl
-pulled-refused X old new e failed (inl same) = omega (arith, same)
-pulled-refused X old new e failed (inr read) = absurd (cc)
+pub table_refusal-read : (e : TableFault) → e ≢ table_fault.Read → table_refusal e ≢ Table table_fault.Read
+table_refusal-read table_fault.Memory other is = cc
+table_refusal-read table_fault.Read other is = other refl
+table_refusal-read e other is = cc
+
+-- where the table has a base graph, its lines are its line, and else none
+pub graph_lines-line : (table : Entries) (graph : Graph) → has_graph graph table ≡ true → graph_lines table graph ≡ graph_line table graph
+unfolding graph_lines
+graph_lines-line table graph is = rw is
+
+pub graph_lines-none : (table : Entries) (graph : Graph) → has_graph graph table ≡ false → graph_lines table graph ≡ []
+unfolding graph_lines
+graph_lines-none table graph is = rw is
+
+-- a base graph's line is not empty
+pub graph_line-some : (table : Entries) (graph : Graph) → 0 < length (graph_line table graph)
+unfolding graph_line
+graph_line-some table graph = some_at_end (codes "graph " ++ digits_of graph ++ codes " entries " ++ decimal (length (entries_in graph table)))

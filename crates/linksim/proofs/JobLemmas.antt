@@ -1,14 +1,14 @@
 -- What clap's answers say of the options.
-use Rattle.std.proofs.Common.{◌≡◌, ◌∙◌, ℕ, ◌^◌, ◌<◌, true, List, Option, None, Some, ap, sym, refl, subst}
+use Rattle.std.proofs.Common.{◌≡◌, ◌∙◌, ℕ, ◌^◌, ◌<◌, true, List, [], Option, None, Some, ap, sym, refl, subst}
 use Rattle.std.specs.Prelude.{IsSomeAnd}
 use Rattle.std.specs.Str.Parse.{IsNumeral, digits_value, without_leading_plus}
 use Rattle.clap.proofs.OnLiterals.{clap_on_literals}
 use Rattle.clap.proofs.WalkLemmas.{one_text-rows}
-use Rattle.clap.specs.Words.{App, HasMatchesOf, Row, Text, found_of, is_simple, matches_of, one_of, one_text, rows_of, takes}
+use Rattle.clap.specs.Words.{App, HasMatchesOf, Row, Text, fault_of, found_of, is_simple, is_simple_and_free, matches_of, one_of, one_text, rows_of, takes}
 use Rattle.clap.specs.declared.parser.matches.ArgMatches.{ArgMatches}
 use Rattle.clap.specs.declared.parser.matches.Found.{Found}
 use Rattle.linksim.specs.Commands.{check_app, cut_app}
-use Rattle.linksim.specs.Jobs.{IsNumberAt, check_rows, cut_rows, is_taken_as_check, is_taken_as_cut}
+use Rattle.linksim.specs.Jobs.{IsNumberAt, check_faults, check_rows, cut_faults, cut_rows, is_taken_as_check, is_taken_as_cut}
 
 -- clap's functions of the words speak of both commands
 cut_simple : is_simple cut_app ≡ true
@@ -44,6 +44,40 @@ cut-takes a words is taken = ap (λ app. takes app words) is ∙ taken
 pub check-takes : (a : App) (words : List Text) → a ≡ check_app → is_taken_as_check words ≡ true → takes a words ≡ true
 unfolding is_taken_as_check
 check-takes a words is taken = ap (λ app. takes app words) is ∙ taken
+
+-- clap finds no fault in the words at a command that is `cut`, or `check`, where it found none at the command
+cut_free : is_simple_and_free cut_app ≡ true
+unfolding clap_on_literals
+cut_free = refl
+
+check_free : is_simple_and_free check_app ≡ true
+unfolding clap_on_literals
+check_free = refl
+
+pub cut-faultless : (a : App) (words : List Text) → a ≡ cut_app → (is_simple_and_free a ≡ true → fault_of a words ≡ [])
+    → cut_faults words ≡ []
+unfolding cut_faults
+cut-faultless a words is none =
+    ap (λ app. fault_of app words) (sym is) ∙ none (ap is_simple_and_free is ∙ cut_free)
+
+pub check-faultless : (a : App) (words : List Text) → a ≡ check_app
+    → (is_simple_and_free a ≡ true → fault_of a words ≡ []) → check_faults words ≡ []
+unfolding check_faults
+check-faultless a words is none =
+    ap (λ app. fault_of app words) (sym is) ∙ none (ap is_simple_and_free is ∙ check_free)
+
+-- where clap finds no fault in the words as those of `cut`, or of `check`, it finds none at that command
+pub cut-free : (a : App) (words : List Text) → a ≡ cut_app → cut_faults words ≡ []
+    → (is_simple_and_free a ≡ true) × (fault_of a words ≡ [])
+unfolding cut_faults
+cut-free a words is none =
+    (ap is_simple_and_free is ∙ cut_free, ap (λ app. fault_of app words) is ∙ none)
+
+pub check-free : (a : App) (words : List Text) → a ≡ check_app → check_faults words ≡ []
+    → (is_simple_and_free a ≡ true) × (fault_of a words ≡ [])
+unfolding check_faults
+check-free a words is none =
+    (ap is_simple_and_free is ∙ check_free, ap (λ app. fault_of app words) is ∙ none)
 
 -- the text is a numeral that fits 32 bits
 abbrev pub IsWord : Text → Type 0

@@ -2,7 +2,8 @@ pub mod BlockLines
 pub mod BlockTexts
 pub mod CheckLemmas
 pub mod CommandLemmas
+pub mod CutLemmas
 pub mod HexDigits
 mod JobLemmas
 pub mod OctetDigits
-mod WrittenLemmas
+pub mod WrittenLemmas

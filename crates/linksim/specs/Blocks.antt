@@ -2,7 +2,7 @@
 use Rattle.std.specs.Prelude.{ℕ, ◌+◌, ◌-◌, ◌*◌, ◌%◌, ◌≤◌, ◌==◌, nat_lt, not, if◌then◌else◌, Result, Ok, Err, List, [], ◌∷◌, length, take, slice_index}
 use Rattle.std.specs.List.{slice_split, list_all}
 use Rattle.std.specs.Char.{is_ascii_hexdigit, digit_value}
-use Rattle.linksim.specs.Refusals.{◌>>=◌}
+use Rattle.nr_graphpick.specs.Refusal.{◌>>=◌}
 use Rattle.linksim.specs.declared.blocks.BlocksFault.{BlocksFault}
 use Rattle.linksim.specs.declared.blocks.BlocksFault.TheVariants as fault
 
@@ -49,8 +49,3 @@ blocks_of text =
     if nat_lt 100000000 (length text) then Err fault.TooLong
     else (if length text == 0 then Err fault.Empty
     else blocks_from 1 (parts_of text))
-
--- how many failed pulls a fault tells of
-abbrev pub read_count : BlocksFault → ℕ
-read_count fault.Read = 1
-read_count _ = 0

@@ -5,16 +5,18 @@ use Rattle.nr_graphpick.specs.Graph.{digits_of}
 use Rattle.nr_graphpick.specs.declared.Graph.{Graph}
 use Rattle.nr_graphpick.specs.declared.Graph.TheVariants.{One, Two}
 use Rattle.nr_shifttable.specs.Accepted.{Entries, entries_in, has_graph, table_said}
-use Rattle.linksim.specs.Refusals.{◌>>=◌, with_fault}
+use Rattle.nr_graphpick.specs.Refusal.{◌>>=◌, with_fault}
 use Rattle.linksim.specs.declared.fault.RunFault.{RunFault}
 use Rattle.linksim.specs.declared.fault.RunFault.TheVariants as faults
 
--- the line of a base graph, where the table has it: how many entries
+-- the line of a base graph: how many entries it has
+unfoldable pub graph_line : Entries → Graph → List ℕ
+graph_line table graph =
+    codes "graph " ++ digits_of graph ++ codes " entries " ++ decimal (length (entries_in graph table)) ++ 10 ∷ []
+
+-- the line of a base graph, where the table has it
 unfoldable pub graph_lines : Entries → Graph → List ℕ
-graph_lines table graph =
-    if has_graph graph table
-    then codes "graph " ++ digits_of graph ++ codes " entries " ++ decimal (length (entries_in graph table)) ++ 10 ∷ []
-    else []
+graph_lines table graph = if has_graph graph table then graph_line table graph else []
 
 -- the lines of a table, base graph 1 first
 unfoldable pub table_lines : Entries → List ℕ

@@ -7,7 +7,7 @@ use Rattle.nr_graphpick.specs.declared.Graph.{Graph}
 use Rattle.nr_segment.specs.Plan.{Numbers, plan_of}
 use Rattle.nr_crcattach.specs.Attachment.{attached}
 use Rattle.nr_segment.specs.CodeBlock.{code_bits}
-use Rattle.linksim.specs.Refusals.{◌>>=◌, with_fault}
+use Rattle.nr_graphpick.specs.Refusal.{◌>>=◌, with_fault}
 use Rattle.linksim.specs.Blocks.{blocks_of}
 use Rattle.linksim.specs.Lines.{block_line, attached_line, code_line}
 use Rattle.linksim.specs.declared.fault.RunFault.{RunFault}

@@ -1,5 +1,7 @@
 -- How the program ends.
-use Rattle.std.specs.Prelude.{ℕ, Result, Ok, Err}
+use Rattle.std.specs.Prelude.{◌≡◌, ℕ, suc, List, [], ◌++◌, Option, Result, Ok, Err, codes}
+use Rattle.std.specs.String.{string_bytes}
+use Rattle.linksim.specs.Written.{with_text}
 use Rattle.linksim.specs.declared.ending.Ending.{Ending}
 use Rattle.linksim.specs.declared.ending.Ending.TheVariants.{Done, Help, Refused, Usage}
 use Rattle.linksim.specs.declared.fault.RunFault.{RunFault}
@@ -24,3 +26,24 @@ refused_by job_faults.Memory = Refused faults.Memory
 abbrev pub ended_by : {T : Type 0} → Result T RunFault → Ending
 ended_by (Ok done) = Done
 ended_by (Err fault) = Refused fault
+
+-- how it ends where so many puts of its help failed: help that cannot be written is a refusal
+abbrev pub ended_at : Ending → ℕ → Ending
+ended_at (Help text) (suc n) = Refused faults.Write
+ended_at ending n = ending
+
+-- what goes to standard output as it ends
+abbrev pub output_of : Ending → List ℕ
+output_of (Help text) = string_bytes text
+output_of _ = []
+
+-- the line of a refusal; which words stand for which fault is not said here
+abbrev pub IsRefusalLine : List ℕ → Type 0
+IsRefusalLine line = (words : List ℕ) × (line ≡ codes "linksim: refused: " ++ words)
+
+-- what stands on standard error as it ends, and what stood there before: a refusal's line more, or the text that says
+-- how the program is used
+abbrev pub Complains : Ending → Option (List ℕ) → Option (List ℕ) → Type 0
+Complains (Refused fault) old new = (line : List ℕ) × IsRefusalLine line × (new ≡ with_text old line)
+Complains (Usage text) old new = new ≡ with_text old (string_bytes text)
+Complains _ old new = new ≡ old

@@ -1,8 +1,8 @@
 -- The job that the program's words ask for, by what clap gives for the options of its command.
-use Rattle.std.specs.Prelude.{◌≡◌, ℕ, ◌≤◌, Bool, List, Some, codes, IsSomeAnd, slice_get}
+use Rattle.std.specs.Prelude.{◌≡◌, ◌⊎◌, ℕ, ◌≤◌, Bool, true, List, [], Some, codes, IsSomeAnd, slice_get}
 use Rattle.std.specs.Str.Parse.{IsNumeral, digits_value, without_leading_plus}
 use Rattle.std.specs.String.{string_bytes}
-use Rattle.clap.specs.Words.{Row, Text, first_of, matches_of, one_of, takes}
+use Rattle.clap.specs.Words.{Kinds, Row, Text, fault_of, first_of, matches_of, one_of, takes}
 use Rattle.linksim.specs.Commands.{check_app, cut_app}
 use Rattle.linksim.specs.declared.job.Job.{Job}
 use Rattle.linksim.specs.declared.job.Job.TheVariants.{Cut, Check}
@@ -38,17 +38,36 @@ IsJobOf words (Cut rate path) = BeginsWith (codes "cut") words × HasCut words r
 IsJobOf words (Check path) = BeginsWith (codes "check") words
     × IsTextAt (codes "table") (check_rows words) (string_bytes path)
 
--- clap takes the words as those of `cut`, or of `check`
+-- clap's test of whether it takes the words as those of `cut`, or of `check`
 unfoldable pub is_taken_as_cut : List Text → Bool
 is_taken_as_cut words = takes cut_app words
 
 unfoldable pub is_taken_as_check : List Text → Bool
 is_taken_as_check words = takes check_app words
 
+-- the faults that clap finds in the words as those of `cut`, or of `check`
+unfoldable pub cut_faults : List Text → Kinds
+cut_faults words = fault_of cut_app words
+
+unfoldable pub check_faults : List Text → Kinds
+check_faults words = fault_of check_app words
+
+-- the faults that clap finds in the words as those of the job's command
+abbrev pub faults_at : List Text → Job → Kinds
+faults_at words (Cut rate path) = cut_faults words
+faults_at words (Check path) = check_faults words
+
+-- clap takes the words as those of `cut`, or of `check`: by its test, or since it finds no fault in them
+abbrev pub IsTakenAsCut : List Text → Type 0
+IsTakenAsCut words = (is_taken_as_cut words ≡ true) ⊎ (cut_faults words ≡ [])
+
+abbrev pub IsTakenAsCheck : List Text → Type 0
+IsTakenAsCheck words = (is_taken_as_check words ≡ true) ⊎ (check_faults words ≡ [])
+
 -- clap takes the words as those of the job's command
-abbrev pub is_taken_as : List Text → Job → Bool
-is_taken_as words (Cut rate path) = is_taken_as_cut words
-is_taken_as words (Check path) = is_taken_as_check words
+abbrev pub IsTakenAs : List Text → Job → Type 0
+IsTakenAs words (Cut rate path) = IsTakenAsCut words
+IsTakenAs words (Check path) = IsTakenAsCheck words
 
 -- the job where there are no words: `cut` of standard input, at the highest rate
 abbrev pub IsDefaultJob : Job → Type 0

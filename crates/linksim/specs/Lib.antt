@@ -7,6 +7,5 @@ pub mod Ending
 pub mod Faults
 pub mod Jobs
 pub mod Lines
-pub mod Refusals
 pub mod Tape
 pub mod Written

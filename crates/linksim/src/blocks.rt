@@ -1,10 +1,10 @@
-// The blocks file: one transport block a line, written in hexadecimal digits.
+//! The blocks file: one transport block a line, written in hexadecimal digits.
 
-ghost use Rattle.std.specs.Prelude.{◌≡◌, ◌≤◌, ◌<◌, ◌+◌, ◌*◌, ◌/◌, IsTrue, IfOk, All, map, length, vec_len};
+ghost use Rattle.std.specs.Prelude.{◌≡◌, ◌≤◌, ◌<◌, ◌+◌, ◌*◌, ◌/◌, IsTrue, IfOk, All, map, length};
 ghost use Rattle.std.specs.Char.{is_ascii_hexdigit, digit_value};
 ghost use Rattle.std.specs.List.{list_all};
 ghost use Rattle.linksim.specs.Blocks.{without_last, octets_of_digits, block_at, blocks_of, IsBlockLength};
-ghost use Rattle.linksim.specs.Refusals.{Gives};
+ghost use Rattle.nr_graphpick.specs.Refusal.{Gives};
 
 use std::alloc::{AllocError, Global};
 use thiserror::Error;
@@ -12,10 +12,10 @@ use thiserror::Error;
 /// The most octets of a blocks file.
 pub const MOST_OCTETS: usize = 100_000_000;
 
-/// The most transport blocks of a blocks file.
+// The most transport blocks of a blocks file.
 const MOST_BLOCKS: usize = 256;
 
-/// The most digits of a line: those of a transport block of 1,310,720 bits.
+// The most digits of a line: those of a transport block of 1,310,720 bits.
 const MOST_DIGITS: usize = 327_680;
 
 /// Why a blocks file is refused. Lines count from 1.
@@ -50,7 +50,7 @@ pub enum BlocksFault {
     Memory,
 }
 
-/// `text` without one character `last` at its end, where it has one there.
+// `text` without one character `last` at its end, where it has one there.
 fn strip_last(text: &[u8], last: u8) -> &[u8]
     ensures { result.now ≡ without_last last text.now }
 {
@@ -61,20 +61,17 @@ fn strip_last(text: &[u8], last: u8) -> &[u8]
     }
 }
 
-/// The value of a hexadecimal digit.
+// The value of a hexadecimal digit, without a branch: letters of both cases have bit 64, and 1 to 6 in the bits below
+// 16.
 fn digit(character: u8) -> u8
     requires { IsTrue (is_ascii_hexdigit character) }
     ensures value { result ≡ digit_value character }
     ensures small { result < 16 }
 {
-    match character {
-        b'0'..=b'9' => character - b'0',
-        b'A'..=b'F' => character - b'A' + 10,
-        _ => character - b'a' + 10,
-    }
+    character % 16 + character / 64 * 9
 }
 
-/// The octets that a line's pairs of digits write.
+// The octets that a line's pairs of digits write.
 fn octets(alloc: Global, line: &[u8]) -> Result<Vec<u8>, AllocError>
     requires { IsTrue (list_all is_ascii_hexdigit line.now) }
     ensures octets { IfOk result (λ block. block.items ≡ octets_of_digits line.now) }
@@ -83,25 +80,26 @@ fn octets(alloc: Global, line: &[u8]) -> Result<Vec<u8>, AllocError>
     let mut block = Vec::with_capacity(alloc, line.len() / 2)?;
     let mut rest = line;
     while rest.len() >= 2 {
-        block.push(16 * digit(rest[0]) + digit(rest[1]))?;
+        block.push_reserved(16 * digit(rest[0]) + digit(rest[1]));
         rest = &rest[2..];
     }
     Ok(block)
 }
 
-/// Whether a line has hexadecimal digits alone.
+// Whether a line has hexadecimal digits alone.
 fn all_digits(line: &[u8]) -> bool
     ensures { result ≡ list_all is_ascii_hexdigit line.now }
 {
     line.iter().all(|character| character.is_ascii_hexdigit())
 }
 
-/// The transport block that line `number` holds.
-///
-/// Errors, in this order: `Blank`, `Digit`, `Odd`, `LongLine`, each with the line's number; `Memory`.
+// The transport block that line `number` holds.
+//
+// Errors, in this order: `Blank`, `Digit`, `Odd`, `LongLine`, each with the line's number; `Memory`.
 #[tactic(auto, unfolding(crate::specs::Blocks::block_at))]
 fn block_of(alloc: Global, number: u32, line: &[u8]) -> Result<Vec<u8>, BlocksFault>
-    ensures said { Gives BlocksFault.Memory (λ block. block.items) result (block_at number line.now) }
+    ensures said { Gives BlocksFault.Memory (λ block. block.items) result
+        (block_at number line.now) }
     ensures size { IfOk result (λ block. IsBlockLength (length block.items)) }
 {
     if line.is_empty() {
@@ -125,12 +123,15 @@ fn block_of(alloc: Global, number: u32, line: &[u8]) -> Result<Vec<u8>, BlocksFa
 /// Lines end with LF, and the last LF may be missing; one CR at a line's end is no part of it. Nothing after the
 /// last LF is no line. There are at most 256 blocks, each of 1..=163,840 octets.
 ///
-/// Errors, in this order: `TooLong`; `Empty`; then line by line `TooMany` (line 257), `Blank`, `Digit`, `Odd`,
-/// `LongLine`. `Memory` where a growth is refused.
+/// # Errors
+/// In this order: `TooLong`; `Empty`; then line by line `TooMany` (line 257), `Blank`, `Digit`, `Odd`, `LongLine`.
+/// `Memory` where a growth is refused.
 pub fn parse_blocks(alloc: Global, text: &[u8]) -> Result<Vec<Vec<u8>>, BlocksFault>
-    ensures said { Gives BlocksFault.Memory (λ blocks. map (λ block. block.items) blocks.items) result (blocks_of text.now) }
+    ensures said { Gives BlocksFault.Memory (λ blocks. map (λ block. block.items) blocks.items)
+        result (blocks_of text.now) }
     ensures few { IfOk result (λ blocks. length blocks.items ≤ 256) }
-    ensures sizes { IfOk result (λ blocks. All (λ block. IsBlockLength (length block.items)) blocks.items) }
+    ensures sizes { IfOk result
+        (λ blocks. All (λ block. IsBlockLength (length block.items)) blocks.items) }
 {
     if text.len() > MOST_OCTETS {
         return Err(BlocksFault::TooLong);

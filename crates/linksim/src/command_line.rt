@@ -1,8 +1,10 @@
-ghost use Rattle.std.specs.Prelude.{◌≡◌, ◌≢◌, ◌≤◌, ◌↔◌, IsTrue, ℕ, true, [], codes, map, IfOk, IsOkUnless, MatchResult};
+//! The command line: the job that its words ask for, by clap.
+
+ghost use Rattle.std.specs.Prelude.{◌≡◌, ◌≢◌, ◌≤◌, ◌↔◌, IsTrue, ℕ, true, [], codes, map, IfOk, IsOkUnless, MatchResult, OnOk};
 ghost use Rattle.std.specs.String.{string_bytes};
-ghost use Rattle.clap.specs.Words.{HasMatchesOf, Text, app_of, found_of, kind_of, rows_of, takes, with_rule};
+ghost use Rattle.clap.specs.Words.{HasMatchesOf, Text, app_of, fault_of as clap_faults, found_of, is_simple_and_free, kind_of, rows_of, takes, with_rule};
 ghost use Rattle.linksim.specs.Commands.{check_app, cut_app, file_rule, rate_rule};
-ghost use Rattle.linksim.specs.Jobs.{BeginsWith, HasCut, IsDefaultJob, IsJobOf, IsNumberAt, IsTextAt, check_rows, is_taken_as, is_taken_as_check, is_taken_as_cut};
+ghost use Rattle.linksim.specs.Jobs.{BeginsWith, HasCut, IsDefaultJob, IsJobOf, IsNumberAt, IsTextAt, check_rows, faults_at, IsTakenAs, IsTakenAsCheck, IsTakenAsCut};
 ghost use Rattle.linksim.specs.declared.job.Job.{Job as Asked};
 
 use crate::job::{Job, JobFault};
@@ -10,21 +12,38 @@ use clap::error::ErrorKind;
 use clap::{Arg, ArgMatches, Command, Error, value_parser};
 use std::alloc::{AllocError, Global};
 
+const VERSION: &str = "0.1.0";
+
 // The target code rate times 2048 where no words are given.
 const DEFAULT_RATE: u32 = 2048;
+
+// The end of a command's help: an example, and the exit statuses.
+macro_rules! closing {
+    ($example:literal) => {
+        concat!(
+            "Example:\n  ",
+            $example,
+            "\n\nExit status: 0 done, 1 refused, 2 wrong usage"
+        )
+    };
+}
 
 /// The job that the program's words ask for. The words are those after the program's name; the first
 /// is the command. No words at all ask for `cut --rate 2048 --blocks -`.
 ///
 /// # Errors
-/// `Help` where the words ask for help, and `Usage` where they are no command of the program. `Memory`
-/// where memory runs out. What the texts say is clap's.
+/// `Help` where the words ask for help or the version, and `Usage` where they are no command of the
+/// program. `Memory` where memory runs out. What the texts say is clap's.
 pub fn job(alloc: Global, words: &[String]) -> Result<Job, JobFault>
     ensures no_words { words.now ≡ [] → MatchResult result IsDefaultJob (λ e. e ≡ JobFault.Memory) }
     ensures words { words.now ≢ [] → IfOk result (IsJobOf (map string_bytes words.now)) }
 
+    // Clap finds no fault in words that ask for a job.
+    ensures faultless { words.now ≢ []
+        → IfOk result (λ job. faults_at (map string_bytes words.now) job ≡ []) }
+
     // Where clap takes the words, and they ask for a job, only want of memory refuses it.
-    ensures asked { (asked : Asked) → is_taken_as (map string_bytes words.now) asked ≡ true
+    ensures asked { (asked : Asked) → IsTakenAs (map string_bytes words.now) asked
         → IsJobOf (map string_bytes words.now) asked → IsOkUnless result JobFault.Memory }
 {
     let Some(command) = words.first() else {
@@ -41,7 +60,8 @@ pub fn job(alloc: Global, words: &[String]) -> Result<Job, JobFault>
 fn cut_job(alloc: Global, words: &[String]) -> Result<Job, JobFault>
     requires { BeginsWith (codes "cut") (map string_bytes words.now) }
     ensures job { IfOk result (IsJobOf (map string_bytes words.now)) }
-    ensures asked { (rate : ℕ) (path : Text) → is_taken_as_cut (map string_bytes words.now) ≡ true
+    ensures faultless { IfOk result (λ job. faults_at (map string_bytes words.now) job ≡ []) }
+    ensures asked { (rate : ℕ) (path : Text) → IsTakenAsCut (map string_bytes words.now)
         → HasCut (map string_bytes words.now) rate path → IsOkUnless result JobFault.Memory }
 {
     let mut command = cut_command(alloc)?;
@@ -55,7 +75,8 @@ fn cut_job(alloc: Global, words: &[String]) -> Result<Job, JobFault>
 fn check_job(alloc: Global, words: &[String]) -> Result<Job, JobFault>
     requires { BeginsWith (codes "check") (map string_bytes words.now) }
     ensures job { IfOk result (IsJobOf (map string_bytes words.now)) }
-    ensures asked { (path : Text) → is_taken_as_check (map string_bytes words.now) ≡ true
+    ensures faultless { IfOk result (λ job. faults_at (map string_bytes words.now) job ≡ []) }
+    ensures asked { (path : Text) → IsTakenAsCheck (map string_bytes words.now)
         → IsTextAt (codes "table") (check_rows (map string_bytes words.now)) path
         → IsOkUnless result JobFault.Memory }
 {
@@ -82,7 +103,10 @@ fn program<'a>(alloc: Global) -> Result<Command<'a>, AllocError> {
     Command::new(alloc, "linksim")
         .bin_name("linksim")?
         .about("The data coding chain of 5G NR (3GPP TS 38.212)")
-        .after_help("No words at all ask for 'linksim cut --rate 2048 --blocks -'.")
+        .version(VERSION)
+        .after_help(
+            "No words at all ask for 'linksim cut --rate 2048 --blocks -'.\n\nExit status: 0 done, 1 refused, 2 wrong usage",
+        )
         .no_binary_name(true)
         .subcommand_required(true)
         .subcommand(cut_command(alloc)?)?
@@ -92,9 +116,10 @@ fn program<'a>(alloc: Global) -> Result<Command<'a>, AllocError> {
 fn cut_command<'a>(alloc: Global) -> Result<Command<'a>, AllocError>
     ensures { IfOk result (λ c. app_of c ≡ cut_app) }
 {
-    let command = Command::new(alloc, "cut").bin_name("linksim cut")?.about(
-        "Attaches the CRC to each transport block and cuts it into code blocks",
-    );
+    let command = Command::new(alloc, "cut")
+        .bin_name("linksim cut")?
+        .about("Attaches the CRC to each transport block and cuts it into code blocks")
+        .after_help(closing!("echo 01 | linksim cut --rate 1024 --blocks -"));
     let command = with_file(
         alloc,
         command,
@@ -109,7 +134,8 @@ fn check_command<'a>(alloc: Global) -> Result<Command<'a>, AllocError>
 {
     let command = Command::new(alloc, "check")
         .bin_name("linksim check")?
-        .about("Checks a table of shift values");
+        .about("Checks a table of shift values")
+        .after_help(closing!("linksim check --table examples/practice.csv"));
     with_file(
         alloc,
         command,
@@ -125,7 +151,8 @@ fn with_file<'a>(
     name: &'a str,
     help: &'a str,
 ) -> Result<Command<'a>, AllocError>
-    ensures { IfOk result (λ c. app_of c ≡ with_rule (app_of command.entry) (file_rule name.entry.now)) }
+    ensures { IfOk result (λ c.
+        app_of c ≡ with_rule (app_of command.entry) (file_rule name.entry.now)) }
 {
     let file = Arg::new(alloc, name)
         .long(name)
@@ -143,7 +170,7 @@ fn with_rate<'a>(alloc: Global, command: Command<'a>) -> Result<Command<'a>, All
         .value_name("N")
         .value_parser(value_parser!(u32).range(1..=2048))
         .default_value("2048")
-        .help("The target code rate times 2048, in 1..2048");
+        .help("Twice the target code rate x 1024 of the MCS tables; 0.5 is 1024");
     command.arg(rate)
 }
 
@@ -153,8 +180,14 @@ fn parsed<'a>(
     command: &mut Command<'a>,
     words: &'a [String],
 ) -> Result<ArgMatches<'a>, JobFault>
-    ensures matches { IfOk result (HasMatchesOf (app_of command.old) (map string_bytes words.entry.now)) }
+    ensures matches { IfOk result
+        (HasMatchesOf (app_of command.old) (map string_bytes words.entry.now)) }
+    ensures faultless { is_simple_and_free (app_of command.old) ≡ true
+        → OnOk result (clap_faults (app_of command.old) (map string_bytes words.entry.now) ≡ []) }
     ensures taken { takes (app_of command.old) (map string_bytes words.entry.now) ≡ true
+        → IsOkUnless result JobFault.Memory }
+    ensures free { is_simple_and_free (app_of command.old) ≡ true
+        → clap_faults (app_of command.old) (map string_bytes words.entry.now) ≡ []
         → IsOkUnless result JobFault.Memory }
 {
     match command.try_get_matches_from_mut(words) {
@@ -195,7 +228,7 @@ fn rate_of(alloc: Global, command: &mut Command, matches: &ArgMatches) -> Result
     }
 }
 
-// A target code rate times 2048.
+// Whether the number is a target code rate times 2048.
 fn is_rate(rate: u32) -> bool
     ensures { IsTrue result ↔ ((1 ≤ rate) × (rate ≤ 2048)) }
 {

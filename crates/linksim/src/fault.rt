@@ -1,4 +1,4 @@
-// Why a command is refused.
+//! Why a command is refused.
 
 ghost use Rattle.std.specs.Prelude.{◌≡◌};
 ghost use Rattle.linksim.specs.Faults.{blocks_refusal, table_refusal};
@@ -58,42 +58,6 @@ impl From<BlocksFault> for RunFault {
             BlocksFault::Memory => RunFault::Memory,
             _ => RunFault::Blocks(said),
         }
-    }
-}
-
-#[cfg(test)]
-mod tests {
-    use super::*;
-    use std::test::Fail;
-
-    #[test]
-    fn prints_the_innermost_name(rt: HostRuntime) -> Result<(), Fail> {
-        for (fault, text) in [
-            (RunFault::Blocks(BlocksFault::Read), "blocks Read"),
-            (RunFault::Blocks(BlocksFault::TooLong), "blocks TooLong"),
-            (RunFault::Blocks(BlocksFault::Empty), "blocks Empty"),
-            (RunFault::Blocks(BlocksFault::TooMany), "blocks TooMany"),
-            (RunFault::Blocks(BlocksFault::Blank(1)), "blocks Blank 1"),
-            (RunFault::Blocks(BlocksFault::Digit(2)), "blocks Digit 2"),
-            (RunFault::Blocks(BlocksFault::Odd(30)), "blocks Odd 30"),
-            (
-                RunFault::Blocks(BlocksFault::LongLine(256)),
-                "blocks LongLine 256",
-            ),
-            (
-                RunFault::Desk(1, DeskFault::Seg(SegFault::Uneven)),
-                "block 1 Uneven",
-            ),
-            (
-                RunFault::Desk(2, DeskFault::Pick(PickFault::RateRange)),
-                "block 2 RateRange",
-            ),
-            (RunFault::Write, "output Write"),
-            (RunFault::Memory, "memory"),
-        ] {
-            assert_eq!(rt; format!(in rt.alloc(); "{fault}")?.as_str(), text);
-        }
-        Ok(())
     }
 }
 

@@ -1,3 +1,5 @@
+//! What a run of the program is to do.
+
 ghost use Rattle.std.specs.Prelude.{◌≡◌};
 ghost use Rattle.linksim.specs.declared.job.JobFault.TheVariants.{Memory};
 
@@ -19,7 +21,7 @@ pub enum JobFault {
     /// The words are no command of the program. The text says why, and how it is used.
     #[error("{0}")]
     Usage(String),
-    /// The words ask for help, which the text is.
+    /// The words ask for help or the version, which the text is.
     #[error("{0}")]
     Help(String),
     /// No memory is left.

@@ -1,10 +1,13 @@
-// The data coding chain of 5G NR's shared channels (3GPP TS 38.212, Release 15) as a program: `cut` shows what the
-// standard makes of each transport block up to its code blocks, `check` judges a shift table file.
-// `job` reads the command line; `cut` and `check` work over any Source and Sink.
-// Their contract: what they write is a stated function of the octets that they read, or nothing is written and the
-// fault is that function's; a failing Sink has a first part of the text.
-// Stands on all crates of this repository, with `clap` for the command line and `thiserror` for faults.
+//! The data coding chain of 5G NR's shared channels (3GPP TS 38.212, Release 15) as a program: `cut` shows what the
+//! standard makes of each transport block up to its code blocks, `check` judges a shift table file.
+//! `job` reads the command line; `cut` and `check` work over any Source and Sink; `tell` says how a run ends.
+//! Their contract: what they write is a stated function of the octets that they read, or nothing is written and the
+//! fault is that function's; a failing Sink has a first part of the text.
+//! Stands on all crates of this repository, with `clap` for the command line and `thiserror` for faults.
 #![tactic(auto)]
+
+ghost use Rattle.std.specs.Prelude.{◌≡◌, ◌^◌, ◌<◌, drop, IfOk};
+ghost use Rattle.std.specs.Vec.Iter.{into_iter_items};
 
 pub mod blocks;
 pub mod check;
@@ -14,6 +17,8 @@ pub mod deliver;
 pub mod ending;
 pub mod fault;
 pub mod job;
+#[cfg(test)]
+mod program_tests;
 pub mod sink;
 pub mod streams;
 #[cfg(test)]
@@ -26,23 +31,39 @@ use crate::cut::cut;
 use crate::ending::{Ending, tell};
 use crate::fault::RunFault;
 use crate::job::{Job, JobFault};
+use crate::sink::Sink;
 use crate::streams::{Outgoing, open};
+use std::alloc::{AllocError, Global};
+use std::env::Args;
 use std::process::ExitCode;
 use std::rt::{Env, Files};
 use std::{env, io};
 
 fn main(rt: HostRuntime) -> ExitCode {
-    let ending = match words(&rt).and_then(|words| job(rt.alloc(), &words)) {
-        Ok(job) => Ending::from(perform(&rt, job)),
-        Err(fault) => Ending::from(fault),
-    };
-    ExitCode::from(tell(&rt, ending))
+    let ending = run(&rt, &mut Outgoing::new(&rt));
+    let errors = rt.stderr();
+    ExitCode::from(tell(
+        rt.alloc(),
+        ending,
+        &mut Outgoing::new(&rt),
+        &mut Outgoing::new(&errors),
+    ))
 }
 
-/// The words after the program's name.
+// Does what the words of the command line ask for.
+fn run<R: Env + Files + Input + AllocGlobal, O: Sink>(rt: &R, out: &mut O) -> Ending
+    requires { O.failures out.old < 2 ^ 32 }
+{
+    match words(rt).and_then(|words| job(rt.alloc(), &words)) {
+        Ok(job) => Ending::from(perform(rt, job, out)),
+        Err(fault) => Ending::from(fault),
+    }
+}
+
+// The words of the command line after the program's name.
 fn words<R: Env + AllocGlobal>(rt: &R) -> Result<Vec<String>, JobFault> {
     match env::args(rt) {
-        Ok(all) => Ok(all.skip(1).collect(rt.alloc())?),
+        Ok(line) => Ok(later_words(rt.alloc(), line)?),
         Err(error) if error.kind() == io::ErrorKind::OutOfMemory => Err(JobFault::Memory),
         Err(_) => Err(JobFault::Usage(String::from_str(
             rt.alloc(),
@@ -51,11 +72,29 @@ fn words<R: Env + AllocGlobal>(rt: &R) -> Result<Vec<String>, JobFault> {
     }
 }
 
-/// Does the job: from the file or standard input that it names, to standard output.
-fn perform<R: Files + Input + Print + AllocGlobal>(rt: &R, job: Job) -> Result<(), RunFault> {
-    let mut out = Outgoing::new(rt);
+// The words of a list after the first.
+fn later_words(alloc: Global, line: Args) -> Result<Vec<String>, AllocError>
+    ensures { IfOk result (λ words. words.items ≡ drop 1 (into_iter_items line)) }
+{
+    let mut line = line;
+    let _ = line.next();
+    let mut words = Vec::new(alloc);
+    while let Some(word) = line.next() {
+        words.push(word)?;
+    }
+    Ok(words)
+}
+
+// Does the job: from the file or standard input that it names, to the Sink.
+fn perform<R: Files + Input + AllocGlobal, O: Sink>(
+    rt: &R,
+    job: Job,
+    out: &mut O,
+) -> Result<(), RunFault>
+    requires { O.failures out.old < 2 ^ 32 }
+{
     match job {
-        Job::Cut(rate2048, path) => cut(rt.alloc(), rate2048, &mut open(rt, &path), &mut out),
-        Job::Check(path) => check(rt.alloc(), &mut open(rt, &path), &mut out),
+        Job::Cut(rate2048, path) => cut(rt.alloc(), rate2048, &mut open(rt, &path), out),
+        Job::Check(path) => check(rt.alloc(), &mut open(rt, &path), out),
     }
 }

@@ -1,9 +1,11 @@
+//! Where a command's text goes, and a Sink over memory for tests.
+
 ghost use Rattle.std.specs.Prelude.{◌≡◌, ℕ, ◌+◌, ◌^◌, ◌<◌, ◌≤◌, List, Option, Some, length, take, is_err, IfOk, OnOk, OnErr, vec_capacity, vec_len};
 ghost use Rattle.linksim.specs.Tape.{TapeState, blank, is_spent, taken_count, with_failure, with_octets};
 ghost use Rattle.linksim.specs.Written.{WritesPrefix, with_text};
 ghost use Rattle.nr_shifttable.specs.Source.{failed_count};
 
-use nr_shifttable::source::Broken;
+use nr_shifttable::Broken;
 use std::alloc::{AllocError, Global};
 use std::marker::Model;
 
@@ -24,7 +26,8 @@ pub trait Sink {
         requires { failures self.old < 2 ^ 32 }
         ensures count { IfOk result (λ n. n ≤ length buf.now) }
         ensures some { 0 < length buf.now → IfOk result (λ n. 0 < n) }
-        ensures taken { IfOk result (λ n. written self.new ≡ with_text (written self.old) (take n buf.now)) }
+        ensures taken { IfOk result
+            (λ n. written self.new ≡ with_text (written self.old) (take n buf.now)) }
         ensures kept { OnErr result (written self.new ≡ written self.old) }
         ensures failed { failures self.new ≡ failures self.old + failed_count result };
 }
@@ -59,7 +62,13 @@ pub struct Tape {
 impl Model for Tape {
     ghost Value = { TapeState };
 
-    ghost view = { λ t. record { octets = t.octets.items; room = t.room; step = t.step; puts_left = t.puts_left; failures = t.failures } };
+    ghost view = { λ t. record {
+      octets = t.octets.items;
+      room = t.room;
+      step = t.step;
+      puts_left = t.puts_left;
+      failures = t.failures;
+    } };
 
     ghost invariant = { λ t. (0 < t.step) × (vec_len t.octets + t.room ≤ vec_capacity t.octets) };
 }

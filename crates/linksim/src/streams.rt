@@ -3,23 +3,24 @@
 //! Source and of a Sink.
 
 ghost use Rattle.std.specs.Prelude.{◌≡◌};
+ghost use Rattle.std.specs.Io.{ReadsAtMost};
 
 use crate::sink::Sink;
-use nr_shifttable::source::{Broken, Source};
+use nr_shifttable::{Broken, Source};
 use std::fs;
 use std::io::{ErrorKind, Read};
 use std::rt::Files;
 
-/// Where the octets of an `Incoming` come from.
+// Where the octets of an `Incoming` come from.
 #[derive(Drop)]
 enum Origin<F: Drop, S: Drop> {
     File(F),
     Standard(S),
-    /// A file that could not be opened: it fails at the first pull, so that faults keep their order.
+    // A file that could not be opened: it fails at the first pull, so that faults keep their order.
     Unopened,
 }
 
-/// A Source over a file or standard input, whose octets are not known.
+/// A Source over a file or standard input, whose octets are not known. A read that a signal interrupts is tried again.
 #[derive(Drop)]
 pub struct Incoming<F: Drop, S: Drop> {
     origin: Origin<F, S>,
@@ -28,7 +29,7 @@ pub struct Incoming<F: Drop, S: Drop> {
 
 /// The Source of a path; `-` is standard input.
 pub fn open<R: Files + Input>(rt: &R, path: &str) -> Incoming<R::File, R::Reader>
-    ensures { result.failures ≡ 0 }
+    ensures { ⟦<Incoming<R::File, R::Reader> as Source>⟧.failures result ≡ 0 }
 {
     let origin = if path == "-" {
         Origin::Standard(rt.reader())
@@ -52,22 +53,33 @@ impl<F: Read + Drop, S: Read + Drop> Source for Incoming<F, S> {
     ghost failures = { λ incoming. incoming.failures };
 
     fn pull(&mut self, buf: &mut [u8]) -> Result<usize, Broken> {
-        let outcome = match &mut self.origin {
-            Origin::File(file) => file.read(buf),
-            Origin::Standard(input) => input.read(buf),
-            Origin::Unopened => Err(ErrorKind::NotFound.into()),
+        let answer = match &mut self.origin {
+            Origin::File(file) => read_some(file, buf),
+            Origin::Standard(input) => read_some(input, buf),
+            Origin::Unopened => Err(Broken),
         };
-        match outcome {
-            Ok(count) => Ok(count),
-            Err(_) => {
-                self.failures += 1;
-                Err(Broken)
-            }
+        if answer.is_err() {
+            self.failures += 1;
         }
+        answer
     }
 }
 
-/// A Sink over standard output, whose octets are not known.
+// Reads once, and again where a signal interrupts the read.
+fn read_some<I: Read>(input: &mut I, buf: &mut [u8]) -> Result<usize, Broken>
+    ensures { ReadsAtMost result buf.new }
+{
+    for _ in 0..u64::MAX {
+        match input.read(buf) {
+            Ok(count) => return Ok(count),
+            Err(error) if error.kind() == ErrorKind::Interrupted => {}
+            Err(_) => return Err(Broken),
+        }
+    }
+    Err(Broken)
+}
+
+/// A Sink over standard output, whose octets are not known. A write that a signal interrupts is tried again.
 #[derive(Drop)]
 pub struct Outgoing<'r, R> {
     rt: &'r R,
@@ -77,7 +89,7 @@ pub struct Outgoing<'r, R> {
 impl<'r, R: Print> Outgoing<'r, R> {
     /// Standard output, with no failure yet.
     pub fn new(rt: &'r R) -> Outgoing<'r, R>
-        ensures { result.failures ≡ 0 }
+        ensures { ⟦<Outgoing<'r, R> as Sink>⟧.failures result ≡ 0 }
     {
         Outgoing { rt, failures: 0 }
     }
@@ -91,12 +103,60 @@ impl<'r, R: Print> Sink for Outgoing<'r, R> {
     ghost failures = { λ outgoing. outgoing.failures };
 
     fn put(&mut self, buf: &[u8]) -> Result<usize, Broken> {
-        match self.rt.write_some(buf) {
-            Ok(count) if count > 0 || buf.is_empty() => Ok(count),
-            _ => {
-                self.failures += 1;
-                Err(Broken)
+        for _ in 0..u64::MAX {
+            match self.rt.write_some(buf) {
+                Ok(count) if count > 0 || buf.is_empty() => return Ok(count),
+                Err(error) if error.kind() == ErrorKind::Interrupted => {}
+                _ => break,
             }
         }
+        self.failures += 1;
+        Err(Broken)
+    }
+}
+
+#[cfg(test)]
+mod tests {
+    use super::*;
+    use std::io;
+    use std::test::Fail;
+
+    // An input of one octet that is interrupted `left` times before it is read, and ends with no octet more.
+    #[derive(Drop)]
+    struct Interrupted {
+        left: u32,
+        end: bool,
+    }
+
+    impl Read for Interrupted {
+        fn read(&mut self, buf: &mut [u8]) -> io::Result<usize> {
+            if self.left > 0 {
+                self.left -= 1;
+                return Err(ErrorKind::Interrupted.into());
+            }
+            match buf.first_mut() {
+                Some(octet) if !self.end => {
+                    *octet = b'7';
+                    self.end = true;
+                    Ok(1)
+                }
+                _ => Ok(0),
+            }
+        }
+    }
+
+    #[test]
+    fn an_interrupted_read_is_tried_again(rt: HostRuntime) -> Result<(), Fail> {
+        for left in [0, 1, 3] {
+            let mut source: Incoming<Interrupted, Interrupted> = Incoming {
+                origin: Origin::Standard(Interrupted { left, end: false }),
+                failures: 0,
+            };
+            let mut buf = [0; 4];
+            assert_eq!(rt; source.pull(&mut buf), Ok(1), "after {left}");
+            assert_eq!(rt; buf[0], b'7', "after {left}");
+            assert_eq!(rt; source.pull(&mut buf), Ok(0), "after {left}");
+        }
+        Ok(())
     }
 }

@@ -5,33 +5,30 @@ ghost use Rattle.std.specs.Prelude.{◌≡◌, IfOk};
 use crate::blocks::BlocksFault;
 use crate::check::check;
 use crate::cut::cut;
-use crate::ending::Ending;
 use crate::fault::{DeskFault, RunFault};
-use crate::job::JobFault;
 use crate::sink::Tape;
-use nr_graphpick::Graph;
+use nr_graphpick::PickFault;
 use nr_segment::SegFault;
-use nr_shifttable::TableFault;
-use nr_shifttable::source::Feed;
+use nr_shifttable::{Feed, TableFault};
 use std::alloc::{AllocError, Global};
 use std::fmt::Write;
 use std::process::Abort;
 use std::test::Fail;
 
-/// More octets than any text of these tests has, but for the one that measures size.
+// More octets than any text of these tests has, but for the one that measures size.
 const ROOM: u32 = 1 << 20;
 
-/// What a command answered, and what it wrote.
+// What a command answered, and what it wrote.
 type Outcome = (Result<(), RunFault>, Vec<u8>);
 
-/// A Source of this text, which does not fail.
+// A Source of this text, which does not fail.
 fn feed(alloc: Global, text: &[u8]) -> Result<Feed, AllocError>
     ensures { IfOk result (λ feed. feed.failed ≡ 0) }
 {
     Ok(Feed::new(Vec::from_slice(alloc, text)?, 65_536, 0))
 }
 
-/// `cut` of a blocks file, with a Tape of ample room.
+// `cut` of a blocks file, with a Tape of ample room.
 fn cut_of(alloc: Global, rate2048: u32, text: &[u8]) -> Result<Outcome, AllocError> {
     let mut blocks = feed(alloc, text)?;
     let mut tape = Tape::new(alloc, ROOM, ROOM, 0)?;
@@ -39,7 +36,7 @@ fn cut_of(alloc: Global, rate2048: u32, text: &[u8]) -> Result<Outcome, AllocErr
     Ok((answer, Vec::from_slice(alloc, tape.bytes())?))
 }
 
-/// `check` of a table file, with a Tape of ample room.
+// `check` of a table file, with a Tape of ample room.
 fn check_of(alloc: Global, text: &[u8]) -> Result<Outcome, AllocError> {
     let mut table = feed(alloc, text)?;
     let mut tape = Tape::new(alloc, ROOM, ROOM, 0)?;
@@ -47,7 +44,7 @@ fn check_of(alloc: Global, text: &[u8]) -> Result<Outcome, AllocError> {
     Ok((answer, Vec::from_slice(alloc, tape.bytes())?))
 }
 
-/// The digit `0`, `count` times.
+// The digit `0`, `count` times.
 fn zeros(alloc: Global, count: usize) -> Result<Vec<u8>, AllocError> {
     vec![in alloc; b'0'; count]
 }
@@ -67,35 +64,97 @@ fn cuts(rt: HostRuntime) -> Result<(), Fail> {
 }
 
 #[test]
-fn refuses_blocks(rt: HostRuntime) -> Result<(), Fail> {
-    let cases: [(&[u8], BlocksFault); 7] = [
-        (b"", BlocksFault::Empty),
-        (b"\n", BlocksFault::Blank(1)),
-        (b"012", BlocksFault::Odd(1)),
-        (b"0g", BlocksFault::Digit(1)),
-        (b"01\n0g\n0", BlocksFault::Digit(2)),
-        (b"01\r\r\n", BlocksFault::Digit(1)),
-        (b"01\n\r\n", BlocksFault::Blank(2)),
+fn cuts_each_block(rt: HostRuntime) -> Result<(), Fail> {
+    let (answer, written) = cut_of(rt.alloc(), 2048, b"000000\n313233343536373839\n")?;
+    assert_eq!(rt; answer, Ok(()));
+    let want: &[u8] = b"block 1 a 24 b 40 graph 2 c 1 l 0 kdash 40 kb 6 z 7 set 3 k 70 n 350\n\
+        attached 1 0000000000\n\
+        code 1 0 0000000000\n\
+        block 2 a 72 b 88 graph 2 c 1 l 0 kdash 88 kb 6 z 15 set 7 k 150 n 750\n\
+        attached 2 31323334353637383931c3\n\
+        code 2 0 31323334353637383931c3\n";
+    assert_eq!(rt; written.as_slice(), want);
+    Ok(())
+}
+
+#[test]
+fn picks_the_graph_by_the_rate(rt: HostRuntime) -> Result<(), Fail> {
+    let cases: [(usize, u32, &[u8]); 3] = [
+        (
+            36,
+            2048,
+            b"block 1 a 288 b 304 graph 2 c 1 l 0 kdash 304 kb 8 z 40 set 2 k 400 n 2000\n",
+        ),
+        (
+            37,
+            1372,
+            b"block 1 a 296 b 312 graph 2 c 1 l 0 kdash 312 kb 8 z 40 set 2 k 400 n 2000\n",
+        ),
+        (
+            37,
+            1373,
+            b"block 1 a 296 b 312 graph 1 c 1 l 0 kdash 312 kb 22 z 15 set 7 k 330 n 990\n",
+        ),
     ];
-    for (text, fault) in cases {
-        let (answer, written) = cut_of(rt.alloc(), 2048, text)?;
-        assert_eq!(rt; answer, Err(RunFault::Blocks(fault)), "at {text:?}");
-        assert_eq!(rt; written.len(), 0, "at {text:?}");
+    for (octets, rate2048, line) in cases {
+        let (answer, written) = cut_of(rt.alloc(), rate2048, &zeros(rt.alloc(), 2 * octets)?)?;
+        assert_eq!(rt; answer, Ok(()));
+        assert!(rt; written.starts_with(line), "at {octets} and {rate2048}");
     }
     Ok(())
 }
 
-// 955 octets at a quarter: B 7664 in 3 code blocks, B' 7736. The fault of block 2 stops block 1's lines too.
 #[test]
-fn refuses_uneven_plans(rt: HostRuntime) -> Result<(), Fail> {
-    let mut text = Vec::from_slice(rt.alloc(), b"01\n")?;
-    text.extend_from_slice(&zeros(rt.alloc(), 2 * 955)?)?;
-    let (answer, written) = cut_of(rt.alloc(), 512, &text)?;
-    assert_eq!(rt;
-        answer,
-        Err(RunFault::Desk(2, DeskFault::Seg(SegFault::Uneven)))
-    );
+fn cuts_a_long_block(rt: HostRuntime) -> Result<(), Fail> {
+    let (answer, written) = cut_of(rt.alloc(), 512, &zeros(rt.alloc(), 2 * 479)?)?;
+    assert_eq!(rt; answer, Ok(()));
+    let want = format!(in rt.alloc();
+        "block 1 a 3832 b 3856 graph 2 c 2 l 24 kdash 1952 kb 10 z 208 set 6 k 2080 n 10400\n\
+         attached 1 {0:0>964}\ncode 1 0 {0:0>488}\ncode 1 1 {0:0>488}\n",
+        ""
+    )?;
+    assert_eq!(rt; written.as_slice(), want.as_bytes());
+    Ok(())
+}
+
+// A refusal of the blocks file is the command's, and nothing is written, not even of the blocks before it.
+#[test]
+fn refuses_blocks(rt: HostRuntime) -> Result<(), Fail> {
+    let (answer, written) = cut_of(rt.alloc(), 2048, b"01\n0g\n")?;
+    assert_eq!(rt; answer, Err(RunFault::Blocks(BlocksFault::Digit(2))));
     assert_eq!(rt; written.len(), 0);
+    Ok(())
+}
+
+// 955 octets at a quarter: B 7664 in 3 code blocks, B' 7736. The fault of block 2 stops block 1's lines too. A rate
+// out of range is the first block's.
+#[test]
+fn refuses_blocks_that_cannot_be_cut(rt: HostRuntime) -> Result<(), Fail> {
+    let uneven = zeros(rt.alloc(), 2 * 955)?;
+    let mut second = Vec::from_slice(rt.alloc(), b"01\n")?;
+    second.extend_from_slice(&uneven)?;
+    let cases: [(u32, &[u8], RunFault); 3] = [
+        (
+            512,
+            &uneven,
+            RunFault::Desk(1, DeskFault::Seg(SegFault::Uneven)),
+        ),
+        (
+            512,
+            &second,
+            RunFault::Desk(2, DeskFault::Seg(SegFault::Uneven)),
+        ),
+        (
+            0,
+            b"01",
+            RunFault::Desk(1, DeskFault::Pick(PickFault::RateRange)),
+        ),
+    ];
+    for (rate2048, text, fault) in cases {
+        let (answer, written) = cut_of(rt.alloc(), rate2048, text)?;
+        assert_eq!(rt; answer, Err(fault));
+        assert_eq!(rt; written.len(), 0);
+    }
     Ok(())
 }
 
@@ -134,25 +193,6 @@ fn a_broken_sink_has_the_beginning(rt: HostRuntime) -> Result<(), Fail> {
     Ok(())
 }
 
-#[test]
-fn takes_256_blocks(rt: HostRuntime) -> Result<(), Fail> {
-    let mut text = Vec::new(rt.alloc());
-    for _ in 0..256 {
-        text.extend_from_slice(b"01\n")?;
-    }
-    let (answer, written) = cut_of(rt.alloc(), 2048, &text)?;
-    assert_eq!(rt; answer, Ok(()));
-    assert_eq!(rt;
-        written.iter().filter(|octet| **octet == b'\n').count(),
-        3 * 256
-    );
-    text.extend_from_slice(b"x")?;
-    let (answer, written) = cut_of(rt.alloc(), 2048, &text)?;
-    assert_eq!(rt; answer, Err(RunFault::Blocks(BlocksFault::TooMany)));
-    assert_eq!(rt; written.len(), 0);
-    Ok(())
-}
-
 // 163,836 octets: B is 1,310,712, in 156 code blocks of 8,426 bits, the most that base graph 1 has.
 #[test]
 fn cuts_the_largest_block(rt: HostRuntime) -> Result<(), Fail> {
@@ -170,7 +210,7 @@ fn cuts_the_largest_block(rt: HostRuntime) -> Result<(), Fail> {
     Ok(())
 }
 
-/// A record of the practice table: one value in all eight sets.
+// A record of the practice table: one value in all eight sets.
 fn push_record(
     text: &mut String,
     graph: u32,
@@ -185,8 +225,8 @@ fn push_record(
     text.push_str("\n")
 }
 
-/// An accepted table of base graph 2, 105 records in ascending order: the four core rows, and for each further row
-/// two entries.
+// An accepted table of base graph 2, 105 records in ascending order: the four core rows, and for each further row
+// two entries.
 fn practice_table(alloc: Global) -> Result<String, AllocError> {
     let core: [&[u32]; 4] = [
         &[0, 2, 4, 6, 8, 10, 11],
@@ -208,7 +248,7 @@ fn practice_table(alloc: Global) -> Result<String, AllocError> {
     Ok(text)
 }
 
-/// An accepted table of base graph 1: the least that its shape asks for, 13 records and one for each of 42 rows.
+// An accepted table of base graph 1: the least that its shape asks for, 13 records and one for each of 42 rows.
 fn least_table(alloc: Global) -> Result<String, AllocError> {
     let core: [&[u32]; 4] = [&[0, 22, 23], &[0, 22, 23, 24], &[0, 24, 25], &[0, 22, 25]];
     let mut text = String::new(alloc);
@@ -266,37 +306,5 @@ fn a_broken_table_source_is_read(rt: HostRuntime) -> Result<(), Fail> {
         assert_eq!(rt; answer, Err(RunFault::Table(TableFault::Read)), "at {fail}");
         assert_eq!(rt; tape.bytes().len(), 0);
     }
-    Ok(())
-}
-
-// The lines of standard error, and the statuses.
-#[test]
-fn endings(rt: HostRuntime) -> Result<(), Fail> {
-    let lines = [
-        (RunFault::Blocks(BlocksFault::Read), "blocks Read"),
-        (RunFault::Blocks(BlocksFault::Blank(1)), "blocks Blank 1"),
-        (RunFault::Blocks(BlocksFault::TooMany), "blocks TooMany"),
-        (RunFault::Table(TableFault::Twice(106)), "table Twice 106"),
-        (
-            RunFault::Table(TableFault::Core(Graph::Two)),
-            "table Core 2",
-        ),
-        (
-            RunFault::Desk(1, DeskFault::Seg(SegFault::Uneven)),
-            "block 1 Uneven",
-        ),
-        (RunFault::Write, "output Write"),
-        (RunFault::Memory, "memory"),
-    ];
-    for (fault, line) in lines {
-        assert_eq!(rt; fault.to_string(rt.alloc())?.as_str(), line);
-        assert_eq!(rt; Ending::from(Err(fault)).status(), 1, "at {line}");
-    }
-    let text = String::from_str(rt.alloc(), "why")?;
-    assert_eq!(rt; Ending::from(JobFault::Usage(text)).status(), 2);
-    let text = String::from_str(rt.alloc(), "how")?;
-    assert_eq!(rt; Ending::from(JobFault::Help(text)).status(), 0);
-    assert_eq!(rt; Ending::from(JobFault::Memory).status(), 1);
-    assert_eq!(rt; Ending::from(Ok(())).status(), 0);
     Ok(())
 }

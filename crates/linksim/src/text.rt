@@ -1,269 +1,315 @@
-// The text of `cut`: for each transport block its plan, its bits with the CRC, and the bits of its code blocks.
+//! The text of `cut`: for each transport block its plan, its bits with the CRC, and the bits of its code blocks.
+//! Blocks are judged first, and then each line is written as soon as it is made.
 
-ghost use Rattle.std.specs.Prelude.{◌≡◌, ◌≤◌, ◌<◌, ◌+◌, ◌*◌, ◌++◌, IfOk, IfErr, OnOk, Err, All, if◌then◌else◌, map, flat_map, drop, length, string_bytes};
+ghost use Rattle.std.specs.Prelude.{◌≡◌, ℕ, ◌≤◌, ◌<◌, ◌+◌, ◌*◌, ◌^◌, ◌++◌, Bool, List, [], ◌∷◌, IfOk, IfErr, IsOk, IsOkAnd, Err, All, if◌then◌else◌, map, length, string_bytes};
 ghost use Rattle.std.specs.Char.{digit_char};
-ghost use Rattle.nr_bitvec.specs.Bit.{bit};
-ghost use Rattle.nr_bitvec.specs.BitList.{number_of, bits_of};
+ghost use Rattle.nr_crcattach.specs.Attachment.{attached};
 ghost use Rattle.nr_graphpick.specs.Graph.{picked};
-ghost use Rattle.nr_segment.specs.CodeBlock.{numbers};
+ghost use Rattle.nr_segment.specs.CodeBlock.{numbers, code_bits};
 ghost use Rattle.nr_segment.specs.Plan.{plan_of};
-ghost use Rattle.linksim.specs.Refusals.{Gives, with_fault};
+ghost use Rattle.nr_graphpick.specs.Refusal.{with_fault};
 ghost use Rattle.linksim.specs.Blocks.{IsBlockLength};
+ghost use Rattle.linksim.specs.Command.{FailsAs, IsOfBlock, Judges, Writes};
 ghost use Rattle.linksim.specs.Lines.{hex, block_line, attached_line, code_line};
 ghost use Rattle.linksim.specs.CutText.{planned_lines, block_lines, lines_from};
 
+use crate::deliver::deliver;
 use crate::fault::{DeskFault, RunFault};
+use crate::sink::Sink;
 use nr_bitvec::Bits;
-use nr_crcattach::attach;
+use nr_crcattach::{attach, attachment_lengthens};
 use nr_graphpick::{Graph, pick};
 use nr_segment::{Plan, cut, plan};
 use std::alloc::{AllocError, Global};
+use std::fmt::Write;
 
-/// `weight` where bit `i` is one; a bit past the end is zero.
-fn weighed(bits: &Bits, i: usize, weight: u32) -> u32
-    ensures { result ≡ (if bit bits.now.items i then weight else 0) }
+// The most bits of a transport block whose CRC has 16 bits, and not 24 (TS 38.212, 6.2.1 and 7.2.1).
+const MOST_WITH_CRC16: u32 = 3824;
+
+// The character of a hexadecimal digit, without a branch: from ten on 39 more, where the letters begin.
+fn hex_digit(value: u8) -> u8
+    requires { value < 16 }
+    ensures { result ≡ digit_char value }
 {
-    if i < bits.len() && bits.get(i) {
-        weight
-    } else {
-        0
+    b'0' + value + (value + 6) / 16 * 39
+}
+
+// A line: its head, then bits in hexadecimal digits, the first bit most significant, the last digit filled with
+// zero bits. The room for the digits is asked for once.
+fn hex_line(head: String, bits: &Bits) -> Result<Vec<u8>, AllocError>
+    ensures { IfOk result
+        (λ line. line.items ≡ string_bytes head ++ hex bits.now.items ++ 10 ∷ []) }
+{
+    let len = bits.len();
+    let pairs = (len + 3) / 8;
+    let mut line = head.into_bytes();
+    line.reserve(len.div_ceil(4) + 1)?;
+    for pair in 0..pairs {
+        let octet = bits.octet(8 * pair);
+        line.push_reserved(hex_digit(octet / 16));
+        line.push_reserved(hex_digit(octet % 16));
     }
-}
-
-/// The hexadecimal digit of the four bits from `at` on.
-fn hex_digit(bits: &Bits, at: usize) -> char
-    requires { at < length bits.now.items }
-    ensures value { result ≡ digit_char (number_of 4 (drop at bits.now.items)) }
-    ensures ascii { result < 128 }
-{
-    let _ = bits.len();
-    let value = weighed(bits, at, 8)
-        + weighed(bits, at + 1, 4)
-        + weighed(bits, at + 2, 2)
-        + weighed(bits, at + 3, 1);
-    char::from_digit(value, 16).unwrap()
-}
-
-/// Writes bits in hexadecimal digits, the first bit most significant, the last digit filled with zero bits.
-fn push_hex(text: &mut String, bits: &Bits) -> Result<(), AllocError>
-    ensures { OnOk result (string_bytes text.new ≡ string_bytes text.old ++ hex bits.now.items) }
-{
-    for digit in 0..bits.len().div_ceil(4) {
-        text.push(hex_digit(bits, 4 * digit))?;
+    if 8 * pairs < len {
+        line.push_reserved(hex_digit(bits.octet(8 * pairs) / 16));
     }
-    Ok(())
+    line.push_reserved(b'\n');
+    Ok(line)
 }
 
-/// Writes the line of block `number`, which has `a` bits, and of its plan.
-fn push_block_line(text: &mut String, number: u32, a: u32, plan: &Plan) -> Result<(), AllocError>
-    ensures { OnOk result (string_bytes text.new
-        ≡ string_bytes text.old ++ block_line number a plan.now.b plan.now.graph (numbers plan.now)) }
+// The line of block `number`, which has `a` bits, and of its plan.
+fn block_line(alloc: Global, number: u32, a: u32, plan: &Plan) -> Result<String, AllocError>
+    ensures { IfOk result (λ line. string_bytes line
+        ≡ block_line number a plan.now.b plan.now.graph (numbers plan.now)) }
 {
+    let mut line = String::new(alloc);
     write!(
-        text,
+        line,
         "block {number} a {a} b {} graph {}",
         plan.b, plan.graph
     )?;
     write!(
-        text,
+        line,
         " c {} l {} kdash {} kb {}",
         plan.c, plan.l, plan.kdash, plan.kb
     )?;
     writeln!(
-        text,
+        line,
         " z {} set {} k {} n {}",
         plan.z, plan.set, plan.k, plan.n
     )?;
-    Ok(())
+    Ok(line)
 }
 
-/// Writes the line of the bits of block `number` with the CRC.
-fn push_attached_line(text: &mut String, number: u32, bits: &Bits) -> Result<(), AllocError>
-    ensures { OnOk result (string_bytes text.new ≡ string_bytes text.old ++ attached_line number bits.now.items) }
+// The line of the bits of block `number` with the CRC.
+fn attached_line(alloc: Global, number: u32, bits: &Bits) -> Result<Vec<u8>, AllocError>
+    ensures { IfOk result (λ line. line.items ≡ attached_line number bits.now.items) }
 {
-    write!(text, "attached {number} ")?;
-    push_hex(text, bits)?;
-    text.push_str("\n")?;
-    Ok(())
+    let mut head = String::new(alloc);
+    write!(head, "attached {number} ")?;
+    hex_line(head, bits)
 }
 
-/// Writes the line of the bits of code block `r` of block `number`.
-fn push_code_line(text: &mut String, number: u32, r: u32, bits: &Bits) -> Result<(), AllocError>
-    ensures { OnOk result (string_bytes text.new ≡ string_bytes text.old ++ code_line number r bits.now.items) }
+// The line of the bits of code block `r` of block `number`.
+fn code_line(alloc: Global, number: u32, r: u32, bits: &Bits) -> Result<Vec<u8>, AllocError>
+    ensures { IfOk result (λ line. line.items ≡ code_line number r bits.now.items) }
 {
-    write!(text, "code {number} {r} ")?;
-    push_hex(text, bits)?;
-    text.push_str("\n")?;
-    Ok(())
+    let mut head = String::new(alloc);
+    write!(head, "code {number} {r} ")?;
+    hex_line(head, bits)
 }
 
-/// The lines of block `number`, which has `a` bits, from its plan and its bits with the CRC.
-fn planned_text(
+// Writes the line of block `number`, which has `a` bits, and of its plan.
+fn write_plan<O: Sink>(
+    alloc: Global,
+    number: u32,
+    a: u32,
+    plan: &Plan,
+    out: &mut O,
+) -> Result<(), RunFault>
+    requires { O.failures out.old < 2 ^ 32 }
+    ensures text { Writes (O.written out.old) (O.written out.new) result
+        (block_line number a plan.now.b plan.now.graph (numbers plan.now)) }
+    ensures put { FailsAs RunFault.Write result (O.failures out.old) (O.failures out.new) }
+{
+    let line = block_line(alloc, number, a, plan)?;
+    deliver(out, line.as_bytes())
+}
+
+// Writes the line of the bits of block `number` with the CRC.
+fn write_attached<O: Sink>(
+    alloc: Global,
+    number: u32,
+    bits: &Bits,
+    out: &mut O,
+) -> Result<(), RunFault>
+    requires { O.failures out.old < 2 ^ 32 }
+    ensures text { Writes (O.written out.old) (O.written out.new) result
+        (attached_line number bits.now.items) }
+    ensures put { FailsAs RunFault.Write result (O.failures out.old) (O.failures out.new) }
+{
+    let line = attached_line(alloc, number, bits)?;
+    deliver(out, &line)
+}
+
+// Writes the line of code block `r` of block `number`, cut from its bits with the CRC.
+fn write_code<O: Sink>(
+    alloc: Global,
+    number: u32,
+    r: u32,
+    plan: &Plan,
+    bits: &Bits,
+    out: &mut O,
+) -> Result<(), RunFault>
+    requires puts { O.failures out.old < 2 ^ 32 }
+    requires planned { length bits.now.items ≡ plan.now.b }
+    requires there { r < plan.now.c }
+    ensures text { Writes (O.written out.old) (O.written out.new) result
+        (code_line number r (code_bits (numbers plan.now) bits.now.items r)) }
+    ensures put { FailsAs RunFault.Write result (O.failures out.old) (O.failures out.new) }
+{
+    let code = cut(alloc, plan, bits, r)?;
+    let line = code_line(alloc, number, r, &code)?;
+    deliver(out, &line)
+}
+
+// Writes the lines of block `number`, which has `a` bits, from its plan and its bits with the CRC.
+fn write_planned<O: Sink>(
     alloc: Global,
     number: u32,
     a: u32,
     plan: &Plan,
     bits: &Bits,
-) -> Result<String, AllocError>
-    requires { length bits.now.items ≡ plan.now.b }
-    ensures { IfOk result (λ text. string_bytes text
-        ≡ planned_lines number a plan.now.graph (numbers plan.now) bits.now.items) }
+    out: &mut O,
+) -> Result<(), RunFault>
+    requires puts { O.failures out.old < 2 ^ 32 }
+    requires planned { length bits.now.items ≡ plan.now.b }
+    ensures text { Writes (O.written out.old) (O.written out.new) result
+        (planned_lines number a plan.now.graph (numbers plan.now) bits.now.items) }
+    ensures put { FailsAs RunFault.Write result (O.failures out.old) (O.failures out.new) }
 {
-    let mut text = String::new(alloc);
-    push_block_line(&mut text, number, a, plan)?;
-    push_attached_line(&mut text, number, bits)?;
+    write_plan(alloc, number, a, plan, out)?;
+    write_attached(alloc, number, bits, out)?;
     for r in 0..plan.c {
-        push_code_line(&mut text, number, r, &cut(alloc, plan, bits, r)?)?;
+        write_code(alloc, number, r, plan, bits, out)?;
     }
-    Ok(text)
+    Ok(())
 }
 
-/// The base graph of block `number`, or its refusal.
+// The base graph of block `number`, or its refusal.
 fn graph_of(number: u32, a: u32, rate2048: u32) -> Result<Graph, RunFault>
-    ensures { result ≡ with_fault (λ fault. RunFault.Desk number (DeskFault.Pick fault)) (picked a rate2048) }
+    ensures { result
+        ≡ with_fault (λ fault. RunFault.Desk number (DeskFault.Pick fault)) (picked a rate2048) }
 {
     pick(a, rate2048).map_err(|fault| RunFault::Desk(number, DeskFault::Pick(fault)))
 }
 
-/// The plan of block `number`, or its refusal.
+// The plan of block `number`, or its refusal.
 fn plan_for(number: u32, graph: Graph, b: u32) -> Result<Plan, RunFault>
     ensures for_these { IfOk result (λ plan. (plan.graph ≡ graph) × (plan.b ≡ b)) }
-    ensures refused { IfErr result
-        (λ e. with_fault (λ fault. RunFault.Desk number (DeskFault.Seg fault)) (plan_of graph b) ≡ Err e) }
+    ensures refused { IfErr result (λ e.
+        with_fault (λ fault. RunFault.Desk number (DeskFault.Seg fault)) (plan_of graph b) ≡ Err e) }
 {
     plan(graph, b).map_err(|fault| RunFault::Desk(number, DeskFault::Seg(fault)))
 }
 
-/// The lines of block `number`, whose octets are given, at the code rate `rate2048` / 2048.
-fn block_text(alloc: Global, rate2048: u32, number: u32, octets: &[u8]) -> Result<String, RunFault>
+// How many bits a transport block of `a` bits has with its CRC.
+fn attached_len(a: u32) -> u32
+    requires { a < 2 ^ 24 }
+    ensures { (bits : List Bool) → length bits ≡ a → result ≡ length (attached bits) }
+{
+    attachment_lengthens();
+    if a > MOST_WITH_CRC16 { a + 24 } else { a + 16 }
+}
+
+// Whether block `number`, whose octets are given, has lines at the code rate `rate2048` / 2048, or its refusal.
+fn judge_block(rate2048: u32, number: u32, octets: &[u8]) -> Result<(), RunFault>
     requires { IsBlockLength (length octets.now) }
-    ensures { Gives RunFault.Memory string_bytes result (block_lines rate2048 number octets.now) }
+    ensures said { Judges result (block_lines rate2048 number octets.now) }
+    ensures of_block { IfErr result IsOfBlock }
+{
+    let a = 8 * octets.len() as u32;
+    let graph = graph_of(number, a, rate2048)?;
+    plan_for(number, graph, attached_len(a))?;
+    Ok(())
+}
+
+/// Judges transport blocks, given as octets and counted from 1, at the code rate `rate2048` / 2048.
+///
+/// # Errors
+/// `Desk` of the first block that has no base graph or no plan.
+pub fn judge(rate2048: u32, blocks: &[Vec<u8>]) -> Result<(), RunFault>
+    requires few { length blocks.now ≤ 256 }
+    requires sizes { All (λ block. IsBlockLength (length block.items)) blocks.now }
+    ensures said { Judges result (lines_from rate2048 1 (map (λ block. block.items) blocks.now)) }
+    ensures of_block { IfErr result IsOfBlock }
+{
+    for (index, block) in blocks.iter().enumerate() {
+        judge_block(rate2048, index as u32 + 1, block)?;
+    }
+    Ok(())
+}
+
+// Writes the lines of block `number`, whose octets are given and which was judged.
+fn write_block<O: Sink>(
+    alloc: Global,
+    rate2048: u32,
+    number: u32,
+    octets: &[u8],
+    out: &mut O,
+) -> Result<(), RunFault>
+    requires puts { O.failures out.old < 2 ^ 32 }
+    requires size { IsBlockLength (length octets.now) }
+    requires judged { IsOk (block_lines rate2048 number octets.now) }
+    ensures text { IsOkAnd (block_lines rate2048 number octets.now)
+        (Writes (O.written out.old) (O.written out.new) result) }
+    ensures put { FailsAs RunFault.Write result (O.failures out.old) (O.failures out.new) }
 {
     let bits = Bits::from_bytes(alloc, octets)?;
     let a = bits.len() as u32;
     let graph = graph_of(number, a, rate2048)?;
     let attached = attach(alloc, &bits)?;
     let plan = plan_for(number, graph, attached.len() as u32)?;
-    Ok(planned_text(alloc, number, a, &plan, &attached)?)
+    write_planned(alloc, number, a, &plan, &attached, out)
 }
 
-/// The text of `cut` for transport blocks, given as octets, at the code rate `rate2048` / 2048
-/// (TS 38.212, 6.2.1 to 6.2.3 and 7.2.1 to 7.2.3): for each block, counted from 1,
+/// Writes the text of `cut` for transport blocks, given as octets, which were judged at the code rate
+/// `rate2048` / 2048 (TS 38.212, 6.2.1 to 6.2.3 and 7.2.1 to 7.2.3): for each block, counted from 1,
 ///
 /// - `block <n> a <A> b <B> graph <1 or 2> c <C> l <L> kdash <K'> kb <Kb> z <Zc> set <set index> k <K> n <N>`;
 /// - `attached <n> <the B bits with the CRC>`;
 /// - `code <n> <r> <the K' bits>` for each code block r, counted from 0.
 ///
-/// Bits are written in lower-case hexadecimal digits, the last one filled with zero bits.
+/// Bits are written in lower-case hexadecimal digits, the last one filled with zero bits. Each line is written as
+/// soon as it is made.
 ///
-/// Errors: `Desk` of the first block that has no base graph or no plan; `Memory` where a growth is refused.
-pub fn cut_text(alloc: Global, rate2048: u32, blocks: &[Vec<u8>]) -> Result<String, RunFault>
+/// # Errors
+/// `Write` where a put failed, and `Memory` where a growth is refused. Then a first part of the text is written.
+pub fn write_blocks<O: Sink>(
+    alloc: Global,
+    rate2048: u32,
+    blocks: &[Vec<u8>],
+    out: &mut O,
+) -> Result<(), RunFault>
+    requires puts { O.failures out.old < 2 ^ 32 }
     requires few { length blocks.now ≤ 256 }
     requires sizes { All (λ block. IsBlockLength (length block.items)) blocks.now }
-    ensures { Gives RunFault.Memory string_bytes result
-        (lines_from rate2048 1 (map (λ block. block.items) blocks.now)) }
+    requires judged { IsOk (lines_from rate2048 1 (map (λ block. block.items) blocks.now)) }
+    ensures text { IsOkAnd (lines_from rate2048 1 (map (λ block. block.items) blocks.now))
+        (Writes (O.written out.old) (O.written out.new) result) }
+    ensures put { FailsAs RunFault.Write result (O.failures out.old) (O.failures out.new) }
 {
-    let mut text = String::new(alloc);
     for (index, block) in blocks.iter().enumerate() {
-        text.push_str(&block_text(alloc, rate2048, index as u32 + 1, block)?)?;
+        write_block(alloc, rate2048, index as u32 + 1, block, out)?;
     }
-    Ok(text)
+    Ok(())
 }
 
 #[cfg(test)]
 mod tests {
     use super::*;
-    use crate::blocks::parse_blocks;
-    use nr_segment::SegFault;
     use std::test::Fail;
-
-    /// The text of `cut` for a blocks file.
-    fn cut_file(alloc: Global, rate2048: u32, file: &[u8]) -> Result<String, RunFault> {
-        let blocks = parse_blocks(alloc, file)?;
-        cut_text(alloc, rate2048, &blocks)
-    }
-
-    #[test]
-    fn writes_each_block(rt: HostRuntime) -> Result<(), Fail> {
-        for (file, text) in [
-            (
-                b"01" as &[u8],
-                "block 1 a 8 b 24 graph 2 c 1 l 0 kdash 24 kb 6 z 4 set 0 k 40 n 200\n\
-                 attached 1 011021\n\
-                 code 1 0 011021\n",
-            ),
-            (
-                b"000000\n313233343536373839\n",
-                "block 1 a 24 b 40 graph 2 c 1 l 0 kdash 40 kb 6 z 7 set 3 k 70 n 350\n\
-                 attached 1 0000000000\n\
-                 code 1 0 0000000000\n\
-                 block 2 a 72 b 88 graph 2 c 1 l 0 kdash 88 kb 6 z 15 set 7 k 150 n 750\n\
-                 attached 2 31323334353637383931c3\n\
-                 code 2 0 31323334353637383931c3\n",
-            ),
-        ] {
-            assert_eq!(rt; cut_file(rt.alloc(), 2048, file)?.as_str(), text);
-        }
-        Ok(())
-    }
-
-    #[test]
-    fn picks_the_graph_by_the_rate(rt: HostRuntime) -> Result<(), Fail> {
-        for (octets, rate2048, line) in [
-            (
-                36,
-                2048,
-                "block 1 a 288 b 304 graph 2 c 1 l 0 kdash 304 kb 8 z 40 set 2 k 400 n 2000\n",
-            ),
-            (
-                37,
-                1372,
-                "block 1 a 296 b 312 graph 2 c 1 l 0 kdash 312 kb 8 z 40 set 2 k 400 n 2000\n",
-            ),
-            (
-                37,
-                1373,
-                "block 1 a 296 b 312 graph 1 c 1 l 0 kdash 312 kb 22 z 15 set 7 k 330 n 990\n",
-            ),
-        ] {
-            let file = vec![in rt.alloc(); b'0'; 2 * octets]?;
-            assert!(rt; cut_file(rt.alloc(), rate2048, &file)?.starts_with(line));
-        }
-        Ok(())
-    }
-
-    #[test]
-    fn cuts_a_long_block(rt: HostRuntime) -> Result<(), Fail> {
-        let file = vec![in rt.alloc(); b'0'; 2 * 479]?;
-        let want = format!(in rt.alloc();
-            "block 1 a 3832 b 3856 graph 2 c 2 l 24 kdash 1952 kb 10 z 208 set 6 k 2080 n 10400\n\
-             attached 1 {0:0>964}\ncode 1 0 {0:0>488}\ncode 1 1 {0:0>488}\n",
-            ""
-        )?;
-        assert_eq!(rt; cut_file(rt.alloc(), 512, &file)?.as_str(), want.as_str());
-        Ok(())
-    }
-
-    #[test]
-    fn refuses_a_block_that_cannot_be_cut(rt: HostRuntime) -> Result<(), Fail> {
-        let uneven = vec![in rt.alloc(); b'0'; 2 * 955]?;
-        let refusal = RunFault::Desk(1, DeskFault::Seg(SegFault::Uneven));
-        assert_eq!(rt; cut_file(rt.alloc(), 512, &uneven).err(), Some(refusal));
-        let mut second = vec![in rt.alloc(); b'0', b'1', b'\n']?;
-        second.extend_from_slice(&uneven)?;
-        let refusal = RunFault::Desk(2, DeskFault::Seg(SegFault::Uneven));
-        assert_eq!(rt; cut_file(rt.alloc(), 512, &second).err(), Some(refusal));
-        Ok(())
-    }
 
     #[test]
     fn fills_the_last_digit(rt: HostRuntime) -> Result<(), Fail> {
-        let octet = Bits::from_bytes(rt.alloc(), &[0xac])?;
-        assert_eq!(rt; octet.len(), 8);
-        let bits = octet.copy_range(0, 6)?;
-        let mut text = String::new(rt.alloc());
-        push_hex(&mut text, &bits)?;
-        assert_eq!(rt; text.as_str(), "ac");
+        let octets = Bits::from_bytes(rt.alloc(), &[0xac, 0xff])?;
+        assert_eq!(rt; octets.len(), 16);
+        for (len, line) in [
+            (0, "\n"),
+            (1, "8\n"),
+            (4, "a\n"),
+            (5, "a8\n"),
+            (6, "ac\n"),
+            (8, "ac\n"),
+            (9, "ac8\n"),
+            (12, "acf\n"),
+            (13, "acf8\n"),
+            (16, "acff\n"),
+        ] {
+            assert!(rt; len <= octets.len());
+            let bits = octets.copy_range(0, len)?;
+            let written = hex_line(String::new(rt.alloc()), &bits)?;
+            assert_eq!(rt; written.as_slice(), line.as_bytes(), "at {len}");
+        }
         Ok(())
     }
 }

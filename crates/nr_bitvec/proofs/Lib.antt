@@ -1,3 +1,10 @@
-pub mod Octets
+pub mod BitFacts
+pub mod Places
+pub mod Flips
+pub mod Lists
+pub mod Turns
+pub mod Loads
+pub mod Joins
+pub mod OctetLists
 pub mod RoundTrip
 pub mod SameBits

@@ -2,9 +2,9 @@
 use Rattle.std.proofs.Common.{◌≡◌, ℕ, ◌+◌, ◌*◌, ◌/◌, ◌%◌, ◌^◌, ◌<◌, ◌≤◌, ◌==◌, if◌then◌else◌, zero, suc, Bool, List, [], ◌∷◌, ◌++◌, length, refl, sym, ◌∙◌, ap, arith, bit_xor, length-append, append_assoc}
 use Rattle.std.specs.Int.{bit_at}
 use Rattle.std.proofs.lemmas.Bool.{cond_below, cond_above}
-use Rattle.std.proofs.lemmas.Nat.{mod-pow-add, mod_below, pow_pos}
+use Rattle.std.proofs.lemmas.Nat.{mod-pow-add, mod_below, pow-add, pow_pos, shl_below}
 use Rattle.std.proofs.lemmas.Nat.Bits.{bit_at-lt}
-use Rattle.std.proofs.Math.Nat.{mod-eq_of_lt}
+use Rattle.std.proofs.Math.Nat.{mod-eq_of_lt, zero-mul}
 use lib.Bits.{xor_self, xor_shifted}
 use Rattle.nr_crcattach.specs.declared.Poly.{Poly}
 use Rattle.nr_crcattach.specs.declared.Poly.TheVariants.{A24, C16}
@@ -52,20 +52,30 @@ top_bit zero n low is_bit below = omega arith
 top_bit (suc zero) n low is_bit below = ap (λ (high : ℕ). bit_xor high low) (let one : 2 ^ n ≡ 1 * 2 ^ n = omega arith in one) ∙ xor_shifted 1 n low below
 top_bit (suc (suc bit)) n low is_bit below = absurd (omega arith)
 
--- the bits of a number below the generator's degree are their own remainder
-residue-high_first : (p : Poly) (n v : ℕ) → n ≤ degree p → residue p 0 (high_first n v) ≡ v % 2 ^ n
+-- the n lowest bits of a number, as many powers of D higher as the generator's degree allows, are their own remainder
+pub residue-high_first : (p : Poly) (s n v : ℕ) → n + s ≤ degree p → residue p s (high_first n v) ≡ (v % 2 ^ n) * 2 ^ s
 unfolding residue high_first
-residue-high_first p zero v short = omega arith
-residue-high_first p (suc n) v short =
-    let power : length (high_first n v) + 0 ≡ n = omega (arith, length-high_first n v) in
-    let alone : rho p (length (high_first n v) + 0) ≡ 2 ^ n = ap (rho p) power ∙ rho-pow p n (omega arith) in
-    let rest : residue p 0 (high_first n v) ≡ v % 2 ^ n = residue-high_first p n v (omega arith) in
+residue-high_first p s zero v short = let none : v % 2 ^ 0 ≡ 0 = omega arith in sym (ap (λ m. m * 2 ^ s) none ∙ zero-mul (2 ^ s))
+residue-high_first p s (suc n) v short =
+    let power : length (high_first n v) + s ≡ n + s = ap (λ m. m + s) (length-high_first n v) in
+    let alone : rho p (length (high_first n v) + s) ≡ 2 ^ (n + s) = ap (rho p) power ∙ rho-pow p (n + s) (omega arith) in
+    let rest : residue p s (high_first n v) ≡ (v % 2 ^ n) * 2 ^ s = residue-high_first p s n v (omega arith) in
     let split : v % 2 ^ (1 + n) ≡ (v / 2 ^ n % 2 ^ 1) * 2 ^ n + v % 2 ^ n = mod-pow-add v 1 n in
     let next : 1 + n ≡ suc n = omega arith in
-    ap (λ r. bit_xor (if bit_at v n == 1 then r else 0) (residue p 0 (high_first n v))) alone
-    ∙ ap (bit_xor (if bit_at v n == 1 then 2 ^ n else 0)) rest
-    ∙ top_bit (bit_at v n) n (v % 2 ^ n) (bit_at-lt v n) (mod_below v (2 ^ n) (pow_pos n))
-    ∙ sym split ∙ ap (λ k. v % 2 ^ k) next
+    let below : (v % 2 ^ n) * 2 ^ s < 2 ^ (n + s) = shl_below (v % 2 ^ n) n s (mod_below v (2 ^ n) (pow_pos n)) in
+    let whole : bit_at v n * 2 ^ (n + s) + (v % 2 ^ n) * 2 ^ s ≡ (v % 2 ^ (1 + n)) * 2 ^ s =
+    let power_is : 2 ^ (n + s) ≡ 2 ^ n * 2 ^ s = pow-add 2 n s in rw (power_is, split) (omega arith) in
+    ap (λ r. bit_xor (if bit_at v n == 1 then r else 0) (residue p s (high_first n v))) alone
+    ∙ ap (bit_xor (if bit_at v n == 1 then 2 ^ (n + s) else 0)) rest
+    ∙ top_bit (bit_at v n) (n + s) ((v % 2 ^ n) * 2 ^ s) (bit_at-lt v n) below
+    ∙ whole ∙ ap (λ k. (v % 2 ^ k) * 2 ^ s) next
+
+-- a remainder's bits are their own remainder
+pub residue-own : (p : Poly) (v : ℕ) → v < 2 ^ degree p → residue p 0 (high_first (degree p) v) ≡ v
+residue-own p v below =
+    let small : v % 2 ^ degree p ≡ v = mod-eq_of_lt below in
+    let one : (v % 2 ^ degree p) * 2 ^ 0 ≡ v % 2 ^ degree p = omega arith in
+    residue-high_first p 0 (degree p) v (omega arith) ∙ one ∙ small
 
 -- a list followed by its parity bits is divided by their generator
 pub IsDivided-with_check : (p : Poly) (bits : List Bool) → IsDivided p (with_check p bits)
@@ -73,8 +83,7 @@ IsDivided-with_check p bits =
     let l = degree p in
     let check = crc_of p bits in
     let length_is : length (high_first l check) + 0 ≡ l = omega (arith, length-high_first l check) in
-    let own : residue p 0 (high_first l check) ≡ check =
-    residue-high_first p l check (omega arith) ∙ (let below : check < 2 ^ l = residue-lt p l bits in let small : check % 2 ^ l ≡ check = mod-eq_of_lt below in small) in
+    let own : residue p 0 (high_first l check) ≡ check = residue-own p check (residue-lt p l bits) in
     residue-append p 0 bits (high_first l check)
     ∙ ap (λ s. bit_xor (residue p s bits) (residue p 0 (high_first l check))) length_is
     ∙ ap (bit_xor check) own

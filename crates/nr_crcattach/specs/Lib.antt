@@ -1,2 +1,3 @@
 pub mod Attachment
 pub mod Crc
+pub mod Octets

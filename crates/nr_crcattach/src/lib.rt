@@ -1,15 +1,16 @@
-// The cyclic redundancy checks of NR (TS 38.212 clause 5.1) and their attachment to transport blocks
-// (6.2.1, 7.2.1) and to code blocks (5.2.2). A list of bits is a polynomial, its first bit the highest
-// coefficient; every call is stated by the remainders of that polynomial (`specs/Crc.antt`) and by the list
-// with its parity bits behind it (`specs/Attachment.antt`), never by the register that the code shifts. The
-// main contract is that of `attach`, and `attachment_divides` is the law that what was attached leaves
-// remainder 0. It stands on `nr_bitvec`.
+//! The cyclic redundancy checks of NR (TS 38.212, 5.1) and their attachment to transport blocks (6.2.1, 7.2.1) and
+//! to code blocks (5.2.2). A list of bits is a polynomial, its first bit the highest coefficient; every call is stated
+//! by the remainders of that polynomial (specs/Crc.antt) and by the list with its parity bits behind it
+//! (specs/Attachment.antt), never by the register and the tables of the code. The main contract is that of `attach`,
+//! and `attachment_divides` is the law that what was attached leaves remainder 0. It stands on `nr_bitvec`.
 #![tactic(auto)]
 
 ghost use Rattle.nr_crcattach.specs.Attachment.{AttachedBlocksDivide, CheckedListsDivide, CheckedListsLengthen, LongBlocksLengthen, ShortBlocksLengthen, attached, with_check};
 ghost use Rattle.nr_crcattach.specs.Crc.{IsDivided, JoinedListsAdd, PowersMultiply, TimesDIsAdditive, crc_of, degree, generator, times_d};
-ghost use Rattle.std.specs.Prelude.{◌≡◌, ◌+◌, ◌<◌, ◌≤◌, ◌^◌, ◌↔◌, IfOk, IsTrue, drop, length, take};
+ghost use Rattle.std.specs.Prelude.{◌≡◌, ◌+◌, ◌*◌, ◌<◌, ◌≤◌, ◌^◌, ◌↔◌, IfOk, IsTrue, drop, length, take};
 ghost use Rattle.nr_crcattach.specs.declared.Poly.{Poly};
+
+mod octets;
 
 use nr_bitvec::Bits;
 use std::alloc::{AllocError, Global};
@@ -81,13 +82,29 @@ pub fn crc_range(poly: Poly, bits: &Bits, from: usize, len: usize) -> u32
     ensures value { result ≡ crc_of poly (take len (drop from bits.now.items)) }
     ensures fits { result < 2 ^ degree poly }
 {
-    // A list's length is at most 2^24, so that no place below `from + len` overflows.
+    // A list has at most 2^24 bits, as `len` says: so no place below `from + len` overflows.
     let _ = bits.len();
+    let words = len / 64;
     let top = poly.degree() - 1;
-    let mut register = 0;
-    for i in 0..len {
+    let mut register = crc_of_words(poly, bits, from, words);
+    for i in 64 * words..len {
         let entering = u32::from(bits.get(from + i)) << top;
         register = poly.times_d(register ^ entering);
+    }
+    register
+}
+
+// The parity bits of 64 bits a word, of so many words, from bit `from` on.
+fn crc_of_words(poly: Poly, bits: &Bits, from: usize, words: usize) -> u32
+    requires { from + 64 * words ≤ length bits.now.items }
+    ensures value { result ≡ crc_of poly (take (64 * words) (drop from bits.now.items)) }
+    ensures fits { result < 2 ^ degree poly }
+{
+    // No place overflows, as in `crc_range`.
+    let _ = bits.len();
+    let mut register = 0;
+    for i in 0..words {
+        register = poly.with_word(register, bits.window(from + 64 * i));
     }
     register
 }
@@ -102,7 +119,11 @@ pub fn divides(poly: Poly, bits: &Bits) -> bool
 }
 
 /// A transport block followed by its parity bits: 24 by CRC24A where it has more than 3824 bits, else 16 by
-/// CRC16 (TS 38.212, 6.2.1 and 7.2.1). The block has at most 2^24 - 24 bits. Refused for want of memory alone.
+/// CRC16 (TS 38.212, 6.2.1 and 7.2.1). The block has at most 2^24 - 24 bits.
+///
+/// # Errors
+///
+/// `AllocError` is want of memory.
 pub fn attach(alloc: Global, block: &Bits) -> Result<Bits, AllocError>
     requires { length block.now.items + 24 ≤ 2 ^ 24 }
     ensures { IfOk result (λ b. b.items ≡ attached block.now.items) }
@@ -116,7 +137,10 @@ pub fn attach(alloc: Global, block: &Bits) -> Result<Bits, AllocError>
 }
 
 /// The bits of a code block, at most 2^24 - 24, followed by their 24 parity bits by CRC24B (TS 38.212, 5.2.2).
-/// Refused for want of memory alone.
+///
+/// # Errors
+///
+/// `AllocError` is want of memory.
 pub fn attach_code(alloc: Global, bits: &Bits) -> Result<Bits, AllocError>
     requires { length bits.now.items + 24 ≤ 2 ^ 24 }
     ensures { IfOk result (λ b. b.items ≡ with_check Poly.B24 bits.now.items) }
@@ -124,14 +148,14 @@ pub fn attach_code(alloc: Global, bits: &Bits) -> Result<Bits, AllocError>
     followed_by_check(alloc, Poly::B24, bits)
 }
 
-// The bits followed by their parity bits, the highest first.
+// The bits followed by their parity bits, the highest first. The room for all of them is asked for once.
 fn followed_by_check(alloc: Global, poly: Poly, bits: &Bits) -> Result<Bits, AllocError>
     requires { length bits.now.items + 24 ≤ 2 ^ 24 }
     ensures { IfOk result (λ b. b.items ≡ with_check poly bits.now.items) }
 {
-    let mut checked = Bits::new(alloc);
-    checked.extend(bits)?;
     let check = crc(poly, bits);
+    let mut checked = Bits::with_room(alloc, bits.len() as u32 + poly.degree())?;
+    checked.extend(bits)?;
     for place in (0..poly.degree()).rev() {
         checked.push(check >> place & 1 == 1)?;
     }

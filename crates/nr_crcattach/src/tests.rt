@@ -39,6 +39,75 @@ fn checks(rt: HostRuntime) -> Result<(), Fail> {
     Ok(())
 }
 
+// The three zeros are bits, so that no octet of the range stands at a multiple of eight.
+#[test]
+fn range_behind_three_zeros(rt: HostRuntime) -> Result<(), Fail> {
+    let zeros = bits_of(&rt, rt.alloc(), &[0])?;
+    assert_eq!(rt; zeros.len(), 8);
+    let mut bits = zeros.copy_range(0, 3)?;
+    assert_eq!(rt; bits.len(), 3);
+    bits.extend(&bits_of(&rt, rt.alloc(), &DIGITS)?)?;
+    assert_eq!(rt; bits.len(), 75);
+    assert_eq!(rt; crc_range(Poly::C16, &bits, 3, 72), 0x31c3);
+    Ok(())
+}
+
+// For each generator: the top bit of its register, the bits below it, and the generator without its highest power.
+const REGISTERS: [(Poly, u32, u32, u32); 3] = [
+    (Poly::A24, 0x80_0000, 0x7f_ffff, 0x86_4cfb),
+    (Poly::B24, 0x80_0000, 0x7f_ffff, 0x80_0063),
+    (Poly::C16, 0x8000, 0x7fff, 0x1021),
+];
+
+// A shift register that takes one bit.
+fn shifted(register: u32, bit: bool, top: u32, rest: u32, generator: u32) -> u32 {
+    let leaving = register & top != 0;
+    let moved = (register & rest) << 1;
+    if leaving != bit {
+        moved ^ generator
+    } else {
+        moved
+    }
+}
+
+// Every list of at most nine bits, against the shift register; the empty list has 0.
+#[test]
+fn short_lists(rt: HostRuntime) -> Result<(), Fail> {
+    for (poly, top, rest, generator) in REGISTERS {
+        for count in 0..10_u32 {
+            for number in 0..1_u32 << count {
+                let mut bits = Bits::new(rt.alloc());
+                let mut register = 0;
+                for place in 0..count {
+                    let bit = number >> place & 1 == 1;
+                    assert!(rt; bits.len() < 10);
+                    bits.push(bit)?;
+                    register = shifted(register, bit, top, rest, generator);
+                }
+                assert_eq!(rt; crc(poly, &bits), register, "{poly:?} of {bits:?}");
+            }
+        }
+    }
+    Ok(())
+}
+
+// Lists that are longer than words and pairs of octets, against the shift register.
+#[test]
+fn longer_lists(rt: HostRuntime) -> Result<(), Fail> {
+    for (poly, top, rest, generator) in REGISTERS {
+        let mut bits = Bits::new(rt.alloc());
+        let mut register = 0;
+        for place in 0..200_u32 {
+            let bit = place * place % 11 < 5;
+            assert!(rt; bits.len() < 200);
+            bits.push(bit)?;
+            register = shifted(register, bit, top, rest, generator);
+            assert_eq!(rt; crc(poly, &bits), register, "{poly:?} of {place}");
+        }
+    }
+    Ok(())
+}
+
 #[test]
 fn transport_blocks(rt: HostRuntime) -> Result<(), Fail> {
     let digits_attached = [

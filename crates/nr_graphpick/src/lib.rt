@@ -1,8 +1,8 @@
-// The choice between the two LDPC base graphs, and their sizes (3GPP TS 38.212, 5.3.2, 6.2.2 and 7.2.2).
-// `pick` answers the base graph of a transport block by its size and its code rate.
-// Its contract: the answer is `picked` of specs/Graph.antt, the three comparisons of the standard in whole
-// numbers, or the first of the two faults.
-// Stands on std alone, with `thiserror` for the fault; nothing here takes memory.
+//! The choice between the two LDPC base graphs, and their sizes (3GPP TS 38.212, 5.3.2, 6.2.2 and 7.2.2).
+//! `pick` answers the base graph of a transport block by its size and its code rate.
+//! Its contract: the answer is `picked` of specs/Graph.antt, the three comparisons of the standard in whole
+//! numbers, or the first of the two faults.
+//! Stands on std alone, with `thiserror` for the fault; nothing here takes memory.
 #![tactic(auto)]
 
 ghost use Rattle.std.specs.Prelude.{◌≡◌};
@@ -11,10 +11,10 @@ ghost use Rattle.nr_graphpick.specs.Graph.{rows_of, cols_of, info_cols_of, picke
 use std::fmt;
 use thiserror::Error;
 
-/// The largest transport block that is handled, in bits.
+// The largest transport block that is handled, in bits.
 const MOST_BITS: u32 = 1_310_720;
 
-/// The largest code rate, in 2048ths: 1.
+// The largest code rate, in 2048ths: 1.
 const FULL_RATE: u32 = 2048;
 
 /// An LDPC base graph (TS 38.212, 5.3.2). It is printed as its number, `1` or `2`.
@@ -90,7 +90,9 @@ pub enum PickFault {
 /// rate is at most 0.25; else base graph 1. The rate is compared in whole numbers, as
 /// `100 * rate2048 <= 137216` and `4 * rate2048 <= 2048`.
 ///
-/// Errors, in this order: `RateRange`, where `rate2048` is not in 1..=2048; `SizeRange`, where `a` is not in
+/// # Errors
+///
+/// In this order: `RateRange`, where `rate2048` is not in 1..=2048; `SizeRange`, where `a` is not in
 /// 1..=1,310,720.
 pub fn pick(a: u32, rate2048: u32) -> Result<Graph, PickFault>
     ensures { result ≡ picked a rate2048 }

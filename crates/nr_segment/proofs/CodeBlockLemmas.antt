@@ -1,7 +1,7 @@
 -- Cutting into code blocks and joining them.
-use Rattle.std.proofs.Common.{◌≡◌, ℕ, ◌+◌, ◌*◌, ◌<◌, ◌≤◌, ◌++◌, nat_lt, suc, zero, Bool, true, false, cond, List, [], ◌∷◌, length, map, take, drop, slice_index_or, get_or, flat_map, All, Ok, refl, arith, ap, ◌∙◌, sym, length-append, length-drop, append-nil}
+use Rattle.std.proofs.Common.{◌≡◌, ℕ, ◌+◌, ◌-◌, ◌*◌, ◌<◌, ◌≤◌, ◌++◌, nat_lt, suc, zero, Bool, true, false, cond, List, [], ◌∷◌, length, map, take, drop, slice_index_or, get_or, flat_map, All, Ok, refl, arith, ap, ◌∙◌, sym, length-append, length-drop, append-nil, replicate}
 use Rattle.std.proofs.lemmas.Grind.{flat_map-append}
-use Rattle.std.proofs.lemmas.List.{length-take-le, take-append-le, take_all, get_or-take}
+use Rattle.std.proofs.lemmas.List.{length-replicate, length-take-le, take-append-le, take_all, get_or-take}
 use Rattle.std.proofs.lemmas.List.Concat.{get_or-flat_map}
 use Rattle.std.proofs.lemmas.List.FromFn.{map-range_with_len_more}
 use Rattle.std.proofs.Math.Nat.{mul-le-mul_right, zero-mul}
@@ -12,7 +12,7 @@ use Rattle.nr_crcattach.specs.Crc.{high_first, crc_of}
 use Rattle.nr_crcattach.specs.declared.Poly.TheVariants.{B24}
 use Rattle.nr_graphpick.specs.declared.Graph.{Graph}
 use Rattle.nr_segment.specs.Plan.{Numbers, IsSound, plan_of}
-use Rattle.nr_segment.specs.CodeBlock.{share, part_of, shared_bits, code_bits, all_code_bits, joined}
+use Rattle.nr_segment.specs.CodeBlock.{share, part_of, shared_bits, code_bits, code_block, all_code_bits, joined}
 use Rattle.nr_segment.proofs.PlanLemmas.{sound-plan}
 
 -- a number has as many bits as are asked for
@@ -55,6 +55,15 @@ length-code_bits graph b p bits r planned long one =
         let end : length (high_first 24 (crc_of B24 (shared_bits p bits r))) ≡ 24 = length-high_first 24 _ in
         simp length-append (omega arith)
     go false is checks shared checked = omega arith
+
+-- each code block has K bits with its fillers
+pub length-code_block : (graph : Graph) (b : ℕ) (p : Numbers) (bits : List Bool) (r : ℕ) → plan_of graph b ≡ Ok p
+    → length bits ≡ b → r < p.c → length (code_block p bits r) ≡ p.k
+length-code_block graph b p bits r planned long one =
+    let sound : IsSound graph b p = sound-plan graph b p planned in
+    let coded : length (code_bits p bits r) ≡ p.kdash = length-code_bits graph b p bits r planned long one in
+    length-append (code_bits p bits r) (replicate (p.k - p.kdash) false)
+    ∙ omega (arith, coded, sound.held, length-replicate (p.k - p.kdash) false)
 
 -- the bits before its CRC are the share of a code block
 take-code_bits : (graph : Graph) (b : ℕ) (p : Numbers) (bits : List Bool) (r : ℕ) → IsSound graph b p → length bits ≡ b → r < p.c

@@ -1,5 +1,5 @@
 -- The code blocks of a transport block with its CRC (TS 38.212, 5.2.2).
-use Rattle.std.specs.Prelude.{◌≡◌, ℕ, ◌+◌, ◌-◌, ◌*◌, ◌<◌, Bool, nat_lt, if◌then◌else◌, Ok, List, [], length, take, drop, map, flat_map, slice_index_or, All}
+use Rattle.std.specs.Prelude.{◌≡◌, ℕ, ◌+◌, ◌-◌, ◌*◌, ◌<◌, Bool, nat_lt, if◌then◌else◌, Ok, List, [], length, take, drop, map, flat_map, slice_index_or, All, ◌++◌, replicate, false}
 use Rattle.std.specs.List.{range_with_len}
 use Rattle.nr_bitvec.specs.Bit.{bit}
 use Rattle.nr_crcattach.specs.Attachment.{with_check}
@@ -28,6 +28,14 @@ shared_bits p bits r = take (share p) (drop (part_of p r 0) bits)
 abbrev pub code_bits : Numbers → List Bool → ℕ → List Bool
 code_bits p bits r = if nat_lt 1 p.c then with_check B24 (shared_bits p bits r) else shared_bits p bits r
 
+-- the K' bits followed by the fillers up to K, which are zeros (5.2.2, and 5.3.2 where they are encoded)
+abbrev pub with_fillers : Numbers → List Bool → List Bool
+with_fillers p bits = bits ++ replicate (p.k - p.kdash) false
+
+-- the K bits of code block r, which the encoder takes
+abbrev pub code_block : Numbers → List Bool → ℕ → List Bool
+code_block p bits r = with_fillers p (code_bits p bits r)
+
 -- the K' bits of each code block
 abbrev pub all_code_bits : Numbers → List Bool → List (List Bool)
 all_code_bits p bits = map (code_bits p bits) (range_with_len 0 p.c)
@@ -40,6 +48,11 @@ joined p blocks = flat_map (take (share p)) blocks
 abbrev pub CodeBlocksAreLong : Type 0
 CodeBlocksAreLong = (graph : Graph) (b : ℕ) (p : Numbers) (bits : List Bool) (r : ℕ) → plan_of graph b ≡ Ok p
     → length bits ≡ b → r < p.c → length (code_bits p bits r) ≡ p.kdash
+
+-- each code block has K bits with its fillers
+abbrev pub FilledBlocksAreLong : Type 0
+FilledBlocksAreLong = (graph : Graph) (b : ℕ) (p : Numbers) (bits : List Bool) (r : ℕ) → plan_of graph b ≡ Ok p
+    → length bits ≡ b → r < p.c → length (code_block p bits r) ≡ p.k
 
 -- joining puts bit k of code block r where cutting takes it from
 abbrev pub JoinPutsParts : Type 0

@@ -6,6 +6,7 @@ ghost use Rattle.nr_segment.specs.CodeBlock.{
   code_bits,
   joined,
   CodeBlocksAreLong,
+  FilledBlocksAreLong,
   JoinPutsParts,
   JoinUndoesCut,
 };
@@ -26,7 +27,11 @@ pub fn part(plan: &Plan, r: u32, k: u32) -> u32
 }
 
 /// The K' bits of code block `r` of the transport block `bits`: its share of the bits and, where there are
-/// several code blocks, their CRC24B (TS 38.212, 5.2.2). Fails only for want of memory.
+/// several code blocks, their CRC24B (TS 38.212, 5.2.2).
+///
+/// # Errors
+///
+/// `AllocError` is want of memory.
 pub fn cut(alloc: Global, plan: &Plan, bits: &Bits, r: u32) -> Result<Bits, AllocError>
     requires whole { length bits.now.items ≡ plan.now.b }
     requires block { r < plan.now.c }
@@ -43,23 +48,28 @@ pub fn cut(alloc: Global, plan: &Plan, bits: &Bits, r: u32) -> Result<Bits, Allo
 }
 
 /// The bits of the transport block, from the K' bits of each code block in order. The CRC24B of each is
-/// dropped, and not tested. Fails only for want of memory.
+/// dropped, and not tested.
+///
+/// # Errors
+///
+/// `AllocError` is want of memory.
 pub fn join(alloc: Global, plan: &Plan, blocks: &[Bits]) -> Result<Bits, AllocError>
     requires all { length blocks.now ≡ plan.now.c }
     requires long { All (λ block. length block.items ≡ plan.now.kdash) blocks.now }
     ensures { IfOk result (λ bits. bits.items ≡ joined (numbers plan.now) (map (λ block. block.items) blocks.now)) }
 {
     let share = (plan.kdash - plan.l) as usize;
-    let mut bits = Bits::new(alloc);
+    let mut bits = Bits::with_room(alloc, plan.b)?;
     for block in blocks {
         bits.extend(&block.copy_range(0, share)?)?;
     }
     Ok(bits)
 }
 
-/// Law: each code block has K' bits.
+/// Law: each code block has K' bits, and K bits with its fillers (TS 38.212, 5.2.2).
 pub fn code_blocks_are_long()
-    ensures { CodeBlocksAreLong }
+    ensures bits { CodeBlocksAreLong }
+    ensures filled { FilledBlocksAreLong }
 {}
 
 /// Law: `join` puts bit `k` of list `r` at index `part(r, k)`.

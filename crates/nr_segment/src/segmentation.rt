@@ -7,16 +7,16 @@ use crate::numbers::{Plan, SegFault};
 use nr_graphpick::Graph;
 use nr_lifting::{set_of, smallest};
 
-/// The fewest bits that a transport block has with its CRC: an octet and CRC16.
+// The fewest bits that a transport block has with its CRC: an octet and CRC16.
 const LEAST_BITS: u32 = 24;
 
-/// The most bits that a transport block has with its CRC.
+// The most bits that a transport block has with its CRC.
 const MOST_BITS: u32 = 1_310_744;
 
-/// The bits of CRC24B, which each of several code blocks has (TS 38.212, 5.1).
+// The bits of CRC24B, which each of several code blocks has (TS 38.212, 5.1).
 const CHECK_BITS: u32 = 24;
 
-/// Kcb, how many bits the largest code block has (TS 38.212, 5.2.2).
+// Kcb, how many bits the largest code block has (TS 38.212, 5.2.2).
 fn largest_block_of(graph: Graph) -> u32
     ensures { result ≡ largest_block graph }
 {
@@ -26,7 +26,7 @@ fn largest_block_of(graph: Graph) -> u32
     }
 }
 
-/// L and C: the CRC bits of each code block, and the number of code blocks (TS 38.212, 5.2.2).
+// L and C: the CRC bits of each code block, and the number of code blocks (TS 38.212, 5.2.2).
 fn checks_and_blocks(graph: Graph, b: u32) -> (u32, u32)
     ensures checks { result.0 ≡ check_bits graph b }
     ensures blocks { result.1 ≡ block_count graph b }
@@ -39,7 +39,7 @@ fn checks_and_blocks(graph: Graph, b: u32) -> (u32, u32)
     }
 }
 
-/// Kb, the number of columns that the bits of a code block are spread over (TS 38.212, 5.2.2).
+// Kb, the number of columns that the bits of a code block are spread over (TS 38.212, 5.2.2).
 fn info_columns_of(graph: Graph, b: u32) -> u32
     ensures { result ≡ info_columns graph b }
 {
@@ -56,8 +56,10 @@ fn info_columns_of(graph: Graph, b: u32) -> u32
 
 /// The plan by which `b` bits, a transport block with its CRC, are cut into code blocks (TS 38.212, 5.2.2).
 ///
-/// Errors, in this order: `Short`, where `b` is below 24; `Long`, where `b` is above 1,310,744; `Uneven`,
-/// where the code blocks would not have equally many bits.
+/// # Errors
+///
+/// In this order: `Short`, where `b` is below 24; `Long`, where `b` is above 1,310,744; `Uneven`, where the code blocks
+/// would not have equally many bits.
 #[tactic(auto, unfolding(crate::specs::Plan::plan_of))]
 pub fn plan(graph: Graph, b: u32) -> Result<Plan, SegFault>
     ensures for_these { IfOk result (λ plan. (plan.graph ≡ graph) × (plan.b ≡ b)) }

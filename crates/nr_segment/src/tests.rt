@@ -117,5 +117,7 @@ fn keeps_one_code_block(rt: HostRuntime) -> Result<(), Fail> {
     assert_eq!(rt; bits.len(), one.b as usize);
     let block = cut(alloc, &one, &bits, 0)?;
     assert_eq!(rt; block, bits);
+    assert_eq!(rt; [one.c as usize, one.kdash as usize], [1, block.len()]);
+    assert_eq!(rt; join(alloc, &one, &[block])?, bits);
     Ok(())
 }

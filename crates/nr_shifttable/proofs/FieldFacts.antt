@@ -53,22 +53,26 @@ front-digits (d ∷ ds) (suc i) h =
     let k = tells_all_ascii_digits.parts d ds h in
     tells_all_ascii_digits.more d (take i ds) k.0 (front-digits ds i k.1)
 
--- reading one more of at most ten digits: the value so far has at most nine of them
+-- reading one more of at most twenty digits: the value so far has at most nineteen of them
 pub record Digit (ds : List ℕ) (i value : ℕ) : Type 0 where
-  pub small : value < 1000000000
+  pub small : value < 10000000000000000000
   pub low : 48 ≤ get_or ds i 0
   pub high : get_or ds i 0 ≤ 57
   pub more : digits_value 10 (take (i + 1) ds) ≡ value * 10 + (get_or ds i 0 - 48)
 
-pub one-digit : (ds : List ℕ) (i value : ℕ) → list_all is_ascii_digit ds ≡ true → length ds ≤ 10 → i < length ds → value ≡ digits_value 10 (take i ds) → Digit ds i value
+pub one-digit : (ds : List ℕ) (i value : ℕ) → list_all is_ascii_digit ds ≡ true → length ds ≤ 20 → i < length ds → value ≡ digits_value 10 (take i ds) → Digit ds i value
 one-digit ds i value h short lt v =
     let all : all_ascii_digits ds ≡ true = sym (digits-told ds) ∙ h in
     let inside : IsInRange 48 57 (get_or ds i 0) = digit-in ds i all lt in
-    let size : length (take i ds) ≤ 9 = omega (arith, length-take-le i ds (omega arith)) in
-    let low : digits_value 10 (take i ds) < 10 ^ 9 = digits_value_short (numerals_by_value _ tells_all_ascii_digits) (take i ds) 9 (front-digits ds i all) size in
+    let size : length (take i ds) ≤ 19 = omega (arith, length-take-le i ds (omega arith)) in
+    let low : digits_value 10 (take i ds) < 10 ^ 19 = digits_value_short (numerals_by_value _ tells_all_ascii_digits) (take i ds) 19 (front-digits ds i all) size in
     record {
       small = omega arith;
       low = inside.0;
       high = inside.1;
       more = digits_value_more 10 ds i lt ∙ omega (arith, digit_value_digit (get_or ds i 0) inside);
     }
+
+-- the value of at most so many digits
+pub numeral-below : (most : ℕ) (ds : List ℕ) → list_all is_ascii_digit ds ≡ true → length ds ≤ most → digits_value 10 ds < 10 ^ most
+numeral-below most ds h short = digits_value_short (numerals_by_value _ tells_all_ascii_digits) ds most (sym (digits-told ds) ∙ h) short

@@ -8,10 +8,10 @@ use Rattle.std.proofs.lemmas.List.{append-nil, drop_all, drop_more, get_or-drop,
 use Rattle.std.proofs.lemmas.Result.{OkIff-at_ok}
 use Rattle.csv.specs.Records.{field_at}
 use Rattle.csv.proofs.RecordFacts.{field-there}
-use Rattle.nr_shifttable.specs.Fields.{number_of, stripped}
-use Rattle.nr_shifttable.specs.Items.{is_header, item_of, items_from, numbers_of, with_item}
+use Rattle.nr_shifttable.specs.Fields.{short_number, stripped}
+use Rattle.nr_shifttable.specs.Items.{is_header, item_of, items_from, short_numbers, with_item}
 use Rattle.nr_shifttable.specs.Records.{Record}
-use Rattle.nr_shifttable.specs.Said.{◌>>=◌}
+use Rattle.nr_graphpick.specs.Refusal.{◌>>=◌}
 use Rattle.nr_shifttable.specs.declared.entry.Item.{Item}
 use Rattle.nr_shifttable.specs.declared.fault.TableFault.{TableFault}
 
@@ -32,7 +32,7 @@ header-none (g ∷ gs) e = cc e
 
 -- the numbers of the fields from field i on, by that of field i
 pub numbers-from : (r : Record) (i : ℕ) (f : List ℕ) → Some f ≡ field_at r i
-    → numbers_of (drop i r) ≡ option_and_then (λ n. option_map (λ ns. n ∷ ns) (numbers_of (drop (i + 1) r))) (number_of (stripped f))
+    → short_numbers (drop i r) ≡ option_and_then (λ n. option_map (λ ns. n ∷ ns) (short_numbers (drop (i + 1) r))) (short_number (stripped f))
 unfolding field_at
 numbers-from [] i f e = cc e
 numbers-from (g ∷ gs) zero f e = rw (some-same e) refl
@@ -40,14 +40,14 @@ numbers-from (g ∷ gs) (suc i) f e = let next : suc i + 1 ≡ suc (i + 1) = ome
 
 -- the numbers so far, and those of the fields left
 abbrev ReadSoFar : Record → ℕ → List ℕ → Type 0
-ReadSoFar r i ns = numbers_of r ≡ option_map (λ rest. take i ns ++ rest) (numbers_of (drop i r))
+ReadSoFar r i ns = short_numbers r ≡ option_map (λ rest. take i ns ++ rest) (short_numbers (drop i r))
 
 -- one number more is read
-pub numbers-more : (r : Record) (i n : ℕ) (f : List ℕ) (ns : List ℕ) → Some f ≡ field_at r i → Some n ≡ number_of (stripped f) → i < length ns
+pub numbers-more : (r : Record) (i n : ℕ) (f : List ℕ) (ns : List ℕ) → Some f ≡ field_at r i → Some n ≡ short_number (stripped f) → i < length ns
     → ReadSoFar r i ns → ReadSoFar r (i + 1) (set ns i n)
 numbers-more r i n f ns e m lt h =
-    h ∙ ap (option_map (λ rest. take i ns ++ rest)) (numbers-from r i f e ∙ ap (option_and_then (λ n. option_map (λ ns. n ∷ ns) (numbers_of (drop (i + 1) r)))) (sym m))
-    ∙ both (numbers_of (drop (i + 1) r))
+    h ∙ ap (option_map (λ rest. take i ns ++ rest)) (numbers-from r i f e ∙ ap (option_and_then (λ n. option_map (λ ns. n ∷ ns) (short_numbers (drop (i + 1) r)))) (sym m))
+    ∙ both (short_numbers (drop (i + 1) r))
   where
     joined : (rest : List ℕ) → take i ns ++ n ∷ rest ≡ take (i + 1) (set ns i n) ++ rest
     joined rest = sym (ap (λ l. l ++ rest) (take_more_set ns i n lt) ∙ append_assoc (take i ns) (n ∷ []) rest)
@@ -57,14 +57,14 @@ numbers-more r i n f ns e m lt h =
     both (Some rest) = ap Some (joined rest)
 
 -- a field that is no number leaves none
-pub numbers-none : (r : Record) (i : ℕ) (f : List ℕ) (ns : List ℕ) → Some f ≡ field_at r i → ◌≡◌ {A = Option ℕ} None (number_of (stripped f))
-    → ReadSoFar r i ns → ◌≡◌ {A = Option (List ℕ)} None (numbers_of r)
+pub numbers-none : (r : Record) (i : ℕ) (f : List ℕ) (ns : List ℕ) → Some f ≡ field_at r i → ◌≡◌ {A = Option ℕ} None (short_number (stripped f))
+    → ReadSoFar r i ns → ◌≡◌ {A = Option (List ℕ)} None (short_numbers r)
 numbers-none r i f ns e m h =
-    sym (h ∙ ap (option_map (λ rest. take i ns ++ rest)) (numbers-from r i f e ∙ ap (option_and_then (λ n. option_map (λ ns. n ∷ ns) (numbers_of (drop (i + 1) r)))) (sym m)))
+    sym (h ∙ ap (option_map (λ rest. take i ns ++ rest)) (numbers-from r i f e ∙ ap (option_and_then (λ n. option_map (λ ns. n ∷ ns) (short_numbers (drop (i + 1) r)))) (sym m)))
 
 -- behind the last field all are read
-pub numbers-all : (r : Record) (i : ℕ) (ns : List ℕ) → length r ≤ i → length ns ≤ i → ReadSoFar r i ns → Some ns ≡ numbers_of r
-numbers-all r i ns h k said = sym (said ∙ ap (λ l. option_map (λ rest. take i ns ++ rest) (numbers_of l)) (drop_all i r h) ∙ ap Some (append-nil (take i ns) ∙ take_all i ns k))
+pub numbers-all : (r : Record) (i : ℕ) (ns : List ℕ) → length r ≤ i → length ns ≤ i → ReadSoFar r i ns → Some ns ≡ short_numbers r
+numbers-all r i ns h k said = sym (said ∙ ap (λ l. option_map (λ rest. take i ns ++ rest) (short_numbers l)) (drop_all i r h) ∙ ap Some (append-nil (take i ns) ∙ take_all i ns k))
 
 -- no field lacks before the last
 pub no-field : (r : Record) (i : ℕ) → i < length r → ◌≡◌ {A = Option (List ℕ)} None (field_at r i) → ⊥

@@ -9,3 +9,7 @@ pub mod Parity
 pub mod RecordFacts
 pub mod Shape
 pub mod Slices
+mod Lines
+mod CoreSums
+mod Converse
+mod Written

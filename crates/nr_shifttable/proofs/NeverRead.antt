@@ -9,9 +9,9 @@ use Rattle.nr_shifttable.specs.declared.entry.Entry.{Entry}
 use Rattle.nr_shifttable.specs.declared.entry.Item.{Item}
 use Rattle.nr_shifttable.specs.declared.fault.TableFault.{TableFault}
 use Rattle.nr_shifttable.specs.declared.fault.TableFault.TheVariants as fault
-use Rattle.nr_shifttable.specs.Said.{◌>>=◌, or_fault, Gives}
+use Rattle.nr_graphpick.specs.Refusal.{◌>>=◌, or_fault, Gives}
 use Rattle.nr_shifttable.specs.Records.{Record, records_of}
-use Rattle.nr_shifttable.specs.Items.{is_header, numbers_of, item_of_numbers, has_place, item_of, with_item, items_from}
+use Rattle.nr_shifttable.specs.Items.{is_header, short_numbers, item_of_numbers, has_place, item_of, with_item, items_from}
 use Rattle.nr_shifttable.specs.Accepted.{Entries, table_of, core_ok, extension_ok, rows_present, graph_checked, accepted, table_said}
 
 -- an answer that is not the fault of a failed read
@@ -49,7 +49,7 @@ unfolding item_of
 item-of_text k earlier r =
     of-if (not (length r == 11)) _ _ (of-err _ (other_if (k == 1) fault.Fields (fault.Csv k) (λ h. cc) (λ h. cc)))
     (of-if ((k == 1) && is_header r) _ _ (of-ok None)
-    (of-bind (or_fault (fault.Number k) (numbers_of r)) _ (of-or (fault.Number k) (numbers_of r) (λ h. cc)) (λ numbers.
+    (of-bind (or_fault (fault.Number k) (short_numbers r)) _ (of-or (fault.Number k) (short_numbers r) (λ h. cc)) (λ numbers.
     of-bind (or_fault (fault.Range k) (item_of_numbers numbers)) _ (of-or (fault.Range k) (item_of_numbers numbers) (λ h. cc)) (λ found.
     of-if (has_place earlier found) _ _ (of-err (fault.Twice k) (λ h. cc)) (of-ok (Some found))))))
 
@@ -89,7 +89,7 @@ fault-not_read {X = X} e said (inr s) of h = of (s ∙ same e h)
     same : {Y : Type 0} (e : TableFault) → ◌≡◌ {A = Result X TableFault} (Err e) (Err fault.Read) → ◌≡◌ {A = Result Y TableFault} (Err e) (Err fault.Read)
     same {Y = Y} e h = let inner : e ≡ fault.Read = cc in λ i. Err (inner i)
 
-pub gives-not_read : {X Y : Type 0} (view : X → Y) (r : Result X TableFault) (said : Result Y TableFault) → Gives view r said → IsOfText said → IsErrOf r fault.Read → ⊥
+pub gives-not_read : {X Y : Type 0} (view : X → Y) (r : Result X TableFault) (said : Result Y TableFault) → Gives fault.Memory view r said → IsOfText said → IsErrOf r fault.Read → ⊥
 gives-not_read view (Ok x) said gives of h = absurd (clash x h)
   where
     clash : {X : Type 0} (x : X) → ◌≡◌ {A = Result X TableFault} (Ok x) (Err fault.Read) → ⊥
@@ -98,7 +98,7 @@ gives-not_read view (Err e) said gives of h = fault-not_read e said gives of h
 
 -- a text over the limit is said to be too long
 pub too_long-said : {X : Type 0} (o : Option (List ℕ)) (view : X → Entries) → IfSome o (λ all. 4194304 < length all)
-    → IfSome o (λ text. ◌≡◌ {A = Result X TableFault} (Err fault.TooLong) (Err fault.Read) ⊎ Gives view (Err fault.TooLong) (table_said text))
+    → IfSome o (λ text. ◌≡◌ {A = Result X TableFault} (Err fault.TooLong) (Err fault.Read) ⊎ Gives fault.Memory view (Err fault.TooLong) (table_said text))
 unfolding table_said
 too_long-said None view long = tt
 too_long-said (Some text) view long = inr (inr (rw (lt-ltb 4194304 (length text) long) refl))

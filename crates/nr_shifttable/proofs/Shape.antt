@@ -12,7 +12,7 @@ use Rattle.nr_graphpick.specs.Graph.{rows_of, info_cols_of}
 use Rattle.nr_shifttable.specs.declared.entry.Entry.{Entry}
 use Rattle.nr_shifttable.specs.declared.fault.TableFault.{TableFault}
 use Rattle.nr_shifttable.specs.declared.fault.TableFault.TheVariants.{Core, Extension, MissingRow, Empty}
-use Rattle.nr_shifttable.specs.Said.{◌>>=◌}
+use Rattle.nr_graphpick.specs.Refusal.{◌>>=◌}
 use Rattle.nr_shifttable.specs.Accepted.{Entries, place, row_of, tail, zero_at, lone_zero, zero_pair, two_agree, each_below, three_agree, rows_agree, first_column_ok, diagonals_ok, core_ok, lacks_row, own_column_ok, extension_ok, is_present, rows_present, graph_checked, accepted, IsAccepted, Ascending}
 use Rattle.nr_shifttable.specs.Tails.{value_in, tail_of, HasMiddle, HasShape, AcceptedHasShape}
 use Rattle.nr_shifttable.proofs.Order.{ascending-all}
@@ -27,7 +27,7 @@ zero_value [] set h = refl
 zero_value (v ∷ vs) zero h = eqb-true v 0 (and_parts (v == 0) (list_all (λ v. v == 0) vs) h).0
 zero_value (v ∷ vs) (suc set) h = zero_value vs set (and_parts (v == 0) (list_all (λ v. v == 0) vs) h).1
 
-abbrev cell : ℕ → Entry → ℕ × ℕ
+abbrev pub cell : ℕ → Entry → ℕ × ℕ
 cell set e = (e.col, value_in set e)
 
 zero_cell : (set col : ℕ) (e : Entry) → zero_at col e ≡ true → cell set e ≡ (col, 0)
@@ -135,14 +135,14 @@ find_passes p (x ∷ xs) e h = first (p x) refl h (find_passes p xs e)
     first false t h more = more h
 
 -- what a row has from column n on, where an entry stands at column n, and where none does
-tail-some : (es : List Entry) (set n i : ℕ) (e : Entry) → Ascending 0 es → find (λ x. x.col == n) (row_of es i) ≡ Some e → tail_of es set n i ≡ (n, value_in set e) ∷ tail_of es set (n + 1) i
+pub tail-some : (es : List Entry) (set n i : ℕ) (e : Entry) → Ascending 0 es → find (λ x. x.col == n) (row_of es i) ≡ Some e → tail_of es set n i ≡ (n, value_in set e) ∷ tail_of es set (n + 1) i
 tail-some es set n i e up found =
     let here = eqb-true e.col n (find_passes (λ x. x.col == n) (row_of es i) e found) in
     ap (map (cell set)) (row-splits n (row_of es i) (row-rising 0 es i up))
     ∙ ap (λ o. map (cell set) (option_to_list o ++ tail es i (n + 1))) found
     ∙ ap (λ j. (j, value_in set e) ∷ tail_of es set (n + 1) i) here
 
-tail-none : (es : List Entry) (set n i : ℕ) → Ascending 0 es → find (λ x. x.col == n) (row_of es i) ≡ None → tail_of es set n i ≡ tail_of es set (n + 1) i
+pub tail-none : (es : List Entry) (set n i : ℕ) → Ascending 0 es → find (λ x. x.col == n) (row_of es i) ≡ None → tail_of es set n i ≡ tail_of es set (n + 1) i
 tail-none es set n i up found =
     ap (map (cell set)) (row-splits n (row_of es i) (row-rising 0 es i up)) ∙ ap (λ o. map (cell set) (option_to_list o ++ tail es i (n + 1))) found
 
@@ -156,7 +156,7 @@ record FirstColumn (row0 row1 row2 row3 : Option Entry) : Type 0 where
   row3_is : row3 ≡ Some last
   agree : three_agree first.values middle.values last.values ≡ true
 
-abbrev values_of : Option Entry → Option (List ℕ)
+abbrev pub values_of : Option Entry → Option (List ℕ)
 values_of o = option_map (λ e. e.values) o
 
 first_column : (a b c d : Option Entry) → rows_agree (values_of a) (values_of b) (values_of c) (values_of d) ≡ true → FirstColumn a b c d
@@ -182,11 +182,11 @@ two_agree-cases a b c h = ⊎_elim
     (λ e. inr (inr (eqb-true a c e)))
     (or_cases ((a == b) || (b == c)) (a == c) h)
 
-record Diagonals (es : List Entry) (set n : ℕ) : Type 0 where
-  row0 : tail_of es set (n + 1) 0 ≡ (n + 1, 0) ∷ []
-  row1 : tail_of es set (n + 1) 1 ≡ (n + 1, 0) ∷ (n + 2, 0) ∷ []
-  row2 : tail_of es set (n + 1) 2 ≡ (n + 2, 0) ∷ (n + 3, 0) ∷ []
-  row3 : tail_of es set (n + 1) 3 ≡ (n + 3, 0) ∷ []
+pub record Diagonals (es : List Entry) (set n : ℕ) : Type 0 where
+  pub row0 : tail_of es set (n + 1) 0 ≡ (n + 1, 0) ∷ []
+  pub row1 : tail_of es set (n + 1) 1 ≡ (n + 1, 0) ∷ (n + 2, 0) ∷ []
+  pub row2 : tail_of es set (n + 1) 2 ≡ (n + 2, 0) ∷ (n + 3, 0) ∷ []
+  pub row3 : tail_of es set (n + 1) 3 ≡ (n + 3, 0) ∷ []
 
 diagonals : (es : List Entry) (set n : ℕ) → diagonals_ok n es ≡ true → Diagonals es set n
 unfolding diagonals_ok
@@ -203,7 +203,7 @@ diagonals es set n h =
       row3 = lone_zero-is set (n + 3) (tail es 3 (n + 1)) a.1;
     }
 
-abbrev at_column : List Entry → ℕ → ℕ → Option Entry
+abbrev pub at_column : List Entry → ℕ → ℕ → Option Entry
 at_column es n i = find (λ x. x.col == n) (row_of es i)
 
 middle_rows : (es : List Entry) (set n : ℕ) (e : Entry) → Ascending 0 es → Diagonals es set n

@@ -1,6 +1,6 @@
 -- The table of shift values of the two LDPC base graphs, and the shape that an accepted one has
 -- (TS 38.212, 5.3.2: the parity columns of Tables 5.3.2-2 and 5.3.2-3).
-use Rattle.std.specs.Prelude.{◌≡◌, ℕ, zero, suc, ◌+◌, ◌*◌, ◌<◌, ◌≤◌, ◌==◌, nat_lt, nat_le, Bool, true, false, not, ◌&&◌, ◌||◌, if◌then◌else◌, ⊤, List, [], ◌∷◌, length, map, filter, fold, find, All, slice_index, Option, Some, None, option_map, Result, Ok, Err}
+use Rattle.std.specs.Prelude.{◌≡◌, ◌⊎◌, IfSome, IsErrOf, ℕ, zero, suc, ◌+◌, ◌*◌, ◌<◌, ◌≤◌, ◌==◌, nat_lt, nat_le, Bool, true, false, not, ◌&&◌, ◌||◌, if◌then◌else◌, ⊤, List, [], ◌∷◌, length, map, filter, fold, find, All, AllPairs, slice_index, Option, Some, None, option_map, Result, Ok, Err}
 use Rattle.std.specs.List.{list_all}
 use Rattle.std.specs.List.Sorted.{IsPermutation}
 use Rattle.nr_graphpick.specs.declared.Graph.{Graph}
@@ -9,10 +9,10 @@ use Rattle.nr_graphpick.specs.Graph.{rows_of, info_cols_of}
 use Rattle.nr_shifttable.specs.declared.entry.Entry.{Entry}
 use Rattle.nr_shifttable.specs.declared.entry.Item.{Item}
 use Rattle.nr_shifttable.specs.declared.fault.TableFault.{TableFault}
-use Rattle.nr_shifttable.specs.declared.fault.TableFault.TheVariants.{Core, Extension, MissingRow, Empty, TooLong}
-use Rattle.nr_shifttable.specs.Items.{graph_eq, IsInside, items_from}
-use Rattle.nr_shifttable.specs.Records.{Record, records_of}
-use Rattle.nr_shifttable.specs.Said.{◌>>=◌}
+use Rattle.nr_shifttable.specs.declared.fault.TableFault.TheVariants.{Read, Core, Extension, MissingRow, Empty, TooLong, Memory}
+use Rattle.nr_shifttable.specs.Items.{graph_eq, IsInside, items_from, items_said}
+use Rattle.nr_shifttable.specs.Records.{Record}
+use Rattle.nr_graphpick.specs.Refusal.{◌>>=◌, Gives}
 
 -- the entries of each base graph, in ascending order of their places
 pub record Entries : Type 0 where
@@ -57,6 +57,10 @@ tail es i from = filter (λ e. nat_le from e.col) (row_of es i)
 -- the shift values at a row and a column, one for each lifting-size set
 abbrev pub values_at : List Entry → ℕ → ℕ → Option (List ℕ)
 values_at es i j = option_map (λ e. e.values) (find (λ e. e.col == j) (row_of es i))
+
+-- the shift value at a row and a column of a base graph, for a lifting-size set
+abbrev pub value_at : Graph → ℕ → ℕ → ℕ → Entries → Option ℕ
+value_at g i j set t = option_map (λ values. slice_index values set) (values_at (entries_in g t) i j)
 
 -- shift values that are 0 in all sets
 abbrev pub is_zero : List ℕ → Bool
@@ -149,16 +153,28 @@ IsAccepted t = accepted t ≡ Ok t
 unfoldable pub table_said : List ℕ → Result Entries TableFault
 table_said text =
     if nat_lt 4194304 (length text) then Err TooLong
-    else items_from 1 [] (records_of text) >>= λ items. accepted (table_of items)
+    else items_said text >>= λ items. accepted (table_of items)
+
+-- What reading a table answers, where the octets are known: that the source failed, or what is said of them,
+-- unless memory ran out.
+abbrev pub TellsTable : Option (List ℕ) → Result Entries TableFault → Type 0
+TellsTable known r = IfSome known (λ text. IsErrOf r Read ⊎ Gives Memory (λ t. t) r (table_said text))
 
 -- the places ascend, and none is below `low`; so no two entries stand at one place
 abbrev pub Ascending : ℕ → List Entry → Type 0
 Ascending low [] = ⊤
 Ascending low (e ∷ es) = (low ≤ place e) × (e.col < 68) × Ascending (place e + 1) es
 
--- an entry's row and column are those of a base graph, and its values fit 16 bits
+-- an entry's row and column are those of a base graph, and its values are eight that fit 16 bits each
 abbrev pub IsInRange : Graph → Entry → Type 0
 IsInRange g e = IsInside (record { graph = g; entry = e })
+
+-- each entry stands in a column past those of the entries before it; in a row past theirs
+abbrev pub ColumnsAscend : List Entry → Type 0
+ColumnsAscend es = AllPairs (λ x y. x.col < y.col) es
+
+abbrev pub RowsAscend : List Entry → Type 0
+RowsAscend es = AllPairs (λ x y. x.row < y.row) es
 
 -- what is true of every table that was read
 pub record IsTable (t : Entries) : Type 0 where

@@ -22,6 +22,12 @@ to_last_mark (b ∷ bs) = if list_all is_blank (b ∷ bs) then [] else b ∷ to_
 abbrev pub stripped : List ℕ → List ℕ
 stripped field = to_last_mark (from_first_mark field)
 
--- the number that 1 to 10 decimal digits write
-unfoldable pub number_of : List ℕ → Option ℕ
-number_of text = if nat_le 1 (length text) && nat_le (length text) 10 && list_all is_ascii_digit text then Some (digits_value 10 text) else None
+-- the number that 1 to `most` decimal digits write
+unfoldable pub numeral : ℕ → List ℕ → Option ℕ
+numeral most text =
+    if nat_le 1 (length text) && nat_le (length text) most && list_all is_ascii_digit text then Some (digits_value 10 text)
+    else None
+
+-- the number that a field of a table file writes, of at most ten digits
+abbrev pub short_number : List ℕ → Option ℕ
+short_number text = numeral 10 text

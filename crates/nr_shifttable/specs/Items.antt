@@ -4,9 +4,9 @@ use Rattle.std.specs.List.{list_all, list_any}
 use Rattle.nr_graphpick.specs.Graph.{cols_of, rows_of}
 use Rattle.nr_graphpick.specs.declared.Graph.{Graph}
 use Rattle.nr_graphpick.specs.declared.Graph.TheVariants.{One, Two}
-use Rattle.nr_shifttable.specs.Fields.{number_of, stripped}
-use Rattle.nr_shifttable.specs.Records.{Record}
-use Rattle.nr_shifttable.specs.Said.{◌>>=◌, or_fault}
+use Rattle.nr_shifttable.specs.Fields.{short_number, stripped}
+use Rattle.nr_shifttable.specs.Records.{Record, records_of}
+use Rattle.nr_graphpick.specs.Refusal.{◌>>=◌, or_fault}
 use Rattle.nr_shifttable.specs.declared.entry.Item.{Item}
 use Rattle.nr_shifttable.specs.declared.fault.TableFault.{TableFault}
 use Rattle.nr_shifttable.specs.declared.fault.TableFault.TheVariants as fault
@@ -17,9 +17,13 @@ is_header [] = false
 is_header (f ∷ fs) = bytes_eq (stripped f) (codes "graph")
 
 -- the numbers of a record's fields, where each field is one
-abbrev pub numbers_of : Record → Option (List ℕ)
-numbers_of [] = Some []
-numbers_of (f ∷ fs) = option_and_then (λ n. option_map (λ ns. n ∷ ns) (numbers_of fs)) (number_of (stripped f))
+abbrev pub short_numbers : Record → Option (List ℕ)
+short_numbers [] = Some []
+short_numbers (f ∷ fs) = option_and_then (λ n. option_map (λ ns. n ∷ ns) (short_numbers fs)) (short_number (stripped f))
+
+-- values that fit 16 bits each, or none
+abbrev pub short_values : List ℕ → Option (List ℕ)
+short_values values = if list_all (λ v. nat_lt v 65536) values then Some values else None
 
 -- the base graph of a number
 abbrev pub graph_of : ℕ → Option Graph
@@ -59,7 +63,7 @@ item_of k earlier r =
     if not (length r == 11) then Err (if k == 1 then fault.Fields else fault.Csv k)
     else if (k == 1) && is_header r then Ok None
     else do
-      numbers ← or_fault (fault.Number k) (numbers_of r)
+      numbers ← or_fault (fault.Number k) (short_numbers r)
       found ← or_fault (fault.Range k) (item_of_numbers numbers)
       if has_place earlier found then Err (fault.Twice k) else Ok (Some found)
 
@@ -73,12 +77,17 @@ unfoldable pub items_from : ℕ → List Item → List Record → Result (List I
 items_from k items [] = Ok items
 items_from k items (r ∷ rs) = item_of k items r >>= λ found. items_from (k + 1) (with_item items found) rs
 
+-- the items of a table file's text, or the first fault
+abbrev pub items_said : List ℕ → Result (List Item) TableFault
+items_said text = items_from 1 [] (records_of text)
+
 -- No two items stand at one place.
 abbrev pub Apart : List Item → Type 0
 Apart items = AllPairs (λ x y. same_place x y ≡ false) items
 
--- an item's row and column are those of its base graph, and its values fit 16 bits
+-- an item's row and column are those of its base graph, and its values are eight that fit 16 bits each
 pub record IsInside (item : Item) : Type 0 where
   pub row : item.entry.row < rows_of item.graph
   pub col : item.entry.col < cols_of item.graph
+  pub eight : length item.entry.values ≡ 8
   pub values : All (λ v. v < 65536) item.entry.values

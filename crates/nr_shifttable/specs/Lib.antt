@@ -1,5 +1,4 @@
 pub mod Source
-pub mod Said
 pub mod Records
 pub mod Fields
 pub mod Items
@@ -7,3 +6,6 @@ pub mod Accepted
 pub mod Orders
 pub mod Tails
 pub use Rattle.nr_graphpick.specs.Graph
+pub use Rattle.nr_graphpick.specs.Refusal
+pub mod CoreRows
+pub mod Written

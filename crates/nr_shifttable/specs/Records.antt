@@ -1,6 +1,6 @@
 -- The records of a text, as the crate `csv` reads it: fields between commas, a field perhaps in double quotes,
 -- each record on a line; a blank line is no record, and no record is a header.
-use Rattle.std.specs.Prelude.{◌≡◌, ◌+◌, ℕ, Bool, true, false, if◌then◌else◌, List, [], length, Option, Some, None}
+use Rattle.std.specs.Prelude.{◌≡◌, ◌+◌, ℕ, Bool, true, false, if◌then◌else◌, List, [], ◌∷◌, length, MatchBool, Option, Some, None}
 use Rattle.std.specs.Borrow.{Bor}
 use Rattle.csv.specs.Machine.{ends_at_end}
 use Rattle.csv.specs.Reading.{Ready, default_config, has_failed, is_flexible, reader_config, reader_state, reader_trim, records, records_from, source_of, strip_bom}
@@ -32,6 +32,10 @@ records_known s (Some text) = records_left s text
 -- the records that a reader has left; none once it has come to the end
 abbrev pub rows_before_end : Bool → Reader (Bor (List ℕ)) → List Record
 rows_before_end ended r = if ended then [] else records_known (reader_state r) (text_left r)
+
+-- The next record is taken off those left, or there is none.
+abbrev pub TakesRow : List Record → List Record → Bool → Record → Type 0
+TakesRow old new found row = MatchBool found (old ≡ row ∷ new) ((old ≡ []) × (new ≡ []))
 
 -- a reader that goes on, with no header, no trimming and records of any length, and stands between two records
 pub record IsPlain (r : Reader (Bor (List ℕ))) : Type 0 where

@@ -1,11 +1,25 @@
 -- What a pull of a source gives, and what a feed is.
-use Rattle.std.specs.Prelude.{◌≡◌, ℕ, ◌<◌, List, length, take, min, Bool, false, ◌==◌, Option, Some, None, Result, Ok, Err, MatchResult}
+use Rattle.std.specs.Prelude.{◌≡◌, ◌↔◌, ◌⊎◌, ℕ, ◌+◌, ◌<◌, IfSome, IsErrOf, List, length, take, min, Bool, false, ◌==◌, Option, Some, None, Result, Ok, Err, MatchResult}
 use Rattle.std.specs.Io.KnownBytes.{Consumes, Keeps, IsAtEnd}
 
 -- A pull into buf takes its octets off the front of those to come, where they are known. None come only at
 -- the end or into an empty buffer. A failure takes none.
 abbrev pub Pulls : {E : Type 0} → Option (List ℕ) → Option (List ℕ) → Result ℕ E → List ℕ → Type 0
 Pulls old new r buf = MatchResult r (λ n. Consumes old new (take n buf) × (n ≡ 0 → 0 < length buf → IsAtEnd new)) (λ _. Keeps old new)
+
+-- octets are all that were still to come, where that is known; more than `limit` were still to come
+abbrev pub IsWhole : Option (List ℕ) → List ℕ → Type 0
+IsWhole known octets = IfSome known (λ all. octets ≡ all)
+
+abbrev pub HasMore : Option (List ℕ) → ℕ → Type 0
+HasMore known limit = IfSome known (λ all. limit < length all)
+
+-- This fault is answered exactly where one pull failed; and else none failed.
+abbrev pub TellsFailure : {T E : Type 0} → E → ℕ → ℕ → Result T E → Type 0
+TellsFailure fault old new r = IsErrOf r fault ↔ (new ≡ old + 1)
+
+abbrev pub KeepsCount : {T E : Type 0} → E → ℕ → ℕ → Result T E → Type 0
+KeepsCount fault old new r = (new ≡ old) ⊎ IsErrOf r fault
 
 -- how many failures a call has met: one where it answers an error
 abbrev pub failed_count : {T E : Type 0} → Result T E → ℕ

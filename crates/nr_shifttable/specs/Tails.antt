@@ -1,10 +1,11 @@
 -- The parity part of an accepted table's rows, as lists of columns and values in one lifting-size set
 -- (TS 38.212, 5.3.2).
-use Rattle.std.specs.Prelude.{◌≡◌, ℕ, ◌+◌, ◌<◌, ◌≤◌, ◌⊎◌, List, [], ◌∷◌, length, map, slice_index}
+use Rattle.std.specs.Prelude.{◌≡◌, ℕ, ◌+◌, ◌<◌, ◌≤◌, ◌⊎◌, List, [], ◌∷◌, length, map, All, slice_index}
 use Rattle.nr_graphpick.specs.declared.Graph.{Graph}
+use Rattle.nr_graphpick.specs.declared.Graph.TheVariants.{One, Two}
 use Rattle.nr_graphpick.specs.Graph.{rows_of, info_cols_of}
 use Rattle.nr_shifttable.specs.declared.entry.Entry.{Entry}
-use Rattle.nr_shifttable.specs.Accepted.{Entries, entries_in, tail, IsTable}
+use Rattle.nr_shifttable.specs.Accepted.{Entries, entries_in, tail, Ascending, IsInRange, IsTable}
 
 -- an entry's shift value in a set
 abbrev pub value_in : ℕ → Entry → ℕ
@@ -45,3 +46,12 @@ abbrev pub AcceptedHasShape : Type 0
 AcceptedHasShape =
     (t : Entries) (graph : Graph) (set : ℕ) → IsTable t → 0 < length (entries_in graph t) → set < 8
     → HasShape (entries_in graph t) set (info_cols_of graph) (rows_of graph)
+
+-- And nothing else is asked: entries in ascending order and within their base graphs, at least one, are a table that is
+-- accepted, where each base graph that has an entry has this shape in each of the eight sets.
+abbrev pub ShapeIsAccepted : Type 0
+ShapeIsAccepted =
+    (t : Entries) → Ascending 0 t.one → Ascending 0 t.two → All (IsInRange One) t.one → All (IsInRange Two) t.two
+    → 0 < length t.one + length t.two
+    → ((graph : Graph) (set : ℕ) → 0 < length (entries_in graph t) → set < 8 → HasShape (entries_in graph t) set (info_cols_of graph) (rows_of graph))
+    → IsTable t

@@ -8,21 +8,21 @@ use crate::fault::TableFault;
 use crate::sorted::{row_of, tail, values_at};
 use nr_graphpick::Graph;
 
-/// Are the values 0 in all sets?
+// Whether the values are 0 in all sets.
 fn is_zero(values: &[u16]) -> bool
     ensures { result ≡ is_zero values.now }
 {
     values.iter().all(|value| *value == 0)
 }
 
-/// Does the entry stand at this column, with value 0 in all sets?
+// Whether the entry stands at this column, with value 0 in all sets.
 fn zero_at(col: u32, entry: &Entry) -> bool
     ensures { result ≡ zero_at col entry.now }
 {
     u32::from(entry.col) == col && is_zero(&entry.values)
 }
 
-/// Is there one such entry, and no other?
+// Whether there is one such entry, and no other.
 fn lone_zero(col: u32, entries: &[Entry]) -> bool
     ensures { result ≡ lone_zero col entries.now }
 {
@@ -32,7 +32,7 @@ fn lone_zero(col: u32, entries: &[Entry]) -> bool
     }
 }
 
-/// Are there two such entries, at this column and the next, and no other?
+// Whether there are two such entries, at this column and the next, and no other.
 fn zero_pair(col: u32, entries: &[Entry]) -> bool
     requires { col ≤ 24 }
     ensures { result ≡ zero_pair col entries.now }
@@ -43,14 +43,14 @@ fn zero_pair(col: u32, entries: &[Entry]) -> bool
     }
 }
 
-/// Are at least two of three values equal?
+// Whether at least two of three values are equal.
 fn two_agree(a: u16, b: u16, c: u16) -> bool
     ensures { result ≡ two_agree a b c }
 {
     a == b || b == c || a == c
 }
 
-/// Are at least two of the three values equal in each lifting-size set?
+// Whether at least two of the three values are equal in each lifting-size set.
 fn three_agree(a: &[u16; 8], b: &[u16; 8], c: &[u16; 8]) -> bool
     ensures { result ≡ three_agree a.now b.now c.now }
 {
@@ -62,7 +62,7 @@ fn three_agree(a: &[u16; 8], b: &[u16; 8], c: &[u16; 8]) -> bool
     true
 }
 
-/// Do values that agree stand in rows 0 and 3 and in one of rows 1 and 2?
+// Whether values that agree stand in rows 0 and 3 and in one of rows 1 and 2.
 #[tactic(auto, unfolding(crate::specs::Accepted::rows_agree))]
 fn rows_agree(
     row0: Option<[u16; 8]>,
@@ -79,7 +79,7 @@ fn rows_agree(
     }
 }
 
-/// Does the first parity column, `n`, stand in rows 0 and 3 and in one of rows 1 and 2, with values that agree?
+// Whether the first parity column, `n`, stands in rows 0 and 3 and in one of rows 1 and 2, with values that agree.
 #[tactic(auto, unfolding(crate::specs::Accepted::first_column_ok))]
 fn first_column_ok(n: u32, entries: &[Entry]) -> bool
     requires { Ascending 0 entries.now }
@@ -93,8 +93,8 @@ fn first_column_ok(n: u32, entries: &[Entry]) -> bool
     )
 }
 
-/// Do rows 0 to 3 have the double diagonal of zeros in columns `n + 1` to `n + 3`, and nothing else there and
-/// above?
+// Whether rows 0 to 3 have the double diagonal of zeros in columns `n + 1` to `n + 3`, and nothing else there
+// and above.
 #[tactic(auto, unfolding(crate::specs::Accepted::diagonals_ok))]
 fn diagonals_ok(n: u32, entries: &[Entry]) -> bool
     requires order { Ascending 0 entries.now }
@@ -107,7 +107,7 @@ fn diagonals_ok(n: u32, entries: &[Entry]) -> bool
         && lone_zero(n + 3, tail(entries, 3, n + 1))
 }
 
-/// Does each row from 4 on that has an entry have, from column `n + 4` on, zeros at its own column alone?
+// Whether each row from 4 on that has an entry has, from column `n + 4` on, zeros at its own column alone.
 #[tactic(auto, unfolding(crate::specs::Accepted::extension_ok))]
 fn extension_ok(n: u32, rows: u32, entries: &[Entry]) -> bool
     requires order { Ascending 0 entries.now }
@@ -123,7 +123,7 @@ fn extension_ok(n: u32, rows: u32, entries: &[Entry]) -> bool
     true
 }
 
-/// Does each row from 4 on have an entry?
+// Whether each row from 4 on has an entry.
 #[tactic(auto, unfolding(crate::specs::Accepted::rows_present))]
 fn rows_present(rows: u32, entries: &[Entry]) -> bool
     requires { Ascending 0 entries.now }
@@ -140,7 +140,9 @@ fn rows_present(rows: u32, entries: &[Entry]) -> bool
 /// Judges the entries of one base graph, in ascending order. A table need not have the graph, so no entry at
 /// all is well.
 ///
-/// Errors, in this order: `Core`, `Extension`, `MissingRow`.
+/// # Errors
+///
+/// In this order: `Core`, `Extension`, `MissingRow`.
 #[tactic(auto, unfolding(crate::specs::Accepted::graph_checked))]
 pub(crate) fn check(graph: Graph, entries: &[Entry]) -> Result<(), TableFault>
     requires { Ascending 0 entries.now }

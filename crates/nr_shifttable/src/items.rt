@@ -3,9 +3,9 @@
 ghost use Rattle.std.specs.Prelude.{◌≡◌, ◌^◌, ◌<◌, [], length, drop, nat_lt, if◌then◌else◌, Some, None, All, IfOk, OnErr, OnOk};
 ghost use Rattle.std.specs.List.{list_all};
 ghost use Rattle.csv.specs.Records.{fields_of};
-ghost use Rattle.nr_shifttable.specs.Items.{Apart, IsInside, has_place, is_header, item_of, item_of_numbers, items_from, numbers_of, same_place, with_item};
+ghost use Rattle.nr_shifttable.specs.Items.{Apart, IsInside, has_place, is_header, item_of, item_of_numbers, items_said, short_numbers, short_values, same_place, with_item};
 ghost use Rattle.nr_shifttable.specs.Records.{records_of};
-ghost use Rattle.nr_shifttable.specs.Said.{Gives};
+ghost use Rattle.nr_graphpick.specs.Refusal.{Gives};
 
 use crate::entry::{Entry, Item};
 use crate::fault::TableFault;
@@ -15,27 +15,29 @@ use csv::ByteRecord;
 use nr_graphpick::Graph;
 use std::alloc::{AllocError, Global};
 
-/// How many fields a record has: base graph, row, column, and a value for each lifting-size set.
+// How many fields a record has: base graph, row, column, and a value for each lifting-size set.
 const FIELDS: usize = 11;
 
 /// The items of a table file's text, in the order of its records. Each has a row and a column of its base
 /// graph, and no two stand at one place.
 ///
-/// Errors: for the first record that has one, `Fields` or `Csv`, `Number`, `Range`, `Twice`, in this order;
+/// # Errors
+///
+/// For the first record that has one, `Fields` or `Csv`, `Number`, `Range`, `Twice`, in this order;
 /// `Memory` where a growth is refused.
 pub fn read_items(alloc: Global, text: &[u8]) -> Result<Vec<Item>, TableFault>
     requires { length text.now < 2 ^ 32 }
-    ensures said { Gives (λ v. v.items) result (items_from 1 [] (records_of text.now)) }
+    ensures said { Gives TableFault.Memory (λ v. v.items) result (items_said text.now) }
     ensures apart { IfOk result (λ v. Apart v.items) }
     ensures inside { IfOk result (λ v. All IsInside v.items) }
 {
     read_records(alloc, text)
 }
 
-/// The items, record by record.
+// The items, record by record.
 fn read_records(alloc: Global, text: &[u8]) -> Result<Vec<Item>, TableFault>
     requires { length text.now < 2 ^ 32 }
-    ensures { Gives (λ v. v.items) result (items_from 1 [] (records_of text.now)) }
+    ensures { Gives TableFault.Memory (λ v. v.items) result (items_said text.now) }
 {
     let mut records = Records::new(alloc, text);
     let mut row = ByteRecord::new(alloc);
@@ -49,7 +51,7 @@ fn read_records(alloc: Global, text: &[u8]) -> Result<Vec<Item>, TableFault>
     Ok(items)
 }
 
-/// Adds an item to the others, if there is one.
+// Adds an item to the others, if there is one.
 fn add(items: &mut Vec<Item>, found: Option<Item>) -> Result<(), AllocError>
     ensures ok { OnOk result (items.new.items ≡ with_item items.old.items found) }
     ensures err { OnErr result (items.new.items ≡ items.old.items) }
@@ -60,7 +62,7 @@ fn add(items: &mut Vec<Item>, found: Option<Item>) -> Result<(), AllocError>
     Ok(())
 }
 
-/// What a record says, given its number from 1 and the items of the records before it. A header gives none.
+// What a record says, given its number from 1 and the items of the records before it. A header gives none.
 #[tactic(auto, unfolding(crate::specs::Items::item_of))]
 fn item_of(number: u32, earlier: &[Item], row: &ByteRecord) -> Result<Option<Item>, TableFault>
     ensures { result ≡ item_of number earlier.now (fields_of row.now) }
@@ -75,7 +77,7 @@ fn item_of(number: u32, earlier: &[Item], row: &ByteRecord) -> Result<Option<Ite
     if number == 1 && is_header(row) {
         return Ok(None);
     }
-    let Some(numbers) = numbers_of(row) else {
+    let Some(numbers) = short_numbers(row) else {
         return Err(TableFault::Number(number));
     };
     let Some(item) = item_of_numbers(&numbers) else {
@@ -87,7 +89,7 @@ fn item_of(number: u32, earlier: &[Item], row: &ByteRecord) -> Result<Option<Ite
     Ok(Some(item))
 }
 
-/// Is the first field the word `graph`?
+// Whether the first field is the word `graph`.
 fn is_header(row: &ByteRecord) -> bool
     ensures { result ≡ is_header (fields_of row.now) }
 {
@@ -97,19 +99,19 @@ fn is_header(row: &ByteRecord) -> bool
     }
 }
 
-/// The numbers of a record's eleven fields, if each field is one.
-fn numbers_of(row: &ByteRecord) -> Option<[u64; FIELDS]>
+// The numbers of a record's eleven fields, if each field is one.
+fn short_numbers(row: &ByteRecord) -> Option<[u64; FIELDS]>
     requires { length (fields_of row.now) ≡ 11 }
-    ensures { result ≡ numbers_of (fields_of row.now) }
+    ensures { result ≡ short_numbers (fields_of row.now) }
 {
     let mut numbers = [0; FIELDS];
     for i in 0..FIELDS {
-        numbers[i] = fields::number_of(fields::stripped(row.get(i)?))?;
+        numbers[i] = fields::short_number(fields::stripped(row.get(i)?))?;
     }
     Some(numbers)
 }
 
-/// The item that a record's numbers say, if they are in range.
+// The item that a record's numbers say, if they are in range.
 fn item_of_numbers(numbers: &[u64; FIELDS]) -> Option<Item>
     ensures { result ≡ item_of_numbers numbers.now }
 {
@@ -131,9 +133,9 @@ fn item_of_numbers(numbers: &[u64; FIELDS]) -> Option<Item>
     Some(Item { graph, entry })
 }
 
-/// The values of the lifting-size sets, if each fits 16 bits.
+// The values of the lifting-size sets, if each fits 16 bits.
 fn values_of(numbers: &[u64; FIELDS]) -> Option<[u16; 8]>
-    ensures { result ≡ (if list_all (λ v. nat_lt v 65536) (drop 3 numbers.now) then Some (drop 3 numbers.now) else None) }
+    ensures { result ≡ short_values (drop 3 numbers.now) }
 {
     let mut values = [0; 8];
     for set in 0..8 {
@@ -142,17 +144,17 @@ fn values_of(numbers: &[u64; FIELDS]) -> Option<[u16; 8]>
     Some(values)
 }
 
-/// Does one of the items stand at the place of this one?
-///
-/// This goes over all of them for each record, which stays small: a base graph has at most 46 rows and 68
-/// columns, so that no more than 5,312 records pass before one is out of range or at the place of another.
+// Whether one of the items stands at the place of this one.
+//
+// This goes over all of them for each record, which stays small: a base graph has at most 46 rows and 68
+// columns, so that no more than 5,312 records pass before one is out of range or at the place of another.
 fn has_place(items: &[Item], item: &Item) -> bool
     ensures { result ≡ has_place items.now item.now }
 {
     items.iter().any(|other| same_place(other, item))
 }
 
-/// Do two items stand at one place: in the same base graph, row and column?
+// Whether two items stand at one place: in the same base graph, row and column.
 fn same_place(one: &Item, other: &Item) -> bool
     ensures { result ≡ same_place one.now other.now }
 {

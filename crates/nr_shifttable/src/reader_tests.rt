@@ -4,8 +4,11 @@ ghost use Rattle.std.specs.Prelude.{◌≡◌, None};
 
 use crate::entry::{Entry, Item};
 use crate::fault::TableFault;
+use crate::fields::{numeral, short_number, stripped};
 use crate::items::read_items;
+use crate::records::Records;
 use crate::source::{Broken, Feed, ReadFault, Source, read_to_end};
+use csv::ByteRecord;
 use nr_graphpick::Graph;
 use std::alloc::Global;
 use std::test::Fail;
@@ -72,6 +75,41 @@ fn failing_sources(rt: HostRuntime) {
 }
 
 #[test]
+fn numerals(rt: HostRuntime) {
+    for (most, text, want) in [
+        (10, "0", Some(0)),
+        (10, "9999999999", Some(9_999_999_999)),
+        (10, "0000000007", Some(7)),
+        (10, "12345678901", None),
+        (10, "", None),
+        (10, "-1", None),
+        (3, "255", Some(255)),
+        (2, "255", None),
+        (20, "18446744073709551615", Some(18_446_744_073_709_551_615)),
+        (20, "99999999999999999999", Some(99_999_999_999_999_999_999)),
+    ] {
+        assert_eq!(rt; numeral(most, text.as_bytes()), want, "{text}");
+    }
+    assert_eq!(rt; short_number(b"0065535"), Some(65535));
+    assert_eq!(rt; short_number(b"00000065535"), None);
+    assert_eq!(rt; stripped(b" \t1 2 "), b"1 2".as_slice());
+}
+
+// Records of any length, a blank line between two of them, and a quoted comma.
+#[test]
+fn records(rt: HostRuntime) -> Result<(), Fail> {
+    let mut records = Records::new(rt.alloc(), b"a,b\n\r\n\"c,d\"\n");
+    let mut row = ByteRecord::new(rt.alloc());
+    assert!(rt; records.next(&mut row)?);
+    assert_eq!(rt; (row.len(), row.get(1)), (2, Some(b"b".as_slice())));
+    assert!(rt; records.next(&mut row)?);
+    assert_eq!(rt; (row.len(), row.get(0)), (1, Some(b"c,d".as_slice())));
+    assert!(rt; !records.next(&mut row)?);
+    assert!(rt; !records.next(&mut row)?);
+    Ok(())
+}
+
+#[test]
 fn feeds(rt: HostRuntime) -> Result<(), Fail> {
     let text = b"shift".as_slice();
     for (step, fail, limit, want) in [
@@ -115,7 +153,7 @@ fn items(alloc: Global, text: &str) -> Result<Vec<Item>, TableFault> {
     read_items(alloc, octets)
 }
 
-// Headers, blank lines, ends of lines, quotes, blanks round fields and leading zeros.
+// Headers, blank lines, ends of lines, quotes, blanks round fields, leading zeros, and a byte order mark.
 #[test]
 fn accepted_records(rt: HostRuntime) {
     let one = Item {
@@ -140,6 +178,8 @@ fn accepted_records(rt: HostRuntime) {
         "\"1\",\"45\",67,1,2,3,4,5,6,7,\" 65535\t\"\n",
         "graph,row,column,s0,s1,s2,s3,s4,s5,s6,s7\n1,45,67,1,2,3,4,5,6,7,65535\n",
         "\" graph \",,,,,,,,,,\r\n1,45,67,1,2,3,4,5,6,7,65535",
+        "\u{feff}1,45,67,1,2,3,4,5,6,7,65535",
+        "\u{feff}graph,,,,,,,,,,\n1,45,67,1,2,3,4,5,6,7,65535",
     ] {
         match items(rt.alloc(), text) {
             Ok(items) => assert!(rt; items.as_slice() == [one].as_slice(), "{text}"),

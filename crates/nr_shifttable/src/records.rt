@@ -2,7 +2,7 @@
 
 ghost use Rattle.std.specs.Prelude.{◌≡◌, [], ◌∷◌, ◌≤◌, if◌then◌else◌, true, false, length, MatchBool, IfOk, OnErr};
 ghost use Rattle.csv.specs.Records.{fields_of};
-ghost use Rattle.nr_shifttable.specs.Records.{IsPlain, records_of, rows_before_end};
+ghost use Rattle.nr_shifttable.specs.Records.{IsPlain, TakesRow, records_of, rows_before_end};
 
 use csv::{ByteRecord, Reader, ReaderBuilder};
 use std::alloc::{AllocError, Global};
@@ -45,9 +45,11 @@ impl<'a> Records<'a> {
 
     /// Fills `row` with the next record and answers true, or answers false where there is none.
     ///
-    /// Errors: out of memory, and then no record is left.
+    /// # Errors
+    ///
+    /// Out of memory, and then no record is left.
     pub fn next(&mut self, row: &mut ByteRecord) -> Result<bool, AllocError>
-        ensures next { IfOk result (λ found. MatchBool found (self.old ≡ fields_of row.new ∷ self.new) ((self.old ≡ []) × (self.new ≡ []))) }
+        ensures next { IfOk result (λ found. TakesRow self.old self.new found (fields_of row.new)) }
         ensures err { OnErr result (self.new ≡ []) }
     {
         if self.ended {
@@ -60,7 +62,7 @@ impl<'a> Records<'a> {
     }
 }
 
-/// Fills `row` with the next record of a text in memory, if there is one. This fails for want of memory alone.
+// Fills `row` with the next record of a text in memory, if there is one. This fails for want of memory alone.
 fn read_row(reader: &mut Reader<&[u8]>, row: &mut ByteRecord) -> Result<bool, AllocError>
     requires { IsPlain reader.old }
     ensures plain { IfOk result (λ found. found ≡ true → IsPlain reader.new) }

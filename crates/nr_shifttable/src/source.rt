@@ -1,13 +1,13 @@
 //! Where octets come from, piece by piece, and reading a source to its end.
 
 ghost use Rattle.std.specs.Prelude.{◌≡◌, ◌==◌, if◌then◌else◌, ℕ, ◌+◌, ◌-◌, ◌^◌, ◌<◌, ◌≤◌, ◌⊎◌, ◌↔◌, ◌++◌, List, length, take, drop, min, Option, Some, None, option_map, IfOk, IfSome, IsErrOf, is_err};
-ghost use Rattle.nr_shifttable.specs.Source.{Pulls, failed_count, fails_next, fed_count, Feeding};
+ghost use Rattle.nr_shifttable.specs.Source.{HasMore, IsWhole, KeepsCount, Pulls, TellsFailure, failed_count, fails_next, fed_count, Feeding};
 ghost use Rattle.nr_shifttable.specs.declared.source.ReadFault.{ReadFault};
 
 use std::alloc::{AllocError, Global};
 use std::marker::Model;
 
-/// How many octets are asked for at once.
+// How many octets are asked for at once.
 const PIECE: usize = 65_536;
 
 /// The answer of a pull that failed.
@@ -55,7 +55,9 @@ impl From<AllocError> for ReadFault {
 
 /// Reads a source to its end, and answers its octets, at most `limit` of them.
 ///
-/// Errors, where they are met: `Broken`, where a pull failed, and then the source is pulled no more;
+/// # Errors
+///
+/// Where they are met: `Broken`, where a pull failed, and then the source is pulled no more;
 /// `TooLong`, where more than `limit` octets came, even from a source that never ends, since each turn but
 /// the last gives at least one octet; `Memory`.
 pub fn read_to_end<S: Source>(
@@ -64,11 +66,11 @@ pub fn read_to_end<S: Source>(
     limit: usize,
 ) -> Result<Vec<u8>, ReadFault>
     requires { S.failures source.old < 2 ^ 32 }
-    ensures whole { IfOk result (λ text. IfSome (S.remaining source.old) (λ all. text.items ≡ all)) }
+    ensures whole { IfOk result (λ text. IsWhole (S.remaining source.old) text.items) }
     ensures within { IfOk result (λ text. length text.items ≤ limit) }
-    ensures too_long { IsErrOf result ReadFault.TooLong → IfSome (S.remaining source.old) (λ all. limit < length all) }
-    ensures failed { IsErrOf result ReadFault.Broken ↔ (S.failures source.new ≡ S.failures source.old + 1) }
-    ensures kept { (S.failures source.new ≡ S.failures source.old) ⊎ IsErrOf result ReadFault.Broken }
+    ensures too_long { IsErrOf result ReadFault.TooLong → HasMore (S.remaining source.old) limit }
+    ensures failed { TellsFailure ReadFault.Broken (S.failures source.old) (S.failures source.new) result }
+    ensures kept { KeepsCount ReadFault.Broken (S.failures source.old) (S.failures source.new) result }
 {
     let mut text = Vec::new(alloc);
     let mut memory = piece_memory(alloc)?;
@@ -88,7 +90,7 @@ pub fn read_to_end<S: Source>(
     }
 }
 
-/// Room on the heap for the octets of one pull.
+// Room on the heap for the octets of one pull.
 fn piece_memory(alloc: Global) -> Result<Vec<u8>, AllocError>
     ensures { IfOk result (λ memory. 0 < length memory.items) }
 {
@@ -165,7 +167,7 @@ impl Source for Feed {
     }
 }
 
-/// Copies as much of the front of `from` to the front of `to` as both and `most` allow, and answers how much.
+// Copies as much of the front of `from` to the front of `to` as both and `most` allow, and answers how much.
 fn copy_front(from: &[u8], to: &mut [u8], most: u32) -> usize
     ensures count { result ≡ min (min (length from.now) (length to.old)) most }
     ensures copied { to.new ≡ take result from.now ++ drop result to.old }

@@ -1,9 +1,10 @@
 //! The accepted table of shift values.
 
 ghost use Rattle.std.specs.Prelude.{◌≡◌, ◌↔◌, ◌⊎◌, ◌+◌, ◌^◌, ◌<◌, ◌≤◌, All, IfOk, IfSome, IsErrOf, length, option_map, slice_index};
-ghost use Rattle.nr_shifttable.specs.Accepted.{entries_in, has_graph, row_of, column_of, values_at, table_of, table_said, accepted, IsTable};
+ghost use Rattle.nr_shifttable.specs.Accepted.{entries_in, has_graph, row_of, column_of, value_at, TellsTable, table_of, table_said, accepted, ColumnsAscend, RowsAscend, IsInRange, IsTable};
 ghost use Rattle.nr_shifttable.specs.Items.{Apart, IsInside};
-ghost use Rattle.nr_shifttable.specs.Said.{Gives};
+ghost use Rattle.nr_shifttable.specs.Source.{KeepsCount, TellsFailure};
+ghost use Rattle.nr_graphpick.specs.Refusal.{Gives};
 
 use crate::accept::check;
 use crate::entry::{Entry, Item};
@@ -15,7 +16,7 @@ use nr_graphpick::Graph;
 use std::alloc::Global;
 use std::marker::Model;
 
-/// The most octets that a table file may have.
+// The most octets that a table file may have.
 const LIMIT: usize = 4_194_304;
 
 /// A table of shift values that was accepted: the entries of base graph 1, of base graph 2, or of both
@@ -43,15 +44,17 @@ impl Table {
     /// values of the eight lifting-size sets, as TS 38.212, Tables 5.3.2-2 and 5.3.2-3 give them; a first
     /// record that begins with `graph` is a header. The order of the records does not matter.
     ///
-    /// Errors, in the order of `TableFault`'s description: `Read` or `TooLong` while the octets are read; then
+    /// # Errors
+    ///
+    /// In the order of `TableFault`'s description: `Read` or `TooLong` while the octets are read; then
     /// record by record `Csv`, `Fields`, `Number`, `Range`, `Twice`; then `Empty`; then by base graph `Core`,
     /// `Extension`, `MissingRow`. `Memory` comes where a growth is refused.
     pub fn read<S: Source>(alloc: Global, source: &mut S) -> Result<Table, TableFault>
         requires { S.failures source.old < 2 ^ 32 }
         ensures table { IfOk result IsTable }
-        ensures failed { IsErrOf result TableFault.Read ↔ (S.failures source.new ≡ S.failures source.old + 1) }
-        ensures kept { (S.failures source.new ≡ S.failures source.old) ⊎ IsErrOf result TableFault.Read }
-        ensures said { IfSome (S.remaining source.old) (λ text. IsErrOf result TableFault.Read ⊎ Gives (λ t. t) result (table_said text)) }
+        ensures failed { TellsFailure TableFault.Read (S.failures source.old) (S.failures source.new) result }
+        ensures kept { KeepsCount TableFault.Read (S.failures source.old) (S.failures source.new) result }
+        ensures said { TellsTable (S.remaining source.old) result }
     {
         let text = match read_to_end(alloc, source, LIMIT) {
             Ok(text) => text,
@@ -62,13 +65,13 @@ impl Table {
         Table::judge(alloc, &text)
     }
 
-    /// The table of a whole text, judged.
+    // The table of a whole text, judged.
     #[tactic(auto, unfolding(crate::specs::Accepted::table_said))]
     fn judge(alloc: Global, text: &[u8]) -> Result<Table, TableFault>
         requires { length text.now ≤ 4194304 }
         ensures table { IfOk result IsTable }
         ensures judged { IsErrOf result TableFault.Read → ⊥ }
-        ensures said { Gives (λ t. t) result (table_said text.now) }
+        ensures said { Gives TableFault.Memory (λ t. t) result (table_said text.now) }
     {
         let items = read_items(alloc, text)?;
         Table::from_items(alloc, items)
@@ -76,14 +79,16 @@ impl Table {
 
     /// The table of a list of items, judged.
     ///
-    /// Errors, in this order: `Empty`, where there is no item; then, for each base graph that has an entry,
+    /// # Errors
+    ///
+    /// In this order: `Empty`, where there is no item; then, for each base graph that has an entry,
     /// base graph 1 first, `Core`, `Extension` and `MissingRow`. `Memory` comes where a growth is refused.
     #[tactic(auto, unfolding(crate::specs::Accepted::accepted))]
     pub(crate) fn from_items(alloc: Global, items: Vec<Item>) -> Result<Table, TableFault>
         requires apart { Apart items.items }
         requires in_range { All IsInside items.items }
         ensures table { IfOk result IsTable }
-        ensures said { Gives (λ t. t) result (accepted (table_of items.items)) }
+        ensures said { Gives TableFault.Memory (λ t. t) result (accepted (table_of items.items)) }
     {
         let one = Sorted::new(alloc, Graph::One, &items)?;
         let two = Sorted::new(alloc, Graph::Two, &items)?;
@@ -95,9 +100,10 @@ impl Table {
         Ok(Table { one, two })
     }
 
-    /// The entries of a base graph.
+    // The entries of a base graph.
     fn sorted(&self, graph: Graph) -> &Sorted
-        ensures { result.now ≡ entries_in graph self.now }
+        ensures table { IsTable self.now }
+        ensures value { result.now ≡ entries_in graph self.now }
     {
         match graph {
             Graph::One => &self.one,
@@ -119,27 +125,31 @@ impl Table {
 
     /// The shift value V at a row and a column of a base graph, for the lifting-size set `set` in 0..=7, as
     /// it was read: it is not reduced modulo a lifting size. `None` where no entry stands there.
-    pub fn shift(&self, graph: Graph, row: u16, col: u16, set: u8) -> Option<u16>
+    pub fn shift(&self, graph: Graph, row: u32, col: u32, set: u32) -> Option<u16>
         requires { set < 8 }
-        ensures { result ≡ option_map (λ values. slice_index values set) (values_at (entries_in graph self.now) row col) }
+        ensures { result ≡ value_at graph row col set self.now }
     {
         let entries = self.sorted(graph).entries();
-        match values_at(entries, u32::from(row), u32::from(col)) {
-            Some(values) => Some(values[usize::from(set)]),
+        match values_at(entries, row, col) {
+            Some(values) => Some(values[set as usize]),
             None => None,
         }
     }
 
     /// The entries of a row of a base graph, in ascending order of their columns.
-    pub fn row_entries(&self, graph: Graph, row: u16) -> &[Entry]
-        ensures { result.now ≡ row_of (entries_in graph self.now) row }
+    pub fn row_entries(&self, graph: Graph, row: u32) -> &[Entry]
+        ensures entries { result.now ≡ row_of (entries_in graph self.now) row }
+        ensures order { ColumnsAscend result.now }
+        ensures in_range { All (IsInRange graph) result.now }
     {
         self.sorted(graph).row(row)
     }
 
     /// The entries of a column of a base graph, in ascending order of their rows.
-    pub fn col_entries(&self, graph: Graph, col: u16) -> &[Entry]
-        ensures { result.now ≡ column_of (entries_in graph self.now) col }
+    pub fn col_entries(&self, graph: Graph, col: u32) -> &[Entry]
+        ensures entries { result.now ≡ column_of (entries_in graph self.now) col }
+        ensures order { RowsAscend result.now }
+        ensures in_range { All (IsInRange graph) result.now }
     {
         self.sorted(graph).column(col)
     }

@@ -93,17 +93,15 @@ fn practice_table(rt: HostRuntime) -> Result<(), Fail> {
         assert_eq!(rt; table.shift(Graph::Two, 17, 8, 3), None);
         assert_eq!(rt; table.shift(Graph::Two, 2, 10, 4), Some(1));
         assert_eq!(rt; table.shift(Graph::One, 17, 7, 3), None);
-        let cols: Vec<u16> = table
-            .row_entries(Graph::Two, 2)
-            .iter()
-            .map(|entry| entry.col)
-            .collect(alloc)?;
+        let mut cols = Vec::new(alloc);
+        for entry in table.row_entries(Graph::Two, 2) {
+            cols.push(entry.col)?;
+        }
         assert_eq!(rt; cols.as_slice(), [0, 2, 4, 6, 8, 10, 12, 13].as_slice());
-        let rows: Vec<u16> = table
-            .col_entries(Graph::Two, 0)
-            .iter()
-            .map(|entry| entry.row)
-            .collect(alloc)?;
+        let mut rows = Vec::new(alloc);
+        for entry in table.col_entries(Graph::Two, 0) {
+            rows.push(entry.row)?;
+        }
         assert_eq!(rt; rows.as_slice(), [0, 2, 10, 20, 30, 40].as_slice());
         assert!(rt; table.row_entries(Graph::Two, 42).is_empty());
         items.reverse();

@@ -63,6 +63,10 @@ fn usage_faults_say_why(rt: HostRuntime) -> Result<(), AllocError> {
             "error: unexpected argument '--blocks' found\n\nUsage: linksim check --table <FILE>\n\nFor more information, try '--help'.\n",
         ),
         (
+            "cut --version",
+            "error: unexpected argument '--version' found\n\nUsage: linksim cut [OPTIONS] --blocks <FILE>\n\nFor more information, try '--help'.\n",
+        ),
+        (
             "mend",
             "error: unrecognized subcommand 'mend'\n\nUsage: linksim <COMMAND>\n\nFor more information, try '--help'.\n",
         ),
@@ -81,17 +85,20 @@ fn usage_faults_say_why(rt: HostRuntime) -> Result<(), AllocError> {
 fn help_is_shown(rt: HostRuntime) -> Result<(), AllocError> {
     let alloc = rt.alloc();
     let program =
-        "The data coding chain of 5G NR (3GPP TS 38.212)\n\nUsage: linksim <COMMAND>\n\nCommands:\n  cut    Attaches the CRC to each transport block and cuts it into code blocks\n  check  Checks a table of shift values\n  help   Print this message or the help of the given subcommand(s)\n\nOptions:\n  -h, --help  Print help\n\nNo words at all ask for 'linksim cut --rate 2048 --blocks -'.\n";
+        "The data coding chain of 5G NR (3GPP TS 38.212)\n\nUsage: linksim <COMMAND>\n\nCommands:\n  cut    Attaches the CRC to each transport block and cuts it into code blocks\n  check  Checks a table of shift values\n  help   Print this message or the help of the given subcommand(s)\n\nOptions:\n  -h, --help     Print help\n  -V, --version  Print version\n\nNo words at all ask for 'linksim cut --rate 2048 --blocks -'.\n\nExit status: 0 done, 1 refused, 2 wrong usage\n";
     let cut =
-        "Attaches the CRC to each transport block and cuts it into code blocks\n\nUsage: linksim cut [OPTIONS] --blocks <FILE>\n\nOptions:\n      --blocks <FILE>  The transport blocks, one a line in hexadecimal (-: standard input)\n      --rate <N>       The target code rate times 2048, in 1..2048 [default: 2048]\n  -h, --help           Print help\n";
+        "Attaches the CRC to each transport block and cuts it into code blocks\n\nUsage: linksim cut [OPTIONS] --blocks <FILE>\n\nOptions:\n      --blocks <FILE>  The transport blocks, one a line in hexadecimal (-: standard input)\n      --rate <N>       Twice the target code rate x 1024 of the MCS tables; 0.5 is 1024 [default: 2048]\n  -h, --help           Print help\n\nExample:\n  echo 01 | linksim cut --rate 1024 --blocks -\n\nExit status: 0 done, 1 refused, 2 wrong usage\n";
     let check =
-        "Checks a table of shift values\n\nUsage: linksim check --table <FILE>\n\nOptions:\n      --table <FILE>  The shift table, as comma-separated values (-: standard input)\n  -h, --help          Print help\n";
+        "Checks a table of shift values\n\nUsage: linksim check --table <FILE>\n\nOptions:\n      --table <FILE>  The shift table, as comma-separated values (-: standard input)\n  -h, --help          Print help\n\nExample:\n  linksim check --table examples/practice.csv\n\nExit status: 0 done, 1 refused, 2 wrong usage\n";
     for (line, want) in [
         ("--help", program),
+        ("-h", program),
         ("help", program),
         ("cut --help", cut),
         ("help cut", cut),
         ("check --help", check),
+        ("--version", "linksim 0.1.0\n"),
+        ("-V", "linksim 0.1.0\n"),
     ] {
         let text = String::from_str(alloc, want)?;
         assert_eq!(rt; fault_text(alloc, line)?, Some((true, text)), "at {line}");

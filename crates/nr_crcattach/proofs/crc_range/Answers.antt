@@ -18,8 +18,7 @@ shl-entering p byte top false is_bit is_top =
     ap (λ b. b * 2 ^ (top - 1) % 2 ^ 32) is_bit ∙ none
 
 pub loop-i-init : goal.loop-i-init
-unfolding residue
-loop-i-init c = record { value = refl; fits = pow_pos (degree c.args.poly) }
+loop-i-init c = record { value = c.crc_of_words-register.ensures.value; fits = c.crc_of_words-register.ensures.fits }
 
 pub times_d-register-requires : goal.times_d-register-requires
 times_d-register-requires c =

@@ -11,7 +11,7 @@ pub loop-place-init : goal.loop-place-init
 loop-place-init c =
     let bits = c.args.bits.now.items in
     let check = c.crc-check.result in
-    ap (λ front. front ++ high_first c.degree-place.result check) (c.in_ok-extend.ensures.ok ∙ ap (λ front. front ++ bits) c.new-checked.ensures)
+    ap (λ front. front ++ high_first c.degree-place.result check) (c.in_ok-extend.ensures.ok ∙ ap (λ front. front ++ bits) c.in_ok-checked.ensures.items)
     ∙ ap (λ n. bits ++ high_first n check) c.degree-place.ensures
     ∙ ap (λ v. bits ++ high_first (degree c.args.poly) v) c.crc-check.ensures.value
 

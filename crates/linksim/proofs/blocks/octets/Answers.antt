@@ -9,9 +9,10 @@ loop-rest-preserved c =
     let enough : 2 ≤ length c.loop-rest.rest.now = omega arith in
     record {
       digits = list_all_next _ c.loop-rest.rest.now enough c.loop-rest.invariant.digits;
-      so_far = rw (c.in_ok-push.ensures.items, append_assoc, c.digit.ensures.value, c.digit-in-loop-rest.ensures.value)
+      so_far = rw (c.push_reserved.ensures.items, append_assoc, c.digit.ensures.value, c.digit-in-loop-rest.ensures.value)
           (ap (λ xs. c.loop-rest.block.items ++ xs) (sym (octets_of_digits_next c.loop-rest.rest.now enough)) ∙ c.loop-rest.invariant.so_far);
       long = grind (arith, common_steps);
+      room = grind (arith, common_steps);
     }
 
 pub returns-clause-octets : goal.returns-clause-octets

@@ -1,19 +1,21 @@
-use Rattle.std.proofs.Common.{ℕ, List}
+use Rattle.std.proofs.Common.{arith}
 use Rattle.std.proofs.lemmas.Option.{IfSome_then}
 use Rattle.std.proofs.lemmas.Result.{err_from_is_err_and}
-use Rattle.std.specs.String.{string_bytes}
-use Rattle.linksim.specs.CheckText.{check_said}
-use Rattle.linksim.proofs.CommandLemmas.{delivers-put, delivers-refused}
+use Rattle.linksim.specs.CheckText.{check_said, table_lines}
+use Rattle.linksim.proofs.CheckLemmas.{given-table-read, given-table-refused, table_refusal-put}
+use Rattle.linksim.proofs.CommandLemmas.{delivers-refused, delivers-writes, writes_said}
 use Rattle.linksim.proofs.check.check.Goals as goal
 
-pub returns-in_err-text-clause-text : goal.returns-in_err-text-clause-text
-returns-in_err-text-clause-text g c =
+pub returns-in_err-table-clause-text : goal.returns-in_err-table-clause-text
+returns-in_err-table-clause-text g c =
     let p = err_from_is_err_and c.from_residual.result c.from_residual.ensures.1 in
-    let refused = λ (octets : List ℕ). delivers-refused (g.O.Sink.written c.args.out.now) c.from_residual.result p.0 c.in_err-text.field-0.0 (check_said octets) p.1 p.2 c.in_err-text.ensures.unput in
-    λ same. IfSome_then (g.T.Source.remaining c.args.table.now) (c.in_err-text.ensures.said same) refused
+    λ same. IfSome_then (g.T.Source.remaining c.args.table.now) c.in_err-table.ensures.said
+    (λ octets given. delivers-refused (g.O.Sink.written c.args.out.now) c.from_residual.result p.0 _ (check_said octets) p.1 p.2 (table_refusal-put c.in_err-table.field-0.0)
+    (given-table-refused _ octets c.in_err-table.field-0.0 (λ read. omega (arith, same, c.in_err-table.ensures.failed.0 read)) given))
 
 pub returns-clause-text : goal.returns-clause-text
 returns-clause-text g c =
-    let put = λ (octets : List ℕ). delivers-put (g.O.Sink.written c.args.out.now) (g.O.Sink.written c.deliver.new.out) c.deliver.result (string_bytes c.in_ok-text.text) (check_said octets) in
-    λ same. IfSome_then (g.T.Source.remaining c.args.table.now) (c.in_ok-text.ensures.said same) (λ octets is.
-    put octets is (rw c.deref.ensures at c.deliver.ensures.whole) (rw c.deref.ensures at c.deliver.ensures.part) c.deliver.ensures.write)
+    λ same. IfSome_then (g.T.Source.remaining c.args.table.now) c.in_ok-table.ensures.said
+    (λ octets given. delivers-writes _ _ c.write_table.result (check_said octets)
+    (writes_said _ _ c.write_table.result (table_lines c.in_ok-table.table) (check_said octets)
+    (given-table-read _ octets c.in_ok-table.table (λ read. omega (arith, same, c.in_ok-table.ensures.failed.0 read)) given) c.write_table.ensures.text))

@@ -1,9 +1,8 @@
-use Rattle.std.proofs.Common.{refl, inl, inr, arith}
+use Rattle.std.proofs.Common.{◌≡◌, inl, inr}
 use Rattle.std.proofs.lemmas.Option.{IfSome_then}
-use Rattle.linksim.specs.Blocks.{read_count}
-use Rattle.linksim.specs.declared.blocks.BlocksFault.TheVariants.{Memory}
 use Rattle.linksim.proofs.BlockLines.{blocks_of-too_long}
-use Rattle.linksim.proofs.CommandLemmas.{fault_count-given, blocks_of-unread}
+use Rattle.linksim.proofs.CommandLemmas.{fails_as-not}
+use Rattle.linksim.proofs.CutLemmas.{given-unread}
 use Rattle.linksim.proofs.cut.read_blocks.Goals as goal
 
 pub returns-in-Err-TooLong-clause-said : goal.returns-in-Err-TooLong-clause-said
@@ -12,5 +11,5 @@ returns-in-Err-TooLong-clause-said g c =
 
 pub returns-clause-pulled : goal.returns-clause-pulled
 returns-clause-pulled g c =
-    let none = fault_count-given read_count Memory _ c.parse_blocks.result _ refl (blocks_of-unread _) c.parse_blocks.ensures.said in
-    elim c.in-Ok.ensures.kept [ inl same ↦ omega (arith, same, none) | inr broken ↦ cc ]
+    let same : g.B.Source.failures c.read_to_end.new.source ≡ g.B.Source.failures c.args.source.now = elim c.in-Ok.ensures.kept [ inl same ↦ same | inr broken ↦ cc ] in
+    fails_as-not _ c.parse_blocks.result _ _ (given-unread _ c.parse_blocks.result _ c.parse_blocks.ensures.said) same

@@ -1,5 +1,8 @@
-use Rattle.nr_segment.proofs.CodeBlockLemmas.{length-code_bits}
+use Rattle.nr_segment.proofs.CodeBlockLemmas.{length-code_bits, length-code_block}
 use Rattle.nr_segment.proofs.code_block.code_blocks_are_long.Goals as goal
 
-pub returns : goal.returns
-returns c = length-code_bits
+pub returns-clause-bits : goal.returns-clause-bits
+returns-clause-bits c = length-code_bits
+
+pub returns-clause-filled : goal.returns-clause-filled
+returns-clause-filled c = length-code_block

@@ -1,0 +1,18 @@
+use Rattle.std.proofs.Common.{rules, ◌≡◌, ◌++◌, ◌∷◌, [], codes}
+use Rattle.std.specs.String.{string_bytes}
+use Rattle.linksim.specs.Ending.{IsRefusalLine}
+use Rattle.linksim.specs.Written.{with_text}
+use Rattle.linksim.proofs.ending.refuse.Goals as goal
+use Rattle.linksim.proofs.ending.refuse.Goals.{in-Ok, in-Err}
+
+pub returns-clause-line : goal.returns-clause-line
+returns-clause-line g c = λ same.
+    let line : IsRefusalLine c.match-line.said.now = elim c.match-line.branch [
+      | in-Ok w ↦
+          let made : IsRefusalLine (string_bytes w.in-Ok.line) = search rules in
+          rw (w.said-is, w.as_str-said.ensures.value) made
+      | in-Err w ↦ (codes "memory" ++ 10 ∷ [], search rules)
+    ] in
+    let written : g.E.Sink.written c.put_all.new.sink
+    ≡ with_text (g.E.Sink.written c.args.errors.now) c.match-line.said.now = search rules in
+    (c.match-line.said.now, line, written)

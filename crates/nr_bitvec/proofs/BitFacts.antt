@@ -1,0 +1,91 @@
+-- The bits of shifted and cut numbers, and the places of packed words.
+use Rattle.std.proofs.Common.{◌≡◌, ℕ, ◌+◌, ◌-◌, ◌*◌, ◌/◌, ◌%◌, ◌^◌, ◌<◌, ◌≤◌, ◌⊎◌, inl, inr, max, List, length, get_or, ap, sym, ◌∙◌, arith, add-zero}
+use Rattle.std.proofs.lemmas.Nat.{pow_pos, shr-shr, shr_split, mod_below, one_shl, and_mask}
+use Rattle.std.proofs.lemmas.Nat.Bits.{bit_at-zero, bit_at_cat_low, bit_at_cat_high, bit_at_above, bit_at_or}
+use Rattle.std.proofs.lemmas.Bool.{cases_lt}
+use Rattle.std.proofs.lemmas.List.{get_or_past}
+use Rattle.std.specs.Int.{bit_at}
+use Rattle.std.specs.Int.RustNames.{bit_or}
+use lib.Bits.{bit_and}
+use Rattle.nr_bitvec.specs.Packed.{place}
+
+-- ---- bits of numbers
+
+-- `n >> k`
+pub bit_at_shr : (n k j : ℕ) → bit_at (n / 2 ^ k) j ≡ bit_at n (k + j)
+bit_at_shr n k j = ap (λ q. q % 2) (shr-shr n k j)
+
+-- `n << k`
+pub bit_at_shl_low : (n k j : ℕ) → j < k → bit_at (n * 2 ^ k) j ≡ 0
+bit_at_shl_low n k j h =
+    ap (λ m. bit_at m j) (sym (add-zero (n * 2 ^ k))) ∙ bit_at_cat_low n k 0 j h ∙ bit_at-zero j
+
+pub bit_at_shl_high : (n k j : ℕ) → k ≤ j → bit_at (n * 2 ^ k) j ≡ bit_at n (j - k)
+bit_at_shl_high n k j h =
+    ap (λ m. bit_at m j) (sym (add-zero (n * 2 ^ k))) ∙ bit_at_cat_high n k 0 j (pow_pos k) h
+
+-- the w lowest bits
+pub bit_at_mod : (n w j : ℕ) → j < w → bit_at (n % 2 ^ w) j ≡ bit_at n j
+bit_at_mod n w j h = sym (bit_at_cat_low (n / 2 ^ w) w (n % 2 ^ w) j h) ∙ ap (λ m. bit_at m j) (shr_split n w)
+
+pub bit_at_mod_above : (n w j : ℕ) → w ≤ j → bit_at (n % 2 ^ w) j ≡ 0
+bit_at_mod_above n w j h = bit_at_above (n % 2 ^ w) w j (mod_below n (2 ^ w) (pow_pos w)) h
+
+-- `n & ((1 << k) - 1)` of a word
+pub low_mask : (n k : ℕ) → k < 64 → bit_and n (1 * 2 ^ k % 2 ^ 64 - 1) ≡ n % 2 ^ k
+low_mask n k h = ap (λ m. bit_and n (m - 1)) (one_shl k 64 h) ∙ and_mask n k
+
+-- ---- places of words
+
+-- a place is a bit of a word
+pub place_of : (ws : List ℕ) (t w s : ℕ) → t ≡ 64 * w + s → s < 64 → place ws t ≡ bit_at (get_or ws w 0) s
+place_of ws t w s e h =
+    let i : t / 64 ≡ w = omega arith in
+    let j : t % 64 ≡ s = omega arith in
+    ap (λ k. bit_at (get_or ws k 0) (t % 64)) i ∙ ap (λ k. bit_at (get_or ws w 0) k) j
+
+-- no place is set past the last word
+pub place_past : (ws : List ℕ) (t : ℕ) → 64 * length ws ≤ t → place ws t ≡ 0
+place_past ws t h =
+    let past : length ws ≤ t / 64 = omega arith in
+    ap (λ n. bit_at n (t % 64)) (get_or_past ws (t / 64) 0 past) ∙ bit_at-zero (t % 64)
+
+-- ---- what the words' calls read
+
+-- the low bits of a word
+pub low_bits-low : (n k j : ℕ) → k < 64 → j < k → bit_at (bit_and n (1 * 2 ^ k % 2 ^ 64 - 1)) j ≡ bit_at n j
+low_bits-low n k j h b = ap (λ m. bit_at m j) (low_mask n k h) ∙ bit_at_mod n k j b
+
+pub low_bits-high : (n k j : ℕ) → k < 64 → k ≤ j → bit_at (bit_and n (1 * 2 ^ k % 2 ^ 64 - 1)) j ≡ 0
+low_bits-high n k j h b = ap (λ m. bit_at m j) (low_mask n k h) ∙ bit_at_mod_above n k j b
+
+-- a word that is moved down by `turn`, in which the next word has no place
+pub window-last : (ws : List ℕ) (w turn j : ℕ) → get_or ws w 0 < 2 ^ 64 → turn < 64 → j < 64
+    → (turn ≡ 0) ⊎ (length ws ≤ w + 1) → bit_at (get_or ws w 0 / 2 ^ turn) j ≡ place ws (64 * w + turn + j)
+window-last ws w turn j fits h b last =
+    elim (cases_lt (turn + j) 64) [
+      | inl here ↦ bit_at_shr (get_or ws w 0) turn j ∙ sym (place_of ws (64 * w + turn + j) w (turn + j) (omega arith) here)
+      | inr past ↦ bit_at_shr (get_or ws w 0) turn j ∙ bit_at_above (get_or ws w 0) 64 (turn + j) fits past ∙ sym (elim last [
+        | inl none ↦ absurd (omega (arith, none, past, b))
+        | inr end ↦ place_past ws (64 * w + turn + j) (omega (arith, end, past))
+      ])
+    ]
+
+-- two words, of which the second is moved up by what is missing
+pub window-both : (ws : List ℕ) (w turn j : ℕ) → get_or ws w 0 < 2 ^ 64 → turn < 64 → 0 < turn → j < 64
+    → bit_at (bit_or (get_or ws w 0 / 2 ^ turn) (get_or ws (w + 1) 0 * 2 ^ (64 - turn) % 2 ^ 64)) j ≡ place ws (64 * w + turn + j)
+window-both ws w turn j fits h some b =
+    let split : bit_at (bit_or (get_or ws w 0 / 2 ^ turn) (get_or ws (w + 1) 0 * 2 ^ (64 - turn) % 2 ^ 64)) j ≡ max (bit_at (get_or ws w 0 / 2 ^ turn) j) (bit_at (get_or ws (w + 1) 0 * 2 ^ (64 - turn) % 2 ^ 64) j) = bit_at_or (get_or ws w 0 / 2 ^ turn) (get_or ws (w + 1) 0 * 2 ^ (64 - turn) % 2 ^ 64) j in
+    let first : bit_at (get_or ws w 0 / 2 ^ turn) j ≡ bit_at (get_or ws w 0) (turn + j) = bit_at_shr (get_or ws w 0) turn j in
+    let second : bit_at (get_or ws (w + 1) 0 * 2 ^ (64 - turn) % 2 ^ 64) j ≡ bit_at (get_or ws (w + 1) 0 * 2 ^ (64 - turn)) j = bit_at_mod (get_or ws (w + 1) 0 * 2 ^ (64 - turn)) 64 j b in
+    elim (cases_lt (turn + j) 64) [
+      | inl here ↦
+          let e : place ws (64 * w + turn + j) ≡ bit_at (get_or ws w 0) (turn + j) = place_of ws (64 * w + turn + j) w (turn + j) (omega arith) here in
+          let z : bit_at (get_or ws (w + 1) 0 * 2 ^ (64 - turn)) j ≡ 0 = bit_at_shl_low (get_or ws (w + 1) 0) (64 - turn) j (omega (arith, here)) in
+          omega (arith, split, first, second, e, z)
+      | inr past ↦
+          let e : place ws (64 * w + turn + j) ≡ bit_at (get_or ws (w + 1) 0) (j - (64 - turn)) = place_of ws (64 * w + turn + j) (w + 1) (j - (64 - turn)) (omega (arith, past)) (omega arith) in
+          let z : bit_at (get_or ws w 0) (turn + j) ≡ 0 = bit_at_above (get_or ws w 0) 64 (turn + j) fits past in
+          let m : bit_at (get_or ws (w + 1) 0 * 2 ^ (64 - turn)) j ≡ bit_at (get_or ws (w + 1) 0) (j - (64 - turn)) = bit_at_shl_high (get_or ws (w + 1) 0) (64 - turn) j (omega (arith, past)) in
+          omega (arith, split, first, second, e, z, m)
+    ]

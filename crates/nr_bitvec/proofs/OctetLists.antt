@@ -1,0 +1,156 @@
+-- The bits of octets, and the octets of bits.
+use Rattle.std.proofs.Common.{◌≡◌, ℕ, ◌+◌, ◌-◌, ◌*◌, ◌/◌, ◌%◌, inl, inr, ◌^◌, ◌<◌, ◌≤◌, ◌==◌, suc, zero, Bool, true, false, if◌then◌else◌, List, [], ◌∷◌, length, get_or, take, drop, refl, ap, sym, ◌∙◌, arith, length-append, length-drop, get_or-drop, one-mul}
+use Rattle.std.proofs.Math.Nat.{two-pow-succ}
+use Rattle.std.proofs.lemmas.Bool.{cases_lt, true≢false, false≢true}
+use Rattle.std.proofs.lemmas.List.{get_or_append_left, get_or-append_right, drop-drop, nil_from_length}
+use Rattle.std.proofs.lemmas.Nat.{pow_pos, mod_below, and_mask}
+use Rattle.std.specs.Int.RustNames.{bit_and}
+use Rattle.nr_bitvec.proofs.BitFacts.{bit_at_mod}
+use Rattle.std.proofs.lemmas.Nat.Bits.{bit_at-lt, bit_at-zero, bit_at_cat_low, bit_at_cat_high, bit_at_above, same_from_bits_below}
+use Rattle.std.specs.Int.{bit_at}
+use Rattle.nr_bitvec.specs.Bit.{bit}
+use Rattle.nr_bitvec.specs.Packed.{octet_place}
+use Rattle.nr_bitvec.specs.BitList.{octet_bits, bits_of, number_of, octets_of}
+
+-- an octet has eight bits
+pub length-octet_bits : (o : ℕ) → length (octet_bits o) ≡ 8
+unfolding octet_bits
+length-octet_bits o = refl
+
+-- octets have eight bits each
+pub length-bits_of : (octets : List ℕ) → length (bits_of octets) ≡ 8 * length octets
+length-bits_of [] = refl
+length-bits_of (o ∷ octets) =
+    length-append (octet_bits o) (bits_of octets) ∙ omega (arith, length-octet_bits o, length-bits_of octets)
+
+-- n bits write a number below 2 ^ n
+pub number_of-lt : (n : ℕ) (bits : List Bool) → number_of n bits < 2 ^ n
+number_of-lt zero bits = omega arith
+number_of-lt (suc n) [] = pow_pos (suc n)
+number_of-lt (suc n) (true ∷ bits) = omega (arith, number_of-lt n bits, two-pow-succ n)
+number_of-lt (suc n) (false ∷ bits) = omega (arith, number_of-lt n bits, two-pow-succ n)
+
+-- ---- one octet after another makes the list of octets
+
+-- the first octet, of the first eight bits, and the octets that follow it
+octets_of-step : (bits : List Bool) → 0 < length bits → octets_of bits ≡ number_of 8 (take 8 bits) ∷ octets_of (drop 8 bits)
+unfolding octets_of
+octets_of-step [] h = absurd (omega (arith, h))
+octets_of-step (a ∷ []) h = refl
+octets_of-step (a ∷ b ∷ []) h = refl
+octets_of-step (a ∷ b ∷ c ∷ []) h = refl
+octets_of-step (a ∷ b ∷ c ∷ d ∷ []) h = refl
+octets_of-step (a ∷ b ∷ c ∷ d ∷ e ∷ []) h = refl
+octets_of-step (a ∷ b ∷ c ∷ d ∷ e ∷ f ∷ []) h = refl
+octets_of-step (a ∷ b ∷ c ∷ d ∷ e ∷ f ∷ g ∷ []) h = refl
+octets_of-step (a ∷ b ∷ c ∷ d ∷ e ∷ f ∷ g ∷ h ∷ bits) k = refl
+
+-- ---- the octets by their places
+
+-- the bits of one octet
+octet_bit : (o t : ℕ) → t < 8 → get_or (octet_bits o) t false ≡ (bit_at o (7 - t) == 1)
+unfolding octet_bits
+octet_bit o zero h = refl
+octet_bit o (suc zero) h = refl
+octet_bit o (suc (suc zero)) h = refl
+octet_bit o (suc (suc (suc zero))) h = refl
+octet_bit o (suc (suc (suc (suc zero)))) h = refl
+octet_bit o (suc (suc (suc (suc (suc zero))))) h = refl
+octet_bit o (suc (suc (suc (suc (suc (suc zero)))))) h = refl
+octet_bit o (suc (suc (suc (suc (suc (suc (suc zero))))))) h = refl
+octet_bit o (suc (suc (suc (suc (suc (suc (suc (suc t)))))))) h = absurd (omega (arith, h))
+
+-- a bit of octets is a place of them, past the end too
+pub bit-bits_of : (octets : List ℕ) (t : ℕ) → bit (bits_of octets) t ≡ (octet_place octets t == 1)
+bit-bits_of [] t = sym (ap (λ k. k == 1) (bit_at-zero (7 - t % 8)))
+bit-bits_of (o ∷ octets) t =
+    elim (cases_lt t 8) [
+      | inl low ↦
+          let q : 0 ≡ t / 8 = omega (arith, low) in
+          let r : t ≡ t % 8 = omega (arith, low) in
+          get_or_append_left (octet_bits o) (bits_of octets) false t (omega (arith, low, length-octet_bits o)) ∙ octet_bit o t low
+          ∙ ap (λ k. bit_at o (7 - k) == 1) r ∙ ap (λ k. bit_at (get_or (o ∷ octets) k 0) (7 - t % 8) == 1) q
+      | inr high ↦
+          let q : suc ((t - 8) / 8) ≡ t / 8 = omega (arith, high) in
+          let r : (t - 8) % 8 ≡ t % 8 = omega (arith, high) in
+          get_or-append_right (octet_bits o) (bits_of octets) 8 t false (length-octet_bits o) high ∙ bit-bits_of octets (t - 8)
+          ∙ ap (λ k. bit_at (get_or octets ((t - 8) / 8) 0) (7 - k) == 1) r ∙ ap (λ k. bit_at (get_or (o ∷ octets) k 0) (7 - t % 8) == 1) q
+    ]
+
+-- a bit of the number that n bits write
+pub bit-number_of : (n : ℕ) (bits : List Bool) (j : ℕ) → j < n → (bit_at (number_of n bits) j == 1) ≡ bit bits (n - 1 - j)
+bit-number_of zero bits j h = absurd (omega (arith, h))
+bit-number_of (suc n) [] j h = ap (λ k. k == 1) (bit_at-zero j)
+bit-number_of (suc n) (true ∷ bits) j h =
+    elim (cases_lt j n) [
+      | inl low ↦
+          let i : suc (n - 1 - j) ≡ suc n - 1 - j = omega (arith, low) in
+          ap (λ k. bit_at (k + number_of n bits) j == 1) (sym (one-mul (2 ^ n))) ∙ ap (λ k. k == 1) (bit_at_cat_low 1 n (number_of n bits) j low) ∙ bit-number_of n bits j low ∙ ap (bit (true ∷ bits)) i
+      | inr top ↦
+          let i : 0 ≡ suc n - 1 - j = omega (arith, h, top) in
+          let z : j - n ≡ 0 = omega (arith, h, top) in
+          ap (λ k. bit_at (k + number_of n bits) j == 1) (sym (one-mul (2 ^ n))) ∙ ap (λ k. k == 1) (bit_at_cat_high 1 n (number_of n bits) j (number_of-lt n bits) top) ∙ ap (λ k. bit_at 1 k == 1) z ∙ ap (bit (true ∷ bits)) i
+    ]
+bit-number_of (suc n) (false ∷ bits) j h =
+    elim (cases_lt j n) [
+      | inl low ↦
+          let i : suc (n - 1 - j) ≡ suc n - 1 - j = omega (arith, low) in
+          let e : 0 + number_of n bits ≡ number_of n bits = omega arith in
+          ap (λ k. bit_at k j == 1) e ∙ bit-number_of n bits j low ∙ ap (bit (false ∷ bits)) i
+      | inr top ↦
+          let i : 0 ≡ suc n - 1 - j = omega (arith, h, top) in
+          let e : 0 + number_of n bits ≡ number_of n bits = omega arith in
+          ap (λ k. bit_at k j == 1) e ∙ ap (λ k. k == 1) (bit_at_above (number_of n bits) n j (number_of-lt n bits) top) ∙ ap (bit (false ∷ bits)) i
+    ]
+
+-- two bits that one test tells are one
+pub same_bit : (a b : ℕ) → a < 2 → b < 2 → (a == 1) ≡ (b == 1) → a ≡ b
+same_bit zero zero h g e = refl
+same_bit zero (suc zero) h g e = absurd (false≢true e)
+same_bit (suc zero) zero h g e = absurd (true≢false e)
+same_bit (suc zero) (suc zero) h g e = refl
+same_bit (suc (suc a)) b h g e = absurd (omega (arith, h))
+same_bit a (suc (suc b)) h g e = absurd (omega (arith, g))
+
+-- an octet is the number that eight bits write, if it has their bits
+pub number_of-is : (o : ℕ) (bits : List Bool) → o < 2 ^ 8 → ((j : ℕ) → j < 8 → (bit_at o j == 1) ≡ bit bits (7 - j)) → o ≡ number_of 8 bits
+number_of-is o bits fits same =
+    same_from_bits_below 8 o (number_of 8 bits) fits (number_of-lt 8 bits)
+    (λ j h. same_bit (bit_at o j) (bit_at (number_of 8 bits) j) (bit_at-lt o j) (bit_at-lt (number_of 8 bits) j) (same j h ∙ sym (bit-number_of 8 bits j h)))
+
+-- the octet of a window, of which the first eight bits are turned over
+pub octet-window : (window n at : ℕ) (bits : List Bool) → ((j : ℕ) → j < 64 → (bit_at window j == 1) ≡ bit bits (at + j)) → ((j : ℕ) → j < 64 → bit_at n j ≡ bit_at window (8 * (j / 8) + (7 - j % 8))) → bit_and n 255 ≡ number_of 8 (drop at bits)
+octet-window window n at bits reads turns =
+    and_mask n 8 ∙ number_of-is (n % 2 ^ 8) (drop at bits) (mod_below n (2 ^ 8) (pow_pos 8))
+    (λ j h.
+    let e : 8 * (j / 8) + (7 - j % 8) ≡ 7 - j = omega (arith, h) in
+    ap (λ k. k == 1) (bit_at_mod n 8 j h ∙ turns j (omega (arith, h)) ∙ ap (bit_at window) e) ∙ reads (7 - j) (omega arith) ∙ sym (get_or-drop at bits (7 - j) false))
+
+-- a number is written by its first n bits alone
+number_of-take : (n : ℕ) (bits : List Bool) → number_of n (take n bits) ≡ number_of n bits
+number_of-take zero bits = refl
+number_of-take (suc n) [] = refl
+number_of-take (suc n) (b ∷ bits) = ap (λ k. (if b then 2 ^ n else 0) + k) (number_of-take n bits)
+
+-- octet i of a list of bits
+pub octets_of-octet : (i : ℕ) (bits : List Bool) → 8 * i < length bits → get_or (octets_of bits) i 0 ≡ number_of 8 (drop (8 * i) bits)
+octets_of-octet zero bits h = ap (λ (os : List ℕ). get_or os 0 0) (octets_of-step bits (omega (arith, h))) ∙ number_of-take 8 bits
+octets_of-octet (suc i) bits h =
+    let e : 8 + 8 * i ≡ 8 * suc i = omega arith in
+    ap (λ (os : List ℕ). get_or os (suc i) 0) (octets_of-step bits (omega (arith, h)))
+    ∙ octets_of-octet i (drop 8 bits) (omega (arith, h, length-drop 8 bits))
+    ∙ ap (number_of 8) (drop-drop (8 * i) 8 bits) ∙ ap (λ k. number_of 8 (drop k bits)) e
+
+none : length (octets_of []) ≡ 0
+unfolding octets_of
+none = refl
+
+-- how many octets a list of bits needs, n of them or fewer
+length-octets_of_at : (n : ℕ) (bits : List Bool) → length bits ≤ 8 * n → length (octets_of bits) ≡ (length bits + 7) / 8
+length-octets_of_at zero bits h = ap (λ (b : List Bool). length (octets_of b)) (nil_from_length bits (omega (arith, h))) ∙ none ∙ omega (arith, h)
+length-octets_of_at (suc n) [] h = none
+length-octets_of_at (suc n) (b ∷ bits) h =
+    ap length (octets_of-step (b ∷ bits) (omega arith)) ∙ ap suc (length-octets_of_at n (drop 8 (b ∷ bits)) (omega (arith, h, length-drop 8 (b ∷ bits)))) ∙ omega (arith, length-drop 8 (b ∷ bits))
+
+pub length-octets_of : (bits : List Bool) → length (octets_of bits) ≡ (length bits + 7) / 8
+length-octets_of bits = length-octets_of_at (length bits) bits (omega arith)

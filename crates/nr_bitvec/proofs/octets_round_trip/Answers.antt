@@ -1,5 +1,0 @@
-use Rattle.nr_bitvec.proofs.RoundTrip.{octets-round_trip}
-use Rattle.nr_bitvec.proofs.octets_round_trip.Goals as goal
-
-pub returns : goal.returns
-returns c = octets-round_trip

@@ -1,0 +1,16 @@
+use Rattle.std.proofs.Common.{◌∙◌, arith}
+use Rattle.nr_bitvec.specs.Packed.{octet_place}
+use Rattle.nr_bitvec.proofs.Loads.{loads_more, group-place, octets-items}
+use Rattle.nr_bitvec.proofs.packed.Bits.from_bytes.Goals as goal
+
+-- the next eight octets, or what is left
+pub loop-i-preserved : goal.loop-i-preserved
+loop-i-preserved c = record {
+  loads = loads_more (octet_place c.args.octets.now) c.loop-i.words.items c.push_reserved.new.self.items c.loop-i.i c.word_of_octets.result c.loop-i.invariant.loads c.push_reserved.ensures.items
+      (λ j h. c.word_of_octets.ensures j h ∙ group-place c.args.octets.now c.loop-i.i _ j (omega (arith, c.min.ensures)) h);
+  room = c.push_reserved.ensures.capacity ∙ c.loop-i.invariant.room;
+}
+
+pub returns : goal.returns
+returns c =
+    octets-items c.args.octets.now c.loop-i.words.items c.loop-i.i (omega (arith, c.div_ceil-count.ensures, c.loop-i-test.false, c.loop-i.auto.i-end)) c.loop-i.invariant.loads

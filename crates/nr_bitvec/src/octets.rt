@@ -1,0 +1,33 @@
+// Octets as words: the places of octets have the most significant bit of each first, those of a word the least.
+ghost use Rattle.std.specs.Prelude.{◌≡◌, ℕ, ◌+◌, ◌-◌, ◌*◌, ◌/◌, ◌%◌, ◌<◌, ◌≤◌, length};
+ghost use Rattle.std.specs.Int.{bit_at};
+ghost use Rattle.nr_bitvec.specs.Packed.{octet_place, Swaps};
+
+// The word with the bits of each of its octets in the other order.
+pub(crate) fn turned(word: u64) -> u64
+    ensures { (j : ℕ) → j < 64 → bit_at result j ≡ bit_at word (8 * (j / 8) + (7 - j % 8)) }
+{
+    let pairs = swapped(word, 1, 0x5555_5555_5555_5555);
+    let fours = swapped(pairs, 2, 0x3333_3333_3333_3333);
+    swapped(fours, 4, 0x0f0f_0f0f_0f0f_0f0f)
+}
+
+// The places that are set in the mask, and those `by` above them, in each other's place.
+fn swapped(word: u64, by: u32, mask: u64) -> u64
+    requires { by < 64 }
+    ensures { Swaps by mask word result }
+{
+    word >> by & mask | (word & mask) << by
+}
+
+// The word of at most eight octets, with their places.
+pub(crate) fn word_of_octets(group: &[u8]) -> u64
+    requires { length group.now ≤ 8 }
+    ensures { (j : ℕ) → j < 64 → bit_at result j ≡ octet_place group.now j }
+{
+    let mut word = 0;
+    for (i, octet) in group.iter().enumerate() {
+        word |= (*octet as u64) << (8 * i);
+    }
+    turned(word)
+}

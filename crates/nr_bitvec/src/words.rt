@@ -1,0 +1,96 @@
+// Words of 64 places, place 0 the lowest bit of the first word, as a list of bits and a rotated block keep them.
+ghost use Rattle.std.specs.Prelude.{◌≡◌, ℕ, ◌+◌, ◌*◌, ◌^◌, ◌<◌, ◌≤◌, length, vec_len, vec_capacity, IsTrue};
+ghost use Rattle.std.specs.Int.{bit_at};
+ghost use Rattle.nr_bitvec.specs.Packed.{place, Adds, Changes, HasPlace, IsClear, IsPacked, Joins, SamePlaces};
+
+/// The `count` lowest bits of a word, and zeros above them.
+pub fn low_bits(word: u64, count: usize) -> u64
+    ensures low { (j : ℕ) → j < count → bit_at result j ≡ bit_at word j }
+    ensures high { (j : ℕ) → count ≤ j → bit_at result j ≡ 0 }
+{
+    if count < 64 {
+        word & ((1 << count) - 1)
+    } else {
+        word
+    }
+}
+
+/// The 64 places from place `turn` of word `word` on, the first of them lowest. Places past the end are zero.
+pub fn window(words: &[u64], word: usize, turn: usize) -> u64
+    requires { turn < 64 }
+    ensures { (j : ℕ) → j < 64 → bit_at result j ≡ place words.now (64 * word + turn + j) }
+{
+    if word >= words.len() {
+        return 0;
+    }
+    let low = words[word] >> turn;
+    if turn == 0 || word + 1 == words.len() {
+        return low;
+    }
+    low | words[word + 1] << (64 - turn)
+}
+
+// Adds 64 bits modulo two, from place `at` on, the lowest first. Those that go past the end are zero.
+pub(crate) fn flip(words: &mut Vec<u64>, at: usize, bits: u64)
+    requires { (j : ℕ) → 64 * length words.old.items ≤ at + j → bit_at bits j ≡ 0 }
+    ensures places { Adds at bits words.old.items words.new.items }
+    ensures len { vec_len words.new ≡ vec_len words.old }
+    ensures capacity { vec_capacity words.new ≡ vec_capacity words.old }
+{
+    let word = at / 64;
+    let turn = at % 64;
+    if word < words.len() {
+        words[word] ^= bits << turn;
+        if turn != 0 && word + 1 < words.len() {
+            words[word + 1] ^= bits >> (64 - turn);
+        }
+    }
+}
+
+// What is added from place `at` on to put the `count` lowest bits of `word` there.
+pub(crate) fn change(words: &[u64], at: usize, count: usize, word: u64) -> u64
+    requires { count ≤ 64 }
+    ensures { Changes words.now at count word result }
+{
+    low_bits(window(words, at / 64, at % 64) ^ word, count)
+}
+
+// Makes a place for one bit more after the first `len`, where the words have memory for it.
+pub(crate) fn make_place(words: &mut Vec<u64>, len: usize)
+    requires packed { IsPacked len words.old.items }
+    requires room { len < 64 * vec_capacity words.old }
+    ensures place { HasPlace len words.new.items words.old.items }
+    ensures capacity { vec_capacity words.new ≡ vec_capacity words.old }
+{
+    if len % 64 == 0 {
+        words.push_reserved(0);
+    }
+}
+
+// Puts words after the first `len` places, where no place is set. Their places past the end are zero.
+pub(crate) fn join(words: &mut Vec<u64>, len: usize, more: &[u64])
+    requires clear { IsClear words.old.items len }
+    requires fits { (t : ℕ) → 64 * length words.old.items ≤ len + t → place more.now t ≡ 0 }
+    requires short { len + 64 * length more.now < 2 ^ 32 }
+    ensures places { Joins len words.old.items more.now words.new.items (length more.now) }
+{
+    for (i, word) in more.iter().enumerate() {
+        flip(words, len + 64 * i, *word);
+    }
+}
+
+// Whether two lists of words are equal. Lists of one length are where they have the same places.
+pub(crate) fn same_words(a: &[u64], b: &[u64]) -> bool
+    ensures equal { IsTrue result → a.now ≡ b.now }
+    ensures places { length a.now ≡ length b.now → SamePlaces a.now b.now → IsTrue result }
+{
+    if a.len() != b.len() {
+        return false;
+    }
+    for (i, word) in a.iter().enumerate() {
+        if *word != b[i] {
+            return false;
+        }
+    }
+    true
+}

@@ -1,0 +1,14 @@
+-- Each table holds the remainders of the octets.
+use Rattle.std.proofs.Common.{ap, sym, ◌∙◌}
+use Rattle.nr_crcattach.specs.Octets.{octet_residues}
+use Rattle.nr_crcattach.proofs.Tables.{a24-raised, b24-raised, c16-raised}
+use Rattle.nr_crcattach.proofs.Poly.raised_residues.Goals as goal
+
+pub returns-in-A24 : goal.returns-in-A24
+returns-in-A24 c = a24-raised ∙ ap (λ p. octet_residues p 8) (sym c.in-A24.is)
+
+pub returns-in-B24 : goal.returns-in-B24
+returns-in-B24 c = b24-raised ∙ ap (λ p. octet_residues p 8) (sym c.in-B24.is)
+
+pub returns-in-C16 : goal.returns-in-C16
+returns-in-C16 c = c16-raised ∙ ap (λ p. octet_residues p 8) (sym c.in-C16.is)

@@ -1,0 +1,24 @@
+-- Calls that may be refused: what is said step by step, and what a call that may want memory answers.
+use Rattle.std.specs.Prelude.{◌≡◌, ◌⊎◌, Option, Some, None, Result, Ok, Err}
+
+-- a step, and the next one where it is not refused
+infixl 10 ◌>>=◌
+abbrev pub ◌>>=◌ : {X Y E : Type 0} → Result X E → (X → Result Y E) → Result Y E
+(Ok x) >>= next = next x
+(Err e) >>= next = Err e
+
+-- a value, or this fault where there is none
+abbrev pub or_fault : {X E : Type 0} → E → Option X → Result X E
+or_fault e None = Err e
+or_fault e (Some x) = Ok x
+
+-- a result with its fault seen as another type's
+abbrev pub with_fault : {X E F : Type 0} → (E → F) → Result X E → Result X F
+with_fault fault (Ok x) = Ok x
+with_fault fault (Err e) = Err (fault e)
+
+-- A call's answer, seen by view, is what is said of its input, unless memory ran out. The first argument is the
+-- fault that tells so.
+abbrev pub Gives : {X Y E : Type 0} → E → (X → Y) → Result X E → Result Y E → Type 0
+Gives memory view (Ok x) said = said ≡ Ok (view x)
+Gives memory view (Err e) said = (e ≡ memory) ⊎ (said ≡ Err e)

@@ -1,0 +1,6 @@
+pub mod LaneViews
+pub mod LaneWords
+pub mod Listed
+pub mod Moves
+pub mod Places
+pub mod Turns

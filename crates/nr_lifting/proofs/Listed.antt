@@ -1,0 +1,45 @@
+-- The set that a lifting size is in, by its set index.
+use Rattle.std.proofs.Common.{◌≡◌, ℕ, ◌≤◌, ◌&&◌, ◌||◌, Bool, true, false, Option, Some, None, IsSome, rules, List, [], ◌∷◌, get_or, nat_eq, refl, sym, ap, ◌∙◌}
+use Rattle.std.proofs.lemmas.Bool.{true≢false, eqb-true}
+use Rattle.std.proofs.lemmas.List.{get_or_past}
+use Rattle.std.specs.List.{list_all}
+use Rattle.nr_lifting.specs.Blocks.{IsSize}
+use Rattle.nr_lifting.specs.Sizes.{sizes, is_in, set_index, set_0, set_1, set_2, set_3, set_4, set_5, set_6, set_7}
+
+-- what holds of each number of a list holds of one that is in it
+all_listed : (test : ℕ → Bool) (xs : List ℕ) (z : ℕ) → list_all test xs ≡ true → is_in z xs ≡ true → test z ≡ true
+all_listed test [] z all listed = absurd (true≢false (sym listed))
+all_listed test (x ∷ xs) z all listed = go (test x) (nat_eq x z) refl refl all listed (all_listed test xs z)
+  where
+    go : (a b : Bool) → test x ≡ a → nat_eq x z ≡ b → (a && list_all test xs) ≡ true → (b || is_in z xs) ≡ true
+        → (list_all test xs ≡ true → is_in z xs ≡ true → test z ≡ true) → test z ≡ true
+    go true true is same all listed later = sym (ap test (eqb-true x z same)) ∙ is
+    go true false is other all listed later = later all listed
+    go false b is same all listed later = absurd (true≢false (sym all))
+
+-- the eight sets, by their index
+abbrev sets : List (List ℕ)
+sets = set_0 ∷ set_1 ∷ set_2 ∷ set_3 ∷ set_4 ∷ set_5 ∷ set_6 ∷ set_7 ∷ []
+
+-- whether a number is in the set of this index
+abbrev is_member : ℕ → Option ℕ → Bool
+is_member z (Some k) = is_in z (get_or sets k [])
+is_member z None = false
+
+-- each of the 51 sizes is in the set of its index
+member : (z : ℕ) → IsSize z → is_member z (set_index z) ≡ true
+unfolding set_index
+member z size = all_listed (λ n. is_member n (set_index n)) sizes z refl size
+
+pub member_at : (z k : ℕ) → IsSize z → set_index z ≡ Some k → is_in z (get_or sets k []) ≡ true
+member_at z k size e = sym (ap (is_member z) e) ∙ member z size
+
+-- no index is above 7
+pub member_past : (z k : ℕ) → IsSize z → set_index z ≡ Some k → 8 ≤ k → ⊥
+member_past z k size e h =
+    true≢false (sym (member_at z k size e) ∙ ap (is_in z) (get_or_past sets k [] h))
+
+-- and each size has one
+pub member_some : (z : ℕ) (o : Option ℕ) → IsSize z → o ≡ set_index z → IsSome o
+member_some z (Some k) size e = search rules
+member_some z None size e = absurd (true≢false (sym (member z size) ∙ ap (is_member z) (sym e)))

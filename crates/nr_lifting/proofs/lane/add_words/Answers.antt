@@ -1,0 +1,16 @@
+use Rattle.std.proofs.Common.{refl, arith}
+use Rattle.nr_lifting.proofs.LaneWords.{written_more, written_lane, summed_low, summed_high}
+use Rattle.nr_lifting.proofs.lane.add_words.Goals as goal
+
+-- the next word is one that is kept so far
+pub loop-i-preserved : goal.loop-i-preserved
+loop-i-preserved c =
+    written_more _ _ _ _ _ _ _ c.loop-i.invariant (omega arith) refl
+    (λ j short below. summed_low _ _ _ _ _ _ _ (c.loop-i.invariant.kept _ (omega arith)) c.requires.words.clear c.turned_word.ensures.turned c.turned_word.ensures.clear j short below)
+    (λ j short past. summed_high _ _ _ _ _ _ _ (c.loop-i.invariant.kept _ (omega arith)) c.requires.words.clear c.turned_word.ensures.turned c.turned_word.ensures.clear j short past)
+
+pub returns-clause-lane : goal.returns-clause-lane
+returns-clause-lane c = written_lane _ _ _ _ _ c.loop-i.invariant (omega arith) c.requires.words.above c.requires.words.below
+
+pub returns-clause-sum : goal.returns-clause-sum
+returns-clause-sum c = λ t below. c.loop-i.invariant.done t (omega (arith, below)) below

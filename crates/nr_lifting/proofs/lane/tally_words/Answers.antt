@@ -1,0 +1,33 @@
+use Rattle.std.proofs.Common.{refl, arith}
+use Rattle.nr_lifting.proofs.LaneWords.{written_more, written_lane, joined_low, joined_high, twice_low, twice_high}
+use Rattle.nr_lifting.proofs.lane.tally_words.Goals as goal
+
+-- the next words are ones that are kept so far
+pub loop-i-preserved : goal.loop-i-preserved
+loop-i-preserved c =
+    let ones = c.loop-i.invariant.ones_at.kept c.loop-i.i (omega arith) in
+    let more = c.loop-i.invariant.more_at.kept c.loop-i.i (omega arith) in
+    let is = c.turned_word-turned.ensures.turned in
+    let none = c.turned_word-turned.ensures.clear in
+    record {
+      ones_at = written_more _ _ _ _ _ _ _ c.loop-i.invariant.ones_at (omega arith) refl
+          (λ j short below. joined_low _ _ _ _ _ _ _ ones c.requires.ones.clear is none j short below)
+          (λ j short past. joined_high _ _ _ _ _ _ _ ones c.requires.ones.clear is none j short past);
+      more_at = written_more _ _ _ _ _ _ _ c.loop-i.invariant.more_at (omega arith) refl
+          (λ j short below. twice_low _ _ _ _ _ _ _ ones c.requires.ones.clear is none j short _ _ more c.requires.more.clear below)
+          (λ j short past. twice_high _ _ _ _ _ _ _ ones c.requires.ones.clear is none j short _ _ more c.requires.more.clear past);
+    }
+
+pub returns-clause-ones_lane : goal.returns-clause-ones_lane
+returns-clause-ones_lane c =
+    written_lane _ _ _ _ _ c.loop-i.invariant.ones_at (omega arith) c.requires.ones.above c.requires.ones.below
+
+pub returns-clause-more_lane : goal.returns-clause-more_lane
+returns-clause-more_lane c =
+    written_lane _ _ _ _ _ c.loop-i.invariant.more_at (omega arith) c.requires.more.above c.requires.more.below
+
+pub returns-clause-ones : goal.returns-clause-ones
+returns-clause-ones c = λ t below. c.loop-i.invariant.ones_at.done t (omega (arith, below)) below
+
+pub returns-clause-more : goal.returns-clause-more
+returns-clause-more c = λ t below. c.loop-i.invariant.more_at.done t (omega (arith, below)) below

@@ -1,0 +1,154 @@
+ghost use Rattle.std.specs.Prelude.{◌≡◌, ℕ, ◌+◌, ◌*◌, ◌<◌, ◌≤◌, false, length, replicate};
+ghost use Rattle.std.specs.Int.{bit_at};
+ghost use Rattle.nr_bitvec.specs.Bit.{bit};
+ghost use Rattle.nr_bitvec.specs.Packed.{IsClear};
+ghost use Rattle.nr_lifting.specs.Lane.{IsLane, AddsTurned, JoinsTurned, MeetsTurned, AddsPlaces, JoinsPlaces, MeetsPlaces, IsTurnedWord, IsMovedWord};
+
+use nr_bitvec::Bits;
+use nr_bitvec::words::{low_bits, window};
+use std::marker::Model;
+
+/// A lane of `Z` bits, which keeps 64 of them in a word: a row block of the code at lifting size `Z`, or a column of
+/// one. `W` is the number of words, the least that holds `Z` bits.
+#[derive(Drop)]
+pub struct Lane<const Z: usize, const W: usize> {
+    words: [u64; W],
+}
+
+impl<const Z: usize, const W: usize> Model for Lane<Z, W> {
+    ghost use Rattle.std.specs.Prelude.{Bool, List};
+    ghost use Rattle.nr_bitvec.specs.Packed.{unpacked};
+    ghost use Rattle.nr_lifting.specs.Lane.{IsLane};
+
+    ghost Value = { List Bool };
+
+    ghost view = { λ a. unpacked Z a.words };
+
+    ghost invariant = { λ a. IsLane Z W a.words };
+}
+
+impl<const Z: usize, const W: usize> Lane<Z, W> {
+    /// The lane of zeros.
+    pub fn zero() -> Self
+        requires above { 64 * W < Z + 64 }
+        requires below { Z ≤ 64 * W }
+        ensures { result ≡ replicate Z false }
+    {
+        Lane { words: [0; W] }
+    }
+
+    /// The `Z` bits of `src` from bit `from` on, which it has.
+    pub fn load(src: &Bits, from: usize) -> Self
+        requires above { 64 * W < Z + 64 }
+        requires below { Z ≤ 64 * W }
+        requires source { from + Z ≤ length src.now.items }
+        ensures bits { (t : ℕ) → t < Z → bit result t ≡ bit src.now.items (from + t) }
+        ensures long { length result ≡ Z }
+    {
+        let _ = src.len();
+        let mut words = [0; W];
+        for i in 0..W {
+            words[i] = low_bits(src.window(from + 64 * i), Z - 64 * i);
+        }
+        Lane { words }
+    }
+
+    /// Puts the lane in the places of `dst` from bit `at` on, and leaves every other bit as it is. Takes no memory.
+    pub fn store(&self, dst: &mut Bits, at: usize)
+        requires { at + Z ≤ length dst.old.items }
+        ensures within { (t : ℕ) → t < Z → bit dst.new.items (at + t) ≡ bit self.now t }
+        ensures before { (t : ℕ) → t < at → bit dst.new.items t ≡ bit dst.old.items t }
+        ensures after { (t : ℕ) → at + Z ≤ t → bit dst.new.items t ≡ bit dst.old.items t }
+        ensures long { length dst.new.items ≡ length dst.old.items }
+        ensures room { dst.new.room ≡ dst.old.room }
+    {
+        let _ = dst.len();
+        for i in 0..W {
+            let start = 64 * i;
+            dst.put(at + start, (Z - start).min(64), self.words[i]);
+        }
+    }
+
+    /// Adds `src` to the lane, modulo two, rotated by `p`: bit t gains bit (t + p) mod Z of `src`.
+    pub fn add_shifted(&mut self, src: &Self, p: usize)
+        requires { p < Z }
+        ensures sum { AddsTurned Z self.new self.old src.now p }
+        ensures long { length self.new ≡ length self.old }
+    {
+        add_words(&mut self.words, &src.words, Z, p);
+    }
+
+    /// Counts `src`, rotated by `p`, among others, as far as twice: with u the bit (t + p) mod Z of `src`, bit t of
+    /// `more` is set where bit t of `ones` and u are, and then bit t of `ones` where u is.
+    pub fn tally(ones: &mut Self, more: &mut Self, src: &Self, p: usize)
+        requires { p < Z }
+        ensures ones { JoinsTurned Z ones.new ones.old src.now p }
+        ensures more { MeetsTurned Z more.new more.old ones.old src.now p }
+        ensures ones_long { length ones.new ≡ length ones.old }
+        ensures more_long { length more.new ≡ length more.old }
+    {
+        tally_words(&mut ones.words, &mut more.words, &src.words, Z, p);
+    }
+}
+
+// Word `i` of a block of `size` bits that is rotated by `p`.
+fn turned_word(words: &[u64], size: usize, i: usize, p: usize) -> u64
+    requires start { 64 * i < size }
+    requires turn { p < size }
+    requires clear { IsClear words.now size }
+    ensures turned { IsTurnedWord size words.now i p result }
+    ensures clear { (j : ℕ) → size ≤ 64 * i + j → bit_at result j ≡ 0 }
+{
+    let start = 64 * i;
+    let straight = window(words, i + p / 64, p % 64);
+    low_bits(
+        straight | wrapped_word(words, start, size - p),
+        size - start,
+    )
+}
+
+// The 64 places from place `start` on, after all places have moved up by `up`; zeros come in below.
+fn wrapped_word(words: &[u64], start: usize, up: usize) -> u64
+    ensures low { (j : ℕ) → start + j < up → bit_at result j ≡ 0 }
+    ensures high { IsMovedWord words.now start up result }
+{
+    if up <= start {
+        let from = start - up;
+        window(words, from / 64, from % 64)
+    } else if up - start < 64 {
+        window(words, 0, 0) << (up - start)
+    } else {
+        0
+    }
+}
+
+// Adds a block of `size` bits to another, modulo two, rotated by `p`.
+fn add_words(words: &mut [u64], src: &[u64], size: usize, p: usize)
+    requires turn { p < size }
+    requires words { IsLane size (length words.old) words.old }
+    requires src { IsClear src.now size }
+    ensures lane { IsLane size (length words.new) words.new }
+    ensures sum { AddsPlaces size words.new words.old src.now p }
+{
+    for i in 0..words.len() {
+        words[i] ^= turned_word(src, size, i, p);
+    }
+}
+
+// Counts a block of `size` bits, rotated by `p`, among others, as far as twice.
+fn tally_words(ones: &mut [u64], more: &mut [u64], src: &[u64], size: usize, p: usize)
+    requires turn { p < size }
+    requires ones { IsLane size (length ones.old) ones.old }
+    requires more { IsLane size (length more.old) more.old }
+    requires src { IsClear src.now size }
+    ensures ones_lane { IsLane size (length ones.new) ones.new }
+    ensures more_lane { IsLane size (length more.new) more.new }
+    ensures ones { JoinsPlaces size ones.new ones.old src.now p }
+    ensures more { MeetsPlaces size more.new more.old ones.old src.now p }
+{
+    for i in 0..ones.len() {
+        let turned = turned_word(src, size, i, p);
+        more[i] |= ones[i] & turned;
+        ones[i] |= turned;
+    }
+}

@@ -1,0 +1,5 @@
+use Rattle.nr_shifttable.proofs.Written.{items-are_written}
+use Rattle.nr_shifttable.proofs.laws.items_written.Goals as goal
+
+pub returns : goal.returns
+returns c = items-are_written
