@@ -1,0 +1,57 @@
+-- The codeword of a code block: the one word that begins with its bits, the fillers zero, and meets every row
+-- (TS 38.212, 5.3.2).
+use Rattle.std.specs.Prelude.{◌≡◌, ℕ, ◌<◌, Bool, true, false, nat_lt, nat_le, ◌&&◌, Ok, List, length, take}
+use Rattle.nr_bitvec.specs.Bit.{bit}
+use Rattle.nr_graphpick.specs.declared.Graph.{Graph}
+use Rattle.nr_graphpick.specs.Graph.{rows_of, info_cols_of}
+use Rattle.nr_segment.specs.CodeBlock.{with_fillers}
+use Rattle.nr_segment.specs.Plan.{Numbers, plan_of}
+use Rattle.nr_shifttable.specs.Accepted.{Entries, entries_in, has_graph, IsTable}
+use Rattle.nr_ldpcenc.specs.Rows.{Checks, Meets, block_checks, word_size}
+use Rattle.nr_ldpcenc.specs.Solving.{word_of}
+
+-- a word that begins with these bits and meets every row
+pub record IsWordOf (c : Checks) (info word : List Bool) : Type 0 where
+  pub long : length word ≡ c.size
+  pub begins : take (length info) word ≡ info
+  pub meets : Meets c (bit word)
+
+-- the word that begins with the K bits of a code block with its fillers
+unfoldable pub completed : Entries → Graph → Numbers → List Bool → List Bool
+completed t g p info = word_of (entries_in g t) p.set (info_cols_of g) (rows_of g) p.z info
+
+-- exactly one word begins with these K bits and meets every row: `completed`
+pub record HasOneWord (t : Entries) (g : Graph) (p : Numbers) (info : List Bool) : Type 0 where
+  pub is_word : IsWordOf (block_checks t g p) info (completed t g p info)
+  pub only : (word : List Bool) → IsWordOf (block_checks t g p) info word → word ≡ completed t g p info
+
+-- for every accepted table that has the base graph, every plan and every K bits there is exactly one such word
+abbrev pub OneCodeword : Type 0
+OneCodeword =
+    (t : Entries) (g : Graph) (b : ℕ) (p : Numbers) (info : List Bool) → IsTable t → has_graph g t ≡ true
+    → plan_of g b ≡ Ok p → length info ≡ p.k → HasOneWord t g p info
+
+-- the codeword of the K' bits of a code block
+unfoldable pub codeword : Entries → Graph → Numbers → List Bool → List Bool
+codeword t g p info = completed t g p (with_fillers p info)
+
+-- a filler's position: from K' on and below K
+abbrev pub filler : ℕ → ℕ → ℕ → Bool
+filler kdash k q = nat_le kdash q && nat_lt q k
+
+-- a word meets every row, and its fillers are zero
+pub record IsPlain (t : Entries) (g : Graph) (p : Numbers) (w : ℕ → Bool) : Type 0 where
+  pub meets : Meets (block_checks t g p) w
+  pub zero : (q : ℕ) → filler p.kdash p.k q ≡ true → w q ≡ false
+
+-- a plain word that begins with the K' bits of a code block
+pub record IsCodeword (t : Entries) (g : Graph) (p : Numbers) (info word : List Bool) : Type 0 where
+  pub long : length word ≡ word_size g p
+  pub begins : (k : ℕ) → k < p.kdash → bit word k ≡ bit info k
+  pub plain : IsPlain t g p (bit word)
+
+-- the codeword of K' bits is such a word, for every accepted table that has the base graph and every plan
+abbrev pub CodewordsArePlain : Type 0
+CodewordsArePlain =
+    (t : Entries) (g : Graph) (b : ℕ) (p : Numbers) (info : List Bool) → IsTable t → has_graph g t ≡ true
+    → plan_of g b ≡ Ok p → length info ≡ p.kdash → IsCodeword t g p info (codeword t g p info)

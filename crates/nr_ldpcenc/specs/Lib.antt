@@ -1,0 +1,4 @@
+pub mod Parity
+pub mod Rows
+pub mod Solving
+pub mod Codeword

@@ -1,0 +1,46 @@
+-- The rows of the parity-check matrix H of a code block (TS 38.212, 5.3.2): each entry of the base graph stands for
+-- the identity matrix of the lifting size, shifted to the right by the entry's value modulo that size.
+use Rattle.std.specs.Prelude.{◌≡◌, ℕ, ◌+◌, ◌*◌, ◌%◌, ◌<◌, Bool, false, List, map}
+use Rattle.nr_graphpick.specs.declared.Graph.{Graph}
+use Rattle.nr_graphpick.specs.Graph.{rows_of, cols_of}
+use Rattle.nr_segment.specs.Plan.{Numbers}
+use Rattle.nr_shifttable.specs.declared.entry.Entry.{Entry}
+use Rattle.nr_shifttable.specs.Accepted.{Entries, entries_in, row_of}
+use Rattle.nr_shifttable.specs.Tails.{value_in}
+use Rattle.nr_ldpcenc.specs.Parity.{parity}
+
+-- parity checks: how many rows of blocks there are, how many rows each has, how many positions a word has, and the
+-- positions of the ones in row t of row of blocks i
+pub record Checks : Type 0 where
+  pub rows : ℕ
+  pub lanes : ℕ
+  pub size : ℕ
+  pub row : ℕ → ℕ → List ℕ
+
+-- a word meets every row: H times the word is zero
+abbrev pub Meets : Checks → (ℕ → Bool) → Type 0
+Meets c w = (i t : ℕ) → i < c.rows → t < c.lanes → parity w (c.row i t) ≡ false
+
+-- where row t of a block has its one, for the lifting size z, the block's column and the entry's value v
+abbrev pub place : ℕ → ℕ → ℕ → ℕ → ℕ
+place z t col v = col * z + (t + v % z) % z
+
+-- the positions of the ones in row t of a row of blocks, a list of entries
+abbrev pub positions : ℕ → ℕ → ℕ → List Entry → List ℕ
+positions set z t row = map (λ e. place z t e.col (value_in set e)) row
+
+-- the same of row of blocks i
+abbrev pub row_at : List Entry → ℕ → ℕ → ℕ → ℕ → List ℕ
+row_at es set z i t = positions set z t (row_of es i)
+
+-- the parity checks of a base graph's entries, with their values in a set, for the lifting size z
+abbrev pub checks_of : List Entry → ℕ → ℕ → ℕ → ℕ → Checks
+checks_of es set z rows cols = record { rows = rows; lanes = z; size = cols * z; row = row_at es set z }
+
+-- the parity checks of a code block
+abbrev pub block_checks : Entries → Graph → Numbers → Checks
+block_checks t g p = checks_of (entries_in g t) p.set p.z (rows_of g) (cols_of g)
+
+-- how many bits a word has
+abbrev pub word_size : Graph → Numbers → ℕ
+word_size g p = cols_of g * p.z

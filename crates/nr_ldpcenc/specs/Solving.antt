@@ -1,0 +1,97 @@
+-- The parity columns of a word, computed: what the one codeword is made of. What it promises stands in Codeword: the
+-- word meets every row, and no other does.
+use Rattle.std.specs.Prelude.{◌≡◌, ℕ, zero, suc, ◌+◌, ◌-◌, ◌*◌, ◌/◌, ◌%◌, ◌<◌, ◌≤◌, ◌==◌, nat_lt, Bool, if◌then◌else◌, List, map, filter, length, Option, Some, None, option_map, unwrap_or, slice_index}
+use Rattle.std.specs.List.{range_with_len}
+use Rattle.nr_bitvec.specs.Bit.{◌⊕◌, bit}
+use Rattle.nr_graphpick.specs.declared.Graph.{Graph}
+use Rattle.nr_graphpick.specs.Graph.{info_cols_of}
+use Rattle.nr_segment.specs.Plan.{Numbers}
+use Rattle.nr_shifttable.specs.declared.entry.Entry.{Entry}
+use Rattle.nr_shifttable.specs.Accepted.{Entries, entries_in, row_of, values_at}
+use Rattle.nr_shifttable.specs.CoreRows.{third_of}
+use Rattle.nr_shifttable.specs.Tails.{value_in}
+use Rattle.nr_ldpcenc.specs.Parity.{parity}
+use Rattle.nr_ldpcenc.specs.Rows.{place}
+
+-- the sum of a word over what row t of a row of blocks, a list of entries, has before column j
+abbrev pub sum_before : ℕ → ℕ → (ℕ → Bool) → ℕ → ℕ → List Entry → Bool
+sum_before set z w j t row = parity w (map (λ e. place z t e.col (value_in set e)) (filter (λ e. nat_lt e.col j) row))
+
+-- the same of row of blocks i
+abbrev pub head_sum : List Entry → ℕ → ℕ → (ℕ → Bool) → ℕ → ℕ → ℕ → Bool
+head_sum es set z w j i t = sum_before set z w j t (row_of es i)
+
+-- the sum of the four core rows over the columns before the first parity column, n
+abbrev pub core_sum : List Entry → ℕ → ℕ → (ℕ → Bool) → ℕ → ℕ → Bool
+core_sum es set z w n t = (head_sum es set z w n 0 t ⊕ head_sum es set z w n 1 t) ⊕ (head_sum es set z w n 2 t ⊕ head_sum es set z w n 3 t)
+
+-- the value at a row and a column, in a set
+abbrev pub shift_at : List Entry → ℕ → ℕ → ℕ → Option ℕ
+shift_at es set i j = option_map (λ values. slice_index values set) (values_at es i j)
+
+-- the first value that is there
+abbrev pub either : Option ℕ → Option ℕ → ℕ
+either None b = unwrap_or b 0
+either (Some a) b = a
+
+-- by how much the first parity column is rotated in the sum of the four core rows: the values that agree cancel
+unfoldable pub core_rotation : List Entry → ℕ → ℕ → ℕ
+core_rotation es set n = third_of (unwrap_or (shift_at es set 0 n) 0) (either (shift_at es set 1 n) (shift_at es set 2 n)) (unwrap_or (shift_at es set 3 n) 0)
+
+-- the lane that a rotation by v takes to lane u
+abbrev pub unrotate : ℕ → ℕ → ℕ → ℕ
+unrotate z v u = (u + (z - v % z)) % z
+
+-- a word with other bits in column j
+abbrev pub with_column : ℕ → ℕ → (ℕ → Bool) → (ℕ → Bool) → ℕ → Bool
+with_column z j f w p = if p / z == j then f (p % z) else w p
+
+-- with the first parity column solved: the sum of the four core rows is that column alone, rotated
+unfoldable pub with_first : List Entry → ℕ → ℕ → ℕ → (ℕ → Bool) → ℕ → Bool
+with_first es set n z w = with_column z n (λ u. core_sum es set z w n (unrotate z (core_rotation es set n) u)) w
+
+-- the row that has parity column n + i last, with value 0
+abbrev pub row_ending : ℕ → ℕ
+row_ending i = if nat_lt i 3 then i - 1 else i
+
+-- with parity column n + i solved: it is the sum of what its row has before it
+unfoldable pub with_next : List Entry → ℕ → ℕ → ℕ → ℕ → (ℕ → Bool) → ℕ → Bool
+with_next es set n z i w = with_column z (n + i) (λ t. head_sum es set z w (n + i) (row_ending i) t) w
+
+-- with the first parity column and the next k solved
+unfoldable pub with_columns : List Entry → ℕ → ℕ → ℕ → (ℕ → Bool) → ℕ → ℕ → Bool
+with_columns es set n z w zero = with_first es set n z w
+with_columns es set n z w (suc k) = with_next es set n z (k + 1) (with_columns es set n z w k)
+
+-- the word that begins with the bits of the n information columns, for a base graph of `rows` rows
+unfoldable pub word_of : List Entry → ℕ → ℕ → ℕ → ℕ → List Bool → List Bool
+word_of es set n rows z info = map (with_columns es set n z (bit info) (rows - 1)) (range_with_len 0 ((n + rows) * z))
+
+-- two words are the same below a position
+abbrev pub AgreeBelow : ℕ → (ℕ → Bool) → (ℕ → Bool) → Type 0
+AgreeBelow n v w = (p : ℕ) → p < n → v p ≡ w p
+
+-- the parity columns from n on and below n + lim are solved
+pub record IsSolvedTo (es : List Entry) (set n z lim : ℕ) (w : ℕ → Bool) : Type 0 where
+  pub first : (t : ℕ) → t < z → w (place z t n (core_rotation es set n)) ≡ core_sum es set z w n t
+  pub later : (i t : ℕ) → 1 ≤ i → i < lim → t < z → w (place z t (n + i) 0) ≡ head_sum es set z w (n + i) (row_ending i) t
+
+-- the parity columns below n + lim of a code block's word are solved
+abbrev pub IsSolved : Entries → Graph → Numbers → ℕ → List Bool → Type 0
+IsSolved t g p lim word = IsSolvedTo (entries_in g t) p.set (info_cols_of g) p.z lim (bit word)
+
+-- the z bits from bit `at` on become those of a block, rotated by p; no bit before them is another
+pub record PutsBlock (z : ℕ) (new old : List Bool) (at : ℕ) (block : ℕ → Bool) (p : ℕ) : Type 0 where
+  pub within : (t : ℕ) → t < z → bit new (at + t) ≡ block ((t + p) % z)
+  pub before : AgreeBelow at (bit old) (bit new)
+  pub long : length new ≡ length old
+
+-- the sum of the four core rows of a code block over its information columns
+abbrev pub core_of : Entries → Graph → Numbers → List Bool → ℕ → Bool
+core_of t g p word u = core_sum (entries_in g t) p.set p.z (bit word) (info_cols_of g) u
+
+-- the first bits of a list, as far as m, are those of another, and its bits from n on are as they were
+pub record Copies (m n : ℕ) (src old new : List Bool) : Type 0 where
+  pub begins : (t : ℕ) → t < m → bit new t ≡ bit src t
+  pub after : (t : ℕ) → n ≤ t → bit new t ≡ bit old t
+  pub long : length new ≡ length old

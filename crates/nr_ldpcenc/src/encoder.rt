@@ -1,0 +1,77 @@
+//! The encoder, and the test of a word.
+
+ghost use Rattle.std.specs.Prelude.{◌≡◌, ◌↔◌, ◌<◌, false, length, All, IfOk, IsErrOf, IsTrue};
+ghost use Rattle.nr_bitvec.specs.Bit.{bit};
+ghost use Rattle.nr_ldpcenc.specs.Codeword.{codeword, IsCodeword};
+ghost use Rattle.nr_ldpcenc.specs.Parity.{parity};
+ghost use Rattle.nr_ldpcenc.specs.Rows.{Meets, block_checks, positions, word_size};
+ghost use Rattle.nr_segment.specs.CodeBlock.{numbers};
+ghost use Rattle.nr_shifttable.specs.Accepted.{entries_in, has_graph, IsInRange};
+
+use crate::fault::EncFault;
+use crate::laws::codewords_are_plain;
+use crate::solver::set_in;
+use crate::word::{Word, fill};
+use nr_bitvec::Bits;
+use nr_segment::Plan;
+use nr_shifttable::{Entry, Table};
+use std::alloc::Global;
+
+/// The codeword of the K' bits of a code block: the one word that begins with them, has zeros for the fillers and
+/// meets every row (TS 38.212, 5.3.2).
+///
+/// # Errors
+///
+/// In this order: `NoGraph`, where the table lacks the plan's base graph, before any memory is asked for; `Memory`,
+/// where memory is refused.
+pub fn encode(alloc: Global, table: &Table, plan: &Plan, bits: &Bits) -> Result<Word, EncFault>
+    requires { length bits.now.items ≡ plan.now.kdash }
+    ensures no_graph { IsErrOf result EncFault.NoGraph ↔ (has_graph plan.now.graph table.now ≡ false) }
+    ensures word { IfOk result (λ word. word ≡ codeword table.now plan.now.graph (numbers plan.now) bits.now.items) }
+    ensures plain { IfOk result (IsCodeword table.now plan.now.graph (numbers plan.now) bits.now.items) }
+{
+    codewords_are_plain();
+    if !table.has(plan.graph) {
+        return Err(EncFault::NoGraph);
+    }
+    let Ok(mut word) = Word::new(alloc, plan) else {
+        return Err(EncFault::Memory);
+    };
+    word.begin(bits);
+    fill(table, plan, &mut word);
+    Ok(word)
+}
+
+/// Whether a word meets every row of a code block's parity-check matrix (TS 38.212, 5.3.2). Takes no memory.
+pub fn meets(table: &Table, plan: &Plan, word: &Word) -> bool
+    requires graph { IsTrue (has_graph plan.now.graph table.now) }
+    requires long { length word.now ≡ word_size plan.now.graph (numbers plan.now) }
+    ensures { IsTrue result ↔ Meets (block_checks table.now plan.now.graph (numbers plan.now)) (bit word.now) }
+{
+    for i in 0..plan.graph.rows() {
+        let row = table.row_entries(plan.graph, i);
+        for t in 0..plan.z {
+            if sum_of(plan, row, t, word) {
+                return false;
+            }
+        }
+    }
+    true
+}
+
+// The sum of a word over row t of a row of blocks.
+fn sum_of(plan: &Plan, row: &[Entry], t: u32, word: &Word) -> bool
+    requires lane { t < plan.now.z }
+    requires in_range { All (IsInRange plan.now.graph) row.now }
+    requires long { length word.now ≡ word_size plan.now.graph (numbers plan.now) }
+    ensures { result ≡ parity (bit word.now) (positions plan.now.set plan.now.z t row.now) }
+{
+    let z = plan.z as usize;
+    let set = set_in(plan) as usize;
+    let mut sum = false;
+    for entry in row {
+        let lane = (t as usize + usize::from(entry.values[set]) % z) % z;
+        sum ^= word.get(usize::from(entry.col) * z + lane);
+    }
+    sum
+}

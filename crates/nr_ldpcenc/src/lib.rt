@@ -1,0 +1,20 @@
+//! The LDPC codewords of NR (3GPP TS 38.212, 5.3.2), for every accepted shift table and each of the 51 lifting sizes.
+//! A `Word` has a place for each column of the parity-check matrix, the two punctured columns among them.
+//! Its rows are specs/Rows.antt: sums of the word over a matrix of rotated identities, and never the order in which
+//! an encoder solves them.
+//! Stands on nr_bitvec, nr_lifting, nr_graphpick, nr_segment and nr_shifttable, with `thiserror` for the fault.
+#![tactic(auto)]
+
+mod encoder;
+mod fault;
+mod laws;
+mod solver;
+mod word;
+
+pub use encoder::{encode, meets};
+pub use fault::EncFault;
+pub use laws::{codewords_are_plain, one_codeword};
+pub use word::{Word, fill};
+
+#[cfg(test)]
+mod tests;

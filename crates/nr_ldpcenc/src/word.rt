@@ -1,0 +1,120 @@
+//! The words that a code block is encoded into.
+
+ghost use Rattle.std.specs.Prelude.{◌≡◌, ℕ, ◌*◌, ◌^◌, ◌<◌, ◌≤◌, false, IfOk, IsTrue, length, replicate, slice_set, take};
+ghost use Rattle.nr_bitvec.specs.Bit.{bit};
+ghost use Rattle.nr_ldpcenc.specs.Codeword.{completed, IsWordOf};
+ghost use Rattle.nr_ldpcenc.specs.Rows.{block_checks, word_size};
+ghost use Rattle.nr_ldpcenc.specs.Solving.{Copies};
+ghost use Rattle.nr_segment.specs.CodeBlock.{numbers};
+ghost use Rattle.nr_shifttable.specs.Accepted.{has_graph};
+
+use crate::solver::solve;
+use nr_bitvec::Bits;
+use nr_segment::Plan;
+use nr_shifttable::Table;
+use std::alloc::{AllocError, Global};
+use std::marker::Model;
+
+/// The largest lifting size.
+const MOST_SIZE: u32 = 384;
+
+/// A word: a bit for each column of the parity-check matrix of a code block, 68 Zc or 52 Zc of them
+/// (TS 38.212, 5.3.2). The first K are the code block with its fillers, and the first 2 Zc are not sent.
+#[derive(Debug, Drop)]
+pub struct Word {
+    bits: Bits,
+    // One block's place for the sums of `fill`, at any lifting size.
+    work: Bits,
+}
+
+impl Model for Word {
+    ghost use Rattle.std.specs.Prelude.{◌≡◌, List, Bool, length};
+
+    ghost Value = { List Bool };
+
+    ghost view = { λ w. w.bits.items };
+
+    ghost invariant = { λ w. length w.work.items ≡ 384 };
+}
+
+impl Word {
+    /// The word of zeros for the code blocks of a plan. `AllocError` is want of memory.
+    pub fn new(alloc: Global, plan: &Plan) -> Result<Word, AllocError>
+        ensures { IfOk result (λ word. word ≡ replicate (word_size plan.now.graph (numbers plan.now)) false) }
+    {
+        let bits = zeros(alloc, plan.graph.cols(), plan.z)?;
+        let work = zeros(alloc, 1, MOST_SIZE)?;
+        Ok(Word { bits, work })
+    }
+
+    /// The number of bits: 68 Zc or 52 Zc.
+    pub fn len(&self) -> usize
+        ensures value { result ≡ length self.now }
+        ensures short { result ≤ 2 ^ 24 }
+    {
+        self.bits.len()
+    }
+
+    /// Bit `i`, counted from 0 and below the length.
+    pub fn get(&self, i: usize) -> bool
+        requires { i < length self.now }
+        ensures { result ≡ bit self.now i }
+    {
+        self.bits.get(i)
+    }
+
+    /// Puts `value` in the place of bit `i`, counted from 0 and below the length. Takes no memory.
+    pub fn set(&mut self, i: usize, value: bool)
+        requires { i < length self.old }
+        ensures { self.new ≡ slice_set self.old i value }
+    {
+        self.bits.set(i, value);
+    }
+
+    // Puts a list of bits at the start.
+    pub(crate) fn begin(&mut self, bits: &Bits)
+        requires { length bits.now.items ≤ length self.old }
+        ensures { Copies (length bits.now.items) (length bits.now.items) bits.now.items self.old self.new }
+    {
+        copy_bits(&mut self.bits, bits);
+    }
+}
+
+/// Solves the parity columns of a word: the first K bits stay, and the others become those of the one word that
+/// begins with these and meets every row (TS 38.212, 5.3.2). Takes no memory.
+pub fn fill(table: &Table, plan: &Plan, word: &mut Word)
+    requires graph { IsTrue (has_graph plan.now.graph table.now) }
+    requires long { length word.old ≡ word_size plan.now.graph (numbers plan.now) }
+    ensures completed { word.new ≡ completed table.now plan.now.graph (numbers plan.now) (take plan.now.k word.old) }
+    ensures is_word { IsWordOf (block_checks table.now plan.now.graph (numbers plan.now)) (take plan.now.k word.old) word.new }
+{
+    solve(table, plan, &mut word.bits, &mut word.work);
+}
+
+// Blocks of zeros, one after another.
+fn zeros(alloc: Global, blocks: u32, size: u32) -> Result<Bits, AllocError>
+    requires few { blocks * size ≤ 2 ^ 24 }
+    requires size { size ≤ 384 }
+    ensures { IfOk result (λ bits. bits.items ≡ replicate (blocks * size) false) }
+{
+    let mut block = Bits::with_room(alloc, size)?;
+    for _place in 0..size {
+        block.push_in_room(false);
+    }
+    let mut bits = Bits::with_room(alloc, blocks * size)?;
+    for _block in 0..blocks {
+        bits.extend(&block)?;
+    }
+    Ok(bits)
+}
+
+// Puts a list of bits at the start of another.
+fn copy_bits(bits: &mut Bits, from: &Bits)
+    requires { length from.now.items ≤ length bits.old.items }
+    ensures { Copies (length from.now.items) (length from.now.items) from.now.items bits.old.items bits.new.items }
+{
+    let count = from.len();
+    for i in 0..count.div_ceil(64) {
+        bits.put(64 * i, (count - 64 * i).min(64), from.window(64 * i));
+    }
+}
