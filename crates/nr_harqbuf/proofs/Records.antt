@@ -1,0 +1,314 @@
+-- The laws of the record: one more hearing makes the record of the longer list, and the record says which words agree.
+use Rattle.std.proofs.Common.{◌≡◌, ◌≢◌, ℕ, ◌<◌, ◌==◌, ◌||◌, ◌&&◌, Bool, true, false, not, cond, List, [], ◌∷◌, ◌++◌, length, get_or, set, refl, sym, ap, ◌∙◌, ⊎_elim, arith}
+use Rattle.std.specs.Prelude.{Option, Some, None, map, option_map, suc, zero}
+use Rattle.std.specs.Bool.{beq}
+use Rattle.std.specs.List.{range_with_len, find, list_any, list_all}
+use Rattle.std.proofs.lemmas.Bool.{cases_eq, cases_lt, eqb-true, eq-eqb, ne_eqb, and_parts, and_from, false_from_ne_true, true_from_ne_false, false≢true, true≢false, or_left, or_right}
+use Rattle.std.proofs.lemmas.List.{get_or-set_same, get_or-set_other, get_or_past, length-set, same_lists}
+use Rattle.std.proofs.lemmas.List.FromFn.{get_or-map-range_with_len, length-map-range_with_len}
+use Rattle.std.proofs.lemmas.List.Folds.{list_any-append, list_any_at, list_all_at}
+use Rattle.nr_harqbuf.specs.Record.{Heardbits, Hearing, HasFirsts, first_at, first_heard, heard_as, is_heard, differs, with_hearing, record_of, clashes, RecordContinues, FitsByRecord}
+
+-- what a record holds at a position
+pub record_of-at : (n : ℕ) (hs : List Hearing) (p : ℕ) → p < n → first_at (record_of n hs) p ≡ first_heard hs p
+record_of-at n hs p lt = get_or-map-range_with_len (first_heard hs) 0 n p p None lt (omega arith)
+
+pub first_heard-cons : (h : Hearing) (hs : List Hearing) (p : ℕ) → first_heard (h ∷ hs) p ≡ cond (h.0 == p) (Some h.1) (first_heard hs p)
+unfolding first_heard
+first_heard-cons h hs p = go (h.0 == p)
+  where
+    go : (b : Bool) → option_map (λ (x : Hearing). x.1) (cond b (Some h) (find (λ (x : Hearing). x.0 == p) hs)) ≡ cond b (Some h.1) (option_map (λ (x : Hearing). x.1) (find (λ (x : Hearing). x.0 == p) hs))
+    go true = refl
+    go false = refl
+
+-- one more hearing, at the end
+pub first_heard-push : (hs : List Hearing) (h : Hearing) (p : ℕ) → first_heard (hs ++ h ∷ []) p ≡ cond (is_heard (first_heard hs p)) (first_heard hs p) (cond (h.0 == p) (Some h.1) None)
+unfolding first_heard
+first_heard-push [] h p = first_heard-cons h [] p
+first_heard-push (x ∷ hs) h p = first_heard-cons x (hs ++ h ∷ []) p ∙ ap (λ o. cond (x.0 == p) (Some x.1) o) (first_heard-push hs h p) ∙ go (x.0 == p) ∙ ap (λ o. cond (is_heard o) o (cond (h.0 == p) (Some h.1) None)) (sym (first_heard-cons x hs p))
+  where
+    go : (b : Bool) → cond b (Some x.1) (cond (is_heard (first_heard hs p)) (first_heard hs p) (cond (h.0 == p) (Some h.1) None))
+        ≡ cond (is_heard (cond b (Some x.1) (first_heard hs p))) (cond b (Some x.1) (first_heard hs p)) (cond (h.0 == p) (Some h.1) None)
+    go true = refl
+    go false = refl
+
+beq_true : (a b : Bool) → beq a b ≡ true → a ≡ b
+beq_true true true h = refl
+beq_true false false h = refl
+beq_true true false h = absurd (false≢true h)
+beq_true false true h = absurd (false≢true h)
+
+beq_same : (a : Bool) → beq a a ≡ true
+beq_same true = refl
+beq_same false = refl
+
+same_truth : (a b : Bool) → (a ≡ true → b ≡ true) → (b ≡ true → a ≡ true) → a ≡ b
+same_truth true b f g = sym (f refl)
+same_truth false true f g = g refl
+same_truth false false f g = refl
+
+none : Hearing
+none = (0, false)
+
+-- an element that passes
+pub record Passes {X : Type 0} (p : X → Bool) (xs : List X) (d : X) : Type 0 where
+  pub index : ℕ
+  pub below : index < length xs
+  pub passes : p (get_or xs index d) ≡ true
+
+pub one_passes : {X : Type 0} (p : X → Bool) (xs : List X) (d : X) → list_any p xs ≡ true → Passes p xs d
+one_passes p [] d h = absurd (false≢true h)
+one_passes {X} p (x ∷ xs) d h = go (p x) refl h (λ k. one_passes p xs d k)
+  where
+    go : (b : Bool) → p x ≡ b → (b || list_any p xs) ≡ true → (list_any p xs ≡ true → Passes p xs d) → Passes p (x ∷ xs) d
+    go true e k ih = record { index = 0; below = omega arith; passes = e }
+    go false e k ih = let r = ih k in record { index = suc r.index; below = omega arith; passes = r.passes }
+
+-- a position was heard with a bit where some hearing says so
+heard_there : (hs : List Hearing) (p : ℕ) (b : Bool) → heard_as hs p b ≡ true → Passes (λ (h : Hearing). (h.0 == p) && beq h.1 b) hs (0, false)
+unfolding heard_as
+heard_there hs p b h = one_passes (λ (x : Hearing). (x.0 == p) && beq x.1 b) hs (0, false) h
+
+heard_here : (hs : List Hearing) (i p : ℕ) (b : Bool) → i < length hs → (get_or hs i (0, false)).0 ≡ p → (get_or hs i (0, false)).1 ≡ b → heard_as hs p b ≡ true
+unfolding heard_as
+heard_here hs i p b lt e f = list_any_at (λ (x : Hearing). (x.0 == p) && beq x.1 b) hs i (0, false) lt
+    (and_from ((get_or hs i (0, false)).0 == p) (beq (get_or hs i (0, false)).1 b) (eq-eqb (get_or hs i (0, false)).0 p e) (rw f (beq_same b)))
+
+-- the first bit of a position was heard there, and a position that was heard has one
+first_is_heard : (hs : List Hearing) (p : ℕ) (a : Bool) → first_heard hs p ≡ Some a → heard_as hs p a ≡ true
+unfolding first_heard heard_as
+first_is_heard [] p a h = absurd (none_some h)
+  where
+    none_some : {A : Type 0} {a : A} → None ≡ Some a → ⊥
+    none_some h = cc
+first_is_heard (x ∷ hs) p a h = go (x.0 == p) refl (sym (first_heard-cons x hs p) ∙ h) (first_is_heard hs p a)
+  where
+    some_same : (u v : Bool) → Some u ≡ Some v → u ≡ v
+    some_same u v h = cc
+
+    go : (t : Bool) → (x.0 == p) ≡ t → cond t (Some x.1) (first_heard hs p) ≡ Some a → (first_heard hs p ≡ Some a → list_any (λ (h : Hearing). (h.0 == p) && beq h.1 a) hs ≡ true)
+        → (((x.0 == p) && beq x.1 a) || list_any (λ (h : Hearing). (h.0 == p) && beq h.1 a) hs) ≡ true
+    go true e k ih = or_left ((x.0 == p) && beq x.1 a) (list_any (λ (h : Hearing). (h.0 == p) && beq h.1 a) hs) (and_from (x.0 == p) (beq x.1 a) e (rw (some_same x.1 a k) (beq_same a)))
+    go false e k ih = or_right ((x.0 == p) && beq x.1 a) (list_any (λ (h : Hearing). (h.0 == p) && beq h.1 a) hs) (ih k)
+
+pub record HasFirst (hs : List Hearing) (p : ℕ) : Type 0 where
+  pub bit : Bool
+  pub is : first_heard hs p ≡ Some bit
+
+first_there : (hs : List Hearing) (i : ℕ) → i < length hs → HasFirst hs (get_or hs i (0, false)).0
+first_there [] i lt = absurd (omega arith)
+first_there (x ∷ hs) zero lt = record { bit = x.1; is = first_heard-cons x hs x.0 ∙ ap (λ t. cond t (Some x.1) (first_heard hs x.0)) (eq-eqb x.0 x.0 refl) }
+first_there (x ∷ hs) (suc i) lt = go (x.0 == (get_or hs i (0, false)).0) (first_there hs i (omega arith)) (first_heard-cons x hs (get_or hs i (0, false)).0)
+  where
+    go : (t : Bool) → HasFirst hs (get_or hs i (0, false)).0 → first_heard (x ∷ hs) (get_or hs i (0, false)).0 ≡ cond t (Some x.1) (first_heard hs (get_or hs i (0, false)).0) → HasFirst (x ∷ hs) (get_or hs i (0, false)).0
+    go true r e = record { bit = x.1; is = e }
+    go false r e = record { bit = r.bit; is = e ∙ r.is }
+
+-- some hearing differs from the first one at its position
+abbrev some_differs : List Hearing → List Hearing → Bool
+some_differs firsts hs = list_any (λ (h : Hearing). differs (first_heard firsts h.0) h.1) hs
+
+differs_not : (a b : Bool) → differs (Some a) b ≡ true → a ≡ not b
+differs_not true false h = refl
+differs_not false true h = refl
+differs_not true true h = absurd (false≢true h)
+differs_not false false h = absurd (false≢true h)
+
+not_differs : (b : Bool) → differs (Some b) (not b) ≡ true
+not_differs true = refl
+not_differs false = refl
+
+clashes-differs : (hs : List Hearing) → clashes hs ≡ some_differs hs hs
+unfolding clashes
+clashes-differs hs = same_truth (list_any (λ (h : Hearing). heard_as hs h.0 (not h.1)) hs) (some_differs hs hs) down up
+  where
+    down : list_any (λ (h : Hearing). heard_as hs h.0 (not h.1)) hs ≡ true → some_differs hs hs ≡ true
+    down h = at_one (one_passes (λ (x : Hearing). heard_as hs x.0 (not x.1)) hs (0, false) h)
+      where
+        at_two : (x : Hearing) → Passes (λ (h : Hearing). (h.0 == x.0) && beq h.1 (not x.1)) hs (0, false) → first_heard hs x.0 ≡ Some x.1 → some_differs hs hs ≡ true
+        at_two x r e =
+            let y = get_or hs r.index (0, false) in
+            let parts = and_parts (y.0 == x.0) (beq y.1 (not x.1)) r.passes in
+            let same : y.0 ≡ x.0 = eqb-true y.0 x.0 parts.0 in
+            let other : y.1 ≡ not x.1 = beq_true y.1 (not x.1) parts.1 in
+            list_any_at (λ (h : Hearing). differs (first_heard hs h.0) h.1) hs r.index (0, false) r.below
+            (ap (λ p. differs (first_heard hs p) y.1) same ∙ ap (λ o. differs o y.1) e ∙ ap (differs (Some x.1)) other ∙ not_differs x.1)
+
+        at_one : Passes (λ (x : Hearing). heard_as hs x.0 (not x.1)) hs (0, false) → some_differs hs hs ≡ true
+        at_one r = go (differs (Some f.bit) x.1) refl
+          where
+            x : Hearing
+            x = get_or hs r.index (0, false)
+
+            f : HasFirst hs (get_or hs r.index (0, false)).0
+            f = first_there hs r.index r.below
+
+            agree : (a b : Bool) → differs (Some a) b ≡ false → a ≡ b
+            agree true true h = refl
+            agree false false h = refl
+            agree true false h = absurd (false≢true (sym h))
+            agree false true h = absurd (false≢true (sym h))
+
+            go : (t : Bool) → differs (Some f.bit) (get_or hs r.index (0, false)).1 ≡ t → some_differs hs hs ≡ true
+            go true e = list_any_at (λ (h : Hearing). differs (first_heard hs h.0) h.1) hs r.index (0, false) r.below (ap (λ o. differs o (get_or hs r.index (0, false)).1) f.is ∙ e)
+            go false e = at_two (get_or hs r.index (0, false)) (heard_there hs (get_or hs r.index (0, false)).0 (not (get_or hs r.index (0, false)).1) r.passes) (f.is ∙ ap Some (agree f.bit (get_or hs r.index (0, false)).1 e))
+
+    up : some_differs hs hs ≡ true → list_any (λ (h : Hearing). heard_as hs h.0 (not h.1)) hs ≡ true
+    up h = at_one (one_passes (λ (x : Hearing). differs (first_heard hs x.0) x.1) hs (0, false) h)
+      where
+        at_one : Passes (λ (x : Hearing). differs (first_heard hs x.0) x.1) hs (0, false) → list_any (λ (h : Hearing). heard_as hs h.0 (not h.1)) hs ≡ true
+        at_one r =
+            let f = first_there hs r.index r.below in
+            let x = get_or hs r.index (0, false) in
+            let d : differs (Some f.bit) x.1 ≡ true = sym (ap (λ o. differs o x.1) f.is) ∙ r.passes in
+            list_any_at (λ (h : Hearing). heard_as hs h.0 (not h.1)) hs r.index (0, false) r.below
+            (ap (heard_as hs x.0) (sym (differs_not f.bit x.1 d)) ∙ first_is_heard hs x.0 f.bit f.is)
+
+-- the first bit of a position that was heard stays when one more is heard
+first_stays : (hs : List Hearing) (h : Hearing) (p : ℕ) (a : Bool) → first_heard hs p ≡ Some a → first_heard (hs ++ h ∷ []) p ≡ Some a
+first_stays hs h p a e = first_heard-push hs h p ∙ ap (λ o. cond (is_heard o) o (cond (h.0 == p) (Some h.1) None)) e
+
+-- two tests that agree at each element
+any_same : {X : Type 0} (p q : X → Bool) (xs : List X) (d : X) → ((i : ℕ) → i < length xs → p (get_or xs i d) ≡ q (get_or xs i d)) → list_any p xs ≡ list_any q xs
+any_same p q [] d h = refl
+any_same {X} p q (x ∷ xs) d h = or_both (p x) (q x) (list_any p xs) (list_any q xs) (h 0 (omega arith)) (any_same p q xs d (λ i lt. h (suc i) (omega arith)))
+  where
+    or_both : (a b c e : Bool) → a ≡ b → c ≡ e → (a || c) ≡ (b || e)
+    or_both a b c e f g = cc
+
+clashes-push : (hs : List Hearing) (h : Hearing) → clashes (hs ++ h ∷ []) ≡ (clashes hs || differs (first_heard hs h.0) h.1)
+clashes-push hs h =
+    clashes-differs (hs ++ h ∷ []) ∙ list_any-append (λ (x : Hearing). differs (first_heard (hs ++ h ∷ []) x.0) x.1) hs (h ∷ []) ∙ both (some_differs (hs ++ h ∷ []) hs) (some_differs hs hs) (clashes hs) _ _ before (clashes-differs hs) last
+  where
+    before : some_differs (hs ++ h ∷ []) hs ≡ some_differs hs hs
+    before = any_same (λ (x : Hearing). differs (first_heard (hs ++ h ∷ []) x.0) x.1) (λ (x : Hearing). differs (first_heard hs x.0) x.1) hs (0, false)
+        (λ i lt. let f = first_there hs i lt in let x = get_or hs i (0, false) in ap (λ o. differs o x.1) (first_stays hs h x.0 f.bit f.is ∙ sym f.is))
+
+    own : (b : Bool) → not (beq b b) ≡ false
+    own true = refl
+    own false = refl
+
+    last : (differs (first_heard (hs ++ h ∷ []) h.0) h.1 || false) ≡ differs (first_heard hs h.0) h.1
+    last = ap (λ o. differs o h.1 || false) (first_heard-push hs h h.0 ∙ ap (λ t. cond (is_heard (first_heard hs h.0)) (first_heard hs h.0) (cond t (Some h.1) None)) (eq-eqb h.0 h.0 refl)) ∙ go (first_heard hs h.0)
+      where
+        or_false : (t : Bool) → (t || false) ≡ t
+        or_false true = refl
+        or_false false = refl
+
+        go : (o : Option Bool) → (differs (cond (is_heard o) o (Some h.1)) h.1 || false) ≡ differs o h.1
+        go None = or_false (not (beq h.1 h.1)) ∙ own h.1
+        go (Some a) = or_false (not (beq a h.1))
+
+    both : (a b c u v : Bool) → a ≡ b → c ≡ b → u ≡ v → (a || u) ≡ (c || v)
+    both a b c u v e f g = cc
+
+pub record-continues : RecordContinues
+unfolding with_hearing
+record-continues n hs h lt =
+    let at : first_at (record_of n hs) h.0 ≡ first_heard hs h.0 = record_of-at n hs h.0 lt in
+    let clash-is : (clashes hs || differs (first_at (record_of n hs) h.0) h.1) ≡ clashes (hs ++ h ∷ []) = ap (λ o. clashes hs || differs o h.1) at ∙ sym (clashes-push hs h) in
+    let first-is = ap (λ o. cond (is_heard o) (map (first_heard hs) (range_with_len 0 n)) (set (map (first_heard hs) (range_with_len 0 n)) h.0 (Some h.1))) at ∙ firsts in
+    both _ _ _ _ first-is clash-is
+  where
+    both : (a b : List (Option Bool)) (s t : Bool) → a ≡ b → s ≡ t → ◌≡◌ {A = Heardbits} (record { first = a; clash = s }) (record { first = b; clash = t })
+    both a b s t e f = cc
+
+    firsts : cond (is_heard (first_heard hs h.0)) (map (first_heard hs) (range_with_len 0 n)) (set (map (first_heard hs) (range_with_len 0 n)) h.0 (Some h.1)) ≡ map (first_heard (hs ++ h ∷ [])) (range_with_len 0 n)
+    firsts = go (first_heard hs h.0) refl
+      where
+        rng : (f : ℕ → Option Bool) (k : ℕ) (d : Option Bool) → k < n → get_or (map f (range_with_len 0 n)) k d ≡ f k
+        rng f k d l = get_or-map-range_with_len f 0 n k k d l (omega arith)
+
+        long : (f : ℕ → Option Bool) → length (map f (range_with_len 0 n)) ≡ n
+        long f = length-map-range_with_len f 0 n
+
+        other : (k : ℕ) → k ≢ h.0 → first_heard (hs ++ h ∷ []) k ≡ first_heard hs k
+        other k ne = first_heard-push hs h k ∙ ap (λ t. cond (is_heard (first_heard hs k)) (first_heard hs k) (cond t (Some h.1) None)) (ne_eqb h.0 k (λ e. ne (sym e))) ∙ go (first_heard hs k)
+          where
+            go : (o : Option Bool) → cond (is_heard o) o None ≡ o
+            go None = refl
+            go (Some a) = refl
+
+        go : (o : Option Bool) → first_heard hs h.0 ≡ o → cond (is_heard o) (map (first_heard hs) (range_with_len 0 n)) (set (map (first_heard hs) (range_with_len 0 n)) h.0 (Some h.1)) ≡ map (first_heard (hs ++ h ∷ [])) (range_with_len 0 n)
+        go (Some a) e = same_lists (map (first_heard hs) (range_with_len 0 n)) (map (first_heard (hs ++ h ∷ [])) (range_with_len 0 n)) (long (first_heard hs) ∙ sym (long (first_heard (hs ++ h ∷ []))))
+            (λ k d l. let l' : k < n = omega (arith, long (first_heard hs)) in rng (first_heard hs) k d l' ∙ same k ∙ sym (rng (first_heard (hs ++ h ∷ [])) k d l'))
+          where
+            same : (k : ℕ) → first_heard hs k ≡ first_heard (hs ++ h ∷ []) k
+            same k = ⊎_elim (λ (q : k ≡ h.0). rw q (e ∙ sym (first_stays hs h h.0 a e))) (λ ne. sym (other k ne)) (cases_eq k h.0)
+        go None e = same_lists (set (map (first_heard hs) (range_with_len 0 n)) h.0 (Some h.1)) (map (first_heard (hs ++ h ∷ [])) (range_with_len 0 n)) (length-set (map (first_heard hs) (range_with_len 0 n)) h.0 (Some h.1) ∙ long (first_heard hs) ∙ sym (long (first_heard (hs ++ h ∷ []))))
+            (λ k d l. let l' : k < n = omega (arith, long (first_heard hs), length-set (map (first_heard hs) (range_with_len 0 n)) h.0 (Some h.1)) in each k d l')
+          where
+            here : first_heard (hs ++ h ∷ []) h.0 ≡ Some h.1
+            here = first_heard-push hs h h.0 ∙ ap (λ o. cond (is_heard o) o (cond (h.0 == h.0) (Some h.1) None)) e ∙ ap (λ t. cond t (Some h.1) None) (eq-eqb h.0 h.0 refl)
+
+            each : (k : ℕ) (d : Option Bool) → k < n → get_or (set (map (first_heard hs) (range_with_len 0 n)) h.0 (Some h.1)) k d ≡ get_or (map (first_heard (hs ++ h ∷ [])) (range_with_len 0 n)) k d
+            each k d l = ⊎_elim
+                (λ (q : k ≡ h.0). let l' : h.0 < length (map (first_heard hs) (range_with_len 0 n)) = omega (arith, long (first_heard hs)) in
+                rw q (get_or-set_same (map (first_heard hs) (range_with_len 0 n)) h.0 (Some h.1) d l' ∙ sym (rng (first_heard (hs ++ h ∷ [])) h.0 d lt ∙ here)))
+                (λ (ne : k ≢ h.0). get_or-set_other (map (first_heard hs) (range_with_len 0 n)) h.0 k (Some h.1) d ne ∙ rng (first_heard hs) k d l ∙ sym (rng (first_heard (hs ++ h ∷ [])) k d l ∙ other k ne))
+                (cases_eq k h.0)
+
+-- a word agrees at each hearing
+all_from : {X : Type 0} (p : X → Bool) (xs : List X) (d : X) → ((i : ℕ) → i < length xs → p (get_or xs i d) ≡ true) → list_all p xs ≡ true
+all_from p [] d h = refl
+all_from p (x ∷ xs) d h = and_from (p x) (list_all p xs) (h 0 (omega arith)) (all_from p xs d (λ i lt. h (suc i) (omega arith)))
+
+all_at : {X : Type 0} (p : X → Bool) (xs : List X) (d : X) (i : ℕ) → list_all p xs ≡ true → i < length xs → p (get_or xs i d) ≡ true
+all_at p xs d i h lt = true_from_ne_false (p (get_or xs i d)) (λ e. true≢false (sym h ∙ list_all_at p xs i d lt e))
+
+pub fits-by_record : FitsByRecord
+fits-by_record w n hs below = (there, back)
+  where
+    agree : (h : Hearing) → Bool
+    agree h = beq (w h.0) h.1
+
+    heard_agrees : list_all (λ (h : Hearing). beq (w h.0) h.1) hs ≡ true → (p : ℕ) (b : Bool) → heard_as hs p b ≡ true → w p ≡ b
+    heard_agrees all p b h =
+        let r = heard_there hs p b h in
+        let y = get_or hs r.index (0, false) in
+        let parts = and_parts (y.0 == p) (beq y.1 b) r.passes in
+        let fits : w y.0 ≡ y.1 = beq_true (w y.0) y.1 (all_at (λ (h : Hearing). beq (w h.0) h.1) hs (0, false) r.index all r.below) in
+        ap w (sym (eqb-true y.0 p parts.0)) ∙ fits ∙ beq_true y.1 b parts.1
+
+    there : list_all (λ (h : Hearing). beq (w h.0) h.1) hs ≡ true → (clashes hs ≡ false) × HasFirsts (record_of n hs) w
+    there all = (false_from_ne_true (clashes hs) no_clash, firsts)
+      where
+        no_clash : clashes hs ≡ true → ⊥
+        no_clash h =
+            let r = one_passes (λ (x : Hearing). differs (first_heard hs x.0) x.1) hs (0, false) (sym (clashes-differs hs) ∙ h) in
+            let f = first_there hs r.index r.below in
+            let x = get_or hs r.index (0, false) in
+            let d : differs (Some f.bit) x.1 ≡ true = sym (ap (λ o. differs o x.1) f.is) ∙ r.passes in
+            let first : w x.0 ≡ f.bit = heard_agrees all x.0 f.bit (first_is_heard hs x.0 f.bit f.is) in
+            let own : w x.0 ≡ x.1 = beq_true (w x.0) x.1 (all_at (λ (h : Hearing). beq (w h.0) h.1) hs (0, false) r.index all r.below) in
+            unlike x.1 (sym own ∙ first ∙ differs_not f.bit x.1 d)
+          where
+            unlike : (b : Bool) → b ≡ not b → ⊥
+            unlike true e = true≢false e
+            unlike false e = false≢true e
+
+        firsts : HasFirsts (record_of n hs) w
+        firsts p b e = ⊎_elim
+            (λ lt. heard_agrees all p b (first_is_heard hs p b (sym (record_of-at n hs p lt) ∙ e)))
+            (λ le. absurd (none_some (sym (get_or_past (map (first_heard hs) (range_with_len 0 n)) p None (omega (arith, length-map-range_with_len (first_heard hs) 0 n))) ∙ e)))
+            (cases_lt p n)
+          where
+            none_some : {A : Type 0} {a : A} → None ≡ Some a → ⊥
+            none_some h = cc
+
+    back : (clashes hs ≡ false) × HasFirsts (record_of n hs) w → list_all (λ (h : Hearing). beq (w h.0) h.1) hs ≡ true
+    back h = all_from (λ (x : Hearing). beq (w x.0) x.1) hs (0, false) each
+      where
+        each : (i : ℕ) → i < length hs → beq (w (get_or hs i (0, false)).0) (get_or hs i (0, false)).1 ≡ true
+        each i lt =
+            let f = first_there hs i lt in
+            let x = get_or hs i (0, false) in
+            let inside : x.0 < n = below i (0, false) lt in
+            let first : w x.0 ≡ f.bit = h.1 x.0 f.bit (record_of-at n hs x.0 inside ∙ f.is) in
+            let same : differs (Some f.bit) x.1 ≡ false = false_from_ne_true (differs (Some f.bit) x.1) (λ d. true≢false (sym (list_any_at (λ (h : Hearing). differs (first_heard hs h.0) h.1) hs i (0, false) lt (ap (λ o. differs o x.1) f.is ∙ d)) ∙ sym (clashes-differs hs) ∙ h.0)) in
+            let e : beq f.bit x.1 ≡ true = unnot (beq f.bit x.1) same in
+            ap (λ b. beq b x.1) first ∙ e
+          where
+            unnot : (t : Bool) → not t ≡ false → t ≡ true
+            unnot true e = refl
+            unnot false e = absurd (true≢false e)

@@ -1,0 +1,103 @@
+//! The store of one code block.
+
+ghost use Rattle.std.specs.Prelude.{◌≡◌, ◌≤◌, ◌<◌, ◌^◌, [], length, replicate, false, IfOk};
+ghost use Rattle.nr_harqbuf.specs.Positions.{positions_of};
+ghost use Rattle.nr_harqbuf.specs.Record.{first_at, record_of, with_hearing};
+
+use nr_bitvec::Bits;
+use nr_segment::Plan;
+use std::alloc::{AllocError, Global};
+use std::marker::Model;
+
+/// What was heard of one code block: for each position of its codeword the bit that was heard first, and whether
+/// some position was heard with both bits.
+#[derive(Drop)]
+pub struct Store {
+    heard: Bits,
+    value: Bits,
+    clash: bool,
+}
+
+impl Model for Store {
+    ghost use Rattle.std.specs.Prelude.{◌≡◌, length};
+    ghost use Rattle.nr_harqbuf.specs.Positions.{kept};
+    ghost use Rattle.nr_harqbuf.specs.Record.{Heardbits};
+
+    ghost Value = { Heardbits };
+
+    ghost view = { λ s. record { first = kept s.heard.items s.value.items; clash = s.clash } };
+
+    ghost invariant = { λ s. length s.value.items ≡ length s.heard.items };
+}
+
+// A list of zeros.
+fn zeros(alloc: Global, count: u32) -> Result<Bits, AllocError>
+    requires { count ≤ 2 ^ 24 }
+    ensures { IfOk result (λ bits. bits.items ≡ replicate count false) }
+{
+    let mut bits = Bits::with_room(alloc, count)?;
+    for _ in 0..count {
+        bits.push_in_room(false);
+    }
+    Ok(bits)
+}
+
+impl Store {
+    /// A store in which nothing was heard yet, of one code block of this plan. `AllocError` is want of memory: all
+    /// that a store ever needs is taken here.
+    pub fn new(alloc: Global, plan: &Plan) -> Result<Store, AllocError>
+        ensures { IfOk result (λ store. store ≡ record_of (positions_of plan.now) []) }
+    {
+        let count = plan.graph.cols() * plan.z;
+        let heard = zeros(alloc, count)?;
+        let value = zeros(alloc, count)?;
+        Ok(Store {
+            heard,
+            value,
+            clash: false,
+        })
+    }
+
+    /// Hears a bit at a position of the codeword. The first bit of a position is kept, and a different one later
+    /// is a clash. Takes no memory.
+    pub fn hear(&mut self, pos: u32, bit: bool)
+        requires { pos < length self.old.first }
+        ensures { self.new ≡ with_hearing self.old (pos, bit) }
+    {
+        let pos = pos as usize;
+        if self.heard.get(pos) {
+            self.clash |= self.value.get(pos) != bit;
+        } else {
+            self.heard.set(pos, true);
+            self.value.set(pos, bit);
+        }
+    }
+
+    /// The bit that was heard first at a position of the codeword, or `None` where nothing was.
+    pub fn heard(&self, pos: u32) -> Option<bool>
+        requires { pos < length self.now.first }
+        ensures { result ≡ first_at self.now pos }
+    {
+        let pos = pos as usize;
+        if self.heard.get(pos) {
+            Some(self.value.get(pos))
+        } else {
+            None
+        }
+    }
+
+    /// How many positions the codeword has.
+    pub fn positions(&self) -> u32
+        ensures { result ≡ length self.now.first }
+    {
+        self.heard.len() as u32
+    }
+
+    /// Whether some position was heard with both bits.
+    pub fn clash(&self) -> bool
+        ensures { result ≡ self.now.clash }
+    {
+        let Store { clash, .. } = self;
+        *clash
+    }
+}
