@@ -1,0 +1,7 @@
+use Rattle.std.proofs.Common.{◌≡◌, ◌<◌, ℕ, true}
+use Rattle.nr_bitvec.specs.Bit.{bit}
+use Rattle.nr_peel.proofs.check.all_known.Given as goal
+
+-- the positions so far are marked
+abbrev pub invariant-loop-p : goal.invariant-loop-p
+invariant-loop-p l = (q : ℕ) → q < l.p → bit l.known.items q ≡ true

@@ -1,0 +1,13 @@
+use Rattle.std.proofs.Common.{◌≡◌, length}
+use Rattle.nr_bitvec.specs.Bit.{bit}
+use Rattle.nr_segment.specs.CodeBlock.{numbers}
+use Rattle.nr_ldpcenc.specs.Rows.{block_checks}
+use Rattle.nr_peel.proofs.Judged.{IsJudged}
+use Rattle.nr_peel.proofs.check.check_order.Given as goal
+
+-- the steps so far are accepted, and their positions are marked
+abbrev pub invariant-loop-step : goal.invariant-loop-step
+invariant-loop-step l = record {
+  judged : IsJudged (block_checks l.table l.plan.graph (numbers l.plan)) (bit l.initial.known.items) l.steps l.known.items l.step-index;
+  long : length l.known.items ≡ length l.initial.known.items;
+}

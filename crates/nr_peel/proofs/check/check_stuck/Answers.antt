@@ -1,0 +1,36 @@
+use Rattle.std.proofs.Common.{◌≡◌, ℕ, ◌*◌, ◌<◌, true, nat_lt, ap, arith}
+use Rattle.std.specs.Prelude.{IsTrue, count_by}
+use Rattle.nr_bitvec.specs.Bit.{bit}
+use Rattle.nr_segment.specs.CodeBlock.{numbers}
+use Rattle.nr_graphpick.specs.Graph.{cols_of}
+use Rattle.nr_ldpcenc.specs.Rows.{block_checks}
+use Rattle.nr_peel.specs.Certificates.{IsBeside, IsStoppingSet}
+use Rattle.nr_peel.proofs.Found.{stops_out}
+use Rattle.nr_peel.proofs.Grid.{checks_sound}
+use Rattle.nr_peel.proofs.Sets.{in_sets}
+use Rattle.nr_peel.proofs.check.check_stuck.Goals as goal
+
+pub invariant_of-lifted : goal.invariant_of-lifted
+invariant_of-lifted c = record { in_sets = in_sets c.args.plan.now }
+
+pub never_one-requires : goal.never_one-requires
+never_one-requires c = (c.is_beside.ensures.0 c.if-not-is_beside.false).rising
+
+pub returns-clause-yes : goal.returns-clause-yes
+returns-clause-yes c =
+    let p = c.args.plan.now in
+    let size = ap (λ n. n * p.z) c.cols.ensures in (
+      λ y. record {
+        is_beside = rw size at (c.is_beside.ensures.0 c.if-not-is_beside.false);
+        low = omega (arith, c.count_below.ensures, c.if-count_below-eq0.false);
+        never_one = c.never_one.ensures.0 y;
+      },
+      λ s. c.never_one.ensures.1 s.never_one,
+    )
+
+pub returns-clause-out : goal.returns-clause-out
+returns-clause-out c =
+    let p = c.args.plan.now in
+    let ck = block_checks c.args.table.now p.graph (numbers p) in
+    let sound = checks_sound c.args.table.now p.graph (numbers p) c.has.ensures.table p.sound.size_some in
+    λ y q member. stops_out ck (bit c.args.given.now.items) p.kdash c.args.set.now q sound ((returns-clause-yes c).0 y) member

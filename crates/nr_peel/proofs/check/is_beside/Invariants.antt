@@ -1,0 +1,6 @@
+use Rattle.nr_bitvec.specs.Bit.{bit}
+use Rattle.nr_peel.proofs.Found.{IsBesideSo}
+use Rattle.nr_peel.proofs.check.is_beside.Given as goal
+
+abbrev pub invariant-loop-pos : goal.invariant-loop-pos
+invariant-loop-pos l = IsBesideSo l.size (bit l.given.items) l.set l.pos-index l.least

@@ -1,0 +1,5 @@
+use Rattle.nr_peel.proofs.Grid.{checks_sound}
+use Rattle.nr_peel.proofs.laws.checks_are_sound.Goals as goal
+
+pub returns : goal.returns
+returns c = checks_sound

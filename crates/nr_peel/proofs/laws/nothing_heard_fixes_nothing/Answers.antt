@@ -1,0 +1,6 @@
+use Rattle.nr_peel.proofs.Nothing.{nothing_fixed}
+use Rattle.nr_peel.proofs.Sets.{sound_set}
+use Rattle.nr_peel.proofs.laws.nothing_heard_fixes_nothing.Goals as goal
+
+pub returns : goal.returns
+returns c = λ t g b p q table some plan low. nothing_fixed c.accepted_shape.ensures t g b p q table some plan (sound_set g b p plan) low

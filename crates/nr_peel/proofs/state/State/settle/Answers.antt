@@ -1,0 +1,38 @@
+use Rattle.std.proofs.Common.{◌≡◌, length, refl, ◌∙◌}
+use Rattle.std.specs.Prelude.{slice_index}
+use Rattle.std.proofs.lemmas.List.{get_or_read}
+use Rattle.nr_peel.specs.State.{Grows, lifted_checks}
+use Rattle.nr_peel.specs.declared.counters.Counters.{Counters}
+use Rattle.nr_peel.specs.declared.state.State.{State}
+use Rattle.nr_peel.proofs.Fixing.{grows_then}
+use Rattle.nr_peel.proofs.Settling.{IsPopped, listed_rest, listed_skip, popped_inside, popped_works}
+use Rattle.nr_peel.proofs.state.State.settle.Goals as goal
+
+pub rows-preserved-then-index-eq1 : goal.rows-preserved-then-index-eq1
+rows-preserved-then-index-eq1 c =
+    let a = c.rows.self in
+    let g = c.rows.invariant.grows in
+    let left : Counters = record { counts = a.counters.counts; ready = c.pop.new.self; touches = a.counters.touches } in
+    let d : State = record { given = a.given; known = a.known; bits = a.bits; counters = left; order = a.order } in
+    let same : Grows (lifted_checks c.args.lifted.now) c.args.self.now d = record { given = g.given; known = g.known; bits = g.bits; words = g.words } in
+    record {
+      working = c.fix.ensures.working;
+      listed = listed_rest a.counters left c.fix.new.self.counters c.in-Some.row c.rows.invariant.listed c.in-Some.ensures.items refl c.fix.ensures.follows c.fix.ensures.spent;
+      grows = grows_then (lifted_checks c.args.lifted.now) c.args.self.now d c.fix.new.self same c.fix.ensures.grows;
+    }
+
+pub rows-preserved : goal.rows-preserved
+rows-preserved c =
+    let a = c.rows.self in
+    let g = c.rows.invariant.grows in
+    let row = c.in-Some.row in
+    let left : Counters = record { counts = a.counters.counts; ready = c.pop.new.self; touches = a.counters.touches } in
+    let d : State = record { given = a.given; known = a.known; bits = a.bits; counters = left; order = a.order } in
+    let popped : IsPopped a d row = record { given = refl; known = refl; bits = refl; order = refl; counts = refl; touches = refl; ready = c.in-Some.ensures.items; capacity = c.in-Some.ensures.capacity } in
+    let below = popped_inside a.counters.ready.items c.pop.new.self.items row (length a.counters.counts.items) c.rows.invariant.working.tied.inside c.in-Some.ensures.items in
+    let read : c.index.result.now ≡ slice_index a.counters.counts.items row = get_or_read a.counters.counts.items row c.index.result.now below c.index.ensures 0 in
+    record {
+      working = popped_works (lifted_checks c.args.lifted.now) a d row popped c.rows.invariant.working;
+      listed = listed_skip a.counters left row c.rows.invariant.listed c.in-Some.ensures.items refl (λ one. c.if-index-eq1.false (read ∙ one));
+      grows = record { given = g.given; known = g.known; bits = g.bits; words = g.words };
+    }

@@ -1,0 +1,7 @@
+pub mod Closure
+pub mod Certificates
+pub mod Touches
+pub mod Peeling
+pub mod Laws
+pub mod Counters
+pub mod State

@@ -1,0 +1,78 @@
+-- What contracts see of a peeler, and what is true of every one.
+use Rattle.std.specs.Prelude.{◌≡◌, ℕ, ◌*◌, ◌≤◌, ◌||◌, Bool, true, false, not, if◌then◌else◌, List, length, map, filter, take, count_by, Option, Some, None}
+use Rattle.std.specs.List.{range_with_len}
+use Rattle.nr_bitvec.specs.Bit.{bit}
+use Rattle.nr_graphpick.specs.declared.Graph.{Graph}
+use Rattle.nr_segment.specs.Plan.{Numbers}
+use Rattle.nr_shifttable.specs.Accepted.{Entries}
+use Rattle.nr_ldpcenc.specs.Rows.{Checks, Meets, block_checks}
+use Rattle.nr_ldpcenc.specs.Codeword.{filler}
+use Rattle.nr_peel.specs.Closure.{closure}
+use Rattle.nr_peel.specs.Certificates.{all_accepted, is_fixed_by}
+use Rattle.nr_peel.specs.Touches.{pairs_in}
+use Rattle.nr_peel.specs.declared.fix.Fix.{Fix}
+
+-- the code, the positions that were given, those that are known and their bits, the steps that fixed positions, and
+-- the count of visits
+pub record Peeling : Type 0 where
+  pub table : Entries
+  pub graph : Graph
+  pub numbers : Numbers
+  pub given : List Bool
+  pub known : List Bool
+  pub bits : List Bool
+  pub order : List Fix
+  pub touches : ℕ
+
+-- the parity checks of a peeler's code
+abbrev pub checks_for : Peeling → Checks
+checks_for s = block_checks s.table s.graph s.numbers
+
+-- the bit of a position, if it is known
+abbrev pub known_at : Peeling → ℕ → Option Bool
+known_at s p = if bit s.known p then Some (bit s.bits p) else None
+
+-- the fillers of a code block, as marks
+abbrev pub fillers : Checks → Numbers → List Bool
+fillers c p = map (filler p.kdash p.k) (range_with_len 0 c.size)
+
+-- how many of the first n positions aren't known
+abbrev pub left_of : ℕ → List Bool → ℕ
+left_of n known = count_by (λ b. not b) (take n known)
+
+-- the positions that aren't known, ascending
+abbrev pub unknown_in : List Bool → List ℕ
+unknown_in known = filter (λ p. not (bit known p)) (range_with_len 0 (length known))
+
+-- a word has the bits that are known
+abbrev pub AgreesWith : Peeling → (ℕ → Bool) → Type 0
+AgreesWith s w = (p : ℕ) → bit s.known p ≡ true → w p ≡ bit s.bits p
+
+-- What is true of every peeler: its known positions are the closure of the given ones, its steps are accepted in
+-- turn from the given ones and with them are all that is known, and each pair of a row and a known position of it
+-- was visited once or twice.
+pub record IsPeeled (s : Peeling) : Type 0 where
+  pub given_long : length s.given ≡ (checks_for s).size
+  pub known_long : length s.known ≡ (checks_for s).size
+  pub bits_long : length s.bits ≡ (checks_for s).size
+  pub closed : (p : ℕ) → bit s.known p ≡ closure (checks_for s) (bit s.given) p
+  pub accepted : all_accepted (checks_for s) (bit s.given) s.order ≡ true
+  pub reached : (p : ℕ) → bit s.known p ≡ (bit s.given p || is_fixed_by s.order p)
+  pub visited : pairs_in (checks_for s) (bit s.known) ≤ s.touches
+  pub seldom : s.touches ≤ 2 * pairs_in (checks_for s) (bit s.known)
+
+-- two peelers are of one code
+pub record IsSameCode (a b : Peeling) : Type 0 where
+  pub table : b.table ≡ a.table
+  pub graph : b.graph ≡ a.graph
+  pub numbers : b.numbers ≡ a.numbers
+
+-- A new peeler: the fillers are given, and each word that meets every row and is zero at the fillers has the bits
+-- that are known.
+pub record IsStarted (t : Entries) (g : Graph) (p : Numbers) (s : Peeling) : Type 0 where
+  pub table : s.table ≡ t
+  pub graph : s.graph ≡ g
+  pub numbers : s.numbers ≡ p
+  pub given : s.given ≡ fillers (checks_for s) p
+  pub words : (w : ℕ → Bool) → Meets (checks_for s) w → ((q : ℕ) → filler p.kdash p.k q ≡ true → w q ≡ false) → AgreesWith s w
+  pub peeled : IsPeeled s

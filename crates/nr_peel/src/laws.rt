@@ -1,0 +1,57 @@
+//! Laws of closures and of what shows them, each the contract of a function that does nothing.
+
+ghost use Rattle.nr_peel.specs.Laws.{
+  ChecksAreSound,
+  ClosureContinues,
+  ClosureIsMonotone,
+  LeftOverIsStopping,
+  NothingHeardFixesNothing,
+  StepsStayInClosure,
+  StoppingSetsStayOut,
+  WordsAgreeOnClosure,
+};
+
+use nr_shifttable::laws::accepted_shape;
+
+/// Law: a larger set has a larger closure, so a position that was fixed once stays fixed.
+pub fn closure_is_monotone()
+    ensures { ClosureIsMonotone }
+{}
+
+/// Law: to close a set, add to it and close it again is to add first and close once. So peeling may go on from
+/// transmission to transmission.
+pub fn closure_continues()
+    ensures { ClosureContinues }
+{}
+
+/// Law: two words that meet every row and agree on a set agree on its closure.
+pub fn words_agree_on_closure()
+    ensures { WordsAgreeOnClosure }
+{}
+
+/// Law: no member of a stopping set is in the closure.
+pub fn stopping_sets_stay_out()
+    ensures { StoppingSetsStayOut }
+{}
+
+/// Law: what the closure leaves out is a stopping set, and so the largest.
+pub fn left_over_is_stopping()
+    ensures { LeftOverIsStopping }
+{}
+
+/// Law: accepted steps lead to positions of the closure.
+pub fn steps_stay_in_closure()
+    ensures { StepsStayInClosure }
+{}
+
+/// Law: the parity checks of an accepted table are sound, for each lifting size.
+pub fn checks_are_sound()
+    ensures { ChecksAreSound }
+{}
+
+/// Law: with nothing heard no position below K' is fixed.
+pub fn nothing_heard_fixes_nothing()
+    ensures { NothingHeardFixesNothing }
+{
+    accepted_shape();
+}

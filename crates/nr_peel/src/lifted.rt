@@ -1,0 +1,69 @@
+//! Where the entries of a base graph lie in the lifted matrix of a plan.
+
+ghost use Rattle.std.specs.Prelude.{◌≡◌, ◌+◌, ◌-◌, ◌*◌, ◌%◌, ◌<◌, ◌≤◌};
+ghost use Rattle.nr_shifttable.specs.Accepted.{column_of, entries_in, row_of};
+ghost use Rattle.nr_shifttable.specs.Tails.{value_in};
+ghost use Rattle.nr_ldpcenc.specs.Rows.{place};
+ghost use Rattle.nr_peel.specs.Touches.{holder};
+
+use nr_segment::Plan;
+use nr_shifttable::{Entry, Table};
+
+// A table, and the plan by which it is lifted.
+#[derive(Clone, Copy)]
+pub(crate) struct Lifted<'t> {
+    pub(crate) table: &'t Table,
+    pub(crate) plan: Plan,
+    pub(crate) ghost in_sets: { plan.set < 8 },
+}
+
+impl<'t> Lifted<'t> {
+    // An entry's shift value, reduced modulo the lifting size.
+    fn turn(&self, entry: &Entry) -> u32
+        ensures value { result ≡ value_in self.now.plan.set entry.now % self.now.plan.z }
+        ensures small { result < self.now.plan.z }
+        ensures size { self.now.plan.z ≤ 384 }
+    {
+        u32::from(entry.values[self.plan.set as usize]) % self.plan.z
+    }
+
+    // The position that row `lane` of an entry's block has.
+    pub(crate) fn place(&self, entry: &Entry, lane: u32) -> u32
+        requires { lane < self.now.plan.z }
+        ensures { result ≡ place self.now.plan.z lane entry.now.col (value_in self.now.plan.set entry.now) }
+    {
+        let z = self.plan.z;
+        let turned = lane + self.turn(entry);
+        let turned = if turned < z { turned } else { turned - z };
+        u32::from(entry.col) * z + turned
+    }
+
+    // The number of the row that has lane `lane` of an entry's column.
+    pub(crate) fn holder(&self, entry: &Entry, lane: u32) -> u32
+        requires { lane < self.now.plan.z }
+        ensures { result ≡ holder self.now.plan.set self.now.plan.z lane entry.now }
+    {
+        let z = self.plan.z;
+        let turn = self.turn(entry);
+        let turned = if lane < turn {
+            lane + (z - turn)
+        } else {
+            lane - turn
+        };
+        u32::from(entry.row) * z + turned
+    }
+
+    // The entries of a row of blocks.
+    pub(crate) fn row(&self, i: u32) -> &'t [Entry]
+        ensures { result.now ≡ row_of (entries_in self.now.plan.graph self.now.table.now) i }
+    {
+        self.table.row_entries(self.plan.graph, i)
+    }
+
+    // The entries of a column of blocks.
+    pub(crate) fn column(&self, j: u32) -> &'t [Entry]
+        ensures { result.now ≡ column_of (entries_in self.now.plan.graph self.now.table.now) j }
+    {
+        self.table.col_entries(self.plan.graph, j)
+    }
+}

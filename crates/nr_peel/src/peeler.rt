@@ -1,0 +1,151 @@
+//! The peeler of one code block.
+
+ghost use Rattle.std.specs.Prelude.{◌≡◌, ◌≢◌, ◌+◌, ◌<◌, ◌↔◌, ℕ, false, true, Bool, List, IfOk, IsErrOf, length, slice_set};
+ghost use Rattle.nr_bitvec.specs.Bit.{bit};
+ghost use Rattle.nr_segment.specs.CodeBlock.{numbers};
+ghost use Rattle.nr_shifttable.specs.Accepted.{has_graph};
+ghost use Rattle.nr_ldpcenc.specs.Rows.{Meets};
+ghost use Rattle.nr_peel.specs.Closure.{stands};
+ghost use Rattle.nr_peel.specs.Certificates.{IsFixOrder, IsStoppingSet};
+ghost use Rattle.nr_peel.specs.Peeling.{AgreesWith, IsPeeled, IsSameCode, IsStarted, checks_for, known_at, left_of, unknown_in};
+
+use crate::fix::Fix;
+use crate::lifted::Lifted;
+use crate::state::State;
+use nr_bitvec::Bits;
+use nr_ldpcenc::EncFault;
+use nr_segment::Plan;
+use nr_shifttable::Table;
+use std::alloc::{AllocError, Global};
+use std::marker::Model;
+
+/// A peeler of one code block: which positions of its codeword were given, which are known by them, and the steps
+/// that fixed the others.
+#[derive(Drop)]
+pub struct Peeler<'t> {
+    lifted: Lifted<'t>,
+    state: State,
+}
+
+impl<'t> Model for Peeler<'t> {
+    ghost use Rattle.nr_segment.specs.CodeBlock.{numbers};
+    ghost use Rattle.nr_peel.specs.Peeling.{Peeling};
+    ghost use Rattle.nr_peel.specs.State.{IsPeeler};
+
+    ghost Value = { Peeling };
+
+    ghost view = { λ a. record {
+      table = a.lifted.table.now;
+      graph = a.lifted.plan.graph;
+      numbers = numbers a.lifted.plan;
+      given = a.state.given.items;
+      known = a.state.known.items;
+      bits = a.state.bits.items;
+      order = a.state.order.items;
+      touches = a.state.counters.touches;
+    } };
+
+    ghost invariant = { λ a. IsPeeler a.lifted a.state };
+}
+
+impl<'t> Peeler<'t> {
+    /// A peeler of a code block of a plan, to which only the fillers are given, as zeros (TS 38.212, 5.3.2). All
+    /// memory of its life is taken here.
+    ///
+    /// # Errors
+    ///
+    /// `NoGraph`, where the table lacks the plan's base graph; then `Memory`, where memory is refused.
+    pub fn new(alloc: Global, table: &'t Table, plan: &Plan) -> Result<Peeler<'t>, EncFault>
+        ensures no_graph { IsErrOf result EncFault.NoGraph ↔ (has_graph plan.now.graph table.now ≡ false) }
+        ensures started { IfOk result (IsStarted table.now plan.now.graph (numbers plan.now)) }
+    {
+        if !table.has(plan.graph) {
+            return Err(EncFault::NoGraph);
+        }
+        let lifted = Lifted { table, plan: *plan };
+        match State::new(alloc, &lifted) {
+            Ok(state) => Ok(Peeler { lifted, state }),
+            Err(_) => Err(EncFault::Memory),
+        }
+    }
+
+    /// Gives a position, which takes the bit if it was not known, and fixes all that follows. Takes no memory, and
+    /// costs by its visits alone.
+    pub fn learn(&mut self, pos: u32, value: bool)
+        requires { pos < (checks_for self.old).size }
+        ensures code { IsSameCode self.old self.new }
+        ensures given { self.new.given ≡ slice_set self.old.given pos true }
+        ensures known { (p : ℕ) → bit self.old.known p ≡ true → bit self.new.known p ≡ true }
+        ensures bits { (p : ℕ) → bit self.old.known p ≡ true → bit self.new.bits p ≡ bit self.old.bits p }
+        ensures taken { bit self.old.known pos ≡ false → bit self.new.bits pos ≡ value }
+        ensures words { (w : ℕ → Bool) → Meets (checks_for self.old) w → AgreesWith self.old w → w pos ≡ value
+            → AgreesWith self.new w }
+        ensures peeled { IsPeeled self.new }
+    {
+        self.state.learn(&self.lifted, pos, value);
+    }
+
+    /// The bit of a position, if it is known.
+    pub fn known(&self, pos: u32) -> Option<bool>
+        requires { pos < (checks_for self.now).size }
+        ensures value { result ≡ known_at self.now pos }
+        ensures peeled { IsPeeled self.now }
+    {
+        let pos = pos as usize;
+        if self.state.known.get(pos) {
+            Some(self.state.bits.get(pos))
+        } else {
+            None
+        }
+    }
+
+    /// How many positions below K' aren't known.
+    pub fn left(&self) -> u32
+        ensures { result ≡ left_of self.now.numbers.kdash self.now.known }
+    {
+        self.state.left(self.lifted.plan.kdash)
+    }
+
+    /// How many visits there were of a row and a position of it: with n the number of pairs of a row and a known
+    /// position of it, at least n and at most 2 n.
+    pub fn touches(&self) -> u64
+        ensures value { result ≡ self.now.touches }
+        ensures peeled { IsPeeled self.now }
+    {
+        self.state.counters.touches
+    }
+
+    /// The positions that were given, marked: the fillers and those learned.
+    pub fn given(&self) -> &Bits
+        ensures value { result.now.items ≡ self.now.given }
+        ensures peeled { IsPeeled self.now }
+    {
+        &self.state.given
+    }
+
+    /// The steps that fixed positions, in turn. Where no position below K' is left they are a fix order from the
+    /// given positions.
+    pub fn order(&self) -> &[Fix]
+        ensures value { result.now ≡ self.now.order }
+        ensures peeled { IsPeeled self.now }
+        ensures fixes { left_of self.now.numbers.kdash self.now.known ≡ 0
+            → IsFixOrder (checks_for self.now) self.now.numbers.kdash (bit self.now.given) self.now.order }
+    {
+        &self.state.order
+    }
+
+    /// All positions that aren't known, ascending. Where a position below K' is left they are a stopping set beside
+    /// the given positions, and have every other one's members. `AllocError` is want of memory.
+    pub fn stuck(&self) -> Result<Vec<u32>, AllocError>
+        ensures value { IfOk result (λ v. v.items ≡ unknown_in self.now.known) }
+        ensures peeled { IsPeeled self.now }
+        ensures stops { IfOk result (λ v. left_of self.now.numbers.kdash self.now.known ≢ 0
+            → IsStoppingSet (checks_for self.now) self.now.numbers.kdash (bit self.now.given) v.items) }
+        ensures largest { IfOk result (λ v. (set : List ℕ) (p : ℕ)
+            → IsStoppingSet (checks_for self.now) self.now.numbers.kdash (bit self.now.given) set
+            → stands p set ≡ true → stands p v.items ≡ true) }
+    {
+        let positions = self.state.unknown()?;
+        Ok(positions)
+    }
+}

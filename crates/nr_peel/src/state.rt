@@ -1,0 +1,232 @@
+//! What a peeler knows, and how it goes on until no row has exactly one unknown position.
+
+ghost use Rattle.std.specs.Prelude.{◌≡◌, ◌+◌, ◌*◌, ◌/◌, ◌%◌, ◌^◌, ◌<◌, ◌≤◌, ◌==◌, ℕ, not, true, false, All, Bool, IfOk, count_by, length, map, replicate, slice_index, slice_set, sum, vec_capacity};
+ghost use Rattle.nr_bitvec.specs.Bit.{bit};
+ghost use Rattle.nr_shifttable.specs.Accepted.{IsTable, column_of, entries_in};
+ghost use Rattle.nr_shifttable.specs.Tails.{value_in};
+ghost use Rattle.nr_ldpcenc.specs.Parity.{parity};
+ghost use Rattle.nr_ldpcenc.specs.Rows.{Meets, place};
+ghost use Rattle.nr_segment.specs.CodeBlock.{numbers};
+ghost use Rattle.nr_peel.specs.Peeling.{left_of, unknown_in};
+ghost use Rattle.nr_peel.specs.Closure.{IsOnlyMissing};
+ghost use Rattle.nr_peel.specs.Touches.{holder};
+ghost use Rattle.nr_peel.specs.Counters.{Follows, IsListed, IsLowered, IsSettled, IsTied};
+ghost use Rattle.nr_peel.specs.State.{Grows, HasKnown, IsBlank, IsFilled, IsVisited, IsWorking, LearnsWords, lifted_checks};
+
+use crate::counters::Counters;
+use crate::fix::Fix;
+use crate::lifted::Lifted;
+use nr_bitvec::Bits;
+use nr_shifttable::Entry;
+use std::alloc::{AllocError, Global};
+
+// The positions that were given and those that are known, the bits of the known ones (zero elsewhere), the counters,
+// and the steps that fixed positions.
+#[derive(Drop)]
+pub(crate) struct State {
+    pub(crate) given: Bits,
+    pub(crate) known: Bits,
+    pub(crate) bits: Bits,
+    pub(crate) counters: Counters,
+    pub(crate) order: Vec<Fix>,
+}
+
+// A list of zeros.
+fn zeros(alloc: Global, count: u32) -> Result<Bits, AllocError>
+    requires { count ≤ 2 ^ 24 }
+    ensures { IfOk result (λ bits. bits.items ≡ replicate count false) }
+{
+    let mut bits = Bits::with_room(alloc, count)?;
+    for _ in 0..count {
+        bits.push_in_room(false);
+    }
+    Ok(bits)
+}
+
+impl State {
+    // The state in which only the fillers are given.
+    pub(crate) fn new(alloc: Global, lifted: &Lifted<'_>) -> Result<State, AllocError>
+        requires { IsTable lifted.now.table.now }
+        ensures { IfOk result (IsFilled (lifted_checks lifted.now) (numbers lifted.now.plan)) }
+    {
+        let mut state = State::blank(alloc, lifted)?;
+        state.settle(lifted);
+        state.give_fillers(lifted);
+        Ok(state)
+    }
+
+    // The state in which no position is given.
+    fn blank(alloc: Global, lifted: &Lifted<'_>) -> Result<State, AllocError>
+        requires { IsTable lifted.now.table.now }
+        ensures { IfOk result (IsBlank (lifted_checks lifted.now)) }
+    {
+        let size = lifted.plan.graph.cols() * lifted.plan.z;
+        let given = zeros(alloc, size)?;
+        let known = zeros(alloc, size)?;
+        let bits = zeros(alloc, size)?;
+        let counters = Counters::new(alloc, lifted)?;
+        let order = Vec::with_capacity(alloc, size as usize)?;
+        Ok(State {
+            given,
+            known,
+            bits,
+            counters,
+            order,
+        })
+    }
+
+    // Gives the fillers, as zeros.
+    fn give_fillers(&mut self, lifted: &Lifted<'_>)
+        requires table { IsTable lifted.now.table.now }
+        requires working { IsWorking (lifted_checks lifted.now) self.old }
+        requires settled { IsSettled self.old.counters }
+        requires none { self.old.given.items ≡ replicate (lifted_checks lifted.now).size false }
+        requires words { (w : ℕ → Bool) → Meets (lifted_checks lifted.now) w → HasKnown self.old w }
+        ensures { IsFilled (lifted_checks lifted.now) (numbers lifted.now.plan) self.new }
+    {
+        for pos in lifted.plan.kdash..lifted.plan.k {
+            self.learn(lifted, pos, false);
+        }
+    }
+
+    // The only unknown position of a row, and the sum of the row's other bits.
+    fn search(&mut self, lifted: &Lifted<'_>, row: &[Entry], lane: u32) -> (u32, bool)
+        requires lane { lane < lifted.now.plan.z }
+        requires known { All (λ e. (e.col + 1) * lifted.now.plan.z ≤ length self.old.known.items) row.now }
+        requires bits { length self.old.bits.items ≡ length self.old.known.items }
+        requires short { length self.old.known.items < 2 ^ 32 }
+        requires one { count_by (λ p. not (bit self.old.known.items p))
+            (map (λ e. place lifted.now.plan.z lane e.col (value_in lifted.now.plan.set e)) row.now) ≡ 1 }
+        requires few { self.old.counters.touches + length row.now < 2 ^ 64 }
+        ensures found { IsOnlyMissing (bit self.old.known.items)
+            (map (λ e. place lifted.now.plan.z lane e.col (value_in lifted.now.plan.set e)) row.now) result.0 }
+        ensures inside { result.0 < length self.old.known.items }
+        ensures sum { result.1 ≡ parity (bit self.old.bits.items)
+            (map (λ e. place lifted.now.plan.z lane e.col (value_in lifted.now.plan.set e)) row.now) }
+        ensures visited { IsVisited (length row.now) self.old self.new }
+    {
+        let mut unknown = 0;
+        let mut sum = false;
+        for entry in row {
+            self.counters.visit();
+            let pos = lifted.place(entry, lane);
+            sum ^= self.bits.get(pos as usize);
+            if !self.known.get(pos as usize) {
+                unknown = pos;
+            }
+        }
+        (unknown, sum)
+    }
+
+    // A position becomes known: its rows' counters fall.
+    fn mark(&mut self, lifted: &Lifted<'_>, pos: u32, value: bool)
+        requires table { IsTable lifted.now.table.now }
+        requires inside { pos < (lifted_checks lifted.now).size }
+        requires known_long { length self.old.known.items ≡ (lifted_checks lifted.now).size }
+        requires bits_long { length self.old.bits.items ≡ (lifted_checks lifted.now).size }
+        requires unknown { bit self.old.known.items pos ≡ false }
+        requires tied { IsTied (lifted_checks lifted.now) self.old.known.items self.old.counters }
+        requires few { self.old.counters.touches + sum self.old.counters.counts.items + 1 < 2 ^ 64 }
+        ensures given { self.new.given ≡ self.old.given }
+        ensures order { self.new.order ≡ self.old.order }
+        ensures known { self.new.known.items ≡ slice_set self.old.known.items pos true }
+        ensures bits { self.new.bits.items ≡ slice_set self.old.bits.items pos value }
+        ensures lowered { IsLowered (λ k. count_by (λ e. holder lifted.now.plan.set lifted.now.plan.z (pos % lifted.now.plan.z) e == k)
+            (column_of (entries_in lifted.now.plan.graph lifted.now.table.now) (pos / lifted.now.plan.z)))
+            self.old.counters self.new.counters }
+        ensures tied { IsTied (lifted_checks lifted.now) self.new.known.items self.new.counters }
+    {
+        self.known.set(pos as usize, true);
+        self.bits.set(pos as usize, value);
+        let z = lifted.plan.z;
+        self.counters.lower(lifted, lifted.column(pos / z), pos % z);
+    }
+
+    // A row with one unknown position fixes it.
+    fn fix(&mut self, lifted: &Lifted<'_>, row: u32)
+        requires table { IsTable lifted.now.table.now }
+        requires working { IsWorking (lifted_checks lifted.now) self.old }
+        requires inside { row < length self.old.counters.counts.items }
+        requires one { slice_index self.old.counters.counts.items row ≡ 1 }
+        ensures working { IsWorking (lifted_checks lifted.now) self.new }
+        ensures follows { Follows self.old.counters self.new.counters }
+        ensures spent { slice_index self.new.counters.counts.items row ≡ 0 }
+        ensures grows { Grows (lifted_checks lifted.now) self.old self.new }
+    {
+        let z = lifted.plan.z;
+        let i = row / z;
+        let lane = row % z;
+        let (pos, value) = self.search(lifted, lifted.row(i), lane);
+        self.order.push_reserved(Fix {
+            row: i as u16,
+            lane: lane as u16,
+            pos,
+        });
+        self.mark(lifted, pos, value);
+    }
+
+    // Fixes positions until no row has exactly one unknown position.
+    pub(crate) fn settle(&mut self, lifted: &Lifted<'_>)
+        requires table { IsTable lifted.now.table.now }
+        requires working { IsWorking (lifted_checks lifted.now) self.old }
+        requires listed { IsListed self.old.counters }
+        ensures working { IsWorking (lifted_checks lifted.now) self.new }
+        ensures settled { IsSettled self.new.counters }
+        ensures grows { Grows (lifted_checks lifted.now) self.old self.new }
+    {
+        'rows: while let Some(row) = self.counters.ready.pop() {
+            if self.counters.counts[row as usize] == 1 {
+                self.fix(lifted, row);
+            }
+        }
+    }
+
+    // A position is given, and takes a bit if it is not known.
+    pub(crate) fn learn(&mut self, lifted: &Lifted<'_>, pos: u32, value: bool)
+        requires table { IsTable lifted.now.table.now }
+        requires working { IsWorking (lifted_checks lifted.now) self.old }
+        requires settled { IsSettled self.old.counters }
+        requires inside { pos < (lifted_checks lifted.now).size }
+        ensures working { IsWorking (lifted_checks lifted.now) self.new }
+        ensures settled { IsSettled self.new.counters }
+        ensures given { self.new.given.items ≡ slice_set self.old.given.items pos true }
+        ensures known { (p : ℕ) → bit self.old.known.items p ≡ true → bit self.new.known.items p ≡ true }
+        ensures bits { (p : ℕ) → bit self.old.known.items p ≡ true → bit self.new.bits.items p ≡ bit self.old.bits.items p }
+        ensures taken { bit self.old.known.items pos ≡ false → bit self.new.bits.items pos ≡ value }
+        ensures words { LearnsWords (lifted_checks lifted.now) self.old self.new pos value }
+    {
+        self.given.set(pos as usize, true);
+        if !self.known.get(pos as usize) {
+            self.mark(lifted, pos, value);
+            self.settle(lifted);
+        }
+    }
+
+    // How many of the first positions aren't known.
+    pub(crate) fn left(&self, count: u32) -> u32
+        requires { count ≤ length self.now.known.items }
+        ensures { result ≡ left_of count self.now.known.items }
+    {
+        let mut left = 0;
+        for p in 0..count {
+            if !self.known.get(p as usize) {
+                left += 1;
+            }
+        }
+        left
+    }
+
+    // The positions that aren't known, ascending.
+    pub(crate) fn unknown(&self) -> Result<Vec<u32>, AllocError>
+        requires { length self.now.known.items < 2 ^ 32 }
+        ensures { IfOk result (λ v. v.items ≡ unknown_in self.now.known.items) }
+    {
+        let mut unknown = Vec::new(*self.order.allocator());
+        for p in 0..self.known.len() as u32 {
+            if !self.known.get(p as usize) {
+                unknown.push(p)?;
+            }
+        }
+        Ok(unknown)
+    }
+}
