@@ -1,0 +1,51 @@
+//! The concatenation of code blocks of TS 38.212, 5.5.
+//! `append` puts the bits of a code block behind those before it, and `owner` says whose bit stands at a place of the
+//! joined list. Their contracts cite specs/Concatenation.antt. Law: each place has one owner.
+//! Stands on nr_bitvec; `owner` takes no memory.
+#![tactic(auto)]
+
+ghost use Rattle.std.specs.Prelude.{◌≡◌, ◌+◌, ◌^◌, ◌<◌, ◌≤◌, ◌++◌, length, sum, OnOk, OnErr};
+ghost use Rattle.nr_cbconcat.specs.Concatenation.{IsOwner, owner_of, PlacesHaveOneOwner};
+
+use nr_bitvec::Bits;
+use std::alloc::AllocError;
+
+/// Puts the bits of a code block behind the joined ones, where both together have at most 2^24 bits
+/// (TS 38.212, 5.5).
+///
+/// # Errors
+///
+/// `AllocError` is want of memory, and leaves the joined bits as they were.
+pub fn append(joined: &mut Bits, block: &Bits) -> Result<(), AllocError>
+    requires { length joined.old.items + length block.now.items ≤ 2 ^ 24 }
+    ensures ok { OnOk result (joined.new.items ≡ joined.old.items ++ block.now.items) }
+    ensures err { OnErr result (joined.new.items ≡ joined.old.items) }
+{
+    joined.extend(block)
+}
+
+/// The code block of place `m` of the joined bits, counted from 0, and the place there, where `lengths` are the
+/// lengths of the code blocks and `m` is below their sum (TS 38.212, 5.5). Takes no memory; walks the lengths.
+pub fn owner(lengths: &[u32], m: u32) -> (u32, u32)
+    requires few { length lengths.now < 2 ^ 32 }
+    requires inside { m < sum lengths.now }
+    ensures owner { IsOwner lengths.now m result.0 result.1 }
+    ensures value { (result.0, result.1) ≡ owner_of lengths.now m }
+{
+    let mut place = m;
+    for (r, length) in lengths.iter().enumerate() {
+        if place < *length {
+            return (r as u32, place);
+        }
+        place -= *length;
+    }
+    unreachable!()
+}
+
+/// Law: each place of the joined bits has one owner.
+pub fn places_have_one_owner()
+    ensures { PlacesHaveOneOwner }
+{}
+
+#[cfg(test)]
+mod tests;

@@ -1,0 +1,5 @@
+use Rattle.nr_interleave.proofs.Seats.{seating}
+use Rattle.nr_interleave.proofs.seats_are_seating.Goals as goal
+
+pub returns : goal.returns
+returns c = seating
