@@ -1,0 +1,4 @@
+mod Buffers
+mod LengthLemmas
+mod Ranges
+mod Rounding

@@ -1,0 +1,139 @@
+-- Ranges of numbers: turned round, cut in two, and without those that a test drops between two others.
+use Rattle.std.proofs.Common.{◌≡◌, ℕ, zero, suc, ◌+◌, ◌-◌, ◌%◌, ◌<◌, ◌≤◌, min, Bool, true, false, cond, List, [], ◌∷◌, ◌++◌, length, map, filter, sym, ap, subst, ◌∙◌, inl, inr, arith}
+use Rattle.std.specs.List.{range_with_len}
+use Rattle.std.proofs.Math.Nat.{add-mod_right, mod-eq_of_lt}
+use Rattle.std.proofs.lemmas.Bool.{cases_lt}
+use Rattle.std.proofs.lemmas.Bool.Decides.{nat_tests}
+use Rattle.std.proofs.lemmas.List.{append-nil, map-id, length-append, get_or_append_left, get_or-append_right, same_lists}
+use Rattle.std.proofs.lemmas.List.FromFn.{length-range_with_len, get_or-range_with_len, length-map-range_with_len, get_or-map-range_with_len, map-range_with_len_more, filter_of_map_range_with_len_more}
+use Rattle.nr_ratematch.specs.Rounds.{index_of}
+
+-- the remainder where the quotient is one
+pub mod_once : (n m : ℕ) → m ≤ n → n < m + m → n % m ≡ n - m
+mod_once n m high low =
+    let whole : n ≡ (n - m) + m = omega arith in
+    ap (λ k. k % m) whole ∙ add-mod_right (n - m) m ∙ mod-eq_of_lt (omega arith)
+
+-- one of two cases
+pub below_or_not : (i n : ℕ) {T : Type 0} → (i < n → T) → (n ≤ i → T) → T
+below_or_not i n below above =
+    elim (cases_lt i n) [
+      | inl less ↦ below less
+      | inr more ↦ above more
+    ]
+
+-- a range in two parts
+pub range_split : (s n : ℕ) → s ≤ n → range_with_len 0 n ≡ range_with_len 0 s ++ range_with_len s (n - s)
+range_split s n inside =
+    let front = range_with_len 0 s in
+    let rest = range_with_len s (n - s) in
+    let long : length (range_with_len 0 n) ≡ n = length-range_with_len 0 n in
+    let front_long : length (range_with_len 0 s) ≡ s = length-range_with_len 0 s in
+    let rest_long : length (range_with_len s (n - s)) ≡ n - s = length-range_with_len s (n - s) in
+    let both = length-append front rest in
+    same_lists (range_with_len 0 n) (front ++ rest) (omega arith) (λ k d below.
+    get_or-range_with_len 0 n k d (omega arith)
+    ∙ below_or_not k s
+    (λ low. sym (get_or_append_left front rest d k (omega arith) ∙ get_or-range_with_len 0 s k d low))
+    (λ high.
+    let here : s + (k - s) ≡ 0 + k = omega arith in
+    sym (get_or-append_right front rest s k d front_long high
+    ∙ get_or-range_with_len s (n - s) (k - s) d (omega arith)
+    ∙ here)))
+
+-- a range turned round, from s on
+pub range_turned : (s n : ℕ) → s ≤ n
+    → map (λ j. (s + j) % n) (range_with_len 0 n) ≡ range_with_len s (n - s) ++ range_with_len 0 s
+range_turned s n inside =
+    let turned : ℕ → ℕ = λ j. (s + j) % n in
+    let rest = range_with_len s (n - s) in
+    let front = range_with_len 0 s in
+    let long : length (map turned (range_with_len 0 n)) ≡ n = length-map-range_with_len turned 0 n in
+    let front_long : length (range_with_len 0 s) ≡ s = length-range_with_len 0 s in
+    let rest_long : length (range_with_len s (n - s)) ≡ n - s = length-range_with_len s (n - s) in
+    let both = length-append rest front in
+    same_lists (map turned (range_with_len 0 n)) (rest ++ front) (omega arith) (λ k d below.
+    get_or-map-range_with_len turned 0 n k k d (omega arith) (omega arith)
+    ∙ below_or_not k (n - s)
+    (λ low.
+    mod-eq_of_lt (omega arith)
+    ∙ sym (get_or_append_left rest front d k (omega arith) ∙ get_or-range_with_len s (n - s) k d low))
+    (λ high.
+    let here : s + k - n ≡ 0 + (k - (n - s)) = omega arith in
+    mod_once (s + k) n (omega arith) (omega arith)
+    ∙ here
+    ∙ sym (get_or-append_right rest front (n - s) k d rest_long high
+    ∙ get_or-range_with_len 0 s (k - (n - s)) d (omega arith))))
+
+-- a test drops of the numbers below n those from a on and below b
+pub record Skips (keep : ℕ → Bool) (a b n : ℕ) : Type 0 where
+  pub order : a ≤ b
+  pub before : (i : ℕ) → i < a → keep i ≡ true
+  pub within : (i : ℕ) → a ≤ i → i < b → keep i ≡ false
+  pub after : (i : ℕ) → b ≤ i → i < n → keep i ≡ true
+
+-- how many numbers below n are kept
+abbrev pub rank : ℕ → ℕ → ℕ → ℕ
+rank a b n = min n a + (n - b)
+
+-- the kept numbers below m
+abbrev kept : ℕ → ℕ → ℕ → List ℕ
+kept a b m = map (index_of a (b - a)) (range_with_len 0 (rank a b m))
+
+-- one number more, which is kept
+filter-kept : (keep : ℕ → Bool) (a b m : ℕ) → keep m ≡ true → index_of a (b - a) (rank a b m) ≡ m
+    → rank a b (m + 1) ≡ rank a b m + 1 → kept a b m ++ cond (keep m) (m ∷ []) [] ≡ kept a b (m + 1)
+filter-kept keep a b m is_kept here more =
+    let index : ℕ → ℕ = index_of a (b - a) in
+    ap (λ c. kept a b m ++ cond c (m ∷ []) []) is_kept
+    ∙ ap (λ i. kept a b m ++ i ∷ []) (sym here)
+    ∙ sym (map-range_with_len_more index 0 (rank a b m) (rank a b m) (omega arith))
+    ∙ ap (λ r. map index (range_with_len 0 r)) (sym more)
+
+-- one number more, which is dropped
+filter-dropped : (keep : ℕ → Bool) (a b m : ℕ) → keep m ≡ false → rank a b (m + 1) ≡ rank a b m
+    → kept a b m ++ cond (keep m) (m ∷ []) [] ≡ kept a b (m + 1)
+filter-dropped keep a b m is_dropped same =
+    ap (λ c. kept a b m ++ cond c (m ∷ []) []) is_dropped
+    ∙ append-nil (kept a b m)
+    ∙ ap (λ r. map (index_of a (b - a)) (range_with_len 0 r)) (sym same)
+
+pub index-low : (front skip i : ℕ) → i < front → index_of front skip i ≡ i
+index-low front skip i low = grind (arith, nat_tests)
+
+pub index-high : (front skip i : ℕ) → front ≤ i → index_of front skip i ≡ i + skip
+index-high front skip i high = grind (arith, nat_tests)
+
+-- one number more
+filter-step : (keep : ℕ → Bool) (a b n m : ℕ) → Skips keep a b n → m < n
+    → kept a b m ++ cond (keep m) (m ∷ []) [] ≡ kept a b (m + 1)
+filter-step keep a b n m skips inside =
+    let order = skips.order in
+    below_or_not m a
+    (λ low.
+    let here : rank a b m ≡ m = omega arith in
+    filter-kept keep a b m (skips.before m low)
+    (index-low a (b - a) (rank a b m) (omega arith) ∙ here) (omega arith))
+    (λ high. below_or_not m b
+    (λ low. filter-dropped keep a b m (skips.within m high low) (omega arith))
+    (λ past.
+    let here : rank a b m + (b - a) ≡ m = omega arith in
+    filter-kept keep a b m (skips.after m past inside)
+    (index-high a (b - a) (rank a b m) (omega arith) ∙ here) (omega arith)))
+
+-- the test keeps these
+pub filter-range : (keep : ℕ → Bool) (a b n m : ℕ) → Skips keep a b n → m ≤ n
+    → filter keep (range_with_len 0 m) ≡ map (index_of a (b - a)) (range_with_len 0 (rank a b m))
+filter-range keep a b n zero skips inside =
+    let none : rank a b 0 ≡ 0 = omega arith in
+    sym (ap (λ r. map (index_of a (b - a)) (range_with_len 0 r)) none)
+filter-range keep a b n (suc m) skips inside =
+    let next : m + 1 ≡ suc m = omega arith in
+    let same : ℕ → ℕ = λ i. i in
+    let so_far = filter-range keep a b n m skips (omega arith) in
+    subst (λ k. filter keep (range_with_len 0 k) ≡ map (index_of a (b - a)) (range_with_len 0 (rank a b k))) next
+    (ap (filter keep) (sym (map-id (range_with_len 0 (m + 1))))
+    ∙ filter_of_map_range_with_len_more keep same 0 m m (omega arith)
+    ∙ ap (λ xs. filter keep xs ++ cond (keep m) (m ∷ []) []) (map-id (range_with_len 0 m))
+    ∙ ap (λ xs. xs ++ cond (keep m) (m ∷ []) []) so_far
+    ∙ filter-step keep a b n m skips (omega arith))

@@ -1,0 +1,11 @@
+use Rattle.nr_ratematch.proofs.Buffers.{round-place, place-sent}
+use Rattle.nr_ratematch.proofs.buffer.Buffer.round.Goals as goal
+
+pub returns-clause-places : goal.returns-clause-places
+returns-clause-places c = λ k.
+    rw (c.min.ensures, c.saturating_sub.ensures, c.start-start.ensures.value, c.min-front.ensures, c.min-end.ensures, ← c.self.view_is)
+    (round-place _ c.args.rv k c.self.invariant c.requires)
+
+pub returns-clause-sent : goal.returns-clause-sent
+returns-clause-sent c = λ k.
+    rw (← c.self.view_is) (place-sent _ c.args.rv k c.self.invariant c.requires)

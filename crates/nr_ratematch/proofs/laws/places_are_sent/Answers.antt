@@ -1,0 +1,5 @@
+use Rattle.nr_ratematch.proofs.Buffers.{place-sent}
+use Rattle.nr_ratematch.proofs.laws.places_are_sent.Goals as goal
+
+pub returns : goal.returns
+returns c = place-sent

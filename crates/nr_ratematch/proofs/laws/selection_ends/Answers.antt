@@ -1,0 +1,5 @@
+use Rattle.nr_ratematch.proofs.Buffers.{live-some}
+use Rattle.nr_ratematch.proofs.laws.selection_ends.Goals as goal
+
+pub returns : goal.returns
+returns c = live-some

@@ -1,0 +1,4 @@
+pub mod Lengths
+pub mod Places
+pub mod Rounds
+pub mod Selection

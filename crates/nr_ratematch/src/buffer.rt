@@ -1,0 +1,123 @@
+// The circular buffer of a code block.
+
+ghost use Rattle.std.specs.Prelude.{◌≡◌, ℕ, ◌<◌};
+ghost use Rattle.nr_segment.specs.CodeBlock.{numbers};
+ghost use Rattle.nr_ratematch.specs.Places.{GivesPlaces};
+ghost use Rattle.nr_ratematch.specs.Selection.{buffer_said, start_columns, start_of, place_of, IsSent};
+
+use crate::fault::RmFault;
+use crate::round::Round;
+use nr_graphpick::Graph;
+use nr_segment::Plan;
+use std::marker::Model;
+
+/// The circular buffer of the code blocks of a plan: all N bits of a codeword after the punctured ones, or the first
+/// Nref of them (TS 38.212, 5.4.2.1). Contracts see it as the numbers that selection rests on, and Ncb among them.
+#[derive(Clone, Copy, Debug, PartialEq, Eq)]
+pub struct Buffer {
+    graph: Graph,
+    z: u32,
+    kdash: u32,
+    k: u32,
+    ncb: u32,
+}
+
+impl Model for Buffer {
+    ghost use Rattle.nr_ratematch.specs.Selection.{Circular, IsCircular};
+
+    ghost Value = { Circular };
+
+    ghost view = { λ b. record { graph = b.graph; z = b.z; kdash = b.kdash; k = b.k; ncb = b.ncb } };
+
+    ghost inverse = { λ b. record { graph = b.graph; z = b.z; kdash = b.kdash; k = b.k; ncb = b.ncb } };
+
+    ghost invariant = { λ b. IsCircular (record { graph = b.graph; z = b.z; kdash = b.kdash; k = b.k; ncb = b.ncb }) };
+}
+
+// The numerators of Table 5.4.2.1-2, by redundancy version.
+fn start_columns_of(graph: Graph) -> [u32; 4]
+    ensures { result ≡ start_columns graph }
+{
+    match graph {
+        Graph::One => [0, 17, 33, 56],
+        Graph::Two => [0, 13, 25, 43],
+    }
+}
+
+impl Buffer {
+    /// The buffer of each code block of a plan, limited where `lbrm` gives TBS_LBRM, in bits: it keeps the first
+    /// Nref = 3 TBS_LBRM / (2 C) bits, rounded down (TS 38.212, 5.4.2.1, with R_LBRM = 2/3). Takes no memory.
+    ///
+    /// # Errors
+    ///
+    /// `NoBuffer`, where Nref is 0.
+    pub fn new(plan: &Plan, lbrm: Option<u32>) -> Result<Buffer, RmFault>
+        ensures { result ≡ buffer_said plan.now.graph (numbers plan.now) lbrm }
+    {
+        let mut ncb = plan.n;
+        if let Some(tbs) = lbrm {
+            let reference = 3 * u64::from(tbs) / (2 * u64::from(plan.c));
+            if reference == 0 {
+                return Err(RmFault::NoBuffer);
+            }
+            ncb = reference.min(u64::from(ncb)) as u32;
+        }
+        Ok(Buffer {
+            graph: plan.graph,
+            z: plan.z,
+            kdash: plan.kdash,
+            k: plan.k,
+            ncb,
+        })
+    }
+
+    /// Ncb, the bits that the buffer keeps of a code block: 1 to N, at most 25,344.
+    pub fn ncb(&self) -> u32
+        ensures { result ≡ self.now.ncb }
+    {
+        let Buffer { ncb, .. } = self;
+        *ncb
+    }
+
+    /// k0, the place in the buffer where the redundancy version `rv` begins, below Ncb
+    /// (TS 38.212, Table 5.4.2.1-2).
+    #[tactic(auto, unfolding(crate::specs::Selection::start_of))]
+    pub fn start(&self, rv: u32) -> u32
+        requires { rv < 4 }
+        ensures value { result ≡ start_of self.now rv }
+        ensures inside { result < self.now.ncb }
+    {
+        let column = start_columns_of(self.graph)[rv as usize];
+        column * self.ncb / ((self.graph.cols() - 2) * self.z) * self.z
+    }
+
+    /// The position in the codeword of the bit `k` that the redundancy version `rv` selects: round and round the
+    /// buffer from its start on, without the fillers (TS 38.212, 5.4.2.1). Takes no memory, and as long for every
+    /// `k`.
+    pub fn place(&self, rv: u32, k: u32) -> u32
+        requires { rv < 4 }
+        ensures value { result ≡ place_of self.now rv k }
+        ensures sent { IsSent self.now result }
+    {
+        self.round(rv).place(k)
+    }
+
+    // The places of the buffer once round, as a redundancy version takes them.
+    pub(crate) fn round(&self, rv: u32) -> Round
+        requires { rv < 4 }
+        ensures places { GivesPlaces result self.now rv }
+        ensures sent { (k : ℕ) → IsSent self.now (place_of self.now rv k) }
+    {
+        let start = self.start(rv);
+        let punctured = 2 * self.z;
+        let front = (self.kdash - punctured).min(self.ncb);
+        let end = (self.k - punctured).min(self.ncb);
+        Round {
+            front,
+            skip: end - front,
+            count: self.ncb - (end - front),
+            first: start.min(front) + start.saturating_sub(end),
+            punctured,
+        }
+    }
+}

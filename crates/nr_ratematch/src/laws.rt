@@ -1,0 +1,23 @@
+// The laws of bit selection.
+
+ghost use Rattle.nr_ratematch.specs.Selection.{SelectionEnds, PlacesAreSent, BuffersAreCircular};
+
+use nr_segment::plans_are_sound;
+
+/// Law: once round every buffer, from the start of each redundancy version, there is a bit that is no filler, so
+/// that selection ends (TS 38.212, 5.4.2.1).
+pub fn selection_ends()
+    ensures { SelectionEnds }
+{}
+
+/// Law: every selected position is in the buffer, not punctured and no filler (TS 38.212, 5.3.2 and 5.4.2.1).
+pub fn places_are_sent()
+    ensures { PlacesAreSent }
+{}
+
+/// Law: the buffers of every plan keep to what the two laws above ask for.
+pub fn buffers_are_circular()
+    ensures { BuffersAreCircular }
+{
+    plans_are_sound();
+}

@@ -1,0 +1,26 @@
+//! Rate matching for the LDPC code of NR (TS 38.212, 5.4.2): how many bits of each code block are sent, and which.
+//! `lengths` shares the bits out to the scheduled code blocks, a `Buffer` says which position of the codeword each
+//! selected bit has, from the redundancy version's start on, and `select` takes the bits. Their contracts cite
+//! specs/Lengths.antt and specs/Selection.antt: the whole circular buffer once round, without its fillers.
+//! Laws: a selected position is never punctured and no filler. Stands on nr_ldpcenc; only `select` takes memory.
+#![tactic(auto)]
+
+mod buffer;
+mod fault;
+mod laws;
+mod mask;
+mod round;
+mod selection;
+mod sharing;
+
+pub use buffer::Buffer;
+pub use fault::RmFault;
+pub use laws::{buffers_are_circular, places_are_sent, selection_ends};
+pub use mask::Mask;
+pub use selection::select;
+pub use sharing::{MOST_BLOCKS, lengths, lengths_are_shared};
+
+#[cfg(test)]
+mod sharing_tests;
+#[cfg(test)]
+mod tests;

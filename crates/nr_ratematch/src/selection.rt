@@ -1,0 +1,37 @@
+// The bits of a code block that are sent.
+
+ghost use Rattle.std.specs.Prelude.{◌≡◌, ◌*◌, ◌^◌, ◌<◌, ◌≤◌, length, IfOk};
+ghost use Rattle.nr_graphpick.specs.Graph.{cols_of};
+ghost use Rattle.nr_ratematch.specs.Selection.{selected};
+
+use crate::buffer::Buffer;
+use nr_bitvec::Bits;
+use nr_ldpcenc::Word;
+use std::alloc::{AllocError, Global};
+
+/// The `e` bits, at most 2^24, that the redundancy version `rv` selects from the codeword of a code block
+/// (TS 38.212, 5.4.2.1): the bits at the positions that `Buffer::place` says.
+///
+/// # Errors
+///
+/// `AllocError` is want of memory, which is asked for once.
+#[tactic(auto, unfolding(crate::specs::Selection::selected))]
+pub fn select(
+    alloc: Global,
+    buffer: &Buffer,
+    word: &Word,
+    rv: u32,
+    e: u32,
+) -> Result<Bits, AllocError>
+    requires version { rv < 4 }
+    requires long { length word.now ≡ cols_of buffer.now.graph * buffer.now.z }
+    requires short { e ≤ 2 ^ 24 }
+    ensures { IfOk result (λ bits. bits.items ≡ selected buffer.now word.now rv e) }
+{
+    let round = buffer.round(rv);
+    let mut bits = Bits::with_room(alloc, e)?;
+    for k in 0..e {
+        bits.push_in_room(word.get(round.place(k) as usize));
+    }
+    Ok(bits)
+}
