@@ -60,6 +60,25 @@ zeros n i =
       | inr past ↦ get_or_past {X = ℕ} (replicate n 0) i 0 (omega (arith, past, length-replicate {A = ℕ} n 0))
     ]
 
+-- words of zeros, as many as n places need, and the list of n zero bits in them
+place-zeros : (count t : ℕ) → place (replicate count 0) t ≡ 0
+place-zeros count t = ap (λ k. bit_at k (t % 64)) (zeros count (t / 64)) ∙ bit_at-zero (t % 64)
+
+pub zeros-packed : (n count : ℕ) (ws : List ℕ) → n ≤ 2 ^ 24 → count ≡ n / 64 + min 1 (n % 64) → ws ≡ replicate count 0 → IsPacked n ws
+zeros-packed n count ws short e made =
+    let long : length ws ≡ count = ap length made ∙ length-replicate {A = ℕ} count 0 in
+    record {
+      short = short;
+      above = omega (arith, e, long);
+      below = omega (arith, e, long);
+      clear = λ t h. ap (λ vs. place vs t) made ∙ place-zeros count t;
+    }
+
+pub zeros-items : (n count : ℕ) (ws : List ℕ) → ws ≡ replicate count 0 → unpacked n ws ≡ replicate n false
+zeros-items n count ws made =
+    unpacked-is n ws (replicate n false) (length-replicate n false)
+    (λ t h. ap (λ vs. place vs t == 1) made ∙ ap (λ k. k == 1) (place-zeros count t) ∙ sym (get_or-replicate n t false false h))
+
 -- more words, which are zero, have the same places
 place-resized : (ws : List ℕ) (count t : ℕ) → length ws ≤ count → place (take count ws ++ replicate (count - length ws) 0) t ≡ place ws t
 place-resized ws count t h =

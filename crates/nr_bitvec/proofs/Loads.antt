@@ -118,7 +118,7 @@ writes_none ws os e = record {
 }
 
 -- an octet of a word
-le-octet : (n k : ℕ) → k < 8 → get_or (to_le_bytes w64 n) k 0 ≡ n / 2 ^ (8 * k) % 2 ^ 8
+pub le-octet : (n k : ℕ) → k < 8 → get_or (to_le_bytes w64 n) k 0 ≡ n / 2 ^ (8 * k) % 2 ^ 8
 le-octet n zero h = omega arith
 le-octet n (suc zero) h = refl
 le-octet n (suc (suc zero)) h = refl

@@ -3,11 +3,13 @@ use Rattle.std.proofs.Common.{◌≡◌, ℕ, ◌+◌, ◌-◌, ◌*◌, ◌/◌
 use Rattle.std.proofs.lemmas.Bool.{cases_lt, and_parts, or_cases, ltb-true, leb-true, eqb-true, agree_below, agree_below_at}
 use Rattle.std.proofs.lemmas.List.{get_or_past}
 use Rattle.std.proofs.lemmas.Nat.Bits.{bit_at-lt, bit_at-zero, bit_at_above, bit_at_and, bit_at_or}
-use Rattle.std.specs.Int.{bit_at}
+use Rattle.std.proofs.lemmas.Nat.{le_bytes_8}
+use Rattle.std.specs.Int.{bit_at, from_le_bytes, w64}
 use Rattle.std.specs.Int.RustNames.{bit_and, bit_or}
 use Rattle.nr_bitvec.specs.Packed.{moved, octet_place}
 use Rattle.nr_bitvec.proofs.BitFacts.{bit_at_shr, bit_at_shl_low, bit_at_shl_high, bit_at_mod, bit_at_mod_above}
 use Rattle.nr_bitvec.proofs.Flips.{moved_below, moved_from, moved_up}
+use Rattle.nr_bitvec.proofs.Loads.{le-octet}
 
 -- ---- runs of places, swapped
 
@@ -117,6 +119,16 @@ gathers_more group word next o i few read fits e gathers =
       ];
       above = λ j h. omega (arith, split j, added-above o i j fits (omega (arith, h)), gathers.above j (omega (arith, h)));
     }
+
+-- eight octets are gathered by one load
+pub gathers_eight : (group : List ℕ) (word : ℕ) → length group ≡ 8 → ((i : ℕ) → get_or group i 0 < 256) → word < 2 ^ 64 → word ≡ from_le_bytes w64 group → Gathers group word 8
+gathers_eight group word eight small fits read = record {
+  below = λ j h.
+      let k : 8 * (j / 8) + j % 8 ≡ j = omega arith in
+      ap (bit_at word) (sym k) ∙ sym (bit_at_shr word (8 * (j / 8)) (j % 8)) ∙ sym (bit_at_mod (word / 2 ^ (8 * (j / 8))) 8 (j % 8) (omega arith))
+      ∙ ap (λ o. bit_at o (j % 8)) (sym (le-octet word (j / 8) (omega (arith, h)))) ∙ ap (λ os. bit_at (get_or os (j / 8) 0) (j % 8)) (le_bytes_8 group word eight small read);
+  above = λ j h. bit_at_above word 64 j fits (omega (arith, h));
+}
 
 -- the gathered octets, turned over, have the places of the octets
 pub gathers_all : (group : List ℕ) (word r i : ℕ) → length group ≤ i → Gathers group word i → ((j : ℕ) → j < 64 → bit_at r j ≡ bit_at word (8 * (j / 8) + (7 - j % 8))) → (j : ℕ) → j < 64 → bit_at r j ≡ octet_place group j

@@ -20,11 +20,14 @@ fn swapped(word: u64, by: u32, mask: u64) -> u64
     word >> by & mask | (word & mask) << by
 }
 
-// The word of at most eight octets, with their places.
+// The word of at most eight octets, with their places. Eight of them are read at once.
 pub(crate) fn word_of_octets(group: &[u8]) -> u64
     requires { length group.now ≤ 8 }
     ensures { (j : ℕ) → j < 64 → bit_at result j ≡ octet_place group.now j }
 {
+    if let Ok(eight) = <[u8; 8]>::try_from(group) {
+        return turned(u64::from_le_bytes(eight));
+    }
     let mut word = 0;
     for (i, octet) in group.iter().enumerate() {
         word |= (*octet as u64) << (8 * i);

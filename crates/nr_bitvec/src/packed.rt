@@ -1,5 +1,5 @@
 // The list of bits, kept as words.
-ghost use Rattle.std.specs.Prelude.{◌≡◌, ℕ, ◌+◌, ◌*◌, ◌^◌, ◌<◌, ◌≤◌, ◌==◌, List, [], ◌∷◌, ◌++◌, length, take, drop, slice_set, IfOk, OnOk, OnErr};
+ghost use Rattle.std.specs.Prelude.{◌≡◌, ℕ, ◌+◌, ◌*◌, ◌^◌, ◌<◌, ◌≤◌, ◌==◌, false, List, [], ◌∷◌, ◌++◌, length, take, drop, replicate, slice_set, IfOk, OnOk, OnErr};
 ghost use Rattle.std.specs.Int.{bit_at};
 ghost use Rattle.std.specs.Cmp.{on_equiv, on_per, partial_equiv_from_equiv, bool_eq_equiv};
 ghost use Rattle.std.specs.Cmp.Lexicographic.{lists_equiv, lists_per};
@@ -49,6 +49,16 @@ impl Bits {
     {
         let words = Vec::with_capacity(alloc, (n as usize).div_ceil(64))?;
         Ok(Bits { words, len: 0 })
+    }
+
+    /// A list of `n` zero bits, at most 2^24. `AllocError` is want of memory.
+    pub fn zeros(alloc: Global, n: u32) -> Result<Bits, AllocError>
+        requires { n ≤ 2 ^ 24 }
+        ensures { IfOk result (λ b. b.items ≡ replicate n false) }
+    {
+        let len = n as usize;
+        let words = vec![in alloc; 0; len.div_ceil(64)]?;
+        Ok(Bits { words, len })
     }
 
     /// The bits of octets, the most significant bit of each first, so that the first bit of a transport block

@@ -75,6 +75,14 @@ fn has_room(rt: HostRuntime) -> Result<(), Fail> {
 }
 
 #[test]
+fn nine_zeros(rt: HostRuntime) -> Result<(), Fail> {
+    let bits = Bits::zeros(rt.alloc(), 9)?;
+    assert_eq!(rt; bits.len(), 9);
+    assert_eq!(rt; bits.to_bytes()?.as_slice(), [0, 0].as_slice());
+    Ok(())
+}
+
+#[test]
 fn sixty_five_ones(rt: HostRuntime) -> Result<(), Fail> {
     let alloc = rt.alloc();
     let mut bits = Bits::new(alloc);

@@ -1,6 +1,6 @@
 //! The store of one code block.
 
-ghost use Rattle.std.specs.Prelude.{◌≡◌, ◌≤◌, ◌<◌, ◌^◌, [], length, replicate, false, IfOk};
+ghost use Rattle.std.specs.Prelude.{◌≡◌, ◌<◌, [], length, IfOk};
 ghost use Rattle.nr_harqbuf.specs.Positions.{positions_of};
 ghost use Rattle.nr_harqbuf.specs.Record.{first_at, record_of, with_hearing};
 
@@ -30,18 +30,6 @@ impl Model for Store {
     ghost invariant = { λ s. length s.value.items ≡ length s.heard.items };
 }
 
-// A list of zeros.
-fn zeros(alloc: Global, count: u32) -> Result<Bits, AllocError>
-    requires { count ≤ 2 ^ 24 }
-    ensures { IfOk result (λ bits. bits.items ≡ replicate count false) }
-{
-    let mut bits = Bits::with_room(alloc, count)?;
-    for _ in 0..count {
-        bits.push_in_room(false);
-    }
-    Ok(bits)
-}
-
 impl Store {
     /// A store in which nothing was heard yet, of one code block of this plan. `AllocError` is want of memory: all
     /// that a store ever needs is taken here.
@@ -49,8 +37,8 @@ impl Store {
         ensures { IfOk result (λ store. store ≡ record_of (positions_of plan.now) []) }
     {
         let count = plan.graph.cols() * plan.z;
-        let heard = zeros(alloc, count)?;
-        let value = zeros(alloc, count)?;
+        let heard = Bits::zeros(alloc, count)?;
+        let value = Bits::zeros(alloc, count)?;
         Ok(Store {
             heard,
             value,

@@ -42,8 +42,8 @@ impl Word {
     pub fn new(alloc: Global, plan: &Plan) -> Result<Word, AllocError>
         ensures { IfOk result (λ word. word ≡ replicate (word_size plan.now.graph (numbers plan.now)) false) }
     {
-        let bits = zeros(alloc, plan.graph.cols(), plan.z)?;
-        let work = zeros(alloc, 1, MOST_SIZE)?;
+        let bits = Bits::zeros(alloc, plan.graph.cols() * plan.z)?;
+        let work = Bits::zeros(alloc, MOST_SIZE)?;
         Ok(Word { bits, work })
     }
 
@@ -89,23 +89,6 @@ pub fn fill(table: &Table, plan: &Plan, word: &mut Word)
     ensures is_word { IsWordOf (block_checks table.now plan.now.graph (numbers plan.now)) (take plan.now.k word.old) word.new }
 {
     solve(table, plan, &mut word.bits, &mut word.work);
-}
-
-// Blocks of zeros, one after another.
-fn zeros(alloc: Global, blocks: u32, size: u32) -> Result<Bits, AllocError>
-    requires few { blocks * size ≤ 2 ^ 24 }
-    requires size { size ≤ 384 }
-    ensures { IfOk result (λ bits. bits.items ≡ replicate (blocks * size) false) }
-{
-    let mut block = Bits::with_room(alloc, size)?;
-    for _place in 0..size {
-        block.push_in_room(false);
-    }
-    let mut bits = Bits::with_room(alloc, blocks * size)?;
-    for _block in 0..blocks {
-        bits.extend(&block)?;
-    }
-    Ok(bits)
 }
 
 // Puts a list of bits at the start of another.

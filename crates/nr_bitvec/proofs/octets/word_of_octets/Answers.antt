@@ -1,6 +1,14 @@
-use Rattle.std.proofs.Common.{refl, arith}
-use Rattle.nr_bitvec.proofs.Turns.{gathers_none, gathers_more, gathers_all}
+use Rattle.std.proofs.Common.{◌≡◌, refl, arith, length}
+use Rattle.nr_bitvec.proofs.Turns.{gathers_none, gathers_more, gathers_all, gathers_eight}
 use Rattle.nr_bitvec.proofs.octets.word_of_octets.Goals as goal
+
+-- eight octets at once
+pub returns-in-Ok : goal.returns-in-Ok
+returns-in-Ok c =
+    let all = c.in-Ok.ensures.1 in
+    let eight : length c.args.group.now ≡ 8 = all.long in
+    gathers_all c.args.group.now c.from_le_bytes.result c.turned.result 8 (omega (arith, eight))
+    (gathers_eight c.args.group.now c.from_le_bytes.result eight (λ i. (c.type_inv.group i).fits) c.from_le_bytes.type_inv (rw all.same at c.from_le_bytes.ensures)) c.turned.ensures
 
 pub loop-i-init : goal.loop-i-init
 loop-i-init c = gathers_none c.args.group.now
@@ -11,4 +19,4 @@ loop-i-preserved c =
 
 pub returns : goal.returns
 returns c =
-    gathers_all c.args.group.now c.loop-i.word c.turned.result c.loop-i.i c.loop-i-test.false c.loop-i.invariant c.turned.ensures
+    gathers_all c.args.group.now c.loop-i.word c.turned-2.result c.loop-i.i c.loop-i-test.false c.loop-i.invariant c.turned-2.ensures
