@@ -85,7 +85,7 @@ cond_one b h = ap (λ b. cond b 1 0) h
 cond_zero : (b : Bool) → b ≡ false → ◌≡◌ {A = ℕ} (cond b 1 0) 0
 cond_zero b h = ap (λ b. cond b 1 0) h
 
-size_grows : (S T : ℕ → Bool) → Within S T → (n p : ℕ) → p < n → S p ≡ false → T p ≡ true → size_below S n < size_below T n
+pub size_grows : (S T : ℕ → Bool) → Within S T → (n p : ℕ) → p < n → S p ≡ false → T p ≡ true → size_below S n < size_below T n
 unfolding size_below
 size_grows S T within zero p lt out there = absurd (omega arith)
 size_grows S T within (suc n) p lt out there = ⊎_elim
@@ -93,7 +93,7 @@ size_grows S T within (suc n) p lt out there = ⊎_elim
     (λ e. omega (arith, size_within S T within n, cond_zero (S n) (ap S (sym e) ∙ out), cond_one (T n) (ap T (sym e) ∙ there)))
     (cases_below p n lt)
 
-size_le : (S : ℕ → Bool) (n : ℕ) → size_below S n ≤ n
+pub size_le : (S : ℕ → Bool) (n : ℕ) → size_below S n ≤ n
 unfolding size_below
 size_le S zero = omega arith
 size_le S (suc n) = omega (arith, size_le S n, cond_le (S n) true (λ _. refl))

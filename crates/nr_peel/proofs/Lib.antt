@@ -21,3 +21,5 @@ pub mod Left
 pub mod Judged
 pub mod RowEntries
 pub mod Found
+pub mod Rounded
+pub mod Bounded

@@ -5,3 +5,4 @@ pub mod Peeling
 pub mod Laws
 pub mod Counters
 pub mod State
+pub mod Rounds

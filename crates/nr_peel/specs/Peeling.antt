@@ -4,7 +4,7 @@ use Rattle.std.specs.List.{range_with_len}
 use Rattle.nr_bitvec.specs.Bit.{bit}
 use Rattle.nr_graphpick.specs.declared.Graph.{Graph}
 use Rattle.nr_segment.specs.Plan.{Numbers}
-use Rattle.nr_shifttable.specs.Accepted.{Entries}
+use Rattle.nr_shifttable.specs.Accepted.{Entries, entries_in}
 use Rattle.nr_ldpcenc.specs.Rows.{Checks, Meets, block_checks}
 use Rattle.nr_ldpcenc.specs.Codeword.{filler}
 use Rattle.nr_peel.specs.Closure.{closure}
@@ -43,6 +43,10 @@ left_of n known = count_by (λ b. not b) (take n known)
 -- the positions that aren't known, ascending
 abbrev pub unknown_in : List Bool → List ℕ
 unknown_in known = filter (λ p. not (bit known p)) (range_with_len 0 (length known))
+
+-- twice the lifting size times the entries of the base graph: twice the pairs of a row and a position of it
+abbrev pub most_visits : Peeling → ℕ
+most_visits s = 2 * (s.numbers.z * length (entries_in s.graph s.table))
 
 -- a word has the bits that are known
 abbrev pub AgreesWith : Peeling → (ℕ → Bool) → Type 0

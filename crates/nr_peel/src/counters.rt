@@ -1,7 +1,6 @@
 //! The counters of the rows' unknown positions, the worklist of rows that have one, and the count of visits.
 
 ghost use Rattle.std.specs.Prelude.{◌≡◌, ◌+◌, ◌*◌, ◌^◌, ◌<◌, ◌≤◌, ℕ, if◌then◌else◌, ◌==◌, All, IfOk, count_by, length, slice_index, sum};
-ghost use Rattle.nr_shifttable.specs.Tails.{value_in};
 ghost use Rattle.nr_peel.specs.Touches.{holder};
 ghost use Rattle.nr_shifttable.specs.Accepted.{IsTable};
 ghost use Rattle.nr_peel.specs.Counters.{HasRoom, IsLowered, IsStart};

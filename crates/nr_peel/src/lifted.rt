@@ -19,7 +19,7 @@ pub(crate) struct Lifted<'t> {
 
 impl<'t> Lifted<'t> {
     // An entry's shift value, reduced modulo the lifting size.
-    fn turn(&self, entry: &Entry) -> u32
+    pub(crate) fn turn(&self, entry: &Entry) -> u32
         ensures value { result ≡ value_in self.now.plan.set entry.now % self.now.plan.z }
         ensures small { result < self.now.plan.z }
         ensures size { self.now.plan.z ≤ 384 }

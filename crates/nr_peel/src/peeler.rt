@@ -1,13 +1,13 @@
 //! The peeler of one code block.
 
-ghost use Rattle.std.specs.Prelude.{◌≡◌, ◌≢◌, ◌+◌, ◌<◌, ◌↔◌, ℕ, false, true, Bool, List, IfOk, IsErrOf, length, slice_set};
+ghost use Rattle.std.specs.Prelude.{◌≡◌, ◌≢◌, ◌<◌, ◌≤◌, ◌↔◌, ℕ, false, true, Bool, List, IfOk, IsErrOf, slice_set};
 ghost use Rattle.nr_bitvec.specs.Bit.{bit};
 ghost use Rattle.nr_segment.specs.CodeBlock.{numbers};
 ghost use Rattle.nr_shifttable.specs.Accepted.{has_graph};
 ghost use Rattle.nr_ldpcenc.specs.Rows.{Meets};
 ghost use Rattle.nr_peel.specs.Closure.{stands};
 ghost use Rattle.nr_peel.specs.Certificates.{IsFixOrder, IsStoppingSet};
-ghost use Rattle.nr_peel.specs.Peeling.{AgreesWith, IsPeeled, IsSameCode, IsStarted, checks_for, known_at, left_of, unknown_in};
+ghost use Rattle.nr_peel.specs.Peeling.{AgreesWith, IsPeeled, IsSameCode, IsStarted, checks_for, known_at, left_of, most_visits, unknown_in};
 
 use crate::fix::Fix;
 use crate::lifted::Lifted;
@@ -107,9 +107,11 @@ impl<'t> Peeler<'t> {
     }
 
     /// How many visits there were of a row and a position of it: with n the number of pairs of a row and a known
-    /// position of it, at least n and at most 2 n.
+    /// position of it, at least n and at most 2 n. So all calls of a peeler's life together cost at most twice the
+    /// lifting size times the entries of the base graph.
     pub fn touches(&self) -> u64
         ensures value { result ≡ self.now.touches }
+        ensures few { result ≤ most_visits self.now }
         ensures peeled { IsPeeled self.now }
     {
         self.state.counters.touches

@@ -1,6 +1,6 @@
 //! What a peeler knows, and how it goes on until no row has exactly one unknown position.
 
-ghost use Rattle.std.specs.Prelude.{◌≡◌, ◌+◌, ◌*◌, ◌/◌, ◌%◌, ◌^◌, ◌<◌, ◌≤◌, ◌==◌, ℕ, not, true, false, All, Bool, IfOk, count_by, length, map, replicate, slice_index, slice_set, sum, vec_capacity};
+ghost use Rattle.std.specs.Prelude.{◌≡◌, ◌+◌, ◌*◌, ◌/◌, ◌%◌, ◌^◌, ◌<◌, ◌≤◌, ◌==◌, ℕ, not, true, false, All, Bool, IfOk, count_by, length, map, replicate, slice_index, slice_set, sum};
 ghost use Rattle.nr_bitvec.specs.Bit.{bit};
 ghost use Rattle.nr_shifttable.specs.Accepted.{IsTable, column_of, entries_in};
 ghost use Rattle.nr_shifttable.specs.Tails.{value_in};
@@ -32,7 +32,7 @@ pub(crate) struct State {
 }
 
 // A list of zeros.
-fn zeros(alloc: Global, count: u32) -> Result<Bits, AllocError>
+pub(crate) fn zeros(alloc: Global, count: u32) -> Result<Bits, AllocError>
     requires { count ≤ 2 ^ 24 }
     ensures { IfOk result (λ bits. bits.items ≡ replicate count false) }
 {

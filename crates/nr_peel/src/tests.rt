@@ -1,73 +1,240 @@
-//! Peelers over a practice table.
+//! Peelers over a practice table, beside what comes out by hand.
 
-use crate::Peeler;
+use crate::test_tables::{is_order, is_stuck, known, learn, practice};
+use crate::{Fix, Peeler};
+use nr_bitvec::Bits;
 use nr_graphpick::Graph;
 use nr_ldpcenc::EncFault;
-use nr_segment::plan;
-use nr_shifttable::{Feed, Table};
+use nr_segment::{Plan, plan};
+use nr_shifttable::Table;
 use std::alloc::Global;
-use std::fmt::Write;
+use std::process::Abort;
 use std::test::Fail;
 
-/// Puts a record with one value in all sets at the end of a table's text.
-fn put(text: &mut String, row: u32, col: u32, value: u32) -> Result<(), Fail> {
-    write!(text, "2,{row},{col}")?;
-    for _ in 0..8 {
-        write!(text, ",{value}")?;
+/// The word of the K' bits 0x011021 over the practice table at lifting size 4, a digit a column.
+const WORD: &str = "0110210000033022000008108800000240220000081088000002";
+
+/// A bit of that word.
+fn word_bit(pos: u32) -> bool {
+    match WORD.as_bytes().get(pos as usize / 4) {
+        Some(digit) => *digit >> (3 - pos % 4) & 1 == 1,
+        None => false,
     }
-    text.push('\n')?;
+}
+
+/// Gives the word's bits from one position up to another.
+fn hear(peeler: &mut Peeler<'_>, from: u32, to: u32) {
+    for pos in from..to {
+        learn(peeler, pos, word_bit(pos));
+    }
+}
+
+/// The positions of columns of seven or four places.
+fn positions(alloc: Global, z: u32, columns: &[u32]) -> Result<Vec<u32>, Fail> {
+    let mut positions = Vec::new(alloc);
+    for pos in 0..364 {
+        if columns.contains(&(pos / z.max(1))) {
+            positions.push(pos)?;
+        }
+    }
+    Ok(positions)
+}
+
+/// The numbers but the one at an index, and then one more.
+fn changed(
+    alloc: Global,
+    numbers: &[u32],
+    without: usize,
+    more: Option<u32>,
+) -> Result<Vec<u32>, Fail> {
+    let mut changed = Vec::new(alloc);
+    for (i, n) in numbers.iter().enumerate() {
+        if i != without {
+            changed.push(*n)?;
+        }
+    }
+    if let Some(n) = more {
+        changed.push(n)?;
+    }
+    Ok(changed)
+}
+
+/// What a peeler knows of a new code block.
+fn check_new(rt: &impl Abort, peeler: &Peeler<'_>) {
+    assert_eq!(rt; peeler.left(), 24);
+    assert_eq!(rt; known(peeler, 24), Some(false));
+    assert_eq!(rt; known(peeler, 64), Some(false));
+    assert_eq!(rt; known(peeler, 0), None);
+}
+
+/// Whether the positions are the peeler's stopping set.
+fn is_its_set(table: &Table, plan: &Plan, peeler: &Peeler<'_>, set: &[u32]) -> Result<bool, Fail> {
+    let stuck = peeler.stuck()?;
+    Ok(stuck.as_slice() == set && is_stuck(table, plan, peeler.given(), set))
+}
+
+/// Lists that are no stopping sets: none, one out of order, one with a position past the last, one with a filler.
+fn check_no_sets(
+    rt: &impl Abort,
+    alloc: Global,
+    table: &Table,
+    plan: &Plan,
+    given: &Bits,
+    set: &[u32],
+) -> Result<(), Fail> {
+    assert!(rt; !is_stuck(table, plan, given, &[]));
+    assert!(rt; !is_stuck(table, plan, given, &changed(alloc, set, 0, Some(4))?));
+    assert!(rt; !is_stuck(table, plan, given, &changed(alloc, set, 28, Some(208))?));
+    let filled = positions(alloc, 4, &[1, 6, 12, 13, 21, 31, 41, 51])?;
+    assert!(rt; !is_stuck(table, plan, given, &filled));
     Ok(())
 }
 
-/// A practice table of base graph 2: in rows 0 to 3 the even or the odd information columns, in each row from 4 on one
-/// information column, rotated by the row's number.
-fn practice(alloc: Global) -> Result<Table, Fail> {
-    let mut text = String::new(alloc);
-    for row in 0..4 {
-        for k in 0..5 {
-            put(&mut text, row, 2 * k + row % 2, 0)?;
-        }
-        let parity: &[(u32, u32)] = match row {
-            0 => &[(10, 0), (11, 0)],
-            1 => &[(11, 0), (12, 0)],
-            2 => &[(10, 1), (12, 0), (13, 0)],
-            _ => &[(10, 0), (13, 0)],
-        };
-        for (col, value) in parity {
-            put(&mut text, row, *col, *value)?;
-        }
+/// By hand: column 0 is fixed by its copies, and column 1 stands in rows 1, 11, 21, 31 and 41, each of which has
+/// another column that was not heard.
+fn check_part(
+    rt: &impl Abort,
+    alloc: Global,
+    table: &Table,
+    plan: &Plan,
+    peeler: &Peeler<'_>,
+) -> Result<(), Fail> {
+    assert_eq!(rt; peeler.left(), 4);
+    for pos in 0..4 {
+        assert_eq!(rt; known(peeler, pos), Some(false));
     }
-    for row in 4..42 {
-        put(&mut text, row, row % 10, row)?;
-        put(&mut text, row, 10 + row, 0)?;
-    }
-    let mut feed = Feed::new(text.into_bytes(), 4096, 0);
-    Ok(Table::read(alloc, &mut feed)?)
+    assert_eq!(rt; known(peeler, 4), None);
+    let set = positions(alloc, 4, &[1, 12, 13, 21, 31, 41, 51])?;
+    assert!(rt; is_its_set(table, plan, peeler, &set)?);
+    check_no_sets(rt, alloc, table, plan, peeler.given(), &set)
 }
 
-/// What is known of a position that the code has.
-fn known(peeler: &Peeler<'_>, pos: u32) -> Option<bool> {
-    if (pos as usize) < peeler.given().len() {
-        peeler.known(pos)
-    } else {
-        None
+/// Whether the steps are a fix order without those that fix a position, and with the last step repeated.
+fn is_changed_order(
+    alloc: Global,
+    table: &Table,
+    plan: &Plan,
+    peeler: &Peeler<'_>,
+    without: u32,
+) -> Result<bool, Fail> {
+    let mut changed = Vec::new(alloc);
+    for step in peeler.order() {
+        if step.pos != without {
+            changed.push(*step)?;
+        }
     }
+    if let Some(step) = peeler.order().last() {
+        changed.push(*step)?;
+    }
+    is_order(table, plan, peeler.given(), &changed)
+}
+
+/// The whole word is known: with 105 entries at lifting size 4, 420 pairs of a row and a position were visited.
+fn check_whole(
+    rt: &impl Abort,
+    alloc: Global,
+    table: &Table,
+    plan: &Plan,
+    peeler: &Peeler<'_>,
+) -> Result<(), Fail> {
+    assert_eq!(rt; peeler.left(), 0);
+    for pos in 0..208 {
+        assert_eq!(rt; known(peeler, pos), Some(word_bit(pos)), "position {pos}");
+    }
+    assert!(rt; 420 <= peeler.touches() && peeler.touches() <= 840);
+    assert!(rt; is_order(table, plan, peeler.given(), peeler.order())?);
+    assert!(rt; is_changed_order(alloc, table, plan, peeler, 208)?);
+    assert!(rt; !is_changed_order(alloc, table, plan, peeler, 0)?);
+    assert!(rt; !is_order(table, plan, peeler.given(), &[])?);
+    Ok(())
+}
+
+/// Whether one step is accepted where each position was given.
+fn is_step(
+    table: &Table,
+    plan: &Plan,
+    peeler: &Peeler<'_>,
+    row: u16,
+    lane: u16,
+    pos: u32,
+) -> Result<bool, Fail> {
+    is_order(table, plan, peeler.given(), &[Fix { row, lane, pos }])
+}
+
+/// Row 0 has position 0 and not position 1; the last row is 41, the last lane 3 and the last position 207.
+fn check_steps(
+    rt: &impl Abort,
+    table: &Table,
+    plan: &Plan,
+    peeler: &Peeler<'_>,
+) -> Result<(), Fail> {
+    assert!(rt; is_step(table, plan, peeler, 0, 0, 0)?);
+    assert!(rt; !is_step(table, plan, peeler, 0, 0, 1)?);
+    assert!(rt; !is_step(table, plan, peeler, 42, 0, 0)?);
+    assert!(rt; !is_step(table, plan, peeler, 0, 4, 0)?);
+    assert!(rt; !is_step(table, plan, peeler, 0, 0, 208)?);
+    Ok(())
+}
+
+/// Whether the table lacks a plan's base graph.
+fn lacks_graph(alloc: Global, table: &Table, plan: &Plan) -> bool {
+    Peeler::new(alloc, table, plan).err() == Some(EncFault::NoGraph)
+}
+
+/// The worked word, heard in parts.
+fn check_word(rt: &impl Abort, alloc: Global, table: &Table, plan: &Plan) -> Result<(), Fail> {
+    let mut peeler = Peeler::new(alloc, table, plan)?;
+    check_new(rt, &peeler);
+    hear(&mut peeler, 8, 24);
+    hear(&mut peeler, 40, 48);
+    check_part(rt, alloc, table, plan, &peeler)?;
+    hear(&mut peeler, 48, 208);
+    check_whole(rt, alloc, table, plan, &peeler)?;
+    hear(&mut peeler, 0, 8);
+    check_steps(rt, table, plan, &peeler)
+}
+
+/// Each member of a stopping set is needed.
+fn check_needed(
+    rt: &impl Abort,
+    alloc: Global,
+    table: &Table,
+    plan: &Plan,
+    given: &Bits,
+    set: &[u32],
+) -> Result<(), Fail> {
+    for i in 0..set.len() {
+        let fewer = changed(alloc, set, i, None)?;
+        assert!(rt; !is_stuck(table, plan, given, &fewer), "without member {i}");
+    }
+    Ok(())
+}
+
+/// Gives the word of zeros but for some positions.
+fn hear_but(peeler: &mut Peeler<'_>, but: &[u32]) {
+    for pos in 0..364 {
+        if !but.contains(&pos) {
+            learn(peeler, pos, false);
+        }
+    }
+}
+
+/// By hand: column 0 stands in rows 0, 2, 10, 20, 30 and 40 alone, each of which has another of these columns, and row
+/// 1 has two.
+fn check_columns(rt: &impl Abort, alloc: Global, table: &Table, plan: &Plan) -> Result<(), Fail> {
+    let mut peeler = Peeler::new(alloc, table, plan)?;
+    let set = positions(alloc, 7, &[0, 11, 12, 20, 30, 40, 50])?;
+    hear_but(&mut peeler, &set);
+    assert_eq!(rt; peeler.left(), 7);
+    assert!(rt; is_its_set(table, plan, &peeler, &set)?);
+    check_needed(rt, alloc, table, plan, peeler.given(), &set)
 }
 
 #[test]
-fn new_peelers_know_the_fillers(rt: HostRuntime) -> Result<(), Fail> {
+fn practice_words(rt: HostRuntime) -> Result<(), Fail> {
     let alloc = rt.alloc();
     let table = practice(alloc)?;
-    let two = plan(Graph::Two, 24)?;
-    let peeler = Peeler::new(alloc, &table, &two)?;
-    assert_eq!(rt; peeler.left(), 24);
-    assert_eq!(rt; known(&peeler, 24), Some(false));
-    assert_eq!(rt; known(&peeler, 64), Some(false));
-    assert_eq!(rt; known(&peeler, 0), None);
-    let one = plan(Graph::One, 24)?;
-    assert_eq!(rt;
-        Peeler::new(alloc, &table, &one).err(),
-        Some(EncFault::NoGraph)
-    );
-    Ok(())
+    assert!(rt; lacks_graph(alloc, &table, &plan(Graph::One, 24)?));
+    check_word(&rt, alloc, &table, &plan(Graph::Two, 24)?)?;
+    check_columns(&rt, alloc, &table, &plan(Graph::Two, 40)?)
 }

@@ -1,10 +1,7 @@
-use Rattle.std.proofs.Common.{◌≡◌, ℕ, ◌*◌, ◌<◌, true, nat_lt, ap, arith}
-use Rattle.std.specs.Prelude.{IsTrue, count_by}
+use Rattle.std.proofs.Common.{◌*◌, ap, arith}
 use Rattle.nr_bitvec.specs.Bit.{bit}
 use Rattle.nr_segment.specs.CodeBlock.{numbers}
-use Rattle.nr_graphpick.specs.Graph.{cols_of}
 use Rattle.nr_ldpcenc.specs.Rows.{block_checks}
-use Rattle.nr_peel.specs.Certificates.{IsBeside, IsStoppingSet}
 use Rattle.nr_peel.proofs.Found.{stops_out}
 use Rattle.nr_peel.proofs.Grid.{checks_sound}
 use Rattle.nr_peel.proofs.Sets.{in_sets}

@@ -1,4 +1,4 @@
-use Rattle.std.proofs.Common.{◌≡◌, ◌≢◌, ℕ, ◌<◌, ◌/◌, ◌%◌}
+use Rattle.std.proofs.Common.{◌≢◌, ℕ, ◌<◌, ◌/◌, ◌%◌}
 use Rattle.std.specs.Prelude.{count_by}
 use Rattle.nr_peel.specs.Closure.{stands}
 use Rattle.nr_peel.specs.State.{lifted_checks}

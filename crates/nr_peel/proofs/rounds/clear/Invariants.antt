@@ -1,0 +1,10 @@
+use Rattle.std.proofs.Common.{◌≡◌, ◌<◌, ℕ, false, length}
+use Rattle.nr_bitvec.specs.Bit.{bit}
+use Rattle.nr_peel.proofs.rounds.clear.Given as goal
+
+-- the bits so far are zero
+abbrev pub invariant-loop-t : goal.invariant-loop-t
+invariant-loop-t l = record {
+  zero : (q : ℕ) → q < l.t → bit l.bits.items q ≡ false;
+  long : length l.bits.items ≡ length l.initial.bits.items;
+}

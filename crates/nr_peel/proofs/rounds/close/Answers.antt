@@ -1,0 +1,65 @@
+use Rattle.std.proofs.Common.{◌-◌, ◌*◌, ◌<◌, false, length, sym, ap, ◌∙◌, arith}
+use Rattle.std.proofs.lemmas.List.{length-replicate}
+use Rattle.nr_bitvec.specs.Bit.{bit}
+use Rattle.nr_segment.specs.CodeBlock.{numbers}
+use Rattle.nr_ldpcenc.specs.Rows.{block_checks}
+use Rattle.nr_peel.specs.Closure.{closure}
+use Rattle.nr_peel.proofs.Closed.{closure_closed, closure_keeps, round_keeps, round_within, size_below, size_le}
+use Rattle.nr_peel.proofs.Grid.{checks_sound}
+use Rattle.nr_peel.proofs.Rounded.{round_grows, rounds_done}
+use Rattle.nr_peel.proofs.Sets.{in_sets}
+use Rattle.nr_peel.proofs.rounds.close.Goals as goal
+
+pub invariant_of-lifted : goal.invariant_of-lifted
+invariant_of-lifted c = record { in_sets = in_sets c.args.plan.now }
+
+pub rounds-init : goal.rounds-init
+rounds-init c =
+    let p = c.args.plan.now in
+    let ck = block_checks c.args.table.now p.graph (numbers p) in
+    record {
+      up = λ q h. h;
+      inside = closure_keeps ck (bit c.args.known.now.items);
+      lanes = c.in_ok-tally.ensures;
+      unknown = ap length c.in_ok-unknown.ensures ∙ length-replicate (c.cols.result * p.z) false ∙ ap (λ n. n * p.z) c.cols.ensures;
+      long = c.requires;
+    }
+
+pub rounds-smaller : goal.rounds-smaller
+rounds-smaller c =
+    let p = c.args.plan.now in
+    let ck = block_checks c.args.table.now p.graph (numbers p) in
+    let known = bit c.rounds.known.items in
+    let next = bit c.go_round.new.known.items in
+    let sound = checks_sound c.args.table.now p.graph (numbers p) c.has.ensures.table p.sound.size_some in
+    let grows = round_grows ck known next sound (sym c.go_round.ensures.some ∙ c.rounds-test.true) c.go_round.ensures.known in
+    let small : ck.size - size_below next ck.size < ck.size - size_below known ck.size = omega (arith, grows, size_le next ck.size) in
+    small
+
+pub rounds-preserved : goal.rounds-preserved
+rounds-preserved c =
+    let p = c.args.plan.now in
+    let ck = block_checks c.args.table.now p.graph (numbers p) in
+    let heard = bit c.args.known.now.items in
+    let known = bit c.rounds.known.items in
+    let inv = c.rounds.invariant in
+    let r = c.go_round.ensures in
+    let sound = checks_sound c.args.table.now p.graph (numbers p) c.has.ensures.table p.sound.size_some in
+    record {
+      up = λ q h. r.known q ∙ round_keeps ck known q (inv.up q h);
+      inside = λ q h. round_within ck known (closure ck heard) inv.inside (closure_closed ck heard sound) q (sym (r.known q) ∙ h);
+      lanes = r.lanes;
+      unknown = r.unknown ∙ inv.unknown;
+      long = r.long ∙ inv.long;
+    }
+
+pub returns-clause-closed : goal.returns-clause-closed
+returns-clause-closed c =
+    let p = c.args.plan.now in
+    let ck = block_checks c.args.table.now p.graph (numbers p) in
+    let heard = bit c.args.known.now.items in
+    let known = bit c.rounds.known.items in
+    let inv = c.rounds.invariant in
+    let r = c.go_round.ensures in
+    let sound = checks_sound c.args.table.now p.graph (numbers p) c.has.ensures.table p.sound.size_some in
+    λ q. r.known q ∙ rounds_done ck heard known sound inv.up inv.inside (sym r.some ∙ c.rounds-test.false) q
