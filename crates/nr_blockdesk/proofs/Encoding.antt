@@ -1,0 +1,142 @@
+-- The bits of a code block with its fillers, and of a transport block with its CRC.
+use Rattle.std.proofs.Common.{◌≡◌, ◌≢◌, ℕ, zero, suc, ◌+◌, ◌-◌, ◌*◌, ◌/◌, ◌%◌, ◌<◌, ◌≤◌, ◌==◌, nat_lt, Bool, true, false, cond, List, [], ◌∷◌, ◌++◌, length, get_or, set, take, drop, replicate, refl, sym, ap, subst, ◌∙◌, ⊎_elim, append_assoc, length-append, arith}
+use Rattle.std.specs.Int.{bit_at}
+use Rattle.std.proofs.lemmas.Bool.{cases_eq}
+use Rattle.std.proofs.lemmas.Grind.{get_or-set_at}
+use Rattle.std.proofs.lemmas.List.{get_or-append_right, get_or-drop, get_or-replicate, get_or-set_other, get_or-take, get_or_append_left, get_or_default, length-drop, length-take-le, same_lists}
+use Rattle.std.proofs.Math.Seq.{get_or-append_seam}
+use Rattle.nr_bitvec.specs.Bit.{bit}
+use Rattle.nr_crcattach.specs.Crc.{crc_of, high_first}
+use Rattle.nr_crcattach.specs.declared.Poly.TheVariants.{B24}
+use Rattle.nr_graphpick.specs.Graph.{cols_of, info_cols_of}
+use Rattle.nr_graphpick.specs.declared.Graph.{Graph}
+use Rattle.nr_graphpick.specs.declared.Graph.TheVariants.{One, Two}
+use Rattle.nr_peel.specs.Peeling.{Peeling}
+use Rattle.nr_segment.specs.CodeBlock.{code_bits, code_block, part_of, share, shared_bits}
+use Rattle.nr_segment.specs.Plan.{Numbers}
+use Rattle.nr_blockdesk.specs.Receiving.{IsRead, known_bit}
+
+pub length-high_first : (n v : ℕ) → length (high_first n v) ≡ n
+unfolding high_first
+length-high_first zero v = refl
+length-high_first (suc n) v = ap suc (length-high_first n v)
+
+-- the highest of suc n bits stands before the others
+pub high_first-next : (n v : ℕ) (bits : List Bool) → (bits ++ (bit_at v n == 1) ∷ []) ++ high_first n v ≡ bits ++ high_first (suc n) v
+unfolding high_first
+high_first-next n v bits = append_assoc bits ((bit_at v n == 1) ∷ []) (high_first n v)
+
+bit-high_first : (n v k : ℕ) → k < n → bit (high_first n v) k ≡ (bit_at v (n - 1 - k) == 1)
+unfolding high_first
+bit-high_first zero v k inside = absurd (omega arith)
+bit-high_first (suc n) v zero inside =
+    let first : n ≡ suc n - 1 - zero = omega arith in ap (λ m. bit_at v m == 1) first
+bit-high_first (suc n) v (suc k) inside =
+    let next : n - 1 - k ≡ suc n - 1 - suc k = omega arith in
+    bit-high_first n v k (omega arith) ∙ ap (λ m. bit_at v m == 1) next
+
+-- the bits of the transport block that a code block has
+length-shared : (p : Numbers) (bits : List Bool) (r : ℕ) → part_of p r 0 + share p ≤ length bits → length (shared_bits p bits r) ≡ share p
+length-shared p bits r inside =
+    let left = length-drop (part_of p r 0) bits in
+    length-take-le (share p) (drop (part_of p r 0) bits) (omega (arith, left, inside))
+
+in-front : (more : Bool) (xs check fill : List Bool) (k : ℕ) → k < length xs → bit (cond more (xs ++ check) xs ++ fill) k ≡ bit xs k
+in-front true xs check fill k inside =
+    get_or_append_left (xs ++ check) fill false k (omega (arith, length-append xs check, inside))
+    ∙ get_or_append_left xs check false k inside
+in-front false xs check fill k inside = get_or_append_left xs fill false k inside
+
+pub code-shared : (p : Numbers) (bits : List Bool) (r k : ℕ) → part_of p r 0 + share p ≤ length bits → k < share p
+    → bit bits (part_of p r k) ≡ bit (code_block p bits r) k
+code-shared p bits r k fits inside =
+    let long = length-shared p bits r fits in
+    let start : part_of p r 0 + k ≡ part_of p r k = omega arith in
+    ap (bit bits) (sym start)
+    ∙ sym (get_or-drop (part_of p r 0) bits k false)
+    ∙ sym (get_or-take (share p) (drop (part_of p r 0) bits) k false inside)
+    ∙ sym (in-front (nat_lt 1 p.c) (shared_bits p bits r) (high_first 24 (crc_of B24 (shared_bits p bits r))) (replicate (p.k - p.kdash) false) k
+    (subst (λ n. k < n) (sym long) inside))
+
+in-check : (xs fill : List Bool) (v n k : ℕ) → length xs ≡ n → n ≤ k → k < n + 24
+    → bit ((xs ++ high_first 24 v) ++ fill) k ≡ (bit_at v (n + 24 - 1 - k) == 1)
+in-check xs fill v n k long low high =
+    let all = length-append xs (high_first 24 v) in
+    let place : 24 - 1 - (k - n) ≡ n + 24 - 1 - k = omega (arith, low, high) in
+    get_or_append_left (xs ++ high_first 24 v) fill false k (omega (arith, all, length-high_first 24 v, long, high))
+    ∙ get_or-append_right xs (high_first 24 v) n k false long low
+    ∙ bit-high_first 24 v (k - n) (omega (arith, low, high))
+    ∙ ap (λ m. bit_at v m == 1) place
+
+pub code-checked : (p : Numbers) (bits : List Bool) (r k : ℕ) → part_of p r 0 + share p ≤ length bits
+    → p.l ≡ cond (nat_lt 1 p.c) 24 0 → p.l < p.kdash → share p ≤ k → k < p.kdash
+    → (bit_at (crc_of B24 (shared_bits p bits r)) (p.kdash - 1 - k) == 1) ≡ bit (code_block p bits r) k
+code-checked p bits r k fits several less low high = go (nat_lt 1 p.c) refl several
+  where
+    check : ℕ
+    check = crc_of B24 (shared_bits p bits r)
+
+    fill : List Bool
+    fill = replicate (p.k - p.kdash) false
+
+    go : (b : Bool) → nat_lt 1 p.c ≡ b → p.l ≡ cond b 24 0
+        → (bit_at check (p.kdash - 1 - k) == 1) ≡ bit (code_block p bits r) k
+    go true e l =
+        let long = length-shared p bits r fits in
+        let whole : share p + 24 ≡ p.kdash = omega (arith, l, less) in
+        ap (λ n. bit_at check (n - 1 - k) == 1) (sym whole)
+        ∙ sym (in-check (shared_bits p bits r) fill check (share p) k long low (omega (arith, whole, high)))
+        ∙ ap (λ b. bit (cond b (shared_bits p bits r ++ high_first 24 check) (shared_bits p bits r) ++ fill) k) (sym e)
+    go false e l = absurd (omega (arith, l, less, low, high))
+
+pub code-filled : (p : Numbers) (bits : List Bool) (r k : ℕ) → length (code_bits p bits r) ≡ p.kdash → p.kdash ≤ k → k < p.k
+    → false ≡ bit (code_block p bits r) k
+code-filled p bits r k long low high =
+    sym (get_or-append_right (code_bits p bits r) (replicate (p.k - p.kdash) false) p.kdash k false long low
+    ∙ get_or-replicate (p.k - p.kdash) (k - p.kdash) false false (omega (arith, low, high)))
+
+-- code block r's bits lie in the transport block
+pub part-inside : (c s r : ℕ) → r < c → r * s + 0 + s ≤ c * s
+part-inside zero s r inside = absurd (omega arith)
+part-inside (suc c) s zero inside = omega arith
+part-inside (suc c) s (suc r) inside = let before = part-inside c s r (omega arith) in omega (arith, before)
+
+-- one bit more is put
+pub same-more : (xs target : List Bool) (n : ℕ) (v : Bool) → n < length xs → ((q : ℕ) → q < n → bit xs q ≡ bit target q)
+    → v ≡ bit target n → (q : ℕ) → q < n + 1 → bit (set xs n v) q ≡ bit target q
+same-more xs target n v inside same one q below = ⊎_elim
+    (λ (here : q ≡ n). get_or-set_at xs n q v false here inside ∙ one ∙ ap (bit target) (sym here))
+    (λ (there : q ≢ n). get_or-set_other xs n q v false there ∙ same q (omega (arith, below, there)))
+    (cases_eq q n)
+
+pub begins-with : (xs target : List Bool) (n : ℕ) → n ≤ length xs → length target ≡ n → ((q : ℕ) → q < n → bit xs q ≡ bit target q)
+    → take n xs ≡ target
+begins-with xs target n fits long same = same_lists (take n xs) target (length-take-le n xs fits ∙ sym long) at
+  where
+    at : (q : ℕ) (d : Bool) → q < length (take n xs) → get_or (take n xs) q d ≡ get_or target q d
+    at q d inside =
+        let below : q < n = subst (λ m. q < m) (length-take-le n xs fits) inside in
+        get_or-take n xs q d below
+        ∙ get_or_default xs q d false (omega (arith, fits, below))
+        ∙ same q below
+        ∙ get_or_default target q false d (omega (arith, long, below))
+
+-- K bits fit into a word
+pub k-fits : (g : Graph) (p : Numbers) → p.k ≡ info_cols_of g * p.z → p.k ≤ cols_of g * p.z
+k-fits One p columns = omega (arith, columns)
+k-fits Two p columns = omega (arith, columns)
+
+-- one bit more is read
+pub read-more : (p : Numbers) (ps : List Peeling) (xs ys : List Bool) (n : ℕ) (v : Bool) → ys ≡ xs ++ v ∷ [] → length xs ≡ n
+    → ((i : ℕ) → i < n → IsRead p ps xs i)
+    → ((d : Peeling) → v ≡ known_bit (get_or ps (n / share p) d) (n % share p))
+    → (i : ℕ) → i < n + 1 → IsRead p ps ys i
+read-more p ps xs ys n v ys-is long read one i below d = ⊎_elim
+    (λ (here : i ≡ n).
+    ap (λ zs. bit zs i) ys-is ∙ ap (bit (xs ++ v ∷ [])) (here ∙ sym long) ∙ get_or-append_seam xs v [] false ∙ one d
+    ∙ ap (λ j. known_bit (get_or ps (j / share p) d) (j % share p)) (sym here))
+    (λ (there : i ≢ n).
+    ap (λ zs. bit zs i) ys-is
+    ∙ get_or_append_left xs (v ∷ []) false i (omega (arith, long, below, there))
+    ∙ read i (omega (arith, below, there)) d)
+    (cases_eq i n)

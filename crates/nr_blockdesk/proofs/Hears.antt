@@ -1,0 +1,247 @@
+-- What hearing does to a code block's store and its peeler.
+use Rattle.std.proofs.Common.{◌≡◌, ◌≢◌, ℕ, zero, suc, ◌+◌, ◌*◌, ◌<◌, ◌≤◌, ◌||◌, Bool, true, false, cond, List, [], ◌∷◌, ◌++◌, length, get_or, set, take, drop, refl, sym, ap, subst, ◌∙◌, ⊎_elim, append_assoc, arith}
+use Rattle.std.specs.Prelude.{Option, Some, None, option_map, sum, slice_index}
+use Rattle.std.specs.List.{cons_option, filter_map, range_with_len}
+use Rattle.std.proofs.lemmas.Bool.{cases_eq, true≢false}
+use Rattle.std.proofs.lemmas.Grind.{get_or-set_at}
+use Rattle.std.proofs.lemmas.List.{get_or-set_other, get_or_read, length-set}
+use Rattle.std.proofs.lemmas.List.Elements.{filter_map-append}
+use Rattle.std.proofs.lemmas.List.Sums.{sum_by_more}
+use Rattle.std.proofs.Math.ListN.{drop_of_length-le}
+use Rattle.std.proofs.Math.Seq.{take-append_seam}
+use Rattle.std.specs.Option.{is_some}
+use Rattle.nr_bitvec.specs.Bit.{bit}
+use Rattle.nr_graphpick.specs.Graph.{cols_of}
+use Rattle.nr_graphpick.specs.declared.Graph.{Graph}
+use Rattle.nr_harqbuf.specs.Record.{HasFirsts, Heardbits, Hearing, RecordContinues, first_at, is_heard, record_of, with_hearing}
+use Rattle.nr_interleave.specs.Interleaving.{seat_of}
+use Rattle.nr_ldpcenc.specs.Codeword.{filler}
+use Rattle.nr_ldpcenc.specs.Rows.{Checks, Meets, block_checks, word_size}
+use Rattle.nr_peel.specs.Peeling.{AgreesWith, IsPeeled, IsSameCode, Peeling, checks_for}
+use Rattle.nr_ratematch.specs.Selection.{Circular, place_of}
+use Rattle.nr_segment.specs.Plan.{Numbers}
+use Rattle.nr_shifttable.specs.Accepted.{Entries}
+use Rattle.nr_blockdesk.specs.Explains.{heard_at}
+use Rattle.nr_blockdesk.specs.Heard.{heard_of}
+use Rattle.nr_blockdesk.specs.Hearing.{heard_bit}
+use Rattle.nr_blockdesk.specs.Link.{Link}
+use Rattle.nr_blockdesk.specs.Outcome.{given}
+use Rattle.nr_blockdesk.specs.Receiving.{HearsPart, IsTied, part_hearing, part_hearings}
+use Rattle.nr_blockdesk.specs.declared.heard.Heard.{Heard}
+use Rattle.nr_blockdesk.specs.declared.tx.Tx.{Tx}
+
+-- a range in two parts
+pub range-split : (a n k : ℕ) → range_with_len a (n + k) ≡ range_with_len a n ++ range_with_len (a + n) k
+range-split a zero k =
+    let none : 0 + k ≡ k = omega arith in
+    let start : a ≡ a + 0 = omega arith in
+    ap (λ m. range_with_len a m) none ∙ ap (λ b. range_with_len b k) start
+range-split a (suc n) k =
+    let longer : suc n + k ≡ suc (n + k) = omega arith in
+    let next : a + 1 + n ≡ a + suc n = omega arith in
+    ap (λ m. range_with_len a m) longer
+    ∙ ap (λ xs. a ∷ xs) (range-split (a + 1) n k ∙ ap (λ b. range_with_len (a + 1) n ++ range_with_len b k) next)
+
+-- what one place more tells
+part-more : (b : Circular) (tx : Tx) (heard : List Heard) (m : ℕ)
+    → part_hearings b tx heard (m + 1) ≡ part_hearings b tx heard m ++ cons_option (part_hearing b tx heard m) []
+part-more b tx heard m =
+    let f : ℕ → Option Hearing = part_hearing b tx heard in
+    let last : 0 + m ≡ m = omega arith in
+    ap (λ ms. filter_map f ms) (range-split 0 m 1)
+    ∙ filter_map-append f (range_with_len 0 m) (range_with_len (0 + m) 1)
+    ∙ ap (λ k. filter_map f (range_with_len 0 m) ++ cons_option (f k) []) last
+
+nothing-more : (xs : List Hearing) → xs ++ [] ≡ xs
+nothing-more [] = refl
+nothing-more (x ∷ xs) = ap (λ ys. x ∷ ys) (nothing-more xs)
+
+pub part-none : (b : Circular) (tx : Tx) (heard : List Heard) (m : ℕ) → heard_bit (heard_at heard m) ≡ None
+    → part_hearings b tx heard (m + 1) ≡ part_hearings b tx heard m
+part-none b tx heard m none =
+    part-more b tx heard m
+    ∙ ap (λ o. part_hearings b tx heard m ++ cons_option (option_map (λ v. (place_of b tx.rv (seat_of tx.qm (length heard) m), v)) o) []) none
+    ∙ nothing-more (part_hearings b tx heard m)
+
+pub part-some : (b : Circular) (tx : Tx) (heard : List Heard) (m pos : ℕ) (v : Bool) → heard_bit (heard_at heard m) ≡ Some v
+    → pos ≡ place_of b tx.rv (seat_of tx.qm (length heard) m)
+    → part_hearings b tx heard (m + 1) ≡ part_hearings b tx heard m ++ (pos, v) ∷ []
+part-some b tx heard m pos v some at =
+    part-more b tx heard m
+    ∙ ap (λ o. part_hearings b tx heard m ++ cons_option (option_map (λ u. (place_of b tx.rv (seat_of tx.qm (length heard) m), u)) o) []) some
+    ∙ ap (λ p. part_hearings b tx heard m ++ (p, v) ∷ []) (sym at)
+
+-- the record of one hearing more
+pub recorded-more : RecordContinues → (n : ℕ) (hs told more : List Hearing) (s t : Heardbits) (pos : ℕ) (v : Bool) → pos < n
+    → s ≡ record_of n (hs ++ told) → t ≡ with_hearing s (pos, v) → more ≡ told ++ (pos, v) ∷ [] → t ≡ record_of n (hs ++ more)
+recorded-more continues n hs told more s t pos v inside s-is t-is more-is =
+    t-is
+    ∙ ap (λ r. with_hearing r (pos, v)) s-is
+    ∙ continues n (hs ++ told) (pos, v) inside
+    ∙ ap (λ l. record_of n l) (append_assoc hs told ((pos, v) ∷ []))
+    ∙ ap (λ l. record_of n (hs ++ l)) (sym more-is)
+
+-- the first bits after one hearing more
+pub first-kept : (s : Heardbits) (pos : ℕ) (v : Bool) → is_heard (first_at s pos) ≡ true → (with_hearing s (pos, v)).first ≡ s.first
+unfolding with_hearing
+first-kept s pos v is = ap (λ b. cond b s.first (set s.first pos (Some v))) is
+
+pub first-set : (s : Heardbits) (pos : ℕ) (v : Bool) → is_heard (first_at s pos) ≡ false
+    → (with_hearing s (pos, v)).first ≡ set s.first pos (Some v)
+unfolding with_hearing
+first-set s pos v is = ap (λ b. cond b s.first (set s.first pos (Some v))) is
+
+pub first-long : (s : Heardbits) (pos : ℕ) (v : Bool) → length (with_hearing s (pos, v)).first ≡ length s.first
+first-long s pos v = go (is_heard (first_at s pos)) refl
+  where
+    go : (b : Bool) → is_heard (first_at s pos) ≡ b → length (with_hearing s (pos, v)).first ≡ length s.first
+    go true e = ap length (first-kept s pos v e)
+    go false e = ap length (first-set s pos v e) ∙ length-set s.first pos (Some v)
+
+-- the code of a peeler that is tied
+pub same-checks : (link : Link) (s : Heardbits) (p : Peeling) → IsTied link s p → checks_for p ≡ block_checks link.table link.graph link.plan
+same-checks link s p tied =
+    ap (λ (t : Entries). block_checks t p.graph p.numbers) tied.table
+    ∙ ap (λ (g : Graph). block_checks link.table g p.numbers) tied.graph
+    ∙ ap (λ (n : Numbers). block_checks link.table link.graph n) tied.numbers
+
+-- where a position had been heard, nothing is learned
+pub tied-again : (link : Link) (s t : Heardbits) (p : Peeling) → t.first ≡ s.first → IsTied link s p → IsTied link t p
+tied-again link s t p firsts tied = record {
+  table = tied.table;
+  graph = tied.graph;
+  numbers = tied.numbers;
+  long = ap length firsts ∙ tied.long;
+  positions = λ k. tied.positions k
+      ∙ ap (λ (xs : List (Option Bool)). is_heard (get_or xs k None) || filler link.plan.kdash link.plan.k k) (sym firsts);
+  words = λ w plain has. tied.words w plain
+      (λ k b is. has k b (ap (λ (xs : List (Option Bool)). get_or xs k None) firsts ∙ is));
+  peeled = tied.peeled;
+}
+
+-- where none had been, the bit is
+pub tied-more : (link : Link) (s t : Heardbits) (p q : Peeling) (pos : ℕ) (v : Bool) → pos < length s.first
+    → is_heard (first_at s pos) ≡ false → t.first ≡ set s.first pos (Some v) → IsSameCode p q
+    → q.given ≡ set p.given pos true
+    → ((w : ℕ → Bool) → Meets (checks_for p) w → AgreesWith p w → w pos ≡ v → AgreesWith q w) → IsPeeled q
+    → IsTied link s p → IsTied link t q
+tied-more link s t p q pos v inside unheard firsts same gives words peeled tied = record {
+  table = same.table ∙ tied.table;
+  graph = same.graph ∙ tied.graph;
+  numbers = same.numbers ∙ tied.numbers;
+  long = ap length firsts ∙ length-set s.first pos (Some v) ∙ tied.long;
+  positions = positions;
+  words = λ w plain has. words w (subst (λ (c : Checks). Meets c w) (sym (same-checks link s p tied)) plain.meets)
+      (tied.words w plain (before w has)) (has pos v (first-here pos refl));
+  peeled = peeled;
+}
+  where
+    wide : pos < length p.given
+    wide =
+        let size : (checks_for p).size ≡ word_size link.graph link.plan = ap (λ (c : Checks). c.size) (same-checks link s p tied) in
+        let long : length p.given ≡ length s.first = tied.peeled.given_long ∙ size ∙ sym tied.long in
+        subst (λ n. pos < n) (sym long) inside
+
+    first-here : (k : ℕ) → k ≡ pos → first_at t k ≡ Some v
+    first-here k here = ap (λ (xs : List (Option Bool)). get_or xs k None) firsts ∙ get_or-set_at s.first pos k (Some v) None here inside
+
+    first-there : (k : ℕ) → k ≢ pos → first_at t k ≡ first_at s k
+    first-there k there = ap (λ (xs : List (Option Bool)). get_or xs k None) firsts ∙ get_or-set_other s.first pos k (Some v) None there
+
+    positions : (k : ℕ) → bit q.given k ≡ given link t k
+    positions k = ⊎_elim
+        (λ (here : k ≡ pos). ap (λ (g : List Bool). bit g k) gives ∙ get_or-set_at p.given pos k true false here wide
+        ∙ sym (ap (λ o. is_heard o || filler link.plan.kdash link.plan.k k) (first-here k here)))
+        (λ (there : k ≢ pos). ap (λ (g : List Bool). bit g k) gives ∙ get_or-set_other p.given pos k true false there
+        ∙ tied.positions k
+        ∙ sym (ap (λ o. is_heard o || filler link.plan.kdash link.plan.k k) (first-there k there)))
+        (cases_eq k pos)
+
+    before : (w : ℕ → Bool) → HasFirsts t w → HasFirsts s w
+    before w has k b is = ⊎_elim
+        (λ (here : k ≡ pos).
+        let heard-here : is_heard (first_at s pos) ≡ true = ap (λ j. is_heard (first_at s j)) (sym here) ∙ ap is_heard is in
+        absurd (true≢false (sym heard-here ∙ unheard)))
+        (λ (there : k ≢ pos). has k b (first-there k there ∙ is))
+        (cases_eq k pos)
+
+-- the same part, in other words
+pub hears-same : (b : Circular) (tx : Tx) (part part' : List Heard) (s s' t t' : Heardbits) (p p' q q' : Peeling)
+    → part ≡ part' → s ≡ s' → p ≡ p' → t ≡ t' → q ≡ q' → HearsPart b tx part s p t q → HearsPart b tx part' s' p' t' q'
+hears-same b tx part part' s s' t t' p p' q q' e1 e2 e3 e4 e5 hears =
+    subst (λ x. HearsPart b tx part' s' p' t' x) e5
+    (subst (λ x. HearsPart b tx part' s' p' x q) e4
+    (subst (λ x. HearsPart b tx part' s' x t q) e3
+    (subst (λ x. HearsPart b tx part' x p t q) e2
+    (subst (λ x. HearsPart b tx x s p t q) e1 hears))))
+
+-- what is left of a list after two parts
+pub drop-again : {X : Type 0} (n m : ℕ) (xs : List X) → drop m (drop n xs) ≡ drop (n + m) xs
+drop-again zero m xs = let none : m ≡ 0 + m = omega arith in ap (λ k. drop k xs) none
+drop-again {X} (suc n) m [] =
+    let empty : List X = [] in drop_of_length-le empty (omega arith) ∙ sym (drop_of_length-le empty (omega arith))
+drop-again (suc n) m (x ∷ xs) =
+    let more : suc (n + m) ≡ suc n + m = omega arith in drop-again n m xs ∙ ap (λ k. drop k (x ∷ xs)) more
+
+pub rest-more : (lengths : List ℕ) (heard rest later : List Heard) (r : ℕ) → r < length lengths
+    → rest ≡ drop (sum (take r lengths)) heard → later ≡ drop (slice_index lengths r) rest
+    → later ≡ drop (sum (take (r + 1) lengths)) heard
+rest-more lengths heard rest later r inside rest-is later-is =
+    later-is
+    ∙ ap (λ (xs : List Heard). drop (slice_index lengths r) xs) rest-is
+    ∙ drop-again (sum (take r lengths)) (slice_index lengths r) heard
+    ∙ ap (λ n. drop n heard) (sym (sum_by_more (λ (x : ℕ). x) lengths r 0 inside))
+
+-- one code block more has heard its part
+pub done-more : (b : Circular) (tx : Tx) (pieces : ℕ → List Heard) (S₀ S : List Heardbits) (P₀ P : List Peeling) (r : ℕ)
+    (part : List Heard) (s t : Heardbits) (p q : Peeling) → r < length S → r < length P → part ≡ pieces r
+    → s ≡ get_or S r s → p ≡ get_or P r p → HearsPart b tx part s p t q
+    → ((k : ℕ) (d : Peeling) → k < r → HearsPart b tx (pieces k) (heard_of S₀ k) (get_or P₀ k d) (heard_of S k) (get_or P k d))
+    → ((k : ℕ) → r ≤ k → heard_of S k ≡ heard_of S₀ k)
+    → ((k : ℕ) (d : Peeling) → r ≤ k → get_or P k d ≡ get_or P₀ k d)
+    → (k : ℕ) (d : Peeling) → k < r + 1
+    → HearsPart b tx (pieces k) (heard_of S₀ k) (get_or P₀ k d) (heard_of (set S r t) k) (get_or (set P r q) k d)
+done-more b tx pieces S₀ S P₀ P r part s t p q in-S in-P part-is s-is p-is hears done later later_p k d below = ⊎_elim here there (cases_eq k r)
+  where
+    nothing : Heardbits
+    nothing = record { first = []; clash = false }
+
+    here : k ≡ r → HearsPart b tx (pieces k) (heard_of S₀ k) (get_or P₀ k d) (heard_of (set S r t) k) (get_or (set P r q) k d)
+    here e = hears-same b tx part (pieces k) s (heard_of S₀ k) t (heard_of (set S r t) k) p (get_or P₀ k d) q (get_or (set P r q) k d)
+        (part-is ∙ ap pieces (sym e))
+        (get_or_read S r s in-S s-is nothing ∙ later r (omega arith) ∙ ap (λ j. heard_of S₀ j) (sym e))
+        (get_or_read P r p in-P p-is d ∙ later_p r d (omega arith) ∙ ap (λ j. get_or P₀ j d) (sym e))
+        (sym (get_or-set_at S r k t nothing e in-S))
+        (sym (get_or-set_at P r k q d e in-P))
+        hears
+
+    there : k ≢ r → HearsPart b tx (pieces k) (heard_of S₀ k) (get_or P₀ k d) (heard_of (set S r t) k) (get_or (set P r q) k d)
+    there e = hears-same b tx (pieces k) (pieces k) (heard_of S₀ k) (heard_of S₀ k) (heard_of S k) (heard_of (set S r t) k)
+        (get_or P₀ k d) (get_or P₀ k d) (get_or P k d) (get_or (set P r q) k d)
+        refl refl refl (sym (get_or-set_other S r k t nothing e)) (sym (get_or-set_other P r k q d e))
+        (done k d (omega (arith, below, e)))
+
+pub later-kept : (S₀ S : List Heardbits) (r : ℕ) (t : Heardbits) → ((k : ℕ) → r ≤ k → heard_of S k ≡ heard_of S₀ k)
+    → (k : ℕ) → r + 1 ≤ k → heard_of (set S r t) k ≡ heard_of S₀ k
+later-kept S₀ S r t later k above =
+    let other : k ≢ r = λ e. omega (arith, e, above) in
+    get_or-set_other S r k t (record { first = []; clash = false }) other ∙ later k (omega arith)
+
+pub peelers-kept : (P₀ P : List Peeling) (r : ℕ) (q : Peeling) → ((k : ℕ) (d : Peeling) → r ≤ k → get_or P k d ≡ get_or P₀ k d)
+    → (k : ℕ) (d : Peeling) → r + 1 ≤ k → get_or (set P r q) k d ≡ get_or P₀ k d
+peelers-kept P₀ P r q later k d above =
+    let other : k ≢ r = λ e. omega (arith, e, above) in
+    get_or-set_other P r k q d other ∙ later k d (omega arith)
+
+-- a bit was heard, in other words
+pub heard-some : (o : Option Bool) → is_heard o ≡ is_some o
+heard-some None = refl
+heard-some (Some b) = refl
+
+pub size-same : (p q : Peeling) → IsSameCode p q → (checks_for q).size ≡ (checks_for p).size
+size-same p q same =
+    ap (λ (g : Graph). cols_of g * q.numbers.z) same.graph ∙ ap (λ (n : Numbers). cols_of p.graph * n.z) same.numbers
+
+-- what is written back to the whole of a list
+pub written : {X : Type 0} (n : ℕ) (xs ys : List X) → length xs ≡ n → take n (xs ++ ys) ≡ xs
+written n xs ys long = ap (λ k. take k (xs ++ ys)) (sym long) ∙ take-append_seam xs ys

@@ -1,0 +1,14 @@
+mod Links
+mod Places
+mod Sends
+pub mod Tested
+pub mod Explained
+pub mod Recorded
+pub mod Found
+pub mod Deciding
+pub mod Outcomes
+pub mod Hears
+pub mod Encoding
+pub mod Taking
+pub mod Decided
+mod Nothing

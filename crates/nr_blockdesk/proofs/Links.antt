@@ -1,0 +1,176 @@
+-- The steps by which a link is agreed on, and what they say of it.
+use Rattle.std.proofs.Common.{◌≡◌, ℕ, ◌+◌, ◌<◌, ◌≤◌, ◌==◌, ◌⊎◌, inl, inr, nat_lt, Bool, true, false, cond, Option, Some, None, Result, Ok, Err, List, length, subst, refl, sym, ap, ◌∙◌, arith}
+use Rattle.std.proofs.lemmas.Bool.{cases_lt}
+use Rattle.std.proofs.lemmas.Bool.Decides.{nat_tests}
+use Rattle.nr_crcattach.specs.Attachment.{LongBlocksLengthen, ShortBlocksLengthen, attached}
+use Rattle.nr_graphpick.specs.declared.Graph.{Graph}
+use Rattle.nr_graphpick.specs.declared.PickFault.{PickFault}
+use Rattle.nr_graphpick.specs.Graph.{picked}
+use Rattle.nr_graphpick.specs.Refusal.{◌>>=◌, with_fault}
+use Rattle.nr_ldpcenc.specs.Codeword.{CodewordsArePlain}
+use Rattle.nr_ratematch.specs.declared.fault.RmFault.{RmFault}
+use Rattle.nr_ratematch.specs.declared.fault.RmFault.TheVariants.{NoBuffer}
+use Rattle.nr_ratematch.specs.Selection.{BuffersAreCircular, Circular, buffer_said, circular_of, reference_size}
+use Rattle.nr_segment.specs.CodeBlock.{CodeBlocksAreLong, numbers}
+use Rattle.nr_segment.specs.declared.numbers.Plan.{Plan}
+use Rattle.nr_segment.specs.Plan.{Numbers, plan_of}
+use Rattle.nr_segment.specs.declared.numbers.SegFault.{SegFault}
+use Rattle.nr_shifttable.specs.Accepted.{Entries, has_graph}
+use Rattle.nr_blockdesk.specs.Link.{IsLink, LinksAreSound, WordsArePlain, attached_length, demanded, is_size, link_of, link_said, word}
+use Rattle.nr_blockdesk.specs.declared.settings.Settings.{Settings}
+use Rattle.nr_blockdesk.specs.declared.fault.DeskFault.{DeskFault}
+use Rattle.nr_blockdesk.specs.declared.fault.DeskFault.TheVariants as fault
+
+ok-same : {X : Type 0} {x y : X} → ◌≡◌ {A = Result X DeskFault} (Ok x) (Ok y) → x ≡ y
+ok-same e = cc e
+
+-- what a chain of steps that answers says of each step
+pub bind-ok : {X Y : Type 0} (r : Result X DeskFault) (f : X → Result Y DeskFault) (y : Y) → (r >>= f) ≡ Ok y
+    → (x : X) × (r ≡ Ok x) × (f x ≡ Ok y)
+bind-ok (Ok x) f y e = (x, refl, e)
+bind-ok (Err d) f y e = cc e
+
+pub demanded-ok : (e : DeskFault) (b : Bool) (u : Unit {0}) → demanded e b ≡ Ok u → b ≡ true
+demanded-ok e true u h = refl
+demanded-ok e false u h = cc h
+
+pub with_fault-ok : {X E : Type 0} (f : E → DeskFault) (r : Result X E) (x : X) → with_fault f r ≡ Ok x → r ≡ Ok x
+with_fault-ok f (Ok y) x e = ap Ok (ok-same e)
+with_fault-ok f (Err d) x e = cc e
+
+-- a buffer is the plan's, but for Ncb
+abbrev buffer_with : Graph → Numbers → ℕ → Circular
+buffer_with graph p ncb = record { graph = graph; z = p.z; kdash = p.kdash; k = p.k; ncb = ncb }
+
+buffer-made : (graph : Graph) (p : Numbers) (lbrm : Option ℕ) (b : Circular) → buffer_said graph p lbrm ≡ Ok b
+    → b ≡ buffer_with graph p b.ncb
+buffer-made graph p None b said =
+    let same : circular_of graph p None ≡ b = cc in
+    subst (λ (c : Circular). c ≡ buffer_with graph p c.ncb) same refl
+buffer-made graph p (Some tbs) b said = go (reference_size p.c tbs == 0) said
+  where
+    go : (none : Bool) → cond none (Err NoBuffer) (Ok (circular_of graph p (Some tbs))) ≡ Ok b → b ≡ buffer_with graph p b.ncb
+    go true e = cc e
+    go false e =
+        let same : circular_of graph p (Some tbs) ≡ b = cc in
+        subst (λ (c : Circular). c ≡ buffer_with graph p c.ncb) same refl
+
+pub link-sound : BuffersAreCircular → LinksAreSound
+unfolding link_said
+link-sound circular table settings a link is said =
+    let whole = bind-ok (demanded fault.Size (is_size a)) _ link said in
+    let picks = bind-ok (with_fault fault.Pick (picked a settings.rate2048)) _ link whole.2 in
+    let plans = bind-ok (with_fault fault.Seg (plan_of picks.0 (attached_length a))) _ link picks.2 in
+    let there = bind-ok (demanded fault.Graph (has_graph picks.0 table)) _ link plans.2 in
+    let keeps = bind-ok (with_fault fault.Rm (buffer_said picks.0 plans.0 settings.lbrm)) _ link there.2 in
+    let planned = with_fault-ok fault.Seg (plan_of picks.0 (attached_length a)) plans.0 plans.1 in
+    let buffered = with_fault-ok fault.Rm (buffer_said picks.0 plans.0 settings.lbrm) keeps.0 keeps.1 in
+    subst IsLink (ok-same keeps.2)
+    (record {
+      size = demanded-ok fault.Size (is_size a) whole.0 whole.1;
+      table = is;
+      there = demanded-ok fault.Graph (has_graph picks.0 table) there.0 there.1;
+      planned = planned;
+      circular = circular picks.0 (attached_length a) plans.0 settings.lbrm keeps.0 planned buffered;
+      buffered = buffer-made picks.0 plans.0 settings.lbrm keeps.0 buffered;
+    })
+
+-- how many bits a transport block has with its CRC
+pub length-attached : LongBlocksLengthen → ShortBlocksLengthen → (block : List Bool)
+    → length (attached block) ≡ attached_length (length block)
+length-attached long short block = go (cases_lt 3824 (length block))
+  where
+    go : (3824 < length block) ⊎ (length block ≤ 3824) → length (attached block) ≡ attached_length (length block)
+    go (inl more) =
+        let is : nat_lt 3824 (length block) ≡ true = grind (arith, nat_tests) in
+        long block more ∙ ap (λ b. cond b (length block + 24) (length block + 16)) (sym is)
+    go (inr less) =
+        let is : nat_lt 3824 (length block) ≡ false = grind (arith, nat_tests) in
+        short block less ∙ ap (λ b. cond b (length block + 24) (length block + 16)) (sym is)
+
+pub attached-over : (a : ℕ) → a + 16 ≤ attached_length a
+attached-over a = go (nat_lt 3824 a)
+  where
+    go : (more : Bool) → a + 16 ≤ cond more (a + 24) (a + 16)
+    go true = omega arith
+    go false = omega arith
+
+pub words-plain : LongBlocksLengthen → ShortBlocksLengthen → CodeBlocksAreLong → CodewordsArePlain → WordsArePlain
+unfolding word
+words-plain long short codes plain link block r is whole inside =
+    let b : length (attached block) ≡ attached_length link.a = length-attached long short block ∙ ap attached_length whole in
+    plain link.table link.graph (attached_length link.a) link.plan _ is.table is.there is.planned
+    (codes link.graph (attached_length link.a) link.plan (attached block) r is.planned b inside)
+
+-- what is said of a link, step by step
+pub said-size : (table : Entries) (settings : Settings) (a : ℕ) → is_size a ≡ false
+    → link_said table settings a ≡ Err fault.Size
+unfolding link_said
+said-size table settings a size = rw size
+
+pub said-pick : (table : Entries) (settings : Settings) (a : ℕ) (e : PickFault) → is_size a ≡ true
+    → picked a settings.rate2048 ≡ Err e → link_said table settings a ≡ Err (fault.Pick e)
+unfolding link_said
+said-pick table settings a e size picks = rw (size, picks)
+
+pub said-seg : (table : Entries) (settings : Settings) (a : ℕ) (graph : Graph) (e : SegFault) → is_size a ≡ true
+    → picked a settings.rate2048 ≡ Ok graph → plan_of graph (attached_length a) ≡ Err e
+    → link_said table settings a ≡ Err (fault.Seg e)
+unfolding link_said
+said-seg table settings a graph e size picks plans = rw (size, picks, plans)
+
+pub said-graph : (table : Entries) (settings : Settings) (a : ℕ) (graph : Graph) (p : Numbers) → is_size a ≡ true
+    → picked a settings.rate2048 ≡ Ok graph → plan_of graph (attached_length a) ≡ Ok p → has_graph graph table ≡ false
+    → link_said table settings a ≡ Err fault.Graph
+unfolding link_said
+said-graph table settings a graph p size picks plans there = rw (size, picks, plans, there)
+
+pub said-buffer : (table : Entries) (settings : Settings) (a : ℕ) (graph : Graph) (p : Numbers) (e : RmFault)
+    → is_size a ≡ true → picked a settings.rate2048 ≡ Ok graph → plan_of graph (attached_length a) ≡ Ok p
+    → has_graph graph table ≡ true → buffer_said graph p settings.lbrm ≡ Err e
+    → link_said table settings a ≡ Err (fault.Rm e)
+unfolding link_said
+said-buffer table settings a graph p e size picks plans there keeps = rw (size, picks, plans, there, keeps)
+
+pub said-link : (table : Entries) (settings : Settings) (a : ℕ) (p : Plan) (b : Circular) → is_size a ≡ true
+    → picked a settings.rate2048 ≡ Ok p.graph → plan_of p.graph (attached_length a) ≡ Ok (numbers p)
+    → has_graph p.graph table ≡ true → buffer_said p.graph (numbers p) settings.lbrm ≡ Ok b
+    → link_said table settings a ≡ Ok (link_of table p a b)
+unfolding link_said
+said-link table settings a p b size picks plans there keeps = rw (size, picks, plans, there, keeps)
+
+-- nothing that is said of a link is want of memory
+err-same : {X : Type 0} {x y : DeskFault} → ◌≡◌ {A = Result X DeskFault} (Err x) (Err y) → x ≡ y
+err-same e = cc e
+
+pub never-bind : {X Y : Type 0} (r : Result X DeskFault) (next : X → Result Y DeskFault) → (r ≡ Err fault.Memory → ⊥)
+    → ((x : X) → next x ≡ Err fault.Memory → ⊥) → (r >>= next) ≡ Err fault.Memory → ⊥
+never-bind (Ok x) next first rest e = rest x e
+never-bind (Err d) next first rest e = first (ap Err (err-same e))
+
+pub never-demanded : (d : DeskFault) (b : Bool) → (d ≡ fault.Memory → ⊥) → demanded d b ≡ Err fault.Memory → ⊥
+never-demanded d true other e = cc e
+never-demanded d false other e = other (err-same e)
+
+pub never-with_fault : {X E : Type 0} (f : E → DeskFault) (r : Result X E) → ((d : E) → f d ≡ fault.Memory → ⊥)
+    → with_fault f r ≡ Err fault.Memory → ⊥
+never-with_fault f (Ok x) other e = cc e
+never-with_fault f (Err d) other e = other d (err-same e)
+
+never-ok : {X : Type 0} (x : X) → ◌≡◌ {A = Result X DeskFault} (Ok x) (Err fault.Memory) → ⊥
+never-ok x e = cc e
+
+pub link-never_memory : (table : Entries) (settings : Settings) (a : ℕ) → link_said table settings a ≡ Err fault.Memory → ⊥
+unfolding link_said
+link-never_memory table settings a =
+    never-bind (demanded fault.Size (is_size a)) _ (never-demanded fault.Size (is_size a) (λ e. cc e))
+    (λ whole. never-bind (with_fault fault.Pick (picked a settings.rate2048)) _ (never-with_fault fault.Pick (picked a settings.rate2048) (λ d e. cc e))
+    (λ graph. never-bind (with_fault fault.Seg (plan_of graph (attached_length a))) _ (never-with_fault fault.Seg (plan_of graph (attached_length a)) (λ d e. cc e))
+    (λ p. never-bind (demanded fault.Graph (has_graph graph table)) _ (never-demanded fault.Graph (has_graph graph table) (λ e. cc e))
+    (λ there. never-bind (with_fault fault.Rm (buffer_said graph p settings.lbrm)) _ (never-with_fault fault.Rm (buffer_said graph p settings.lbrm) (λ d e. cc e))
+    (λ b. never-ok _)))))
+
+-- so a call that is refused by what was said is not refused for memory
+pub no-memory : {X Y G : Type 0} (said : Result X DeskFault) (r : Result Y DeskFault) (e : DeskFault) → r ≡ Err e → said ≡ Err e
+    → (said ≡ Err fault.Memory → ⊥) → r ≡ Err fault.Memory → G
+no-memory said r e is refused never memory = absurd (never (refused ∙ ap Err (err-same (sym is ∙ memory))))

@@ -1,0 +1,163 @@
+-- The bits sent, code block by code block, and whose bit stands at each place of them.
+use Rattle.std.proofs.Common.{◌≡◌, ℕ, suc, zero, ◌+◌, ◌%◌, ◌<◌, ◌≤◌, Bool, false, List, [], ◌∷◌, ◌++◌, length, flat_map, sum, take, get_or, slice_index, refl, sym, ◌∙◌, ap, subst, arith}
+use Rattle.std.specs.List.{range_with_len}
+use Rattle.std.proofs.lemmas.List.{flat_map_more, length-append, map-id, take_all}
+use Rattle.std.proofs.lemmas.List.Concat.{get_or-flat_map}
+use Rattle.std.proofs.lemmas.List.FromFn.{length-range_with_len, get_or-range_with_len, length-map-range_with_len, get_or-map-range_with_len, take-map-range_with_len}
+use Rattle.std.proofs.lemmas.List.Sums.{sum_by_more, sum_by_more_le}
+use Rattle.nr_bitvec.specs.Bit.{bit}
+use Rattle.nr_cbconcat.specs.Concatenation.{PlacesHaveOneOwner, owner_of}
+use Rattle.nr_interleave.specs.Interleaving.{SeatsAreSeating, interleaved, seat_of}
+use Rattle.nr_ratematch.specs.Selection.{Circular, PlacesAreSent, place_of, selected}
+use Rattle.nr_blockdesk.specs.Sent.{Matching, PartsAreAt, SentBitsAreAt, SentIsLong, block_sent, position_at, sent_of}
+
+pub length-selected : (b : Circular) (word : List Bool) (rv e : ℕ) → length (selected b word rv e) ≡ e
+unfolding selected
+length-selected b word rv e = length-map-range_with_len (λ k. bit word (place_of b rv k)) 0 e
+
+bit-selected : (b : Circular) (word : List Bool) (rv e p : ℕ) → p < e → bit (selected b word rv e) p ≡ bit word (place_of b rv p)
+unfolding selected
+bit-selected b word rv e p inside = get_or-map-range_with_len (λ k. bit word (place_of b rv k)) 0 e p p false inside (omega arith)
+
+length-interleaved : (qm : ℕ) (bits : List Bool) → length (interleaved qm bits) ≡ length bits
+unfolding interleaved
+length-interleaved qm bits = length-map-range_with_len (λ m. bit bits (seat_of qm (length bits) m)) 0 (length bits)
+
+bit-interleaved : (qm : ℕ) (bits : List Bool) (p : ℕ) → p < length bits → bit (interleaved qm bits) p ≡ bit bits (seat_of qm (length bits) p)
+unfolding interleaved
+bit-interleaved qm bits p inside =
+    get_or-map-range_with_len (λ m. bit bits (seat_of qm (length bits) m)) 0 (length bits) p p false inside (omega arith)
+
+pub length-block_sent : (t : Matching) (word : List Bool) (e : ℕ) → length (block_sent t word e) ≡ e
+length-block_sent t word e = length-interleaved t.qm (selected t.buffer word t.rv e) ∙ length-selected t.buffer word t.rv e
+
+bit-block_sent : (t : Matching) (word : List Bool) (e p : ℕ) → p < e → seat_of t.qm e p < e
+    → bit (block_sent t word e) p ≡ bit word (place_of t.buffer t.rv (seat_of t.qm e p))
+bit-block_sent t word e p inside seat =
+    let bits : List Bool = selected t.buffer word t.rv e in
+    let long : length bits ≡ e = length-selected t.buffer word t.rv e in
+    bit-interleaved t.qm bits p (subst (λ n. p < n) (sym long) inside)
+    ∙ ap (λ n. bit bits (seat_of t.qm n p)) long
+    ∙ bit-selected t.buffer word t.rv e (seat_of t.qm e p) seat
+
+-- one number more
+range_more : (a n : ℕ) → range_with_len a (n + 1) ≡ range_with_len a n ++ (a + n) ∷ []
+range_more a zero = let last : a ≡ a + 0 = omega arith in ap (λ x. x ∷ []) last
+range_more a (suc n) =
+    let longer : suc n + 1 ≡ suc (n + 1) = omega arith in
+    let last : a + 1 + n ≡ a + suc n = omega arith in
+    rw longer (ap (λ xs. a ∷ xs) (range_more (a + 1) n ∙ ap (λ x. range_with_len (a + 1) n ++ x ∷ []) last))
+
+-- one piece more
+pieces-more : (f : ℕ → List Bool) (n : ℕ) → flat_map f (range_with_len 0 n) ++ f n ≡ flat_map f (range_with_len 0 (n + 1))
+pieces-more f n =
+    let last : 0 + n ≡ n = omega arith in
+    flat_map_more f [] (range_with_len 0 n) n
+    ∙ ap (λ rs. flat_map f rs) (sym (range_more 0 n ∙ ap (λ x. range_with_len 0 n ++ x ∷ []) last))
+
+length-pieces : (f : ℕ → List Bool) (lengths : List ℕ) (n : ℕ) → ((r : ℕ) → length (f r) ≡ slice_index lengths r)
+    → n ≤ length lengths → length (flat_map f (range_with_len 0 n)) ≡ sum (take n lengths)
+length-pieces f lengths zero long within = refl
+length-pieces f lengths (suc n) long within =
+    let before = length-pieces f lengths n long (omega arith) in
+    let joined = ap length (sym (pieces-more f n)) ∙ length-append (flat_map f (range_with_len 0 n)) (f n) in
+    let added = sum_by_more (λ (x : ℕ). x) lengths n 0 (omega arith) in
+    let more : length (flat_map f (range_with_len 0 (n + 1))) ≡ sum (take (n + 1) lengths) =
+    joined ∙ ap (λ k. k + length (f n)) before ∙ ap (λ k. sum (take n lengths) + k) (long n) ∙ sym added in
+    let next : n + 1 ≡ suc n = omega arith in
+    subst (λ k. length (flat_map f (range_with_len 0 k)) ≡ sum (take k lengths)) next more
+
+-- the bits sent of the first n code blocks
+abbrev pub front_sent : Matching → (ℕ → List Bool) → ℕ → List Bool
+front_sent t words n = flat_map (λ r. block_sent t (words r) (slice_index t.lengths r)) (range_with_len 0 n)
+
+pub front-more : (t : Matching) (words : ℕ → List Bool) (n : ℕ)
+    → front_sent t words n ++ block_sent t (words n) (slice_index t.lengths n) ≡ front_sent t words (n + 1)
+front-more t words n = pieces-more (λ r. block_sent t (words r) (slice_index t.lengths r)) n
+
+pub length-front : (t : Matching) (words : ℕ → List Bool) (n : ℕ) → n ≤ length t.lengths
+    → length (front_sent t words n) ≡ sum (take n t.lengths)
+length-front t words n within =
+    length-pieces (λ r. block_sent t (words r) (slice_index t.lengths r)) t.lengths n
+    (λ r. length-block_sent t (words r) (slice_index t.lengths r)) within
+
+-- there is room among all bits for those of one code block more
+pub front-inside : (t : Matching) (words : ℕ → List Bool) (n : ℕ) → n < length t.lengths
+    → length (front_sent t words n) + length (block_sent t (words n) (slice_index t.lengths n)) ≤ sum t.lengths
+front-inside t words n within =
+    let before = length-front t words n (omega arith) in
+    let one = length-block_sent t (words n) (slice_index t.lengths n) in
+    let most = sum_by_more_le (λ (x : ℕ). x) t.lengths n 0 within in
+    omega (arith, before, one, most)
+
+pub sent-long : SentIsLong
+unfolding sent_of
+sent-long t words =
+    length-front t words (length t.lengths) (omega arith) ∙ ap sum (take_all (length t.lengths) t.lengths (omega arith))
+
+-- bit p of code block r's part, in the whole
+bit-sent : (t : Matching) (words : ℕ → List Bool) (r p : ℕ) → r < length t.lengths → p < slice_index t.lengths r
+    → bit (sent_of t words) (sum (take r t.lengths) + p) ≡ bit (block_sent t (words r) (slice_index t.lengths r)) p
+unfolding sent_of
+bit-sent t words r p block inside =
+    let f : ℕ → List Bool = λ r. block_sent t (words r) (slice_index t.lengths r) in
+    let c : ℕ = length t.lengths in
+    let at : get_or (range_with_len 0 c) r 0 ≡ r = get_or-range_with_len 0 c r 0 block ∙ omega arith in
+    let there : r < length (range_with_len 0 c) = subst (λ n. r < n) (sym (length-range_with_len 0 c)) block in
+    let long : length (f r) ≡ slice_index t.lengths r = length-block_sent t (words r) (slice_index t.lengths r) in
+    let short : p < length (f (get_or (range_with_len 0 c) r 0)) =
+    subst (λ q. p < length (f q)) (sym at) (subst (λ n. p < n) (sym long) inside) in
+    let front : length (flat_map f (take r (range_with_len 0 c))) ≡ sum (take r t.lengths) =
+    ap (λ rs. length (flat_map f rs)) (take-range c r (omega arith)) ∙ length-front t words r (omega arith) in
+    ap (λ n. bit (flat_map f (range_with_len 0 c)) (n + p)) (sym front)
+    ∙ get_or-flat_map f (range_with_len 0 c) r p 0 false there short
+    ∙ ap (λ q. bit (f q) p) at
+  where
+    take-range : (c r : ℕ) → r ≤ c → take r (range_with_len 0 c) ≡ range_with_len 0 r
+    take-range c r within =
+        ap (λ xs. take r xs) (sym (map-id (range_with_len 0 c)))
+        ∙ take-map-range_with_len (λ (x : ℕ). x) 0 c r within
+        ∙ map-id (range_with_len 0 r)
+
+pub sent-at : PlacesHaveOneOwner → PlacesAreSent → SeatsAreSeating → SentBitsAreAt
+unfolding position_at
+sent-at owners sents seats t m is inside =
+    let one = (owners t.lengths m inside).owner in
+    let r = (owner_of t.lengths m).0 in
+    let p = (owner_of t.lengths m).1 in
+    let e = slice_index t.lengths r in
+    let whole : e % t.qm ≡ 0 = is.whole r 0 one.block in
+    let seat = (seats t.qm e is.order_some whole).inside p one.inside in
+    record {
+      block = one.block;
+      position = sents t.buffer t.rv (seat_of t.qm e p) is.circular is.version;
+      value = λ words. ap (bit (sent_of t words)) one.joined ∙ bit-sent t words r p one.block one.inside ∙ bit-block_sent t (words r) e p one.inside seat;
+    }
+
+pub parts-at : PlacesHaveOneOwner → PartsAreAt
+unfolding position_at
+parts-at owners t m r p owner =
+    let most = sum_by_more_le (λ (x : ℕ). x) t.lengths r 0 owner.block in
+    let joined = owner.joined in
+    let below = owner.inside in
+    let same : owner_of t.lengths m ≡ (r, p) = sym ((owners t.lengths m (omega arith)).only r p owner) in (
+      ap (λ (q : ℕ × ℕ). q.0) same,
+      ap (λ (q : ℕ × ℕ). place_of t.buffer t.rv (seat_of t.qm (slice_index t.lengths q.0) q.1)) same,
+    )
+
+-- codewords that are the same send the same
+front-same : (t : Matching) (f g : ℕ → List Bool) (n : ℕ) → ((r : ℕ) → r < n → f r ≡ g r) → front_sent t f n ≡ front_sent t g n
+front-same t f g zero same = refl
+front-same t f g (suc n) same =
+    let before = front-same t f g n (λ r less. same r (omega arith)) in
+    let more : front_sent t f (n + 1) ≡ front_sent t g (n + 1) =
+    sym (front-more t f n)
+    ∙ ap (λ xs. xs ++ block_sent t (f n) (slice_index t.lengths n)) before
+    ∙ ap (λ w. front_sent t g n ++ block_sent t w (slice_index t.lengths n)) (same n (omega arith))
+    ∙ front-more t g n in
+    let next : n + 1 ≡ suc n = omega arith in
+    subst (λ k. front_sent t f k ≡ front_sent t g k) next more
+
+pub sent-same : (t : Matching) (f g : ℕ → List Bool) → ((r : ℕ) → r < length t.lengths → f r ≡ g r) → sent_of t f ≡ sent_of t g
+unfolding sent_of
+sent-same t f g same = front-same t f g (length t.lengths) same

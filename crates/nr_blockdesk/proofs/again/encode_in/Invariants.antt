@@ -1,0 +1,12 @@
+-- The bits so far are those of the code block with its fillers.
+use Rattle.std.proofs.Common.{◌≡◌, ℕ, ◌<◌, length}
+use Rattle.nr_bitvec.specs.Bit.{bit}
+use Rattle.nr_ldpcenc.specs.Rows.{word_size}
+use Rattle.nr_segment.specs.CodeBlock.{code_block, numbers}
+use Rattle.nr_blockdesk.proofs.again.encode_in.Given as goal
+
+abbrev pub invariant-loop-k : goal.invariant-loop-k
+invariant-loop-k l = record {
+  long : length l.word ≡ word_size l.plan.graph (numbers l.plan);
+  same : (q : ℕ) → q < l.k → bit l.word q ≡ bit (code_block (numbers l.plan) l.list.items l.r) q;
+}

@@ -1,0 +1,51 @@
+use Rattle.std.proofs.Common.{◌≡◌, ◌≢◌, ℕ, ◌<◌, [], Bool, false, List, length, sym, ap, subst, ◌∙◌, ⊎_elim, arith}
+use Rattle.std.proofs.lemmas.Bool.{cases_eq}
+use Rattle.std.proofs.lemmas.List.{get_or_read}
+use Rattle.nr_bitvec.specs.Bit.{bit}
+use Rattle.nr_harqbuf.specs.Record.{Heardbits}
+use Rattle.nr_ldpcenc.specs.Codeword.{codeword}
+use Rattle.nr_segment.specs.CodeBlock.{code_bits, numbers}
+use Rattle.nr_blockdesk.specs.Heard.{heard_of}
+use Rattle.nr_blockdesk.specs.Receiving.{Fits}
+use Rattle.nr_blockdesk.proofs.again.explains.Goals as goal
+
+pub agrees-requires : goal.agrees-requires
+agrees-requires c =
+    let elem = c.index-stores-r.result in
+    let r = c.loop-r.r in
+    let inside : r < length c.args.stores.now = omega (arith, c.requires.all, c.loop-r-test.true) in
+    ap (λ (s : Heardbits). length s.first) (get_or_read c.args.stores.now r elem inside c.index-stores-r.is (record { first = []; clash = false }))
+    ∙ c.requires.stored r c.loop-r-test.true
+    ∙ sym c.encode_in.ensures.long
+
+pub returns-then-not-agrees-clause-misfits : goal.returns-then-not-agrees-clause-misfits
+returns-then-not-agrees-clause-misfits c = λ _ all.
+    let elem = c.index-stores-r.result in
+    let r = c.loop-r.r in
+    let inside : r < length c.args.stores.now = omega (arith, c.requires.all, c.loop-r-test.true) in
+    let is : elem ≡ heard_of c.args.stores.now r = get_or_read c.args.stores.now r elem inside c.index-stores-r.is (record { first = []; clash = false }) in
+    c.agrees.ensures.misfits c.if-not-agrees.true
+    (subst (λ s. Fits s (bit c.encode_in.new.word)) (sym is)
+    (subst (λ w. Fits (heard_of c.args.stores.now r) (bit w)) (sym c.encode_in.ensures.encoded) (all r c.loop-r-test.true)))
+
+pub loop-r-preserved : goal.loop-r-preserved
+loop-r-preserved c =
+    let elem = c.index-stores-r.result in
+    let r = c.loop-r.r in
+    let plan = c.args.plan.now in
+    let inside : r < length c.args.stores.now = omega (arith, c.requires.all, c.loop-r-test.true) in
+    let is : elem ≡ heard_of c.args.stores.now r = get_or_read c.args.stores.now r elem inside c.index-stores-r.is (record { first = []; clash = false }) in
+    let fits = c.agrees.ensures.fits c.if-not-agrees.false in
+    let coded : ℕ → List Bool = λ q. codeword c.args.table.now plan.graph (numbers plan) (code_bits (numbers plan) c.args.list.now.items q) in
+    let one : Fits (heard_of c.args.stores.now r) (bit (coded r)) =
+    subst (λ w. Fits (heard_of c.args.stores.now r) (bit w)) c.encode_in.ensures.encoded (subst (λ s. Fits s (bit c.encode_in.new.word)) is fits) in
+    record {
+      long = c.encode_in.ensures.long;
+      fits = λ q below. ⊎_elim
+          (λ (here : q ≡ r). subst (λ k. Fits (heard_of c.args.stores.now k) (bit (coded k))) (sym here) one)
+          (λ (there : q ≢ r). c.loop-r.invariant.fits q (omega (arith, below, there)))
+          (cases_eq q r);
+    }
+
+pub returns-clause-fits : goal.returns-clause-fits
+returns-clause-fits c = λ _ r below. c.loop-r.invariant.fits r (omega (arith, below, c.loop-r-test.false))

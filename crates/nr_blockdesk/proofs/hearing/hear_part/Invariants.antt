@@ -1,0 +1,16 @@
+-- The places so far are heard, and what is given to the peeler is what was heard.
+use Rattle.std.proofs.Common.{◌≡◌, ◌*◌, List, ◌++◌, length}
+use Rattle.nr_graphpick.specs.Graph.{cols_of}
+use Rattle.nr_harqbuf.specs.Record.{Hearing, record_of}
+use Rattle.nr_blockdesk.specs.Link.{Link}
+use Rattle.nr_blockdesk.specs.Receiving.{IsSized, IsTied, part_hearings}
+use Rattle.nr_blockdesk.proofs.hearing.hear_part.Given as goal
+
+abbrev pub invariant-loop-m : goal.invariant-loop-m
+invariant-loop-m l = record {
+  recorded : (hs : List Hearing) → l.fn.store ≡ record_of (length l.fn.store.first) hs
+      → l.store ≡ record_of (length l.fn.store.first) (hs ++ part_hearings l.buffer l.tx l.heard l.m);
+  tied : (link : Link) → IsTied link l.fn.store l.fn.peeler → IsTied link l.store l.peeler;
+  sized : IsSized (cols_of l.buffer.graph * l.buffer.z) l.store l.peeler;
+  long : length l.store.first ≡ length l.fn.store.first;
+}

@@ -1,0 +1,5 @@
+use Rattle.nr_blockdesk.proofs.Links.{link-sound}
+use Rattle.nr_blockdesk.proofs.laws.links_are_sound.Goals as goal
+
+pub returns : goal.returns
+returns c = link-sound c.buffers_are_circular.ensures

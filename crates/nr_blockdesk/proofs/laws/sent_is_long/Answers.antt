@@ -1,0 +1,5 @@
+use Rattle.nr_blockdesk.proofs.Places.{sent-long}
+use Rattle.nr_blockdesk.proofs.laws.sent_is_long.Goals as goal
+
+pub returns : goal.returns
+returns c = sent-long

@@ -1,0 +1,7 @@
+use Rattle.nr_blockdesk.proofs.Links.{words-plain}
+use Rattle.nr_blockdesk.proofs.laws.words_are_plain.Goals as goal
+
+pub returns : goal.returns
+returns c =
+    words-plain c.attachment_lengthens.ensures.long c.attachment_lengthens.ensures.short c.code_blocks_are_long.ensures.bits
+    c.codewords_are_plain.ensures

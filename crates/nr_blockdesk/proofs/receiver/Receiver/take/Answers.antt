@@ -1,0 +1,186 @@
+use Rattle.std.proofs.Common.{◌≡◌, ◌*◌, ◌<◌, [], ◌∷◌, ◌++◌, Err, List, length, get_or, drop, take, subst, sym, ap, ◌∙◌, arith}
+use Rattle.std.proofs.lemmas.Result.{err_from_is_err_and}
+use Rattle.nr_graphpick.specs.Graph.{cols_of}
+use Rattle.nr_harqbuf.specs.Record.{Heardbits}
+use Rattle.nr_peel.specs.Peeling.{Peeling}
+use Rattle.nr_blockdesk.specs.Explains.{Reception, reception, reception_said_of}
+use Rattle.nr_blockdesk.specs.Heard.{IsRecordOf, heard_of}
+use Rattle.nr_blockdesk.specs.Link.{link_of}
+use Rattle.nr_blockdesk.specs.Receiving.{IsDesk, IsSized, Receiving}
+use Rattle.nr_blockdesk.proofs.Decided.{outcome-of_record, sized-of}
+use Rattle.nr_blockdesk.proofs.Hears.{written}
+use Rattle.nr_blockdesk.proofs.Links.{no-memory}
+use Rattle.nr_blockdesk.proofs.Taking.{AreHeard, all-taken, desk-taken, parts-are, reception-never_memory}
+use Rattle.nr_blockdesk.proofs.receiver.Receiver.take.Goals as goal
+
+pub returns-in_err-lengths-clause-judged : goal.returns-in_err-lengths-clause-judged
+returns-in_err-lengths-clause-judged c =
+    let p = err_from_is_err_and c.from_residual.result c.from_residual.ensures.1 in
+    let x = reception c.args.tx.now c.args.heard.now in
+    rw (← c.self.view_is)
+    (no-memory (reception_said_of c.self.inside.plan.c x) c.from_residual.result c.in_err-lengths.field-0.0 (p.1 ∙ ap Err p.2)
+    c.in_err-lengths.ensures.said (reception-never_memory c.self.inside.plan.c x))
+
+pub hear-requires-clause-sized : goal.hear-requires-clause-sized
+hear-requires-clause-sized c = λ r d inside.
+    let s = c.self.inside in
+    let inv = c.self.invariant in
+    let link = link_of s.table.now s.plan s.a s.buffer in
+    let stores = c.deref_mut.ensures.value in
+    let size = cols_of s.buffer.graph * s.buffer.z in
+    subst (λ (l : List Heardbits). IsSized size (heard_of l r) (get_or c.deref_mut-2.result.now r d)) (sym stores)
+    (subst (λ (l : List Peeling). IsSized size (heard_of s.stores.items r) (get_or l r d)) (sym c.deref_mut-2.ensures.value)
+    (sized-of link s.stores.items s.peelers.items inv.is_link inv.desk r d (subst (λ (l : List Heardbits). r < length l) stores inside)))
+
+pub invariant_of-self : goal.invariant_of-self
+invariant_of-self c =
+    let s = c.self.inside in
+    let inv = c.self.invariant in
+    let link = link_of s.table.now s.plan s.a s.buffer in
+    let tx = c.args.tx.now in
+    let places = c.args.heard.now in
+    let es = c.in_ok-lengths.lengths.items in
+    let S : List Heardbits = s.stores.items in
+    let P : List Peeling = s.peelers.items in
+    let S' : List Heardbits = c.hear.new.stores in
+    let P' : List Peeling = c.hear.new.peelers in
+    let are : AreHeard link tx es places S P S' P' =
+    parts-are link tx es c.deref.result.now places S c.deref_mut.result.now S' P c.deref_mut-2.result.now P'
+    c.deref.ensures.0 c.deref_mut.ensures.value c.deref_mut-2.ensures.value inv.desk.stores c.hear.ensures.parts in
+    let many : length S' ≡ length S = c.hear.ensures.stores ∙ ap length c.deref_mut.ensures.value in
+    let peeled : length P' ≡ length P = c.hear.ensures.peelers ∙ ap length c.deref_mut-2.ensures.value in
+    let stores-whole : length S' ≡ s.stores.len = omega (arith, many, s.stores.ok.0) in
+    let peelers-whole : length P' ≡ s.peelers.len = omega (arith, peeled, s.peelers.ok.0) in
+    let kept : take s.stores.len (S' ++ drop (length S') S) ≡ S' = written s.stores.len S' (drop (length S') S) stores-whole in
+    let kept-too : take s.peelers.len (P' ++ drop (length P') P) ≡ P' = written s.peelers.len P' (drop (length P') P) peelers-whole in
+    record {
+      is_link = inv.is_link;
+      whole = inv.whole;
+      desk = subst (λ (l : List Heardbits). IsDesk link l (take s.peelers.len (P' ++ drop (length P') P))) (sym kept)
+          (subst (λ (l : List Peeling). IsDesk link S' l) (sym kept-too)
+          (desk-taken link tx es places S S' P P' inv.desk (many ∙ inv.desk.stores) (peeled ∙ inv.desk.peelings) are));
+      room = inv.room;
+      long = inv.long;
+    }
+
+pub returns-clause-heard : goal.returns-clause-heard
+returns-clause-heard c =
+    let s = c.self.inside in
+    let inv = c.self.invariant in
+    let link = link_of s.table.now s.plan s.a s.buffer in
+    let tx = c.args.tx.now in
+    let places = c.args.heard.now in
+    let es = c.in_ok-lengths.lengths.items in
+    let S : List Heardbits = s.stores.items in
+    let P : List Peeling = s.peelers.items in
+    let S' : List Heardbits = c.hear.new.stores in
+    let P' : List Peeling = c.hear.new.peelers in
+    let are : AreHeard link tx es places S P S' P' =
+    parts-are link tx es c.deref.result.now places S c.deref_mut.result.now S' P c.deref_mut-2.result.now P'
+    c.deref.ensures.0 c.deref_mut.ensures.value c.deref_mut-2.ensures.value inv.desk.stores c.hear.ensures.parts in
+    let many : length S' ≡ length S = c.hear.ensures.stores ∙ ap length c.deref_mut.ensures.value in
+    let peeled : length P' ≡ length P = c.hear.ensures.peelers ∙ ap length c.deref_mut-2.ensures.value in
+    let stores-whole : length S' ≡ s.stores.len = omega (arith, many, s.stores.ok.0) in
+    let peelers-whole : length P' ≡ s.peelers.len = omega (arith, peeled, s.peelers.ok.0) in
+    let kept : take s.stores.len (S' ++ drop (length S') S) ≡ S' = written s.stores.len S' (drop (length S') S) stores-whole in
+    let x = reception tx places in
+    let told = λ (list : List Reception) (of : IsRecordOf link list S).
+    all-taken c.parts_are_at.ensures c.places_have_one_owner.ensures c.accepted_are_matched.ensures link tx es places S S' P P'
+    inv.is_link inv.desk c.in_ok-lengths.ensures.said c.in_ok-lengths.ensures.whole many are list of in
+    rw (← c.self.view_is)
+    (λ list of. subst (λ (l : List Heardbits). IsRecordOf link (list ++ x ∷ []) l)
+    (sym (ap (λ (v : Receiving). v.heard) c.answer.ensures.same ∙ kept)) (told list of))
+
+pub returns-clause-outcome : goal.returns-clause-outcome
+returns-clause-outcome c =
+    let s = c.self.inside in
+    let inv = c.self.invariant in
+    let link = link_of s.table.now s.plan s.a s.buffer in
+    let tx = c.args.tx.now in
+    let places = c.args.heard.now in
+    let es = c.in_ok-lengths.lengths.items in
+    let S : List Heardbits = s.stores.items in
+    let P : List Peeling = s.peelers.items in
+    let S' : List Heardbits = c.hear.new.stores in
+    let P' : List Peeling = c.hear.new.peelers in
+    let are : AreHeard link tx es places S P S' P' =
+    parts-are link tx es c.deref.result.now places S c.deref_mut.result.now S' P c.deref_mut-2.result.now P'
+    c.deref.ensures.0 c.deref_mut.ensures.value c.deref_mut-2.ensures.value inv.desk.stores c.hear.ensures.parts in
+    let many : length S' ≡ length S = c.hear.ensures.stores ∙ ap length c.deref_mut.ensures.value in
+    let peeled : length P' ≡ length P = c.hear.ensures.peelers ∙ ap length c.deref_mut-2.ensures.value in
+    let stores-whole : length S' ≡ s.stores.len = omega (arith, many, s.stores.ok.0) in
+    let peelers-whole : length P' ≡ s.peelers.len = omega (arith, peeled, s.peelers.ok.0) in
+    let kept : take s.stores.len (S' ++ drop (length S') S) ≡ S' = written s.stores.len S' (drop (length S') S) stores-whole in
+    let x = reception tx places in
+    let told = λ (list : List Reception) (of : IsRecordOf link list S).
+    all-taken c.parts_are_at.ensures c.places_have_one_owner.ensures c.accepted_are_matched.ensures link tx es places S S' P P'
+    inv.is_link inv.desk c.in_ok-lengths.ensures.said c.in_ok-lengths.ensures.whole many are list of in
+    let outcome = λ (list : List Reception) (of : IsRecordOf link list S).
+    outcome-of_record c.explains_by_record.ensures c.explained_is_delivered.ensures c.delivered_is_only.ensures link (list ++ x ∷ [])
+    (take s.stores.len (S' ++ drop (length S') S)) c.answer.result inv.is_link
+    (subst (λ (l : List Heardbits). IsRecordOf link (list ++ x ∷ []) l) (sym kept) (told list of)) c.answer.ensures.decided in
+    rw (← c.self.view_is) (λ list of. outcome list of)
+
+pub returns-clause-only_one : goal.returns-clause-only_one
+returns-clause-only_one c =
+    let s = c.self.inside in
+    let inv = c.self.invariant in
+    let link = link_of s.table.now s.plan s.a s.buffer in
+    let tx = c.args.tx.now in
+    let places = c.args.heard.now in
+    let es = c.in_ok-lengths.lengths.items in
+    let S : List Heardbits = s.stores.items in
+    let P : List Peeling = s.peelers.items in
+    let S' : List Heardbits = c.hear.new.stores in
+    let P' : List Peeling = c.hear.new.peelers in
+    let are : AreHeard link tx es places S P S' P' =
+    parts-are link tx es c.deref.result.now places S c.deref_mut.result.now S' P c.deref_mut-2.result.now P'
+    c.deref.ensures.0 c.deref_mut.ensures.value c.deref_mut-2.ensures.value inv.desk.stores c.hear.ensures.parts in
+    let many : length S' ≡ length S = c.hear.ensures.stores ∙ ap length c.deref_mut.ensures.value in
+    let peeled : length P' ≡ length P = c.hear.ensures.peelers ∙ ap length c.deref_mut-2.ensures.value in
+    let stores-whole : length S' ≡ s.stores.len = omega (arith, many, s.stores.ok.0) in
+    let peelers-whole : length P' ≡ s.peelers.len = omega (arith, peeled, s.peelers.ok.0) in
+    let kept : take s.stores.len (S' ++ drop (length S') S) ≡ S' = written s.stores.len S' (drop (length S') S) stores-whole in
+    let x = reception tx places in
+    let told = λ (list : List Reception) (of : IsRecordOf link list S).
+    all-taken c.parts_are_at.ensures c.places_have_one_owner.ensures c.accepted_are_matched.ensures link tx es places S S' P P'
+    inv.is_link inv.desk c.in_ok-lengths.ensures.said c.in_ok-lengths.ensures.whole many are list of in
+    let outcome = λ (list : List Reception) (of : IsRecordOf link list S).
+    outcome-of_record c.explains_by_record.ensures c.explained_is_delivered.ensures c.delivered_is_only.ensures link (list ++ x ∷ [])
+    (take s.stores.len (S' ++ drop (length S') S)) c.answer.result inv.is_link
+    (subst (λ (l : List Heardbits). IsRecordOf link (list ++ x ∷ []) l) (sym kept) (told list of)) c.answer.ensures.decided in
+    rw (← c.self.view_is)
+    (λ list y z of e whole explained.
+    (c.delivered_is_only.ensures link (list ++ x ∷ []) y inv.is_link (told list of).accepted (sym (outcome list of) ∙ e)).only z whole explained)
+
+pub returns-clause-no_contradiction : goal.returns-clause-no_contradiction
+returns-clause-no_contradiction c =
+    let s = c.self.inside in
+    let inv = c.self.invariant in
+    let link = link_of s.table.now s.plan s.a s.buffer in
+    let tx = c.args.tx.now in
+    let places = c.args.heard.now in
+    let es = c.in_ok-lengths.lengths.items in
+    let S : List Heardbits = s.stores.items in
+    let P : List Peeling = s.peelers.items in
+    let S' : List Heardbits = c.hear.new.stores in
+    let P' : List Peeling = c.hear.new.peelers in
+    let are : AreHeard link tx es places S P S' P' =
+    parts-are link tx es c.deref.result.now places S c.deref_mut.result.now S' P c.deref_mut-2.result.now P'
+    c.deref.ensures.0 c.deref_mut.ensures.value c.deref_mut-2.ensures.value inv.desk.stores c.hear.ensures.parts in
+    let many : length S' ≡ length S = c.hear.ensures.stores ∙ ap length c.deref_mut.ensures.value in
+    let peeled : length P' ≡ length P = c.hear.ensures.peelers ∙ ap length c.deref_mut-2.ensures.value in
+    let stores-whole : length S' ≡ s.stores.len = omega (arith, many, s.stores.ok.0) in
+    let peelers-whole : length P' ≡ s.peelers.len = omega (arith, peeled, s.peelers.ok.0) in
+    let kept : take s.stores.len (S' ++ drop (length S') S) ≡ S' = written s.stores.len S' (drop (length S') S) stores-whole in
+    let x = reception tx places in
+    let told = λ (list : List Reception) (of : IsRecordOf link list S).
+    all-taken c.parts_are_at.ensures c.places_have_one_owner.ensures c.accepted_are_matched.ensures link tx es places S S' P P'
+    inv.is_link inv.desk c.in_ok-lengths.ensures.said c.in_ok-lengths.ensures.whole many are list of in
+    let outcome = λ (list : List Reception) (of : IsRecordOf link list S).
+    outcome-of_record c.explains_by_record.ensures c.explained_is_delivered.ensures c.delivered_is_only.ensures link (list ++ x ∷ [])
+    (take s.stores.len (S' ++ drop (length S') S)) c.answer.result inv.is_link
+    (subst (λ (l : List Heardbits). IsRecordOf link (list ++ x ∷ []) l) (sym kept) (told list of)) c.answer.ensures.decided in
+    rw (← c.self.view_is)
+    (λ list y of whole explained e.
+    c.explained_never_contradicts.ensures link (list ++ x ∷ []) y whole explained (sym (outcome list of) ∙ e))

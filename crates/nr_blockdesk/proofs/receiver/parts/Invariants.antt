@@ -1,0 +1,18 @@
+-- A store and a peeler for each code block so far.
+use Rattle.std.proofs.Common.{◌≡◌, ◌≤◌, [], length, All}
+use Rattle.std.specs.Prelude.{vec_capacity}
+use Rattle.nr_harqbuf.specs.Positions.{positions_of}
+use Rattle.nr_harqbuf.specs.Record.{record_of}
+use Rattle.nr_peel.specs.Peeling.{IsStarted}
+use Rattle.nr_segment.specs.CodeBlock.{numbers}
+use Rattle.nr_blockdesk.proofs.receiver.parts.Given as goal
+
+abbrev pub invariant-loop : goal.invariant-loop
+invariant-loop l = record {
+  stores : length l.stores.items ≡ l.counter;
+  peelers : length l.peelers.items ≡ l.counter;
+  empty : All (λ s. s ≡ record_of (positions_of l.plan) []) l.stores.items;
+  started : All (IsStarted l.table l.plan.graph (numbers l.plan)) l.peelers.items;
+  room : l.plan.c ≤ vec_capacity l.stores;
+  room_too : l.plan.c ≤ vec_capacity l.peelers;
+}

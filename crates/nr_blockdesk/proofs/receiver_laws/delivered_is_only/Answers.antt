@@ -1,0 +1,5 @@
+use Rattle.nr_blockdesk.proofs.Outcomes.{delivered-only}
+use Rattle.nr_blockdesk.proofs.receiver_laws.delivered_is_only.Goals as goal
+
+pub returns : goal.returns
+returns c = delivered-only c.one_explains.ensures

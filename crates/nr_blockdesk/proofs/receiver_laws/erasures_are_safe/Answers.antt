@@ -1,0 +1,5 @@
+use Rattle.nr_blockdesk.proofs.Outcomes.{erasures-safe}
+use Rattle.nr_blockdesk.proofs.receiver_laws.erasures_are_safe.Goals as goal
+
+pub returns : goal.returns
+returns c = erasures-safe c.one_explains.ensures

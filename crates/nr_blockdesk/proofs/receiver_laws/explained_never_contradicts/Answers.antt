@@ -1,0 +1,5 @@
+use Rattle.nr_blockdesk.proofs.Outcomes.{never-contradicts}
+use Rattle.nr_blockdesk.proofs.receiver_laws.explained_never_contradicts.Goals as goal
+
+pub returns : goal.returns
+returns c = never-contradicts

@@ -1,0 +1,11 @@
+use Rattle.std.proofs.Common.{length, sym, ◌∙◌}
+use Rattle.nr_segment.specs.CodeBlock.{numbers}
+use Rattle.nr_blockdesk.specs.Link.{attached_length}
+use Rattle.nr_blockdesk.proofs.sender.Sender.plan.Goals as goal
+
+pub returns-clause-whole : goal.returns-clause-whole
+returns-clause-whole c =
+    let s = c.self.inside in
+    rw (← c.self.view_is)
+    (sym s.plan.sound.shared
+    ∙ (c.plans_are_sound.ensures s.plan.graph (attached_length (length s.block.items)) (numbers s.plan) c.self.invariant.is_link.planned).shared)

@@ -1,0 +1,41 @@
+use Rattle.std.proofs.Common.{◌≡◌, ◌*◌, Ok, Err, length, All, subst, refl, sym, ap, ◌∙◌}
+use Rattle.std.proofs.lemmas.Result.{err_from_is_err_and}
+use Rattle.nr_graphpick.specs.Graph.{cols_of}
+use Rattle.nr_ratematch.specs.Lengths.{IsShared}
+use Rattle.nr_blockdesk.specs.Link.{link_of}
+use Rattle.nr_blockdesk.specs.Sent.{tx_said, tx_said_of}
+use Rattle.nr_blockdesk.proofs.Links.{no-memory}
+use Rattle.nr_blockdesk.proofs.Sends.{length-words, sent-ok, tx-never_memory, words-long}
+use Rattle.nr_blockdesk.proofs.sender.Sender.send.Goals as goal
+
+pub returns-in_err-lengths-clause-judged : goal.returns-in_err-lengths-clause-judged
+returns-in_err-lengths-clause-judged c =
+    let p = err_from_is_err_and c.from_residual.result c.from_residual.ensures.1 in
+    no-memory (tx_said_of c.self.inside.plan.c c.args.tx.now) c.from_residual.result c.in_err-lengths.field-0.0 (p.1 ∙ ap Err p.2)
+    c.in_err-lengths.ensures.said (tx-never_memory c.self.inside.plan.c c.args.tx.now)
+
+pub send_words-requires-clause-long : goal.send_words-requires-clause-long
+send_words-requires-clause-long c =
+    let s = c.self.inside in
+    let link = link_of s.table.now s.plan (length s.block.items) s.buffer in
+    subst (All (λ w. length w ≡ cols_of link.buffer.graph * link.buffer.z))
+    (sym (c.deref.ensures.value ∙ c.self.invariant.encoded))
+    (words-long c.words_are_plain.ensures link s.block.items c.self.invariant.is_link refl)
+
+pub send_words-requires-clause-shared : goal.send_words-requires-clause-shared
+send_words-requires-clause-shared c =
+    let s = c.self.inside in
+    let link = link_of s.table.now s.plan (length s.block.items) s.buffer in
+    let count : length c.deref.result.now ≡ s.plan.c =
+    ap length (c.deref.ensures.value ∙ c.self.invariant.encoded) ∙ length-words link s.block.items in
+    subst (λ n. IsShared n c.args.tx.now.g c.args.tx.now.qm c.deref-2.result.now) (sym count)
+    (subst (IsShared s.plan.c c.args.tx.now.g c.args.tx.now.qm) (sym c.deref-2.ensures.0) c.in_ok-lengths.ensures.shared)
+
+pub returns-in-Ok-clause-said : goal.returns-in-Ok-clause-said
+returns-in-Ok-clause-said c =
+    let s = c.self.inside in
+    let link = link_of s.table.now s.plan (length s.block.items) s.buffer in
+    let said : tx_said link c.args.tx.now ≡ Ok c.deref-2.result.now = c.in_ok-lengths.ensures.said ∙ ap Ok (sym c.deref-2.ensures.0) in
+    let counted : length c.deref-2.result.now ≡ s.plan.c = ap length c.deref-2.ensures.0 ∙ c.in_ok-lengths.ensures.shared.counted in
+    rw (← c.self.view_is)
+    (sent-ok link c.args.tx.now s.block.items c.deref-2.result.now c.deref.result.now c.in-Ok.bits.items said counted (c.deref.ensures.value ∙ c.self.invariant.encoded) c.in-Ok.ensures)

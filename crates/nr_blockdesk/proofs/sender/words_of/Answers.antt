@@ -1,0 +1,58 @@
+use Rattle.std.proofs.Common.{◌≡◌, ℕ, Bool, List, [], ◌∷◌, ◌++◌, length, map, sym, ap, ◌∙◌, arith}
+use Rattle.std.specs.List.{range_with_len}
+use Rattle.std.proofs.lemmas.List.FromFn.{length-map-range_with_len, map-range_with_len_more}
+use Rattle.nr_crcattach.specs.Attachment.{attached}
+use Rattle.nr_ldpcenc.specs.Codeword.{codeword}
+use Rattle.nr_segment.specs.CodeBlock.{code_bits, numbers}
+use Rattle.nr_blockdesk.specs.Link.{word}
+use Rattle.nr_blockdesk.proofs.Links.{length-attached}
+use Rattle.nr_blockdesk.proofs.sender.words_of.Goals as goal
+
+pub cut-requires-clause-whole : goal.cut-requires-clause-whole
+cut-requires-clause-whole c =
+    ap length c.in_ok-bits.ensures
+    ∙ length-attached c.attachment_lengthens.ensures.long c.attachment_lengthens.ensures.short c.args.block.now.items
+    ∙ sym c.requires.whole
+
+pub encode-requires : goal.encode-requires
+encode-requires c =
+    let plan = c.args.plan.now in
+    let whole : length c.in_ok-bits.bits.items ≡ plan.b =
+    ap length c.in_ok-bits.ensures
+    ∙ length-attached c.attachment_lengthens.ensures.long c.attachment_lengthens.ensures.short c.args.block.now.items
+    ∙ sym c.requires.whole in
+    ap length c.in_ok-code.ensures
+    ∙ c.code_blocks_are_long.ensures.bits plan.graph plan.b (numbers plan) c.in_ok-bits.bits.items c.loop-r.r plan.planned whole
+    c.loop-r-test.true
+
+pub push_reserved-requires : goal.push_reserved-requires
+push_reserved-requires c =
+    let plan = c.args.plan.now in
+    let f : ℕ → List Bool = λ r. codeword c.args.table.now plan.graph (numbers plan) (code_bits (numbers plan) (attached c.args.block.now.items) r) in
+    let many = ap length c.loop-r.invariant.encoded ∙ length-map-range_with_len f 0 c.loop-r.r in
+    omega (arith, many, c.loop-r.invariant.room, c.loop-r-test.true, c.loop-r.words.ok.0)
+
+pub loop-r-preserved : goal.loop-r-preserved
+loop-r-preserved c =
+    let plan = c.args.plan.now in
+    let r = c.loop-r.r in
+    let f : ℕ → List Bool = λ r. codeword c.args.table.now plan.graph (numbers plan) (code_bits (numbers plan) (attached c.args.block.now.items) r) in
+    let one : c.in-Ok.word ≡ f r =
+    c.in-Ok.ensures.word
+    ∙ ap (codeword c.args.table.now plan.graph (numbers plan))
+    (c.in_ok-code.ensures ∙ ap (λ b. code_bits (numbers plan) b r) c.in_ok-bits.ensures) in
+    record {
+      encoded = c.push_reserved.ensures.items
+          ∙ ap (λ ws. ws ++ c.in-Ok.word ∷ []) c.loop-r.invariant.encoded
+          ∙ ap (λ w. map f (range_with_len 0 r) ++ w ∷ []) one
+          ∙ sym (map-range_with_len_more f 0 r r (omega arith));
+      room = omega (arith, c.loop-r.invariant.room, c.push_reserved.ensures.capacity);
+    }
+
+pub returns-clause-words : goal.returns-clause-words
+unfolding word
+returns-clause-words c = λ a buffer.
+    let plan = c.args.plan.now in
+    let f : ℕ → List Bool = λ r. codeword c.args.table.now plan.graph (numbers plan) (code_bits (numbers plan) (attached c.args.block.now.items) r) in
+    let all : c.loop-r.r ≡ plan.c = omega arith in
+    c.loop-r.invariant.encoded ∙ ap (λ n. map f (range_with_len 0 n)) all

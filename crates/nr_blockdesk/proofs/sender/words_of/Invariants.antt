@@ -1,0 +1,15 @@
+-- The codewords of the code blocks so far, and room for the others.
+use Rattle.std.proofs.Common.{◌≡◌, ◌≤◌, map}
+use Rattle.std.specs.List.{range_with_len}
+use Rattle.std.specs.Prelude.{vec_capacity}
+use Rattle.nr_crcattach.specs.Attachment.{attached}
+use Rattle.nr_ldpcenc.specs.Codeword.{codeword}
+use Rattle.nr_segment.specs.CodeBlock.{code_bits, numbers}
+use Rattle.nr_blockdesk.proofs.sender.words_of.Given as goal
+
+abbrev pub invariant-loop-r : goal.invariant-loop-r
+invariant-loop-r l = record {
+  encoded : l.words.items
+      ≡ map (λ r. codeword l.table l.plan.graph (numbers l.plan) (code_bits (numbers l.plan) (attached l.block.items) r)) (range_with_len 0 l.r);
+  room : l.plan.c ≤ vec_capacity l.words;
+}

@@ -1,0 +1,58 @@
+-- Which transport blocks explain all that arrived: those whose sent bits are every bit that was heard, of every
+-- transmission.
+use Rattle.std.specs.Prelude.{◌≡◌, ℕ, ◌==◌, Bool, true, not, Result, Ok, List, length, slice_index_or}
+use Rattle.std.specs.List.{list_all, range_with_len}
+use Rattle.nr_bitvec.specs.Bit.{bit}
+use Rattle.nr_graphpick.specs.Refusal.{◌>>=◌}
+use Rattle.nr_blockdesk.specs.Link.{Link, demanded}
+use Rattle.nr_blockdesk.specs.Sent.{sent, tx_said_of}
+use Rattle.nr_blockdesk.specs.declared.fault.DeskFault.{DeskFault}
+use Rattle.nr_blockdesk.specs.declared.fault.DeskFault.TheVariants as fault
+use Rattle.nr_blockdesk.specs.declared.heard.Heard.{Heard}
+use Rattle.nr_blockdesk.specs.declared.heard.Heard.TheVariants as heard
+use Rattle.nr_blockdesk.specs.declared.tx.Tx.{Tx}
+
+-- a transmission, and what was heard of it, place by place
+pub record Reception : Type 0 where
+  pub tx : Tx
+  pub heard : List Heard
+
+-- the same from its two parts
+abbrev pub reception : Tx → List Heard → Reception
+reception tx places = record { tx = tx; heard = places }
+
+-- what was heard at a place
+abbrev pub heard_at : List Heard → ℕ → Heard
+heard_at places m = slice_index_or places m heard.Erased
+
+-- what was heard at a place is the bit sent there; an erased place asks nothing
+abbrev pub agrees : Heard → Bool → Bool
+agrees heard.Zero b = not b
+agrees heard.One b = b
+agrees heard.Erased b = true
+
+-- the same at every place
+abbrev pub all_agree : List Heard → List Bool → Bool
+all_agree places bits = list_all (λ m. agrees (heard_at places m) (bit bits m)) (range_with_len 0 (length places))
+
+-- a transport block explains all that arrived
+unfoldable pub explains : Link → List Reception → List Bool → Bool
+explains link list block = list_all (λ x. all_agree x.heard (sent link x.tx block)) list
+
+abbrev pub Explains : Link → List Reception → List Bool → Type 0
+Explains link list block = explains link list block ≡ true
+
+-- E_r of each code block of a reception, or its first fault: as many places are heard as are sent
+abbrev pub reception_said_of : ℕ → Reception → Result (List ℕ) DeskFault
+reception_said_of c x = do
+  lengths ← tx_said_of c x.tx
+  whole ← demanded fault.Length (length x.heard == x.tx.g)
+  Ok lengths
+
+-- the same over a link
+abbrev pub reception_said : Link → Reception → Result (List ℕ) DeskFault
+reception_said link x = reception_said_of link.plan.c x
+
+-- a reception that a receiver takes
+abbrev pub IsAccepted : Link → Reception → Type 0
+IsAccepted link x = (lengths : List ℕ) × (reception_said link x ≡ Ok lengths)

@@ -1,0 +1,87 @@
+-- What both ends of a link agree on, and the words of a transport block (TS 38.212, 6.2.1 to 6.2.4 and 7.2.1 to 7.2.4).
+use Rattle.std.specs.Prelude.{◌≡◌, ℕ, ◌+◌, ◌%◌, ◌<◌, ◌==◌, Bool, true, false, nat_lt, nat_le, ◌&&◌, if◌then◌else◌, Result, Ok, Err, List, length, map}
+use Rattle.std.specs.List.{range_with_len}
+use Rattle.nr_crcattach.specs.Attachment.{attached}
+use Rattle.nr_graphpick.specs.declared.Graph.{Graph}
+use Rattle.nr_graphpick.specs.Graph.{picked}
+use Rattle.nr_graphpick.specs.Refusal.{◌>>=◌, with_fault}
+use Rattle.nr_ldpcenc.specs.Codeword.{IsCodeword, codeword}
+use Rattle.nr_ratematch.specs.Selection.{Circular, IsCircular, buffer_said}
+use Rattle.nr_segment.specs.CodeBlock.{code_bits, numbers}
+use Rattle.nr_segment.specs.Plan.{Numbers, plan_of}
+use Rattle.nr_segment.specs.declared.numbers.Plan.{Plan}
+use Rattle.nr_shifttable.specs.Accepted.{Entries, has_graph, IsTable}
+use Rattle.nr_blockdesk.specs.declared.fault.DeskFault.{DeskFault}
+use Rattle.nr_blockdesk.specs.declared.fault.DeskFault.TheVariants as fault
+use Rattle.nr_blockdesk.specs.declared.settings.Settings.{Settings}
+
+-- a transport block has whole octets, 8 to 1,310,720 bits of them
+abbrev pub is_size : ℕ → Bool
+is_size a = (a % 8 == 0) && (nat_le 8 a && nat_le a 1310720)
+
+-- how many bits a transport block of a bits has with its CRC (6.2.1 and 7.2.1)
+abbrev pub attached_length : ℕ → ℕ
+attached_length a = if nat_lt 3824 a then a + 24 else a + 16
+
+-- a test, and this fault where it fails
+abbrev pub demanded : {E : Type 0} → E → Bool → Result (Unit {0}) E
+demanded e true = Ok tt
+demanded e false = Err e
+
+-- what both ends of a link agree on: the shift table, the base graph, the plan's numbers, A (how many bits a transport
+-- block has), and the circular buffer of each code block
+pub record Link : Type 0 where
+  pub table : Entries
+  pub graph : Graph
+  pub plan : Numbers
+  pub a : ℕ
+  pub buffer : Circular
+
+-- the link for transport blocks of a bits, or the first fault
+unfoldable pub link_said : Entries → Settings → ℕ → Result Link DeskFault
+link_said table settings a = do
+  whole ← demanded fault.Size (is_size a)
+  graph ← with_fault fault.Pick (picked a settings.rate2048)
+  plan ← with_fault fault.Seg (plan_of graph (attached_length a))
+  there ← demanded fault.Graph (has_graph graph table)
+  buffer ← with_fault fault.Rm (buffer_said graph plan settings.lbrm)
+  Ok (record { table = table; graph = graph; plan = plan; a = a; buffer = buffer })
+
+-- the link of a table, a plan for transport blocks of a bits, and a buffer
+abbrev pub link_of : Entries → Plan → ℕ → Circular → Link
+link_of table p a buffer = record { table = table; graph = p.graph; plan = numbers p; a = a; buffer = buffer }
+
+-- what every link of a table keeps to
+pub record IsLink (link : Link) : Type 0 where
+  pub size : is_size link.a ≡ true
+  pub table : IsTable link.table
+  pub there : has_graph link.graph link.table ≡ true
+  pub planned : plan_of link.graph (attached_length link.a) ≡ Ok link.plan
+  pub circular : IsCircular link.buffer
+  pub buffered : link.buffer ≡ record { graph = link.graph; z = link.plan.z; kdash = link.plan.kdash; k = link.plan.k; ncb = link.buffer.ncb }
+
+-- a transport block of the link's size
+abbrev pub IsBlock : Link → List Bool → Type 0
+IsBlock link block = length block ≡ link.a
+
+-- the K' bits of code block r of a transport block (5.2.2)
+abbrev pub code_block : Link → List Bool → ℕ → List Bool
+code_block link block r = code_bits link.plan (attached block) r
+
+-- the codeword of code block r of a transport block (5.3.2)
+unfoldable pub word : Link → List Bool → ℕ → List Bool
+word link block r = codeword link.table link.graph link.plan (code_block link block r)
+
+-- the codewords of a transport block
+abbrev pub words_of : Link → List Bool → List (List Bool)
+words_of link block = map (word link block) (range_with_len 0 link.plan.c)
+
+-- the codewords of a transport block are plain: each begins with its code block, has zeros for the fillers and meets
+-- every row (5.3.2)
+abbrev pub WordsArePlain : Type 0
+WordsArePlain = (link : Link) (block : List Bool) (r : ℕ) → IsLink link → IsBlock link block → r < link.plan.c
+    → IsCodeword link.table link.graph link.plan (code_block link block r) (word link block r)
+
+-- the link of every table is sound
+abbrev pub LinksAreSound : Type 0
+LinksAreSound = (table : Entries) (settings : Settings) (a : ℕ) (link : Link) → IsTable table → link_said table settings a ≡ Ok link → IsLink link

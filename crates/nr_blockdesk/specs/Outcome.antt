@@ -1,0 +1,55 @@
+-- What a receiver may hand up after a list of receptions.
+use Rattle.std.specs.Prelude.{◌≡◌, ℕ, ◌<◌, ◌==◌, ◌||◌, zero, suc, Bool, true, false, not, if◌then◌else◌, List, [], ◌∷◌, flat_map, find, count_by, Option, Some, None}
+use Rattle.std.specs.List.{list_all, range_with_len}
+use Rattle.nr_bitvec.specs.Bit.{bit}
+use Rattle.nr_harqbuf.specs.Record.{Heardbits, HasFirsts, first_at, is_heard}
+use Rattle.nr_ldpcenc.specs.Codeword.{filler}
+use Rattle.nr_ldpcenc.specs.Rows.{block_checks}
+use Rattle.nr_peel.specs.Closure.{closure}
+use Rattle.nr_blockdesk.specs.Explains.{Reception, explains}
+use Rattle.nr_blockdesk.specs.Heard.{heard_of, heard_record}
+use Rattle.nr_blockdesk.specs.Link.{Link, word}
+
+-- the positions of a code block that were heard, and its fillers
+abbrev pub given : Link → Heardbits → ℕ → Bool
+given link s p = is_heard (first_at s p) || filler link.plan.kdash link.plan.k p
+
+-- the positions that the parity rows fix from them, applied one unknown at a time
+abbrev pub fixed : Link → Heardbits → ℕ → Bool
+fixed link s = closure (block_checks link.table link.graph link.plan) (given link s)
+
+-- how many positions below K' of code block r aren't fixed
+abbrev pub left : Link → List Heardbits → ℕ → ℕ
+left link records r = count_by (λ p. not (fixed link (heard_of records r) p)) (range_with_len 0 link.plan.kdash)
+
+-- in no code block is one left
+abbrev pub all_fixed : Link → List Heardbits → Bool
+all_fixed link records = list_all (λ r. left link records r == 0) (range_with_len 0 link.plan.c)
+
+-- a transport block's codewords have every first bit of a record in which no position has both bits
+abbrev pub ExplainedBy : Link → List Heardbits → List Bool → Type 0
+ExplainedBy link records block =
+    (r : ℕ) → r < link.plan.c → ((heard_of records r).clash ≡ false) × HasFirsts (heard_of records r) (bit (word link block r))
+
+-- every list of n bits
+abbrev pub blocks_of : ℕ → List (List Bool)
+blocks_of zero = [] ∷ []
+blocks_of (suc n) = flat_map (λ bits. (false ∷ bits) ∷ (true ∷ bits) ∷ []) (blocks_of n)
+
+-- what a receiver hands up: a transport block; that bits are still left; that no transport block explains all
+pub data Verdict : Type 0 where
+  delivered : List Bool → Verdict
+  open_still : Verdict
+  contradiction : Verdict
+
+-- the block that was found, if one was
+abbrev pub verdict_on : Option (List Bool) → Verdict
+verdict_on (Some block) = delivered block
+verdict_on None = contradiction
+
+-- the outcome of a list of receptions: open where some code block has a position below K' that isn't fixed; else the
+-- transport block that explains all that arrived, and a contradiction where none does
+unfoldable pub outcome_of : Link → List Reception → Verdict
+outcome_of link list =
+    if all_fixed link (heard_record link list) then verdict_on (find (explains link list) (blocks_of link.a))
+    else open_still

@@ -1,0 +1,75 @@
+-- What is true of receptions and their outcome, whoever receives.
+use Rattle.std.specs.Prelude.{◌≡◌, ◌≢◌, ◌↔◌, ℕ, ◌<◌, Bool, true, false, List, [], map, All, zip}
+use Rattle.nr_bitvec.specs.Bit.{bit}
+use Rattle.nr_peel.specs.Closure.{AgreeOn}
+use Rattle.nr_blockdesk.specs.Explains.{Explains, IsAccepted, Reception, reception}
+use Rattle.nr_blockdesk.specs.Heard.{heard_of, heard_record}
+use Rattle.nr_blockdesk.specs.Link.{IsBlock, IsLink, Link, word}
+use Rattle.nr_blockdesk.specs.Outcome.{ExplainedBy, all_fixed, contradiction, delivered, fixed, open_still, outcome_of}
+use Rattle.nr_blockdesk.specs.Sent.{sent}
+use Rattle.nr_blockdesk.specs.declared.heard.Heard.{Heard}
+use Rattle.nr_blockdesk.specs.declared.heard.Heard.TheVariants as heard
+use Rattle.nr_blockdesk.specs.declared.tx.Tx.{Tx}
+
+-- which transport blocks explain all that arrived can be read off the record
+abbrev pub ExplainsByRecord : Type 0
+ExplainsByRecord = (link : Link) (list : List Reception) (block : List Bool) → IsLink link → All (IsAccepted link) list
+    → IsBlock link block → Explains link list block ↔ ExplainedBy link (heard_record link list) block
+
+-- two transport blocks that explain all that arrived have the same bits wherever a position is fixed
+abbrev pub ExplainersAgree : Type 0
+ExplainersAgree = (link : Link) (list : List Reception) (x y : List Bool) (r : ℕ) → IsLink link
+    → All (IsAccepted link) list → IsBlock link x → IsBlock link y → Explains link list x → Explains link list y
+    → r < link.plan.c
+    → AgreeOn (fixed link (heard_of (heard_record link list) r)) (bit (word link x r)) (bit (word link y r))
+
+-- where every position below K' is fixed, at most one transport block explains all that arrived
+abbrev pub OneExplains : Type 0
+OneExplains = (link : Link) (list : List Reception) (x y : List Bool) → IsLink link → All (IsAccepted link) list
+    → IsBlock link x → IsBlock link y → Explains link list x → Explains link list y
+    → all_fixed link (heard_record link list) ≡ true → x ≡ y
+
+-- what is delivered is a transport block that explains all that arrived, and the only one
+pub record IsOnlyExplainer (link : Link) (list : List Reception) (x : List Bool) : Type 0 where
+  pub is_block : IsBlock link x
+  pub explains : Explains link list x
+  pub only : (y : List Bool) → IsBlock link y → Explains link list y → y ≡ x
+
+abbrev pub DeliveredIsOnly : Type 0
+DeliveredIsOnly = (link : Link) (list : List Reception) (x : List Bool) → IsLink link → All (IsAccepted link) list
+    → outcome_of link list ≡ delivered x → IsOnlyExplainer link list x
+
+-- where every position below K' is fixed and a transport block explains all that arrived, it is delivered
+abbrev pub ExplainedIsDelivered : Type 0
+ExplainedIsDelivered = (link : Link) (list : List Reception) (y : List Bool) → IsLink link → All (IsAccepted link) list
+    → IsBlock link y → Explains link list y → all_fixed link (heard_record link list) ≡ true
+    → outcome_of link list ≡ delivered y
+
+-- where a transport block explains all that arrived, the outcome is no contradiction
+abbrev pub ExplainedNeverContradicts : Type 0
+ExplainedNeverContradicts = (link : Link) (list : List Reception) (y : List Bool)
+    → IsBlock link y → Explains link list y → outcome_of link list ≢ contradiction
+
+-- what arrives of a bit over a link that erases: the bit, or nothing where the place is marked
+abbrev pub arrived_bit : Bool → Bool → Heard
+arrived_bit true b = heard.Erased
+arrived_bit false true = heard.One
+arrived_bit false false = heard.Zero
+
+-- what arrives of a transport block's transmissions, each with the marks of its erased places
+abbrev pub arrived : Link → List Bool → List (Tx × List Bool) → List Reception
+arrived link block txs =
+    map (λ x. reception x.0 (map (λ at. arrived_bit at.0 at.1) (zip x.1 (sent link x.0 block)))) txs
+
+-- over erasures alone the outcome is no contradiction, and what is delivered is the transport block sent
+pub record IsSafeOverErasures (link : Link) (block : List Bool) (txs : List (Tx × List Bool)) : Type 0 where
+  pub no_contradiction : outcome_of link (arrived link block txs) ≢ contradiction
+  pub sent_one : (x : List Bool) → outcome_of link (arrived link block txs) ≡ delivered x → x ≡ block
+
+abbrev pub ErasuresAreSafe : Type 0
+ErasuresAreSafe = (link : Link) (block : List Bool) (txs : List (Tx × List Bool)) → IsLink link → IsBlock link block
+    → All (IsAccepted link) (arrived link block txs) → IsSafeOverErasures link block txs
+
+-- with nothing received the outcome is open
+abbrev pub NothingIsOpen : Type 0
+NothingIsOpen = (link : Link) → IsLink link → outcome_of link [] ≡ open_still

@@ -1,0 +1,122 @@
+-- What a receiver keeps, and what its steps make of it.
+use Rattle.std.specs.Prelude.{◌≡◌, ◌⊎◌, ℕ, ◌+◌, ◌/◌, ◌%◌, ◌<◌, ◌≤◌, Bool, true, false, Option, option_map, unwrap_or, Result, Ok, Err, IsOk, List, [], ◌++◌, length, take, drop, sum, slice_index, slice_index_or}
+use Rattle.std.specs.List.{filter_map, range_with_len}
+use Rattle.nr_bitvec.specs.Bit.{bit}
+use Rattle.nr_bitvec.specs.BitList.{BitList}
+use Rattle.nr_harqbuf.specs.Record.{Hearing, Heardbits, HasFirsts, record_of}
+use Rattle.nr_interleave.specs.Interleaving.{seat_of}
+use Rattle.nr_ldpcenc.specs.Codeword.{IsPlain}
+use Rattle.nr_ldpcenc.specs.Rows.{word_size}
+use Rattle.nr_peel.specs.Peeling.{AgreesWith, IsPeeled, Peeling, checks_for, known_at}
+use Rattle.nr_ratematch.specs.Selection.{Circular, place_of}
+use Rattle.nr_segment.specs.CodeBlock.{share}
+use Rattle.nr_segment.specs.Plan.{Numbers}
+use Rattle.nr_blockdesk.specs.Explains.{heard_at}
+use Rattle.nr_blockdesk.specs.Heard.{heard_of}
+use Rattle.nr_blockdesk.specs.Hearing.{heard_bit}
+use Rattle.nr_blockdesk.specs.Link.{IsBlock, IsLink, Link, attached_length}
+use Rattle.nr_blockdesk.specs.Outcome.{ExplainedBy, Verdict, all_fixed, contradiction, delivered, given, open_still}
+use Rattle.nr_blockdesk.specs.declared.heard.Heard.{Heard}
+use Rattle.nr_blockdesk.specs.declared.outcome.Outcome.{Outcome}
+use Rattle.nr_blockdesk.specs.declared.outcome.Outcome.TheVariants as outcome
+use Rattle.nr_blockdesk.specs.declared.tx.Tx.{Tx}
+
+-- what contracts see of a `Receiver`: the link, and the record of each code block
+pub record Receiving : Type 0 where
+  pub link : Link
+  pub heard : List Heardbits
+
+-- an outcome, as a verdict
+abbrev pub verdict : Outcome → Verdict
+verdict (outcome.Delivered block) = delivered block.items
+verdict outcome.Open = open_still
+verdict outcome.Contradiction = contradiction
+
+-- A call is refused with what is said of its input, unless memory ran out. The first argument is the fault that tells so.
+abbrev pub RefusesAs : {X Y E : Type 0} → E → Result X E → Result Y E → Type 0
+RefusesAs memory (Ok x) said = IsOk said
+RefusesAs memory (Err e) said = (e ≡ memory) ⊎ (said ≡ Err e)
+
+-- what place m of a code block's part of a transmission tells: the position in the codeword, and the bit heard
+abbrev pub part_hearing : Circular → Tx → List Heard → ℕ → Option Hearing
+part_hearing b tx heard m =
+    option_map (λ v. (place_of b tx.rv (seat_of tx.qm (length heard) m), v)) (heard_bit (heard_at heard m))
+
+-- what the first n places tell
+abbrev pub part_hearings : Circular → Tx → List Heard → ℕ → List Hearing
+part_hearings b tx heard n = filter_map (part_hearing b tx heard) (range_with_len 0 n)
+
+-- the places of code block r among all
+abbrev pub piece : List ℕ → List Heard → ℕ → List Heard
+piece lengths heard r = take (slice_index lengths r) (drop (sum (take r lengths)) heard)
+
+-- A code block's store and its peeler: what is given to the peeler is what was heard, and the fillers, and each plain
+-- word with every first bit has the bits that are known.
+pub record IsTied (link : Link) (s : Heardbits) (p : Peeling) : Type 0 where
+  pub table : p.table ≡ link.table
+  pub graph : p.graph ≡ link.graph
+  pub numbers : p.numbers ≡ link.plan
+  pub long : length s.first ≡ word_size link.graph link.plan
+  pub positions : (k : ℕ) → bit p.given k ≡ given link s k
+  pub words : (w : ℕ → Bool) → IsPlain link.table link.graph link.plan w → HasFirsts s w → AgreesWith p w
+  pub peeled : IsPeeled p
+
+-- a code block's store and its peeler have n positions
+pub record IsSized (n : ℕ) (s : Heardbits) (p : Peeling) : Type 0 where
+  pub stored : length s.first ≡ n
+  pub peeled : (checks_for p).size ≡ n
+
+-- the peeler of code block r
+abbrev pub peeling_of : Link → List Peeling → ℕ → Peeling
+peeling_of link peelers r = slice_index_or peelers r (record {
+  table = link.table;
+  graph = link.graph;
+  numbers = link.plan;
+  given = [];
+  known = [];
+  bits = [];
+  order = [];
+  touches = 0;
+})
+
+-- a store and a peeler of each code block
+pub record IsDesk (link : Link) (records : List Heardbits) (peelers : List Peeling) : Type 0 where
+  pub stores : length records ≡ link.plan.c
+  pub peelings : length peelers ≡ link.plan.c
+  pub tied : (r : ℕ) → r < link.plan.c → IsTied link (heard_of records r) (peeling_of link peelers r)
+
+-- what a receiver keeps: these, with room for a transport block with its CRC, b bits, and for a codeword
+pub record IsReceiver (link : Link) (b : ℕ) (records : List Heardbits) (peelers : List Peeling) (block : BitList) (codeword : List Bool) : Type 0 where
+  pub is_link : IsLink link
+  pub whole : b ≡ attached_length link.a
+  pub desk : IsDesk link records peelers
+  pub room : b ≤ length block.items + block.room
+  pub long : length codeword ≡ word_size link.graph link.plan
+
+-- a code block's part of a transmission was heard: the record is that of the longer list, and store and peeler belong
+-- together again
+pub record HearsPart (b : Circular) (tx : Tx) (heard : List Heard) (s : Heardbits) (p : Peeling) (t : Heardbits) (q : Peeling) : Type 0 where
+  pub recorded : (hs : List Hearing) → s ≡ record_of (length s.first) hs
+      → t ≡ record_of (length s.first) (hs ++ part_hearings b tx heard (length heard))
+  pub tied : (link : Link) → IsTied link s p → IsTied link t q
+
+-- the bit of a position, and zero where it isn't known
+abbrev pub known_bit : Peeling → ℕ → Bool
+known_bit p k = unwrap_or (known_at p k) false
+
+-- bit i of a list is the one known of the code block that has it
+abbrev pub IsRead : Numbers → List Peeling → List Bool → ℕ → Type 0
+IsRead p peelers bits i =
+    (d : Peeling) → bit bits i ≡ known_bit (slice_index_or peelers (i / share p) d) (i % share p)
+
+-- a word has every first bit of a record in which no position has both bits
+abbrev pub Fits : Heardbits → (ℕ → Bool) → Type 0
+Fits s w = (s.clash ≡ false) × HasFirsts s w
+
+-- an outcome is the one that a record decides
+abbrev pub IsDecided : Link → List Heardbits → Outcome → Type 0
+IsDecided link records outcome.Open = all_fixed link records ≡ false
+IsDecided link records (outcome.Delivered block) =
+    (all_fixed link records ≡ true) × (IsBlock link block.items) × ExplainedBy link records block.items
+IsDecided link records outcome.Contradiction =
+    (all_fixed link records ≡ true) × ((y : List Bool) → IsBlock link y → ExplainedBy link records y → ⊥)

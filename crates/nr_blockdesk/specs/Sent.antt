@@ -1,0 +1,123 @@
+-- The bits that are sent of a transport block (TS 38.212, 5.4.2 and 5.5), and whose bit stands at each place of them.
+use Rattle.std.specs.Prelude.{◌≡◌, ℕ, ◌%◌, ◌<◌, Bool, nat_le, Result, Ok, Err, IsOk, List, [], length, flat_map, All, sum, slice_index}
+use Rattle.std.specs.List.{range_with_len}
+use Rattle.nr_bitvec.specs.Bit.{bit}
+use Rattle.nr_cbconcat.specs.Concatenation.{IsOwner, owner_of}
+use Rattle.nr_graphpick.specs.Refusal.{◌>>=◌, with_fault}
+use Rattle.nr_interleave.specs.Interleaving.{interleaved, seat_of}
+use Rattle.nr_ratematch.specs.Lengths.{IsShared, lengths_said, scheduled}
+use Rattle.nr_ratematch.specs.Selection.{Circular, IsCircular, IsSent, place_of, selected}
+use Rattle.nr_shifttable.specs.Accepted.{Entries}
+use Rattle.nr_blockdesk.specs.Link.{Link, IsLink, demanded, link_said, word, words_of}
+use Rattle.nr_blockdesk.specs.declared.fault.DeskFault.{DeskFault}
+use Rattle.nr_blockdesk.specs.declared.fault.DeskFault.TheVariants as fault
+use Rattle.nr_blockdesk.specs.declared.settings.Settings.{Settings}
+use Rattle.nr_blockdesk.specs.declared.tx.Tx.{Tx}
+
+-- E_r, how many bits of each of c code blocks a transmission sends, or its first fault
+unfoldable pub tx_said_of : ℕ → Tx → Result (List ℕ) DeskFault
+tx_said_of c tx = do
+  version ← demanded fault.Rv (nat_le tx.rv 3)
+  with_fault fault.Rm (lengths_said (scheduled tx.mask) c tx.g tx.qm tx.nl)
+
+-- the same over a link
+abbrev pub tx_said : Link → Tx → Result (List ℕ) DeskFault
+tx_said link tx = tx_said_of link.plan.c tx
+
+-- how a transmission matches its rate: the buffer, the redundancy version, Qm, and E_r of each code block
+pub record Matching : Type 0 where
+  pub buffer : Circular
+  pub rv : ℕ
+  pub qm : ℕ
+  pub lengths : List ℕ
+
+-- the lengths that are answered, and none where there is a fault
+abbrev pub answered : Result (List ℕ) DeskFault → List ℕ
+answered (Ok lengths) = lengths
+answered (Err e) = []
+
+-- the same of a transmission, for these lengths
+abbrev pub matching_of : Circular → Tx → List ℕ → Matching
+matching_of buffer tx lengths = record { buffer = buffer; rv = tx.rv; qm = tx.qm; lengths = lengths }
+
+-- the same of a transmission over a link
+abbrev pub matching : Link → Tx → Matching
+matching link tx = matching_of link.buffer tx (answered (tx_said link tx))
+
+-- f of one code block: e bits of its codeword, selected and interleaved (5.4.2.1 and 5.4.2.2)
+abbrev pub block_sent : Matching → List Bool → ℕ → List Bool
+block_sent t codeword e = interleaved t.qm (selected t.buffer codeword t.rv e)
+
+-- the bits sent: f of each code block, one after the other (5.5), where `words r` is the codeword of code block r
+unfoldable pub sent_of : Matching → (ℕ → List Bool) → List Bool
+sent_of t words = flat_map (λ r. block_sent t (words r) (slice_index t.lengths r)) (range_with_len 0 (length t.lengths))
+
+-- the bits sent of a transport block
+unfoldable pub sent : Link → Tx → List Bool → List Bool
+sent link tx block = sent_of (matching link tx) (word link block)
+
+-- the bits sent of a transport block, or the transmission's first fault
+abbrev pub sent_said : Link → Tx → List Bool → Result (List Bool) DeskFault
+sent_said link tx block = tx_said link tx >>= λ lengths. Ok (sent link tx block)
+
+-- what contracts see of a `Sender`: the link, and the transport block
+pub record Sending : Type 0 where
+  pub link : Link
+  pub block : List Bool
+
+-- the sender of a transport block, or the first fault
+abbrev pub sending_said : Entries → Settings → List Bool → Result Sending DeskFault
+sending_said table settings block = link_said table settings (length block) >>= λ link. Ok (record { link = link; block = block })
+
+-- what a sender keeps: the codewords of its transport block
+pub record IsSender (link : Link) (block : List Bool) (words : List (List Bool)) : Type 0 where
+  pub is_link : IsLink link
+  pub encoded : words ≡ words_of link block
+
+-- the code block of place m of the sent bits
+abbrev pub block_at : Matching → ℕ → ℕ
+block_at t m = (owner_of t.lengths m).0
+
+-- the position of that bit in the code block's codeword
+unfoldable pub position_at : Matching → ℕ → ℕ
+position_at t m = place_of t.buffer t.rv (seat_of t.qm (slice_index t.lengths (block_at t m)) (owner_of t.lengths m).1)
+
+-- what an accepted transmission's matching keeps to
+pub record IsMatching (t : Matching) : Type 0 where
+  pub circular : IsCircular t.buffer
+  pub version : t.rv < 4
+  pub order_some : 0 < t.qm
+  pub whole : All (λ e. e % t.qm ≡ 0) t.lengths
+
+-- an accepted transmission: these are its lengths, which share out its G bits, and its matching is sound
+pub record IsMatched (link : Link) (tx : Tx) (lengths : List ℕ) : Type 0 where
+  pub same : (matching link tx).lengths ≡ lengths
+  pub matched : IsMatching (matching link tx)
+  pub shared : IsShared link.plan.c tx.g tx.qm lengths
+
+-- every accepted transmission over a sound link is so
+abbrev pub AcceptedAreMatched : Type 0
+AcceptedAreMatched = (link : Link) (tx : Tx) (lengths : List ℕ) → IsLink link → tx_said link tx ≡ Ok lengths → IsMatched link tx lengths
+
+-- as many bits are sent as the lengths say
+abbrev pub SentIsLong : Type 0
+SentIsLong = (t : Matching) (words : ℕ → List Bool) → length (sent_of t words) ≡ sum t.lengths
+
+-- an accepted transmission sends G bits
+abbrev pub AcceptedSendAll : Type 0
+AcceptedSendAll = (link : Link) (tx : Tx) (block : List Bool) → IsOk (tx_said link tx) → length (sent link tx block) ≡ tx.g
+
+-- place m of the sent bits is a position of a code block that can be sent, and has its codeword's bit
+pub record IsBitAt (t : Matching) (m : ℕ) : Type 0 where
+  pub block : block_at t m < length t.lengths
+  pub position : IsSent t.buffer (position_at t m)
+  pub value : (words : ℕ → List Bool) → bit (sent_of t words) m ≡ bit (words (block_at t m)) (position_at t m)
+
+-- every place of the sent bits is so
+abbrev pub SentBitsAreAt : Type 0
+SentBitsAreAt = (t : Matching) (m : ℕ) → IsMatching t → m < sum t.lengths → IsBitAt t m
+
+-- the same by code blocks: what stands at place p of code block r's part of the sent bits
+abbrev pub PartsAreAt : Type 0
+PartsAreAt = (t : Matching) (m r p : ℕ) → IsOwner t.lengths m r p
+    → (block_at t m ≡ r) × (position_at t m ≡ place_of t.buffer t.rv (seat_of t.qm (slice_index t.lengths r) p))

@@ -1,0 +1,134 @@
+//! Encoding a transport block again, in memory that is there, and comparing it with what was heard.
+
+ghost use Rattle.std.specs.Prelude.{◌≡◌, ℕ, true, false, ◌+◌, ◌^◌, ◌<◌, ◌≤◌, IsTrue, length};
+ghost use Rattle.nr_bitvec.specs.Bit.{bit};
+ghost use Rattle.nr_crcattach.specs.Attachment.{attached};
+ghost use Rattle.nr_crcattach.specs.Crc.{crc_of};
+ghost use Rattle.nr_crcattach.specs.declared.Poly.TheVariants.{B24};
+ghost use Rattle.nr_harqbuf.specs.Record.{Heardbits};
+ghost use Rattle.nr_ldpcenc.specs.Codeword.{codeword};
+ghost use Rattle.nr_ldpcenc.specs.Rows.{word_size};
+ghost use Rattle.nr_segment.specs.CodeBlock.{code_bits, code_block, numbers, shared_bits};
+ghost use Rattle.nr_shifttable.specs.Accepted.{has_graph};
+ghost use Rattle.nr_blockdesk.specs.Heard.{heard_of};
+ghost use Rattle.nr_blockdesk.specs.Receiving.{Fits};
+
+use nr_bitvec::Bits;
+use nr_crcattach::{Poly, attachment_lengthens, crc, crc_range};
+use nr_harqbuf::Store;
+use nr_ldpcenc::{Word, fill};
+use nr_segment::{Plan, code_blocks_are_long, part};
+use nr_shifttable::Table;
+
+// The most bits of a transport block whose CRC has 16 bits, and not 24 (TS 38.212, 6.2.1 and 7.2.1).
+const MOST_WITH_CRC16: usize = 3824;
+
+// Puts a transport block with its CRC into a list that has the room.
+pub(crate) fn attach_in_room(block: &Bits, list: &mut Bits)
+    requires room { length (attached block.now.items) ≤ length list.old.items + list.old.room }
+    ensures items { list.new.items ≡ attached block.now.items }
+    ensures room { length list.old.items + list.old.room
+        ≤ length list.new.items + list.new.room }
+{
+    attachment_lengthens();
+    let (poly, count) = if block.len() > MOST_WITH_CRC16 {
+        (Poly::A24, 24_u32)
+    } else {
+        (Poly::C16, 16_u32)
+    };
+    let check = crc(poly, block);
+    list.clear();
+    for i in 0..block.len() {
+        list.push_in_room(block.get(i));
+    }
+    for place in (0..count).rev() {
+        list.push_in_room(check >> place & 1 == 1);
+    }
+}
+
+// Bit `k` of code block `r` with its fillers, where `check` is the CRC24B of its bits of the transport block.
+fn code_bit(plan: &Plan, list: &Bits, r: u32, check: u32, k: u32) -> bool
+    requires whole { length list.now.items ≡ plan.now.b }
+    requires block { r < plan.now.c }
+    requires inside { k < plan.now.k }
+    requires check { check ≡ crc_of B24 (shared_bits (numbers plan.now) list.now.items r) }
+    ensures { result ≡ bit (code_block (numbers plan.now) list.now.items r) k }
+{
+    code_blocks_are_long();
+    if k < plan.kdash - plan.l {
+        list.get(part(plan, r, k) as usize)
+    } else if k < plan.kdash {
+        check >> (plan.kdash - 1 - k) & 1 == 1
+    } else {
+        false
+    }
+}
+
+// Encodes code block `r` of a transport block with its CRC.
+fn encode_in(table: &Table, plan: &Plan, list: &Bits, r: u32, word: &mut Word)
+    requires graph { IsTrue (has_graph plan.now.graph table.now) }
+    requires whole { length list.now.items ≡ plan.now.b }
+    requires block { r < plan.now.c }
+    requires long { length word.old ≡ word_size plan.now.graph (numbers plan.now) }
+    ensures encoded { word.new ≡ codeword table.now plan.now.graph (numbers plan.now)
+        (code_bits (numbers plan.now) list.now.items r) }
+    ensures long { length word.new ≡ word_size plan.now.graph (numbers plan.now) }
+{
+    code_blocks_are_long();
+    let share = plan.kdash - plan.l;
+    let check = crc_range(Poly::B24, list, part(plan, r, 0) as usize, share as usize);
+    for k in 0..plan.k {
+        word.set(k as usize, code_bit(plan, list, r, check, k));
+    }
+    fill(table, plan, word);
+}
+
+// Whether a word has every first bit that was heard, and no position was heard with both bits.
+fn agrees(store: &Store, word: &Word) -> bool
+    requires { length store.now.first ≡ length word.now }
+    ensures fits { result ≡ true → Fits store.now (bit word.now) }
+    ensures misfits { result ≡ false → Fits store.now (bit word.now) → ⊥ }
+{
+    if store.clash() {
+        return false;
+    }
+    for pos in 0..store.positions() {
+        if let Some(bit) = store.heard(pos) {
+            if word.get(pos as usize) != bit {
+                return false;
+            }
+        }
+    }
+    true
+}
+
+// Whether the codewords of a transport block with its CRC have every first bit, and no position was heard with both.
+pub(crate) fn explains(
+    table: &Table,
+    plan: &Plan,
+    stores: &[Store],
+    list: &Bits,
+    word: &mut Word,
+) -> bool
+    requires graph { IsTrue (has_graph plan.now.graph table.now) }
+    requires whole { length list.now.items ≡ plan.now.b }
+    requires long { length word.old ≡ word_size plan.now.graph (numbers plan.now) }
+    requires all { length stores.now ≡ plan.now.c }
+    requires stored { (r : ℕ) → r < plan.now.c
+        → length (heard_of stores.now r).first ≡ word_size plan.now.graph (numbers plan.now) }
+    ensures fits { result ≡ true → (r : ℕ) → r < plan.now.c → Fits (heard_of stores.now r)
+        (bit (codeword table.now plan.now.graph (numbers plan.now)
+        (code_bits (numbers plan.now) list.now.items r))) }
+    ensures misfits { result ≡ false → ((r : ℕ) → r < plan.now.c → Fits (heard_of stores.now r)
+        (bit (codeword table.now plan.now.graph (numbers plan.now)
+        (code_bits (numbers plan.now) list.now.items r)))) → ⊥ }
+    ensures long { length word.new ≡ word_size plan.now.graph (numbers plan.now) }
+{
+    for r in 0..plan.c {
+        encode_in(table, plan, list, r, word);
+        if !agrees(&stores[r as usize], word) {
+            return false;
+        }
+    }
+    true
+}

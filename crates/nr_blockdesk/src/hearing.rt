@@ -1,0 +1,96 @@
+//! Hearing one transmission.
+
+ghost use Rattle.std.specs.Prelude.{◌≡◌, ℕ, ◌*◌, ◌%◌, ◌^◌, ◌<◌, length, slice_index_or, IfOk, MatchResult, Ok, Err};
+ghost use Rattle.nr_graphpick.specs.Graph.{cols_of};
+ghost use Rattle.nr_peel.specs.Peeling.{Peeling};
+ghost use Rattle.nr_ratematch.specs.Lengths.{IsShared};
+ghost use Rattle.nr_blockdesk.specs.Explains.{reception, reception_said_of};
+ghost use Rattle.nr_blockdesk.specs.Heard.{heard_of};
+ghost use Rattle.nr_blockdesk.specs.Receiving.{HearsPart, IsSized, piece};
+
+use crate::fault::DeskFault;
+use crate::heard::Heard;
+use crate::sender::judge;
+use crate::tx::Tx;
+use arrayvec::ArrayVec;
+use nr_harqbuf::{Store, record_continues};
+use nr_interleave::seat;
+use nr_peel::Peeler;
+use nr_ratematch::Buffer;
+use nr_segment::Plan;
+
+// E_r of each code block, or the first cause against what was heard of a transmission. Takes no memory.
+pub(crate) fn judge_heard(
+    plan: &Plan,
+    tx: &Tx,
+    heard: &[Heard],
+) -> Result<ArrayVec<u32, 344>, DeskFault>
+    ensures said { MatchResult result
+        (λ lengths. reception_said_of plan.now.c (reception tx.now heard.now) ≡ Ok lengths.items)
+        (λ e. reception_said_of plan.now.c (reception tx.now heard.now) ≡ Err e) }
+    ensures version { IfOk result (λ lengths. tx.now.rv < 4) }
+    ensures shared { IfOk result
+        (λ lengths. IsShared plan.now.c tx.now.g tx.now.qm lengths.items) }
+    ensures whole { IfOk result (λ lengths. length heard.now ≡ tx.now.g) }
+{
+    let lengths = judge(plan, tx)?;
+    if heard.len() != tx.g as usize {
+        return Err(DeskFault::Length);
+    }
+    Ok(lengths)
+}
+
+// Hears one code block's part of a transmission: only the first bit of a position is learned.
+fn hear_part(buffer: &Buffer, tx: &Tx, heard: &[Heard], store: &mut Store, peeler: &mut Peeler<'_>)
+    requires version { tx.now.rv < 4 }
+    requires order { 0 < tx.now.qm }
+    requires whole { length heard.now % tx.now.qm ≡ 0 }
+    requires short { length heard.now < 2 ^ 32 }
+    requires sized { IsSized (cols_of buffer.now.graph * buffer.now.z) store.old peeler.old }
+    ensures { HearsPart buffer.now tx.now heard.now store.old peeler.old store.new peeler.new }
+{
+    record_continues();
+    let count = heard.len() as u32;
+    for m in 0..count {
+        if let Some(bit) = heard[m as usize].bit() {
+            let pos = buffer.place(tx.rv, seat(tx.qm, count, m));
+            if store.heard(pos).is_none() {
+                peeler.learn(pos, bit);
+            }
+            store.hear(pos, bit);
+        }
+    }
+}
+
+// Hears a transmission: each code block has its part of the places.
+pub(crate) fn hear(
+    buffer: &Buffer,
+    tx: &Tx,
+    lengths: &[u32],
+    heard: &[Heard],
+    stores: &mut [Store],
+    peelers: &mut [Peeler<'_>],
+)
+    requires version { tx.now.rv < 4 }
+    requires shared { IsShared (length stores.old) tx.now.g tx.now.qm lengths.now }
+    requires whole { length heard.now ≡ tx.now.g }
+    requires both { length peelers.old ≡ length stores.old }
+    requires sized { (r : ℕ) (d : Peeling) → r < length stores.old
+        → IsSized (cols_of buffer.now.graph * buffer.now.z)
+        (heard_of stores.old r) (slice_index_or peelers.old r d) }
+    ensures stores { length stores.new ≡ length stores.old }
+    ensures peelers { length peelers.new ≡ length peelers.old }
+    ensures parts { (r : ℕ) (d : Peeling) → r < length stores.old
+        → HearsPart buffer.now tx.now (piece lengths.now heard.now r)
+        (heard_of stores.old r) (slice_index_or peelers.old r d)
+        (heard_of stores.new r) (slice_index_or peelers.new r d) }
+{
+    let mut rest = heard;
+    for r in 0..lengths.len() {
+        let (part, later) = rest.split_at(lengths[r] as usize);
+        let store = &mut stores[r];
+        let peeler = &mut peelers[r];
+        hear_part(buffer, tx, part, store, peeler);
+        rest = later;
+    }
+}

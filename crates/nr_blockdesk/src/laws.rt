@@ -1,0 +1,71 @@
+//! Laws of what is sent, each the contract of a function that does nothing.
+
+ghost use Rattle.nr_blockdesk.specs.Link.{LinksAreSound, WordsArePlain};
+ghost use Rattle.nr_blockdesk.specs.Sent.{
+  AcceptedAreMatched,
+  AcceptedSendAll,
+  PartsAreAt,
+  SentBitsAreAt,
+  SentIsLong,
+};
+
+use nr_cbconcat::places_have_one_owner;
+use nr_crcattach::attachment_lengthens;
+use nr_interleave::seats_are_seating;
+use nr_ldpcenc::codewords_are_plain;
+use nr_ratematch::{buffers_are_circular, lengths_are_shared, places_are_sent};
+use nr_segment::code_blocks_are_long;
+
+/// Law: what `link_said` answers for an accepted table is a sound link: its plan is that of the transport block with
+/// its CRC, the table has its base graph, and its circular buffer is one of the plan's (TS 38.212, 5.4.2.1).
+pub fn links_are_sound()
+    ensures { LinksAreSound }
+{
+    buffers_are_circular();
+}
+
+/// Law: each codeword of a transport block begins with its code block, has zeros for the fillers and meets every row
+/// (TS 38.212, 5.3.2).
+pub fn words_are_plain()
+    ensures { WordsArePlain }
+{
+    attachment_lengthens();
+    code_blocks_are_long();
+    codewords_are_plain();
+}
+
+/// Law: the lengths of an accepted transmission share out its G bits in whole symbols (TS 38.212, 5.4.2.1).
+pub fn accepted_are_matched()
+    ensures { AcceptedAreMatched }
+{
+    lengths_are_shared();
+}
+
+/// Law: as many bits are sent as the lengths say (TS 38.212, 5.5).
+pub fn sent_is_long()
+    ensures { SentIsLong }
+{}
+
+/// Law: an accepted transmission sends G bits (TS 38.212, 5.5).
+pub fn accepted_send_all()
+    ensures { AcceptedSendAll }
+{
+    lengths_are_shared();
+}
+
+/// Law: each place of the sent bits has a bit of one code block's codeword, at a position that is neither punctured
+/// nor a filler (TS 38.212, 5.4.2 and 5.5).
+pub fn sent_bits_are_at()
+    ensures { SentBitsAreAt }
+{
+    places_have_one_owner();
+    places_are_sent();
+    seats_are_seating();
+}
+
+/// Law: place p of code block r's part of the sent bits has the bit at the position of the p-th interleaved bit.
+pub fn parts_are_at()
+    ensures { PartsAreAt }
+{
+    places_have_one_owner();
+}

@@ -1,0 +1,39 @@
+//! Both ends of a link that carries transport blocks by NR's data coding chain (3GPP TS 38.212, Release 15: 6.2 and 7.2).
+//! A `Sender` encodes a transport block once and sends its bits for any transmission: `send` answers `sent` of the block
+//! and the transmission (specs/Sent.antt), whatever was sent before. A `Receiver` keeps the record of all that arrived
+//! (specs/Heard.antt), and `take` answers its outcome (specs/Outcome.antt): a delivered block is the only one possible.
+//! Stands on every layer below it, with `thiserror` for the fault and `arrayvec` for the lengths.
+#![tactic(auto)]
+
+mod again;
+mod candidate;
+mod fault;
+mod heard;
+mod hearing;
+mod laws;
+mod link;
+mod outcome;
+mod receiver;
+mod receiver_laws;
+mod sender;
+mod settings;
+mod tx;
+
+pub use fault::DeskFault;
+pub use heard::Heard;
+pub use laws::{
+    accepted_are_matched, accepted_send_all, links_are_sound, parts_are_at, sent_bits_are_at,
+    sent_is_long, words_are_plain,
+};
+pub use outcome::Outcome;
+pub use receiver::Receiver;
+pub use receiver_laws::{
+    delivered_is_only, erasures_are_safe, explained_is_delivered, explained_never_contradicts,
+    explainers_agree, explains_by_record, nothing_is_open, one_explains,
+};
+pub use sender::Sender;
+pub use settings::Settings;
+pub use tx::Tx;
+
+#[cfg(test)]
+mod tests;

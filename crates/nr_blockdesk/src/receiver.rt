@@ -1,0 +1,246 @@
+//! The receiver of one transport block.
+
+ghost use Rattle.std.specs.Prelude.{◌≡◌, ◌≢◌, ℕ, ◌<◌, ◌≤◌, ◌++◌, [], ◌∷◌, Bool, List, length, All, IfOk, IfErr, IsErrOf, IsOk, OnErr, OnOk};
+ghost use Rattle.nr_bitvec.specs.Bit.{bit};
+ghost use Rattle.nr_graphpick.specs.Refusal.{Gives};
+ghost use Rattle.nr_harqbuf.specs.Positions.{positions_of};
+ghost use Rattle.nr_harqbuf.specs.Record.{record_of};
+ghost use Rattle.nr_peel.specs.Peeling.{IsPeeled, IsStarted};
+ghost use Rattle.nr_segment.specs.CodeBlock.{numbers};
+ghost use Rattle.nr_shifttable.specs.Accepted.{has_graph};
+ghost use Rattle.nr_blockdesk.specs.Explains.{Explains, Reception, reception, reception_said};
+ghost use Rattle.nr_blockdesk.specs.Heard.{IsRecordOf, heard_of};
+ghost use Rattle.nr_blockdesk.specs.Link.{IsBlock, attached_length, link_said};
+ghost use Rattle.nr_blockdesk.specs.Outcome.{contradiction, delivered, given, left, outcome_of};
+ghost use Rattle.nr_blockdesk.specs.Receiving.{IsDecided, RefusesAs, verdict};
+
+use crate::again::{attach_in_room, explains};
+use crate::candidate::{all_known, candidate};
+use crate::fault::DeskFault;
+use crate::heard::Heard;
+use crate::hearing::{hear, judge_heard};
+use crate::laws::{accepted_are_matched, parts_are_at, words_are_plain};
+use crate::link::agree;
+use crate::outcome::Outcome;
+use crate::receiver_laws::{
+    delivered_is_only, explained_is_delivered, explained_never_contradicts, explains_by_record,
+};
+use crate::settings::Settings;
+use crate::tx::Tx;
+use nr_bitvec::Bits;
+use nr_cbconcat::places_have_one_owner;
+use nr_crcattach::attachment_lengthens;
+use nr_harqbuf::Store;
+use nr_ldpcenc::Word;
+use nr_peel::Peeler;
+use nr_ratematch::Buffer;
+use nr_segment::{Plan, code_blocks_are_long, plans_are_sound};
+use nr_shifttable::Table;
+use std::alloc::Global;
+use std::marker::Model;
+
+/// The receiver of one transport block: it keeps the first bit heard of each position of each code block, and what
+/// follows from them. It keeps its allocator. All memory but that of a delivered transport block is taken by `new`.
+#[derive(Drop)]
+pub struct Receiver<'t> {
+    table: &'t Table,
+    plan: Plan,
+    a: u32,
+    buffer: Buffer,
+    stores: Vec<Store>,
+    peelers: Vec<Peeler<'t>>,
+    block: Bits,
+    word: Word,
+    alloc: Global,
+}
+
+impl<'t> Model for Receiver<'t> {
+    ghost use Rattle.nr_blockdesk.specs.Link.{link_of};
+    ghost use Rattle.nr_blockdesk.specs.Receiving.{IsReceiver, Receiving};
+
+    ghost Value = { Receiving };
+
+    ghost view = { λ x. record {
+      link = link_of x.table.now x.plan x.a x.buffer;
+      heard = x.stores.items;
+    } };
+
+    ghost invariant = { λ x. IsReceiver (link_of x.table.now x.plan x.a x.buffer)
+        x.plan.b x.stores.items x.peelers.items x.block x.word };
+}
+
+impl<'t> Receiver<'t> {
+    /// The receiver of a transport block of `a` bits, which has heard nothing yet.
+    ///
+    /// # Errors
+    ///
+    /// In this order: `Size`, where `a` is not 8 to 1,310,720 in whole octets; `Pick`, where no base graph is picked;
+    /// `Seg`, where there is no plan; `Graph`, where the table lacks the base graph; `Rm`, where the limited buffer
+    /// keeps no bit (`NoBuffer`); `Memory`, where memory is refused.
+    pub fn new(
+        alloc: Global,
+        table: &'t Table,
+        settings: Settings,
+        a: u32,
+    ) -> Result<Receiver<'t>, DeskFault>
+        ensures said { Gives DeskFault.Memory (λ receiver. receiver.link) result
+            (link_said table.now settings a) }
+        ensures judged { IsErrOf result DeskFault.Memory → IsOk (link_said table.now settings a) }
+        ensures empty { IfOk result (λ receiver. IsRecordOf receiver.link [] receiver.heard) }
+    {
+        plans_are_sound();
+        let (plan, buffer) = agree(table, settings, a)?;
+        let (stores, peelers) = parts(alloc, table, &plan)?;
+        let block = Bits::with_room(alloc, plan.b)?;
+        let word = Word::new(alloc, &plan)?;
+        Ok(Receiver {
+            table,
+            plan,
+            a,
+            buffer,
+            stores,
+            peelers,
+            block,
+            word,
+            alloc,
+        })
+    }
+
+    /// Hears a transmission, place by place, and answers what may be handed up of all that was received so far
+    /// (TS 38.212, 5.4.2 and 5.5): for every list of receptions of which `heard` is the record. A transport block is
+    /// delivered only where it explains all that arrived, and no other one does.
+    ///
+    /// # Errors
+    ///
+    /// In this order: `Rv`, where the redundancy version is above 3; `Rm`, where the bits can't be shared out: `Order`,
+    /// `Layers`, `Total`, `Ragged` or `NoneScheduled`; `Length`, where `heard` does not have G places; `Memory`, where
+    /// memory is refused. Nothing is heard then.
+    pub fn take(&mut self, tx: &Tx, heard: &[Heard]) -> Result<Outcome, DeskFault>
+        ensures link { self.new.link ≡ self.old.link }
+        ensures refused { RefusesAs DeskFault.Memory result
+            (reception_said self.old.link (reception tx.now heard.now)) }
+        ensures judged { IsErrOf result DeskFault.Memory
+            → IsOk (reception_said self.old.link (reception tx.now heard.now)) }
+        ensures kept { OnErr result (self.new ≡ self.old) }
+        ensures heard { OnOk result ((list : List Reception)
+            → IsRecordOf self.old.link list self.old.heard
+            → IsRecordOf self.old.link (list ++ reception tx.now heard.now ∷ []) self.new.heard) }
+        ensures outcome { IfOk result (λ answer. (list : List Reception)
+            → IsRecordOf self.old.link list self.old.heard
+            → verdict answer ≡ outcome_of self.old.link (list ++ reception tx.now heard.now ∷ [])) }
+        ensures only_one { IfOk result (λ answer. (list : List Reception) (x y : List Bool)
+            → IsRecordOf self.old.link list self.old.heard → verdict answer ≡ delivered x
+            → IsBlock self.old.link y
+            → Explains self.old.link (list ++ reception tx.now heard.now ∷ []) y → y ≡ x) }
+        ensures no_contradiction { IfOk result (λ answer. (list : List Reception) (y : List Bool)
+            → IsRecordOf self.old.link list self.old.heard → IsBlock self.old.link y
+            → Explains self.old.link (list ++ reception tx.now heard.now ∷ []) y
+            → verdict answer ≢ contradiction) }
+    {
+        let lengths = judge_heard(&self.plan, tx, heard)?;
+        let list = Bits::with_room(self.alloc, self.a)?;
+        accepted_are_matched();
+        parts_are_at();
+        places_have_one_owner();
+        explains_by_record();
+        explained_is_delivered();
+        delivered_is_only();
+        explained_never_contradicts();
+        hear(
+            &self.buffer,
+            tx,
+            &lengths,
+            heard,
+            &mut self.stores,
+            &mut self.peelers,
+        );
+        Ok(self.answer(list))
+    }
+
+    /// How many positions below K' of code block `r`, counted from 0 and below C, aren't fixed.
+    pub fn left(&self, r: u32) -> u32
+        requires { r < self.now.link.plan.c }
+        ensures { result ≡ left self.now.link self.now.heard r }
+    {
+        plans_are_sound();
+        self.peelers[r as usize].left()
+    }
+
+    /// The numbers by which the transport block with its CRC is cut (TS 38.212, 5.2.2).
+    pub fn plan(&self) -> &Plan
+        ensures graph { result.now.graph ≡ self.now.link.graph }
+        ensures numbers { numbers result.now ≡ self.now.link.plan }
+        ensures whole { result.now.b ≡ attached_length self.now.link.a }
+    {
+        &self.plan
+    }
+
+    /// The peeler of code block `r`, counted from 0 and below C: it is given the positions that were heard, and the
+    /// fillers.
+    pub fn peeler(&self, r: u32) -> &Peeler<'t>
+        requires { r < self.now.link.plan.c }
+        ensures table { result.now.table ≡ self.now.link.table }
+        ensures graph { result.now.graph ≡ self.now.link.graph }
+        ensures numbers { result.now.numbers ≡ self.now.link.plan }
+        ensures given { (k : ℕ) → bit result.now.given k
+            ≡ given self.now.link (heard_of self.now.heard r) k }
+        ensures peeled { IsPeeled result.now }
+    {
+        &self.peelers[r as usize]
+    }
+
+    // What may be handed up, in an empty list with the room.
+    fn answer(&mut self, list: Bits) -> Outcome
+        requires empty { list.items ≡ [] }
+        requires room { self.old.link.a ≤ list.room }
+        ensures same { self.new ≡ self.old }
+        ensures decided { IsDecided self.old.link self.old.heard result }
+    {
+        attachment_lengthens();
+        code_blocks_are_long();
+        words_are_plain();
+        plans_are_sound();
+        if !all_known(&self.peelers) {
+            return Outcome::Open;
+        }
+        let block = candidate(&self.plan, &self.peelers, self.a, list);
+        attach_in_room(&block, &mut self.block);
+        if explains(
+            self.table,
+            &self.plan,
+            &self.stores,
+            &self.block,
+            &mut self.word,
+        ) {
+            Outcome::Delivered(block)
+        } else {
+            Outcome::Contradiction
+        }
+    }
+}
+
+// A store and a peeler of each code block.
+fn parts<'t>(
+    alloc: Global,
+    table: &'t Table,
+    plan: &Plan,
+) -> Result<(Vec<Store>, Vec<Peeler<'t>>), DeskFault>
+    ensures all { IfOk result (λ both.
+        (length both.0.items ≡ plan.now.c) × (length both.1.items ≡ plan.now.c)) }
+    ensures empty { IfOk result
+        (λ both. All (λ s. s ≡ record_of (positions_of plan.now) []) both.0.items) }
+    ensures started { IfOk result
+        (λ both. All (IsStarted table.now plan.now.graph (numbers plan.now)) both.1.items) }
+    ensures err { IfErr result (λ e. e ≡ DeskFault.Memory) }
+{
+    let mut stores = Vec::with_capacity(alloc, plan.c as usize)?;
+    let mut peelers = Vec::with_capacity(alloc, plan.c as usize)?;
+    for _ in 0..plan.c {
+        stores.push_reserved(Store::new(alloc, plan)?);
+        let Ok(peeler) = Peeler::new(alloc, table, plan) else {
+            return Err(DeskFault::Memory);
+        };
+        peelers.push_reserved(peeler);
+    }
+    Ok((stores, peelers))
+}

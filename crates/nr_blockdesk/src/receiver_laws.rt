@@ -1,0 +1,85 @@
+//! Laws of receptions and their outcome, each the contract of a function that does nothing.
+
+ghost use Rattle.nr_blockdesk.specs.ReceiverLaws.{
+  DeliveredIsOnly,
+  ErasuresAreSafe,
+  ExplainedIsDelivered,
+  ExplainedNeverContradicts,
+  ExplainersAgree,
+  ExplainsByRecord,
+  NothingIsOpen,
+  OneExplains,
+};
+
+use crate::laws::{accepted_are_matched, sent_bits_are_at, words_are_plain};
+use nr_crcattach::attachment_lengthens;
+use nr_harqbuf::fits_by_record;
+use nr_peel::laws::{checks_are_sound, nothing_heard_fixes_nothing, words_agree_on_closure};
+use nr_segment::{code_blocks_are_long, join_undoes_cut, plans_are_sound};
+
+/// Law: which transport blocks explain all that arrived can be read off the record of the first bit heard at each
+/// position.
+pub fn explains_by_record()
+    ensures { ExplainsByRecord }
+{
+    accepted_are_matched();
+    sent_bits_are_at();
+    fits_by_record();
+}
+
+/// Law: two transport blocks that explain all that arrived have the same bits in their codewords wherever the parity
+/// rows, applied one unknown at a time, fix a position from what was heard.
+pub fn explainers_agree()
+    ensures { ExplainersAgree }
+{
+    checks_are_sound();
+    words_agree_on_closure();
+    words_are_plain();
+    explains_by_record();
+}
+
+/// Law: where every position below K' is fixed, at most one transport block explains all that arrived.
+pub fn one_explains()
+    ensures { OneExplains }
+{
+    attachment_lengthens();
+    join_undoes_cut();
+    code_blocks_are_long();
+    words_are_plain();
+    explainers_agree();
+}
+
+/// Law: what is delivered is a transport block that explains all that arrived, and the only one.
+pub fn delivered_is_only()
+    ensures { DeliveredIsOnly }
+{
+    one_explains();
+}
+
+/// Law: where every position below K' is fixed, the transport block that explains all that arrived is delivered.
+pub fn explained_is_delivered()
+    ensures { ExplainedIsDelivered }
+{
+    one_explains();
+}
+
+/// Law: where a transport block explains all that arrived, the outcome is no contradiction.
+pub fn explained_never_contradicts()
+    ensures { ExplainedNeverContradicts }
+{}
+
+/// Law: over a link that only erases the outcome is no contradiction, and what is delivered is the transport block
+/// sent.
+pub fn erasures_are_safe()
+    ensures { ErasuresAreSafe }
+{
+    one_explains();
+}
+
+/// Law: with nothing received the outcome is open.
+pub fn nothing_is_open()
+    ensures { NothingIsOpen }
+{
+    nothing_heard_fixes_nothing();
+    plans_are_sound();
+}

@@ -1,0 +1,193 @@
+//! The sender of one transport block.
+
+ghost use Rattle.std.specs.Prelude.{◌≡◌, ℕ, ◌<◌, ◌*◌, length, All, IfOk, IfErr, IsErrOf, IsOk, MatchResult, Ok, Err, [], slice_index_or};
+ghost use Rattle.nr_graphpick.specs.Graph.{cols_of};
+ghost use Rattle.nr_graphpick.specs.Refusal.{Gives};
+ghost use Rattle.nr_ldpcenc.specs.Codeword.{IsCodeword};
+ghost use Rattle.nr_ratematch.specs.Lengths.{IsShared};
+ghost use Rattle.nr_ratematch.specs.Selection.{Circular};
+ghost use Rattle.nr_segment.specs.CodeBlock.{numbers};
+ghost use Rattle.nr_blockdesk.specs.Link.{attached_length, code_block, link_of, link_said, word, words_of};
+ghost use Rattle.nr_blockdesk.specs.Sent.{matching_of, sending_said, sent_of, sent_said, tx_said, tx_said_of};
+
+use crate::fault::DeskFault;
+use crate::laws::words_are_plain;
+use crate::link::agree;
+use crate::settings::Settings;
+use crate::tx::Tx;
+use arrayvec::ArrayVec;
+use nr_bitvec::Bits;
+use nr_cbconcat::append;
+use nr_crcattach::{attach, attachment_lengthens};
+use nr_interleave::spread;
+use nr_ldpcenc::{Word, encode};
+use nr_ratematch::{Buffer, lengths, select};
+use nr_segment::{Plan, code_blocks_are_long, cut, plans_are_sound};
+use nr_shifttable::Table;
+use std::alloc::{AllocError, Global};
+use std::marker::Model;
+
+/// The sender of one transport block: it keeps the codeword of each code block, and sends bits of them as often as it
+/// is asked to. It keeps its allocator.
+#[derive(Drop)]
+pub struct Sender<'t> {
+    table: &'t Table,
+    plan: Plan,
+    buffer: Buffer,
+    block: Bits,
+    words: Vec<Word>,
+    alloc: Global,
+}
+
+impl<'t> Model for Sender<'t> {
+    ghost use Rattle.std.specs.Prelude.{length};
+    ghost use Rattle.nr_blockdesk.specs.Link.{link_of};
+    ghost use Rattle.nr_blockdesk.specs.Sent.{IsSender, Sending};
+
+    ghost Value = { Sending };
+
+    ghost view = { λ s. record {
+      link = link_of s.table.now s.plan (length s.block.items) s.buffer;
+      block = s.block.items;
+    } };
+
+    ghost invariant = { λ s. IsSender (link_of s.table.now s.plan (length s.block.items) s.buffer)
+        s.block.items s.words.items };
+}
+
+impl<'t> Sender<'t> {
+    /// The sender of a transport block, with the parity checks of a table. The block gets its CRC, is cut into code
+    /// blocks, and each of these is encoded, once (TS 38.212, 6.2.1 to 6.2.4 and 7.2.1 to 7.2.4).
+    ///
+    /// # Errors
+    ///
+    /// In this order: `Size`, where the block does not have 8 to 1,310,720 bits in whole octets; `Pick`, where no base
+    /// graph is picked; `Seg`, where there is no plan; `Graph`, where the table lacks the base graph; `Rm`, where the
+    /// limited buffer keeps no bit (`NoBuffer`); `Memory`, where memory is refused.
+    pub fn new(
+        alloc: Global,
+        table: &'t Table,
+        settings: Settings,
+        block: &Bits,
+    ) -> Result<Sender<'t>, DeskFault>
+        ensures said { Gives DeskFault.Memory (λ sender. sender) result
+            (sending_said table.now settings block.now.items) }
+        ensures judged { IsErrOf result DeskFault.Memory
+            → IsOk (link_said table.now settings (length block.now.items)) }
+    {
+        let (plan, buffer) = agree(table, settings, block.len() as u32)?;
+        let words = words_of(alloc, table, &plan, block)?;
+        let block = block.try_clone()?;
+        Ok(Sender {
+            table,
+            plan,
+            buffer,
+            block,
+            words,
+            alloc,
+        })
+    }
+
+    /// The bits that a transmission sends: of each code block E_r bits, selected from the redundancy version's start
+    /// on and interleaved, one code block after the other (TS 38.212, 5.4.2 and 5.5). They do not depend on what was
+    /// sent before.
+    ///
+    /// # Errors
+    ///
+    /// In this order: `Rv`, where the redundancy version is above 3; `Rm`, where the bits can't be shared out: `Order`,
+    /// `Layers`, `Total`, `Ragged` or `NoneScheduled`; `Memory`, where memory is refused.
+    pub fn send(&self, tx: &Tx) -> Result<Bits, DeskFault>
+        ensures said { Gives DeskFault.Memory (λ bits. bits.items) result
+            (sent_said self.now.link tx.now self.now.block) }
+        ensures judged { IsErrOf result DeskFault.Memory → IsOk (tx_said self.now.link tx.now) }
+    {
+        words_are_plain();
+        let lengths = judge(&self.plan, tx)?;
+        match send_words(self.alloc, &self.buffer, &self.words, tx, &lengths) {
+            Ok(bits) => Ok(bits),
+            Err(_) => Err(DeskFault::Memory),
+        }
+    }
+
+    /// The codeword of code block `r`, counted from 0 and below C (TS 38.212, 5.3.2). Takes no memory.
+    pub fn word(&self, r: u32) -> &Word
+        requires { r < self.now.link.plan.c }
+        ensures value { result.now ≡ word self.now.link self.now.block r }
+        ensures meets { IsCodeword self.now.link.table self.now.link.graph self.now.link.plan
+            (code_block self.now.link self.now.block r) result.now }
+    {
+        words_are_plain();
+        &self.words[r as usize]
+    }
+
+    /// The numbers by which the transport block with its CRC is cut (TS 38.212, 5.2.2).
+    pub fn plan(&self) -> &Plan
+        ensures graph { result.now.graph ≡ self.now.link.graph }
+        ensures numbers { numbers result.now ≡ self.now.link.plan }
+        ensures whole { result.now.b ≡ attached_length self.now.link.a }
+    {
+        plans_are_sound();
+        &self.plan
+    }
+}
+
+// The codewords of a transport block.
+fn words_of(alloc: Global, table: &Table, plan: &Plan, block: &Bits) -> Result<Vec<Word>, DeskFault>
+    requires whole { plan.now.b ≡ attached_length (length block.now.items) }
+    ensures words { IfOk result (λ words. (a : ℕ) (buffer : Circular)
+        → words.items ≡ words_of (link_of table.now plan.now a buffer) block.now.items) }
+    ensures err { IfErr result (λ e. e ≡ DeskFault.Memory) }
+{
+    attachment_lengthens();
+    code_blocks_are_long();
+    let bits = attach(alloc, block)?;
+    let mut words = Vec::with_capacity(alloc, plan.c as usize)?;
+    for r in 0..plan.c {
+        let code = cut(alloc, plan, &bits, r)?;
+        let Ok(word) = encode(alloc, table, plan, &code) else {
+            return Err(DeskFault::Memory);
+        };
+        words.push_reserved(word);
+    }
+    Ok(words)
+}
+
+// E_r of each code block, or the first cause against a transmission. Takes no memory.
+pub(crate) fn judge(plan: &Plan, tx: &Tx) -> Result<ArrayVec<u32, 344>, DeskFault>
+    ensures said { MatchResult result
+        (λ lengths. tx_said_of plan.now.c tx.now ≡ Ok lengths.items)
+        (λ e. tx_said_of plan.now.c tx.now ≡ Err e) }
+    ensures version { IfOk result (λ lengths. tx.now.rv < 4) }
+    ensures shared { IfOk result
+        (λ lengths. IsShared plan.now.c tx.now.g tx.now.qm lengths.items) }
+{
+    if tx.rv > 3 {
+        return Err(DeskFault::Rv);
+    }
+    match lengths(plan, tx.g, tx.qm, tx.nl, tx.mask) {
+        Ok(lengths) => Ok(lengths),
+        Err(fault) => Err(DeskFault::Rm(fault)),
+    }
+}
+
+// The bits that a transmission sends of codewords, so many of each as `lengths` says.
+fn send_words(
+    alloc: Global,
+    buffer: &Buffer,
+    words: &[Word],
+    tx: &Tx,
+    lengths: &[u32],
+) -> Result<Bits, AllocError>
+    requires version { tx.now.rv < 4 }
+    requires long { All (λ w. length w ≡ cols_of buffer.now.graph * buffer.now.z) words.now }
+    requires shared { IsShared (length words.now) tx.now.g tx.now.qm lengths.now }
+    ensures { IfOk result (λ sent. sent.items
+        ≡ sent_of (matching_of buffer.now tx.now lengths.now) (λ r. slice_index_or words.now r [])) }
+{
+    let mut sent = Bits::with_room(alloc, tx.g)?;
+    for r in 0..lengths.len() {
+        let selected = select(alloc, buffer, &words[r], tx.rv, lengths[r])?;
+        append(&mut sent, &spread(alloc, tx.qm, &selected)?)?;
+    }
+    Ok(sent)
+}
