@@ -1,5 +1,5 @@
 -- What `check` says of a shift table file, step by step.
-use Rattle.std.proofs.Common.{◌≡◌, ◌≢◌, ℕ, ◌+◌, ◌<◌, ◌⊎◌, ◌++◌, [], inl, inr, true, false, Result, Ok, Err, IsErrOf, List, ap, refl, length}
+use Rattle.std.proofs.Common.{◌≡◌, ◌≢◌, ℕ, ◌<◌, ◌⊎◌, ◌++◌, [], inl, inr, true, false, Result, Ok, Err, IsErrOf, List, ap, refl, length}
 use Rattle.std.specs.Prelude.{codes}
 use Rattle.std.specs.Fmt.{decimal}
 use Rattle.nr_graphpick.specs.Graph.{digits_of}

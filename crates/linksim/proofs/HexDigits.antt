@@ -1,19 +1,12 @@
--- Bits in hexadecimal digits, digit by digit.
-use Rattle.std.proofs.Common.{◌≡◌, ℕ, ◌+◌, ◌*◌, ◌/◌, ◌%◌, ◌^◌, ◌<◌, ◌≤◌, Bool, true, false, if◌then◌else◌, List, [], ◌∷◌, ◌++◌, length, drop, ap, sym, ◌∙◌, refl, arith, append_assoc, length-drop}
-use Rattle.std.proofs.lemmas.List.{drop-drop, drop_all}
+-- Bits in hexadecimal digits, octet by octet.
+use Rattle.std.proofs.Common.{◌≡◌, ℕ, ◌+◌, ◌*◌, ◌/◌, ◌%◌, ◌^◌, ◌<◌, ◌≤◌, suc, Bool, true, false, if◌then◌else◌, List, [], ◌∷◌, ◌++◌, length, take, drop, get_or, set, ap, sym, ◌∙◌, refl, arith, append_assoc, length-append, length-set}
+use Rattle.std.proofs.Math.Seq.{take-append_seam, take-append-add}
+use Rattle.std.proofs.lemmas.List.{take_all, take_more_set, take_more, flat_map_more}
 use Rattle.std.specs.Char.{digit_char}
-use Rattle.nr_bitvec.specs.BitList.{number_of}
+use Rattle.std.specs.List.{flat_map}
+use Rattle.nr_bitvec.specs.BitList.{number_of, octets_of}
 use Rattle.nr_bitvec.proofs.OctetLists.{number_of-lt}
-use Rattle.linksim.specs.Lines.{hex}
-
--- the first four bits write the first digit
-hex_next : (bits : List Bool) → 0 < length bits → hex bits ≡ digit_char (number_of 4 bits) ∷ hex (drop 4 bits)
-unfolding hex
-hex_next [] h = absurd (omega arith)
-hex_next (a ∷ []) h = refl
-hex_next (a ∷ b ∷ []) h = refl
-hex_next (a ∷ b ∷ c ∷ []) h = refl
-hex_next (a ∷ b ∷ c ∷ d ∷ bits) h = refl
+use Rattle.linksim.specs.Lines.{hex, two_digits}
 
 -- a bit of a digit, and of the high digit of an octet
 weigh : (b : Bool) → ((if b then 2 ^ 7 else 0) ≡ 16 * (if b then 2 ^ 3 else 0)) × ((if b then 2 ^ 6 else 0) ≡ 16 * (if b then 2 ^ 2 else 0)) × ((if b then 2 ^ 5 else 0) ≡ 16 * (if b then 2 ^ 1 else 0)) × ((if b then 2 ^ 4 else 0) ≡ 16 * (if b then 2 ^ 0 else 0))
@@ -21,48 +14,74 @@ weigh true = (refl, refl, refl, refl)
 weigh false = (refl, refl, refl, refl)
 
 -- eight bits write two digits
-pub number_of-eight : (bits : List Bool) → number_of 8 bits ≡ 16 * number_of 4 bits + number_of 4 (drop 4 bits)
+number_of-eight : (bits : List Bool) → number_of 8 bits ≡ 16 * number_of 4 bits + number_of 4 (drop 4 bits)
 number_of-eight [] = refl
 number_of-eight (a ∷ []) = omega (arith, (weigh a).0)
 number_of-eight (a ∷ b ∷ []) = omega (arith, (weigh a).0, (weigh b).1)
 number_of-eight (a ∷ b ∷ c ∷ []) = omega (arith, (weigh a).0, (weigh b).1, (weigh c).2)
 number_of-eight (a ∷ b ∷ c ∷ d ∷ bits) = omega (arith, (weigh a).0, (weigh b).1, (weigh c).2, (weigh d).3)
 
--- the two digits of an octet
-pub high_digit : (bits : List Bool) → number_of 8 bits / 16 ≡ number_of 4 bits
+high_digit : (bits : List Bool) → number_of 8 bits / 16 ≡ number_of 4 bits
 high_digit bits = omega (arith, number_of-eight bits, number_of-lt 4 (drop 4 bits))
 
-pub low_digit : (bits : List Bool) → number_of 8 bits % 16 ≡ number_of 4 (drop 4 bits)
+low_digit : (bits : List Bool) → number_of 8 bits % 16 ≡ number_of 4 (drop 4 bits)
 low_digit bits = omega (arith, number_of-eight bits, number_of-lt 4 (drop 4 bits))
 
--- an octet's two digits at a time, where more than four bits are left
-hex_next_two : (bits : List Bool) → 4 < length bits → hex bits ≡ digit_char (number_of 8 bits / 16) ∷ digit_char (number_of 8 bits % 16) ∷ hex (drop 8 bits)
-hex_next_two bits h =
-    let some : 0 < length bits = omega (arith, h) in
-    let more : 0 < length (drop 4 bits) = omega (arith, h, length-drop 4 bits) in
-    let behind : drop 4 (drop 4 bits) ≡ drop 8 bits = drop-drop 4 4 bits in
-    rw (high_digit bits, low_digit bits)
-    (hex_next bits some ∙ ap (λ digits. digit_char (number_of 4 bits) ∷ digits) (hex_next (drop 4 bits) more
-    ∙ ap (λ rest. digit_char (number_of 4 (drop 4 bits)) ∷ hex rest) behind))
+-- the two digits of an octet that eight bits write
+digits-eight : (bits : List Bool) → two_digits (number_of 8 bits) ≡ digit_char (number_of 4 bits) ∷ digit_char (number_of 4 (drop 4 bits)) ∷ []
+digits-eight bits =
+    ap (λ n. digit_char n ∷ digit_char (number_of 8 bits % 16) ∷ []) (high_digit bits)
+    ∙ ap (λ n. digit_char (number_of 4 bits) ∷ digit_char n ∷ []) (low_digit bits)
 
--- a line so far with the two digits of pair i, and the digits behind them
-pub hex_turn : (line : List ℕ) (bits : List Bool) (i : ℕ) → 8 * i + 4 < length bits → ((line ++ digit_char (number_of 8 (drop (8 * i) bits) / 16) ∷ []) ++ digit_char (number_of 8 (drop (8 * i) bits) % 16) ∷ []) ++ hex (drop (8 * (i + 1)) bits) ≡ line ++ hex (drop (8 * i) bits)
-hex_turn line bits i h =
-    let more : 4 < length (drop (8 * i) bits) = omega (arith, length-drop (8 * i) bits) in
-    let behind : drop 8 (drop (8 * i) bits) ≡ drop (8 * (i + 1)) bits = drop-drop 8 (8 * i) bits ∙ ap (λ n. drop n bits) (omega arith) in
-    append_assoc (line ++ _ ∷ []) (_ ∷ []) _ ∙ append_assoc line (_ ∷ []) _
-    ∙ ap (λ digits. line ++ digits) (sym (hex_next_two (drop (8 * i) bits) more
-    ∙ ap (λ rest. digit_char (number_of 8 (drop (8 * i) bits) / 16) ∷ digit_char (number_of 8 (drop (8 * i) bits) % 16) ∷ hex rest) behind))
+-- the digits of a list's octets, as many as its bits need
+hex-octets : (bits : List Bool) → take ((length bits + 3) / 4) (flat_map two_digits (octets_of bits)) ≡ hex bits
+unfolding hex octets_of
+hex-octets [] = refl
+hex-octets (a ∷ []) = ap (take 1) (digits-eight (a ∷ []))
+hex-octets (a ∷ b ∷ []) = ap (take 1) (digits-eight (a ∷ b ∷ []))
+hex-octets (a ∷ b ∷ c ∷ []) = ap (take 1) (digits-eight (a ∷ b ∷ c ∷ []))
+hex-octets (a ∷ b ∷ c ∷ d ∷ []) = ap (take 1) (digits-eight (a ∷ b ∷ c ∷ d ∷ []))
+hex-octets (a ∷ b ∷ c ∷ d ∷ e ∷ []) = digits-eight (a ∷ b ∷ c ∷ d ∷ e ∷ [])
+hex-octets (a ∷ b ∷ c ∷ d ∷ e ∷ f ∷ []) = digits-eight (a ∷ b ∷ c ∷ d ∷ e ∷ f ∷ [])
+hex-octets (a ∷ b ∷ c ∷ d ∷ e ∷ f ∷ g ∷ []) = digits-eight (a ∷ b ∷ c ∷ d ∷ e ∷ f ∷ g ∷ [])
+hex-octets (a ∷ b ∷ c ∷ d ∷ e ∷ f ∷ g ∷ h ∷ bits) =
+    let first = a ∷ b ∷ c ∷ d ∷ e ∷ f ∷ g ∷ h ∷ [] in
+    let n : (length (a ∷ b ∷ c ∷ d ∷ e ∷ f ∷ g ∷ h ∷ bits) + 3) / 4 ≡ suc (suc ((length bits + 3) / 4)) = omega arith in
+    ap (λ k. take k (two_digits (number_of 8 first) ++ flat_map two_digits (octets_of bits))) n
+    ∙ ap (λ digits. digits ++ take ((length bits + 3) / 4) (flat_map two_digits (octets_of bits))) (digits-eight first)
+    ∙ ap (λ digits. digit_char (number_of 4 first) ∷ digit_char (number_of 4 (drop 4 first)) ∷ digits) (hex-octets bits)
 
--- behind the last pair there is one digit more, or none
-pub hex_one : (bits : List Bool) (i : ℕ) → 8 * i < length bits → length bits ≤ 8 * i + 4 → hex (drop (8 * i) bits) ≡ digit_char (number_of 8 (drop (8 * i) bits) / 16) ∷ []
-unfolding hex
-hex_one bits i some short =
-    let left : 0 < length (drop (8 * i) bits) = omega (arith, length-drop (8 * i) bits) in
-    let none : drop 4 (drop (8 * i) bits) ≡ [] = drop_all 4 (drop (8 * i) bits) (omega (arith, length-drop (8 * i) bits)) in
-    rw (high_digit (drop (8 * i) bits))
-    (hex_next (drop (8 * i) bits) left ∙ ap (λ rest. digit_char (number_of 4 (drop (8 * i) bits)) ∷ hex rest) none)
+-- a line with the digits of octets, cut to the digits that the bits need
+pub hex_cut : (head line octets : List ℕ) (bits : List Bool) (n : ℕ) → line ≡ head ++ flat_map two_digits octets → octets ≡ octets_of bits → n ≡ length head + (length bits + 3) / 4 → take n line ≡ head ++ hex bits
+hex_cut head line octets bits n put read most =
+    ap (λ k. take k line) most ∙ ap (take (length head + (length bits + 3) / 4)) (put ∙ ap (λ os. head ++ flat_map two_digits os) read)
+    ∙ take-append-add head (flat_map two_digits (octets_of bits)) ((length bits + 3) / 4) ∙ ap (λ digits. head ++ digits) (hex-octets bits)
 
-pub hex_end : (bits : List Bool) (i : ℕ) → length bits ≤ 8 * i → hex (drop (8 * i) bits) ≡ []
-unfolding hex
-hex_end bits i h = ap hex (drop_all (8 * i) bits h)
+-- the digits of octet i, put behind those of the octets before it
+pub digits_more : (octets digits : List ℕ) (i : ℕ) → i < length octets → length digits ≡ 2 * length octets → take (2 * i) digits ≡ flat_map two_digits (take i octets)
+    → take (2 * (i + 1)) (set (set digits (2 * i) (digit_char (get_or octets i 0 / 16))) (2 * i + 1) (digit_char (get_or octets i 0 % 16))) ≡ flat_map two_digits (take (i + 1) octets)
+digits_more octets digits i h long so_far =
+    let high = digit_char (get_or octets i 0 / 16) in
+    let low = digit_char (get_or octets i 0 % 16) in
+    let n : 2 * (i + 1) ≡ 2 * i + 1 + 1 = omega arith in
+    ap (λ k. take k (set (set digits (2 * i) high) (2 * i + 1) low)) n
+    ∙ take_more_set (set digits (2 * i) high) (2 * i + 1) low (omega (arith, h, long, length-set digits (2 * i) high))
+    ∙ ap (λ xs. xs ++ low ∷ []) (take_more_set digits (2 * i) high (omega (arith, h, long)) ∙ ap (λ xs. xs ++ high ∷ []) so_far)
+    ∙ append_assoc (flat_map two_digits (take i octets)) (high ∷ []) (low ∷ [])
+    ∙ flat_map_more two_digits [] (take i octets) (get_or octets i 0)
+    ∙ ap (flat_map two_digits) (sym (take_more octets i 0 h))
+
+-- ---- room behind a line
+
+-- made: the line stands before it
+pub room_made : (line made room : List ℕ) (start n : ℕ) → start ≡ length line → start ≤ n → made ≡ take n line ++ room → take start made ≡ line
+room_made line made room start n at within e =
+    ap (take start) e ∙ ap (λ xs. take start (xs ++ room)) (take_all n line (omega (arith, at, within)))
+    ∙ ap (λ i. take i (line ++ room)) at ∙ take-append_seam line room
+
+-- filled: nothing stands behind what is put there
+pub room_filled : (line before digits rest past : List ℕ) (n : ℕ) → before ≡ line → n ≡ length line + length digits → take n ((before ++ (digits ++ rest)) ++ past) ≡ line ++ digits
+room_filled line before digits rest past n same e =
+    ap (take n) (ap (λ xs. (xs ++ (digits ++ rest)) ++ past) same ∙ append_assoc line (digits ++ rest) past
+    ∙ ap (λ xs. line ++ xs) (append_assoc digits rest past) ∙ sym (append_assoc line digits (rest ++ past)))
+    ∙ ap (λ k. take k ((line ++ digits) ++ (rest ++ past))) (e ∙ sym (length-append line digits)) ∙ take-append_seam (line ++ digits) (rest ++ past)

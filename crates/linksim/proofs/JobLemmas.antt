@@ -7,10 +7,12 @@ use Rattle.clap.proofs.WalkLemmas.{one_text-rows}
 use Rattle.clap.specs.Words.{App, HasMatchesOf, Row, Text, fault_of, found_of, is_simple, is_simple_and_free, matches_of, one_of, one_text, rows_of, takes}
 use Rattle.clap.specs.declared.parser.matches.ArgMatches.{ArgMatches}
 use Rattle.clap.specs.declared.parser.matches.Found.{Found}
-use Rattle.linksim.specs.Commands.{check_app, cut_app}
-use Rattle.linksim.specs.Jobs.{IsNumberAt, check_faults, check_rows, cut_faults, cut_rows, is_taken_as_check, is_taken_as_cut}
+use Rattle.std.specs.String.{string_bytes}
+use Rattle.linksim.specs.Commands.{check_app, cut_app, files_app}
+use Rattle.linksim.specs.Jobs.{IsGiven, IsNumberAt, IsTextAt, check_faults, check_rows, cut_faults, cut_rows, dashes, files_faults, files_rows, is_taken_as_check, is_taken_as_cut, is_taken_as_files}
+use Rattle.linksim.specs.declared.job.Files.{Files}
 
--- clap's functions of the words speak of both commands
+-- clap's functions of the words speak of each command
 cut_simple : is_simple cut_app ≡ true
 unfolding clap_on_literals
 cut_simple = refl
@@ -19,13 +21,17 @@ check_simple : is_simple check_app ≡ true
 unfolding clap_on_literals
 check_simple = refl
 
+files_simple : (name : Text) → is_simple (files_app name) ≡ true
+unfolding clap_on_literals
+files_simple name = refl
+
 -- the matches of a command are those of the simple command that it is
 rows_from : (a b : App) (words : List Text) (m : ArgMatches) → a ≡ b → is_simple b ≡ true
     → HasMatchesOf a words m → rows_of (found_of m) ≡ matches_of b words
 rows_from a b words m is simple matches =
     (matches (ap is_simple is ∙ simple)).0 ∙ ap (λ app. matches_of app words) is
 
--- what clap found for `cut`, and for `check`, are the rows that their jobs cite
+-- what clap found for a command are the rows that its job cites
 pub cut_rows-matches : (a : App) (words : List Text) (m : ArgMatches) → a ≡ cut_app
     → HasMatchesOf a words m → rows_of (found_of m) ≡ cut_rows words
 unfolding cut_rows
@@ -36,7 +42,12 @@ pub check_rows-matches : (a : App) (words : List Text) (m : ArgMatches) → a �
 unfolding check_rows
 check_rows-matches a words m is matches = rows_from a check_app words m is check_simple matches
 
--- clap takes the words at a command that is `cut`, or `check`, where it is said to
+pub files_rows-matches : (name : Text) (a : App) (words : List Text) (m : ArgMatches) → a ≡ files_app name
+    → HasMatchesOf a words m → rows_of (found_of m) ≡ files_rows name words
+unfolding files_rows
+files_rows-matches name a words m is matches = rows_from a (files_app name) words m is (files_simple name) matches
+
+-- clap takes the words at a command that is `cut`, `check`, or over four files, where it is said to
 pub cut-takes : (a : App) (words : List Text) → a ≡ cut_app → is_taken_as_cut words ≡ true → takes a words ≡ true
 unfolding is_taken_as_cut
 cut-takes a words is taken = ap (λ app. takes app words) is ∙ taken
@@ -45,7 +56,12 @@ pub check-takes : (a : App) (words : List Text) → a ≡ check_app → is_taken
 unfolding is_taken_as_check
 check-takes a words is taken = ap (λ app. takes app words) is ∙ taken
 
--- clap finds no fault in the words at a command that is `cut`, or `check`, where it found none at the command
+pub files-takes : (name : Text) (a : App) (words : List Text) → a ≡ files_app name
+    → is_taken_as_files name words ≡ true → takes a words ≡ true
+unfolding is_taken_as_files
+files-takes name a words is taken = ap (λ app. takes app words) is ∙ taken
+
+-- clap finds no fault in the words of a job where it found none at its command
 cut_free : is_simple_and_free cut_app ≡ true
 unfolding clap_on_literals
 cut_free = refl
@@ -53,6 +69,10 @@ cut_free = refl
 check_free : is_simple_and_free check_app ≡ true
 unfolding clap_on_literals
 check_free = refl
+
+files_free : (name : Text) → is_simple_and_free (files_app name) ≡ true
+unfolding clap_on_literals
+files_free name = refl
 
 pub cut-faultless : (a : App) (words : List Text) → a ≡ cut_app → (is_simple_and_free a ≡ true → fault_of a words ≡ [])
     → cut_faults words ≡ []
@@ -66,7 +86,13 @@ unfolding check_faults
 check-faultless a words is none =
     ap (λ app. fault_of app words) (sym is) ∙ none (ap is_simple_and_free is ∙ check_free)
 
--- where clap finds no fault in the words as those of `cut`, or of `check`, it finds none at that command
+pub files-faultless : (name : Text) (a : App) (words : List Text) → a ≡ files_app name
+    → (is_simple_and_free a ≡ true → fault_of a words ≡ []) → files_faults name words ≡ []
+unfolding files_faults
+files-faultless name a words is none =
+    ap (λ app. fault_of app words) (sym is) ∙ none (ap is_simple_and_free is ∙ files_free name)
+
+-- where clap finds no fault in the words of a job, it finds none at its command
 pub cut-free : (a : App) (words : List Text) → a ≡ cut_app → cut_faults words ≡ []
     → (is_simple_and_free a ≡ true) × (fault_of a words ≡ [])
 unfolding cut_faults
@@ -78,6 +104,26 @@ pub check-free : (a : App) (words : List Text) → a ≡ check_app → check_fau
 unfolding check_faults
 check-free a words is none =
     (ap is_simple_and_free is ∙ check_free, ap (λ app. fault_of app words) is ∙ none)
+
+pub files-free : (name : Text) (a : App) (words : List Text) → a ≡ files_app name → files_faults name words ≡ []
+    → (is_simple_and_free a ≡ true) × (fault_of a words ≡ [])
+unfolding files_faults
+files-free name a words is none =
+    (ap is_simple_and_free is ∙ files_free name, ap (λ app. fault_of app words) is ∙ none)
+
+-- an option has one path, so as many of four paths are standard input, whoever reads them
+text-same : (id : Text) (rows : List Row) (a b : Text) → IsTextAt id rows a → IsTextAt id rows b → a ≡ b
+text-same id rows a b first second =
+    let same : Some a ≡ Some b = sym first ∙ second in
+    cc
+
+pub dashes-same : (rows : List Row) (a b : Files) → IsGiven rows a → IsGiven rows b → dashes a ≡ dashes b
+dashes-same rows a b first second =
+    let table = text-same _ rows (string_bytes a.table) (string_bytes b.table) first.table second.table in
+    let settings = text-same _ rows (string_bytes a.settings) (string_bytes b.settings) first.settings second.settings in
+    let blocks = text-same _ rows (string_bytes a.blocks) (string_bytes b.blocks) first.blocks second.blocks in
+    let schedule = text-same _ rows (string_bytes a.schedule) (string_bytes b.schedule) first.schedule second.schedule in
+    rw (table, settings, blocks, schedule) refl
 
 -- the text is a numeral that fits 32 bits
 abbrev pub IsWord : Text → Type 0

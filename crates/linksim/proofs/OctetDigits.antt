@@ -1,34 +1,34 @@
-use Rattle.std.proofs.Common.{◌≡◌, ℕ, ◌+◌, ◌-◌, ◌*◌, ◌≤◌, Bool, true, false, ◌&&◌, List, [], ◌∷◌, length, take, drop, get_or, refl, ap, sym, ◌∙◌, arith}
-use Rattle.std.proofs.lemmas.List.{take_all}
+-- The octets that pairs of hexadecimal digits write, pair by pair.
+use Rattle.std.proofs.Common.{◌≡◌, ℕ, ◌+◌, ◌*◌, ◌/◌, ◌<◌, suc, zero, List, [], ◌∷◌, ◌++◌, length, take, get_or, set, refl, ap, sym, ◌∙◌, arith}
+use Rattle.std.proofs.lemmas.List.{take_more, take_more_set}
 use Rattle.std.specs.Char.{digit_value}
-use Rattle.std.specs.List.{list_all}
 use Rattle.linksim.specs.Blocks.{octets_of_digits}
 
--- fewer than two digits write no octet
-pub octets_of_digits-short : (xs : List ℕ) → length xs ≤ 1 → octets_of_digits xs ≡ []
+-- half as many octets as digits
+pub length-octets_of_digits : (xs : List ℕ) → length (octets_of_digits xs) ≡ length xs / 2
 unfolding octets_of_digits
-octets_of_digits-short [] h = refl
-octets_of_digits-short (a ∷ []) h = refl
-octets_of_digits-short (a ∷ b ∷ xs) h = absurd (omega arith)
+length-octets_of_digits [] = refl
+length-octets_of_digits (a ∷ []) = refl
+length-octets_of_digits (a ∷ b ∷ xs) = omega (arith, length-octets_of_digits xs)
 
--- the first two digits write the first octet
-pub octets_of_digits_next : (xs : List ℕ) → 2 ≤ length xs → octets_of_digits xs ≡ (16 * digit_value (get_or xs 0 0) + digit_value (get_or xs 1 0)) ∷ octets_of_digits (take (length xs - 2) (drop 2 xs))
+-- what the pair of digits i writes
+octet-at : (xs : List ℕ) (i : ℕ) → 2 * i + 1 < length xs → get_or (octets_of_digits xs) i 0 ≡ 16 * digit_value (get_or xs (2 * i) 0) + digit_value (get_or xs (2 * i + 1) 0)
 unfolding octets_of_digits
-octets_of_digits_next [] h = absurd (omega arith)
-octets_of_digits_next (a ∷ []) h = absurd (omega arith)
-octets_of_digits_next (a ∷ b ∷ xs) h =
-    let rest : take (length (a ∷ b ∷ xs) - 2) xs ≡ xs = take_all _ xs (omega arith) in
-    ap (λ ys. (16 * digit_value a + digit_value b) ∷ octets_of_digits ys) (sym rest)
+octet-at [] i h = absurd (omega (arith, h))
+octet-at (a ∷ []) i h = absurd (omega (arith, h))
+octet-at (a ∷ b ∷ xs) zero h = refl
+octet-at (a ∷ b ∷ xs) (suc i) h =
+    let high : suc (suc (2 * i)) ≡ 2 * suc i = omega arith in
+    let low : suc (suc (2 * i + 1)) ≡ 2 * suc i + 1 = omega arith in
+    octet-at xs i (omega (arith, h))
+    ∙ ap (λ k. 16 * digit_value (get_or (a ∷ b ∷ xs) k 0) + digit_value (get_or xs (2 * i + 1) 0)) high
+    ∙ ap (λ k. 16 * digit_value (get_or (a ∷ b ∷ xs) (2 * suc i) 0) + digit_value (get_or (a ∷ b ∷ xs) k 0)) low
 
--- what holds of each digit holds of those behind the first two
-pub list_all_next : (p : ℕ → Bool) (xs : List ℕ) → 2 ≤ length xs → list_all p xs ≡ true → list_all p (take (length xs - 2) (drop 2 xs)) ≡ true
-list_all_next p [] h all = absurd (omega arith)
-list_all_next p (a ∷ []) h all = absurd (omega arith)
-list_all_next p (a ∷ b ∷ xs) h all =
-    let rest : take (length (a ∷ b ∷ xs) - 2) xs ≡ xs = take_all _ xs (omega arith) in
-    ap (list_all p) rest ∙ and_last (p a) (p b) (list_all p xs) all
-  where
-    and_last : (x y z : Bool) → (x && (y && z)) ≡ true → z ≡ true
-    and_last true true z h = h
-    and_last true false z h = cc
-    and_last false y z h = cc
+-- the octet of pair i, put behind those of the pairs before it
+pub octets_more : (xs octets : List ℕ) (i : ℕ) → i < length octets → length octets ≡ length xs / 2 → take i octets ≡ take i (octets_of_digits xs)
+    → take (i + 1) (set octets i (16 * digit_value (get_or xs (2 * i) 0) + digit_value (get_or xs (2 * i + 1) 0))) ≡ take (i + 1) (octets_of_digits xs)
+octets_more xs octets i h half so_far =
+    let o = 16 * digit_value (get_or xs (2 * i) 0) + digit_value (get_or xs (2 * i + 1) 0) in
+    take_more_set octets i o h ∙ ap (λ ys. ys ++ o ∷ []) so_far
+    ∙ ap (λ y. take i (octets_of_digits xs) ++ y ∷ []) (sym (octet-at xs i (omega (arith, h, half))))
+    ∙ sym (take_more (octets_of_digits xs) i 0 (omega (arith, h, half, length-octets_of_digits xs)))

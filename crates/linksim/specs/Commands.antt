@@ -23,3 +23,12 @@ cut_app = with_rule (with_rule (new_app (codes "cut")) (file_rule (codes "blocks
 -- check --table FILE
 abbrev pub check_app : App
 check_app = with_rule (new_app (codes "check")) (file_rule (codes "table"))
+
+-- a command with the options of four files
+abbrev pub with_files : App → App
+with_files app = with_rule (with_rule (with_rule (with_rule app (file_rule (codes "table")))
+    (file_rule (codes "settings"))) (file_rule (codes "blocks"))) (file_rule (codes "schedule"))
+
+-- send --table FILE --settings FILE --blocks FILE --schedule FILE: a command over four files, by its name
+abbrev pub files_app : Text → App
+files_app name = with_files (new_app name)

@@ -12,7 +12,7 @@ use Rattle.linksim.specs.Blocks.{blocks_of}
 use Rattle.linksim.specs.Lines.{block_line, attached_line, code_line}
 use Rattle.linksim.specs.declared.fault.RunFault.{RunFault}
 use Rattle.linksim.specs.declared.fault.RunFault.TheVariants.{Blocks, Desk}
-use Rattle.linksim.specs.declared.fault.DeskFault.TheVariants.{Pick, Seg}
+use Rattle.nr_blockdesk.specs.declared.fault.DeskFault.TheVariants.{Pick, Seg}
 
 -- the lines of a block of a bits: its plan, its bits with the CRC, and each code block from 0 on
 unfoldable pub planned_lines : ℕ → ℕ → Graph → Numbers → List Bool → List ℕ

@@ -4,8 +4,16 @@ pub mod Command
 pub mod Commands
 pub mod CutText
 pub mod Ending
+pub mod Erasures
 pub mod Faults
+pub mod Furthest
+pub mod Inputs
 pub mod Jobs
 pub mod Lines
+pub mod Masks
+pub mod PlaceLists
+pub mod Schedule
+pub mod SendText
+pub mod Settings
 pub mod Tape
 pub mod Written

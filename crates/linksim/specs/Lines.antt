@@ -1,5 +1,5 @@
 -- The lines of text about a transport block. Words are separated by one space, and numbers are decimal.
-use Rattle.std.specs.Prelude.{ℕ, Bool, List, [], ◌∷◌, ◌++◌, codes}
+use Rattle.std.specs.Prelude.{ℕ, ◌/◌, ◌%◌, Bool, List, [], ◌∷◌, ◌++◌, codes}
 use Rattle.std.specs.Char.{digit_char}
 use Rattle.std.specs.Fmt.{decimal}
 use Rattle.nr_bitvec.specs.BitList.{number_of}
@@ -12,6 +12,10 @@ unfoldable pub hex : List Bool → List ℕ
 hex [] = []
 hex (a ∷ b ∷ c ∷ d ∷ bits) = digit_char (number_of 4 (a ∷ b ∷ c ∷ d ∷ [])) ∷ hex bits
 hex bits = digit_char (number_of 4 bits) ∷ []
+
+-- the two digits of an octet, the high one first
+abbrev pub two_digits : ℕ → List ℕ
+two_digits octet = digit_char (octet / 16) ∷ digit_char (octet % 16) ∷ []
 
 -- a block of a bits, and the plan of its b bits with the CRC
 unfoldable pub block_line : ℕ → ℕ → ℕ → Graph → Numbers → List ℕ

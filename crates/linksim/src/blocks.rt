@@ -71,26 +71,39 @@ fn digit(character: u8) -> u8
     character % 16 + character / 64 * 9
 }
 
+// Fills octets with those that a line's pairs of digits write. A plain loop from slice to slice, as in `all_digits`,
+// which the compiler turns into one that takes many octets at a time.
+fn read_digits(line: &[u8], octets: &mut [u8])
+    requires digits { IsTrue (list_all is_ascii_hexdigit line.now) }
+    requires half { length octets.old ≡ length line.now / 2 }
+    ensures { octets.new ≡ octets_of_digits line.now }
+{
+    for i in 0..octets.len() {
+        octets[i] = 16 * digit(line[2 * i]) + digit(line[2 * i + 1]);
+    }
+}
+
 // The octets that a line's pairs of digits write.
 fn octets(alloc: Global, line: &[u8]) -> Result<Vec<u8>, AllocError>
     requires { IsTrue (list_all is_ascii_hexdigit line.now) }
     ensures octets { IfOk result (λ block. block.items ≡ octets_of_digits line.now) }
     ensures half { IfOk result (λ block. length block.items ≡ length line.now / 2) }
 {
-    let mut block = Vec::with_capacity(alloc, line.len() / 2)?;
-    let mut rest = line;
-    while rest.len() >= 2 {
-        block.push_reserved(16 * digit(rest[0]) + digit(rest[1]));
-        rest = &rest[2..];
-    }
+    let mut block = vec![in alloc; 0; line.len() / 2]?;
+    read_digits(line, &mut block);
     Ok(block)
 }
 
-// Whether a line has hexadecimal digits alone.
+// Whether a line has hexadecimal digits alone. It looks at every character, since to stop at the first that is none
+// would take a jump for each.
 fn all_digits(line: &[u8]) -> bool
     ensures { result ≡ list_all is_ascii_hexdigit line.now }
 {
-    line.iter().all(|character| character.is_ascii_hexdigit())
+    let mut all = true;
+    for character in line {
+        all &= character.is_ascii_hexdigit();
+    }
+    all
 }
 
 // The transport block that line `number` holds.

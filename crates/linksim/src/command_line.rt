@@ -3,11 +3,12 @@
 ghost use Rattle.std.specs.Prelude.{◌≡◌, ◌≢◌, ◌≤◌, ◌↔◌, IsTrue, ℕ, true, [], codes, map, IfOk, IsOkUnless, MatchResult, OnOk};
 ghost use Rattle.std.specs.String.{string_bytes};
 ghost use Rattle.clap.specs.Words.{HasMatchesOf, Text, app_of, fault_of as clap_faults, found_of, is_simple_and_free, kind_of, rows_of, takes, with_rule};
-ghost use Rattle.linksim.specs.Commands.{check_app, cut_app, file_rule, rate_rule};
-ghost use Rattle.linksim.specs.Jobs.{BeginsWith, HasCut, IsDefaultJob, IsJobOf, IsNumberAt, IsTextAt, check_rows, faults_at, IsTakenAs, IsTakenAsCheck, IsTakenAsCut};
+ghost use Rattle.linksim.specs.Commands.{check_app, cut_app, file_rule, files_app, rate_rule, with_files};
+ghost use Rattle.linksim.specs.Jobs.{BeginsWith, HasCut, HasFiles, IsDefaultJob, IsGiven, IsJobOf, IsNumberAt, IsTextAt, check_rows, dash, dashes, faults_at, files_faults, IsTakenAs, IsTakenAsCheck, IsTakenAsCut, IsTakenAsFiles};
 ghost use Rattle.linksim.specs.declared.job.Job.{Job as Asked};
+ghost use Rattle.linksim.specs.declared.job.Files.{Files as AskedFiles};
 
-use crate::job::{Job, JobFault};
+use crate::job::{Files, Job, JobFault};
 use clap::error::ErrorKind;
 use clap::{Arg, ArgMatches, Command, Error, value_parser};
 use std::alloc::{AllocError, Global};
@@ -52,6 +53,7 @@ pub fn job(alloc: Global, words: &[String]) -> Result<Job, JobFault>
     match command.as_str() {
         "cut" => cut_job(alloc, words),
         "check" => check_job(alloc, words),
+        "send" => send_job(alloc, words),
         _ => Err(other_fault(alloc, words)),
     }
 }
@@ -86,6 +88,76 @@ fn check_job(alloc: Global, words: &[String]) -> Result<Job, JobFault>
     Ok(Job::Check(path))
 }
 
+// The job of words that begin with `send`.
+fn send_job(alloc: Global, words: &[String]) -> Result<Job, JobFault>
+    requires { BeginsWith (codes "send") (map string_bytes words.now) }
+    ensures job { IfOk result (IsJobOf (map string_bytes words.now)) }
+    ensures faultless { IfOk result (λ job. faults_at (map string_bytes words.now) job ≡ []) }
+    ensures asked { (files : AskedFiles) → IsTakenAsFiles (codes "send") (map string_bytes words.now)
+        → HasFiles (codes "send") (map string_bytes words.now) files
+        → IsOkUnless result JobFault.Memory }
+{
+    let mut command = send_command(alloc)?;
+    let files = files_of(alloc, &mut command, words)?;
+    Ok(Job::Send(files))
+}
+
+// The four files that the words give a command over files. Clap does not test that at most one is standard input.
+fn files_of<'a>(
+    alloc: Global,
+    command: &mut Command<'a>,
+    words: &'a [String],
+) -> Result<Files, JobFault>
+    ensures files { (name : Text) → app_of command.old ≡ files_app name
+        → IfOk result (HasFiles name (map string_bytes words.entry.now)) }
+    ensures faultless { (name : Text) → app_of command.old ≡ files_app name
+        → OnOk result (files_faults name (map string_bytes words.entry.now) ≡ []) }
+    ensures asked { (name : Text) → (files : AskedFiles) → app_of command.old ≡ files_app name
+        → IsTakenAsFiles name (map string_bytes words.entry.now)
+        → HasFiles name (map string_bytes words.entry.now) files
+        → IsOkUnless result JobFault.Memory }
+{
+    let matches = parsed(alloc, command, words)?;
+    let files = paths_of(alloc, command, &matches)?;
+    if dashes(&files) > 1 {
+        return Err(own_fault(alloc, command, "standard input is named for several files"));
+    }
+    Ok(files)
+}
+
+// The paths that the options of a command over four files give.
+fn paths_of(alloc: Global, command: &mut Command, matches: &ArgMatches) -> Result<Files, JobFault>
+    ensures paths { IfOk result (IsGiven (rows_of (found_of matches.now))) }
+    ensures given { (files : AskedFiles) → IsGiven (rows_of (found_of matches.now)) files
+        → IsOkUnless result JobFault.Memory }
+{
+    let table = path_of(alloc, command, matches, "table")?;
+    let settings = path_of(alloc, command, matches, "settings")?;
+    let blocks = path_of(alloc, command, matches, "blocks")?;
+    let schedule = path_of(alloc, command, matches, "schedule")?;
+    Ok(Files {
+        table,
+        settings,
+        blocks,
+        schedule,
+    })
+}
+
+// How many of the four paths are standard input.
+fn dashes(files: &Files) -> u8
+    ensures { result ≡ dashes files.now }
+{
+    dash(&files.table) + dash(&files.settings) + dash(&files.blocks) + dash(&files.schedule)
+}
+
+// 1 where the path is standard input, else 0.
+fn dash(path: &str) -> u8
+    ensures value { result ≡ dash path.now }
+    ensures small { result ≤ 1 }
+{
+    u8::from(path == "-")
+}
+
 // The fault of words that begin with no command of the program: help, or how the program is used.
 fn other_fault(alloc: Global, words: &[String]) -> JobFault {
     let mut command = match program(alloc) {
@@ -110,7 +182,8 @@ fn program<'a>(alloc: Global) -> Result<Command<'a>, AllocError> {
         .no_binary_name(true)
         .subcommand_required(true)
         .subcommand(cut_command(alloc)?)?
-        .subcommand(check_command(alloc)?)
+        .subcommand(check_command(alloc)?)?
+        .subcommand(send_command(alloc)?)
 }
 
 fn cut_command<'a>(alloc: Global) -> Result<Command<'a>, AllocError>
@@ -141,6 +214,50 @@ fn check_command<'a>(alloc: Global) -> Result<Command<'a>, AllocError>
         command,
         "table",
         "The shift table, as comma-separated values (-: standard input)",
+    )
+}
+
+fn send_command<'a>(alloc: Global) -> Result<Command<'a>, AllocError>
+    ensures { IfOk result (λ c. app_of c ≡ files_app (codes "send")) }
+{
+    let command = Command::new(alloc, "send")
+        .bin_name("linksim send")?
+        .about(
+            "Encodes each transport block and writes the bits of each transmission of a schedule",
+        )
+        .after_help(closing!(
+            "linksim send --table examples/practice.csv --settings examples/settings.toml --blocks examples/blocks.txt --schedule examples/schedule.csv"
+        ));
+    with_files(alloc, command)
+}
+
+// Adds the options of a command over four files.
+fn with_files<'a>(alloc: Global, command: Command<'a>) -> Result<Command<'a>, AllocError>
+    ensures { IfOk result (λ c. app_of c ≡ with_files (app_of command.entry)) }
+{
+    let command = with_file(
+        alloc,
+        command,
+        "table",
+        "The shift table, as comma-separated values (-: standard input)",
+    )?;
+    let command = with_file(
+        alloc,
+        command,
+        "settings",
+        "The code rate and the limit of the buffer, as TOML (-: standard input)",
+    )?;
+    let command = with_file(
+        alloc,
+        command,
+        "blocks",
+        "The transport blocks, one a line in hexadecimal (-: standard input)",
+    )?;
+    with_file(
+        alloc,
+        command,
+        "schedule",
+        "The transmissions, as comma-separated values (-: standard input)",
     )
 }
 

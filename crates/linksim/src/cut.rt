@@ -46,8 +46,11 @@ pub fn cut<B: Source, O: Sink>(
     write_blocks(alloc, rate2048, &blocks, out)
 }
 
-// Reads the blocks file to its end, and judges it.
-fn read_blocks<B: Source>(alloc: Global, source: &mut B) -> Result<Vec<Vec<u8>>, BlocksFault>
+/// Reads a blocks file to its end, and judges it.
+///
+/// # Errors
+/// `Read` where a pull failed and `TooLong`, whichever is met first; then as [`parse_blocks`].
+pub fn read_blocks<B: Source>(alloc: Global, source: &mut B) -> Result<Vec<Vec<u8>>, BlocksFault>
     requires { B.failures source.old < 2 ^ 32 }
     ensures said { B.failures source.new ≡ B.failures source.old → IfSome (B.remaining source.old)
         (λ octets. Gives BlocksFault.Memory (λ blocks. map (λ block. block.items) blocks.items)

@@ -13,6 +13,21 @@ pub enum Job {
     Cut(u32, String),
     /// `check`: the path of the shift table.
     Check(String),
+    /// `send`: the paths of its four files, of which at most one is `-`.
+    Send(Files),
+}
+
+/// The paths of the files that a command over a schedule reads.
+#[derive(Debug, PartialEq, Eq, Drop)]
+pub struct Files {
+    /// The path of the shift table.
+    pub table: String,
+    /// The path of the settings.
+    pub settings: String,
+    /// The path of the transport blocks.
+    pub blocks: String,
+    /// The path of the schedule.
+    pub schedule: String,
 }
 
 /// Why the words ask for no job.

@@ -1,9 +1,10 @@
 //! The data coding chain of 5G NR's shared channels (3GPP TS 38.212, Release 15) as a program: `cut` shows what the
-//! standard makes of each transport block up to its code blocks, `check` judges a shift table file.
-//! `job` reads the command line; `cut` and `check` work over any Source and Sink; `tell` says how a run ends.
+//! standard makes of each transport block up to its code blocks, `check` judges a shift table file, `send` the bits sent.
+//! `job` reads the command line; `cut`, `check` and `send` work over any Source and Sink; `tell` says how a run ends.
 //! Their contract: what they write is a stated function of the octets that they read, or nothing is written and the
 //! fault is that function's; a failing Sink has a first part of the text.
-//! Stands on all crates of this repository, with `clap` for the command line and `thiserror` for faults.
+//! Stands on the crates of this repository, with `clap` for the command line, `csv` and `toml` for files, `rand_pcg` for
+//! drawn erasures and `thiserror` for faults.
 #![tactic(auto)]
 
 ghost use Rattle.std.specs.Prelude.{◌≡◌, ◌^◌, ◌<◌, drop, IfOk};
@@ -15,10 +16,18 @@ pub mod command_line;
 pub mod cut;
 pub mod deliver;
 pub mod ending;
+pub mod erasure;
 pub mod fault;
+pub mod inputs;
 pub mod job;
+pub mod places;
 #[cfg(test)]
 mod program_tests;
+pub mod schedule;
+pub mod send;
+#[cfg(test)]
+mod send_tests;
+pub mod settings;
 pub mod sink;
 pub mod streams;
 #[cfg(test)]
@@ -31,6 +40,7 @@ use crate::cut::cut;
 use crate::ending::{Ending, tell};
 use crate::fault::RunFault;
 use crate::job::{Job, JobFault};
+use crate::send::send;
 use crate::sink::Sink;
 use crate::streams::{Outgoing, open};
 use std::alloc::{AllocError, Global};
@@ -96,5 +106,13 @@ fn perform<R: Files + Input + AllocGlobal, O: Sink>(
     match job {
         Job::Cut(rate2048, path) => cut(rt.alloc(), rate2048, &mut open(rt, &path), out),
         Job::Check(path) => check(rt.alloc(), &mut open(rt, &path), out),
+        Job::Send(files) => send(
+            rt.alloc(),
+            &mut open(rt, &files.table),
+            &mut open(rt, &files.settings),
+            &mut open(rt, &files.blocks),
+            &mut open(rt, &files.schedule),
+            out,
+        ),
     }
 }

@@ -3,6 +3,7 @@
 use super::*;
 use crate::blocks::BlocksFault;
 use crate::sink::Tape;
+use crate::tests::practice_table;
 use nr_shifttable::TableFault;
 use std::path::PathBuf;
 use std::test::Fail;
@@ -81,6 +82,35 @@ fn a_job_is_done_over_a_file_at_its_rate(rt: HostRuntime) -> Result<(), Fail> {
     let (answer, _) = performed(&rt, &line)?;
     fs::remove_file(&rt, path.as_path())?;
     assert_eq!(rt; answer, Err(RunFault::Table(TableFault::Fields)));
+    Ok(())
+}
+
+// Writes a file of this process's own, and gives its path.
+fn own_file(rt: &HostRuntime, name: &str, text: &str) -> Result<PathBuf, Fail> {
+    let path = own_path(rt, name)?;
+    fs::write(rt, path.as_path(), text)?;
+    Ok(path)
+}
+
+#[test]
+fn a_job_is_done_over_four_files(rt: HostRuntime) -> Result<(), Fail> {
+    let table = own_file(&rt, "table", practice_table(rt.alloc())?.as_str())?;
+    let settings = own_file(&rt, "settings", "rate2048 = 2048\n")?;
+    let blocks = own_file(&rt, "send", "01\n")?;
+    let schedule = own_file(&rt, "schedule", "block,rv,g,qm,nl,erase\n1,0,24,4,1,-\n")?;
+    let line = format!(in rt.alloc();
+        "linksim send --table {} --settings {} --blocks {} --schedule {}",
+        table.as_path().to_string_lossy(),
+        settings.as_path().to_string_lossy(),
+        blocks.as_path().to_string_lossy(),
+        schedule.as_path().to_string_lossy()
+    )?;
+    let (answer, tape) = performed(&rt, &line)?;
+    for path in [table, settings, blocks, schedule] {
+        fs::remove_file(&rt, path.as_path())?;
+    }
+    assert_eq!(rt; answer, Ok(()));
+    assert_eq!(rt; tape.bytes(), b"sent 1 1 000a51\n".as_slice());
     Ok(())
 }
 

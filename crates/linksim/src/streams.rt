@@ -118,6 +118,8 @@ impl<'r, R: Print> Sink for Outgoing<'r, R> {
 #[cfg(test)]
 mod tests {
     use super::*;
+    use std::cell::Cell;
+    use std::fmt::Display;
     use std::io;
     use std::test::Fail;
 
@@ -143,6 +145,49 @@ mod tests {
                 _ => Ok(0),
             }
         }
+    }
+
+    // An output that takes one octet a write, after `left` interrupted writes.
+    #[derive(Drop)]
+    struct Hindered {
+        left: Cell<u32>,
+    }
+
+    impl Print for Hindered {
+        fn print<D: Display + Drop>(&self, _value: D) -> io::Result<()> {
+            Err(ErrorKind::Unsupported.into())
+        }
+
+        fn println<D: Display + Drop>(&self, _value: D) -> io::Result<()> {
+            Err(ErrorKind::Unsupported.into())
+        }
+
+        fn write_all(&self, _bytes: &[u8]) -> io::Result<()> {
+            Err(ErrorKind::Unsupported.into())
+        }
+
+        fn write_some(&self, bytes: &[u8]) -> io::Result<usize> {
+            match self.left.get().checked_sub(1) {
+                Some(left) => {
+                    self.left.set(left);
+                    Err(ErrorKind::Interrupted.into())
+                }
+                None => Ok(bytes.len().min(1)),
+            }
+        }
+    }
+
+    #[test]
+    fn an_interrupted_write_is_tried_again(rt: HostRuntime) -> Result<(), Fail> {
+        for left in [0, 1, 3] {
+            let output = Hindered {
+                left: Cell::new(left),
+            };
+            let mut sink = Outgoing::new(&output);
+            assert_eq!(rt; sink.put(b"ab"), Ok(1), "after {left}");
+            assert_eq!(rt; output.left.get(), 0, "after {left}");
+        }
+        Ok(())
     }
 
     #[test]

@@ -19,10 +19,10 @@ use std::test::Fail;
 const ROOM: u32 = 1 << 20;
 
 // What a command answered, and what it wrote.
-type Outcome = (Result<(), RunFault>, Vec<u8>);
+pub(crate) type Outcome = (Result<(), RunFault>, Vec<u8>);
 
 // A Source of this text, which does not fail.
-fn feed(alloc: Global, text: &[u8]) -> Result<Feed, AllocError>
+pub(crate) fn feed(alloc: Global, text: &[u8]) -> Result<Feed, AllocError>
     ensures { IfOk result (λ feed. feed.failed ≡ 0) }
 {
     Ok(Feed::new(Vec::from_slice(alloc, text)?, 65_536, 0))
@@ -227,7 +227,7 @@ fn push_record(
 
 // An accepted table of base graph 2, 105 records in ascending order: the four core rows, and for each further row
 // two entries.
-fn practice_table(alloc: Global) -> Result<String, AllocError> {
+pub(crate) fn practice_table(alloc: Global) -> Result<String, AllocError> {
     let core: [&[u32]; 4] = [
         &[0, 2, 4, 6, 8, 10, 11],
         &[1, 3, 5, 7, 9, 11, 12],
@@ -249,7 +249,7 @@ fn practice_table(alloc: Global) -> Result<String, AllocError> {
 }
 
 // An accepted table of base graph 1: the least that its shape asks for, 13 records and one for each of 42 rows.
-fn least_table(alloc: Global) -> Result<String, AllocError> {
+pub(crate) fn least_table(alloc: Global) -> Result<String, AllocError> {
     let core: [&[u32]; 4] = [&[0, 22, 23], &[0, 22, 23, 24], &[0, 24, 25], &[0, 22, 25]];
     let mut text = String::new(alloc);
     for (row, columns) in (0..4).zip(core) {

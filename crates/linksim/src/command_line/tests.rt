@@ -39,6 +39,20 @@ fn jobs_are_read(rt: HostRuntime) -> Result<(), JobFault> {
 }
 
 #[test]
+fn files_are_read(rt: HostRuntime) -> Result<(), JobFault> {
+    let alloc = rt.alloc();
+    let want = Files {
+        table: String::from_str(alloc, "a")?,
+        settings: String::from_str(alloc, "b")?,
+        blocks: String::from_str(alloc, "-")?,
+        schedule: String::from_str(alloc, "d")?,
+    };
+    let line = "send --schedule d --blocks - --settings=b --table a";
+    assert_eq!(rt; job_of(alloc, line)?, Job::Send(want));
+    Ok(())
+}
+
+#[test]
 fn usage_faults_say_why(rt: HostRuntime) -> Result<(), AllocError> {
     let alloc = rt.alloc();
     for (line, want) in [
@@ -68,11 +82,15 @@ fn usage_faults_say_why(rt: HostRuntime) -> Result<(), AllocError> {
         ),
         (
             "mend",
-            "error: unrecognized subcommand 'mend'\n\nUsage: linksim <COMMAND>\n\nFor more information, try '--help'.\n",
+            "error: unrecognized subcommand 'mend'\n\n  tip: a similar subcommand exists: 'send'\n\nUsage: linksim <COMMAND>\n\nFor more information, try '--help'.\n",
         ),
         (
             "send",
-            "error: unrecognized subcommand 'send'\n\nUsage: linksim <COMMAND>\n\nFor more information, try '--help'.\n",
+            "error: the following required arguments were not provided:\n  --table <FILE>\n  --settings <FILE>\n  --blocks <FILE>\n  --schedule <FILE>\n\nUsage: linksim send --table <FILE> --settings <FILE> --blocks <FILE> --schedule <FILE>\n\nFor more information, try '--help'.\n",
+        ),
+        (
+            "send --table - --settings b --blocks - --schedule d",
+            "error: standard input is named for several files\n\nUsage: linksim send --table <FILE> --settings <FILE> --blocks <FILE> --schedule <FILE>\n\nFor more information, try '--help'.\n",
         ),
     ] {
         let text = String::from_str(alloc, want)?;
@@ -85,11 +103,13 @@ fn usage_faults_say_why(rt: HostRuntime) -> Result<(), AllocError> {
 fn help_is_shown(rt: HostRuntime) -> Result<(), AllocError> {
     let alloc = rt.alloc();
     let program =
-        "The data coding chain of 5G NR (3GPP TS 38.212)\n\nUsage: linksim <COMMAND>\n\nCommands:\n  cut    Attaches the CRC to each transport block and cuts it into code blocks\n  check  Checks a table of shift values\n  help   Print this message or the help of the given subcommand(s)\n\nOptions:\n  -h, --help     Print help\n  -V, --version  Print version\n\nNo words at all ask for 'linksim cut --rate 2048 --blocks -'.\n\nExit status: 0 done, 1 refused, 2 wrong usage\n";
+        "The data coding chain of 5G NR (3GPP TS 38.212)\n\nUsage: linksim <COMMAND>\n\nCommands:\n  cut    Attaches the CRC to each transport block and cuts it into code blocks\n  check  Checks a table of shift values\n  send   Encodes each transport block and writes the bits of each transmission of a schedule\n  help   Print this message or the help of the given subcommand(s)\n\nOptions:\n  -h, --help     Print help\n  -V, --version  Print version\n\nNo words at all ask for 'linksim cut --rate 2048 --blocks -'.\n\nExit status: 0 done, 1 refused, 2 wrong usage\n";
     let cut =
         "Attaches the CRC to each transport block and cuts it into code blocks\n\nUsage: linksim cut [OPTIONS] --blocks <FILE>\n\nOptions:\n      --blocks <FILE>  The transport blocks, one a line in hexadecimal (-: standard input)\n      --rate <N>       Twice the target code rate x 1024 of the MCS tables; 0.5 is 1024 [default: 2048]\n  -h, --help           Print help\n\nExample:\n  echo 01 | linksim cut --rate 1024 --blocks -\n\nExit status: 0 done, 1 refused, 2 wrong usage\n";
     let check =
         "Checks a table of shift values\n\nUsage: linksim check --table <FILE>\n\nOptions:\n      --table <FILE>  The shift table, as comma-separated values (-: standard input)\n  -h, --help          Print help\n\nExample:\n  linksim check --table examples/practice.csv\n\nExit status: 0 done, 1 refused, 2 wrong usage\n";
+    let send =
+        "Encodes each transport block and writes the bits of each transmission of a schedule\n\nUsage: linksim send --table <FILE> --settings <FILE> --blocks <FILE> --schedule <FILE>\n\nOptions:\n      --table <FILE>     The shift table, as comma-separated values (-: standard input)\n      --settings <FILE>  The code rate and the limit of the buffer, as TOML (-: standard input)\n      --blocks <FILE>    The transport blocks, one a line in hexadecimal (-: standard input)\n      --schedule <FILE>  The transmissions, as comma-separated values (-: standard input)\n  -h, --help             Print help\n\nExample:\n  linksim send --table examples/practice.csv --settings examples/settings.toml --blocks examples/blocks.txt --schedule examples/schedule.csv\n\nExit status: 0 done, 1 refused, 2 wrong usage\n";
     for (line, want) in [
         ("--help", program),
         ("-h", program),
@@ -97,6 +117,7 @@ fn help_is_shown(rt: HostRuntime) -> Result<(), AllocError> {
         ("cut --help", cut),
         ("help cut", cut),
         ("check --help", check),
+        ("send --help", send),
         ("--version", "linksim 0.1.0\n"),
         ("-V", "linksim 0.1.0\n"),
     ] {

@@ -1,8 +1,11 @@
 use super::*;
 use crate::blocks::BlocksFault;
 use crate::fault::DeskFault;
+use crate::schedule::ScheduleFault;
+use crate::settings::SettingsFault;
 use crate::sink::Tape;
 use nr_graphpick::Graph;
+use nr_ratematch::RmFault;
 use nr_segment::SegFault;
 use nr_shifttable::TableFault;
 
@@ -52,6 +55,16 @@ fn refusals_have_a_line(rt: HostRuntime) -> Result<(), AllocError> {
         (
             RunFault::Desk(256, DeskFault::Seg(SegFault::Uneven)),
             "block 256 Uneven",
+        ),
+        (RunFault::Desk(2, DeskFault::Graph), "block 2 Graph"),
+        (
+            RunFault::Desk(1, DeskFault::Rm(RmFault::NoBuffer)),
+            "block 1 NoBuffer",
+        ),
+        (RunFault::Settings(SettingsFault::Kind), "settings Kind"),
+        (
+            RunFault::Schedule(ScheduleFault::Erase(2)),
+            "schedule Erase 2",
         ),
         (RunFault::Write, "output Write"),
         (RunFault::Memory, "memory"),

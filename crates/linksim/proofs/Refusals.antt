@@ -1,0 +1,41 @@
+-- What holds of each answer that steps give, and which fault they never answer.
+use Rattle.std.proofs.Common.{◌≡◌, ◌≢◌, inl, inr, Bool, true, false, cond, Option, Some, None, Result, Ok, Err, IfOk, refl, ap, subst}
+use Rattle.nr_graphpick.specs.Refusal.{◌>>=◌, Gives, or_fault}
+
+-- a choice
+pub holds_if : {X E : Type 0} (P : X → Type 0) (b : Bool) (r s : Result X E) → (b ≡ true → IfOk r P) → (b ≡ false → IfOk s P) → IfOk (cond b r s) P
+holds_if P true r s at_true at_false = at_true refl
+holds_if P false r s at_true at_false = at_false refl
+
+-- one step after another
+pub holds_then : {X Y E : Type 0} (P : Y → Type 0) (r : Result X E) (next : X → Result Y E) → ((x : X) → r ≡ Ok x → IfOk (next x) P) → IfOk (r >>= next) P
+holds_then P (Ok x) next later = later x refl
+holds_then P (Err e) next later = tt
+
+-- the value that is answered
+pub of_ok : {X E : Type 0} (P : X → Type 0) (r : Result X E) (x : X) → r ≡ Ok x → IfOk r P → P x
+of_ok P r x is holds = subst (λ s. IfOk s P) is holds
+
+-- what a call gives is as what is said
+pub holds_given : {X Y E : Type 0} (P : Y → Type 0) (memory : E) (view : X → Y) (r : Result X E) (said : Result Y E) → Gives memory view r said → IfOk said P → IfOk r (λ x. P (view x))
+holds_given P memory view (Ok x) said given holds = subst (λ s. IfOk s P) given holds
+holds_given P memory view (Err e) said given holds = tt
+
+-- a choice of answers that are not this fault
+pub never_if : {X E : Type 0} (told : E) (b : Bool) (r s : Result X E) → r ≢ Err told → s ≢ Err told → cond b r s ≢ Err told
+never_if told true r s not_r not_s = not_r
+never_if told false r s not_r not_s = not_s
+
+pub never_then : {X Y E : Type 0} (told : E) (r : Result X E) (next : X → Result Y E) → r ≢ Err told → ((x : X) → next x ≢ Err told) → (r >>= next) ≢ Err told
+never_then told (Ok x) next first later = later x
+never_then told (Err e) next first later = λ is. let same : e ≡ told = cc in first (ap Err same)
+
+pub never_or : {X E : Type 0} (told e : E) (o : Option X) → e ≢ told → or_fault e o ≢ Err told
+never_or told e None other = λ is. other (cc)
+never_or told e (Some x) other = λ is. cc
+
+-- a call that gives what is said never answers this fault
+pub never_given : {X Y E : Type 0} (told memory : E) (view : X → Y) (r : Result X E) (said : Result Y E) → memory ≢ told → said ≢ Err told → Gives memory view r said → r ≢ Err told
+never_given told memory view (Ok x) said other none given = λ is. cc
+never_given told memory view (Err e) said other none (inl wanted) = λ is. let same : e ≡ told = cc in other (cc)
+never_given told memory view (Err e) said other none (inr known) = λ is. let same : e ≡ told = cc in none (cc)

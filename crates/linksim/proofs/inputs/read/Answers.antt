@@ -1,0 +1,49 @@
+use Rattle.std.proofs.Common.{◌≡◌, length, map, arith}
+use Rattle.std.proofs.lemmas.List.{length-map}
+use Rattle.std.proofs.lemmas.Result.{err_from_is_err_and}
+use Rattle.linksim.specs.Inputs.{files_said, given_by}
+use Rattle.linksim.proofs.InputLemmas.{given-all, given-blocks, given-schedule, given-settings, given-table, gives-refused, of_all, of_first, of_three, of_two, table_read}
+use Rattle.linksim.proofs.inputs.read.Goals as goal
+
+pub returns-in_err-table-clause-said : goal.returns-in_err-table-clause-said
+returns-in_err-table-clause-said g c = λ same_t same_s same_b same_d.
+    let p = err_from_is_err_and c.from_residual.result c.from_residual.ensures.1 in
+    of_first (g.T.Source.remaining c.args.table.now) (g.S.Source.remaining c.args.settings.now) (g.B.Source.remaining c.args.blocks.now) (g.D.Source.remaining c.args.schedule.now) c.in_err-table.ensures.said
+    (λ t s b d said. gives-refused given_by c.from_residual.result p.0 _ (files_said t s b d) p.1 p.2
+    (given-table _ t s b d c.in_err-table.field-0.0 (λ read. omega (arith, same_t, c.in_err-table.ensures.failed.0 read)) said))
+
+pub returns-in_err-settings-clause-said : goal.returns-in_err-settings-clause-said
+returns-in_err-settings-clause-said g c = λ same_t same_s same_b same_d.
+    let p = err_from_is_err_and c.from_residual-in_err-settings.result c.from_residual-in_err-settings.ensures.1 in
+    of_two (g.T.Source.remaining c.args.table.now) (g.S.Source.remaining c.args.settings.now) (g.B.Source.remaining c.args.blocks.now) (g.D.Source.remaining c.args.schedule.now) c.in_ok-table.ensures.said (c.in_err-settings.ensures.said same_s)
+    (λ t s b d table said. gives-refused given_by c.from_residual-in_err-settings.result p.0 _ (files_said t s b d) p.1 p.2
+    (given-settings t s b d c.in_ok-table.table c.in_err-settings.field-0.0
+    (table_read _ t c.in_ok-table.table (λ read. omega (arith, same_t, c.in_ok-table.ensures.failed.0 read)) table) said))
+
+pub returns-in_err-blocks-clause-said : goal.returns-in_err-blocks-clause-said
+returns-in_err-blocks-clause-said g c = λ same_t same_s same_b same_d.
+    let p = err_from_is_err_and c.from_residual-in_err-blocks.result c.from_residual-in_err-blocks.ensures.1 in
+    of_three (g.T.Source.remaining c.args.table.now) (g.S.Source.remaining c.args.settings.now) (g.B.Source.remaining c.args.blocks.now) (g.D.Source.remaining c.args.schedule.now) c.in_ok-table.ensures.said (c.in_ok-settings.ensures.said same_s) (c.in_err-blocks.ensures.said same_b)
+    (λ t s b d table settings said. gives-refused given_by c.from_residual-in_err-blocks.result p.0 _ (files_said t s b d) p.1 p.2
+    (given-blocks t s b d c.in_ok-table.table c.in_ok-settings.settings c.in_err-blocks.field-0.0
+    (table_read _ t c.in_ok-table.table (λ read. omega (arith, same_t, c.in_ok-table.ensures.failed.0 read)) table) settings said))
+
+pub returns-in_err-schedule-clause-said : goal.returns-in_err-schedule-clause-said
+returns-in_err-schedule-clause-said g c = λ same_t same_s same_b same_d.
+    let p = err_from_is_err_and c.from_residual-in_err-schedule.result c.from_residual-in_err-schedule.ensures.1 in
+    let count : c.len.result ≡ length (map (λ block. block.items) c.in_ok-blocks.blocks.items) =
+    omega (arith, length-map c.in_ok-blocks.blocks.items (λ block. block.items)) in
+    let schedule = rw count at c.in_err-schedule.ensures.said same_d in
+    of_all (g.T.Source.remaining c.args.table.now) (g.S.Source.remaining c.args.settings.now) (g.B.Source.remaining c.args.blocks.now) (g.D.Source.remaining c.args.schedule.now) c.in_ok-table.ensures.said (c.in_ok-settings.ensures.said same_s) (c.in_ok-blocks.ensures.said same_b) schedule
+    (λ t s b d table settings blocks said. gives-refused given_by c.from_residual-in_err-schedule.result p.0 _ (files_said t s b d) p.1 p.2
+    (given-schedule t s b d c.in_ok-table.table c.in_ok-settings.settings (map (λ block. block.items) c.in_ok-blocks.blocks.items) c.in_err-schedule.field-0.0
+    (table_read _ t c.in_ok-table.table (λ read. omega (arith, same_t, c.in_ok-table.ensures.failed.0 read)) table) settings blocks said))
+
+pub returns-clause-said : goal.returns-clause-said
+returns-clause-said g c = λ same_t same_s same_b same_d.
+    let count : c.len.result ≡ length (map (λ block. block.items) c.in_ok-blocks.blocks.items) =
+    omega (arith, length-map c.in_ok-blocks.blocks.items (λ block. block.items)) in
+    let schedule = rw count at c.in_ok-schedule.ensures.said same_d in
+    of_all (g.T.Source.remaining c.args.table.now) (g.S.Source.remaining c.args.settings.now) (g.B.Source.remaining c.args.blocks.now) (g.D.Source.remaining c.args.schedule.now) c.in_ok-table.ensures.said (c.in_ok-settings.ensures.said same_s) (c.in_ok-blocks.ensures.said same_b) schedule
+    (λ t s b d table settings blocks said. given-all t s b d c.in_ok-table.table c.in_ok-settings.settings (map (λ block. block.items) c.in_ok-blocks.blocks.items) c.in_ok-schedule.schedule.items
+    (table_read _ t c.in_ok-table.table (λ read. omega (arith, same_t, c.in_ok-table.ensures.failed.0 read)) table) settings blocks said)

@@ -1,0 +1,35 @@
+use Rattle.std.proofs.Common.{Err, ap}
+use Rattle.std.proofs.lemmas.Result.{err_from_is_err_and}
+use Rattle.linksim.specs.Inputs.{given_by}
+use Rattle.linksim.specs.SendText.{send_said, transmission_lines}
+use Rattle.linksim.specs.declared.fault.RunFault.TheVariants.{Write}
+use Rattle.linksim.proofs.CommandLemmas.{delivers-refused, delivers-writes, writes_said}
+use Rattle.linksim.proofs.InputLemmas.{of_block_or_memory, of_four_then}
+use Rattle.linksim.proofs.SendLemmas.{send_said-ready, send_said-refused, send_said-unsent}
+use Rattle.linksim.proofs.send.send.Goals as goal
+
+pub returns-in_err-inputs-clause-text : goal.returns-in_err-inputs-clause-text
+returns-in_err-inputs-clause-text g c = λ same_t same_s same_b same_d.
+    let p = err_from_is_err_and c.from_residual.result c.from_residual.ensures.1 in
+    of_four_then (g.T.Source.remaining c.args.table.now) (g.S.Source.remaining c.args.settings.now) (g.B.Source.remaining c.args.blocks.now) (g.D.Source.remaining c.args.schedule.now)
+    (c.in_err-inputs.ensures.said same_t same_s same_b same_d)
+    (λ t s b d given. delivers-refused (g.O.Sink.written c.args.out.now) c.from_residual.result p.0 _ (send_said t s b d) p.1 p.2
+    (λ is. c.in_err-inputs.ensures.unput (ap Err is)) (send_said-refused t s b d c.in_err-inputs.field-0.0 given))
+
+pub returns-in_err-senders-clause-text : goal.returns-in_err-senders-clause-text
+returns-in_err-senders-clause-text g c = λ same_t same_s same_b same_d.
+    let p = err_from_is_err_and c.from_residual-in_err-senders.result c.from_residual-in_err-senders.ensures.1 in
+    of_four_then (g.T.Source.remaining c.args.table.now) (g.S.Source.remaining c.args.settings.now) (g.B.Source.remaining c.args.blocks.now) (g.D.Source.remaining c.args.schedule.now)
+    (c.in_ok-inputs.ensures.said same_t same_s same_b same_d)
+    (λ t s b d given. delivers-refused (g.O.Sink.written c.args.out.now) c.from_residual-in_err-senders.result p.0 _ (send_said t s b d) p.1 p.2
+    (of_block_or_memory _ Write c.in_err-senders.ensures.of_block (λ is. cc) (λ none. none))
+    (send_said-unsent t s b d (given_by c.in_ok-inputs.inputs) c.in_err-senders.field-0.0 given c.in_err-senders.ensures.said))
+
+pub returns-clause-text : goal.returns-clause-text
+returns-clause-text g c = λ same_t same_s same_b same_d.
+    let text = rw (c.deref.ensures.value, c.deref-2.ensures.value) at c.send_lines.ensures.text in
+    of_four_then (g.T.Source.remaining c.args.table.now) (g.S.Source.remaining c.args.settings.now) (g.B.Source.remaining c.args.blocks.now) (g.D.Source.remaining c.args.schedule.now)
+    (c.in_ok-inputs.ensures.said same_t same_s same_b same_d)
+    (λ t s b d given. delivers-writes _ _ c.send_lines.result (send_said t s b d)
+    (writes_said _ _ c.send_lines.result (transmission_lines c.in_ok-senders.senders.items c.in_ok-inputs.inputs.schedule.items) (send_said t s b d)
+    (send_said-ready t s b d (given_by c.in_ok-inputs.inputs) c.in_ok-senders.senders.items given c.in_ok-senders.ensures.said) text))

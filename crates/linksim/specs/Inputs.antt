@@ -1,0 +1,70 @@
+-- What the four files of a command over a schedule say: `send`, and those that follow its schedule.
+use Rattle.std.specs.Prelude.{ℕ, ◌+◌, List, [], ◌∷◌, length, map, Option, IfSome, Result, Ok}
+use Rattle.nr_bitvec.specs.BitList.{bits_of}
+use Rattle.nr_graphpick.specs.Refusal.{◌>>=◌, with_fault}
+use Rattle.nr_shifttable.specs.Accepted.{Entries, table_said}
+use Rattle.linksim.specs.Blocks.{blocks_of}
+use Rattle.linksim.specs.Schedule.{schedule_said}
+use Rattle.linksim.specs.Settings.{settings_said}
+use Rattle.nr_blockdesk.specs.Sent.{Sending, sending_said}
+use Rattle.nr_blockdesk.specs.declared.settings.Settings.{Settings}
+use Rattle.linksim.specs.declared.schedule.Transmission.{Transmission}
+use Rattle.linksim.specs.declared.inputs.Inputs.{Inputs}
+use Rattle.linksim.specs.declared.fault.RunFault.{RunFault}
+use Rattle.linksim.specs.declared.fault.RunFault.TheVariants as faults
+
+-- what the four files say, each for itself: transport blocks as octets
+pub record Given : Type 0 where
+  pub table : Entries
+  pub settings : Settings
+  pub blocks : List (List ℕ)
+  pub schedule : List Transmission
+
+-- the same of files that were read
+abbrev pub given_by : Inputs → Given
+given_by inputs = record {
+  table = inputs.table;
+  settings = inputs.settings;
+  blocks = map (λ block. block.items) inputs.blocks.items;
+  schedule = inputs.schedule.items;
+}
+
+-- the four files, or the first fault: in this order the table, the settings, the blocks, and the schedule for so many
+-- blocks
+unfoldable pub files_said : List ℕ → List ℕ → List ℕ → List ℕ → Result Given RunFault
+files_said table_file settings_file blocks_file schedule_file = do
+  table ← with_fault faults.Table (table_said table_file)
+  settings ← with_fault faults.Settings (settings_said settings_file)
+  blocks ← with_fault faults.Blocks (blocks_of blocks_file)
+  schedule ← with_fault faults.Schedule (schedule_said (length blocks) schedule_file)
+  Ok (record { table = table; settings = settings; blocks = blocks; schedule = schedule })
+
+-- the sender of transport block n, or why that block is refused
+abbrev pub sender_said : Entries → Settings → ℕ → List ℕ → Result Sending RunFault
+sender_said table settings n octets = with_fault (faults.Desk n) (sending_said table settings (bits_of octets))
+
+-- a sender for each transport block from block n on, or the first fault
+unfoldable pub senders_from : Entries → Settings → ℕ → List (List ℕ) → Result (List Sending) RunFault
+senders_from table settings n [] = Ok []
+senders_from table settings n (octets ∷ blocks) = do
+  sender ← sender_said table settings n octets
+  more ← senders_from table settings (n + 1) blocks
+  Ok (sender ∷ more)
+
+-- a sender for each transport block, and the transmissions
+pub record Ready : Type 0 where
+  pub senders : List Sending
+  pub schedule : List Transmission
+
+-- what a command over a schedule works from, or the first fault: that of a file, or of a transport block
+unfoldable pub inputs_said : List ℕ → List ℕ → List ℕ → List ℕ → Result Ready RunFault
+inputs_said table_file settings_file blocks_file schedule_file = do
+  given ← files_said table_file settings_file blocks_file schedule_file
+  senders ← senders_from given.table given.settings 1 given.blocks
+  Ok (record { senders = senders; schedule = given.schedule })
+
+-- this holds of the octets of four Sources, where all of them are known
+abbrev pub OfFour : Option (List ℕ) → Option (List ℕ) → Option (List ℕ) → Option (List ℕ)
+    → (List ℕ → List ℕ → List ℕ → List ℕ → Type 0) → Type 0
+OfFour t s b d holds = IfSome t (λ table. IfSome s (λ settings. IfSome b (λ blocks. IfSome d (λ schedule.
+    holds table settings blocks schedule))))

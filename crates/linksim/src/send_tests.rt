@@ -1,0 +1,147 @@
+//! `send` over Sources and a Sink in memory. The values are worked by hand: under the practice table parity columns are
+//! sums and rotations of columns that can be written down.
+
+use crate::blocks::BlocksFault;
+use crate::fault::{DeskFault, RunFault};
+use crate::schedule::ScheduleFault;
+use crate::send::send;
+use crate::settings::SettingsFault;
+use crate::sink::Tape;
+use crate::tests::{Outcome, feed, least_table, practice_table};
+use nr_shifttable::{Feed, TableFault};
+use std::alloc::{AllocError, Global};
+use std::test::Fail;
+
+const ROOM: u32 = 4096;
+
+const SETTINGS: &[u8] = b"rate2048 = 2048\n";
+
+const SCHEDULE: &[u8] = b"block,rv,g,qm,nl,erase\n1,0,24,4,1,-\n";
+
+// `send` of four files' texts, with a Tape of ample room.
+fn send_of(
+    alloc: Global,
+    table: &[u8],
+    settings: &[u8],
+    blocks: &[u8],
+    schedule: &[u8],
+) -> Result<Outcome, AllocError> {
+    let mut table = feed(alloc, table)?;
+    let mut settings = feed(alloc, settings)?;
+    let mut blocks = feed(alloc, blocks)?;
+    let mut schedule = feed(alloc, schedule)?;
+    let mut tape = Tape::new(alloc, ROOM, ROOM, 0)?;
+    let answer = send(
+        alloc,
+        &mut table,
+        &mut settings,
+        &mut blocks,
+        &mut schedule,
+        &mut tape,
+    );
+    Ok((answer, Vec::from_slice(alloc, tape.bytes())?))
+}
+
+// Block 01 with its CRC is 011021: Zc is 4, so each column of the word is a digit. All of the buffer; then 24 bits in
+// four rows of six, read by columns; then 40 bits from column 45 on; and two transmissions that are refused.
+#[test]
+fn sends(rt: HostRuntime) -> Result<(), Fail> {
+    let table = practice_table(rt.alloc())?;
+    let schedule =
+        b"block,rv,g,qm,nl,erase\n1,0,184,1,1,-\n1,0,24,4,1,-\n1,3,40,1,1,-\n1,4,24,1,1,-\n1,0,30,4,1,-\n";
+    let (answer, written) = send_of(
+        rt.alloc(),
+        table.as_bytes(),
+        SETTINGS,
+        b"01",
+        schedule.as_slice(),
+    )?;
+    assert_eq!(rt; answer, Ok(()));
+    let want: &[u8] = b"sent 1 1 1021033022000008108800000240220000081088000002\n\
+        sent 2 1 000a51\n\
+        sent 3 1 8000002102\n\
+        refused 4 1 Rv\n\
+        refused 5 1 Ragged\n";
+    assert_eq!(rt; written.as_slice(), want);
+    Ok(())
+}
+
+// The first fault in the order of the files is answered, then that of a transport block, and nothing is written.
+#[test]
+fn refuses_files_in_order(rt: HostRuntime) -> Result<(), Fail> {
+    let table = least_table(rt.alloc())?;
+    let cases: [(&[u8], &[u8], &[u8], RunFault); 4] = [
+        (b"", b"0g", b"", RunFault::Settings(SettingsFault::Missing)),
+        (
+            SETTINGS,
+            b"0g",
+            b"",
+            RunFault::Blocks(BlocksFault::Digit(1)),
+        ),
+        (
+            SETTINGS,
+            b"01",
+            b"",
+            RunFault::Schedule(ScheduleFault::Header),
+        ),
+        (
+            SETTINGS,
+            b"01",
+            SCHEDULE,
+            RunFault::Desk(1, DeskFault::Graph),
+        ),
+    ];
+    for (settings, blocks, schedule, fault) in cases {
+        let (answer, written) = send_of(rt.alloc(), table.as_bytes(), settings, blocks, schedule)?;
+        assert_eq!(rt; answer, Err(fault));
+        assert_eq!(rt; written.len(), 0);
+    }
+    Ok(())
+}
+
+// Each Source in turn is Broken at its first pull.
+#[test]
+fn a_broken_source_of_four_is_read(rt: HostRuntime) -> Result<(), Fail> {
+    let table = practice_table(rt.alloc())?;
+    for (fails, fault) in [
+        ([1, 1, 1, 1], RunFault::Table(TableFault::Read)),
+        ([0, 1, 1, 1], RunFault::Settings(SettingsFault::Read)),
+        ([0, 0, 1, 1], RunFault::Blocks(BlocksFault::Read)),
+        ([0, 0, 0, 1], RunFault::Schedule(ScheduleFault::Read)),
+    ] {
+        let text = Vec::from_slice(rt.alloc(), table.as_bytes())?;
+        let settings = Vec::from_slice(rt.alloc(), SETTINGS)?;
+        let blocks = Vec::from_slice(rt.alloc(), b"01")?;
+        let schedule = Vec::from_slice(rt.alloc(), SCHEDULE)?;
+        let mut tape = Tape::new(rt.alloc(), ROOM, ROOM, 0)?;
+        let answer = send(
+            rt.alloc(),
+            &mut Feed::new(text, 65_536, fails[0]),
+            &mut Feed::new(settings, 65_536, fails[1]),
+            &mut Feed::new(blocks, 65_536, fails[2]),
+            &mut Feed::new(schedule, 65_536, fails[3]),
+            &mut tape,
+        );
+        assert_eq!(rt; answer, Err(fault));
+        assert_eq!(rt; tape.bytes().len(), 0);
+    }
+    Ok(())
+}
+
+// A Tape with this room has the first octets of the text.
+#[test]
+fn a_broken_sink_has_the_first_octets(rt: HostRuntime) -> Result<(), Fail> {
+    let table = practice_table(rt.alloc())?;
+    let mut tape = Tape::new(rt.alloc(), 10, 3, 0)?;
+    let answer = send(
+        rt.alloc(),
+        &mut feed(rt.alloc(), table.as_bytes())?,
+        &mut feed(rt.alloc(), SETTINGS)?,
+        &mut feed(rt.alloc(), b"01")?,
+        &mut feed(rt.alloc(), SCHEDULE)?,
+        &mut tape,
+    );
+    assert_eq!(rt; answer, Err(RunFault::Write));
+    assert_eq!(rt; tape.bytes(), b"sent 1 1 0".as_slice());
+    Ok(())
+}
