@@ -66,6 +66,48 @@ fn sends(rt: HostRuntime) -> Result<(), Fail> {
     Ok(())
 }
 
+// What is written under the practice table, and nothing where `send` is refused.
+fn sent(alloc: Global, settings: &[u8], blocks: &[u8], schedule: &[u8]) -> Result<Vec<u8>, Fail> {
+    let table = practice_table(alloc)?;
+    let (_, written) = send_of(alloc, table.as_bytes(), settings, blocks, schedule)?;
+    Ok(written)
+}
+
+// Whether the 640 bits after the line's first words are 320 bits twice.
+fn is_sent_twice(line: &[u8]) -> bool {
+    line.len() == 170 && line.starts_with(b"sent 1 1 ") && line[9..89] == line[89..169]
+}
+
+// A buffer of one bit, which is a zero; two code blocks, of which only the second is scheduled, and then none; and 320
+// places that are sent twice.
+#[test]
+fn sends_by_the_buffer_and_the_mask(rt: HostRuntime) -> Result<(), Fail> {
+    let one = sent(
+        rt.alloc(),
+        b"rate2048 = 2048\nlbrm = 1\n",
+        b"01",
+        b"block,rv,g,qm,nl,erase\n1,0,4,1,1,-\n",
+    )?;
+    assert_eq!(rt; one.as_slice(), b"sent 1 1 0\n".as_slice());
+    let zeros = vec![in rt.alloc(); b'0'; 958]?;
+    let masked = sent(
+        rt.alloc(),
+        b"rate2048 = 512\n",
+        &zeros,
+        b"block,rv,g,qm,nl,erase,flip,mask\n1,0,4,4,1,-,-,1\n1,0,4,4,1,-,-,2\n",
+    )?;
+    let want: &[u8] = b"sent 1 1 0\nrefused 2 1 NoneScheduled\n";
+    assert_eq!(rt; masked.as_slice(), want);
+    let twice = sent(
+        rt.alloc(),
+        SETTINGS,
+        b"000001",
+        b"block,rv,g,qm,nl,erase\n1,0,640,1,1,-\n",
+    )?;
+    assert!(rt; is_sent_twice(&twice));
+    Ok(())
+}
+
 // The first fault in the order of the files is answered, then that of a transport block, and nothing is written.
 #[test]
 fn refuses_files_in_order(rt: HostRuntime) -> Result<(), Fail> {
@@ -99,7 +141,7 @@ fn refuses_files_in_order(rt: HostRuntime) -> Result<(), Fail> {
     Ok(())
 }
 
-// Each Source in turn is Broken at its first pull.
+// Each Source in turn is Broken at its first pull, and at its second, which is the one that meets the end.
 #[test]
 fn a_broken_source_of_four_is_read(rt: HostRuntime) -> Result<(), Fail> {
     let table = practice_table(rt.alloc())?;
@@ -108,6 +150,10 @@ fn a_broken_source_of_four_is_read(rt: HostRuntime) -> Result<(), Fail> {
         ([0, 1, 1, 1], RunFault::Settings(SettingsFault::Read)),
         ([0, 0, 1, 1], RunFault::Blocks(BlocksFault::Read)),
         ([0, 0, 0, 1], RunFault::Schedule(ScheduleFault::Read)),
+        ([2, 1, 1, 1], RunFault::Table(TableFault::Read)),
+        ([0, 2, 1, 1], RunFault::Settings(SettingsFault::Read)),
+        ([0, 0, 2, 1], RunFault::Blocks(BlocksFault::Read)),
+        ([0, 0, 0, 2], RunFault::Schedule(ScheduleFault::Read)),
     ] {
         let text = Vec::from_slice(rt.alloc(), table.as_bytes())?;
         let settings = Vec::from_slice(rt.alloc(), SETTINGS)?;
