@@ -9,6 +9,8 @@ mod laws;
 mod octets;
 mod packed;
 #[cfg(test)]
+mod refused_tests;
+#[cfg(test)]
 mod tests;
 pub mod words;
 

@@ -99,12 +99,13 @@ impl Bits {
         (turned(self.window(at)) & 0xff) as u8
     }
 
-    /// Puts a bit at the end of a list that is not full. `AllocError` is want of memory, and leaves the list as
-    /// it was.
+    /// Puts a bit at the end of a list that is not full. `AllocError` is want of memory where the list has no room, and
+    /// leaves the list as it was.
     pub fn push(&mut self, bit: bool) -> Result<(), AllocError>
         requires { length self.old.items < 2 ^ 24 }
         ensures ok { OnOk result (self.new.items ≡ self.old.items ++ bit ∷ []) }
-        ensures err { OnErr result (self.new.items ≡ self.old.items) }
+        ensures err { OnErr result (self.new ≡ self.old) }
+        ensures full { OnErr result (self.old.room ≡ 0) }
     {
         self.make_room()?;
         self.push_in_room(bit);
@@ -116,6 +117,8 @@ impl Bits {
         requires { length self.old.items < 2 ^ 24 }
         ensures items { self.new.items ≡ self.old.items }
         ensures room { OnOk result (0 < self.new.room) }
+        ensures err { OnErr result (self.new ≡ self.old) }
+        ensures full { OnErr result (self.old.room ≡ 0) }
     {
         if self.len % 64 == 0 {
             self.words.reserve(1)?;
@@ -151,11 +154,12 @@ impl Bits {
     }
 
     /// Puts the bits of `more` at the end, where both lists together have at most 2^24 bits. `AllocError` is
-    /// want of memory, and leaves the list as it was.
+    /// want of memory where the list lacks the room, and leaves the list as it was.
     pub fn extend(&mut self, more: &Bits) -> Result<(), AllocError>
         requires { length self.old.items + length more.now.items ≤ 2 ^ 24 }
         ensures ok { OnOk result (self.new.items ≡ self.old.items ++ more.now.items) }
         ensures err { OnErr result (self.new.items ≡ self.old.items) }
+        ensures full { OnErr result (self.old.room < length more.now.items) }
     {
         let len = self.len + more.len;
         self.words.resize(len.div_ceil(64), 0)?;

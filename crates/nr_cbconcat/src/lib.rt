@@ -15,11 +15,12 @@ use std::alloc::AllocError;
 ///
 /// # Errors
 ///
-/// `AllocError` is want of memory, and leaves the joined bits as they were.
+/// `AllocError` is want of memory where the joined bits lack the room, and leaves them as they were.
 pub fn append(joined: &mut Bits, block: &Bits) -> Result<(), AllocError>
     requires { length joined.old.items + length block.now.items ≤ 2 ^ 24 }
     ensures ok { OnOk result (joined.new.items ≡ joined.old.items ++ block.now.items) }
     ensures err { OnErr result (joined.new.items ≡ joined.old.items) }
+    ensures full { OnErr result (joined.old.room < length block.now.items) }
 {
     joined.extend(block)
 }
@@ -47,5 +48,7 @@ pub fn places_have_one_owner()
     ensures { PlacesHaveOneOwner }
 {}
 
+#[cfg(test)]
+mod refused_tests;
 #[cfg(test)]
 mod tests;

@@ -187,4 +187,6 @@ pub fn residues_add()
 {}
 
 #[cfg(test)]
+mod refused_tests;
+#[cfg(test)]
 mod tests;

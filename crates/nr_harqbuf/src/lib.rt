@@ -13,4 +13,6 @@ pub use laws::{fits_by_record, record_continues};
 pub use store::Store;
 
 #[cfg(test)]
+mod refused_tests;
+#[cfg(test)]
 mod tests;

@@ -49,4 +49,6 @@ pub fn seats_are_seating()
 {}
 
 #[cfg(test)]
+mod refused_tests;
+#[cfg(test)]
 mod tests;

@@ -26,9 +26,12 @@ use std::alloc::Global;
 /// where memory is refused.
 pub fn encode(alloc: Global, table: &Table, plan: &Plan, bits: &Bits) -> Result<Word, EncFault>
     requires { length bits.now.items ≡ plan.now.kdash }
-    ensures no_graph { IsErrOf result EncFault.NoGraph ↔ (has_graph plan.now.graph table.now ≡ false) }
-    ensures word { IfOk result (λ word. word ≡ codeword table.now plan.now.graph (numbers plan.now) bits.now.items) }
-    ensures plain { IfOk result (IsCodeword table.now plan.now.graph (numbers plan.now) bits.now.items) }
+    ensures no_graph { IsErrOf result EncFault.NoGraph
+        ↔ (has_graph plan.now.graph table.now ≡ false) }
+    ensures word { IfOk result (λ word. word
+        ≡ codeword table.now plan.now.graph (numbers plan.now) bits.now.items) }
+    ensures plain { IfOk result
+        (IsCodeword table.now plan.now.graph (numbers plan.now) bits.now.items) }
 {
     codewords_are_plain();
     if !table.has(plan.graph) {
@@ -46,7 +49,8 @@ pub fn encode(alloc: Global, table: &Table, plan: &Plan, bits: &Bits) -> Result<
 pub fn meets(table: &Table, plan: &Plan, word: &Word) -> bool
     requires graph { IsTrue (has_graph plan.now.graph table.now) }
     requires long { length word.now ≡ word_size plan.now.graph (numbers plan.now) }
-    ensures { IsTrue result ↔ Meets (block_checks table.now plan.now.graph (numbers plan.now)) (bit word.now) }
+    ensures { IsTrue result
+        ↔ Meets (block_checks table.now plan.now.graph (numbers plan.now)) (bit word.now) }
 {
     for i in 0..plan.graph.rows() {
         let row = table.row_entries(plan.graph, i);

@@ -17,4 +17,6 @@ pub use laws::{codewords_are_plain, one_codeword};
 pub use word::{Word, fill};
 
 #[cfg(test)]
+mod refused_tests;
+#[cfg(test)]
 mod tests;

@@ -47,7 +47,8 @@ fn add_row(z: usize, set: usize, row: &[Entry], before: usize, bits: &Bits, sums
     requires set { set < 8 }
     requires inside { before * z ≤ length bits.now.items }
     requires block { z ≤ length sums.old.items }
-    ensures sum { (t : ℕ) → t < z → bit sums.new.items t ≡ bit sums.old.items t ⊕ sum_before set z (bit bits.now.items) before t row.now }
+    ensures sum { (t : ℕ) → t < z → bit sums.new.items t
+        ≡ bit sums.old.items t ⊕ sum_before set z (bit bits.now.items) before t row.now }
     ensures long { length sums.new.items ≡ length sums.old.items }
 {
     let _ = bits.len();
@@ -76,7 +77,8 @@ pub fn set_in(plan: &Plan) -> u32
 
 // The value at a row of the first parity column; 0 where there is none.
 fn first_value(table: &Table, plan: &Plan, row: u32) -> u16
-    ensures { result ≡ unwrap_or (shift_at (entries_in plan.now.graph table.now) plan.now.set row (info_cols_of plan.now.graph)) 0 }
+    ensures { result ≡ unwrap_or (shift_at (entries_in plan.now.graph table.now) plan.now.set row
+        (info_cols_of plan.now.graph)) 0 }
 {
     table
         .shift(plan.graph, row, plan.graph.info_cols(), set_in(plan))
@@ -85,8 +87,11 @@ fn first_value(table: &Table, plan: &Plan, row: u32) -> u16
 
 // The value at that one of rows 1 and 2 which has the first parity column.
 fn middle_value(table: &Table, plan: &Plan) -> u16
-    ensures { result ≡ either (shift_at (entries_in plan.now.graph table.now) plan.now.set 1 (info_cols_of plan.now.graph))
-        (shift_at (entries_in plan.now.graph table.now) plan.now.set 2 (info_cols_of plan.now.graph)) }
+    ensures { result ≡ either
+        (shift_at (entries_in plan.now.graph table.now) plan.now.set 1
+        (info_cols_of plan.now.graph))
+        (shift_at (entries_in plan.now.graph table.now) plan.now.set 2
+        (info_cols_of plan.now.graph)) }
 {
     match table.shift(plan.graph, 1, plan.graph.info_cols(), set_in(plan)) {
         Some(value) => value,
@@ -109,7 +114,8 @@ fn third_value(a: u16, b: u16, c: u16) -> u16
 
 // By how much the first parity column is rotated in the sum of the four core rows.
 fn rotation_of(table: &Table, plan: &Plan) -> u16
-    ensures { result ≡ core_rotation (entries_in plan.now.graph table.now) plan.now.set (info_cols_of plan.now.graph) }
+    ensures { result ≡ core_rotation (entries_in plan.now.graph table.now) plan.now.set
+        (info_cols_of plan.now.graph) }
 {
     let first = first_value(table, plan, 0);
     let middle = middle_value(table, plan);
@@ -121,7 +127,8 @@ fn rotation_of(table: &Table, plan: &Plan) -> u16
 fn sum_core(table: &Table, plan: &Plan, bits: &Bits, sums: &mut Bits)
     requires long { length bits.now.items ≡ word_size plan.now.graph (numbers plan.now) }
     requires sums { length sums.old.items ≡ 384 }
-    ensures sum { (t : ℕ) → t < plan.now.z → bit sums.new.items t ≡ core_of table.now plan.now.graph (numbers plan.now) bits.now.items t }
+    ensures sum { (t : ℕ) → t < plan.now.z → bit sums.new.items t
+        ≡ core_of table.now plan.now.graph (numbers plan.now) bits.now.items t }
     ensures sums { length sums.new.items ≡ 384 }
 {
     let z = plan.z as usize;
@@ -210,8 +217,10 @@ pub fn solve(table: &Table, plan: &Plan, bits: &mut Bits, sums: &mut Bits)
     requires graph { IsTrue (has_graph plan.now.graph table.now) }
     requires long { length bits.old.items ≡ word_size plan.now.graph (numbers plan.now) }
     requires sums { length sums.old.items ≡ 384 }
-    ensures completed { bits.new.items ≡ completed table.now plan.now.graph (numbers plan.now) (take plan.now.k bits.old.items) }
-    ensures is_word { IsWordOf (block_checks table.now plan.now.graph (numbers plan.now)) (take plan.now.k bits.old.items) bits.new.items }
+    ensures completed { bits.new.items ≡ completed table.now plan.now.graph (numbers plan.now)
+        (take plan.now.k bits.old.items) }
+    ensures is_word { IsWordOf (block_checks table.now plan.now.graph (numbers plan.now))
+        (take plan.now.k bits.old.items) bits.new.items }
     ensures sums { length sums.new.items ≡ 384 }
 {
     accepted_shape();

@@ -6,7 +6,7 @@ use nr_graphpick::Graph;
 use nr_lifting::SIZES;
 use nr_segment::{Plan, plan};
 use nr_shifttable::{Feed, Table};
-use std::alloc::Global;
+use std::alloc::{AllocError, Global};
 use std::fmt::Write;
 use std::test::Fail;
 
@@ -27,13 +27,13 @@ fn plain_cell(row: u32, col: u32, value: u16) -> Cell {
     }
 }
 
-/// The table of a list of entries of one base graph.
+/// The table of a list of entries of one base graph. To write to a String fails for want of memory alone.
 fn table_of(alloc: Global, graph: Graph, cells: &[Cell]) -> Result<Table, Fail> {
     let mut text = String::new(alloc);
     for cell in cells {
-        write!(text, "{graph},{},{}", cell.row, cell.col)?;
+        write!(text, "{graph},{},{}", cell.row, cell.col).map_err(|_| AllocError)?;
         for value in cell.values {
-            write!(text, ",{value}")?;
+            write!(text, ",{value}").map_err(|_| AllocError)?;
         }
         text.push('\n')?;
     }
@@ -44,7 +44,7 @@ fn table_of(alloc: Global, graph: Graph, cells: &[Cell]) -> Result<Table, Fail> 
 /// A practice table of base graph 2: in rows 0 to 3 the even or the odd information columns with value 0, in each row
 /// from 4 on one information column, rotated by the row's number; the first parity column has the values `first` and
 /// `middle` in rows 0 and 2. With `more`, row 1 has column 0 too, rotated by one.
-fn practice(alloc: Global, first: u16, middle: u16, more: bool) -> Result<Table, Fail> {
+pub(crate) fn practice(alloc: Global, first: u16, middle: u16, more: bool) -> Result<Table, Fail> {
     let mut cells = Vec::new(alloc);
     for row in 0..4 {
         for k in 0..5 {
@@ -75,7 +75,7 @@ fn practice(alloc: Global, first: u16, middle: u16, more: bool) -> Result<Table,
 }
 
 /// Whether the table has the plan's base graph, the word its length, and the word meets every row.
-fn is_met(table: &Table, plan: &Plan, word: &Word) -> bool {
+pub(crate) fn is_met(table: &Table, plan: &Plan, word: &Word) -> bool {
     table.has(plan.graph)
         && word.len() == (plan.graph.cols() * plan.z) as usize
         && meets(table, plan, word)
@@ -94,7 +94,12 @@ fn put(word: &mut Word, i: usize, value: bool) {
 }
 
 /// The word of K' bits that are given as octets.
-fn word_of(alloc: Global, table: &Table, plan: &Plan, octets: &[u8; 3]) -> Result<Word, Fail> {
+pub(crate) fn word_of(
+    alloc: Global,
+    table: &Table,
+    plan: &Plan,
+    octets: &[u8; 3],
+) -> Result<Word, Fail> {
     let bits = Bits::from_bytes(alloc, octets)?;
     if bits.len() != plan.kdash as usize {
         return Err(Fail::new("the octets are not K' bits"));

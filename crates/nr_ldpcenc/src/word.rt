@@ -40,7 +40,8 @@ impl Model for Word {
 impl Word {
     /// The word of zeros for the code blocks of a plan. `AllocError` is want of memory.
     pub fn new(alloc: Global, plan: &Plan) -> Result<Word, AllocError>
-        ensures { IfOk result (λ word. word ≡ replicate (word_size plan.now.graph (numbers plan.now)) false) }
+        ensures { IfOk result (λ word. word
+            ≡ replicate (word_size plan.now.graph (numbers plan.now)) false) }
     {
         let bits = Bits::zeros(alloc, plan.graph.cols() * plan.z)?;
         let work = Bits::zeros(alloc, MOST_SIZE)?;
@@ -74,7 +75,8 @@ impl Word {
     // Puts a list of bits at the start.
     pub(crate) fn begin(&mut self, bits: &Bits)
         requires { length bits.now.items ≤ length self.old }
-        ensures { Copies (length bits.now.items) (length bits.now.items) bits.now.items self.old self.new }
+        ensures { Copies (length bits.now.items) (length bits.now.items) bits.now.items
+            self.old self.new }
     {
         copy_bits(&mut self.bits, bits);
     }
@@ -85,8 +87,10 @@ impl Word {
 pub fn fill(table: &Table, plan: &Plan, word: &mut Word)
     requires graph { IsTrue (has_graph plan.now.graph table.now) }
     requires long { length word.old ≡ word_size plan.now.graph (numbers plan.now) }
-    ensures completed { word.new ≡ completed table.now plan.now.graph (numbers plan.now) (take plan.now.k word.old) }
-    ensures is_word { IsWordOf (block_checks table.now plan.now.graph (numbers plan.now)) (take plan.now.k word.old) word.new }
+    ensures completed { word.new ≡ completed table.now plan.now.graph (numbers plan.now)
+        (take plan.now.k word.old) }
+    ensures is_word { IsWordOf (block_checks table.now plan.now.graph (numbers plan.now))
+        (take plan.now.k word.old) word.new }
 {
     solve(table, plan, &mut word.bits, &mut word.work);
 }
@@ -94,7 +98,8 @@ pub fn fill(table: &Table, plan: &Plan, word: &mut Word)
 // Puts a list of bits at the start of another.
 fn copy_bits(bits: &mut Bits, from: &Bits)
     requires { length from.now.items ≤ length bits.old.items }
-    ensures { Copies (length from.now.items) (length from.now.items) from.now.items bits.old.items bits.new.items }
+    ensures { Copies (length from.now.items) (length from.now.items) from.now.items
+        bits.old.items bits.new.items }
 {
     let count = from.len();
     for i in 0..count.div_ceil(64) {

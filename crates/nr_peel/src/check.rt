@@ -62,17 +62,22 @@ fn all_known(known: &Bits, count: u32) -> bool
 /// range, its position in its row, every other position of the row known before; and at the end every position
 /// below K' known. `known` then marks also the positions of the accepted steps, up to the first that was not.
 pub fn check_order(table: &Table, plan: &Plan, known: &mut Bits, steps: &[Fix]) -> bool
-    requires { length known.old.items ≡ (block_checks table.now plan.now.graph (numbers plan.now)).size }
-    ensures yes { IsTrue result ↔ IsFixOrder (block_checks table.now plan.now.graph (numbers plan.now)) plan.now.kdash
+    requires { length known.old.items
+        ≡ (block_checks table.now plan.now.graph (numbers plan.now)).size }
+    ensures yes { IsTrue result
+        ↔ IsFixOrder (block_checks table.now plan.now.graph (numbers plan.now)) plan.now.kdash
         (bit known.old.items) steps.now }
     ensures after { (p : ℕ) → bit known.new.items p
-        ≡ after_steps (block_checks table.now plan.now.graph (numbers plan.now)) (bit known.old.items) steps.now p }
+        ≡ after_steps (block_checks table.now plan.now.graph (numbers plan.now))
+        (bit known.old.items) steps.now p }
     ensures long { length known.new.items ≡ length known.old.items }
     ensures reached { IsTrue result → (p : ℕ) → p < plan.now.kdash
-        → closure (block_checks table.now plan.now.graph (numbers plan.now)) (bit known.old.items) p ≡ true }
-    ensures words { IsTrue result → (v w : ℕ → Bool) → Meets (block_checks table.now plan.now.graph (numbers plan.now)) v
-        → Meets (block_checks table.now plan.now.graph (numbers plan.now)) w → AgreeOn (bit known.old.items) v w
-        → (p : ℕ) → p < plan.now.kdash → v p ≡ w p }
+        → closure (block_checks table.now plan.now.graph (numbers plan.now))
+        (bit known.old.items) p ≡ true }
+    ensures words { IsTrue result → (v w : ℕ → Bool)
+        → Meets (block_checks table.now plan.now.graph (numbers plan.now)) v
+        → Meets (block_checks table.now plan.now.graph (numbers plan.now)) w
+        → AgreeOn (bit known.old.items) v w → (p : ℕ) → p < plan.now.kdash → v p ≡ w p }
 {
     let _ = table.has(plan.graph);
     let lifted = Lifted { table, plan: *plan };
@@ -134,7 +139,8 @@ fn members(lifted: &Lifted<'_>, row: u32, lane: u32, set: &[u32]) -> usize
 // Whether no row has exactly one member of an ascending set; the rows are numbered through.
 fn never_one(lifted: &Lifted<'_>, set: &[u32]) -> bool
     requires { IsRising set.now }
-    ensures { IsTrue result ↔ ((i t : ℕ) → i < (lifted_checks lifted.now).rows → t < (lifted_checks lifted.now).lanes
+    ensures { IsTrue result ↔ ((i t : ℕ) → i < (lifted_checks lifted.now).rows
+        → t < (lifted_checks lifted.now).lanes
         → count_by (λ p. stands p set.now) ((lifted_checks lifted.now).row i t) ≢ 1) }
 {
     let z = lifted.plan.z;
@@ -150,11 +156,14 @@ fn never_one(lifted: &Lifted<'_>, set: &[u32]) -> bool
 /// Whether the set is a stopping set beside the positions that `given` marks, for a code block of a plan: strictly
 /// ascending, in range, with no given position and with one below K', such that no row has exactly one member.
 pub fn check_stuck(table: &Table, plan: &Plan, given: &Bits, set: &[u32]) -> bool
-    requires { length given.now.items ≡ (block_checks table.now plan.now.graph (numbers plan.now)).size }
-    ensures yes { IsTrue result ↔ IsStoppingSet (block_checks table.now plan.now.graph (numbers plan.now)) plan.now.kdash
+    requires { length given.now.items
+        ≡ (block_checks table.now plan.now.graph (numbers plan.now)).size }
+    ensures yes { IsTrue result
+        ↔ IsStoppingSet (block_checks table.now plan.now.graph (numbers plan.now)) plan.now.kdash
         (bit given.now.items) set.now }
     ensures out { IsTrue result → (p : ℕ) → stands p set.now ≡ true
-        → closure (block_checks table.now plan.now.graph (numbers plan.now)) (bit given.now.items) p ≡ false }
+        → closure (block_checks table.now plan.now.graph (numbers plan.now))
+        (bit given.now.items) p ≡ false }
 {
     let _ = table.has(plan.graph);
     let lifted = Lifted { table, plan: *plan };

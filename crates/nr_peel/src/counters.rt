@@ -72,13 +72,17 @@ impl Counters {
     // The position of a column's entries at a lane becomes known.
     pub(crate) fn lower(&mut self, lifted: &Lifted<'_>, column: &[Entry], lane: u32)
         requires lane { lane < lifted.now.plan.z }
-        requires rows { All (λ e. (e.row + 1) * lifted.now.plan.z ≤ length self.old.counts.items) column.now }
-        requires some { (k : ℕ) → count_by (λ e. holder lifted.now.plan.set lifted.now.plan.z lane e == k) column.now
+        requires rows { All
+            (λ e. (e.row + 1) * lifted.now.plan.z ≤ length self.old.counts.items) column.now }
+        requires some { (k : ℕ)
+            → count_by (λ e. holder lifted.now.plan.set lifted.now.plan.z lane e == k) column.now
             ≤ slice_index self.old.counts.items k }
         requires short { length self.old.counts.items < 2 ^ 32 }
         requires room { HasRoom self.old }
         requires few { self.old.touches + sum self.old.counts.items + 1 < 2 ^ 64 }
-        ensures { IsLowered (λ k. count_by (λ e. holder lifted.now.plan.set lifted.now.plan.z lane e == k) column.now)
+        ensures { IsLowered
+            (λ k. count_by (λ e. holder lifted.now.plan.set lifted.now.plan.z lane e == k)
+            column.now)
             self.old self.new }
     {
         for entry in column {

@@ -23,6 +23,8 @@ pub use rounds::close;
 #[cfg(test)]
 mod random_tests;
 #[cfg(test)]
+mod refused_tests;
+#[cfg(test)]
 mod test_tables;
 #[cfg(test)]
 mod tests;

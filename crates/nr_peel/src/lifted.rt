@@ -30,7 +30,8 @@ impl<'t> Lifted<'t> {
     // The position that row `lane` of an entry's block has.
     pub(crate) fn place(&self, entry: &Entry, lane: u32) -> u32
         requires { lane < self.now.plan.z }
-        ensures { result ≡ place self.now.plan.z lane entry.now.col (value_in self.now.plan.set entry.now) }
+        ensures { result
+            ≡ place self.now.plan.z lane entry.now.col (value_in self.now.plan.set entry.now) }
     {
         let z = self.plan.z;
         let turned = lane + self.turn(entry);

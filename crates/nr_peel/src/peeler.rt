@@ -56,7 +56,8 @@ impl<'t> Peeler<'t> {
     ///
     /// `NoGraph`, where the table lacks the plan's base graph; then `Memory`, where memory is refused.
     pub fn new(alloc: Global, table: &'t Table, plan: &Plan) -> Result<Peeler<'t>, EncFault>
-        ensures no_graph { IsErrOf result EncFault.NoGraph ↔ (has_graph plan.now.graph table.now ≡ false) }
+        ensures no_graph { IsErrOf result EncFault.NoGraph
+            ↔ (has_graph plan.now.graph table.now ≡ false) }
         ensures started { IfOk result (IsStarted table.now plan.now.graph (numbers plan.now)) }
     {
         if !table.has(plan.graph) {
@@ -76,10 +77,11 @@ impl<'t> Peeler<'t> {
         ensures code { IsSameCode self.old self.new }
         ensures given { self.new.given ≡ slice_set self.old.given pos true }
         ensures known { (p : ℕ) → bit self.old.known p ≡ true → bit self.new.known p ≡ true }
-        ensures bits { (p : ℕ) → bit self.old.known p ≡ true → bit self.new.bits p ≡ bit self.old.bits p }
+        ensures bits { (p : ℕ) → bit self.old.known p ≡ true
+            → bit self.new.bits p ≡ bit self.old.bits p }
         ensures taken { bit self.old.known pos ≡ false → bit self.new.bits pos ≡ value }
-        ensures words { (w : ℕ → Bool) → Meets (checks_for self.old) w → AgreesWith self.old w → w pos ≡ value
-            → AgreesWith self.new w }
+        ensures words { (w : ℕ → Bool) → Meets (checks_for self.old) w → AgreesWith self.old w
+            → w pos ≡ value → AgreesWith self.new w }
         ensures peeled { IsPeeled self.new }
     {
         self.state.learn(&self.lifted, pos, value);
@@ -131,7 +133,8 @@ impl<'t> Peeler<'t> {
         ensures value { result.now ≡ self.now.order }
         ensures peeled { IsPeeled self.now }
         ensures fixes { left_of self.now.numbers.kdash self.now.known ≡ 0
-            → IsFixOrder (checks_for self.now) self.now.numbers.kdash (bit self.now.given) self.now.order }
+            → IsFixOrder (checks_for self.now) self.now.numbers.kdash
+            (bit self.now.given) self.now.order }
     {
         &self.state.order
     }
@@ -142,7 +145,8 @@ impl<'t> Peeler<'t> {
         ensures value { IfOk result (λ v. v.items ≡ unknown_in self.now.known) }
         ensures peeled { IsPeeled self.now }
         ensures stops { IfOk result (λ v. left_of self.now.numbers.kdash self.now.known ≢ 0
-            → IsStoppingSet (checks_for self.now) self.now.numbers.kdash (bit self.now.given) v.items) }
+            → IsStoppingSet (checks_for self.now) self.now.numbers.kdash
+            (bit self.now.given) v.items) }
         ensures largest { IfOk result (λ v. (set : List ℕ) (p : ℕ)
             → IsStoppingSet (checks_for self.now) self.now.numbers.kdash (bit self.now.given) set
             → stands p set ≡ true → stands p v.items ≡ true) }

@@ -38,7 +38,8 @@ impl Tally {
     // Counts the marked positions of each row of a row of blocks, whole blocks at a time.
     fn count(&mut self, lifted: &Lifted<'_>, row: &[Entry], marks: &Bits)
         requires lanes { HasLanes lifted.now.plan.z self.old }
-        requires columns { All (λ e. (e.col + 1) * lifted.now.plan.z ≤ length marks.now.items) row.now }
+        requires columns { All
+            (λ e. (e.col + 1) * lifted.now.plan.z ≤ length marks.now.items) row.now }
         ensures lanes { HasLanes lifted.now.plan.z self.new }
         ensures counted { CountsMarks lifted.now row.now (bit marks.now.items) self.new }
     {
@@ -75,7 +76,8 @@ fn clear(bits: &mut Bits)
 // Marks in `others` the positions that are not marked.
 fn invert(marks: &Bits, others: &mut Bits)
     requires { length others.old.items ≡ length marks.now.items }
-    ensures marks { (p : ℕ) → p < length marks.now.items → bit others.new.items p ≡ not (bit marks.now.items p) }
+    ensures marks { (p : ℕ) → p < length marks.now.items
+        → bit others.new.items p ≡ not (bit marks.now.items p) }
     ensures long { length others.new.items ≡ length others.old.items }
 {
     for p in 0..marks.len() {
@@ -87,7 +89,8 @@ fn invert(marks: &Bits, others: &mut Bits)
 fn mark_row(lifted: &Lifted<'_>, row: &[Entry], lane: u32, marks: &mut Bits)
     requires lane { lane < lifted.now.plan.z }
     requires columns { All (λ e. (e.col + 1) * lifted.now.plan.z ≤ length marks.old.items) row.now }
-    ensures marks { (p : ℕ) → bit marks.new.items p ≡ bit marks.old.items p || stands p (row_in lifted.now row.now lane) }
+    ensures marks { (p : ℕ) → bit marks.new.items p
+        ≡ bit marks.old.items p || stands p (row_in lifted.now row.now lane) }
     ensures long { length marks.new.items ≡ length marks.old.items }
 {
     let _ = marks.len();
@@ -101,7 +104,8 @@ fn complete(lifted: &Lifted<'_>, row: &[Entry], tally: &Tally, marks: &mut Bits)
     requires lanes { HasLanes lifted.now.plan.z tally.now }
     requires columns { All (λ e. (e.col + 1) * lifted.now.plan.z ≤ length marks.old.items) row.now }
     ensures some { result ≡ some_counts_one lifted.now.plan.z tally.now }
-    ensures marks { (p : ℕ) → bit marks.new.items p ≡ bit marks.old.items p || is_counted_once lifted.now row.now tally.now p }
+    ensures marks { (p : ℕ) → bit marks.new.items p
+        ≡ bit marks.old.items p || is_counted_once lifted.now row.now tally.now p }
     ensures long { length marks.new.items ≡ length marks.old.items }
 {
     let mut some = false;
@@ -122,7 +126,8 @@ fn go_round(lifted: &Lifted<'_>, unknown: &mut Bits, tally: &mut Tally, known: &
     requires unknown { length unknown.old.items ≡ length known.old.items }
     requires long { length known.old.items ≡ (lifted_checks lifted.now).size }
     ensures some { result ≡ some_lacks_one (lifted_checks lifted.now) (bit known.old.items) }
-    ensures known { (p : ℕ) → bit known.new.items p ≡ round (lifted_checks lifted.now) (bit known.old.items) p }
+    ensures known { (p : ℕ) → bit known.new.items p
+        ≡ round (lifted_checks lifted.now) (bit known.old.items) p }
     ensures lanes { HasLanes lifted.now.plan.z tally.new }
     ensures unknown { length unknown.new.items ≡ length unknown.old.items }
     ensures long { length known.new.items ≡ length known.old.items }
@@ -147,9 +152,11 @@ fn go_round(lifted: &Lifted<'_>, unknown: &mut Bits, tally: &mut Tally, known: &
 ///
 /// `AllocError`, where memory is refused; the marks are then as they were.
 pub fn close(alloc: Global, table: &Table, plan: &Plan, known: &mut Bits) -> Result<(), AllocError>
-    requires { length known.old.items ≡ (block_checks table.now plan.now.graph (numbers plan.now)).size }
+    requires { length known.old.items
+        ≡ (block_checks table.now plan.now.graph (numbers plan.now)).size }
     ensures closed { OnOk result ((p : ℕ) → bit known.new.items p
-        ≡ closure (block_checks table.now plan.now.graph (numbers plan.now)) (bit known.old.items) p) }
+        ≡ closure (block_checks table.now plan.now.graph (numbers plan.now))
+        (bit known.old.items) p) }
     ensures long { length known.new.items ≡ length known.old.items }
     ensures err { OnErr result (known.new.items ≡ known.old.items) }
 {

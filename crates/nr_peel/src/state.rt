@@ -92,17 +92,21 @@ impl State {
     // The only unknown position of a row, and the sum of the row's other bits.
     fn search(&mut self, lifted: &Lifted<'_>, row: &[Entry], lane: u32) -> (u32, bool)
         requires lane { lane < lifted.now.plan.z }
-        requires known { All (λ e. (e.col + 1) * lifted.now.plan.z ≤ length self.old.known.items) row.now }
+        requires known { All
+            (λ e. (e.col + 1) * lifted.now.plan.z ≤ length self.old.known.items) row.now }
         requires bits { length self.old.bits.items ≡ length self.old.known.items }
         requires short { length self.old.known.items < 2 ^ 32 }
         requires one { count_by (λ p. not (bit self.old.known.items p))
-            (map (λ e. place lifted.now.plan.z lane e.col (value_in lifted.now.plan.set e)) row.now) ≡ 1 }
+            (map (λ e. place lifted.now.plan.z lane e.col (value_in lifted.now.plan.set e))
+            row.now) ≡ 1 }
         requires few { self.old.counters.touches + length row.now < 2 ^ 64 }
         ensures found { IsOnlyMissing (bit self.old.known.items)
-            (map (λ e. place lifted.now.plan.z lane e.col (value_in lifted.now.plan.set e)) row.now) result.0 }
+            (map (λ e. place lifted.now.plan.z lane e.col (value_in lifted.now.plan.set e))
+            row.now) result.0 }
         ensures inside { result.0 < length self.old.known.items }
         ensures sum { result.1 ≡ parity (bit self.old.bits.items)
-            (map (λ e. place lifted.now.plan.z lane e.col (value_in lifted.now.plan.set e)) row.now) }
+            (map (λ e. place lifted.now.plan.z lane e.col (value_in lifted.now.plan.set e))
+            row.now) }
         ensures visited { IsVisited (length row.now) self.old self.new }
     {
         let mut unknown = 0;
@@ -131,8 +135,11 @@ impl State {
         ensures order { self.new.order ≡ self.old.order }
         ensures known { self.new.known.items ≡ slice_set self.old.known.items pos true }
         ensures bits { self.new.bits.items ≡ slice_set self.old.bits.items pos value }
-        ensures lowered { IsLowered (λ k. count_by (λ e. holder lifted.now.plan.set lifted.now.plan.z (pos % lifted.now.plan.z) e == k)
-            (column_of (entries_in lifted.now.plan.graph lifted.now.table.now) (pos / lifted.now.plan.z)))
+        ensures lowered { IsLowered
+            (λ k. count_by
+            (λ e. holder lifted.now.plan.set lifted.now.plan.z (pos % lifted.now.plan.z) e == k)
+            (column_of (entries_in lifted.now.plan.graph lifted.now.table.now)
+            (pos / lifted.now.plan.z)))
             self.old.counters self.new.counters }
         ensures tied { IsTied (lifted_checks lifted.now) self.new.known.items self.new.counters }
     {
@@ -190,8 +197,10 @@ impl State {
         ensures working { IsWorking (lifted_checks lifted.now) self.new }
         ensures settled { IsSettled self.new.counters }
         ensures given { self.new.given.items ≡ slice_set self.old.given.items pos true }
-        ensures known { (p : ℕ) → bit self.old.known.items p ≡ true → bit self.new.known.items p ≡ true }
-        ensures bits { (p : ℕ) → bit self.old.known.items p ≡ true → bit self.new.bits.items p ≡ bit self.old.bits.items p }
+        ensures known { (p : ℕ) → bit self.old.known.items p ≡ true
+            → bit self.new.known.items p ≡ true }
+        ensures bits { (p : ℕ) → bit self.old.known.items p ≡ true
+            → bit self.new.bits.items p ≡ bit self.old.bits.items p }
         ensures taken { bit self.old.known.items pos ≡ false → bit self.new.bits.items pos ≡ value }
         ensures words { LearnsWords (lifted_checks lifted.now) self.old self.new pos value }
     {

@@ -8,18 +8,18 @@ use nr_bitvec::Bits;
 use nr_graphpick::Graph;
 use nr_segment::Plan;
 use nr_shifttable::{Feed, Table};
-use std::alloc::Global;
+use std::alloc::{AllocError, Global};
 use std::fmt::Write;
 use std::test::Fail;
 
-/// Puts a record with one value in all sets at the end of a table's text.
-fn put(text: &mut String, graph: Graph, row: u32, col: u32, value: u32) -> Result<(), Fail> {
-    write!(text, "{graph},{row},{col}")?;
+/// Puts a record with one value in all sets at the end of a table's text. To write to a String fails for want of
+/// memory alone.
+fn put(text: &mut String, graph: Graph, row: u32, col: u32, value: u32) -> Result<(), AllocError> {
+    write!(text, "{graph},{row},{col}").map_err(|_| AllocError)?;
     for _ in 0..8 {
-        write!(text, ",{value}")?;
+        write!(text, ",{value}").map_err(|_| AllocError)?;
     }
-    text.push('\n')?;
-    Ok(())
+    text.push('\n')
 }
 
 /// The table of a text.

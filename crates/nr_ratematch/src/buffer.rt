@@ -27,11 +27,24 @@ impl Model for Buffer {
 
     ghost Value = { Circular };
 
-    ghost view = { λ b. record { graph = b.graph; z = b.z; kdash = b.kdash; k = b.k; ncb = b.ncb } };
+    ghost view = { λ b. record {
+      graph = b.graph;
+      z = b.z;
+      kdash = b.kdash;
+      k = b.k;
+      ncb = b.ncb;
+    } };
 
-    ghost inverse = { λ b. record { graph = b.graph; z = b.z; kdash = b.kdash; k = b.k; ncb = b.ncb } };
+    ghost inverse = { λ b. record {
+      graph = b.graph;
+      z = b.z;
+      kdash = b.kdash;
+      k = b.k;
+      ncb = b.ncb;
+    } };
 
-    ghost invariant = { λ b. IsCircular (record { graph = b.graph; z = b.z; kdash = b.kdash; k = b.k; ncb = b.ncb }) };
+    ghost invariant = { λ b. IsCircular
+        (record { graph = b.graph; z = b.z; kdash = b.kdash; k = b.k; ncb = b.ncb }) };
 }
 
 // The numerators of Table 5.4.2.1-2, by redundancy version.

@@ -21,6 +21,8 @@ pub use selection::select;
 pub use sharing::{MOST_BLOCKS, lengths, lengths_are_shared};
 
 #[cfg(test)]
+mod refused_tests;
+#[cfg(test)]
 mod sharing_tests;
 #[cfg(test)]
 mod tests;

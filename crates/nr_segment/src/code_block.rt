@@ -56,7 +56,8 @@ pub fn cut(alloc: Global, plan: &Plan, bits: &Bits, r: u32) -> Result<Bits, Allo
 pub fn join(alloc: Global, plan: &Plan, blocks: &[Bits]) -> Result<Bits, AllocError>
     requires all { length blocks.now ≡ plan.now.c }
     requires long { All (λ block. length block.items ≡ plan.now.kdash) blocks.now }
-    ensures { IfOk result (λ bits. bits.items ≡ joined (numbers plan.now) (map (λ block. block.items) blocks.now)) }
+    ensures { IfOk result (λ bits. bits.items
+        ≡ joined (numbers plan.now) (map (λ block. block.items) blocks.now)) }
 {
     let share = (plan.kdash - plan.l) as usize;
     let mut bits = Bits::with_room(alloc, plan.b)?;

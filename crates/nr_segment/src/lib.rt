@@ -15,4 +15,6 @@ pub use numbers::{Plan, SegFault};
 pub use segmentation::{plan, plans_are_sound};
 
 #[cfg(test)]
+mod refused_tests;
+#[cfg(test)]
 mod tests;

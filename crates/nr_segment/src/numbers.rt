@@ -29,8 +29,10 @@ pub struct Plan {
     pub k: u32,
     /// N, the bits that a code block is coded into: 66 Zc or 50 Zc.
     pub n: u32,
-    pub ghost planned: { plan_of graph b ≡ Ok (record { l = l; c = c; kdash = kdash; kb = kb; z = z; set = set; k = k; n = n }) },
-    pub ghost sound: { IsSound graph b (record { l = l; c = c; kdash = kdash; kb = kb; z = z; set = set; k = k; n = n }) },
+    pub ghost planned: { plan_of graph b
+        ≡ Ok (record { l = l; c = c; kdash = kdash; kb = kb; z = z; set = set; k = k; n = n }) },
+    pub ghost sound: { IsSound graph b
+        (record { l = l; c = c; kdash = kdash; kb = kb; z = z; set = set; k = k; n = n }) },
 }
 
 /// Why there is no plan for a number of bits.
