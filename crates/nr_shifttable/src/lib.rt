@@ -14,6 +14,8 @@ pub mod laws;
 #[cfg(test)]
 mod reader_tests;
 mod records;
+#[cfg(test)]
+mod refused_tests;
 mod sorted;
 mod source;
 mod table;
@@ -24,5 +26,5 @@ pub use entry::Entry;
 pub use fault::TableFault;
 pub use fields::{numeral, short_number, stripped};
 pub use records::Records;
-pub use source::{Broken, Feed, ReadFault, Source, read_to_end};
+pub use source::{Broken, Endless, Feed, ReadFault, Source, read_to_end};
 pub use table::Table;

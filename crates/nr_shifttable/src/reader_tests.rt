@@ -7,21 +7,22 @@ use crate::fault::TableFault;
 use crate::fields::{numeral, short_number, stripped};
 use crate::items::read_items;
 use crate::records::Records;
-use crate::source::{Broken, Feed, ReadFault, Source, read_to_end};
+use crate::source::{Broken, Endless, Feed, ReadFault, Source, read_to_end};
+use crate::table::Table;
 use csv::ByteRecord;
 use nr_graphpick::Graph;
 use std::alloc::Global;
 use std::test::Fail;
 
-/// A source that gives one octet a pull without end but fails at one pull, and counts its pulls.
+/// A source that gives one octet a pull but fails at one pull, and counts its pulls.
 #[derive(Drop)]
-struct Endless {
+struct Failing {
     pulls: u32,
     fail: u32,
     failed: u64,
 }
 
-impl Source for Endless {
+impl Source for Failing {
     ghost remaining = { λ _. None };
 
     ghost failures = { λ source. source.failed };
@@ -42,10 +43,10 @@ impl Source for Endless {
     }
 }
 
-fn without_end(fail: u32) -> Endless
+fn failing_at(fail: u32) -> Failing
     ensures { result.failed ≡ 0 }
 {
-    Endless {
+    Failing {
         pulls: 0,
         fail,
         failed: 0,
@@ -55,19 +56,28 @@ fn without_end(fail: u32) -> Endless
 // A source that never ends is refused at the first octet too many.
 #[test]
 fn endless_sources(rt: HostRuntime) {
-    for limit in [0, 1, 5, 70_000, 4_194_304] {
-        let mut source = without_end(0);
+    for limit in [0, 1, 5, 70_000] {
+        let mut source = Endless::new();
         let read = read_to_end(rt.alloc(), &mut source, limit);
         assert_eq!(rt; read.err(), Some(ReadFault::TooLong));
-        assert_eq!(rt; u64::from(source.pulls), limit as u64 + 1);
+        assert_eq!(rt; u64::from(source.pulls()), limit as u64 + 1);
     }
+}
+
+// A table file has at most 4,194,304 octets.
+#[test]
+fn an_endless_table_is_too_long(rt: HostRuntime) {
+    let mut source = Endless::new();
+    let answer = Table::read(rt.alloc(), &mut source);
+    assert_eq!(rt; answer.err(), Some(TableFault::TooLong));
+    assert_eq!(rt; source.pulls(), 4_194_305);
 }
 
 // After a failure the source is pulled no more.
 #[test]
 fn failing_sources(rt: HostRuntime) {
     for fail in 1..10 {
-        let mut source = without_end(fail);
+        let mut source = failing_at(fail);
         let read = read_to_end(rt.alloc(), &mut source, 100);
         assert_eq!(rt; read.err(), Some(ReadFault::Broken));
         assert_eq!(rt; source.pulls, fail);

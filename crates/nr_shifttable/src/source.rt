@@ -1,6 +1,6 @@
 //! Where octets come from, piece by piece, and reading a source to its end.
 
-ghost use Rattle.std.specs.Prelude.{◌≡◌, ◌==◌, if◌then◌else◌, ℕ, ◌+◌, ◌-◌, ◌^◌, ◌<◌, ◌≤◌, ◌⊎◌, ◌↔◌, ◌++◌, List, length, take, drop, min, Option, Some, None, option_map, IfOk, IfSome, IsErrOf, is_err};
+ghost use Rattle.std.specs.Prelude.{◌≡◌, ◌==◌, if◌then◌else◌, ℕ, ◌+◌, ◌-◌, ◌^◌, ◌<◌, ◌≤◌, ◌⊎◌, ◌↔◌, ◌++◌, List, length, take, drop, min, Option, Some, None, option_map, Ok, IfOk, IfSome, IsErrOf, is_err};
 ghost use Rattle.nr_shifttable.specs.Source.{HasMore, IsWhole, KeepsCount, Pulls, TellsFailure, failed_count, fails_next, fed_count, Feeding};
 ghost use Rattle.nr_shifttable.specs.declared.source.ReadFault.{ReadFault};
 
@@ -69,8 +69,10 @@ pub fn read_to_end<S: Source>(
     ensures whole { IfOk result (λ text. IsWhole (S.remaining source.old) text.items) }
     ensures within { IfOk result (λ text. length text.items ≤ limit) }
     ensures too_long { IsErrOf result ReadFault.TooLong → HasMore (S.remaining source.old) limit }
-    ensures failed { TellsFailure ReadFault.Broken (S.failures source.old) (S.failures source.new) result }
-    ensures kept { KeepsCount ReadFault.Broken (S.failures source.old) (S.failures source.new) result }
+    ensures failed { TellsFailure ReadFault.Broken
+        (S.failures source.old) (S.failures source.new) result }
+    ensures kept { KeepsCount ReadFault.Broken
+        (S.failures source.old) (S.failures source.new) result }
 {
     let mut text = Vec::new(alloc);
     let mut memory = piece_memory(alloc)?;
@@ -113,7 +115,12 @@ impl Model for Feed {
 
     ghost Value = { Feeding };
 
-    ghost view = { λ a. record { octets = drop a.at a.octets.items; step = a.step; sound = a.sound; failed = a.failed } };
+    ghost view = { λ a. record {
+      octets = drop a.at a.octets.items;
+      step = a.step;
+      sound = a.sound;
+      failed = a.failed;
+    } };
 
     ghost invariant = { λ a. (a.at ≤ length a.octets.items) × (0 < a.step) };
 }
@@ -164,6 +171,51 @@ impl Source for Feed {
         let count = copy_front(&self.octets[self.at..], buf, self.step);
         self.at += count;
         Ok(count)
+    }
+}
+
+/// A source that gives one octet a pull, without end. What the octets are is not known.
+#[derive(Debug, Drop)]
+pub struct Endless {
+    pulls: u32,
+}
+
+impl Endless {
+    /// A source that was not pulled yet.
+    pub fn new() -> Endless
+        ensures pulls { result.pulls ≡ 0 }
+        ensures failures { ⟦<Endless as Source>⟧.failures result ≡ 0 }
+    {
+        Endless { pulls: 0 }
+    }
+
+    /// How many pulls there were. The count stays at 2^32 - 1.
+    pub fn pulls(&self) -> u32
+        ensures { result ≡ self.now.pulls }
+    {
+        self.pulls
+    }
+}
+
+impl Source for Endless {
+    ghost remaining = { λ _. None };
+
+    ghost failures = { λ _. 0 };
+
+    fn pull(&mut self, buf: &mut [u8]) -> Result<usize, Broken>
+        ensures octets { Pulls None None result buf.new }
+        ensures gives { result ≡ Ok (min (length buf.old) 1) }
+        ensures kept { length buf.new ≡ length buf.old }
+        ensures counted { self.new.pulls ≡ min (self.old.pulls + 1) (2 ^ 32 - 1) }
+    {
+        self.pulls = self.pulls.saturating_add(1);
+        match buf.first_mut() {
+            Some(octet) => {
+                *octet = b'0';
+                Ok(1)
+            }
+            None => Ok(0),
+        }
     }
 }
 

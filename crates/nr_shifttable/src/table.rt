@@ -52,8 +52,10 @@ impl Table {
     pub fn read<S: Source>(alloc: Global, source: &mut S) -> Result<Table, TableFault>
         requires { S.failures source.old < 2 ^ 32 }
         ensures table { IfOk result IsTable }
-        ensures failed { TellsFailure TableFault.Read (S.failures source.old) (S.failures source.new) result }
-        ensures kept { KeepsCount TableFault.Read (S.failures source.old) (S.failures source.new) result }
+        ensures failed { TellsFailure TableFault.Read
+            (S.failures source.old) (S.failures source.new) result }
+        ensures kept { KeepsCount TableFault.Read
+            (S.failures source.old) (S.failures source.new) result }
         ensures said { TellsTable (S.remaining source.old) result }
     {
         let text = match read_to_end(alloc, source, LIMIT) {

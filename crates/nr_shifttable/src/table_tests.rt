@@ -7,6 +7,8 @@ use crate::table::Table;
 use nr_graphpick::Graph;
 use std::alloc::Global;
 use std::fmt::Write;
+use std::ops::Range;
+use std::process::Abort;
 use std::test::Fail;
 
 /// An item of base graph 2, with one value in all sets.
@@ -215,4 +217,68 @@ fn cut_files(rt: HostRuntime) -> Result<(), Fail> {
         assert_eq!(rt; answer.err(), want, "ending {last:?}");
     }
     Ok(())
+}
+
+/// What the reader answers to the beginning of the practice table that has so many whole records and a line of so many
+/// commas, with so many digits behind the last of them.
+fn cut_answer(records: u32, commas: u32, digits: u32) -> Option<TableFault> {
+    let whole = match (commas, digits) {
+        (0, 0) => records,
+        (10, 0) => return Some(TableFault::Number(records.saturating_add(1))),
+        (10, _) => records.saturating_add(1),
+        _ if records == 0 => return Some(TableFault::Fields),
+        _ => return Some(TableFault::Csv(records.saturating_add(1))),
+    };
+    match whole {
+        0 => Some(TableFault::Empty),
+        1..=28 => Some(TableFault::Core(Graph::Two)),
+        105 => None,
+        // The last row lacks its own column.
+        _ if whole % 2 == 0 => Some(TableFault::Extension(Graph::Two)),
+        _ => Some(TableFault::MissingRow(Graph::Two)),
+    }
+}
+
+/// Reads the beginnings of the practice table's file that have so many octets.
+fn read_beginnings(rt: &impl Abort, alloc: Global, lengths: Range<usize>) -> Result<(), Fail> {
+    let text = text_of(alloc, &practice(alloc)?)?;
+    let (mut records, mut commas, mut digits) = (0u32, 0u32, 0u32);
+    for (at, octet) in text.iter().enumerate() {
+        if lengths.contains(&at) {
+            let mut feed = Feed::new(Vec::from_slice(alloc, &text[..at])?, 4096, 0);
+            let answer = Table::read(alloc, &mut feed).err();
+            assert_eq!(rt;
+                answer,
+                cut_answer(records, commas, digits),
+                "the first {at} octets"
+            );
+        }
+        (records, commas, digits) = match *octet {
+            b'\n' => (records.saturating_add(1), 0, 0),
+            b',' => (records, commas.saturating_add(1), 0),
+            _ => (records, commas, digits.saturating_add(1)),
+        };
+    }
+    assert_eq!(rt; (text.len(), records), (2677, 105));
+    Ok(())
+}
+
+#[test]
+fn beginnings_of_the_core(rt: HostRuntime) -> Result<(), Fail> {
+    read_beginnings(&rt, rt.alloc(), 0..700)
+}
+
+#[test]
+fn beginnings_of_the_first_rows(rt: HostRuntime) -> Result<(), Fail> {
+    read_beginnings(&rt, rt.alloc(), 700..1400)
+}
+
+#[test]
+fn beginnings_of_the_middle_rows(rt: HostRuntime) -> Result<(), Fail> {
+    read_beginnings(&rt, rt.alloc(), 1400..2100)
+}
+
+#[test]
+fn beginnings_of_the_last_rows(rt: HostRuntime) -> Result<(), Fail> {
+    read_beginnings(&rt, rt.alloc(), 2100..2677)
 }
