@@ -12,3 +12,4 @@ pub mod Encoding
 pub mod Taking
 pub mod Decided
 mod Nothing
+mod CallFacts

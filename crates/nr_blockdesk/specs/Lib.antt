@@ -6,3 +6,5 @@ pub mod Heard
 pub mod Outcome
 pub mod ReceiverLaws
 pub mod Receiving
+pub mod Processing
+pub mod Calls

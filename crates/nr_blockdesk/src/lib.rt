@@ -13,6 +13,7 @@ mod hearing;
 mod laws;
 mod link;
 mod outcome;
+mod processes;
 mod receiver;
 mod receiver_laws;
 mod sender;
@@ -26,6 +27,7 @@ pub use laws::{
     sent_is_long, words_are_plain,
 };
 pub use outcome::Outcome;
+pub use processes::{Processes, processes_are_apart};
 pub use receiver::Receiver;
 pub use receiver_laws::{
     delivered_is_only, erasures_are_safe, explained_is_delivered, explained_never_contradicts,
@@ -35,5 +37,11 @@ pub use sender::Sender;
 pub use settings::Settings;
 pub use tx::Tx;
 
+#[cfg(test)]
+mod certificate_tests;
+#[cfg(test)]
+mod processes_tests;
+#[cfg(test)]
+mod refused_tests;
 #[cfg(test)]
 mod tests;

@@ -181,8 +181,8 @@ fn send_words(
     requires version { tx.now.rv < 4 }
     requires long { All (λ w. length w ≡ cols_of buffer.now.graph * buffer.now.z) words.now }
     requires shared { IsShared (length words.now) tx.now.g tx.now.qm lengths.now }
-    ensures { IfOk result (λ sent. sent.items
-        ≡ sent_of (matching_of buffer.now tx.now lengths.now) (λ r. slice_index_or words.now r [])) }
+    ensures { IfOk result (λ sent. sent.items ≡ sent_of (matching_of buffer.now tx.now lengths.now)
+        (λ r. slice_index_or words.now r [])) }
 {
     let mut sent = Bits::with_room(alloc, tx.g)?;
     for r in 0..lengths.len() {

@@ -7,30 +7,30 @@ use nr_ldpcenc::Word;
 use nr_ratematch::{Mask, RmFault};
 use nr_segment::SegFault;
 use nr_shifttable::{Feed, Table};
-use std::alloc::Global;
+use std::alloc::{AllocError, Global};
 use std::fmt::Write;
 use std::test::Fail;
 
 /// The highest code rate, and no limit of the buffer.
-const PLAIN: Settings = Settings {
+pub(crate) const PLAIN: Settings = Settings {
     rate2048: 2048,
     lbrm: None,
 };
 
-/// Puts a record with one value in all sets at the end of a table's text.
-fn put(text: &mut String, row: u32, col: u32, value: u32) -> Result<(), Fail> {
-    write!(text, "2,{row},{col}")?;
+/// Puts a record with one value in all sets at the end of a table's text. To write to a String fails for want of
+/// memory alone.
+fn put(text: &mut String, row: u32, col: u32, value: u32) -> Result<(), AllocError> {
+    write!(text, "2,{row},{col}").map_err(|_| AllocError)?;
     for _ in 0..8 {
-        write!(text, ",{value}")?;
+        write!(text, ",{value}").map_err(|_| AllocError)?;
     }
-    text.push('\n')?;
-    Ok(())
+    text.push('\n')
 }
 
 /// A practice table of base graph 2: in rows 0 to 3 the even or the odd information columns, in each row from 4 on one
 /// information column, rotated by the row's number; the first parity column has the values `first` and `middle` in
 /// rows 0 and 2. With `more`, row 1 has column 0 too, rotated by one.
-fn practice(alloc: Global, first: u32, middle: u32, more: bool) -> Result<Table, Fail> {
+pub(crate) fn practice(alloc: Global, first: u32, middle: u32, more: bool) -> Result<Table, Fail> {
     let mut text = String::new(alloc);
     for row in 0..4 {
         for k in 0..5 {
@@ -62,7 +62,7 @@ fn practice(alloc: Global, first: u32, middle: u32, more: bool) -> Result<Table,
 }
 
 /// So many zero bits.
-fn zeros(alloc: Global, count: u32) -> Result<Bits, Fail> {
+pub(crate) fn zeros(alloc: Global, count: u32) -> Result<Bits, Fail> {
     let mut bits = Bits::new(alloc);
     for _ in 0..count {
         if bits.len() < 10_000 {
@@ -88,7 +88,7 @@ fn refused(
 }
 
 /// How a transport block is sent on one layer.
-fn on_one_layer(rv: u32, g: u32, qm: u32) -> Tx {
+pub(crate) fn on_one_layer(rv: u32, g: u32, qm: u32) -> Tx {
     Tx {
         rv,
         g,
@@ -234,7 +234,11 @@ fn names_the_innermost_fault(rt: HostRuntime) -> Result<(), Fail> {
 }
 
 /// The sender of a transport block of one octet.
-fn sender_of<'t>(alloc: Global, table: &'t Table, octet: u8) -> Result<Sender<'t>, Fail> {
+pub(crate) fn sender_of<'t>(
+    alloc: Global,
+    table: &'t Table,
+    octet: u8,
+) -> Result<Sender<'t>, Fail> {
     let block = Bits::from_bytes(alloc, &[octet])?;
     Ok(Sender::new(alloc, table, PLAIN, &block)?)
 }
@@ -256,7 +260,7 @@ fn heard(alloc: Global, bits: &Bits, from: usize) -> Result<Vec<Heard>, Fail> {
 }
 
 /// 0, 1 or 2 where the outcome is open, delivered or a contradiction, and the first octet that is delivered.
-fn told(outcome: &Outcome) -> (u32, u8) {
+pub(crate) fn told(outcome: &Outcome) -> (u32, u8) {
     match outcome {
         Outcome::Open => (0, 0),
         Outcome::Delivered(block) => (1, block.octet(0)),
@@ -265,18 +269,23 @@ fn told(outcome: &Outcome) -> (u32, u8) {
 }
 
 /// What is heard of the first `g` bits of redundancy version 0, the first `from` of them erased.
-fn arrives(alloc: Global, sender: &Sender<'_>, g: u32, from: usize) -> Result<Vec<Heard>, Fail> {
+pub(crate) fn arrives(
+    alloc: Global,
+    sender: &Sender<'_>,
+    g: u32,
+    from: usize,
+) -> Result<Vec<Heard>, Fail> {
     heard(alloc, &sender.send(&on_one_layer(0, g, 1))?, from)
 }
 
 /// The receiver of transport blocks of eight bits.
-fn receiver_of<'t>(alloc: Global, table: &'t Table) -> Result<Receiver<'t>, Fail> {
+pub(crate) fn receiver_of<'t>(alloc: Global, table: &'t Table) -> Result<Receiver<'t>, Fail> {
     Ok(Receiver::new(alloc, table, PLAIN, 8)?)
 }
 
 /// What a receiver answers to places of redundancy version 0.
 fn takes(receiver: &mut Receiver<'_>, places: &[Heard]) -> Result<(u32, u8), DeskFault> {
-    let g = places.len().min(99) as u32;
+    let g = places.len().min(999) as u32;
     Ok(told(&receiver.take(&on_one_layer(0, g, 1), places)?))
 }
 
@@ -298,13 +307,13 @@ fn hears_zeros(alloc: Global, receiver: &mut Receiver<'_>) -> Result<(u32, u8), 
     Ok(takes(receiver, &places)?)
 }
 
-/// The first cause against a transmission of which no place is heard.
+/// The first cause against a transmission of which one place is heard.
 fn refuses(receiver: &mut Receiver<'_>, rv: u32, g: u32) -> Option<DeskFault> {
-    receiver.take(&on_one_layer(rv, g, 1), &[]).err()
+    receiver.take(&on_one_layer(rv, g, 1), &[Heard::One]).err()
 }
 
 /// How many positions below K' of the first code block are left, by the receiver and by its peeler.
-fn left_of(receiver: &Receiver<'_>) -> Option<(u32, u32)> {
+pub(crate) fn left_of(receiver: &Receiver<'_>) -> Option<(u32, u32)> {
     if receiver.plan().c > 0 {
         Some((receiver.left(0), receiver.peeler(0).left()))
     } else {
@@ -350,5 +359,92 @@ fn refuses_to_receive(rt: HostRuntime) -> Result<(), Fail> {
     let mut receiver = receiver_of(rt.alloc(), &table)?;
     assert_eq!(rt; refuses(&mut receiver, 4, 28), Some(DeskFault::Rv));
     assert_eq!(rt; refuses(&mut receiver, 0, 28), Some(DeskFault::Length));
+    let odd = Receiver::new(rt.alloc(), &table, PLAIN, 12);
+    assert_eq!(rt; odd.err(), Some(DeskFault::Size));
+    Ok(())
+}
+
+/// The receiver of transport blocks of 24 bits.
+fn wide_receiver_of<'t>(alloc: Global, table: &'t Table) -> Result<Receiver<'t>, Fail> {
+    Ok(Receiver::new(alloc, table, PLAIN, 24)?)
+}
+
+/// So many places, of which zeros are heard, and a one at place `one`.
+fn zeros_but(alloc: Global, count: usize, one: usize) -> Result<Vec<Heard>, Fail> {
+    let mut places = Vec::new(alloc);
+    for m in 0..count {
+        places.push(if m == one { Heard::One } else { Heard::Zero })?;
+    }
+    Ok(places)
+}
+
+/// What a receiver of 24 bits answers to all 320 places of the buffer as zeros, but a one at place `one`.
+fn hears_all(alloc: Global, receiver: &mut Receiver<'_>, one: usize) -> Result<(u32, u8), Fail> {
+    let places = zeros_but(alloc, 320, one)?;
+    Ok(takes(receiver, &places)?)
+}
+
+/// What it answers to all 320 places erased.
+fn hears_nothing(alloc: Global, receiver: &mut Receiver<'_>) -> Result<(u32, u8), Fail> {
+    let places = heard(alloc, &zeros(alloc, 320)?, 320)?;
+    Ok(takes(receiver, &places)?)
+}
+
+/// What a receiver answers to all 320 places erased, after two refusals.
+fn hears_refused(alloc: Global, receiver: &mut Receiver<'_>) -> Result<(u32, u8), Fail> {
+    let _length = refuses(receiver, 0, 2);
+    let _version = refuses(receiver, 4, 1);
+    hears_nothing(alloc, receiver)
+}
+
+/// What a receiver answers in turn: to all of the buffer as zeros; after two refusals, to all of it erased.
+fn hears_all_then_nothing(
+    alloc: Global,
+    receiver: &mut Receiver<'_>,
+) -> Result<[(u32, u8); 2], Fail> {
+    let first = hears_all(alloc, receiver, 320)?;
+    let second = hears_refused(alloc, receiver)?;
+    Ok([first, second])
+}
+
+/// What a receiver answers to a transmission of one bit.
+fn hears_one(receiver: &mut Receiver<'_>, place: Heard) -> Result<(u32, u8), DeskFault> {
+    takes(receiver, &[place])
+}
+
+/// What a receiver answers to its first place heard as a zero, and then as a one.
+fn clashes(receiver: &mut Receiver<'_>) -> Result<[(u32, u8); 2], DeskFault> {
+    let first = hears_one(receiver, Heard::Zero)?;
+    let second = hears_one(receiver, Heard::One)?;
+    Ok([first, second])
+}
+
+// A clash is no contradiction while positions are left.
+#[test]
+fn stays_open_with_a_clash(rt: HostRuntime) -> Result<(), Fail> {
+    let table = practice(rt.alloc(), 0, 1, false)?;
+    let mut receiver = wide_receiver_of(rt.alloc(), &table)?;
+    assert_eq!(rt; clashes(&mut receiver)?, [(0, 0), (0, 0)]);
+    Ok(())
+}
+
+// The block of zeros is delivered, and again after an erased transmission; what is refused is not heard; a one then
+// contradicts.
+#[test]
+fn answers_by_all_that_was_heard(rt: HostRuntime) -> Result<(), Fail> {
+    let table = practice(rt.alloc(), 0, 1, false)?;
+    let mut receiver = wide_receiver_of(rt.alloc(), &table)?;
+    let answers = hears_all_then_nothing(rt.alloc(), &mut receiver)?;
+    assert_eq!(rt; answers, [(1, 0), (1, 0)]);
+    assert_eq!(rt; hears_one(&mut receiver, Heard::One)?, (2, 0));
+    Ok(())
+}
+
+// Place 110 is a parity bit: all positions below K' are as in the block of zeros.
+#[test]
+fn a_flipped_parity_bit_contradicts(rt: HostRuntime) -> Result<(), Fail> {
+    let table = practice(rt.alloc(), 0, 1, false)?;
+    let mut receiver = wide_receiver_of(rt.alloc(), &table)?;
+    assert_eq!(rt; hears_all(rt.alloc(), &mut receiver, 110)?, (2, 0));
     Ok(())
 }

@@ -1,0 +1,6 @@
+use Rattle.std.proofs.Common.{rules}
+use Rattle.nr_blockdesk.proofs.CallFacts.{new-after}
+use Rattle.nr_blockdesk.proofs.processes.Processes.new.Goals as goal
+
+pub returns-clause-after : goal.returns-clause-after
+returns-clause-after c = new-after _ (search rules)

@@ -1,0 +1,34 @@
+use Rattle.std.proofs.Common.{length, rules, sym, ap, ◌∙◌}
+use Rattle.std.proofs.lemmas.Grind.{common_steps}
+use Rattle.nr_blockdesk.specs.Processing.{Processing}
+use Rattle.nr_blockdesk.proofs.CallFacts.{take-after, take-answer}
+use Rattle.nr_blockdesk.proofs.processes.Processes.take.Goals as goal
+
+pub returns-clause-takes : goal.returns-clause-takes
+returns-clause-takes c = record {
+  before = c.in-Some.receiver;
+  after = c.take.new.self;
+  had = search (rules, common_steps);
+  has = search (rules, common_steps);
+  takes = record {
+    link = c.take.ensures.link;
+    refused = c.take.ensures.refused;
+    judged = c.take.ensures.judged;
+    kept = c.take.ensures.kept;
+    heard = c.take.ensures.heard;
+    outcome = c.take.ensures.outcome;
+    only_one = c.take.ensures.only_one;
+    no_contradiction = c.take.ensures.no_contradiction;
+  };
+}
+
+pub returns-clause-kept : goal.returns-clause-kept
+returns-clause-kept c = search (rules, common_steps)
+
+pub returns-clause-after : goal.returns-clause-after
+returns-clause-after c =
+    let long = ap (λ (s : Processing). length s.places) (sym c.self.view_is) ∙ c.self.invariant in
+    take-after c.args.self.now _ c.args.p _ c.take.result long c.requires.place (returns-clause-takes c) (returns-clause-kept c)
+
+pub returns-clause-answers : goal.returns-clause-answers
+returns-clause-answers c = take-answer c.args.self.now _ c.args.p _ c.take.result c.requires.place (returns-clause-takes c)

@@ -1,0 +1,142 @@
+//! Sixteen HARQ processes of one link end.
+
+ghost use Rattle.std.specs.Prelude.{◌≡◌, ◌<◌, ◌++◌, [], ◌∷◌, List, None, Some, replicate, IsErrOf, IsOk, IsTrue, IfOk, OnErr, OnOk, is_some, option_map};
+ghost use Rattle.nr_blockdesk.specs.Calls.{Call, HadMemory, IsAfter, ProcessesAreApart, answer_after, begin, take};
+ghost use Rattle.nr_blockdesk.specs.Explains.{reception};
+ghost use Rattle.nr_blockdesk.specs.Link.{link_said};
+ghost use Rattle.nr_blockdesk.specs.Processing.{BeginsAt, TakesAt, process};
+ghost use Rattle.nr_blockdesk.specs.Receiving.{RefusesAs, verdict};
+
+use crate::fault::DeskFault;
+use crate::heard::Heard;
+use crate::outcome::Outcome;
+use crate::receiver::Receiver;
+use crate::settings::Settings;
+use crate::tx::Tx;
+use arrayvec::ArrayVec;
+use nr_shifttable::Table;
+use std::alloc::Global;
+use std::marker::Model;
+
+/// How many HARQ processes there are.
+const COUNT: usize = 16;
+
+/// Sixteen HARQ processes, numbered from 0, over one shift table and one setting. Each process that has begun has a
+/// receiver of its own, and no call on one process changes another one. They keep their allocator, and take memory for
+/// the processes that have begun alone.
+#[derive(Drop)]
+pub struct Processes<'t> {
+    table: &'t Table,
+    settings: Settings,
+    places: ArrayVec<Option<Receiver<'t>>, COUNT>,
+    alloc: Global,
+}
+
+impl<'t> Model for Processes<'t> {
+    ghost use Rattle.std.specs.Prelude.{◌≡◌, length};
+    ghost use Rattle.nr_blockdesk.specs.Processing.{Processing};
+
+    ghost Value = { Processing };
+
+    ghost view = { λ x. record {
+      table = x.table.now;
+      settings = x.settings;
+      places = x.places.items;
+    } };
+
+    ghost invariant = { λ x. length x.places.items ≡ 16 };
+}
+
+impl<'t> Processes<'t> {
+    /// The processes, of which none has begun. Takes no memory.
+    pub fn new(alloc: Global, table: &'t Table, settings: Settings) -> Processes<'t>
+        ensures none { result ≡ record {
+          table = table.now;
+          settings = settings;
+          places = replicate 16 None;
+        } }
+        ensures after { IsAfter result [] }
+    {
+        let mut places = ArrayVec::new();
+        for _ in 0..COUNT {
+            places.push(None);
+        }
+        Processes {
+            table,
+            settings,
+            places,
+            alloc,
+        }
+    }
+
+    /// Process `p`, 0 to 15, begins: it has a new receiver of a transport block of `a` bits, which has heard nothing
+    /// yet. The receiver that it had is kept until the new one is there, so memory is wanted for both.
+    ///
+    /// # Errors
+    ///
+    /// As `Receiver::new`, in this order: `Size`, where `a` is not 8 to 1,310,720 in whole octets; `Pick`, where no
+    /// base graph is picked; `Seg`, where there is no plan; `Graph`, where the table lacks the base graph; `Rm`, where
+    /// the limited buffer keeps no bit (`NoBuffer`); `Memory`, where memory is refused. All processes are then as
+    /// before.
+    pub fn begin(&mut self, p: u8, a: u32) -> Result<(), DeskFault>
+        requires { p < 16 }
+        ensures refused { RefusesAs DeskFault.Memory result
+            (link_said self.old.table self.old.settings a) }
+        ensures judged { IsErrOf result DeskFault.Memory
+            → IsOk (link_said self.old.table self.old.settings a) }
+        ensures begins { OnOk result (BeginsAt self.old self.new p a) }
+        ensures kept { OnErr result (self.new ≡ self.old) }
+        ensures after { HadMemory result → (calls : List Call) → IsAfter self.old calls
+            → IsAfter self.new (calls ++ begin p a ∷ []) }
+    {
+        let receiver = Receiver::new(self.alloc, self.table, self.settings, a)?;
+        self.places[p as usize] = Some(receiver);
+        Ok(())
+    }
+
+    /// Whether process `p`, 0 to 15, has begun.
+    pub fn begun(&self, p: u8) -> bool
+        requires { p < 16 }
+        ensures { result ≡ is_some (process self.now p) }
+    {
+        self.places[p as usize].is_some()
+    }
+
+    /// The receiver of process `p`, 0 to 15, if it has begun.
+    pub fn receiver(&self, p: u8) -> Option<&Receiver<'t>>
+        requires { p < 16 }
+        ensures { option_map (λ r. r.now) result ≡ process self.now p }
+    {
+        self.places[p as usize].as_ref()
+    }
+
+    /// Process `p`, 0 to 15, which must have begun, hears a transmission, place by place, and answers what may be
+    /// handed up of all that it received since it last began (TS 38.212, 5.4.2 and 5.5).
+    ///
+    /// # Errors
+    ///
+    /// As `Receiver::take`, in this order: `Rv`, where the redundancy version is above 3; `Rm`, where the bits can't be
+    /// shared out: `Order`, `Layers`, `Total`, `Ragged` or `NoneScheduled`; `Length`, where `heard` does not have G
+    /// places; `Memory`, where memory is refused. Nothing is heard then.
+    pub fn take(&mut self, p: u8, tx: &Tx, heard: &[Heard]) -> Result<Outcome, DeskFault>
+        requires place { p < 16 }
+        requires begun { IsTrue (is_some (process self.old p)) }
+        ensures takes { TakesAt self.old self.new p (reception tx.now heard.now) result }
+        ensures kept { OnErr result (self.new ≡ self.old) }
+        ensures after { HadMemory result → (calls : List Call) → IsAfter self.old calls
+            → IsAfter self.new (calls ++ take p (reception tx.now heard.now) ∷ []) }
+        ensures answers { IfOk result (λ answer. (calls : List Call) → IsAfter self.old calls
+            → answer_after self.old p (calls ++ take p (reception tx.now heard.now) ∷ [])
+            ≡ Some (verdict answer)) }
+    {
+        match &mut self.places[p as usize] {
+            Some(receiver) => receiver.take(tx, heard),
+            None => unreachable!(),
+        }
+    }
+}
+
+/// Law: what a process has heard after a list of calls on the processes follows from the calls on it alone.
+pub fn processes_are_apart()
+    ensures { ProcessesAreApart }
+{}
