@@ -1,5 +1,5 @@
 -- What the four files of a command over a schedule say, step by step.
-use Rattle.std.proofs.Common.{◌≡◌, ◌≢◌, ℕ, ◌+◌, ◌<◌, ◌≤◌, ◌⊎◌, inl, inr, Option, None, Some, IfSome, Result, Ok, Err, IsErrOf, List, [], ◌∷◌, ◌++◌, length, drop, get_or, ap, sym, ◌∙◌, refl, subst, append_assoc}
+use Rattle.std.proofs.Common.{◌≡◌, ◌≢◌, ℕ, ◌+◌, ◌<◌, ◌≤◌, ◌⊎◌, inl, inr, Option, None, Some, IfSome, Result, Ok, Err, IsErrOf, IfErr, IsOk, List, [], ◌∷◌, ◌++◌, length, drop, get_or, ap, sym, ◌∙◌, refl, subst, append_assoc}
 use Rattle.std.proofs.lemmas.List.{append-nil, drop_all, drop_more}
 use Rattle.std.proofs.lemmas.Option.{IfSome_then}
 use Rattle.nr_graphpick.specs.Refusal.{◌>>=◌, Gives, with_fault}
@@ -7,9 +7,9 @@ use Rattle.nr_shifttable.specs.Accepted.{Entries, table_said}
 use Rattle.nr_shifttable.specs.declared.fault.TableFault.{TableFault}
 use Rattle.nr_shifttable.specs.declared.fault.TableFault.TheVariants as table_fault
 use Rattle.linksim.specs.Blocks.{blocks_of}
-use Rattle.linksim.specs.Command.{IsOfBlock}
+use Rattle.linksim.specs.Command.{IsOfBlock, Writes}
 use Rattle.linksim.specs.Faults.{blocks_refusal, schedule_refusal, settings_refusal, table_refusal}
-use Rattle.linksim.specs.Inputs.{Given, OfFour, files_said, inputs_said, sender_said, senders_from}
+use Rattle.linksim.specs.Inputs.{Given, HasNoFault, IsFirst, LeavesLater, OfFour, files_said, inputs_said, sender_said, senders_from}
 use Rattle.linksim.specs.Schedule.{schedule_said}
 use Rattle.linksim.specs.Settings.{settings_said}
 use Rattle.nr_blockdesk.specs.Sent.{Sending}
@@ -173,3 +173,78 @@ inputs_said-ready t s b d given senders first is = inputs_senders t s b d given 
 pub of_block_or_memory : (e told : RunFault) → (e ≢ faults.Memory → IsOfBlock e) → told ≢ faults.Memory → (IsOfBlock told → ⊥) → e ≢ told
 of_block_or_memory e told of_block memory other same =
     other (subst IsOfBlock same (of_block (λ is. memory (sym same ∙ is))))
+
+-- a file that was read has no fault
+pub sound_table : {X : Type 0} (r : Result X TableFault) (file : Option (List ℕ)) (table : Entries) → IfSome file (λ text. IsErrOf r table_fault.Read ⊎ (table_said text ≡ Ok table)) → (IsErrOf r table_fault.Read → ⊥) → HasNoFault table_said file
+sound_table r file table said read =
+    IfSome_then file said (λ text is. subst IsOk (sym (table_read r text table read is)) refl)
+
+pub sound : {X E : Type 0} (said : List ℕ → Result X E) (file : Option (List ℕ)) (x : X) → IfSome file (λ octets. said octets ≡ Ok x) → HasNoFault said file
+sound said file x is = IfSome_then file is (λ octets same. subst IsOk (sym same) refl)
+
+-- what a refused file says of those before it, and of those after it
+pub first_settings : (e : SettingsFault) (t s b : Option (List ℕ)) → HasNoFault table_said t → IsFirst (settings_refusal e) t s b
+first_settings settings_fault.Memory t s b table = tt
+first_settings e t s b table = table
+
+pub first_blocks : (e : BlocksFault) (t s b : Option (List ℕ)) → HasNoFault table_said t → HasNoFault settings_said s → IsFirst (blocks_refusal e) t s b
+first_blocks blocks_fault.Memory t s b table settings = tt
+first_blocks e t s b table settings = (table, settings)
+
+pub first_schedule : (e : ScheduleFault) (t s b : Option (List ℕ)) → HasNoFault table_said t → HasNoFault settings_said s → HasNoFault blocks_of b → IsFirst (schedule_refusal e) t s b
+first_schedule schedule_fault.Memory t s b table settings blocks = tt
+first_schedule e t s b table settings blocks = (table, settings, blocks)
+
+pub first_table : (e : TableFault) (t s b : Option (List ℕ)) → IsFirst (table_refusal e) t s b
+first_table table_fault.Memory t s b = tt
+first_table e t s b = tt
+
+pub later_table : {S B D : Type 0} (e : TableFault) (s : S) (b : B) (d : D) → LeavesLater (table_refusal e) s s b b d d
+later_table table_fault.Memory s b d = tt
+later_table e s b d = (refl, refl, refl)
+
+pub later_settings : {S B D : Type 0} (e : SettingsFault) (s s_new : S) (b : B) (d : D) → LeavesLater (settings_refusal e) s s_new b b d d
+later_settings settings_fault.Memory s s_new b d = tt
+later_settings e s s_new b d = (refl, refl)
+
+pub later_blocks : {S B D : Type 0} (e : BlocksFault) (s s_new : S) (b b_new : B) (d : D) → LeavesLater (blocks_refusal e) s s_new b b_new d d
+later_blocks blocks_fault.Memory s s_new b b_new d = tt
+later_blocks e s s_new b b_new d = refl
+
+pub later_schedule : {S B D : Type 0} (e : ScheduleFault) (s s_new : S) (b b_new : B) (d d_new : D) → LeavesLater (schedule_refusal e) s s_new b b_new d d_new
+later_schedule schedule_fault.Memory s s_new b b_new d d_new = tt
+later_schedule e s s_new b b_new d d_new = tt
+
+-- the same of an answer that is this fault
+pub first_err : {X : Type 0} (r : Result X RunFault) (exit e : RunFault) (t s b : Option (List ℕ)) → r ≡ Err exit → exit ≡ e → IsFirst e t s b → IfErr r (λ fault. IsFirst fault t s b)
+first_err r exit e t s b is same first = rw (is, same) first
+
+pub later_err : {X S B D : Type 0} (r : Result X RunFault) (exit e : RunFault) (s s_new : S) (b b_new : B) (d d_new : D) → r ≡ Err exit → exit ≡ e → LeavesLater e s s_new b b_new d d_new → IfErr r (λ fault. LeavesLater fault s s_new b b_new d d_new)
+later_err r exit e s s_new b b_new d d_new is same later = rw (is, same) later
+
+-- a fault of a transport block, or of what is written, comes after the four files
+pub first_block : (e : RunFault) (t s b : Option (List ℕ)) → (e ≢ faults.Memory → IsOfBlock e) → IsFirst e t s b
+first_block (faults.Settings e) t s b of_block = absurd (of_block (λ is. cc))
+first_block (faults.Blocks e) t s b of_block = absurd (of_block (λ is. cc))
+first_block (faults.Schedule e) t s b of_block = absurd (of_block (λ is. cc))
+first_block e t s b of_block = tt
+
+pub later_block : {S B D : Type 0} (e : RunFault) (s s_new : S) (b b_new : B) (d d_new : D) → (e ≢ faults.Memory → IsOfBlock e) → LeavesLater e s s_new b b_new d d_new
+later_block (faults.Table e) s s_new b b_new d d_new of_block = absurd (of_block (λ is. cc))
+later_block (faults.Settings e) s s_new b b_new d d_new of_block = absurd (of_block (λ is. cc))
+later_block (faults.Blocks e) s s_new b b_new d d_new of_block = absurd (of_block (λ is. cc))
+later_block e s s_new b b_new d d_new of_block = tt
+
+pub first_written : {X : Type 0} (r : Result X RunFault) (old new : Option (List ℕ)) (text : List ℕ) (t s b : Option (List ℕ)) → Writes old new r text → IfErr r (λ e. IsFirst e t s b)
+first_written (Ok x) old new text t s b writes = tt
+first_written (Err (faults.Settings e)) old new text t s b writes = absurd writes
+first_written (Err (faults.Blocks e)) old new text t s b writes = absurd writes
+first_written (Err (faults.Schedule e)) old new text t s b writes = absurd writes
+first_written (Err e) old new text t s b writes = tt
+
+pub later_written : {X S B D : Type 0} (r : Result X RunFault) (old new : Option (List ℕ)) (text : List ℕ) (s s_new : S) (b b_new : B) (d d_new : D) → Writes old new r text → IfErr r (λ e. LeavesLater e s s_new b b_new d d_new)
+later_written (Ok x) old new text s s_new b b_new d d_new writes = tt
+later_written (Err (faults.Table e)) old new text s s_new b b_new d d_new writes = absurd writes
+later_written (Err (faults.Settings e)) old new text s s_new b b_new d d_new writes = absurd writes
+later_written (Err (faults.Blocks e)) old new text s s_new b b_new d d_new writes = absurd writes
+later_written (Err e) old new text s s_new b b_new d d_new writes = tt

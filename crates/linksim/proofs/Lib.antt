@@ -1,3 +1,4 @@
+pub mod AuditLemmas
 pub mod BlockLines
 pub mod BlockTexts
 pub mod CheckLemmas
@@ -5,6 +6,7 @@ pub mod CommandLemmas
 pub mod CutLemmas
 pub mod DrawnFacts
 pub mod FurthestFacts
+pub mod HearingFacts
 pub mod HexDigits
 pub mod InputLemmas
 mod JobLemmas
@@ -12,6 +14,10 @@ pub mod MaskWords
 pub mod OctetDigits
 pub mod PlaceItems
 pub mod Refusals
+pub mod RunInputs
+pub mod RunLines
+pub mod RunOutcomes
+pub mod RunTexts
 pub mod ScheduleRecords
 pub mod SendLemmas
 pub mod SettingsFacts

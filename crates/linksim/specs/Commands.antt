@@ -29,6 +29,6 @@ abbrev pub with_files : App → App
 with_files app = with_rule (with_rule (with_rule (with_rule app (file_rule (codes "table")))
     (file_rule (codes "settings"))) (file_rule (codes "blocks"))) (file_rule (codes "schedule"))
 
--- send --table FILE --settings FILE --blocks FILE --schedule FILE: a command over four files, by its name
+-- NAME --table FILE --settings FILE --blocks FILE --schedule FILE: a command over four files, `send`, `run` or `audit`
 abbrev pub files_app : Text → App
 files_app name = with_files (new_app name)

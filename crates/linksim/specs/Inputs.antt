@@ -1,5 +1,5 @@
 -- What the four files of a command over a schedule say: `send`, and those that follow its schedule.
-use Rattle.std.specs.Prelude.{ℕ, ◌+◌, List, [], ◌∷◌, length, map, Option, IfSome, Result, Ok}
+use Rattle.std.specs.Prelude.{◌≡◌, ℕ, ◌+◌, List, [], ◌∷◌, length, map, Option, IfSome, IsOk, Result, Ok}
 use Rattle.nr_bitvec.specs.BitList.{bits_of}
 use Rattle.nr_graphpick.specs.Refusal.{◌>>=◌, with_fault}
 use Rattle.nr_shifttable.specs.Accepted.{Entries, table_said}
@@ -68,3 +68,21 @@ abbrev pub OfFour : Option (List ℕ) → Option (List ℕ) → Option (List ℕ
     → (List ℕ → List ℕ → List ℕ → List ℕ → Type 0) → Type 0
 OfFour t s b d holds = IfSome t (λ table. IfSome s (λ settings. IfSome b (λ blocks. IfSome d (λ schedule.
     holds table settings blocks schedule))))
+
+-- a file has no fault, where its octets are known
+abbrev pub HasNoFault : {X E : Type 0} → (List ℕ → Result X E) → Option (List ℕ) → Type 0
+HasNoFault said file = IfSome file (λ octets. IsOk (said octets))
+
+-- A fault of one of the four files, its Read too, is the first: no file before it has a fault.
+abbrev pub IsFirst : RunFault → Option (List ℕ) → Option (List ℕ) → Option (List ℕ) → Type 0
+IsFirst (faults.Settings e) t s b = HasNoFault table_said t
+IsFirst (faults.Blocks e) t s b = (HasNoFault table_said t) × (HasNoFault settings_said s)
+IsFirst (faults.Schedule e) t s b = (HasNoFault table_said t) × (HasNoFault settings_said s) × (HasNoFault blocks_of b)
+IsFirst e t s b = Unit {0}
+
+-- No file after one that is refused is read: their Sources are as they were.
+abbrev pub LeavesLater : {S B D : Type 0} → RunFault → S → S → B → B → D → D → Type 0
+LeavesLater (faults.Table e) s s_new b b_new d d_new = (s_new ≡ s) × (b_new ≡ b) × (d_new ≡ d)
+LeavesLater (faults.Settings e) s s_new b b_new d d_new = (b_new ≡ b) × (d_new ≡ d)
+LeavesLater (faults.Blocks e) s s_new b b_new d d_new = d_new ≡ d
+LeavesLater e s s_new b b_new d d_new = Unit {0}

@@ -6,7 +6,7 @@ use Rattle.clap.specs.Words.{Kinds, Row, Text, fault_of, first_of, matches_of, o
 use Rattle.linksim.specs.Commands.{check_app, cut_app, files_app}
 use Rattle.linksim.specs.declared.job.Files.{Files}
 use Rattle.linksim.specs.declared.job.Job.{Job}
-use Rattle.linksim.specs.declared.job.Job.TheVariants.{Cut, Check, Send}
+use Rattle.linksim.specs.declared.job.Job.TheVariants.{Audit, Check, Cut, Run, Send}
 
 -- the value of the option is this text
 abbrev pub IsTextAt : Text → List Row → Text → Type 0
@@ -62,6 +62,8 @@ IsJobOf words (Cut rate path) = BeginsWith (codes "cut") words × HasCut words r
 IsJobOf words (Check path) = BeginsWith (codes "check") words
     × IsTextAt (codes "table") (check_rows words) (string_bytes path)
 IsJobOf words (Send files) = BeginsWith (codes "send") words × HasFiles (codes "send") words files
+IsJobOf words (Run files) = BeginsWith (codes "run") words × HasFiles (codes "run") words files
+IsJobOf words (Audit files) = BeginsWith (codes "audit") words × HasFiles (codes "audit") words files
 
 -- clap's test of whether it takes the words as those of `cut`, of `check`, or of a command over four files
 unfoldable pub is_taken_as_cut : List Text → Bool
@@ -88,6 +90,8 @@ abbrev pub faults_at : List Text → Job → Kinds
 faults_at words (Cut rate path) = cut_faults words
 faults_at words (Check path) = check_faults words
 faults_at words (Send files) = files_faults (codes "send") words
+faults_at words (Run files) = files_faults (codes "run") words
+faults_at words (Audit files) = files_faults (codes "audit") words
 
 -- clap takes the words as those of `cut`, of `check`, or of a command over four files: by its test, or since it finds no
 -- fault in them
@@ -105,6 +109,8 @@ abbrev pub IsTakenAs : List Text → Job → Type 0
 IsTakenAs words (Cut rate path) = IsTakenAsCut words
 IsTakenAs words (Check path) = IsTakenAsCheck words
 IsTakenAs words (Send files) = IsTakenAsFiles (codes "send") words
+IsTakenAs words (Run files) = IsTakenAsFiles (codes "run") words
+IsTakenAs words (Audit files) = IsTakenAsFiles (codes "audit") words
 
 -- the job where there are no words: `cut` of standard input, at the highest rate
 abbrev pub IsDefaultJob : Job → Type 0

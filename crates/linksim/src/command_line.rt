@@ -54,6 +54,8 @@ pub fn job(alloc: Global, words: &[String]) -> Result<Job, JobFault>
         "cut" => cut_job(alloc, words),
         "check" => check_job(alloc, words),
         "send" => send_job(alloc, words),
+        "run" => run_job(alloc, words),
+        "audit" => audit_job(alloc, words),
         _ => Err(other_fault(alloc, words)),
     }
 }
@@ -93,13 +95,44 @@ fn send_job(alloc: Global, words: &[String]) -> Result<Job, JobFault>
     requires { BeginsWith (codes "send") (map string_bytes words.now) }
     ensures job { IfOk result (IsJobOf (map string_bytes words.now)) }
     ensures faultless { IfOk result (λ job. faults_at (map string_bytes words.now) job ≡ []) }
-    ensures asked { (files : AskedFiles) → IsTakenAsFiles (codes "send") (map string_bytes words.now)
+    ensures asked { (files : AskedFiles)
+        → IsTakenAsFiles (codes "send") (map string_bytes words.now)
         → HasFiles (codes "send") (map string_bytes words.now) files
         → IsOkUnless result JobFault.Memory }
 {
     let mut command = send_command(alloc)?;
     let files = files_of(alloc, &mut command, words)?;
     Ok(Job::Send(files))
+}
+
+// The job of words that begin with `run`.
+fn run_job(alloc: Global, words: &[String]) -> Result<Job, JobFault>
+    requires { BeginsWith (codes "run") (map string_bytes words.now) }
+    ensures job { IfOk result (IsJobOf (map string_bytes words.now)) }
+    ensures faultless { IfOk result (λ job. faults_at (map string_bytes words.now) job ≡ []) }
+    ensures asked { (files : AskedFiles)
+        → IsTakenAsFiles (codes "run") (map string_bytes words.now)
+        → HasFiles (codes "run") (map string_bytes words.now) files
+        → IsOkUnless result JobFault.Memory }
+{
+    let mut command = run_command(alloc)?;
+    let files = files_of(alloc, &mut command, words)?;
+    Ok(Job::Run(files))
+}
+
+// The job of words that begin with `audit`.
+fn audit_job(alloc: Global, words: &[String]) -> Result<Job, JobFault>
+    requires { BeginsWith (codes "audit") (map string_bytes words.now) }
+    ensures job { IfOk result (IsJobOf (map string_bytes words.now)) }
+    ensures faultless { IfOk result (λ job. faults_at (map string_bytes words.now) job ≡ []) }
+    ensures asked { (files : AskedFiles)
+        → IsTakenAsFiles (codes "audit") (map string_bytes words.now)
+        → HasFiles (codes "audit") (map string_bytes words.now) files
+        → IsOkUnless result JobFault.Memory }
+{
+    let mut command = audit_command(alloc)?;
+    let files = files_of(alloc, &mut command, words)?;
+    Ok(Job::Audit(files))
 }
 
 // The four files that the words give a command over files. Clap does not test that at most one is standard input.
@@ -183,7 +216,9 @@ fn program<'a>(alloc: Global) -> Result<Command<'a>, AllocError> {
         .subcommand_required(true)
         .subcommand(cut_command(alloc)?)?
         .subcommand(check_command(alloc)?)?
-        .subcommand(send_command(alloc)?)
+        .subcommand(send_command(alloc)?)?
+        .subcommand(run_command(alloc)?)?
+        .subcommand(audit_command(alloc)?)
 }
 
 fn cut_command<'a>(alloc: Global) -> Result<Command<'a>, AllocError>
@@ -227,6 +262,34 @@ fn send_command<'a>(alloc: Global) -> Result<Command<'a>, AllocError>
         )
         .after_help(closing!(
             "linksim send --table examples/practice.csv --settings examples/settings.toml --blocks examples/blocks.txt --schedule examples/schedule.csv"
+        ));
+    with_files(alloc, command)
+}
+
+fn run_command<'a>(alloc: Global) -> Result<Command<'a>, AllocError>
+    ensures { IfOk result (λ c. app_of c ≡ files_app (codes "run")) }
+{
+    let command = Command::new(alloc, "run")
+        .bin_name("linksim run")?
+        .about(
+            "Sends and receives the transmissions of a schedule over a link that loses bits, and says what is delivered",
+        )
+        .after_help(closing!(
+            "linksim run --table examples/practice.csv --settings examples/settings.toml --blocks examples/blocks.txt --schedule examples/losses.csv"
+        ));
+    with_files(alloc, command)
+}
+
+fn audit_command<'a>(alloc: Global) -> Result<Command<'a>, AllocError>
+    ensures { IfOk result (λ c. app_of c ≡ files_app (codes "audit")) }
+{
+    let command = Command::new(alloc, "audit")
+        .bin_name("linksim audit")?
+        .about(
+            "Says of each code block after a schedule in how many steps it is fixed, or why it is stuck",
+        )
+        .after_help(closing!(
+            "linksim audit --table examples/practice.csv --settings examples/settings.toml --blocks examples/blocks.txt --schedule examples/losses.csv"
         ));
     with_files(alloc, command)
 }

@@ -3,9 +3,10 @@
 
 ghost use Rattle.std.specs.Prelude.{◌≡◌, ◌≢◌, ◌^◌, ◌<◌, ◌≤◌, All, length, map, IfOk, IfErr, IsErr, Err};
 ghost use Rattle.nr_graphpick.specs.Refusal.{Gives};
+ghost use Rattle.nr_shifttable.specs.Accepted.{IsTable};
 ghost use Rattle.linksim.specs.Blocks.{IsBlockLength};
 ghost use Rattle.linksim.specs.Command.{FailsAs, IsOfBlock};
-ghost use Rattle.linksim.specs.Inputs.{OfFour, files_said, given_by, sender_said, senders_from};
+ghost use Rattle.linksim.specs.Inputs.{IsFirst, LeavesLater, OfFour, files_said, given_by, sender_said, senders_from};
 ghost use Rattle.linksim.specs.Schedule.{HasBlock};
 
 use crate::blocks::BlocksFault;
@@ -55,6 +56,7 @@ pub fn read<T: Source, S: Source, B: Source, D: Source>(
         → OfFour (T.remaining table.old) (S.remaining settings.old)
         (B.remaining blocks.old) (D.remaining schedule.old)
         (λ t s b d. Gives RunFault.Memory given_by result (files_said t s b d)) }
+    ensures accepted { IfOk result (λ inputs. IsTable inputs.table) }
     ensures few { IfOk result (λ inputs. length inputs.blocks.items ≤ 256) }
     ensures sizes { IfOk result
         (λ inputs. All (λ block. IsBlockLength (length block.items)) inputs.blocks.items) }
@@ -68,6 +70,10 @@ pub fn read<T: Source, S: Source, B: Source, D: Source>(
         (B.failures blocks.old) (B.failures blocks.new) }
     ensures schedule { FailsAs (RunFault.Schedule ScheduleFault.Read) result
         (D.failures schedule.old) (D.failures schedule.new) }
+    ensures first { IfErr result (λ e. IsFirst e
+        (T.remaining table.old) (S.remaining settings.old) (B.remaining blocks.old)) }
+    ensures later { IfErr result (λ e. LeavesLater e settings.old settings.new
+        blocks.old blocks.new schedule.old schedule.new) }
     ensures unput { result ≢ Err RunFault.Write }
 {
     let table = Table::read(alloc, table)?;

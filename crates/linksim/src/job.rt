@@ -15,6 +15,10 @@ pub enum Job {
     Check(String),
     /// `send`: the paths of its four files, of which at most one is `-`.
     Send(Files),
+    /// `run`: the paths of the same four files.
+    Run(Files),
+    /// `audit`: the paths of the same four files.
+    Audit(Files),
 }
 
 /// The paths of the files that a command over a schedule reads.

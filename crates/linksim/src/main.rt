@@ -1,6 +1,7 @@
 //! The data coding chain of 5G NR's shared channels (3GPP TS 38.212, Release 15) as a program: `cut` shows what the
-//! standard makes of each transport block up to its code blocks, `check` judges a shift table file, `send` the bits sent.
-//! `job` reads the command line; `cut`, `check` and `send` work over any Source and Sink; `tell` says how a run ends.
+//! standard makes of each transport block up to its code blocks, `check` judges a shift table file, `send` writes the bits
+//! sent, `run` what a receiver makes of them over a link that loses bits, and `audit` why.
+//! `job` reads the command line; the five commands work over any Source and Sink; `tell` says how a run ends.
 //! Their contract: what they write is a stated function of the octets that they read, or nothing is written and the
 //! fault is that function's; a failing Sink has a first part of the text.
 //! Stands on the crates of this repository, with `clap` for the command line, `csv` and `toml` for files, `rand_pcg` for
@@ -10,7 +11,12 @@
 ghost use Rattle.std.specs.Prelude.{◌≡◌, ◌^◌, ◌<◌, drop, IfOk};
 ghost use Rattle.std.specs.Vec.Iter.{into_iter_items};
 
+pub mod audit;
+#[cfg(test)]
+mod audit_tests;
 pub mod blocks;
+#[cfg(test)]
+mod broken_tests;
 pub mod check;
 pub mod command_line;
 pub mod cut;
@@ -18,11 +24,16 @@ pub mod deliver;
 pub mod ending;
 pub mod erasure;
 pub mod fault;
+pub mod hearing;
 pub mod inputs;
 pub mod job;
 pub mod places;
 #[cfg(test)]
 mod program_tests;
+pub mod received;
+pub mod run;
+#[cfg(test)]
+mod run_tests;
 pub mod schedule;
 pub mod send;
 #[cfg(test)]
@@ -34,6 +45,7 @@ pub mod streams;
 mod tests;
 pub mod text;
 
+use crate::audit::audit;
 use crate::check::check;
 use crate::command_line::job;
 use crate::cut::cut;
@@ -50,7 +62,7 @@ use std::rt::{Env, Files};
 use std::{env, io};
 
 fn main(rt: HostRuntime) -> ExitCode {
-    let ending = run(&rt, &mut Outgoing::new(&rt));
+    let ending = ending_of(&rt, &mut Outgoing::new(&rt));
     let errors = rt.stderr();
     ExitCode::from(tell(
         rt.alloc(),
@@ -60,8 +72,8 @@ fn main(rt: HostRuntime) -> ExitCode {
     ))
 }
 
-// Does what the words of the command line ask for.
-fn run<R: Env + Files + Input + AllocGlobal, O: Sink>(rt: &R, out: &mut O) -> Ending
+// Does what the words of the command line ask for, and answers how it ended.
+fn ending_of<R: Env + Files + Input + AllocGlobal, O: Sink>(rt: &R, out: &mut O) -> Ending
     requires { O.failures out.old < 2 ^ 32 }
 {
     match words(rt).and_then(|words| job(rt.alloc(), &words)) {
@@ -107,6 +119,22 @@ fn perform<R: Files + Input + AllocGlobal, O: Sink>(
         Job::Cut(rate2048, path) => cut(rt.alloc(), rate2048, &mut open(rt, &path), out),
         Job::Check(path) => check(rt.alloc(), &mut open(rt, &path), out),
         Job::Send(files) => send(
+            rt.alloc(),
+            &mut open(rt, &files.table),
+            &mut open(rt, &files.settings),
+            &mut open(rt, &files.blocks),
+            &mut open(rt, &files.schedule),
+            out,
+        ),
+        Job::Run(files) => run::run(
+            rt.alloc(),
+            &mut open(rt, &files.table),
+            &mut open(rt, &files.settings),
+            &mut open(rt, &files.blocks),
+            &mut open(rt, &files.schedule),
+            out,
+        ),
+        Job::Audit(files) => audit(
             rt.alloc(),
             &mut open(rt, &files.table),
             &mut open(rt, &files.settings),

@@ -1,12 +1,13 @@
 //! The command `send`.
 
-ghost use Rattle.std.specs.Prelude.{◌≡◌, ◌≢◌, ℕ, ◌^◌, ◌<◌, All, length, IfOk, IsErr, Err};
+ghost use Rattle.std.specs.Prelude.{◌≡◌, ◌≢◌, ℕ, ◌^◌, ◌<◌, All, length, IfErr, IfOk, IsErr, Err};
 ghost use Rattle.std.specs.String.{string_bytes};
 ghost use Rattle.linksim.specs.Command.{Delivers, FailsAs, Writes};
-ghost use Rattle.linksim.specs.Inputs.{OfFour};
+ghost use Rattle.linksim.specs.Inputs.{IsFirst, LeavesLater, OfFour};
 ghost use Rattle.linksim.specs.SendText.{answer_line, rate_name, refusal_name, refused_line, send_said, sent_line, transmission_line, transmission_lines};
 ghost use Rattle.linksim.specs.Schedule.{HasBlock};
 ghost use Rattle.nr_blockdesk.specs.Sent.{sent_said};
+ghost use Rattle.std.specs.Result.{result_map_both};
 
 use crate::blocks::BlocksFault;
 use crate::deliver::deliver;
@@ -17,7 +18,7 @@ use crate::settings::SettingsFault;
 use crate::sink::Sink;
 use crate::text::hex_line;
 use nr_bitvec::Bits;
-use nr_blockdesk::Sender;
+use nr_blockdesk::{Sender, Tx};
 use nr_ratematch::RmFault;
 use nr_shifttable::{Source, TableFault};
 use std::alloc::{AllocError, Global};
@@ -64,6 +65,10 @@ pub fn send<T: Source, S: Source, B: Source, D: Source, O: Sink>(
         (B.failures blocks.old) (B.failures blocks.new) }
     ensures schedule { FailsAs (RunFault.Schedule ScheduleFault.Read) result
         (D.failures schedule.old) (D.failures schedule.new) }
+    ensures first { IfErr result (λ e. IsFirst e
+        (T.remaining table.old) (S.remaining settings.old) (B.remaining blocks.old)) }
+    ensures later { IfErr result (λ e. LeavesLater e settings.old settings.new
+        blocks.old blocks.new schedule.old schedule.new) }
     ensures put { FailsAs RunFault.Write result (O.failures out.old) (O.failures out.new) }
 {
     let inputs = read(alloc, table, settings, blocks, schedule)?;
@@ -122,15 +127,34 @@ fn line_of(
         (sent_said sender.now.link transmission.now.tx sender.now.block)) }
 {
     let (number, block) = (transmission.number, transmission.block);
-    match sender.send(&transmission.tx) {
+    match said_of(sender, &transmission.tx)? {
         Ok(bits) => sent_line(alloc, number, block, &bits),
-        Err(DeskFault::Memory) => Err(AllocError),
         Err(fault) => Ok(refused_line(alloc, number, block, fault)?.into_bytes()),
     }
 }
 
+/// What a sender says of a transmission: the bits, or why it is refused.
+///
+/// # Errors
+/// `AllocError` where memory is refused.
+pub(crate) fn said_of(sender: &Sender, tx: &Tx) -> Result<Result<Bits, DeskFault>, AllocError>
+    ensures { IfOk result (λ said. result_map_both (λ bits. bits.items) (λ fault. fault) said
+        ≡ sent_said sender.now.link tx.now sender.now.block) }
+{
+    match sender.send(tx) {
+        Ok(bits) => Ok(Ok(bits)),
+        Err(DeskFault::Memory) => Err(AllocError),
+        Err(fault) => Ok(Err(fault)),
+    }
+}
+
 // The line of transmission `number` of block `block`: the bits that it sends.
-fn sent_line(alloc: Global, number: u32, block: u32, bits: &Bits) -> Result<Vec<u8>, AllocError>
+pub(crate) fn sent_line(
+    alloc: Global,
+    number: u32,
+    block: u32,
+    bits: &Bits,
+) -> Result<Vec<u8>, AllocError>
     ensures { IfOk result (λ line. line.items ≡ sent_line number block bits.now.items) }
 {
     let mut head = String::new(alloc);
@@ -140,7 +164,7 @@ fn sent_line(alloc: Global, number: u32, block: u32, bits: &Bits) -> Result<Vec<
 
 // The line of transmission `number` of block `block`, which is refused.
 #[tactic(auto, unfolding(crate::specs::SendText::refused_line))]
-fn refused_line(
+pub(crate) fn refused_line(
     alloc: Global,
     number: u32,
     block: u32,

@@ -8,7 +8,6 @@ use crate::send::send;
 use crate::settings::SettingsFault;
 use crate::sink::Tape;
 use crate::tests::{Outcome, feed, least_table, practice_table};
-use nr_shifttable::{Feed, TableFault};
 use std::alloc::{AllocError, Global};
 use std::test::Fail;
 
@@ -138,56 +137,5 @@ fn refuses_files_in_order(rt: HostRuntime) -> Result<(), Fail> {
         assert_eq!(rt; answer, Err(fault));
         assert_eq!(rt; written.len(), 0);
     }
-    Ok(())
-}
-
-// Each Source in turn is Broken at its first pull, and at its second, which is the one that meets the end.
-#[test]
-fn a_broken_source_of_four_is_read(rt: HostRuntime) -> Result<(), Fail> {
-    let table = practice_table(rt.alloc())?;
-    for (fails, fault) in [
-        ([1, 1, 1, 1], RunFault::Table(TableFault::Read)),
-        ([0, 1, 1, 1], RunFault::Settings(SettingsFault::Read)),
-        ([0, 0, 1, 1], RunFault::Blocks(BlocksFault::Read)),
-        ([0, 0, 0, 1], RunFault::Schedule(ScheduleFault::Read)),
-        ([2, 1, 1, 1], RunFault::Table(TableFault::Read)),
-        ([0, 2, 1, 1], RunFault::Settings(SettingsFault::Read)),
-        ([0, 0, 2, 1], RunFault::Blocks(BlocksFault::Read)),
-        ([0, 0, 0, 2], RunFault::Schedule(ScheduleFault::Read)),
-    ] {
-        let text = Vec::from_slice(rt.alloc(), table.as_bytes())?;
-        let settings = Vec::from_slice(rt.alloc(), SETTINGS)?;
-        let blocks = Vec::from_slice(rt.alloc(), b"01")?;
-        let schedule = Vec::from_slice(rt.alloc(), SCHEDULE)?;
-        let mut tape = Tape::new(rt.alloc(), ROOM, ROOM, 0)?;
-        let answer = send(
-            rt.alloc(),
-            &mut Feed::new(text, 65_536, fails[0]),
-            &mut Feed::new(settings, 65_536, fails[1]),
-            &mut Feed::new(blocks, 65_536, fails[2]),
-            &mut Feed::new(schedule, 65_536, fails[3]),
-            &mut tape,
-        );
-        assert_eq!(rt; answer, Err(fault));
-        assert_eq!(rt; tape.bytes().len(), 0);
-    }
-    Ok(())
-}
-
-// A Tape with this room has the first octets of the text.
-#[test]
-fn a_broken_sink_has_the_first_octets(rt: HostRuntime) -> Result<(), Fail> {
-    let table = practice_table(rt.alloc())?;
-    let mut tape = Tape::new(rt.alloc(), 10, 3, 0)?;
-    let answer = send(
-        rt.alloc(),
-        &mut feed(rt.alloc(), table.as_bytes())?,
-        &mut feed(rt.alloc(), SETTINGS)?,
-        &mut feed(rt.alloc(), b"01")?,
-        &mut feed(rt.alloc(), SCHEDULE)?,
-        &mut tape,
-    );
-    assert_eq!(rt; answer, Err(RunFault::Write));
-    assert_eq!(rt; tape.bytes(), b"sent 1 1 0".as_slice());
     Ok(())
 }

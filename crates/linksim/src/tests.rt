@@ -49,7 +49,8 @@ fn zeros(alloc: Global, count: usize) -> Result<Vec<u8>, AllocError> {
     vec![in alloc; b'0'; count]
 }
 
-const FIRST: &[u8] =
+// What `cut` makes of block 01.
+pub(crate) const FIRST: &[u8] =
     b"block 1 a 8 b 24 graph 2 c 1 l 0 kdash 24 kb 6 z 4 set 0 k 40 n 200\nattached 1 011021\ncode 1 0 011021\n";
 
 #[test]
@@ -158,41 +159,6 @@ fn refuses_blocks_that_cannot_be_cut(rt: HostRuntime) -> Result<(), Fail> {
     Ok(())
 }
 
-// A Source that is Broken at its k-th pull, for each k: one octet a pull, and one pull for the end.
-#[test]
-fn a_broken_source_is_read(rt: HostRuntime) -> Result<(), Fail> {
-    for fail in 1..=4 {
-        let octets = Vec::from_slice(rt.alloc(), b"01\n")?;
-        let mut tape = Tape::new(rt.alloc(), ROOM, ROOM, 0)?;
-        let answer = cut(rt.alloc(), 2048, &mut Feed::new(octets, 1, fail), &mut tape);
-        assert_eq!(rt;
-            answer,
-            Err(RunFault::Blocks(BlocksFault::Read)),
-            "at {fail}"
-        );
-        assert_eq!(rt; tape.bytes().len(), 0, "at {fail}");
-    }
-    let octets = Vec::from_slice(rt.alloc(), b"01\n")?;
-    let mut tape = Tape::new(rt.alloc(), ROOM, ROOM, 0)?;
-    let answer = cut(rt.alloc(), 2048, &mut Feed::new(octets, 1, 5), &mut tape);
-    assert_eq!(rt; answer, Ok(()));
-    Ok(())
-}
-
-// A Tape that takes one octet a put and is Broken at its k-th, for each k: the first k - 1 octets are written.
-#[test]
-fn a_broken_sink_has_the_beginning(rt: HostRuntime) -> Result<(), Fail> {
-    for fail in 1..=FIRST.len() as u32 {
-        let mut tape = Tape::new(rt.alloc(), ROOM, 1, fail)?;
-        let answer = cut(rt.alloc(), 2048, &mut feed(rt.alloc(), b"01")?, &mut tape);
-        assert_eq!(rt; answer, Err(RunFault::Write), "at {fail}");
-        let before = fail as usize - 1;
-        assert!(rt; before <= FIRST.len());
-        assert_eq!(rt; tape.bytes(), &FIRST[..before], "at {fail}");
-    }
-    Ok(())
-}
-
 // 163,836 octets: B is 1,310,712, in 156 code blocks of 8,426 bits, the most that base graph 1 has.
 #[test]
 fn cuts_the_largest_block(rt: HostRuntime) -> Result<(), Fail> {
@@ -293,18 +259,6 @@ fn refuses_tables(rt: HostRuntime) -> Result<(), Fail> {
         let (answer, written) = check_of(rt.alloc(), text)?;
         assert_eq!(rt; answer, Err(RunFault::Table(fault)), "at {fault:?}");
         assert_eq!(rt; written.len(), 0);
-    }
-    Ok(())
-}
-
-#[test]
-fn a_broken_table_source_is_read(rt: HostRuntime) -> Result<(), Fail> {
-    for fail in 1..=4 {
-        let octets = Vec::from_slice(rt.alloc(), b"2,0")?;
-        let mut tape = Tape::new(rt.alloc(), ROOM, ROOM, 0)?;
-        let answer = check(rt.alloc(), &mut Feed::new(octets, 1, fail), &mut tape);
-        assert_eq!(rt; answer, Err(RunFault::Table(TableFault::Read)), "at {fail}");
-        assert_eq!(rt; tape.bytes().len(), 0);
     }
     Ok(())
 }

@@ -206,7 +206,8 @@ fn graph_of(number: u32, a: u32, rate2048: u32) -> Result<Graph, RunFault>
 fn plan_for(number: u32, graph: Graph, b: u32) -> Result<Plan, RunFault>
     ensures for_these { IfOk result (λ plan. (plan.graph ≡ graph) × (plan.b ≡ b)) }
     ensures refused { IfErr result (λ e.
-        with_fault (λ fault. RunFault.Desk number (DeskFault.Seg fault)) (plan_of graph b) ≡ Err e) }
+        with_fault (λ fault. RunFault.Desk number (DeskFault.Seg fault)) (plan_of graph b)
+        ≡ Err e) }
 {
     plan(graph, b).map_err(|fault| RunFault::Desk(number, DeskFault::Seg(fault)))
 }

@@ -38,17 +38,25 @@ fn jobs_are_read(rt: HostRuntime) -> Result<(), JobFault> {
     Ok(())
 }
 
-#[test]
-fn files_are_read(rt: HostRuntime) -> Result<(), JobFault> {
-    let alloc = rt.alloc();
-    let want = Files {
+// Four paths.
+fn four(alloc: Global) -> Result<Files, AllocError> {
+    Ok(Files {
         table: String::from_str(alloc, "a")?,
         settings: String::from_str(alloc, "b")?,
         blocks: String::from_str(alloc, "-")?,
         schedule: String::from_str(alloc, "d")?,
-    };
+    })
+}
+
+#[test]
+fn files_are_read(rt: HostRuntime) -> Result<(), JobFault> {
+    let alloc = rt.alloc();
     let line = "send --schedule d --blocks - --settings=b --table a";
-    assert_eq!(rt; job_of(alloc, line)?, Job::Send(want));
+    assert_eq!(rt; job_of(alloc, line)?, Job::Send(four(alloc)?));
+    let line = "run --schedule=d --blocks - --settings b --table a";
+    assert_eq!(rt; job_of(alloc, line)?, Job::Run(four(alloc)?));
+    let line = "audit --table=a --blocks - --settings b --schedule d";
+    assert_eq!(rt; job_of(alloc, line)?, Job::Audit(four(alloc)?));
     Ok(())
 }
 
@@ -92,6 +100,22 @@ fn usage_faults_say_why(rt: HostRuntime) -> Result<(), AllocError> {
             "send --table - --settings b --blocks - --schedule d",
             "error: standard input is named for several files\n\nUsage: linksim send --table <FILE> --settings <FILE> --blocks <FILE> --schedule <FILE>\n\nFor more information, try '--help'.\n",
         ),
+        (
+            "run --table a --settings b --schedule d",
+            "error: the following required arguments were not provided:\n  --blocks <FILE>\n\nUsage: linksim run --table <FILE> --settings <FILE> --blocks <FILE> --schedule <FILE>\n\nFor more information, try '--help'.\n",
+        ),
+        (
+            "run --table a --settings - --blocks c --schedule -",
+            "error: standard input is named for several files\n\nUsage: linksim run --table <FILE> --settings <FILE> --blocks <FILE> --schedule <FILE>\n\nFor more information, try '--help'.\n",
+        ),
+        (
+            "audit --table - --settings - --blocks - --schedule -",
+            "error: standard input is named for several files\n\nUsage: linksim audit --table <FILE> --settings <FILE> --blocks <FILE> --schedule <FILE>\n\nFor more information, try '--help'.\n",
+        ),
+        (
+            "audit --table a --settings b --blocks c --schedule d e",
+            "error: unexpected argument 'e' found\n\nUsage: linksim audit --table <FILE> --settings <FILE> --blocks <FILE> --schedule <FILE>\n\nFor more information, try '--help'.\n",
+        ),
     ] {
         let text = String::from_str(alloc, want)?;
         assert_eq!(rt; fault_text(alloc, line)?, Some((false, text)), "at {line}");
@@ -103,13 +127,17 @@ fn usage_faults_say_why(rt: HostRuntime) -> Result<(), AllocError> {
 fn help_is_shown(rt: HostRuntime) -> Result<(), AllocError> {
     let alloc = rt.alloc();
     let program =
-        "The data coding chain of 5G NR (3GPP TS 38.212)\n\nUsage: linksim <COMMAND>\n\nCommands:\n  cut    Attaches the CRC to each transport block and cuts it into code blocks\n  check  Checks a table of shift values\n  send   Encodes each transport block and writes the bits of each transmission of a schedule\n  help   Print this message or the help of the given subcommand(s)\n\nOptions:\n  -h, --help     Print help\n  -V, --version  Print version\n\nNo words at all ask for 'linksim cut --rate 2048 --blocks -'.\n\nExit status: 0 done, 1 refused, 2 wrong usage\n";
+        "The data coding chain of 5G NR (3GPP TS 38.212)\n\nUsage: linksim <COMMAND>\n\nCommands:\n  cut    Attaches the CRC to each transport block and cuts it into code blocks\n  check  Checks a table of shift values\n  send   Encodes each transport block and writes the bits of each transmission of a schedule\n  run    Sends and receives the transmissions of a schedule over a link that loses bits, and says what is delivered\n  audit  Says of each code block after a schedule in how many steps it is fixed, or why it is stuck\n  help   Print this message or the help of the given subcommand(s)\n\nOptions:\n  -h, --help     Print help\n  -V, --version  Print version\n\nNo words at all ask for 'linksim cut --rate 2048 --blocks -'.\n\nExit status: 0 done, 1 refused, 2 wrong usage\n";
     let cut =
         "Attaches the CRC to each transport block and cuts it into code blocks\n\nUsage: linksim cut [OPTIONS] --blocks <FILE>\n\nOptions:\n      --blocks <FILE>  The transport blocks, one a line in hexadecimal (-: standard input)\n      --rate <N>       Twice the target code rate x 1024 of the MCS tables; 0.5 is 1024 [default: 2048]\n  -h, --help           Print help\n\nExample:\n  echo 01 | linksim cut --rate 1024 --blocks -\n\nExit status: 0 done, 1 refused, 2 wrong usage\n";
     let check =
         "Checks a table of shift values\n\nUsage: linksim check --table <FILE>\n\nOptions:\n      --table <FILE>  The shift table, as comma-separated values (-: standard input)\n  -h, --help          Print help\n\nExample:\n  linksim check --table examples/practice.csv\n\nExit status: 0 done, 1 refused, 2 wrong usage\n";
     let send =
         "Encodes each transport block and writes the bits of each transmission of a schedule\n\nUsage: linksim send --table <FILE> --settings <FILE> --blocks <FILE> --schedule <FILE>\n\nOptions:\n      --table <FILE>     The shift table, as comma-separated values (-: standard input)\n      --settings <FILE>  The code rate and the limit of the buffer, as TOML (-: standard input)\n      --blocks <FILE>    The transport blocks, one a line in hexadecimal (-: standard input)\n      --schedule <FILE>  The transmissions, as comma-separated values (-: standard input)\n  -h, --help             Print help\n\nExample:\n  linksim send --table examples/practice.csv --settings examples/settings.toml --blocks examples/blocks.txt --schedule examples/schedule.csv\n\nExit status: 0 done, 1 refused, 2 wrong usage\n";
+    let run =
+        "Sends and receives the transmissions of a schedule over a link that loses bits, and says what is delivered\n\nUsage: linksim run --table <FILE> --settings <FILE> --blocks <FILE> --schedule <FILE>\n\nOptions:\n      --table <FILE>     The shift table, as comma-separated values (-: standard input)\n      --settings <FILE>  The code rate and the limit of the buffer, as TOML (-: standard input)\n      --blocks <FILE>    The transport blocks, one a line in hexadecimal (-: standard input)\n      --schedule <FILE>  The transmissions, as comma-separated values (-: standard input)\n  -h, --help             Print help\n\nExample:\n  linksim run --table examples/practice.csv --settings examples/settings.toml --blocks examples/blocks.txt --schedule examples/losses.csv\n\nExit status: 0 done, 1 refused, 2 wrong usage\n";
+    let audit =
+        "Says of each code block after a schedule in how many steps it is fixed, or why it is stuck\n\nUsage: linksim audit --table <FILE> --settings <FILE> --blocks <FILE> --schedule <FILE>\n\nOptions:\n      --table <FILE>     The shift table, as comma-separated values (-: standard input)\n      --settings <FILE>  The code rate and the limit of the buffer, as TOML (-: standard input)\n      --blocks <FILE>    The transport blocks, one a line in hexadecimal (-: standard input)\n      --schedule <FILE>  The transmissions, as comma-separated values (-: standard input)\n  -h, --help             Print help\n\nExample:\n  linksim audit --table examples/practice.csv --settings examples/settings.toml --blocks examples/blocks.txt --schedule examples/losses.csv\n\nExit status: 0 done, 1 refused, 2 wrong usage\n";
     for (line, want) in [
         ("--help", program),
         ("-h", program),
@@ -118,6 +146,9 @@ fn help_is_shown(rt: HostRuntime) -> Result<(), AllocError> {
         ("help cut", cut),
         ("check --help", check),
         ("send --help", send),
+        ("run --help", run),
+        ("help run", run),
+        ("audit --help", audit),
         ("--version", "linksim 0.1.0\n"),
         ("-V", "linksim 0.1.0\n"),
     ] {

@@ -137,13 +137,3 @@ fn takes_4096_transmissions(rt: HostRuntime) -> Result<(), Fail> {
     );
     Ok(())
 }
-
-#[test]
-fn tells_of_a_failed_pull(rt: HostRuntime) -> Result<(), Fail> {
-    let text = Vec::from_slice(rt.alloc(), SIX)?;
-    assert_eq!(rt;
-        read_schedule(rt.alloc(), 1, &mut Feed::new(text, 7, 2)).err(),
-        Some(ScheduleFault::Read)
-    );
-    Ok(())
-}

@@ -4,7 +4,7 @@ use Rattle.linksim.specs.Inputs.{given_by}
 use Rattle.linksim.specs.SendText.{send_said, transmission_lines}
 use Rattle.linksim.specs.declared.fault.RunFault.TheVariants.{Write}
 use Rattle.linksim.proofs.CommandLemmas.{delivers-refused, delivers-writes, writes_said}
-use Rattle.linksim.proofs.InputLemmas.{of_block_or_memory, of_four_then}
+use Rattle.linksim.proofs.InputLemmas.{first_block, first_written, first_err, later_err, later_block, later_written, of_block_or_memory, of_four_then}
 use Rattle.linksim.proofs.SendLemmas.{send_said-ready, send_said-refused, send_said-unsent}
 use Rattle.linksim.proofs.send.send.Goals as goal
 
@@ -33,3 +33,31 @@ returns-clause-text g c = λ same_t same_s same_b same_d.
     (λ t s b d given. delivers-writes _ _ c.send_lines.result (send_said t s b d)
     (writes_said _ _ c.send_lines.result (transmission_lines c.in_ok-senders.senders.items c.in_ok-inputs.inputs.schedule.items) (send_said t s b d)
     (send_said-ready t s b d (given_by c.in_ok-inputs.inputs) c.in_ok-senders.senders.items given c.in_ok-senders.ensures.said) text))
+
+pub returns-in_err-inputs-clause-first : goal.returns-in_err-inputs-clause-first
+returns-in_err-inputs-clause-first g c =
+    let p = err_from_is_err_and c.from_residual.result c.from_residual.ensures.1 in
+    first_err c.from_residual.result p.0 _ (g.T.Source.remaining c.args.table.now) (g.S.Source.remaining c.args.settings.now) (g.B.Source.remaining c.args.blocks.now) p.1 p.2 c.in_err-inputs.ensures.first
+
+pub returns-in_err-inputs-clause-later : goal.returns-in_err-inputs-clause-later
+returns-in_err-inputs-clause-later g c =
+    let p = err_from_is_err_and c.from_residual.result c.from_residual.ensures.1 in
+    later_err c.from_residual.result p.0 _ _ _ _ _ _ _ p.1 p.2 c.in_err-inputs.ensures.later
+
+pub returns-in_err-senders-clause-first : goal.returns-in_err-senders-clause-first
+returns-in_err-senders-clause-first g c =
+    let p = err_from_is_err_and c.from_residual-in_err-senders.result c.from_residual-in_err-senders.ensures.1 in
+    first_err c.from_residual-in_err-senders.result p.0 _ (g.T.Source.remaining c.args.table.now) (g.S.Source.remaining c.args.settings.now) (g.B.Source.remaining c.args.blocks.now) p.1 p.2
+    (first_block _ _ _ _ c.in_err-senders.ensures.of_block)
+
+pub returns-in_err-senders-clause-later : goal.returns-in_err-senders-clause-later
+returns-in_err-senders-clause-later g c =
+    let p = err_from_is_err_and c.from_residual-in_err-senders.result c.from_residual-in_err-senders.ensures.1 in
+    later_err c.from_residual-in_err-senders.result p.0 _ _ _ _ _ _ _ p.1 p.2
+    (later_block _ _ _ _ _ _ _ c.in_err-senders.ensures.of_block)
+
+pub returns-clause-first : goal.returns-clause-first
+returns-clause-first g c = first_written c.send_lines.result _ _ _ _ _ _ c.send_lines.ensures.text
+
+pub returns-clause-later : goal.returns-clause-later
+returns-clause-later g c = later_written c.send_lines.result _ _ _ _ _ _ _ _ _ c.send_lines.ensures.text

@@ -1,0 +1,12 @@
+use Rattle.std.proofs.Common.{◌≡◌, take}
+use Rattle.linksim.specs.AuditText.{audit_lines}
+use Rattle.linksim.specs.Written.{with_text}
+use Rattle.linksim.proofs.audit.audit_blocks.Given as goal
+
+-- the lines of the blocks so far are written, and no put failed
+abbrev pub invariant-loop-index : goal.invariant-loop-index
+invariant-loop-index g l = record {
+  written : g.O.Sink.written l.out ≡ with_text (g.O.Sink.written l.fn.out)
+      (audit_lines l.inputs.schedule.items 1 (take l.index l.senders));
+  sound : g.O.Sink.failures l.out ≡ g.O.Sink.failures l.fn.out;
+}

@@ -1,0 +1,10 @@
+use Rattle.std.proofs.Common.{take}
+use Rattle.linksim.specs.AuditText.{HasHeard}
+use Rattle.linksim.specs.RunText.{own, received}
+use Rattle.linksim.proofs.audit.hear_all.Given as goal
+
+-- the receiver has heard what arrives of the transmissions so far
+abbrev pub invariant-loop-transmission : goal.invariant-loop-transmission
+invariant-loop-transmission l = record {
+  heard : HasHeard l.sender (received l.sender (own l.number (take l.transmission-index l.schedule))) l.receiver;
+}

@@ -1,0 +1,51 @@
+-- What the receiving ends of a run keep.
+use Rattle.std.specs.Prelude.{◌≡◌, ℕ, ◌+◌, ◌*◌, ◌<◌, ◌≤◌, List, [], Option, Some, None, Ok, length, slice_index_or}
+use Rattle.nr_shifttable.specs.Accepted.{Entries}
+use Rattle.nr_blockdesk.specs.Explains.{Reception}
+use Rattle.nr_blockdesk.specs.Heard.{IsRecordOf}
+use Rattle.nr_blockdesk.specs.Link.{IsLink, Link, link_said}
+use Rattle.nr_blockdesk.specs.Outcome.{outcome_of}
+use Rattle.nr_blockdesk.specs.Receiving.{verdict}
+use Rattle.nr_blockdesk.specs.Sent.{Sending}
+use Rattle.nr_blockdesk.specs.declared.settings.Settings.{Settings}
+use Rattle.linksim.specs.RunText.{own, received}
+use Rattle.linksim.specs.declared.received.End.{End}
+use Rattle.linksim.specs.declared.received.Totals.{Totals}
+use Rattle.linksim.specs.declared.schedule.Transmission.{Transmission}
+
+-- a sender's link is what both ends agree on, and sound
+pub record IsLinked (table : Entries) (settings : Settings) (link : Link) : Type 0 where
+  pub said : link_said table settings link.a ≡ Ok link
+  pub is_link : IsLink link
+
+-- an end has received this list: its receiver keeps the record, with the outcome and the number of receptions
+pub record IsEnd (link : Link) (list : List Reception) (end : End) : Type 0 where
+  pub same_link : end.receiver.link ≡ link
+  pub recorded : IsRecordOf link list end.receiver.heard
+  pub outcome : verdict end.outcome ≡ outcome_of link list
+  pub count : end.count ≡ length list
+
+-- the same where an end is only made once something is received
+abbrev pub Holds : Link → List Reception → Option End → Type 0
+Holds link list None = list ≡ []
+Holds link list (Some end) = IsEnd link list end
+
+-- an end's count is no more than this
+abbrev pub HasReceived : ℕ → Option End → Type 0
+HasReceived n None = Unit {0}
+HasReceived n (Some end) = end.count ≤ n
+
+-- each transport block's end has received what its sender's transmissions among these gave
+abbrev pub AllHold : List Sending → List Transmission → List (Option End) → Type 0
+AllHold senders transmissions ends = (i : ℕ) (sender : Sending) → i < length senders
+    → sender ≡ slice_index_or senders i sender
+    → Holds sender.link (received sender (own (i + 1) transmissions)) (slice_index_or ends i None)
+
+-- no total of n blocks is greater: each block has fewer than 2^32 code blocks
+pub record IsWithin (n : ℕ) (t : Totals) : Type 0 where
+  pub blocks : t.blocks ≤ n
+  pub delivered : t.delivered ≤ n
+  pub open_still : t.open_still ≤ n
+  pub contradiction : t.contradiction ≤ n
+  pub code_blocks : t.code_blocks ≤ n * 4294967296
+  pub failed : t.failed ≤ n * 4294967296

@@ -1,0 +1,431 @@
+//! The command `run`.
+
+ghost use Rattle.std.specs.Prelude.{◌≡◌, ◌≢◌, ℕ, ◌-◌, ◌^◌, ◌<◌, ◌≤◌, ◌++◌, [], All, List, Ok, Err, None, length, replicate, IfErr, IfOk, IsErr, OnOk};
+ghost use Rattle.std.specs.String.{string_bytes};
+ghost use Rattle.linksim.specs.Command.{Delivers, FailsAs, Writes};
+ghost use Rattle.linksim.specs.Ends.{AllHold, HasReceived, Holds, IsLinked};
+ghost use Rattle.linksim.specs.Inputs.{IsFirst, LeavesLater, OfFour};
+ghost use Rattle.linksim.specs.RunText.{contradiction_line, delivered_line, left_line, left_lines, lines_of, open_line, outcome_line, outcome_lines, received_of, run_lines, run_said, run_text, totals_line};
+ghost use Rattle.linksim.specs.Schedule.{HasBlock};
+ghost use Rattle.linksim.specs.SendText.{refused_line, sent_line};
+ghost use Rattle.linksim.specs.declared.schedule.Transmission.{Transmission};
+ghost use Rattle.nr_blockdesk.specs.Explains.{Reception};
+ghost use Rattle.nr_blockdesk.specs.Link.{IsLink};
+ghost use Rattle.nr_blockdesk.specs.Sent.{sent_said};
+
+use crate::blocks::BlocksFault;
+use crate::deliver::deliver;
+use crate::fault::{DeskFault, RunFault};
+use crate::hearing::heard_through;
+use crate::inputs::{Inputs, read, senders};
+use crate::received::{End, Totals, no_ends, receive, sum_up, unfixed};
+use crate::schedule::{ScheduleFault, Transmission};
+use crate::send::{refused_line, said_of, sent_line};
+use crate::settings::SettingsFault;
+use crate::sink::Sink;
+use crate::text::hex_line;
+use nr_bitvec::Bits;
+use nr_blockdesk::{Outcome, Receiver, Sender, links_are_sound, nothing_is_open};
+use nr_segment::plans_are_sound;
+use nr_shifttable::{Source, TableFault};
+use std::alloc::{AllocError, Global};
+use std::fmt::Write;
+
+/// Carries the transport blocks of a blocks file over a link that loses bits as a schedule says, and writes a line for
+/// each transmission as `send` does, after each one that is sent a line for each code block with the number of
+/// positions that are not fixed yet; then a line for each transport block with what may be handed up of all that was
+/// received, and the totals.
+///
+/// The four files are read to their ends and judged whole, in the order of the parameters, and then every transport
+/// block, before the first put. Then each line is written as soon as it is made. Each block is encoded once; a
+/// receiver is made at the first transmission of its block that is not refused, and kept.
+///
+/// # Errors
+/// In this order: `Table`, `Settings`, `Blocks`, `Schedule`, the first fault of a file; `Desk`, the first transport
+/// block that cannot be sent. These leave the Sink as it was. `Write` where a put failed, and then a first part of the
+/// text is written; `Memory` where a growth is refused, and then nothing or a first part of the text is written.
+pub fn run<T: Source, S: Source, B: Source, D: Source, O: Sink>(
+    alloc: Global,
+    table: &mut T,
+    settings: &mut S,
+    blocks: &mut B,
+    schedule: &mut D,
+    out: &mut O,
+) -> Result<(), RunFault>
+    requires table { T.failures table.old < 2 ^ 32 }
+    requires settings { S.failures settings.old < 2 ^ 32 }
+    requires blocks { B.failures blocks.old < 2 ^ 32 }
+    requires schedule { D.failures schedule.old < 2 ^ 32 }
+    requires puts { O.failures out.old < 2 ^ 32 }
+    ensures text { T.failures table.new ≡ T.failures table.old
+        → S.failures settings.new ≡ S.failures settings.old
+        → B.failures blocks.new ≡ B.failures blocks.old
+        → D.failures schedule.new ≡ D.failures schedule.old
+        → OfFour (T.remaining table.old) (S.remaining settings.old)
+        (B.remaining blocks.old) (D.remaining schedule.old)
+        (λ t s b d. Delivers (O.written out.old) (O.written out.new) result (run_said t s b d)) }
+    ensures untouched { IsErr result → result ≢ Err RunFault.Write → result ≢ Err RunFault.Memory
+        → O.written out.new ≡ O.written out.old }
+    ensures table { FailsAs (RunFault.Table TableFault.Read) result
+        (T.failures table.old) (T.failures table.new) }
+    ensures settings { FailsAs (RunFault.Settings SettingsFault.Read) result
+        (S.failures settings.old) (S.failures settings.new) }
+    ensures blocks { FailsAs (RunFault.Blocks BlocksFault.Read) result
+        (B.failures blocks.old) (B.failures blocks.new) }
+    ensures schedule { FailsAs (RunFault.Schedule ScheduleFault.Read) result
+        (D.failures schedule.old) (D.failures schedule.new) }
+    ensures first { IfErr result (λ e. IsFirst e
+        (T.remaining table.old) (S.remaining settings.old) (B.remaining blocks.old)) }
+    ensures later { IfErr result (λ e. LeavesLater e settings.old settings.new
+        blocks.old blocks.new schedule.old schedule.new) }
+    ensures put { FailsAs RunFault.Write result (O.failures out.old) (O.failures out.new) }
+{
+    links_are_sound();
+    let inputs = read(alloc, table, settings, blocks, schedule)?;
+    let senders = senders(alloc, &inputs)?;
+    write_run(alloc, &inputs, &senders, out)
+}
+
+// Writes the text of a run.
+fn write_run<O: Sink>(
+    alloc: Global,
+    inputs: &Inputs,
+    senders: &[Sender],
+    out: &mut O,
+) -> Result<(), RunFault>
+    requires puts { O.failures out.old < 2 ^ 32 }
+    requires few { length senders.now ≤ 256 }
+    requires linked { All (λ sender. IsLinked inputs.now.table inputs.now.settings sender.link)
+        senders.now }
+    requires named { All (HasBlock (length senders.now)) inputs.now.schedule.items }
+    ensures text { Writes (O.written out.old) (O.written out.new) result
+        (run_text senders.now inputs.now.schedule.items) }
+    ensures put { FailsAs RunFault.Write result (O.failures out.old) (O.failures out.new) }
+{
+    let mut ends = no_ends(alloc, senders.len())?;
+    write_transmissions(alloc, inputs, senders, &mut ends, out)?;
+    write_outcomes(alloc, senders, &ends, out)?;
+    write_totals(alloc, &sum_up(senders, &ends), out)
+}
+
+// Makes the transmissions, and writes the lines of each.
+fn write_transmissions<'t, O: Sink>(
+    alloc: Global,
+    inputs: &'t Inputs,
+    senders: &[Sender],
+    ends: &mut [Option<End<'t>>],
+    out: &mut O,
+) -> Result<(), RunFault>
+    requires puts { O.failures out.old < 2 ^ 32 }
+    requires linked { All (λ sender. IsLinked inputs.now.table inputs.now.settings sender.link)
+        senders.now }
+    requires named { All (HasBlock (length senders.now)) inputs.now.schedule.items }
+    requires fresh { ends.old ≡ replicate (length senders.now) None }
+    ensures text { Writes (O.written out.old) (O.written out.new) result
+        (run_lines senders.now [] inputs.now.schedule.items) }
+    ensures long { OnOk result (length ends.new ≡ length senders.now) }
+    ensures held { OnOk result (AllHold senders.now inputs.now.schedule.items ends.new) }
+    ensures put { FailsAs RunFault.Write result (O.failures out.old) (O.failures out.new) }
+{
+    for transmission in &inputs.schedule {
+        let at = transmission.block as usize - 1;
+        carry(
+            alloc,
+            inputs,
+            &senders[at],
+            &mut ends[at],
+            transmission,
+            out,
+        )?;
+    }
+    Ok(())
+}
+
+// Makes a transmission of a sender's transport block, and writes its lines.
+fn carry<'t, O: Sink>(
+    alloc: Global,
+    inputs: &'t Inputs,
+    sender: &Sender,
+    end: &mut Option<End<'t>>,
+    transmission: &Transmission,
+    out: &mut O,
+) -> Result<(), RunFault>
+    requires puts { O.failures out.old < 2 ^ 32 }
+    requires linked { IsLinked inputs.now.table inputs.now.settings sender.now.link }
+    requires room { HasReceived (2 ^ 64 - 2) end.old }
+    ensures text { (list : List Reception) → Holds sender.now.link list end.old
+        → Writes (O.written out.old) (O.written out.new) result
+        (lines_of sender.now list transmission.now) }
+    ensures held { OnOk result ((list : List Reception) → Holds sender.now.link list end.old
+        → Holds sender.now.link (list ++ received_of sender.now transmission.now) end.new) }
+    ensures put { FailsAs RunFault.Write result (O.failures out.old) (O.failures out.new) }
+{
+    match said_of(sender, &transmission.tx)? {
+        Ok(bits) => carry_bits(alloc, inputs, sender, end, transmission, &bits, out),
+        Err(fault) => write_refused(alloc, transmission, fault, out),
+    }
+}
+
+// Makes a transmission that sends these bits, and writes its lines.
+fn carry_bits<'t, O: Sink>(
+    alloc: Global,
+    inputs: &'t Inputs,
+    sender: &Sender,
+    end: &mut Option<End<'t>>,
+    transmission: &Transmission,
+    bits: &Bits,
+    out: &mut O,
+) -> Result<(), RunFault>
+    requires puts { O.failures out.old < 2 ^ 32 }
+    requires linked { IsLinked inputs.now.table inputs.now.settings sender.now.link }
+    requires room { HasReceived (2 ^ 64 - 2) end.old }
+    requires sent { sent_said sender.now.link transmission.now.tx sender.now.block
+        ≡ Ok bits.now.items }
+    ensures text { (list : List Reception) → Holds sender.now.link list end.old
+        → Writes (O.written out.old) (O.written out.new) result
+        (lines_of sender.now list transmission.now) }
+    ensures held { OnOk result ((list : List Reception) → Holds sender.now.link list end.old
+        → Holds sender.now.link (list ++ received_of sender.now transmission.now) end.new) }
+    ensures put { FailsAs RunFault.Write result (O.failures out.old) (O.failures out.new) }
+{
+    plans_are_sound();
+    write_sent(alloc, transmission, bits, out)?;
+    let heard = heard_through(alloc, transmission, bits)?;
+    let after = receive(alloc, inputs, sender, end.take(), &transmission.tx, &heard)?;
+    write_left(alloc, transmission, &after.receiver, out)?;
+    *end = Some(after);
+    Ok(())
+}
+
+// Writes the line of a transmission that sends these bits.
+fn write_sent<O: Sink>(
+    alloc: Global,
+    transmission: &Transmission,
+    bits: &Bits,
+    out: &mut O,
+) -> Result<(), RunFault>
+    requires { O.failures out.old < 2 ^ 32 }
+    ensures text { Writes (O.written out.old) (O.written out.new) result
+        (sent_line transmission.now.number transmission.now.block bits.now.items) }
+    ensures put { FailsAs RunFault.Write result (O.failures out.old) (O.failures out.new) }
+{
+    let line = sent_line(alloc, transmission.number, transmission.block, bits)?;
+    deliver(out, &line)
+}
+
+// Writes the line of a transmission that is refused.
+fn write_refused<O: Sink>(
+    alloc: Global,
+    transmission: &Transmission,
+    fault: DeskFault,
+    out: &mut O,
+) -> Result<(), RunFault>
+    requires { O.failures out.old < 2 ^ 32 }
+    ensures text { Writes (O.written out.old) (O.written out.new) result
+        (refused_line transmission.now.number transmission.now.block fault) }
+    ensures put { FailsAs RunFault.Write result (O.failures out.old) (O.failures out.new) }
+{
+    let line = refused_line(alloc, transmission.number, transmission.block, fault)?;
+    deliver(out, line.as_bytes())
+}
+
+// Writes the line of each code block after a transmission.
+fn write_left<O: Sink>(
+    alloc: Global,
+    transmission: &Transmission,
+    receiver: &Receiver,
+    out: &mut O,
+) -> Result<(), RunFault>
+    requires { O.failures out.old < 2 ^ 32 }
+    ensures text { Writes (O.written out.old) (O.written out.new) result
+        (left_lines transmission.now.number transmission.now.block
+        receiver.now.link receiver.now.heard) }
+    ensures put { FailsAs RunFault.Write result (O.failures out.old) (O.failures out.new) }
+{
+    let blocks = receiver.plan().c;
+    for r in 0..blocks {
+        write_left_of(alloc, transmission, r, receiver.left(r), out)?;
+    }
+    Ok(())
+}
+
+// Writes the line of code block `r` after a transmission, where so many positions are not fixed.
+fn write_left_of<O: Sink>(
+    alloc: Global,
+    transmission: &Transmission,
+    r: u32,
+    left: u32,
+    out: &mut O,
+) -> Result<(), RunFault>
+    requires { O.failures out.old < 2 ^ 32 }
+    ensures text { Writes (O.written out.old) (O.written out.new) result
+        (left_line transmission.now.number transmission.now.block r left) }
+    ensures put { FailsAs RunFault.Write result (O.failures out.old) (O.failures out.new) }
+{
+    let line = left_line(alloc, transmission.number, transmission.block, r, left)?;
+    deliver(out, line.as_bytes())
+}
+
+// The line of code block `r` after transmission `number` of block `block`.
+#[tactic(auto, unfolding(crate::specs::RunText::left_line))]
+fn left_line(
+    alloc: Global,
+    number: u32,
+    block: u32,
+    r: u32,
+    left: u32,
+) -> Result<String, AllocError>
+    ensures { IfOk result (λ line. string_bytes line ≡ left_line number block r left) }
+{
+    let mut line = String::new(alloc);
+    writeln!(line, "left {number} {block} {r} {left}")?;
+    Ok(line)
+}
+
+// Writes the line of each transport block, by what its end has received.
+fn write_outcomes<O: Sink>(
+    alloc: Global,
+    senders: &[Sender],
+    ends: &[Option<End>],
+    out: &mut O,
+) -> Result<(), RunFault>
+    requires puts { O.failures out.old < 2 ^ 32 }
+    requires few { length senders.now ≤ 256 }
+    requires long { length ends.now ≡ length senders.now }
+    requires linked { All (λ sender. IsLink sender.link) senders.now }
+    ensures text { (schedule : List Transmission) → AllHold senders.now schedule ends.now
+        → Writes (O.written out.old) (O.written out.new) result
+        (outcome_lines 1 senders.now schedule) }
+    ensures put { FailsAs RunFault.Write result (O.failures out.old) (O.failures out.new) }
+{
+    for (index, sender) in senders.iter().enumerate() {
+        write_outcome(alloc, index as u32 + 1, sender, &ends[index], out)?;
+    }
+    Ok(())
+}
+
+// Writes the line of transport block `number`.
+fn write_outcome<O: Sink>(
+    alloc: Global,
+    number: u32,
+    sender: &Sender,
+    end: &Option<End>,
+    out: &mut O,
+) -> Result<(), RunFault>
+    requires puts { O.failures out.old < 2 ^ 32 }
+    requires linked { IsLink sender.now.link }
+    ensures text { (list : List Reception) → Holds sender.now.link list end.now
+        → Writes (O.written out.old) (O.written out.new) result
+        (outcome_line number sender.now.link list) }
+    ensures put { FailsAs RunFault.Write result (O.failures out.old) (O.failures out.new) }
+{
+    let line = outcome_line(alloc, number, sender, end)?;
+    deliver(out, &line)
+}
+
+// The line of transport block `number`.
+fn outcome_line(
+    alloc: Global,
+    number: u32,
+    sender: &Sender,
+    end: &Option<End>,
+) -> Result<Vec<u8>, AllocError>
+    requires { IsLink sender.now.link }
+    ensures { IfOk result (λ line. (list : List Reception) → Holds sender.now.link list end.now
+        → line.items ≡ outcome_line number sender.now.link list) }
+{
+    nothing_is_open();
+    let blocks = sender.plan().c;
+    match end {
+        None => open_line(alloc, number, 0, blocks, blocks),
+        Some(end) => match &end.outcome {
+            Outcome::Delivered(block) => delivered_line(alloc, number, end.count, blocks, block),
+            Outcome::Open => open_line(alloc, number, end.count, unfixed(&end.receiver), blocks),
+            Outcome::Contradiction => contradiction_line(alloc, number, end.count, blocks),
+        },
+    }
+}
+
+// The line of transport block `number` of so many code blocks, which is delivered after so many transmissions.
+fn delivered_line(
+    alloc: Global,
+    number: u32,
+    count: u64,
+    blocks: u32,
+    block: &Bits,
+) -> Result<Vec<u8>, AllocError>
+    ensures { IfOk result
+        (λ line. line.items ≡ delivered_line number count blocks block.now.items) }
+{
+    let mut head = String::new(alloc);
+    write!(
+        head,
+        "block {number} delivered tx {count} failed 0 of {blocks} "
+    )?;
+    hex_line(head, block)
+}
+
+// The line of transport block `number` of so many code blocks, which is open after so many transmissions.
+fn open_line(
+    alloc: Global,
+    number: u32,
+    count: u64,
+    failed: u32,
+    blocks: u32,
+) -> Result<Vec<u8>, AllocError>
+    ensures { IfOk result (λ line. line.items ≡ open_line number count failed blocks) }
+{
+    let mut line = String::new(alloc);
+    writeln!(
+        line,
+        "block {number} open tx {count} failed {failed} of {blocks}"
+    )?;
+    Ok(line.into_bytes())
+}
+
+// The line of transport block `number` of so many code blocks, which nothing explains after so many transmissions.
+#[tactic(auto, unfolding(crate::specs::RunText::contradiction_line))]
+fn contradiction_line(
+    alloc: Global,
+    number: u32,
+    count: u64,
+    blocks: u32,
+) -> Result<Vec<u8>, AllocError>
+    ensures { IfOk result (λ line. line.items ≡ contradiction_line number count blocks) }
+{
+    let mut line = String::new(alloc);
+    writeln!(
+        line,
+        "block {number} contradiction tx {count} failed 0 of {blocks}"
+    )?;
+    Ok(line.into_bytes())
+}
+
+// Writes the last line.
+fn write_totals<O: Sink>(alloc: Global, totals: &Totals, out: &mut O) -> Result<(), RunFault>
+    requires { O.failures out.old < 2 ^ 32 }
+    ensures text { Writes (O.written out.old) (O.written out.new) result
+        (totals_line totals.now) }
+    ensures put { FailsAs RunFault.Write result (O.failures out.old) (O.failures out.new) }
+{
+    let line = totals_line(alloc, totals)?;
+    deliver(out, line.as_bytes())
+}
+
+// The last line.
+fn totals_line(alloc: Global, totals: &Totals) -> Result<String, AllocError>
+    ensures { IfOk result (λ line. string_bytes line ≡ totals_line totals.now) }
+{
+    let mut line = String::new(alloc);
+    write!(
+        line,
+        "total blocks {} delivered {} open {}",
+        totals.blocks, totals.delivered, totals.open_still
+    )?;
+    writeln!(
+        line,
+        " contradiction {} codeblocks {} failed {}",
+        totals.contradiction, totals.code_blocks, totals.failed
+    )?;
+    Ok(line)
+}
