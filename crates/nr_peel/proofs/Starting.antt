@@ -21,6 +21,7 @@ use Rattle.nr_ldpcenc.specs.Rows.{Checks, place}
 use Rattle.nr_ldpcenc.specs.Codeword.{filler}
 use Rattle.nr_peel.specs.Closure.{stands}
 use Rattle.nr_peel.specs.Counters.{IsStart}
+use Rattle.nr_peel.specs.Peeling.{left_of}
 use Rattle.nr_peel.specs.State.{IsBlank, lifted_checks}
 use Rattle.nr_peel.specs.Touches.{all_pairs, degree, sum_below}
 use Rattle.nr_peel.specs.declared.counters.Counters.{Counters}
@@ -30,6 +31,7 @@ use Rattle.nr_peel.proofs.Closed.{cases_below, same_truth}
 use Rattle.nr_peel.proofs.Counting.{count_both, sum-below}
 use Rattle.nr_peel.proofs.Fixing.{row_below}
 use Rattle.nr_peel.proofs.Grid.{rows_short}
+use Rattle.nr_peel.proofs.Left.{left_blank}
 use Rattle.nr_peel.proofs.Pairs.{degree_at, sum_below-same}
 use Rattle.nr_peel.proofs.Searched.{stands-push}
 
@@ -133,9 +135,9 @@ count_all p xs none = omega (arith, count_both p xs, no_one xs)
     no_one (x ∷ xs) = count_no p x xs (none x) ∙ no_one xs
 
 -- the state with which nothing is known
-pub blank_state : (c : Checks) (s : State) → IsStart c s.counters → s.given.items ≡ replicate c.size false → s.known.items ≡ replicate c.size false → s.bits.items ≡ replicate c.size false
-    → s.order.items ≡ [] → c.size ≤ vec_capacity s.order → IsBlank c s
-blank_state c s start given known bits order room = record {
+pub blank_state : (c : Checks) (n : ℕ) (s : State) → n ≤ c.size → IsStart c s.counters → s.given.items ≡ replicate c.size false → s.known.items ≡ replicate c.size false → s.bits.items ≡ replicate c.size false
+    → s.order.items ≡ [] → c.size ≤ vec_capacity s.order → s.left ≡ n → IsBlank c n s
+blank_state c n s le start given known bits order room left = record {
   working = record {
     given_long = ap length given ∙ length-replicate c.size false;
     known_long = ap length known ∙ length-replicate c.size false;
@@ -158,6 +160,7 @@ blank_state c s start given known bits order room = record {
   listed = start.listed;
   given = given;
   known = unknown;
+  counted = left ∙ sym (left_blank n c.size le) ∙ ap (left_of n) (sym known);
 }
   where
     unknown : (p : ℕ) → bit s.known.items p ≡ false

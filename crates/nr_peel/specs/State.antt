@@ -4,7 +4,7 @@ use Rattle.nr_bitvec.specs.Bit.{bit}
 use Rattle.nr_segment.specs.CodeBlock.{numbers}
 use Rattle.nr_segment.specs.Plan.{Numbers}
 use Rattle.nr_ldpcenc.specs.Codeword.{filler}
-use Rattle.nr_peel.specs.Peeling.{fillers}
+use Rattle.nr_peel.specs.Peeling.{fillers, left_of}
 use Rattle.nr_shifttable.specs.Accepted.{IsTable}
 use Rattle.nr_ldpcenc.specs.Rows.{Checks, Meets, block_checks}
 use Rattle.nr_peel.specs.Certificates.{all_accepted, is_fixed_by}
@@ -32,6 +32,10 @@ pub record IsWorking (c : Checks) (s : State) : Type 0 where
   pub most : s.counters.touches + sum s.counters.counts.items ≤ all_pairs c + spent_pairs c s.counters.counts.items
   pub small : 4 * all_pairs c + 4 < 2 ^ 64
 
+-- what is left is counted: how many of the first n positions aren't known
+abbrev pub IsCounted : ℕ → State → Type 0
+IsCounted n s = s.left ≡ left_of n s.known.items
+
 -- a word has the bits that are known
 abbrev pub HasKnown : State → (ℕ → Bool) → Type 0
 HasKnown s w = (p : ℕ) → bit s.known.items p ≡ true → w p ≡ bit s.bits.items p
@@ -53,6 +57,7 @@ pub record IsVisited (n : ℕ) (old new : State) : Type 0 where
   pub known : new.known ≡ old.known
   pub bits : new.bits ≡ old.bits
   pub order : new.order ≡ old.order
+  pub left : new.left ≡ old.left
   pub counts : new.counters.counts ≡ old.counters.counts
   pub ready : new.counters.ready ≡ old.counters.ready
   pub touches : new.counters.touches ≡ old.counters.touches + n
@@ -62,13 +67,15 @@ pub record IsPeeler (l : Lifted) (s : State) : Type 0 where
   pub table : IsTable l.table.now
   pub working : IsWorking (lifted_checks l) s
   pub settled : IsSettled s.counters
+  pub counted : IsCounted l.plan.kdash s
 
--- a state in which no position is given
-pub record IsBlank (c : Checks) (s : State) : Type 0 where
+-- a state in which no position is given, and in which what is left of the first n is counted
+pub record IsBlank (c : Checks) (n : ℕ) (s : State) : Type 0 where
   pub working : IsWorking c s
   pub listed : IsListed s.counters
   pub given : s.given.items ≡ replicate c.size false
   pub known : (p : ℕ) → bit s.known.items p ≡ false
+  pub counted : IsCounted n s
 
 -- A state in which only the fillers are given, as zeros: each word that meets every row and is zero at the fillers
 -- has the known bits.
@@ -77,3 +84,4 @@ pub record IsFilled (c : Checks) (p : Numbers) (s : State) : Type 0 where
   pub settled : IsSettled s.counters
   pub given : s.given.items ≡ fillers c p
   pub words : (w : ℕ → Bool) → Meets c w → ((q : ℕ) → filler p.kdash p.k q ≡ true → w q ≡ false) → HasKnown s w
+  pub counted : IsCounted p.kdash s

@@ -101,11 +101,12 @@ impl<'t> Peeler<'t> {
         }
     }
 
-    /// How many positions below K' aren't known.
+    /// How many positions below K' aren't known. They are counted as they become known, so this takes the same time
+    /// however long the code block is.
     pub fn left(&self) -> u32
         ensures { result ≡ left_of self.now.numbers.kdash self.now.known }
     {
-        self.state.left(self.lifted.plan.kdash)
+        self.state.left
     }
 
     /// How many visits there were of a row and a position of it: with n the number of pairs of a row and a known

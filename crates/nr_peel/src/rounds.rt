@@ -10,7 +10,6 @@ ghost use Rattle.nr_peel.specs.Rounds.{CountsMarks, HasLanes, counts_one, is_cou
 ghost use Rattle.nr_peel.specs.State.{lifted_checks};
 
 use crate::lifted::Lifted;
-use crate::state::zeros;
 use nr_bitvec::Bits;
 use nr_lifting::tally_block;
 use nr_segment::Plan;
@@ -30,8 +29,8 @@ impl Tally {
         requires { count ≤ 384 }
         ensures { IfOk result (HasLanes count) }
     {
-        let ones = zeros(alloc, count)?;
-        let more = zeros(alloc, count)?;
+        let ones = Bits::zeros(alloc, count)?;
+        let more = Bits::zeros(alloc, count)?;
         Ok(Tally { ones, more })
     }
 
@@ -163,7 +162,7 @@ pub fn close(alloc: Global, table: &Table, plan: &Plan, known: &mut Bits) -> Res
     let _ = table.has(plan.graph);
     let lifted = Lifted { table, plan: *plan };
     let mut tally = Tally::new(alloc, plan.z)?;
-    let mut unknown = zeros(alloc, plan.graph.cols() * plan.z)?;
+    let mut unknown = Bits::zeros(alloc, plan.graph.cols() * plan.z)?;
     'rounds: while go_round(&lifted, &mut unknown, &mut tally, known) {}
     Ok(())
 }

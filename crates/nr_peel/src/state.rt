@@ -7,11 +7,11 @@ ghost use Rattle.nr_shifttable.specs.Tails.{value_in};
 ghost use Rattle.nr_ldpcenc.specs.Parity.{parity};
 ghost use Rattle.nr_ldpcenc.specs.Rows.{Meets, place};
 ghost use Rattle.nr_segment.specs.CodeBlock.{numbers};
-ghost use Rattle.nr_peel.specs.Peeling.{left_of, unknown_in};
+ghost use Rattle.nr_peel.specs.Peeling.{unknown_in};
 ghost use Rattle.nr_peel.specs.Closure.{IsOnlyMissing};
 ghost use Rattle.nr_peel.specs.Touches.{holder};
 ghost use Rattle.nr_peel.specs.Counters.{Follows, IsListed, IsLowered, IsSettled, IsTied};
-ghost use Rattle.nr_peel.specs.State.{Grows, HasKnown, IsBlank, IsFilled, IsVisited, IsWorking, LearnsWords, lifted_checks};
+ghost use Rattle.nr_peel.specs.State.{Grows, HasKnown, IsBlank, IsCounted, IsFilled, IsVisited, IsWorking, LearnsWords, lifted_checks};
 
 use crate::counters::Counters;
 use crate::fix::Fix;
@@ -21,7 +21,7 @@ use nr_shifttable::Entry;
 use std::alloc::{AllocError, Global};
 
 // The positions that were given and those that are known, the bits of the known ones (zero elsewhere), the counters,
-// and the steps that fixed positions.
+// the steps that fixed positions, and how many positions below K' aren't known.
 #[derive(Drop)]
 pub(crate) struct State {
     pub(crate) given: Bits,
@@ -29,18 +29,7 @@ pub(crate) struct State {
     pub(crate) bits: Bits,
     pub(crate) counters: Counters,
     pub(crate) order: Vec<Fix>,
-}
-
-// A list of zeros.
-pub(crate) fn zeros(alloc: Global, count: u32) -> Result<Bits, AllocError>
-    requires { count ≤ 2 ^ 24 }
-    ensures { IfOk result (λ bits. bits.items ≡ replicate count false) }
-{
-    let mut bits = Bits::with_room(alloc, count)?;
-    for _ in 0..count {
-        bits.push_in_room(false);
-    }
-    Ok(bits)
+    pub(crate) left: u32,
 }
 
 impl State {
@@ -58,12 +47,12 @@ impl State {
     // The state in which no position is given.
     fn blank(alloc: Global, lifted: &Lifted<'_>) -> Result<State, AllocError>
         requires { IsTable lifted.now.table.now }
-        ensures { IfOk result (IsBlank (lifted_checks lifted.now)) }
+        ensures { IfOk result (IsBlank (lifted_checks lifted.now) lifted.now.plan.kdash) }
     {
         let size = lifted.plan.graph.cols() * lifted.plan.z;
-        let given = zeros(alloc, size)?;
-        let known = zeros(alloc, size)?;
-        let bits = zeros(alloc, size)?;
+        let given = Bits::zeros(alloc, size)?;
+        let known = Bits::zeros(alloc, size)?;
+        let bits = Bits::zeros(alloc, size)?;
         let counters = Counters::new(alloc, lifted)?;
         let order = Vec::with_capacity(alloc, size as usize)?;
         Ok(State {
@@ -72,6 +61,7 @@ impl State {
             bits,
             counters,
             order,
+            left: lifted.plan.kdash,
         })
     }
 
@@ -82,6 +72,7 @@ impl State {
         requires settled { IsSettled self.old.counters }
         requires none { self.old.given.items ≡ replicate (lifted_checks lifted.now).size false }
         requires words { (w : ℕ → Bool) → Meets (lifted_checks lifted.now) w → HasKnown self.old w }
+        requires counted { IsCounted lifted.now.plan.kdash self.old }
         ensures { IsFilled (lifted_checks lifted.now) (numbers lifted.now.plan) self.new }
     {
         for pos in lifted.plan.kdash..lifted.plan.k {
@@ -122,7 +113,7 @@ impl State {
         (unknown, sum)
     }
 
-    // A position becomes known: its rows' counters fall.
+    // A position becomes known: its rows' counters fall, and what is left does if the position is below K'.
     fn mark(&mut self, lifted: &Lifted<'_>, pos: u32, value: bool)
         requires table { IsTable lifted.now.table.now }
         requires inside { pos < (lifted_checks lifted.now).size }
@@ -131,6 +122,7 @@ impl State {
         requires unknown { bit self.old.known.items pos ≡ false }
         requires tied { IsTied (lifted_checks lifted.now) self.old.known.items self.old.counters }
         requires few { self.old.counters.touches + sum self.old.counters.counts.items + 1 < 2 ^ 64 }
+        requires counted { IsCounted lifted.now.plan.kdash self.old }
         ensures given { self.new.given ≡ self.old.given }
         ensures order { self.new.order ≡ self.old.order }
         ensures known { self.new.known.items ≡ slice_set self.old.known.items pos true }
@@ -142,11 +134,13 @@ impl State {
             (pos / lifted.now.plan.z)))
             self.old.counters self.new.counters }
         ensures tied { IsTied (lifted_checks lifted.now) self.new.known.items self.new.counters }
+        ensures counted { IsCounted lifted.now.plan.kdash self.new }
     {
         self.known.set(pos as usize, true);
         self.bits.set(pos as usize, value);
         let z = lifted.plan.z;
         self.counters.lower(lifted, lifted.column(pos / z), pos % z);
+        self.left -= u32::from(pos < lifted.plan.kdash);
     }
 
     // A row with one unknown position fixes it.
@@ -155,10 +149,12 @@ impl State {
         requires working { IsWorking (lifted_checks lifted.now) self.old }
         requires inside { row < length self.old.counters.counts.items }
         requires one { slice_index self.old.counters.counts.items row ≡ 1 }
+        requires counted { IsCounted lifted.now.plan.kdash self.old }
         ensures working { IsWorking (lifted_checks lifted.now) self.new }
         ensures follows { Follows self.old.counters self.new.counters }
         ensures spent { slice_index self.new.counters.counts.items row ≡ 0 }
         ensures grows { Grows (lifted_checks lifted.now) self.old self.new }
+        ensures counted { IsCounted lifted.now.plan.kdash self.new }
     {
         let z = lifted.plan.z;
         let i = row / z;
@@ -177,9 +173,11 @@ impl State {
         requires table { IsTable lifted.now.table.now }
         requires working { IsWorking (lifted_checks lifted.now) self.old }
         requires listed { IsListed self.old.counters }
+        requires counted { IsCounted lifted.now.plan.kdash self.old }
         ensures working { IsWorking (lifted_checks lifted.now) self.new }
         ensures settled { IsSettled self.new.counters }
         ensures grows { Grows (lifted_checks lifted.now) self.old self.new }
+        ensures counted { IsCounted lifted.now.plan.kdash self.new }
     {
         'rows: while let Some(row) = self.counters.ready.pop() {
             if self.counters.counts[row as usize] == 1 {
@@ -194,6 +192,7 @@ impl State {
         requires working { IsWorking (lifted_checks lifted.now) self.old }
         requires settled { IsSettled self.old.counters }
         requires inside { pos < (lifted_checks lifted.now).size }
+        requires counted { IsCounted lifted.now.plan.kdash self.old }
         ensures working { IsWorking (lifted_checks lifted.now) self.new }
         ensures settled { IsSettled self.new.counters }
         ensures given { self.new.given.items ≡ slice_set self.old.given.items pos true }
@@ -203,26 +202,13 @@ impl State {
             → bit self.new.bits.items p ≡ bit self.old.bits.items p }
         ensures taken { bit self.old.known.items pos ≡ false → bit self.new.bits.items pos ≡ value }
         ensures words { LearnsWords (lifted_checks lifted.now) self.old self.new pos value }
+        ensures counted { IsCounted lifted.now.plan.kdash self.new }
     {
         self.given.set(pos as usize, true);
         if !self.known.get(pos as usize) {
             self.mark(lifted, pos, value);
             self.settle(lifted);
         }
-    }
-
-    // How many of the first positions aren't known.
-    pub(crate) fn left(&self, count: u32) -> u32
-        requires { count ≤ length self.now.known.items }
-        ensures { result ≡ left_of count self.now.known.items }
-    {
-        let mut left = 0;
-        for p in 0..count {
-            if !self.known.get(p as usize) {
-                left += 1;
-            }
-        }
-        left
     }
 
     // The positions that aren't known, ascending.

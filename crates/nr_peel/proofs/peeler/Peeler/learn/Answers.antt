@@ -6,4 +6,4 @@ returns-clause-words c = λ w meets agree is. c.learn.ensures.words w (rw (← c
 
 pub returns-clause-peeled : goal.returns-clause-peeled
 returns-clause-peeled c =
-    peeler_peeled c.self.inside.lifted c.learn.new.self (record { table = c.self.invariant.table; working = c.learn.ensures.working; settled = c.learn.ensures.settled })
+    peeler_peeled c.self.inside.lifted c.learn.new.self (record { table = c.self.invariant.table; working = c.learn.ensures.working; settled = c.learn.ensures.settled; counted = c.learn.ensures.counted })

@@ -17,5 +17,5 @@ returns-in-Ok-clause-started c =
       numbers = refl;
       given = f.given;
       words = f.words;
-      peeled = peeler_peeled l c.in-Ok.state (record { table = c.has.ensures.table; working = f.working; settled = f.settled });
+      peeled = peeler_peeled l c.in-Ok.state (record { table = c.has.ensures.table; working = f.working; settled = f.settled; counted = f.counted });
     }

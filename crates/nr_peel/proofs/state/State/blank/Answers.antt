@@ -1,6 +1,7 @@
-use Rattle.std.proofs.Common.{◌≡◌, ◌*◌, false, replicate, ap, ◌∙◌, arith}
+use Rattle.std.proofs.Common.{◌≡◌, ◌*◌, false, replicate, refl, ap, ◌∙◌, arith}
 use Rattle.nr_peel.specs.State.{lifted_checks}
 use Rattle.nr_peel.specs.declared.state.State.{State}
+use Rattle.nr_peel.proofs.Peeled.{fillers_fit}
 use Rattle.nr_peel.proofs.Starting.{blank_state}
 use Rattle.nr_peel.proofs.state.State.blank.Goals as goal
 
@@ -10,6 +11,6 @@ returns c =
     let ck = lifted_checks l in
     let size : c.cols.result * l.plan.z ≡ ck.size = ap (λ n. n * l.plan.z) c.cols.ensures in
     let zero = ap (λ n. replicate n false) size in
-    let s : State = record { given = c.in_ok-given.given; known = c.in_ok-known.known; bits = c.in_ok-bits.bits; counters = c.in_ok-counters.counters; order = c.in_ok-order.order } in
-    blank_state ck s c.in_ok-counters.ensures (c.in_ok-given.ensures ∙ zero) (c.in_ok-known.ensures ∙ zero) (c.in_ok-bits.ensures ∙ zero)
-    c.in_ok-order.ensures.items (omega (arith, size, c.in_ok-order.ensures.capacity))
+    let s : State = record { given = c.in_ok-given.given; known = c.in_ok-known.known; bits = c.in_ok-bits.bits; counters = c.in_ok-counters.counters; order = c.in_ok-order.order; left = l.plan.kdash } in
+    blank_state ck l.plan.kdash s (omega (arith, l.plan.sound.held, fillers_fit l)) c.in_ok-counters.ensures (c.in_ok-given.ensures ∙ zero) (c.in_ok-known.ensures ∙ zero) (c.in_ok-bits.ensures ∙ zero)
+    c.in_ok-order.ensures.items (omega (arith, size, c.in_ok-order.ensures.capacity)) refl

@@ -10,6 +10,7 @@ use Rattle.nr_shifttable.specs.declared.entry.Entry.{Entry}
 use Rattle.nr_shifttable.specs.Accepted.{entries_in, row_of}
 use Rattle.nr_shifttable.specs.Tails.{value_in}
 use Rattle.nr_ldpcenc.specs.Rows.{place}
+use Rattle.nr_peel.specs.Peeling.{left_of}
 use Rattle.nr_peel.specs.State.{lifted_checks}
 use Rattle.nr_peel.specs.Touches.{degree}
 use Rattle.nr_peel.proofs.Fixing.{count-room, few_visits, fix_grows, fix_spends, fix_works, follows_lowered, IsFix}
@@ -61,6 +62,11 @@ mark-requires-clause-tied c =
     let old = c.args.self.now in
     let v = c.search-pos.ensures.visited in
     rw v.known (tied_same (lifted_checks c.args.lifted.now) old.known.items old.counters c.search-pos.new.self.counters c.requires.working.tied v.counts v.ready)
+
+pub mark-requires-clause-counted : goal.mark-requires-clause-counted
+mark-requires-clause-counted c =
+    let v = c.search-pos.ensures.visited in
+    v.left ∙ c.requires.counted ∙ ap (λ (b : BitList). left_of c.args.lifted.now.plan.kdash b.items) (sym v.known)
 
 pub mark-requires-clause-few : goal.mark-requires-clause-few
 mark-requires-clause-few c =
@@ -123,4 +129,5 @@ returns c =
       follows = follows_lowered _ old.counters c.search-pos.new.self.counters new.counters v.counts v.ready c.mark.ensures.lowered;
       spent = sym (ap (slice_index new.counters.counts.items) (row_number c.args.row z)) ∙ fix_spends ck old new i t c.search-pos.result.0 c.search-pos.result.1 step sound c.requires.working f;
       grows = fix_grows ck old new i t c.search-pos.result.0 c.search-pos.result.1 step sound c.requires.working f;
+      counted = c.mark.ensures.counted;
     }

@@ -13,6 +13,7 @@ loop-pos-init c = record {
   settled = c.requires.settled;
   given = λ q. ap (λ l. bit l q) c.requires.none ∙ bit-zeros (lifted_checks c.args.lifted.now).size q ∙ sym (filler_none c.args.lifted.now.plan.kdash q);
   words = λ w meets zero. c.requires.words w meets;
+  counted = c.requires.counted;
 }
 
 pub loop-pos-preserved : goal.loop-pos-preserved
@@ -30,6 +31,7 @@ loop-pos-preserved c =
       given = λ q. ap (λ b. bit b q) c.learn.ensures.given ∙ bit-mark old.given.items pos inside q ∙ ap (λ b. b || (pos == q)) (inv.given q) ∙ filler_more l.plan.kdash pos q low;
       words = λ w meets zero. c.learn.ensures.words w meets (inv.words w meets zero)
           (zero pos (and_from (nat_le l.plan.kdash pos) (nat_lt pos l.plan.k) (le-leb l.plan.kdash pos low) (lt-ltb pos l.plan.k below)));
+      counted = c.learn.ensures.counted;
     }
 
 pub returns : goal.returns
@@ -42,4 +44,5 @@ returns c =
       settled = inv.settled;
       given = fillers_are l.plan.kdash l.plan.k (lifted_checks l).size c.loop-pos.self.given.items inv.working.given_long (rw (← last) inv.given);
       words = inv.words;
+      counted = inv.counted;
     }

@@ -58,5 +58,5 @@ returns-then-not-get-clause-words c = λ w meets agree is.
 pub returns-else-not-get-clause-working : goal.returns-else-not-get-clause-working
 returns-else-not-get-clause-working c =
     let a = c.args.self.now in
-    let d : State = record { given = c.set.new.self; known = a.known; bits = a.bits; counters = a.counters; order = a.order } in
+    let d : State = record { given = c.set.new.self; known = a.known; bits = a.bits; counters = a.counters; order = a.order; left = a.left } in
     given_works (lifted_checks c.args.lifted.now) a d c.args.pos c.requires.working c.requires.inside (sym c.get.ensures ∙ c.if-not-get.false) c.set.ensures.items refl refl refl refl

@@ -35,10 +35,10 @@ loop-entry-preserved c =
     elim c.if-not-get.branch [
       | then-not-get w ↦
           let out : bit old.known.items p ≡ false = sym known_is ∙ w.if-not-get.true in
-          record { searched = rw (w.unknown-is, bit_is) (searched_unknown (bit old.known.items) (bit old.bits.items) (length old.known.items) ps c.loop-entry.unknown c.loop-entry.sum i s lt p at out fits); visited = record { given = v.given; known = v.known; bits = v.bits; order = v.order; counts = c.visit.ensures.counts ∙ v.counts; ready = c.visit.ensures.ready ∙ v.ready; touches = one_more c.visit.new.self.touches c.loop-entry.self.counters.touches old.counters.touches i c.visit.ensures.touches v.touches } }
+          record { searched = rw (w.unknown-is, bit_is) (searched_unknown (bit old.known.items) (bit old.bits.items) (length old.known.items) ps c.loop-entry.unknown c.loop-entry.sum i s lt p at out fits); visited = record { given = v.given; known = v.known; bits = v.bits; order = v.order; left = v.left; counts = c.visit.ensures.counts ∙ v.counts; ready = c.visit.ensures.ready ∙ v.ready; touches = one_more c.visit.new.self.touches c.loop-entry.self.counters.touches old.counters.touches i c.visit.ensures.touches v.touches } }
       | else-not-get w ↦
           let there : bit old.known.items p ≡ true = sym known_is ∙ w.if-not-get.false in
-          record { searched = rw (w.unknown-is, bit_is) (searched_known (bit old.known.items) (bit old.bits.items) (length old.known.items) ps c.loop-entry.unknown c.loop-entry.sum i s lt p at there); visited = record { given = v.given; known = v.known; bits = v.bits; order = v.order; counts = c.visit.ensures.counts ∙ v.counts; ready = c.visit.ensures.ready ∙ v.ready; touches = one_more c.visit.new.self.touches c.loop-entry.self.counters.touches old.counters.touches i c.visit.ensures.touches v.touches } }
+          record { searched = rw (w.unknown-is, bit_is) (searched_known (bit old.known.items) (bit old.bits.items) (length old.known.items) ps c.loop-entry.unknown c.loop-entry.sum i s lt p at there); visited = record { given = v.given; known = v.known; bits = v.bits; order = v.order; left = v.left; counts = c.visit.ensures.counts ∙ v.counts; ready = c.visit.ensures.ready ∙ v.ready; touches = one_more c.visit.new.self.touches c.loop-entry.self.counters.touches old.counters.touches i c.visit.ensures.touches v.touches } }
     ]
 
 pub returns : goal.returns

@@ -12,13 +12,14 @@ pub rows-preserved-then-index-eq1 : goal.rows-preserved-then-index-eq1
 rows-preserved-then-index-eq1 c =
     let a = c.rows.self in
     let g = c.rows.invariant.grows in
-    let left : Counters = record { counts = a.counters.counts; ready = c.pop.new.self; touches = a.counters.touches } in
-    let d : State = record { given = a.given; known = a.known; bits = a.bits; counters = left; order = a.order } in
+    let rest : Counters = record { counts = a.counters.counts; ready = c.pop.new.self; touches = a.counters.touches } in
+    let d : State = record { given = a.given; known = a.known; bits = a.bits; counters = rest; order = a.order; left = a.left } in
     let same : Grows (lifted_checks c.args.lifted.now) c.args.self.now d = record { given = g.given; known = g.known; bits = g.bits; words = g.words } in
     record {
       working = c.fix.ensures.working;
-      listed = listed_rest a.counters left c.fix.new.self.counters c.in-Some.row c.rows.invariant.listed c.in-Some.ensures.items refl c.fix.ensures.follows c.fix.ensures.spent;
+      listed = listed_rest a.counters rest c.fix.new.self.counters c.in-Some.row c.rows.invariant.listed c.in-Some.ensures.items refl c.fix.ensures.follows c.fix.ensures.spent;
       grows = grows_then (lifted_checks c.args.lifted.now) c.args.self.now d c.fix.new.self same c.fix.ensures.grows;
+      counted = c.fix.ensures.counted;
     }
 
 pub rows-preserved : goal.rows-preserved
@@ -26,13 +27,14 @@ rows-preserved c =
     let a = c.rows.self in
     let g = c.rows.invariant.grows in
     let row = c.in-Some.row in
-    let left : Counters = record { counts = a.counters.counts; ready = c.pop.new.self; touches = a.counters.touches } in
-    let d : State = record { given = a.given; known = a.known; bits = a.bits; counters = left; order = a.order } in
+    let rest : Counters = record { counts = a.counters.counts; ready = c.pop.new.self; touches = a.counters.touches } in
+    let d : State = record { given = a.given; known = a.known; bits = a.bits; counters = rest; order = a.order; left = a.left } in
     let popped : IsPopped a d row = record { given = refl; known = refl; bits = refl; order = refl; counts = refl; touches = refl; ready = c.in-Some.ensures.items; capacity = c.in-Some.ensures.capacity } in
     let below = popped_inside a.counters.ready.items c.pop.new.self.items row (length a.counters.counts.items) c.rows.invariant.working.tied.inside c.in-Some.ensures.items in
     let read : c.index.result.now ≡ slice_index a.counters.counts.items row = get_or_read a.counters.counts.items row c.index.result.now below c.index.ensures 0 in
     record {
       working = popped_works (lifted_checks c.args.lifted.now) a d row popped c.rows.invariant.working;
-      listed = listed_skip a.counters left row c.rows.invariant.listed c.in-Some.ensures.items refl (λ one. c.if-index-eq1.false (read ∙ one));
+      listed = listed_skip a.counters rest row c.rows.invariant.listed c.in-Some.ensures.items refl (λ one. c.if-index-eq1.false (read ∙ one));
       grows = record { given = g.given; known = g.known; bits = g.bits; words = g.words };
+      counted = c.rows.invariant.counted;
     }

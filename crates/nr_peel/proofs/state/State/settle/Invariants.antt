@@ -1,7 +1,7 @@
 use Rattle.std.proofs.Common.{◌+◌, length}
 use Rattle.std.specs.Prelude.{count_by, nat_lt}
 use Rattle.nr_peel.specs.Counters.{IsListed}
-use Rattle.nr_peel.specs.State.{Grows, IsWorking, lifted_checks}
+use Rattle.nr_peel.specs.State.{Grows, IsCounted, IsWorking, lifted_checks}
 use Rattle.nr_peel.proofs.state.State.settle.Given as goal
 
 -- the state is in order, and each row with one unknown position is listed
@@ -10,6 +10,7 @@ invariant-rows l = record {
   working : IsWorking (lifted_checks l.lifted) l.self;
   listed : IsListed l.self.counters;
   grows : Grows (lifted_checks l.lifted) l.initial.self l.self;
+  counted : IsCounted l.lifted.plan.kdash l.self;
 }
 
 -- rows listed, and rows that may still be
