@@ -1,10 +1,9 @@
 -- The bits of a code block with its fillers, and of a transport block with its CRC.
-use Rattle.std.proofs.Common.{◌≡◌, ◌≢◌, ℕ, zero, suc, ◌+◌, ◌-◌, ◌*◌, ◌/◌, ◌%◌, ◌<◌, ◌≤◌, ◌==◌, nat_lt, Bool, true, false, cond, List, [], ◌∷◌, ◌++◌, length, get_or, set, take, drop, replicate, refl, sym, ap, subst, ◌∙◌, ⊎_elim, append_assoc, length-append, arith}
+use Rattle.std.proofs.Common.{◌≡◌, ◌≢◌, ℕ, zero, suc, ◌+◌, ◌-◌, ◌*◌, ◌/◌, ◌%◌, ◌<◌, ◌≤◌, ◌==◌, nat_lt, min, Bool, true, false, cond, List, [], ◌∷◌, ◌++◌, length, get_or, set, take, drop, replicate, refl, sym, ap, subst, ◌∙◌, ⊎_elim, append_assoc, length-append, arith}
 use Rattle.std.specs.Int.{bit_at}
-use Rattle.std.proofs.lemmas.Bool.{cases_eq}
+use Rattle.std.proofs.lemmas.Bool.{cases_eq, cases_lt}
 use Rattle.std.proofs.lemmas.Grind.{get_or-set_at}
 use Rattle.std.proofs.lemmas.List.{get_or-append_right, get_or-drop, get_or-replicate, get_or-set_other, get_or-take, get_or_append_left, get_or_default, length-drop, length-take-le, same_lists}
-use Rattle.std.proofs.Math.Seq.{get_or-append_seam}
 use Rattle.nr_bitvec.specs.Bit.{bit}
 use Rattle.nr_crcattach.specs.Crc.{crc_of, high_first}
 use Rattle.nr_crcattach.specs.declared.Poly.TheVariants.{B24}
@@ -127,16 +126,35 @@ k-fits One p columns = omega (arith, columns)
 k-fits Two p columns = omega (arith, columns)
 
 -- one bit more is read
-pub read-more : (p : Numbers) (ps : List Peeling) (xs ys : List Bool) (n : ℕ) (v : Bool) → ys ≡ xs ++ v ∷ [] → length xs ≡ n
+pub read-more : (p : Numbers) (ps : List Peeling) (xs ys : List Bool) (n : ℕ) (v : Bool) → ys ≡ set xs n v → n < length xs
     → ((i : ℕ) → i < n → IsRead p ps xs i)
     → ((d : Peeling) → v ≡ known_bit (get_or ps (n / share p) d) (n % share p))
     → (i : ℕ) → i < n + 1 → IsRead p ps ys i
-read-more p ps xs ys n v ys-is long read one i below d = ⊎_elim
+read-more p ps xs ys n v ys-is inside read one i below d = ⊎_elim
     (λ (here : i ≡ n).
-    ap (λ zs. bit zs i) ys-is ∙ ap (bit (xs ++ v ∷ [])) (here ∙ sym long) ∙ get_or-append_seam xs v [] false ∙ one d
+    ap (λ zs. bit zs i) ys-is ∙ get_or-set_at xs n i v false here inside ∙ one d
     ∙ ap (λ j. known_bit (get_or ps (j / share p) d) (j % share p)) (sym here))
     (λ (there : i ≢ n).
     ap (λ zs. bit zs i) ys-is
-    ∙ get_or_append_left xs (v ∷ []) false i (omega (arith, long, below, there))
+    ∙ get_or-set_other xs n i v false there
     ∙ read i (omega (arith, below, there)) d)
     (cases_eq i n)
+
+-- one word of bits more is copied
+pub copied-more : (n i word count : ℕ) (from xs ys : List Bool) → count ≡ min (n - 64 * i) 64 → 64 * i < n
+    → ((t : ℕ) → t < min (64 * i) n → bit xs t ≡ bit from t)
+    → ((t : ℕ) → t < 64 → (bit_at word t == 1) ≡ bit from (64 * i + t))
+    → ((t : ℕ) → t < count → bit ys (64 * i + t) ≡ (bit_at word t == 1))
+    → ((t : ℕ) → t < 64 * i → bit ys t ≡ bit xs t)
+    → (t : ℕ) → t < min (64 * (i + 1)) n → bit ys t ≡ bit from t
+copied-more n i word count from xs ys count-is some done read within before t below = ⊎_elim
+    (λ (low : t < 64 * i). before t low ∙ done t (omega arith))
+    (λ (high : 64 * i ≤ t).
+    let place : 64 * i + (t - 64 * i) ≡ t = omega arith in
+    ap (bit ys) (sym place) ∙ within (t - 64 * i) (omega arith) ∙ read (t - 64 * i) (omega arith) ∙ ap (bit from) place)
+    (cases_lt t (64 * i))
+
+-- a list whose bits are the first ones of another is what that begins with
+pub copied-all : (xs from : List Bool) → length xs ≤ length from → ((t : ℕ) → t < length xs → bit xs t ≡ bit from t)
+    → xs ≡ take (length xs) from
+copied-all xs from fits same = sym (begins-with from xs (length xs) fits refl (λ t below. sym (same t below)))

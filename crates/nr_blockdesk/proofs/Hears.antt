@@ -1,6 +1,7 @@
 -- What hearing does to a code block's store and its peeler.
-use Rattle.std.proofs.Common.{◌≡◌, ◌≢◌, ℕ, zero, suc, ◌+◌, ◌*◌, ◌<◌, ◌≤◌, ◌||◌, Bool, true, false, cond, List, [], ◌∷◌, ◌++◌, length, get_or, set, take, drop, refl, sym, ap, subst, ◌∙◌, ⊎_elim, append_assoc, arith}
+use Rattle.std.proofs.Common.{◌≡◌, ◌≢◌, ℕ, zero, suc, ◌+◌, ◌*◌, ◌<◌, ◌≤◌, ◌||◌, ◌&&◌, Bool, true, false, not, cond, List, [], ◌∷◌, ◌++◌, length, get_or, set, take, drop, refl, sym, ap, subst, ◌∙◌, ⊎_elim, append_assoc, arith}
 use Rattle.std.specs.Prelude.{Option, Some, None, option_map, sum, slice_index}
+use Rattle.std.specs.Bool.{beq}
 use Rattle.std.specs.List.{cons_option, filter_map, range_with_len}
 use Rattle.std.proofs.lemmas.Bool.{cases_eq, true≢false}
 use Rattle.std.proofs.lemmas.Grind.{get_or-set_at}
@@ -13,7 +14,7 @@ use Rattle.std.specs.Option.{is_some}
 use Rattle.nr_bitvec.specs.Bit.{bit}
 use Rattle.nr_graphpick.specs.Graph.{cols_of}
 use Rattle.nr_graphpick.specs.declared.Graph.{Graph}
-use Rattle.nr_harqbuf.specs.Record.{HasFirsts, Heardbits, Hearing, RecordContinues, first_at, is_heard, record_of, with_hearing}
+use Rattle.nr_harqbuf.specs.Record.{HasFirsts, Heardbits, Hearing, RecordContinues, differs, first_at, is_heard, record_of, with_hearing}
 use Rattle.nr_interleave.specs.Interleaving.{seat_of}
 use Rattle.nr_ldpcenc.specs.Codeword.{filler}
 use Rattle.nr_ldpcenc.specs.Rows.{Checks, Meets, block_checks, word_size}
@@ -26,7 +27,7 @@ use Rattle.nr_blockdesk.specs.Heard.{heard_of}
 use Rattle.nr_blockdesk.specs.Hearing.{heard_bit}
 use Rattle.nr_blockdesk.specs.Link.{Link}
 use Rattle.nr_blockdesk.specs.Outcome.{given}
-use Rattle.nr_blockdesk.specs.Receiving.{HearsPart, IsTied, part_hearing, part_hearings}
+use Rattle.nr_blockdesk.specs.Receiving.{AllTell, Fits, HearsPart, IsTied, Tells, part_hearing, part_hearings, word_at}
 use Rattle.nr_blockdesk.specs.declared.heard.Heard.{Heard}
 use Rattle.nr_blockdesk.specs.declared.tx.Tx.{Tx}
 
@@ -98,6 +99,125 @@ first-long s pos v = go (is_heard (first_at s pos)) refl
     go true e = ap length (first-kept s pos v e)
     go false e = ap length (first-set s pos v e) ∙ length-set s.first pos (Some v)
 
+-- the first bits before one that was heard nowhere yet
+firsts-before : (s t : Heardbits) (pos : ℕ) (v : Bool) (w : ℕ → Bool) → is_heard (first_at s pos) ≡ false → t.first ≡ set s.first pos (Some v)
+    → HasFirsts t w → HasFirsts s w
+firsts-before s t pos v w unheard firsts has k b is = ⊎_elim
+    (λ (here : k ≡ pos).
+    let heard-here : is_heard (first_at s pos) ≡ true = ap (λ j. is_heard (first_at s j)) (sym here) ∙ ap is_heard is in
+    absurd (true≢false (sym heard-here ∙ unheard)))
+    (λ (there : k ≢ pos). has k b
+    (ap (λ (xs : List (Option Bool)). get_or xs k None) firsts ∙ get_or-set_other s.first pos k (Some v) None there ∙ is))
+    (cases_eq k pos)
+
+or-none : (a b : Bool) → (a || b) ≡ false → (a ≡ false) × (b ≡ false)
+or-none true b e = cc e
+or-none false b e = (refl, e)
+
+same-bit : (a b : Bool) → not (beq a b) ≡ false → a ≡ b
+same-bit true true e = refl
+same-bit true false e = cc e
+same-bit false true e = cc e
+same-bit false false e = refl
+
+beq-self : (b : Bool) → beq b b ≡ true
+beq-self true = refl
+beq-self false = refl
+
+some-same : (a b : Bool) → Some a ≡ Some b → a ≡ b
+some-same a b e = cc e
+
+-- a word fits a record with one hearing more exactly where it fits the record and has the bit
+module _ (s : Heardbits) (pos : ℕ) (v : Bool) (w : ℕ → Bool) (inside : pos < length s.first) where
+  clash-more : (with_hearing s (pos, v)).clash ≡ (s.clash || differs (first_at s pos) v)
+  unfolding with_hearing
+  clash-more = refl
+
+  first-now : is_heard (first_at s pos) ≡ false → (k : ℕ) → k ≡ pos → first_at (with_hearing s (pos, v)) k ≡ Some v
+  first-now unheard k here =
+      ap (λ (xs : List (Option Bool)). get_or xs k None) (first-set s pos v unheard)
+      ∙ get_or-set_at s.first pos k (Some v) None here inside
+
+  pub fits-before : Fits (with_hearing s (pos, v)) w → Fits s w
+  fits-before fits = ((or-none s.clash (differs (first_at s pos) v) (sym clash-more ∙ fits.0)).0, go (is_heard (first_at s pos)) refl)
+    where
+      go : (b : Bool) → is_heard (first_at s pos) ≡ b → HasFirsts s w
+      go true e = λ k b is. fits.1 k b (ap (λ (xs : List (Option Bool)). get_or xs k None) (first-kept s pos v e) ∙ is)
+      go false e = firsts-before s (with_hearing s (pos, v)) pos v w e (first-set s pos v e) fits.1
+
+  pub fits-bit : Fits (with_hearing s (pos, v)) w → w pos ≡ v
+  fits-bit fits = go (first_at s pos) refl
+    where
+      go : (o : Option Bool) → first_at s pos ≡ o → w pos ≡ v
+      go None e = fits.1 pos v (first-now (ap is_heard e) pos refl)
+      go (Some a) e =
+          let first : first_at (with_hearing s (pos, v)) pos ≡ Some a =
+          ap (λ (xs : List (Option Bool)). get_or xs pos None) (first-kept s pos v (ap is_heard e)) ∙ e in
+          let same : not (beq a v) ≡ false =
+          ap (λ o. differs o v) (sym e) ∙ (or-none s.clash (differs (first_at s pos) v) (sym clash-more ∙ fits.0)).1 in
+          fits.1 pos a first ∙ same-bit a v same
+
+  pub fits-more : Fits s w → w pos ≡ v → Fits (with_hearing s (pos, v)) w
+  fits-more fits has = go (first_at s pos) refl
+    where
+      go : (o : Option Bool) → first_at s pos ≡ o → Fits (with_hearing s (pos, v)) w
+      go None e = (
+        clash-more ∙ ap (λ b. b || differs (first_at s pos) v) fits.0 ∙ ap (λ o. differs o v) e,
+        λ k b is. ⊎_elim
+            (λ (here : k ≡ pos). ap w here ∙ has ∙ some-same v b (sym (first-now (ap is_heard e) k here) ∙ is))
+            (λ (there : k ≢ pos). fits.1 k b
+            (sym (ap (λ (xs : List (Option Bool)). get_or xs k None) (first-set s pos v (ap is_heard e))
+            ∙ get_or-set_other s.first pos k (Some v) None there) ∙ is))
+            (cases_eq k pos),
+      )
+      go (Some a) e =
+          let same : a ≡ v = sym (fits.1 pos a e) ∙ has in (
+            clash-more ∙ ap (λ b. b || differs (first_at s pos) v) fits.0 ∙ ap (λ o. differs o v) e
+                ∙ ap (λ b. not (beq b v)) same ∙ ap not (beq-self v),
+            λ k b is. fits.1 k b (sym (ap (λ (xs : List (Option Bool)). get_or xs k None) (first-kept s pos v (ap is_heard e))) ∙ is),
+          )
+
+  -- so one hearing more tells whether it agrees with the word
+  pub tells-more : (told : Bool) (s₀ : Heardbits) → Tells told w s₀ s → Tells (told && beq (w pos) v) w s₀ (with_hearing s (pos, v))
+  tells-more false s₀ tells = λ fits. tells (fits-before fits)
+  tells-more true s₀ tells = go (beq (w pos) v) refl
+    where
+      go : (b : Bool) → beq (w pos) v ≡ b → Tells b w s₀ (with_hearing s (pos, v))
+      go false e = λ fits. absurd (true≢false (sym (beq-self v) ∙ ap (λ b. beq b v) (sym (fits-bit fits)) ∙ e))
+      go true e = λ fits. fits-more (tells fits) (same-bit (w pos) v (ap not e))
+
+-- the same of one code block more
+pub all-tell-more : (told one : Bool) (words : List (List Bool)) (w : List Bool) (S₀ S : List Heardbits) (r : ℕ) (s t : Heardbits) → r < length S
+    → w ≡ word_at words r → s ≡ heard_of S₀ r → Tells one (bit w) s t → AllTell told r words S₀ S
+    → AllTell (told && one) (r + 1) words S₀ (set S r t)
+all-tell-more told one words w S₀ S r s t inside w-is s-is tells all = go told one tells all
+  where
+    nothing : Heardbits
+    nothing = record { first = []; clash = false }
+
+    here : (k : ℕ) → k ≡ r → Fits t (bit w) → Fits (heard_of (set S r t) k) (bit (word_at words k))
+    here k e fits =
+        subst (λ (h : Heardbits). Fits h (bit (word_at words k))) (sym (get_or-set_at S r k t nothing e inside))
+        (subst (λ (x : List Bool). Fits t (bit x)) (w-is ∙ ap (λ j. word_at words j) (sym e)) fits)
+
+    here-too : Fits (heard_of (set S r t) r) (bit (word_at words r)) → Fits t (bit w)
+    here-too fits =
+        subst (λ (x : List Bool). Fits t (bit x)) (sym w-is)
+        (subst (λ (h : Heardbits). Fits h (bit (word_at words r))) (get_or-set_at S r r t nothing refl inside) fits)
+
+    go : (told one : Bool) → Tells one (bit w) s t → AllTell told r words S₀ S → AllTell (told && one) (r + 1) words S₀ (set S r t)
+    go false one tells all = λ each. all (λ k below.
+        let other : k ≢ r = λ e. omega (arith, e, below) in
+        subst (λ (h : Heardbits). Fits h (bit (word_at words k))) (get_or-set_other S r k t nothing other) (each k (omega arith)))
+    go true false tells all = λ each. tells (here-too (each r (omega arith)))
+    go true true tells all = λ k below fits. ⊎_elim
+        (λ (e : k ≡ r). here k e (tells (subst (λ (h : Heardbits). Fits h (bit w)) (sym s-is)
+        (subst (λ (x : List Bool). Fits (heard_of S₀ r) (bit x)) (sym w-is)
+        (subst (λ j. Fits (heard_of S₀ j) (bit (word_at words j))) e fits)))))
+        (λ (e : k ≢ r). subst (λ (h : Heardbits). Fits h (bit (word_at words k))) (sym (get_or-set_other S r k t nothing e))
+        (all k (omega (arith, below, e)) fits))
+        (cases_eq k r)
+
 -- the code of a peeler that is tied
 pub same-checks : (link : Link) (s : Heardbits) (p : Peeling) → IsTied link s p → checks_for p ≡ block_checks link.table link.graph link.plan
 same-checks link s p tied =
@@ -132,7 +252,7 @@ tied-more link s t p q pos v inside unheard firsts same gives words peeled tied 
   long = ap length firsts ∙ length-set s.first pos (Some v) ∙ tied.long;
   positions = positions;
   words = λ w plain has. words w (subst (λ (c : Checks). Meets c w) (sym (same-checks link s p tied)) plain.meets)
-      (tied.words w plain (before w has)) (has pos v (first-here pos refl));
+      (tied.words w plain (firsts-before s t pos v w unheard firsts has)) (has pos v (first-here pos refl));
   peeled = peeled;
 }
   where
@@ -155,14 +275,6 @@ tied-more link s t p q pos v inside unheard firsts same gives words peeled tied 
         (λ (there : k ≢ pos). ap (λ (g : List Bool). bit g k) gives ∙ get_or-set_other p.given pos k true false there
         ∙ tied.positions k
         ∙ sym (ap (λ o. is_heard o || filler link.plan.kdash link.plan.k k) (first-there k there)))
-        (cases_eq k pos)
-
-    before : (w : ℕ → Bool) → HasFirsts t w → HasFirsts s w
-    before w has k b is = ⊎_elim
-        (λ (here : k ≡ pos).
-        let heard-here : is_heard (first_at s pos) ≡ true = ap (λ j. is_heard (first_at s j)) (sym here) ∙ ap is_heard is in
-        absurd (true≢false (sym heard-here ∙ unheard)))
-        (λ (there : k ≢ pos). has k b (first-there k there ∙ is))
         (cases_eq k pos)
 
 -- the same part, in other words

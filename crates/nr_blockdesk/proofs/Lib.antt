@@ -11,5 +11,6 @@ pub mod Hears
 pub mod Encoding
 pub mod Taking
 pub mod Decided
+mod Kept
 mod Nothing
 mod CallFacts

@@ -1,5 +1,5 @@
 -- What a receiver keeps, and what its steps make of it.
-use Rattle.std.specs.Prelude.{◌≡◌, ◌⊎◌, ℕ, ◌+◌, ◌/◌, ◌%◌, ◌<◌, ◌≤◌, Bool, true, false, Option, option_map, unwrap_or, Result, Ok, Err, IsOk, List, [], ◌++◌, length, take, drop, sum, slice_index, slice_index_or}
+use Rattle.std.specs.Prelude.{◌≡◌, ◌⊎◌, ℕ, ◌+◌, ◌/◌, ◌%◌, ◌<◌, ◌≤◌, Bool, true, false, Option, option_map, unwrap_or, Result, Ok, Err, IsOk, List, [], ◌++◌, length, take, drop, sum, slice_index, slice_index_or, All}
 use Rattle.std.specs.List.{filter_map, range_with_len}
 use Rattle.nr_bitvec.specs.Bit.{bit}
 use Rattle.nr_bitvec.specs.BitList.{BitList}
@@ -14,8 +14,10 @@ use Rattle.nr_segment.specs.Plan.{Numbers}
 use Rattle.nr_blockdesk.specs.Explains.{heard_at}
 use Rattle.nr_blockdesk.specs.Heard.{heard_of}
 use Rattle.nr_blockdesk.specs.Hearing.{heard_bit}
-use Rattle.nr_blockdesk.specs.Link.{IsBlock, IsLink, Link, attached_length}
+use Rattle.nr_blockdesk.specs.Link.{IsBlock, IsLink, Link, attached_length, word}
 use Rattle.nr_blockdesk.specs.Outcome.{ExplainedBy, Verdict, all_fixed, contradiction, delivered, given, open_still}
+use Rattle.nr_blockdesk.specs.declared.candidate.Standing.{Standing}
+use Rattle.nr_blockdesk.specs.declared.candidate.Standing.TheVariants as standing
 use Rattle.nr_blockdesk.specs.declared.heard.Heard.{Heard}
 use Rattle.nr_blockdesk.specs.declared.outcome.Outcome.{Outcome}
 use Rattle.nr_blockdesk.specs.declared.outcome.Outcome.TheVariants as outcome
@@ -85,20 +87,70 @@ pub record IsDesk (link : Link) (records : List Heardbits) (peelers : List Peeli
   pub peelings : length peelers ≡ link.plan.c
   pub tied : (r : ℕ) → r < link.plan.c → IsTied link (heard_of records r) (peeling_of link peelers r)
 
--- what a receiver keeps: these, with room for a transport block with its CRC, b bits, and for a codeword
-pub record IsReceiver (link : Link) (b : ℕ) (records : List Heardbits) (peelers : List Peeling) (block : BitList) (codeword : List Bool) : Type 0 where
+-- a word has every first bit of a record in which no position has both bits
+abbrev pub Fits : Heardbits → (ℕ → Bool) → Type 0
+Fits s w = (s.clash ≡ false) × HasFirsts s w
+
+-- the word that is kept for code block r
+abbrev pub word_at : List (List Bool) → ℕ → List Bool
+word_at words r = slice_index_or words r []
+
+-- a word of n bits for each of c code blocks
+pub record AreWords (c n : ℕ) (words : List (List Bool)) : Type 0 where
+  pub many : length words ≡ c
+  pub long : All (λ w. length w ≡ n) words
+
+-- the transport block that a list begins with is the only one that explains a record, and these are its codewords
+pub record IsExplained (link : Link) (records : List Heardbits) (list : List Bool) (words : List (List Bool)) : Type 0 where
+  pub held : link.a ≤ length list
+  pub explains : ExplainedBy link records (take link.a list)
+  pub only : (y : List Bool) → IsBlock link y → ExplainedBy link records y → y ≡ take link.a list
+  pub coded : (r : ℕ) → r < link.plan.c → word_at words r ≡ word link (take link.a list) r
+
+-- no transport block explains a record
+abbrev pub IsUnexplained : Link → List Heardbits → Type 0
+IsUnexplained link records = (y : List Bool) → IsBlock link y → ExplainedBy link records y → ⊥
+
+-- how the one transport block that may explain a record stands is so
+abbrev pub Stands : Link → List Heardbits → List Bool → List (List Bool) → Standing → Type 0
+Stands link records list words standing.Unread = Unit {0}
+Stands link records list words standing.Explains = IsExplained link records list words
+Stands link records list words standing.Fails = IsUnexplained link records
+
+-- how it stands once more was heard, which agrees with its codewords or doesn't
+abbrev pub standing_after : Standing → Bool → Standing
+standing_after standing.Unread agreed = standing.Unread
+standing_after standing.Explains true = standing.Explains
+standing_after standing.Explains false = standing.Fails
+standing_after standing.Fails agreed = standing.Fails
+
+-- what a receiver keeps: these, with room for a transport block with its CRC, b bits, and a codeword a code block
+pub record IsReceiver (link : Link) (b : ℕ) (records : List Heardbits) (peelers : List Peeling) (block : BitList)
+    (words : List (List Bool)) (standing : Standing) : Type 0 where
   pub is_link : IsLink link
   pub whole : b ≡ attached_length link.a
   pub desk : IsDesk link records peelers
   pub room : b ≤ length block.items + block.room
-  pub long : length codeword ≡ word_size link.graph link.plan
+  pub sized : AreWords link.plan.c (word_size link.graph link.plan) words
+  pub stands : Stands link records block.items words standing
 
--- a code block's part of a transmission was heard: the record is that of the longer list, and store and peeler belong
--- together again
+-- a code block's part of a transmission was heard: the record is that of the longer list, store and peeler belong
+-- together again, and no word fits that did not before
 pub record HearsPart (b : Circular) (tx : Tx) (heard : List Heard) (s : Heardbits) (p : Peeling) (t : Heardbits) (q : Peeling) : Type 0 where
   pub recorded : (hs : List Hearing) → s ≡ record_of (length s.first) hs
       → t ≡ record_of (length s.first) (hs ++ part_hearings b tx heard (length heard))
   pub tied : (link : Link) → IsTied link s p → IsTied link t q
+  pub fewer : (w : ℕ → Bool) → Fits t w → Fits s w
+
+-- whether what was heard from one record to the next agrees with a word
+abbrev pub Tells : Bool → (ℕ → Bool) → Heardbits → Heardbits → Type 0
+Tells true w s t = Fits s w → Fits t w
+Tells false w s t = Fits t w → ⊥
+
+-- the same of n code blocks, each with the word that is kept for it
+abbrev pub AllTell : Bool → ℕ → List (List Bool) → List Heardbits → List Heardbits → Type 0
+AllTell true n words S T = (r : ℕ) → r < n → Fits (heard_of S r) (bit (word_at words r)) → Fits (heard_of T r) (bit (word_at words r))
+AllTell false n words S T = ((r : ℕ) → r < n → Fits (heard_of T r) (bit (word_at words r))) → ⊥
 
 -- the bit of a position, and zero where it isn't known
 abbrev pub known_bit : Peeling → ℕ → Bool
@@ -108,10 +160,6 @@ known_bit p k = unwrap_or (known_at p k) false
 abbrev pub IsRead : Numbers → List Peeling → List Bool → ℕ → Type 0
 IsRead p peelers bits i =
     (d : Peeling) → bit bits i ≡ known_bit (slice_index_or peelers (i / share p) d) (i % share p)
-
--- a word has every first bit of a record in which no position has both bits
-abbrev pub Fits : Heardbits → (ℕ → Bool) → Type 0
-Fits s w = (s.clash ≡ false) × HasFirsts s w
 
 -- an outcome is the one that a record decides
 abbrev pub IsDecided : Link → List Heardbits → Outcome → Type 0

@@ -11,7 +11,7 @@ ghost use Rattle.nr_ldpcenc.specs.Rows.{word_size};
 ghost use Rattle.nr_segment.specs.CodeBlock.{code_bits, code_block, numbers, shared_bits};
 ghost use Rattle.nr_shifttable.specs.Accepted.{has_graph};
 ghost use Rattle.nr_blockdesk.specs.Heard.{heard_of};
-ghost use Rattle.nr_blockdesk.specs.Receiving.{Fits};
+ghost use Rattle.nr_blockdesk.specs.Receiving.{AreWords, Fits, word_at};
 
 use nr_bitvec::Bits;
 use nr_crcattach::{Poly, attachment_lengthens, crc, crc_range};
@@ -102,17 +102,19 @@ fn agrees(store: &Store, word: &Word) -> bool
     true
 }
 
-// Whether the codewords of a transport block with its CRC have every first bit, and no position was heard with both.
+// Encodes a transport block with its CRC, and answers whether its codewords have every first bit, and no position was
+// heard with both.
 pub(crate) fn explains(
     table: &Table,
     plan: &Plan,
     stores: &[Store],
     list: &Bits,
-    word: &mut Word,
+    words: &mut [Word],
 ) -> bool
     requires graph { IsTrue (has_graph plan.now.graph table.now) }
     requires whole { length list.now.items ≡ plan.now.b }
-    requires long { length word.old ≡ word_size plan.now.graph (numbers plan.now) }
+    requires words { AreWords plan.now.c
+        (word_size plan.now.graph (numbers plan.now)) words.old }
     requires all { length stores.now ≡ plan.now.c }
     requires stored { (r : ℕ) → r < plan.now.c
         → length (heard_of stores.now r).first ≡ word_size plan.now.graph (numbers plan.now) }
@@ -122,9 +124,14 @@ pub(crate) fn explains(
     ensures misfits { result ≡ false → ((r : ℕ) → r < plan.now.c → Fits (heard_of stores.now r)
         (bit (codeword table.now plan.now.graph (numbers plan.now)
         (code_bits (numbers plan.now) list.now.items r)))) → ⊥ }
-    ensures long { length word.new ≡ word_size plan.now.graph (numbers plan.now) }
+    ensures encoded { result ≡ true → (r : ℕ) → r < plan.now.c → word_at words.new r
+        ≡ codeword table.now plan.now.graph (numbers plan.now)
+        (code_bits (numbers plan.now) list.now.items r) }
+    ensures words { AreWords plan.now.c
+        (word_size plan.now.graph (numbers plan.now)) words.new }
 {
     for r in 0..plan.c {
+        let word = &mut words[r as usize];
         encode_in(table, plan, list, r, word);
         if !agrees(&stores[r as usize], word) {
             return false;

@@ -1,14 +1,37 @@
 //! The one transport block that may explain what was heard, read from the peelers.
 
-ghost use Rattle.std.specs.Prelude.{◌≡◌, ℕ, ◌==◌, ◌<◌, ◌≤◌, [], length, slice_index_or};
+ghost use Rattle.std.specs.Prelude.{◌≡◌, ℕ, ◌==◌, ◌<◌, ◌≤◌, length, slice_index_or, take};
 ghost use Rattle.std.specs.List.{list_all};
 ghost use Rattle.nr_peel.specs.Peeling.{Peeling, checks_for, left_of};
 ghost use Rattle.nr_segment.specs.CodeBlock.{numbers};
-ghost use Rattle.nr_blockdesk.specs.Receiving.{IsRead};
+ghost use Rattle.nr_blockdesk.specs.Receiving.{IsRead, standing_after};
 
 use nr_bitvec::Bits;
 use nr_peel::Peeler;
 use nr_segment::Plan;
+
+/// How the one transport block that may explain what was heard stands.
+#[derive(Clone, Copy)]
+pub(crate) enum Standing {
+    /// Some position below K' was not known yet when it was last asked for.
+    Unread,
+    /// It explains all that was heard.
+    Explains,
+    /// It doesn't, and so none does.
+    Fails,
+}
+
+impl Standing {
+    // How it stands once more was heard, which agrees with its codewords or doesn't. A contradiction stays.
+    pub(crate) fn after(self, agreed: bool) -> Standing
+        ensures { result ≡ standing_after self agreed }
+    {
+        match self {
+            Standing::Explains if !agreed => Standing::Fails,
+            other => other,
+        }
+    }
+}
 
 // Whether each peeler knows every position below K'.
 pub(crate) fn all_known(peelers: &[Peeler<'_>]) -> bool
@@ -22,21 +45,31 @@ pub(crate) fn all_known(peelers: &[Peeler<'_>]) -> bool
     true
 }
 
-// The bits that the peelers know of a transport block of `a` bits, put into an empty list.
-pub(crate) fn candidate(plan: &Plan, peelers: &[Peeler<'_>], a: u32, mut list: Bits) -> Bits
-    requires empty { list.items ≡ [] }
-    requires room { a ≤ list.room }
-    requires inside { a ≤ plan.now.b }
+// The bits that the peelers know of a transport block, put in the place of a list's.
+pub(crate) fn candidate(plan: &Plan, peelers: &[Peeler<'_>], mut list: Bits) -> Bits
+    requires inside { length list.items ≤ plan.now.b }
     requires all { length peelers.now ≡ plan.now.c }
     requires sized { (r : ℕ) (d : Peeling) → r < plan.now.c
         → plan.now.kdash ≤ (checks_for (slice_index_or peelers.now r d)).size }
-    ensures long { length result.items ≡ a }
-    ensures read { (i : ℕ) → i < a → IsRead (numbers plan.now) peelers.now result.items i }
+    ensures long { length result.items ≡ length list.items }
+    ensures read { (i : ℕ) → i < length list.items
+        → IsRead (numbers plan.now) peelers.now result.items i }
 {
     let share = plan.kdash - plan.l;
-    for i in 0..a {
+    for i in 0..list.len() as u32 {
         let peeler = &peelers[(i / share) as usize];
-        list.push_in_room(peeler.known(i % share).unwrap_or(false));
+        list.set(i as usize, peeler.known(i % share).unwrap_or(false));
     }
     list
+}
+
+// Puts the first bits of a list in the place of another one's, by words.
+pub(crate) fn copy_bits(from: &Bits, list: &mut Bits)
+    requires { length list.old.items ≤ length from.now.items }
+    ensures { list.new.items ≡ take (length list.old.items) from.now.items }
+{
+    let count = list.len();
+    for i in 0..count.div_ceil(64) {
+        list.put(64 * i, (count - 64 * i).min(64), from.window(64 * i));
+    }
 }

@@ -1,12 +1,13 @@
 //! Hearing one transmission.
 
 ghost use Rattle.std.specs.Prelude.{◌≡◌, ℕ, ◌*◌, ◌%◌, ◌^◌, ◌<◌, length, slice_index_or, IfOk, MatchResult, Ok, Err};
+ghost use Rattle.nr_bitvec.specs.Bit.{bit};
 ghost use Rattle.nr_graphpick.specs.Graph.{cols_of};
 ghost use Rattle.nr_peel.specs.Peeling.{Peeling};
 ghost use Rattle.nr_ratematch.specs.Lengths.{IsShared};
 ghost use Rattle.nr_blockdesk.specs.Explains.{reception, reception_said_of};
 ghost use Rattle.nr_blockdesk.specs.Heard.{heard_of};
-ghost use Rattle.nr_blockdesk.specs.Receiving.{HearsPart, IsSized, piece};
+ghost use Rattle.nr_blockdesk.specs.Receiving.{AllTell, AreWords, HearsPart, IsSized, Tells, piece};
 
 use crate::fault::DeskFault;
 use crate::heard::Heard;
@@ -15,6 +16,7 @@ use crate::tx::Tx;
 use arrayvec::ArrayVec;
 use nr_harqbuf::{Store, record_continues};
 use nr_interleave::seat;
+use nr_ldpcenc::Word;
 use nr_peel::Peeler;
 use nr_ratematch::Buffer;
 use nr_segment::Plan;
@@ -40,17 +42,28 @@ pub(crate) fn judge_heard(
     Ok(lengths)
 }
 
-// Hears one code block's part of a transmission: only the first bit of a position is learned.
-fn hear_part(buffer: &Buffer, tx: &Tx, heard: &[Heard], store: &mut Store, peeler: &mut Peeler<'_>)
+// Hears one code block's part of a transmission: only the first bit of a position is learned. Answers whether each bit
+// heard is that of `word`.
+fn hear_part(
+    buffer: &Buffer,
+    tx: &Tx,
+    heard: &[Heard],
+    store: &mut Store,
+    peeler: &mut Peeler<'_>,
+    word: &Word,
+) -> bool
     requires version { tx.now.rv < 4 }
     requires order { 0 < tx.now.qm }
     requires whole { length heard.now % tx.now.qm ≡ 0 }
     requires short { length heard.now < 2 ^ 32 }
     requires sized { IsSized (cols_of buffer.now.graph * buffer.now.z) store.old peeler.old }
-    ensures { HearsPart buffer.now tx.now heard.now store.old peeler.old store.new peeler.new }
+    requires long { length word.now ≡ cols_of buffer.now.graph * buffer.now.z }
+    ensures hears { HearsPart buffer.now tx.now heard.now store.old peeler.old store.new peeler.new }
+    ensures agreed { Tells result (bit word.now) store.old store.new }
 {
     record_continues();
     let count = heard.len() as u32;
+    let mut agreed = true;
     for m in 0..count {
         if let Some(bit) = heard[m as usize].bit() {
             let pos = buffer.place(tx.rv, seat(tx.qm, count, m));
@@ -58,11 +71,14 @@ fn hear_part(buffer: &Buffer, tx: &Tx, heard: &[Heard], store: &mut Store, peele
                 peeler.learn(pos, bit);
             }
             store.hear(pos, bit);
+            agreed &= word.get(pos as usize) == bit;
         }
     }
+    agreed
 }
 
-// Hears a transmission: each code block has its part of the places.
+// Hears a transmission: each code block has its part of the places. Answers whether each bit heard is that of its code
+// block's word.
 pub(crate) fn hear(
     buffer: &Buffer,
     tx: &Tx,
@@ -70,7 +86,8 @@ pub(crate) fn hear(
     heard: &[Heard],
     stores: &mut [Store],
     peelers: &mut [Peeler<'_>],
-)
+    words: &[Word],
+) -> bool
     requires version { tx.now.rv < 4 }
     requires shared { IsShared (length stores.old) tx.now.g tx.now.qm lengths.now }
     requires whole { length heard.now ≡ tx.now.g }
@@ -78,19 +95,24 @@ pub(crate) fn hear(
     requires sized { (r : ℕ) (d : Peeling) → r < length stores.old
         → IsSized (cols_of buffer.now.graph * buffer.now.z)
         (heard_of stores.old r) (slice_index_or peelers.old r d) }
+    requires words { AreWords (length stores.old)
+        (cols_of buffer.now.graph * buffer.now.z) words.now }
     ensures stores { length stores.new ≡ length stores.old }
     ensures peelers { length peelers.new ≡ length peelers.old }
     ensures parts { (r : ℕ) (d : Peeling) → r < length stores.old
         → HearsPart buffer.now tx.now (piece lengths.now heard.now r)
         (heard_of stores.old r) (slice_index_or peelers.old r d)
         (heard_of stores.new r) (slice_index_or peelers.new r d) }
+    ensures agreed { AllTell result (length stores.old) words.now stores.old stores.new }
 {
+    let mut agreed = true;
     let mut rest = heard;
     for r in 0..lengths.len() {
         let (part, later) = rest.split_at(lengths[r] as usize);
         let store = &mut stores[r];
         let peeler = &mut peelers[r];
-        hear_part(buffer, tx, part, store, peeler);
+        agreed &= hear_part(buffer, tx, part, store, peeler, &words[r]);
         rest = later;
     }
+    agreed
 }

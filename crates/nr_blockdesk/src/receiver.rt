@@ -1,21 +1,22 @@
 //! The receiver of one transport block.
 
-ghost use Rattle.std.specs.Prelude.{◌≡◌, ◌≢◌, ℕ, ◌<◌, ◌≤◌, ◌++◌, [], ◌∷◌, Bool, List, length, All, IfOk, IfErr, IsErrOf, IsOk, OnErr, OnOk};
+ghost use Rattle.std.specs.Prelude.{◌≡◌, ◌≢◌, ℕ, ◌<◌, ◌++◌, [], ◌∷◌, Bool, true, List, length, All, IfOk, IfErr, IsErrOf, IsOk, OnErr, OnOk};
 ghost use Rattle.nr_bitvec.specs.Bit.{bit};
 ghost use Rattle.nr_graphpick.specs.Refusal.{Gives};
 ghost use Rattle.nr_harqbuf.specs.Positions.{positions_of};
 ghost use Rattle.nr_harqbuf.specs.Record.{record_of};
+ghost use Rattle.nr_ldpcenc.specs.Rows.{word_size};
 ghost use Rattle.nr_peel.specs.Peeling.{IsPeeled, IsStarted};
 ghost use Rattle.nr_segment.specs.CodeBlock.{numbers};
 ghost use Rattle.nr_shifttable.specs.Accepted.{has_graph};
 ghost use Rattle.nr_blockdesk.specs.Explains.{Explains, Reception, reception, reception_said};
 ghost use Rattle.nr_blockdesk.specs.Heard.{IsRecordOf, heard_of};
 ghost use Rattle.nr_blockdesk.specs.Link.{IsBlock, attached_length, link_said};
-ghost use Rattle.nr_blockdesk.specs.Outcome.{contradiction, delivered, given, left, outcome_of};
-ghost use Rattle.nr_blockdesk.specs.Receiving.{IsDecided, RefusesAs, verdict};
+ghost use Rattle.nr_blockdesk.specs.Outcome.{all_fixed, contradiction, delivered, given, left, outcome_of};
+ghost use Rattle.nr_blockdesk.specs.Receiving.{AreWords, IsDecided, RefusesAs, verdict};
 
 use crate::again::{attach_in_room, explains};
-use crate::candidate::{all_known, candidate};
+use crate::candidate::{Standing, all_known, candidate, copy_bits};
 use crate::fault::DeskFault;
 use crate::heard::Heard;
 use crate::hearing::{hear, judge_heard};
@@ -36,11 +37,13 @@ use nr_peel::Peeler;
 use nr_ratematch::Buffer;
 use nr_segment::{Plan, code_blocks_are_long, plans_are_sound};
 use nr_shifttable::Table;
-use std::alloc::Global;
+use std::alloc::{AllocError, Global};
 use std::marker::Model;
 
 /// The receiver of one transport block: it keeps the first bit heard of each position of each code block, and what
-/// follows from them. It keeps its allocator. All memory but that of a delivered transport block is taken by `new`.
+/// follows from them. From where every position below K' is known it keeps the codewords of the one transport block that
+/// may explain all: a bit more for each position. It keeps its allocator. All memory but that of a delivered transport
+/// block is taken by `new`.
 #[derive(Drop)]
 pub struct Receiver<'t> {
     table: &'t Table,
@@ -50,7 +53,8 @@ pub struct Receiver<'t> {
     stores: Vec<Store>,
     peelers: Vec<Peeler<'t>>,
     block: Bits,
-    word: Word,
+    words: Vec<Word>,
+    standing: Standing,
     alloc: Global,
 }
 
@@ -66,7 +70,7 @@ impl<'t> Model for Receiver<'t> {
     } };
 
     ghost invariant = { λ x. IsReceiver (link_of x.table.now x.plan x.a x.buffer)
-        x.plan.b x.stores.items x.peelers.items x.block x.word };
+        x.plan.b x.stores.items x.peelers.items x.block x.words.items x.standing };
 }
 
 impl<'t> Receiver<'t> {
@@ -92,7 +96,7 @@ impl<'t> Receiver<'t> {
         let (plan, buffer) = agree(table, settings, a)?;
         let (stores, peelers) = parts(alloc, table, &plan)?;
         let block = Bits::with_room(alloc, plan.b)?;
-        let word = Word::new(alloc, &plan)?;
+        let words = blank_words(alloc, &plan)?;
         Ok(Receiver {
             table,
             plan,
@@ -101,14 +105,17 @@ impl<'t> Receiver<'t> {
             stores,
             peelers,
             block,
-            word,
+            words,
+            standing: Standing::Unread,
             alloc,
         })
     }
 
     /// Hears a transmission, place by place, and answers what may be handed up of all that was received so far
     /// (TS 38.212, 5.4.2 and 5.5): for every list of receptions of which `heard` is the record. A transport block is
-    /// delivered only where it explains all that arrived, and no other one does.
+    /// delivered only where it explains all that arrived, and no other one does. When every position below K' is known for
+    /// the first time, that block is encoded and compared with all that was heard; a later call compares only the bits
+    /// that it hears. So it costs its G places, the peelers' visits, and a copy of the block.
     ///
     /// # Errors
     ///
@@ -138,7 +145,7 @@ impl<'t> Receiver<'t> {
             → verdict answer ≢ contradiction) }
     {
         let lengths = judge_heard(&self.plan, tx, heard)?;
-        let list = Bits::with_room(self.alloc, self.a)?;
+        let list = Bits::zeros(self.alloc, self.a)?;
         accepted_are_matched();
         parts_are_at();
         places_have_one_owner();
@@ -146,14 +153,16 @@ impl<'t> Receiver<'t> {
         explained_is_delivered();
         delivered_is_only();
         explained_never_contradicts();
-        hear(
+        let agreed = hear(
             &self.buffer,
             tx,
             &lengths,
             heard,
             &mut self.stores,
             &mut self.peelers,
+            &self.words,
         );
+        self.standing = self.standing.after(agreed);
         Ok(self.answer(list))
     }
 
@@ -189,10 +198,30 @@ impl<'t> Receiver<'t> {
         &self.peelers[r as usize]
     }
 
-    // What may be handed up, in an empty list with the room.
-    fn answer(&mut self, list: Bits) -> Outcome
-        requires empty { list.items ≡ [] }
-        requires room { self.old.link.a ≤ list.room }
+    // What may be handed up, in a list of A bits.
+    fn answer(&mut self, mut list: Bits) -> Outcome
+        requires long { length list.items ≡ self.old.link.a }
+        ensures same { self.new ≡ self.old }
+        ensures decided { IsDecided self.old.link self.old.heard result }
+    {
+        plans_are_sound();
+        if !all_known(&self.peelers) {
+            return Outcome::Open;
+        }
+        match self.standing {
+            Standing::Unread => self.read(list),
+            Standing::Explains => {
+                copy_bits(&self.block, &mut list);
+                Outcome::Delivered(list)
+            }
+            Standing::Fails => Outcome::Contradiction,
+        }
+    }
+
+    // The same where every position below K' is known: reads the transport block, and keeps its codewords.
+    fn read(&mut self, list: Bits) -> Outcome
+        requires long { length list.items ≡ self.old.link.a }
+        requires all { all_fixed self.old.link self.old.heard ≡ true }
         ensures same { self.new ≡ self.old }
         ensures decided { IsDecided self.old.link self.old.heard result }
     {
@@ -200,20 +229,19 @@ impl<'t> Receiver<'t> {
         code_blocks_are_long();
         words_are_plain();
         plans_are_sound();
-        if !all_known(&self.peelers) {
-            return Outcome::Open;
-        }
-        let block = candidate(&self.plan, &self.peelers, self.a, list);
+        let block = candidate(&self.plan, &self.peelers, list);
         attach_in_room(&block, &mut self.block);
         if explains(
             self.table,
             &self.plan,
             &self.stores,
             &self.block,
-            &mut self.word,
+            &mut self.words,
         ) {
+            self.standing = Standing::Explains;
             Outcome::Delivered(block)
         } else {
+            self.standing = Standing::Fails;
             Outcome::Contradiction
         }
     }
@@ -243,4 +271,16 @@ fn parts<'t>(
         peelers.push_reserved(peeler);
     }
     Ok((stores, peelers))
+}
+
+// A word of each code block.
+fn blank_words(alloc: Global, plan: &Plan) -> Result<Vec<Word>, AllocError>
+    ensures { IfOk result (λ words. AreWords plan.now.c
+        (word_size plan.now.graph (numbers plan.now)) words.items) }
+{
+    let mut words = Vec::with_capacity(alloc, plan.c as usize)?;
+    for _ in 0..plan.c {
+        words.push_reserved(Word::new(alloc, plan)?);
+    }
+    Ok(words)
 }

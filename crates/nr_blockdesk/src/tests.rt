@@ -369,18 +369,25 @@ fn wide_receiver_of<'t>(alloc: Global, table: &'t Table) -> Result<Receiver<'t>,
     Ok(Receiver::new(alloc, table, PLAIN, 24)?)
 }
 
-/// So many places, of which zeros are heard, and a one at place `one`.
-fn zeros_but(alloc: Global, count: usize, one: usize) -> Result<Vec<Heard>, Fail> {
+/// So many places: nothing is heard before place `from`, and then zeros, and a one at place `one`.
+fn zeros_but(alloc: Global, from: usize, count: usize, one: usize) -> Result<Vec<Heard>, Fail> {
     let mut places = Vec::new(alloc);
     for m in 0..count {
-        places.push(if m == one { Heard::One } else { Heard::Zero })?;
+        let place = if m < from {
+            Heard::Erased
+        } else if m == one {
+            Heard::One
+        } else {
+            Heard::Zero
+        };
+        places.push(place)?;
     }
     Ok(places)
 }
 
 /// What a receiver of 24 bits answers to all 320 places of the buffer as zeros, but a one at place `one`.
 fn hears_all(alloc: Global, receiver: &mut Receiver<'_>, one: usize) -> Result<(u32, u8), Fail> {
-    let places = zeros_but(alloc, 320, one)?;
+    let places = zeros_but(alloc, 0, 320, one)?;
     Ok(takes(receiver, &places)?)
 }
 
@@ -446,5 +453,42 @@ fn a_flipped_parity_bit_contradicts(rt: HostRuntime) -> Result<(), Fail> {
     let table = practice(rt.alloc(), 0, 1, false)?;
     let mut receiver = wide_receiver_of(rt.alloc(), &table)?;
     assert_eq!(rt; hears_all(rt.alloc(), &mut receiver, 110)?, (2, 0));
+    Ok(())
+}
+
+/// What a receiver answers to zeros from place `from` on and before place `to`, but a one at place `one`.
+fn hears_zeros_but(
+    alloc: Global,
+    receiver: &mut Receiver<'_>,
+    from: usize,
+    to: usize,
+    one: usize,
+) -> Result<(u32, u8), Fail> {
+    let places = zeros_but(alloc, from, to, one)?;
+    Ok(takes(receiver, &places)?)
+}
+
+// The first 26 places are columns 2 to 5, and each 7 more are a parity column. Columns 20 and 21, places 96 to 109, are
+// columns 0 and 1 turned, and so the first 110 places fix all: the block of zeros. What comes after is heard for the
+// first time: zeros agree with the codeword of zeros, a one at place 110 doesn't, and no zeros make it good.
+#[test]
+fn a_contradiction_stays(rt: HostRuntime) -> Result<(), Fail> {
+    let table = practice(rt.alloc(), 0, 1, false)?;
+    let mut receiver = wide_receiver_of(rt.alloc(), &table)?;
+    for (from, to, one, answer) in [
+        (0, 24, 24, (0, 0)),
+        (24, 110, 110, (1, 0)),
+        (111, 120, 120, (1, 0)),
+        (0, 110, 110, (1, 0)),
+        (110, 111, 110, (2, 0)),
+        (0, 110, 110, (2, 0)),
+        (111, 130, 130, (2, 0)),
+    ] {
+        assert_eq!(rt;
+            hears_zeros_but(rt.alloc(), &mut receiver, from, to, one)?,
+            answer,
+            "{from} to {to}"
+        );
+    }
     Ok(())
 }

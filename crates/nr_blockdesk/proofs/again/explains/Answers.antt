@@ -4,10 +4,19 @@ use Rattle.std.proofs.lemmas.List.{get_or_read}
 use Rattle.nr_bitvec.specs.Bit.{bit}
 use Rattle.nr_harqbuf.specs.Record.{Heardbits}
 use Rattle.nr_ldpcenc.specs.Codeword.{codeword}
+use Rattle.nr_ldpcenc.specs.Rows.{word_size}
 use Rattle.nr_segment.specs.CodeBlock.{code_bits, numbers}
 use Rattle.nr_blockdesk.specs.Heard.{heard_of}
 use Rattle.nr_blockdesk.specs.Receiving.{Fits}
+use Rattle.nr_blockdesk.proofs.Kept.{words-more, words-set}
 use Rattle.nr_blockdesk.proofs.again.explains.Goals as goal
+
+pub encode_in-requires-clause-long : goal.encode_in-requires-clause-long
+encode_in-requires-clause-long c =
+    let r = c.loop-r.r in
+    let inv = c.loop-r.invariant in
+    let inside : r < length c.loop-r.words = omega (arith, inv.words.many, c.loop-r-test.true) in
+    inv.words.long r c.index-words-r.result inside
 
 pub agrees-requires : goal.agrees-requires
 agrees-requires c =
@@ -40,7 +49,10 @@ loop-r-preserved c =
     let one : Fits (heard_of c.args.stores.now r) (bit (coded r)) =
     subst (λ w. Fits (heard_of c.args.stores.now r) (bit w)) c.encode_in.ensures.encoded (subst (λ s. Fits s (bit c.encode_in.new.word)) is fits) in
     record {
-      long = c.encode_in.ensures.long;
+      words = words-set plan.c (word_size plan.graph (numbers plan)) c.loop-r.words r c.encode_in.new.word c.loop-r.invariant.words c.loop-r-test.true
+          c.encode_in.ensures.long;
+      encoded = words-more c.loop-r.words r c.encode_in.new.word coded (omega (arith, c.loop-r.invariant.words.many, c.loop-r-test.true))
+          c.encode_in.ensures.encoded c.loop-r.invariant.encoded;
       fits = λ q below. ⊎_elim
           (λ (here : q ≡ r). subst (λ k. Fits (heard_of c.args.stores.now k) (bit (coded k))) (sym here) one)
           (λ (there : q ≢ r). c.loop-r.invariant.fits q (omega (arith, below, there)))
@@ -49,3 +61,6 @@ loop-r-preserved c =
 
 pub returns-clause-fits : goal.returns-clause-fits
 returns-clause-fits c = λ _ r below. c.loop-r.invariant.fits r (omega (arith, below, c.loop-r-test.false))
+
+pub returns-clause-encoded : goal.returns-clause-encoded
+returns-clause-encoded c = λ _ r below. c.loop-r.invariant.encoded r (omega (arith, below, c.loop-r-test.false))

@@ -1,16 +1,18 @@
--- The codewords so far have every first bit.
-use Rattle.std.proofs.Common.{◌≡◌, ℕ, ◌<◌, length}
+-- The codewords so far are kept, and have every first bit.
+use Rattle.std.proofs.Common.{◌≡◌, ℕ, ◌<◌}
 use Rattle.nr_bitvec.specs.Bit.{bit}
 use Rattle.nr_ldpcenc.specs.Codeword.{codeword}
 use Rattle.nr_ldpcenc.specs.Rows.{word_size}
 use Rattle.nr_segment.specs.CodeBlock.{code_bits, numbers}
 use Rattle.nr_blockdesk.specs.Heard.{heard_of}
-use Rattle.nr_blockdesk.specs.Receiving.{Fits}
+use Rattle.nr_blockdesk.specs.Receiving.{AreWords, Fits, word_at}
 use Rattle.nr_blockdesk.proofs.again.explains.Given as goal
 
 abbrev pub invariant-loop-r : goal.invariant-loop-r
 invariant-loop-r l = record {
-  long : length l.word ≡ word_size l.plan.graph (numbers l.plan);
+  words : AreWords l.plan.c (word_size l.plan.graph (numbers l.plan)) l.words;
   fits : (q : ℕ) → q < l.r → Fits (heard_of l.stores q)
       (bit (codeword l.table l.plan.graph (numbers l.plan) (code_bits (numbers l.plan) l.list.items q)));
+  encoded : (q : ℕ) → q < l.r → word_at l.words q
+      ≡ codeword l.table l.plan.graph (numbers l.plan) (code_bits (numbers l.plan) l.list.items q);
 }

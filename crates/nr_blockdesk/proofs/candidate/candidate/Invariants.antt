@@ -1,12 +1,11 @@
--- The bits so far are read, and there is room for the others.
-use Rattle.std.proofs.Common.{◌≡◌, ℕ, ◌+◌, ◌<◌, ◌≤◌, length}
+-- The bits so far are read.
+use Rattle.std.proofs.Common.{◌≡◌, ℕ, ◌<◌, length}
 use Rattle.nr_segment.specs.CodeBlock.{numbers}
 use Rattle.nr_blockdesk.specs.Receiving.{IsRead}
 use Rattle.nr_blockdesk.proofs.candidate.candidate.Given as goal
 
 abbrev pub invariant-loop-i : goal.invariant-loop-i
 invariant-loop-i l = record {
-  long : length l.list.items ≡ l.i;
-  room : l.a ≤ l.i + l.list.room;
+  long : length l.list.items ≡ length l.fn.list.items;
   read : (i : ℕ) → i < l.i → IsRead (numbers l.plan) l.peelers l.list.items i;
 }

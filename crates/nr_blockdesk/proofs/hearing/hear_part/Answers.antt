@@ -1,14 +1,16 @@
-use Rattle.std.proofs.Common.{◌≡◌, ℕ, ◌+◌, ◌<◌, Bool, true, false, not, Some, None, ◌++◌, length, sym, ap, subst, ◌∙◌, arith}
+use Rattle.std.proofs.Common.{◌≡◌, ℕ, ◌+◌, ◌<◌, Bool, true, false, not, Some, None, ◌&&◌, ◌++◌, length, sym, ap, subst, ◌∙◌, arith}
+use Rattle.std.specs.Bool.{beq}
 use Rattle.std.proofs.lemmas.List.{get_or_default}
+use Rattle.nr_bitvec.specs.Bit.{bit}
 use Rattle.nr_harqbuf.specs.Record.{Heardbits, first_at, is_heard, record_of, with_hearing}
 use Rattle.nr_peel.specs.Peeling.{Peeling, checks_for}
 use Rattle.nr_ratematch.specs.Selection.{place_of}
 use Rattle.nr_interleave.specs.Interleaving.{seat_of}
 use Rattle.nr_blockdesk.specs.Explains.{heard_at}
 use Rattle.nr_blockdesk.specs.Hearing.{heard_bit}
-use Rattle.nr_blockdesk.specs.Receiving.{IsTied, part_hearings}
+use Rattle.nr_blockdesk.specs.Receiving.{Fits, IsTied, Tells, part_hearings}
 use Rattle.nr_blockdesk.specs.declared.heard.Heard.TheVariants as heard
-use Rattle.nr_blockdesk.proofs.Hears.{first-kept, first-long, first-set, heard-some, part-none, part-some, recorded-more, size-same, tied-again, tied-more}
+use Rattle.nr_blockdesk.proofs.Hears.{first-kept, first-long, first-set, fits-before, heard-some, part-none, part-some, recorded-more, size-same, tells-more, tied-again, tied-more}
 use Rattle.nr_blockdesk.proofs.hearing.hear_part.Goals as goal
 use Rattle.nr_blockdesk.proofs.hearing.hear_part.Goals.{in-Some, then-is_none, else-is_none, in_default}
 
@@ -20,7 +22,9 @@ loop-m-preserved c =
     let m = c.loop-m.m in
     let s : Heardbits = c.loop-m.store in
     let inv = c.loop-m.invariant in
-    let n : ℕ = length c.args.store.now.first in
+    let s₀ : Heardbits = c.args.store.now in
+    let heard-word : ℕ → Bool = bit c.args.word.now in
+    let n : ℕ = length s₀.first in
     elim c.match-bit.branch [
       | in-Some w ↦
           let pos : ℕ = w.place-pos.result in
@@ -57,6 +61,11 @@ loop-m-preserved c =
               ];
             };
             long = ap (λ (h : Heardbits). length h.first) store-is ∙ first-long s pos v ∙ inv.long;
+            fewer = λ f fits. inv.fewer f (fits-before s pos v f inside (subst (λ (h : Heardbits). Fits h f) store-is fits));
+            told = subst (λ b. Tells b heard-word s₀ c.match-bit.store)
+                (sym (w.agreed-is ∙ ap (λ b. c.loop-m.agreed && beq b v) w.get.ensures))
+                (subst (λ (h : Heardbits). Tells (c.loop-m.agreed && beq (heard-word pos) v) heard-word s₀ h) (sym store-is)
+                (tells-more s pos v heard-word inside c.loop-m.agreed s₀ inv.told));
           }
       | in_default w ↦
           let none : heard_bit (heard_at places m) ≡ None =
@@ -70,5 +79,8 @@ loop-m-preserved c =
               peeled = ap (λ (q : Peeling). (checks_for q).size) w.peeler-is ∙ inv.sized.peeled;
             };
             long = ap (λ (h : Heardbits). length h.first) w.store-is ∙ inv.long;
+            fewer = λ f fits. inv.fewer f (subst (λ (h : Heardbits). Fits h f) w.store-is fits);
+            told = subst (λ b. Tells b heard-word s₀ c.match-bit.store) (sym w.agreed-is)
+                (subst (λ (h : Heardbits). Tells c.loop-m.agreed heard-word s₀ h) (sym w.store-is) inv.told);
           }
     ]

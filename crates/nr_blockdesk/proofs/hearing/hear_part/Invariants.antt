@@ -1,9 +1,10 @@
--- The places so far are heard, and what is given to the peeler is what was heard.
-use Rattle.std.proofs.Common.{◌≡◌, ◌*◌, List, ◌++◌, length}
+-- The places so far are heard, what is given to the peeler is what was heard, and the word was compared with it.
+use Rattle.std.proofs.Common.{◌≡◌, ℕ, ◌*◌, Bool, List, ◌++◌, length}
+use Rattle.nr_bitvec.specs.Bit.{bit}
 use Rattle.nr_graphpick.specs.Graph.{cols_of}
 use Rattle.nr_harqbuf.specs.Record.{Hearing, record_of}
 use Rattle.nr_blockdesk.specs.Link.{Link}
-use Rattle.nr_blockdesk.specs.Receiving.{IsSized, IsTied, part_hearings}
+use Rattle.nr_blockdesk.specs.Receiving.{Fits, IsSized, IsTied, Tells, part_hearings}
 use Rattle.nr_blockdesk.proofs.hearing.hear_part.Given as goal
 
 abbrev pub invariant-loop-m : goal.invariant-loop-m
@@ -13,4 +14,6 @@ invariant-loop-m l = record {
   tied : (link : Link) → IsTied link l.fn.store l.fn.peeler → IsTied link l.store l.peeler;
   sized : IsSized (cols_of l.buffer.graph * l.buffer.z) l.store l.peeler;
   long : length l.store.first ≡ length l.fn.store.first;
+  fewer : (w : ℕ → Bool) → Fits l.store w → Fits l.fn.store w;
+  told : Tells l.agreed (bit l.word) l.fn.store l.store;
 }

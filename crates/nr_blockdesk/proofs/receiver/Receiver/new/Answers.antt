@@ -1,8 +1,5 @@
-use Rattle.std.proofs.Common.{false, Err, length, ap, ◌∙◌, arith}
-use Rattle.std.proofs.lemmas.List.{length-replicate}
+use Rattle.std.proofs.Common.{Err, ap, ◌∙◌, arith}
 use Rattle.std.proofs.lemmas.Result.{err_from_is_err_and}
-use Rattle.nr_ldpcenc.specs.Rows.{word_size}
-use Rattle.nr_segment.specs.CodeBlock.{numbers}
 use Rattle.nr_blockdesk.specs.Link.{link_of, link_said}
 use Rattle.nr_blockdesk.proofs.Decided.{desk-new, record-new}
 use Rattle.nr_blockdesk.proofs.Links.{link-never_memory, no-memory}
@@ -24,7 +21,8 @@ invariant_of-result c =
       desk = desk-new c.plans_are_sound.ensures link c.in_ok-stores.stores.items c.in_ok-stores.peelers.items c.in_ok-plan.ensures.link
           c.in_ok-stores.ensures.all.0 c.in_ok-stores.ensures.all.1 c.in_ok-stores.ensures.empty c.in_ok-stores.ensures.started;
       room = omega (arith, c.in_ok-block.ensures.room);
-      long = ap length c.in_ok-word.ensures ∙ length-replicate (word_size plan.graph (numbers plan)) false;
+      sized = c.in_ok-words.ensures;
+      stands = tt;
     }
 
 pub returns-clause-empty : goal.returns-clause-empty

@@ -6,11 +6,12 @@ use Rattle.nr_peel.specs.Peeling.{Peeling}
 use Rattle.nr_blockdesk.specs.Explains.{Reception, reception, reception_said_of}
 use Rattle.nr_blockdesk.specs.Heard.{IsRecordOf, heard_of}
 use Rattle.nr_blockdesk.specs.Link.{link_of}
-use Rattle.nr_blockdesk.specs.Receiving.{IsDesk, IsSized, Receiving}
+use Rattle.nr_blockdesk.specs.Receiving.{AllTell, IsDesk, IsSized, Receiving, Stands}
 use Rattle.nr_blockdesk.proofs.Decided.{outcome-of_record, sized-of}
 use Rattle.nr_blockdesk.proofs.Hears.{written}
+use Rattle.nr_blockdesk.proofs.Kept.{stands-after, told-of}
 use Rattle.nr_blockdesk.proofs.Links.{no-memory}
-use Rattle.nr_blockdesk.proofs.Taking.{AreHeard, all-taken, desk-taken, parts-are, reception-never_memory}
+use Rattle.nr_blockdesk.proofs.Taking.{AreHeard, all-taken, desk-taken, none-of, parts-are, reception-never_memory}
 use Rattle.nr_blockdesk.proofs.receiver.Receiver.take.Goals as goal
 
 pub returns-in_err-lengths-clause-judged : goal.returns-in_err-lengths-clause-judged
@@ -21,8 +22,8 @@ returns-in_err-lengths-clause-judged c =
     (no-memory (reception_said_of c.self.inside.plan.c x) c.from_residual.result c.in_err-lengths.field-0.0 (p.1 ∙ ap Err p.2)
     c.in_err-lengths.ensures.said (reception-never_memory c.self.inside.plan.c x))
 
-pub hear-requires-clause-sized : goal.hear-requires-clause-sized
-hear-requires-clause-sized c = λ r d inside.
+pub hear-agreed-requires-clause-sized : goal.hear-agreed-requires-clause-sized
+hear-agreed-requires-clause-sized c = λ r d inside.
     let s = c.self.inside in
     let inv = c.self.invariant in
     let link = link_of s.table.now s.plan s.a s.buffer in
@@ -42,16 +43,19 @@ invariant_of-self c =
     let es = c.in_ok-lengths.lengths.items in
     let S : List Heardbits = s.stores.items in
     let P : List Peeling = s.peelers.items in
-    let S' : List Heardbits = c.hear.new.stores in
-    let P' : List Peeling = c.hear.new.peelers in
+    let S' : List Heardbits = c.hear-agreed.new.stores in
+    let P' : List Peeling = c.hear-agreed.new.peelers in
     let are : AreHeard link tx es places S P S' P' =
     parts-are link tx es c.deref.result.now places S c.deref_mut.result.now S' P c.deref_mut-2.result.now P'
-    c.deref.ensures.0 c.deref_mut.ensures.value c.deref_mut-2.ensures.value inv.desk.stores c.hear.ensures.parts in
-    let many : length S' ≡ length S = c.hear.ensures.stores ∙ ap length c.deref_mut.ensures.value in
-    let peeled : length P' ≡ length P = c.hear.ensures.peelers ∙ ap length c.deref_mut-2.ensures.value in
+    c.deref.ensures.0 c.deref_mut.ensures.value c.deref_mut-2.ensures.value inv.desk.stores c.hear-agreed.ensures.parts in
+    let many : length S' ≡ length S = c.hear-agreed.ensures.stores ∙ ap length c.deref_mut.ensures.value in
+    let peeled : length P' ≡ length P = c.hear-agreed.ensures.peelers ∙ ap length c.deref_mut-2.ensures.value in
     let stores-whole : length S' ≡ s.stores.len = omega (arith, many, s.stores.ok.0) in
     let peelers-whole : length P' ≡ s.peelers.len = omega (arith, peeled, s.peelers.ok.0) in
     let kept : take s.stores.len (S' ++ drop (length S') S) ≡ S' = written s.stores.len S' (drop (length S') S) stores-whole in
+    let told : AllTell c.hear-agreed.result s.plan.c s.words.items S S' =
+    told-of c.hear-agreed.result s.plan.c s.words.items c.deref-2.result.now S c.deref_mut.result.now S' c.deref-2.ensures.value c.deref_mut.ensures.value
+    inv.desk.stores c.hear-agreed.ensures.agreed in
     let kept-too : take s.peelers.len (P' ++ drop (length P') P) ≡ P' = written s.peelers.len P' (drop (length P') P) peelers-whole in
     record {
       is_link = inv.is_link;
@@ -60,7 +64,11 @@ invariant_of-self c =
           (subst (λ (l : List Peeling). IsDesk link S' l) (sym kept-too)
           (desk-taken link tx es places S S' P P' inv.desk (many ∙ inv.desk.stores) (peeled ∙ inv.desk.peelings) are));
       room = inv.room;
-      long = inv.long;
+      sized = inv.sized;
+      stands = subst (λ (l : List Heardbits). Stands link l s.block.items s.words.items c.after-self-inside.result) (sym kept)
+          (subst (Stands link S' s.block.items s.words.items) (sym c.after-self-inside.ensures)
+          (stands-after link S S' (λ r w block. (are r (none-of link) block).fewer w) s.block.items s.words.items c.hear-agreed.result s.standing
+          told inv.stands));
     }
 
 pub returns-clause-heard : goal.returns-clause-heard
@@ -73,13 +81,13 @@ returns-clause-heard c =
     let es = c.in_ok-lengths.lengths.items in
     let S : List Heardbits = s.stores.items in
     let P : List Peeling = s.peelers.items in
-    let S' : List Heardbits = c.hear.new.stores in
-    let P' : List Peeling = c.hear.new.peelers in
+    let S' : List Heardbits = c.hear-agreed.new.stores in
+    let P' : List Peeling = c.hear-agreed.new.peelers in
     let are : AreHeard link tx es places S P S' P' =
     parts-are link tx es c.deref.result.now places S c.deref_mut.result.now S' P c.deref_mut-2.result.now P'
-    c.deref.ensures.0 c.deref_mut.ensures.value c.deref_mut-2.ensures.value inv.desk.stores c.hear.ensures.parts in
-    let many : length S' ≡ length S = c.hear.ensures.stores ∙ ap length c.deref_mut.ensures.value in
-    let peeled : length P' ≡ length P = c.hear.ensures.peelers ∙ ap length c.deref_mut-2.ensures.value in
+    c.deref.ensures.0 c.deref_mut.ensures.value c.deref_mut-2.ensures.value inv.desk.stores c.hear-agreed.ensures.parts in
+    let many : length S' ≡ length S = c.hear-agreed.ensures.stores ∙ ap length c.deref_mut.ensures.value in
+    let peeled : length P' ≡ length P = c.hear-agreed.ensures.peelers ∙ ap length c.deref_mut-2.ensures.value in
     let stores-whole : length S' ≡ s.stores.len = omega (arith, many, s.stores.ok.0) in
     let peelers-whole : length P' ≡ s.peelers.len = omega (arith, peeled, s.peelers.ok.0) in
     let kept : take s.stores.len (S' ++ drop (length S') S) ≡ S' = written s.stores.len S' (drop (length S') S) stores-whole in
@@ -101,13 +109,13 @@ returns-clause-outcome c =
     let es = c.in_ok-lengths.lengths.items in
     let S : List Heardbits = s.stores.items in
     let P : List Peeling = s.peelers.items in
-    let S' : List Heardbits = c.hear.new.stores in
-    let P' : List Peeling = c.hear.new.peelers in
+    let S' : List Heardbits = c.hear-agreed.new.stores in
+    let P' : List Peeling = c.hear-agreed.new.peelers in
     let are : AreHeard link tx es places S P S' P' =
     parts-are link tx es c.deref.result.now places S c.deref_mut.result.now S' P c.deref_mut-2.result.now P'
-    c.deref.ensures.0 c.deref_mut.ensures.value c.deref_mut-2.ensures.value inv.desk.stores c.hear.ensures.parts in
-    let many : length S' ≡ length S = c.hear.ensures.stores ∙ ap length c.deref_mut.ensures.value in
-    let peeled : length P' ≡ length P = c.hear.ensures.peelers ∙ ap length c.deref_mut-2.ensures.value in
+    c.deref.ensures.0 c.deref_mut.ensures.value c.deref_mut-2.ensures.value inv.desk.stores c.hear-agreed.ensures.parts in
+    let many : length S' ≡ length S = c.hear-agreed.ensures.stores ∙ ap length c.deref_mut.ensures.value in
+    let peeled : length P' ≡ length P = c.hear-agreed.ensures.peelers ∙ ap length c.deref_mut-2.ensures.value in
     let stores-whole : length S' ≡ s.stores.len = omega (arith, many, s.stores.ok.0) in
     let peelers-whole : length P' ≡ s.peelers.len = omega (arith, peeled, s.peelers.ok.0) in
     let kept : take s.stores.len (S' ++ drop (length S') S) ≡ S' = written s.stores.len S' (drop (length S') S) stores-whole in
@@ -131,13 +139,13 @@ returns-clause-only_one c =
     let es = c.in_ok-lengths.lengths.items in
     let S : List Heardbits = s.stores.items in
     let P : List Peeling = s.peelers.items in
-    let S' : List Heardbits = c.hear.new.stores in
-    let P' : List Peeling = c.hear.new.peelers in
+    let S' : List Heardbits = c.hear-agreed.new.stores in
+    let P' : List Peeling = c.hear-agreed.new.peelers in
     let are : AreHeard link tx es places S P S' P' =
     parts-are link tx es c.deref.result.now places S c.deref_mut.result.now S' P c.deref_mut-2.result.now P'
-    c.deref.ensures.0 c.deref_mut.ensures.value c.deref_mut-2.ensures.value inv.desk.stores c.hear.ensures.parts in
-    let many : length S' ≡ length S = c.hear.ensures.stores ∙ ap length c.deref_mut.ensures.value in
-    let peeled : length P' ≡ length P = c.hear.ensures.peelers ∙ ap length c.deref_mut-2.ensures.value in
+    c.deref.ensures.0 c.deref_mut.ensures.value c.deref_mut-2.ensures.value inv.desk.stores c.hear-agreed.ensures.parts in
+    let many : length S' ≡ length S = c.hear-agreed.ensures.stores ∙ ap length c.deref_mut.ensures.value in
+    let peeled : length P' ≡ length P = c.hear-agreed.ensures.peelers ∙ ap length c.deref_mut-2.ensures.value in
     let stores-whole : length S' ≡ s.stores.len = omega (arith, many, s.stores.ok.0) in
     let peelers-whole : length P' ≡ s.peelers.len = omega (arith, peeled, s.peelers.ok.0) in
     let kept : take s.stores.len (S' ++ drop (length S') S) ≡ S' = written s.stores.len S' (drop (length S') S) stores-whole in
@@ -163,13 +171,13 @@ returns-clause-no_contradiction c =
     let es = c.in_ok-lengths.lengths.items in
     let S : List Heardbits = s.stores.items in
     let P : List Peeling = s.peelers.items in
-    let S' : List Heardbits = c.hear.new.stores in
-    let P' : List Peeling = c.hear.new.peelers in
+    let S' : List Heardbits = c.hear-agreed.new.stores in
+    let P' : List Peeling = c.hear-agreed.new.peelers in
     let are : AreHeard link tx es places S P S' P' =
     parts-are link tx es c.deref.result.now places S c.deref_mut.result.now S' P c.deref_mut-2.result.now P'
-    c.deref.ensures.0 c.deref_mut.ensures.value c.deref_mut-2.ensures.value inv.desk.stores c.hear.ensures.parts in
-    let many : length S' ≡ length S = c.hear.ensures.stores ∙ ap length c.deref_mut.ensures.value in
-    let peeled : length P' ≡ length P = c.hear.ensures.peelers ∙ ap length c.deref_mut-2.ensures.value in
+    c.deref.ensures.0 c.deref_mut.ensures.value c.deref_mut-2.ensures.value inv.desk.stores c.hear-agreed.ensures.parts in
+    let many : length S' ≡ length S = c.hear-agreed.ensures.stores ∙ ap length c.deref_mut.ensures.value in
+    let peeled : length P' ≡ length P = c.hear-agreed.ensures.peelers ∙ ap length c.deref_mut-2.ensures.value in
     let stores-whole : length S' ≡ s.stores.len = omega (arith, many, s.stores.ok.0) in
     let peelers-whole : length P' ≡ s.peelers.len = omega (arith, peeled, s.peelers.ok.0) in
     let kept : take s.stores.len (S' ++ drop (length S') S) ≡ S' = written s.stores.len S' (drop (length S') S) stores-whole in

@@ -1,0 +1,91 @@
+-- What a receiver keeps of the one transport block that may explain what was heard.
+use Rattle.std.proofs.Common.{◌≡◌, ◌≢◌, ℕ, ◌+◌, ◌<◌, Bool, true, false, List, [], length, set, take, sym, ap, subst, ◌∙◌, ⊎_elim, length-append, arith}
+use Rattle.std.proofs.lemmas.Bool.{cases_eq}
+use Rattle.std.proofs.lemmas.Grind.{get_or-set_at}
+use Rattle.std.proofs.lemmas.List.{get_or-set_other, length-set}
+use Rattle.std.proofs.Math.Seq.{take-append_seam}
+use Rattle.nr_bitvec.specs.Bit.{bit}
+use Rattle.nr_crcattach.specs.Attachment.{attached, block_poly}
+use Rattle.nr_crcattach.specs.Crc.{crc_of, degree, high_first}
+use Rattle.nr_harqbuf.specs.Record.{Heardbits}
+use Rattle.nr_ldpcenc.specs.Codeword.{codeword}
+use Rattle.nr_segment.specs.CodeBlock.{code_bits}
+use Rattle.nr_blockdesk.specs.Heard.{heard_of}
+use Rattle.nr_blockdesk.specs.Link.{IsBlock, Link, word}
+use Rattle.nr_blockdesk.specs.Outcome.{ExplainedBy}
+use Rattle.nr_blockdesk.specs.Receiving.{AllTell, AreWords, Fits, IsExplained, Stands, standing_after, word_at}
+use Rattle.nr_blockdesk.specs.declared.candidate.Standing.{Standing}
+use Rattle.nr_blockdesk.specs.declared.candidate.Standing.TheVariants as standing
+
+-- one word is another one of as many bits
+pub words-set : (c n : ℕ) (words : List (List Bool)) (r : ℕ) (w : List Bool) → AreWords c n words → r < c → length w ≡ n → AreWords c n (set words r w)
+words-set c n words r w are block long = record {
+  many = length-set words r w ∙ are.many;
+  long = λ k d inside. ⊎_elim
+      (λ (here : k ≡ r). ap length (get_or-set_at words r k w d here (omega (arith, are.many, block))) ∙ long)
+      (λ (there : k ≢ r). ap length (get_or-set_other words r k w d there)
+      ∙ are.long k d (omega (arith, inside, length-set words r w)))
+      (cases_eq k r);
+}
+
+-- one code block more has its word
+pub words-more : (words : List (List Bool)) (r : ℕ) (w : List Bool) (f : ℕ → List Bool) → r < length words → w ≡ f r
+    → ((q : ℕ) → q < r → word_at words q ≡ f q) → (q : ℕ) → q < r + 1 → word_at (set words r w) q ≡ f q
+words-more words r w f inside is before q below = ⊎_elim
+    (λ (here : q ≡ r). get_or-set_at words r q w [] here inside ∙ is ∙ ap f (sym here))
+    (λ (there : q ≢ r). get_or-set_other words r q w [] there ∙ before q (omega (arith, below, there)))
+    (cases_eq q r)
+
+-- A record that was heard after another.
+module _ (link : Link) (S T : List Heardbits) (fewer : (r : ℕ) (w : ℕ → Bool) → r < link.plan.c → Fits (heard_of T r) w → Fits (heard_of S r) w) where
+  explained-before : (y : List Bool) → ExplainedBy link T y → ExplainedBy link S y
+  explained-before y by r inside = fewer r (bit (word link y r)) inside (by r inside)
+
+  -- how the one transport block that may explain all stands, once its codewords were compared with what was heard
+  pub stands-after : (list : List Bool) (words : List (List Bool)) (agreed : Bool) (st : Standing) → AllTell agreed link.plan.c words S T
+      → Stands link S list words st → Stands link T list words (standing_after st agreed)
+  stands-after list words agreed standing.Unread tells stands = tt
+  stands-after list words true standing.Explains tells stands = record {
+    held = stands.held;
+    explains = λ r inside.
+        subst (λ (w : List Bool). Fits (heard_of T r) (bit w)) (stands.coded r inside)
+        (tells r inside (subst (λ (w : List Bool). Fits (heard_of S r) (bit w)) (sym (stands.coded r inside)) (stands.explains r inside)));
+    only = λ y whole by. stands.only y whole (explained-before y by);
+    coded = stands.coded;
+  }
+  stands-after list words false standing.Explains tells stands = λ y whole by.
+      let is : y ≡ take link.a list = stands.only y whole (explained-before y by) in
+      tells (λ r inside.
+      subst (λ (w : List Bool). Fits (heard_of T r) (bit w)) (sym (stands.coded r inside))
+      (subst (λ (x : List Bool). Fits (heard_of T r) (bit (word link x r))) is (by r inside)))
+  stands-after list words agreed standing.Fails tells stands = λ y whole by. stands y whole (explained-before y by)
+
+-- the one transport block that may explain all, read and encoded, is kept
+pub kept-read : (link : Link) (records : List Heardbits) (list bits : List Bool) (words : List (List Bool)) → list ≡ attached bits → IsBlock link bits
+    → ExplainedBy link records bits → ((y : List Bool) → IsBlock link y → ExplainedBy link records y → y ≡ bits)
+    → ((r : ℕ) → r < link.plan.c → word_at words r ≡ codeword link.table link.graph link.plan (code_bits link.plan list r))
+    → IsExplained link records list words
+unfolding word
+kept-read link records list bits words list-is whole by only coded = record {
+  held = omega (arith, ap length list-is, length-append bits check, whole);
+  explains = subst (ExplainedBy link records) (sym begins) by;
+  only = λ y long y-by. only y long y-by ∙ sym begins;
+  coded = λ r inside.
+      coded r inside
+      ∙ ap (λ (l : List Bool). codeword link.table link.graph link.plan (code_bits link.plan l r)) list-is
+      ∙ ap (λ (x : List Bool). word link x r) (sym begins);
+}
+  where
+    check : List Bool
+    check = high_first (degree (block_poly bits)) (crc_of (block_poly bits) bits)
+
+    begins : take link.a list ≡ bits
+    begins = ap (take link.a) list-is ∙ ap (λ n. take n (attached bits)) (sym whole) ∙ take-append_seam bits check
+
+-- what was heard agrees with the words or not, of the receiver's own lists
+pub told-of : (agreed : Bool) (c : ℕ) (words words₁ : List (List Bool)) (S S₁ T : List Heardbits) → words₁ ≡ words → S₁ ≡ S → length S ≡ c
+    → AllTell agreed (length S₁) words₁ S₁ T → AllTell agreed c words S T
+told-of agreed c words words₁ S S₁ T words-is S-is many tells =
+    subst (λ n. AllTell agreed n words S T) many
+    (subst (λ (l : List Heardbits). AllTell agreed (length l) words l T) S-is
+    (subst (λ (l : List (List Bool)). AllTell agreed (length S₁) l S₁ T) words-is tells))
