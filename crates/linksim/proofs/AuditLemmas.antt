@@ -1,5 +1,5 @@
 -- The text of `audit`, line by line.
-use Rattle.std.proofs.Common.{◌≡◌, ℕ, zero, suc, ◌+◌, ◌<◌, ◌≤◌, ◌==◌, ◌&&◌, ◌⊎◌, inl, inr, Bool, true, false, not, if◌then◌else◌, Result, Ok, Err, None, Some, List, [], ◌∷◌, ◌++◌, length, take, drop, flat_map, get_or, codes, ap, sym, subst, ◌∙◌, refl, arith, append_assoc, cond}
+use Rattle.std.proofs.Common.{◌≡◌, ℕ, zero, suc, ◌+◌, ◌<◌, ◌≤◌, ◌==◌, ◌&&◌, ◌⊎◌, inl, inr, Bool, true, false, not, if◌then◌else◌, Result, Ok, Err, None, Some, List, [], ◌∷◌, ◌++◌, All, length, take, drop, flat_map, get_or, codes, ap, sym, subst, ◌∙◌, refl, arith, append_assoc, length-append, cond}
 use Rattle.std.proofs.lemmas.Grind.{flat_map-append}
 use Rattle.std.proofs.lemmas.List.{append-nil, map-id, take_more}
 use Rattle.std.proofs.lemmas.List.Elements.{filter-append}
@@ -23,13 +23,16 @@ use Rattle.nr_blockdesk.specs.Link.{IsLink, Link, attached_length}
 use Rattle.nr_blockdesk.specs.Outcome.{fixed, given, left}
 use Rattle.nr_blockdesk.specs.Receiving.{Receiving}
 use Rattle.nr_blockdesk.specs.Sent.{Sending}
-use Rattle.linksim.specs.AuditText.{HasHeard, audit_block, audit_line, audit_lines, audit_of, audit_said, gained, order_line, position_word, steps_of, stuck_line, unfixed}
-use Rattle.linksim.specs.RunText.{own, received, received_of}
+use Rattle.linksim.specs.AuditText.{HasHeard, audit_block, audit_line, audit_lines, audit_of, gained, order_line, position_word, steps_of, stuck_line, unfixed}
+use Rattle.linksim.specs.ProcessTexts.{audit_by, audit_said, text_of_audit}
+use Rattle.linksim.specs.Rounds.{IsOfBlock, of_process}
+use Rattle.linksim.specs.RunText.{received, received_of}
 use Rattle.linksim.specs.Inputs.{Given, Ready, files_said, inputs_said, senders_from}
 use Rattle.linksim.specs.declared.fault.RunFault.{RunFault}
 use Rattle.linksim.specs.declared.fault.RunFault.TheVariants as faults
 use Rattle.linksim.specs.declared.schedule.Transmission.{Transmission}
 use Rattle.linksim.proofs.InputLemmas.{inputs_said-ready, inputs_said-refused, inputs_said-unsent}
+use Rattle.linksim.proofs.RoundLaws.{own-block}
 use Rattle.linksim.proofs.RunLines.{some-lines}
 use Rattle.linksim.proofs.WrittenLemmas.{some_at_end}
 
@@ -56,7 +59,7 @@ unfolding stuck_line
 stuck_line-some n r positions =
     some_at_end (codes "stuck " ++ decimal n ++ codes " " ++ decimal r ++ codes " " ++ decimal (length positions) ++ flat_map position_word positions)
 
-pub audit_line-some : (n : ℕ) (link : Link) (records : List Heardbits) (r : ℕ) → 0 < length (audit_line n link records r)
+audit_line-some : (n : ℕ) (link : Link) (records : List Heardbits) (r : ℕ) → 0 < length (audit_line n link records r)
 unfolding audit_line
 audit_line-some n link records r = go (left link records r == 0)
   where
@@ -175,45 +178,55 @@ audit_lines-more schedule n (x ∷ xs) (suc i) sender none within is =
     ∙ ap (λ k. front ++ audit_of schedule k sender) next)
     ∙ sym (append_assoc first front (audit_of schedule (suc i + n) sender))
 
--- what is received of a block with one transmission more: its own, and that of another block
-pub received-next : (n : ℕ) (sender : Sending) (xs : List Transmission) (i : ℕ) (x none : Transmission) → i < length xs → x ≡ get_or xs i none
-    → received sender (own n (take (i + 1) xs)) ≡ received sender (own n (take i xs)) ++ received sender (own n (x ∷ []))
-received-next n sender xs i x none within is =
-    ap (λ (l : List Transmission). received sender (own n l)) (take_more xs i none within ∙ ap (λ (y : Transmission). take i xs ++ y ∷ []) (sym is))
-    ∙ ap (received sender) (filter-append (λ y. y.block == n) (take i xs) (x ∷ []))
-    ∙ flat_map-append (received_of sender) (own n (take i xs)) (own n (x ∷ []))
+-- what is received of a process with one transmission more: its own, and that of another process
+pub received-next : (p : ℕ) (sender : Sending) (xs : List Transmission) (i : ℕ) (x none : Transmission) → i < length xs → x ≡ get_or xs i none
+    → received sender (of_process p (take (i + 1) xs)) ≡ received sender (of_process p (take i xs)) ++ received sender (of_process p (x ∷ []))
+received-next p sender xs i x none within is =
+    ap (λ (l : List Transmission). received sender (of_process p l)) (take_more xs i none within ∙ ap (λ (y : Transmission). take i xs ++ y ∷ []) (sym is))
+    ∙ ap (received sender) (filter-append (λ y. y.process == p) (take i xs) (x ∷ []))
+    ∙ flat_map-append (received_of sender) (of_process p (take i xs)) (of_process p (x ∷ []))
 
--- one transmission is the block's own, or is not
-pub received-own : (n : ℕ) (sender : Sending) (x : Transmission) → (x.block == n) ≡ true → received sender (own n (x ∷ [])) ≡ received_of sender x
-received-own n sender x mine =
+-- one transmission is the process's own, or is not
+pub received-own : (p : ℕ) (sender : Sending) (x : Transmission) → (x.process == p) ≡ true → received sender (of_process p (x ∷ [])) ≡ received_of sender x
+received-own p sender x mine =
     ap (λ (b : Bool). received sender (cond b (x ∷ []) [])) mine ∙ append-nil (received_of sender x)
 
-pub received-other : (n : ℕ) (sender : Sending) (x : Transmission) → (x.block == n) ≡ false → received sender (own n (x ∷ [])) ≡ []
-received-other n sender x other = ap (λ (b : Bool). received sender (cond b (x ∷ []) [])) other
+pub received-other : (p : ℕ) (sender : Sending) (x : Transmission) → (x.process == p) ≡ false → received sender (of_process p (x ∷ [])) ≡ []
+received-other p sender x other = ap (λ (b : Bool). received sender (cond b (x ∷ []) [])) other
 
 -- a receiver that hears nothing more
 pub heard_same : (sender : Sending) (list more : List Reception) (receiver : Receiving) → more ≡ [] → HasHeard sender list receiver → HasHeard sender (list ++ more) receiver
 heard_same sender list more receiver none has =
     subst (λ (l : List Reception). HasHeard sender l receiver) (sym (ap (λ (l : List Reception). list ++ l) none ∙ append-nil list)) has
 
--- a block's lines by the receiver that heard all
-pub audit_block-heard : (schedule : List Transmission) (n : ℕ) (sender : Sending) (receiver : Receiving) → HasHeard sender (received sender (own n schedule)) receiver
-    → audit_block n receiver.link receiver.heard ≡ audit_of schedule n sender
-audit_block-heard schedule n sender receiver has =
-    ap (λ (l : Link). audit_block n l receiver.heard) has.link ∙ ap (audit_block n sender.link) has.heard.same
+-- a block's lines by the receiver that heard this list
+pub audit_block-heard : (head : List ℕ) (n : ℕ) (sender : Sending) (list : List Reception) (receiver : Receiving) → HasHeard sender list receiver
+    → audit_block head n receiver.link receiver.heard ≡ audit_block head n sender.link (heard_record sender.link list)
+audit_block-heard head n sender list receiver has =
+    ap (λ (l : Link). audit_block head n l receiver.heard) has.link ∙ ap (audit_block head n sender.link) has.heard.same
 
--- they are not empty, since there is a code block
-pub audit_of-some : PlansAreSound → (schedule : List Transmission) (n : ℕ) (sender : Sending) → IsLink sender.link → 0 < length (audit_of schedule n sender)
-audit_of-some sound schedule n sender is =
-    let link = sender.link in
-    let records = heard_record link (received sender (own n schedule)) in
+-- the same where each block has a process of its number
+pub audit_of-heard : (schedule : List Transmission) (n : ℕ) (sender : Sending) (receiver : Receiving) → All IsOfBlock schedule → HasHeard sender (received sender (of_process n schedule)) receiver
+    → audit_block [] n receiver.link receiver.heard ≡ audit_of schedule n sender
+audit_of-heard schedule n sender receiver placed has =
+    audit_block-heard [] n sender (received sender (of_process n schedule)) receiver has
+    ∙ ap (λ (xs : List Transmission). audit_block [] n sender.link (heard_record sender.link (received sender xs))) (own-block n schedule placed)
+
+-- a line behind its first words is not empty
+pub behind-some : (head : List ℕ) (n : ℕ) (link : Link) (records : List Heardbits) (r : ℕ) → 0 < length (head ++ audit_line n link records r)
+behind-some head n link records r =
+    omega (arith, audit_line-some n link records r, length-append head (audit_line n link records r))
+
+-- a block's lines are not empty, since there is a code block
+pub audit_block-some : PlansAreSound → (head : List ℕ) (n : ℕ) (link : Link) (records : List Heardbits) → IsLink link → 0 < length (audit_block head n link records)
+audit_block-some sound head n link records is =
     let plan = sound link.graph (attached_length link.a) link.plan is.planned in
-    some-lines (audit_line n link records) link.plan.c (audit_line-some n link records) plan.some
+    some-lines (λ r. head ++ audit_line n link records r) link.plan.c (behind-some head n link records) plan.some
 
 -- what `audit` says by what it works from
-audit_said-inputs : (t s b d : List ℕ) (said : Result Ready RunFault) → inputs_said t s b d ≡ said → audit_said t s b d ≡ (said >>= λ inputs. Ok (audit_lines inputs.schedule 1 inputs.senders))
+audit_said-inputs : (t s b d : List ℕ) (said : Result Ready RunFault) → inputs_said t s b d ≡ said → audit_said t s b d ≡ (said >>= λ inputs. Ok (text_of_audit inputs.senders inputs.schedule))
 unfolding audit_said
-audit_said-inputs t s b d said is = ap (λ r. r >>= λ inputs. Ok (audit_lines inputs.schedule 1 inputs.senders)) is
+audit_said-inputs t s b d said is = ap (λ r. r >>= λ inputs. Ok (text_of_audit inputs.senders inputs.schedule)) is
 
 -- a refusal of the files, and of a transport block
 pub audit_said-refused : (t s b d : List ℕ) (e : RunFault) → (e ≡ faults.Memory) ⊎ (files_said t s b d ≡ Err e) → (e ≡ faults.Memory) ⊎ (audit_said t s b d ≡ Err e)
@@ -224,7 +237,8 @@ pub audit_said-unsent : (t s b d : List ℕ) (files : Given) (e : RunFault) → 
 audit_said-unsent t s b d files e first (inl is) = inl is
 audit_said-unsent t s b d files e first (inr is) = inr (audit_said-inputs t s b d (Err e) (inputs_said-unsent t s b d files e first is))
 
--- the text
-pub audit_said-ready : (t s b d : List ℕ) (files : Given) (senders : List Sending) → files_said t s b d ≡ Ok files → senders_from files.table files.settings 1 files.blocks ≡ Ok senders → audit_said t s b d ≡ Ok (audit_lines files.schedule 1 senders)
-audit_said-ready t s b d files senders first is =
+-- the text, by processes or by blocks
+pub audit_said-ready : (t s b d : List ℕ) (files : Given) (senders : List Sending) (by_process : Bool) → files_said t s b d ≡ Ok files → senders_from files.table files.settings 1 files.blocks ≡ Ok senders → files.schedule.by_process ≡ by_process → audit_said t s b d ≡ Ok (audit_by by_process senders files.schedule.transmissions)
+audit_said-ready t s b d files senders by_process first is by =
     audit_said-inputs t s b d (Ok (record { senders = senders; schedule = files.schedule })) (inputs_said-ready t s b d files senders first is)
+    ∙ ap (λ p. Ok (audit_by p senders files.schedule.transmissions)) by

@@ -10,11 +10,10 @@ use Rattle.linksim.specs.Blocks.{blocks_of}
 use Rattle.linksim.specs.Command.{IsOfBlock, Writes}
 use Rattle.linksim.specs.Faults.{blocks_refusal, schedule_refusal, settings_refusal, table_refusal}
 use Rattle.linksim.specs.Inputs.{Given, HasNoFault, IsFirst, LeavesLater, OfFour, files_said, inputs_said, sender_said, senders_from}
-use Rattle.linksim.specs.Schedule.{schedule_said}
+use Rattle.linksim.specs.Schedule.{Timetable, schedule_said}
 use Rattle.linksim.specs.Settings.{settings_said}
 use Rattle.nr_blockdesk.specs.Sent.{Sending}
 use Rattle.nr_blockdesk.specs.declared.settings.Settings.{Settings}
-use Rattle.linksim.specs.declared.schedule.Transmission.{Transmission}
 use Rattle.linksim.specs.declared.settings.SettingsFault.{SettingsFault}
 use Rattle.linksim.specs.declared.settings.SettingsFault.TheVariants as settings_fault
 use Rattle.linksim.specs.declared.schedule.ScheduleFault.{ScheduleFault}
@@ -73,7 +72,7 @@ files_settings t s b d table said first is = files_table t s b d (Ok table) firs
 files_blocks : (t s b d : List ℕ) (table : Entries) (settings : Settings) (said : Result (List (List ℕ)) BlocksFault) → table_said t ≡ Ok table → settings_said s ≡ Ok settings → blocks_of b ≡ said → files_said t s b d ≡ (with_fault faults.Blocks said >>= schedule_step table settings d)
 files_blocks t s b d table settings said first second is = files_settings t s b d table (Ok settings) first second ∙ ap (λ r. with_fault faults.Blocks r >>= schedule_step table settings d) is
 
-files_schedule : (t s b d : List ℕ) (table : Entries) (settings : Settings) (blocks : List (List ℕ)) (said : Result (List Transmission) ScheduleFault) → table_said t ≡ Ok table → settings_said s ≡ Ok settings → blocks_of b ≡ Ok blocks → schedule_said (length blocks) d ≡ said → files_said t s b d ≡ (with_fault faults.Schedule said >>= λ schedule. Ok (record { table = table; settings = settings; blocks = blocks; schedule = schedule }))
+files_schedule : (t s b d : List ℕ) (table : Entries) (settings : Settings) (blocks : List (List ℕ)) (said : Result Timetable ScheduleFault) → table_said t ≡ Ok table → settings_said s ≡ Ok settings → blocks_of b ≡ Ok blocks → schedule_said (length blocks) d ≡ said → files_said t s b d ≡ (with_fault faults.Schedule said >>= λ schedule. Ok (record { table = table; settings = settings; blocks = blocks; schedule = schedule }))
 files_schedule t s b d table settings blocks said first second third is = files_blocks t s b d table settings (Ok blocks) first second third ∙ ap (λ r. with_fault faults.Schedule r >>= λ schedule. Ok (record { table = table; settings = settings; blocks = blocks; schedule = schedule })) is
 
 -- a table of a Source that did not fail is what its file says, and so is a refusal
@@ -107,7 +106,7 @@ given-schedule t s b d table settings blocks schedule_fault.Memory first second 
 given-schedule t s b d table settings blocks e first second third (inr is) = inr (files_schedule t s b d table settings blocks (Err e) first second third is)
 
 -- four files that are read
-pub given-all : (t s b d : List ℕ) (table : Entries) (settings : Settings) (blocks : List (List ℕ)) (schedule : List Transmission) → table_said t ≡ Ok table → settings_said s ≡ Ok settings → blocks_of b ≡ Ok blocks → schedule_said (length blocks) d ≡ Ok schedule → files_said t s b d ≡ Ok (record { table = table; settings = settings; blocks = blocks; schedule = schedule })
+pub given-all : (t s b d : List ℕ) (table : Entries) (settings : Settings) (blocks : List (List ℕ)) (schedule : Timetable) → table_said t ≡ Ok table → settings_said s ≡ Ok settings → blocks_of b ≡ Ok blocks → schedule_said (length blocks) d ≡ Ok schedule → files_said t s b d ≡ Ok (record { table = table; settings = settings; blocks = blocks; schedule = schedule })
 given-all t s b d table settings blocks schedule first second third fourth = files_schedule t s b d table settings blocks (Ok schedule) first second third fourth
 
 -- a refusal before the four are read, as an answer
@@ -142,11 +141,7 @@ senders_turn-err table settings front n blocks octets whole e so_far h is (inr s
     inr (sym so_far ∙ senders_turn table settings front n blocks octets h is
     ∙ ap (λ r. after_senders front (r >>= λ sender. senders_from table settings (n + 1 + 1) (drop (n + 1) blocks) >>= λ more. Ok (sender ∷ more))) said)
 
--- before the first block, and behind the last
-pub senders_first : (said : Result (List Sending) RunFault) → after_senders [] said ≡ said
-senders_first (Ok more) = refl
-senders_first (Err e) = refl
-
+-- behind the last block
 pub senders_last : (table : Entries) (settings : Settings) (front : List Sending) (n : ℕ) (blocks : List (List ℕ)) → length blocks ≤ n → after_senders front (senders_from table settings (n + 1) (drop n blocks)) ≡ Ok front
 unfolding senders_from
 senders_last table settings front n blocks h =

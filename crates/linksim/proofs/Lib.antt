@@ -1,4 +1,5 @@
 pub mod AuditLemmas
+pub mod AuditRounds
 pub mod BlockLines
 pub mod BlockTexts
 pub mod CheckLemmas
@@ -10,15 +11,23 @@ pub mod HearingFacts
 pub mod HexDigits
 pub mod InputLemmas
 mod JobLemmas
+pub mod LastRounds
 pub mod MaskWords
 pub mod OctetDigits
 pub mod PlaceItems
 pub mod Refusals
+pub mod RoundEnds
+pub mod RoundFacts
+pub mod RoundLaws
+pub mod RoundStarts
+pub mod RoundTurns
 pub mod RunInputs
 pub mod RunLines
 pub mod RunOutcomes
 pub mod RunTexts
+pub mod ScheduleProcesses
 pub mod ScheduleRecords
 pub mod SendLemmas
 pub mod SettingsFacts
+pub mod Timetables
 pub mod WrittenLemmas

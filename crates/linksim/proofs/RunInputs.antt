@@ -15,16 +15,16 @@ use Rattle.nr_blockdesk.specs.declared.fault.DeskFault.TheVariants as fault
 use Rattle.nr_blockdesk.specs.declared.settings.Settings.{Settings}
 use Rattle.linksim.specs.Ends.{IsLinked}
 use Rattle.linksim.specs.Inputs.{Given, Ready, files_said, inputs_said, sender_said, senders_from}
-use Rattle.linksim.specs.RunText.{run_said, run_text}
+use Rattle.linksim.specs.ProcessTexts.{run_said, text_of_run}
 use Rattle.linksim.specs.declared.fault.RunFault.{RunFault}
 use Rattle.linksim.specs.declared.fault.RunFault.TheVariants.{Desk, Memory}
 use Rattle.linksim.proofs.InputLemmas.{inputs_said-ready, inputs_said-refused, inputs_said-unsent}
 use Rattle.linksim.proofs.Refusals.{holds_then, of_ok}
 
 -- what `run` says by what it works from
-run_said-inputs : (t s b d : List ℕ) (said : Result Ready RunFault) → inputs_said t s b d ≡ said → run_said t s b d ≡ (said >>= λ inputs. Ok (run_text inputs.senders inputs.schedule))
+run_said-inputs : (t s b d : List ℕ) (said : Result Ready RunFault) → inputs_said t s b d ≡ said → run_said t s b d ≡ (said >>= λ inputs. Ok (text_of_run inputs.senders inputs.schedule))
 unfolding run_said
-run_said-inputs t s b d said is = ap (λ r. r >>= λ inputs. Ok (run_text inputs.senders inputs.schedule)) is
+run_said-inputs t s b d said is = ap (λ r. r >>= λ inputs. Ok (text_of_run inputs.senders inputs.schedule)) is
 
 -- a refusal of the files, and of a transport block
 pub run_said-refused : (t s b d : List ℕ) (e : RunFault) → (e ≡ Memory) ⊎ (files_said t s b d ≡ Err e) → (e ≡ Memory) ⊎ (run_said t s b d ≡ Err e)
@@ -36,7 +36,7 @@ run_said-unsent t s b d given e first (inl is) = inl is
 run_said-unsent t s b d given e first (inr is) = inr (run_said-inputs t s b d (Err e) (inputs_said-unsent t s b d given e first is))
 
 -- the text
-pub run_said-ready : (t s b d : List ℕ) (given : Given) (senders : List Sending) → files_said t s b d ≡ Ok given → senders_from given.table given.settings 1 given.blocks ≡ Ok senders → run_said t s b d ≡ Ok (run_text senders given.schedule)
+pub run_said-ready : (t s b d : List ℕ) (given : Given) (senders : List Sending) → files_said t s b d ≡ Ok given → senders_from given.table given.settings 1 given.blocks ≡ Ok senders → run_said t s b d ≡ Ok (text_of_run senders given.schedule)
 run_said-ready t s b d given senders first is =
     run_said-inputs t s b d (Ok (record { senders = senders; schedule = given.schedule })) (inputs_said-ready t s b d given senders first is)
 

@@ -18,7 +18,11 @@ use Rattle.nr_blockdesk.specs.ReceiverLaws.{NothingIsOpen}
 use Rattle.nr_blockdesk.specs.Sent.{Sending}
 use Rattle.linksim.specs.Ends.{IsWithin}
 use Rattle.linksim.specs.Lines.{hex}
-use Rattle.linksim.specs.RunText.{contradiction_line, counted, counted_by, delivered_line, left_line, no_totals, open_line, outcome_line, outcome_line_by, outcome_lines, open_counted, own, received, run_lines, run_text, totals_from, totals_line, unfixed_blocks}
+use Rattle.linksim.specs.RunText.{contradiction_line, counted, counted_by, delivered_line, left_line, no_totals, open_line, outcome_line, outcome_line_by, outcome_lines, open_counted, own, received, totals_from, unfixed_blocks}
+use Rattle.linksim.specs.ProcessTexts.{last_line, rounds_counted, run_ends, run_words, text_of_run}
+use Rattle.linksim.specs.RoundTexts.{joined, last_rounds, turns}
+use Rattle.linksim.specs.Rounds.{all_rounds}
+use Rattle.linksim.specs.Schedule.{Timetable}
 use Rattle.linksim.specs.declared.received.Totals.{Totals}
 use Rattle.linksim.specs.declared.schedule.Transmission.{Transmission}
 use Rattle.linksim.proofs.WrittenLemmas.{some_at_end}
@@ -120,9 +124,9 @@ outcome_line_by-some n link list contradiction =
 pub outcome_line-some : (n : ℕ) (link : Link) (list : List Reception) → 0 < length (outcome_line n link list)
 outcome_line-some n link list = outcome_line_by-some n link list (outcome_of link list)
 
-pub totals_line-some : (t : Totals) → 0 < length (totals_line t)
-unfolding totals_line
-totals_line-some t = some_at_end (codes "total blocks " ++ decimal t.blocks ++ codes " delivered " ++ decimal t.delivered
+pub last_line-some : (name : List ℕ) (t : Totals) → 0 < length (last_line name t)
+unfolding last_line
+last_line-some name t = some_at_end (codes "total " ++ name ++ codes " " ++ decimal t.blocks ++ codes " delivered " ++ decimal t.delivered
     ++ codes " open " ++ decimal t.open_still ++ codes " contradiction " ++ decimal t.contradiction
     ++ codes " codeblocks " ++ decimal t.code_blocks ++ codes " failed " ++ decimal t.failed)
 
@@ -137,12 +141,21 @@ within-more n m t more is = record {
   failed = omega (arith, more, is.failed);
 }
 
--- the text of a run is not empty
-pub run_text-some : (senders : List Sending) (schedule : List Transmission) → 0 < length (run_text senders schedule)
-run_text-some senders schedule =
-    let last : List ℕ = totals_line (totals_from no_totals 1 senders schedule) in
-    let some : 0 < length last = totals_line-some (totals_from no_totals 1 senders schedule) in
-    omega (arith, some, length-append (run_lines senders [] schedule ++ outcome_lines 1 senders schedule) last)
+-- what a run says after all transmissions is not empty, and so its text is not
+run_ends-some : (b : Bool) (senders : List Sending) (schedule : List Transmission) → 0 < length (run_ends b senders schedule)
+run_ends-some true senders schedule =
+    let last : List ℕ = last_line (codes "rounds") (rounds_counted no_totals senders (all_rounds schedule)) in
+    let some : 0 < length last = last_line-some (codes "rounds") (rounds_counted no_totals senders (all_rounds schedule)) in
+    omega (arith, some, length-append (joined (last_rounds run_words senders schedule)) last)
+run_ends-some false senders schedule =
+    let last : List ℕ = last_line (codes "blocks") (totals_from no_totals 1 senders schedule) in
+    let some : 0 < length last = last_line-some (codes "blocks") (totals_from no_totals 1 senders schedule) in
+    omega (arith, some, length-append (outcome_lines 1 senders schedule) last)
+
+pub text_of_run-some : (senders : List Sending) (schedule : Timetable) → 0 < length (text_of_run senders schedule)
+text_of_run-some senders schedule =
+    let some : 0 < length (run_ends schedule.by_process senders schedule.transmissions) = run_ends-some schedule.by_process senders schedule.transmissions in
+    omega (arith, some, length-append (joined (turns run_words senders [] schedule.transmissions)) (run_ends schedule.by_process senders schedule.transmissions))
 
 -- what follows from what holds of an answer
 pub ok_then : {X E : Type 0} {P Q : X → Type 0} (r : Result X E) → IfOk r P → ((x : X) → P x → Q x) → IfOk r Q

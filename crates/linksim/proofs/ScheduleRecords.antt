@@ -1,13 +1,14 @@
 -- The records of a schedule, one by one.
-use Rattle.std.proofs.Common.{◌≡◌, ◌≢◌, ℕ, ◌+◌, ◌-◌, ◌<◌, ◌≤◌, ◌⊎◌, inl, inr, Bool, true, false, cond, Result, Ok, Err, IfOk, List, [], ◌∷◌, ◌++◌, length, map, ap, sym, ◌∙◌, refl, arith, append_assoc, nat_lt}
-use Rattle.std.specs.Prelude.{All, ◌==◌, ◌&&◌, nat_le, not}
+use Rattle.std.proofs.Common.{◌≡◌, ◌≢◌, ℕ, ◌+◌, ◌-◌, ◌<◌, ◌≤◌, ◌⊎◌, inl, inr, Bool, true, false, cond, Option, Result, Ok, Err, IfOk, List, [], ◌∷◌, ◌++◌, length, map, ap, sym, ◌∙◌, refl, arith, append_assoc, nat_lt}
+use Rattle.std.specs.Prelude.{All, ◌==◌, ◌&&◌, codes, nat_le, not}
 use Rattle.std.specs.List.{range_with_len}
 use Rattle.std.proofs.lemmas.Bool.Decides.{nat_tests}
 use Rattle.std.proofs.lemmas.List.{append-nil}
 use Rattle.std.proofs.lemmas.List.Elements.{All-nil, All-cons}
 use Rattle.nr_graphpick.specs.Refusal.{◌>>=◌}
 use Rattle.nr_shifttable.specs.Records.{Record, records_of}
-use Rattle.linksim.specs.Schedule.{HasBlock, block_in, erasure_at, flip_at, is_header, mask_at, number_at, schedule_of, schedule_said, transmission_of, transmissions_from}
+use Rattle.linksim.specs.Rounds.{round_of}
+use Rattle.linksim.specs.Schedule.{HasBlock, Timetable, block_in, erasure_at, flip_at, fresh_at, fresh_block, in_columns, is_called, is_header, is_of_block, mask_at, number_at, process_at, schedule_of, schedule_said, transmission_of, transmissions_from}
 use Rattle.linksim.specs.declared.schedule.ScheduleFault.{ScheduleFault}
 use Rattle.linksim.specs.declared.schedule.ScheduleFault.TheVariants as fault
 use Rattle.linksim.specs.declared.schedule.Transmission.{Transmission}
@@ -33,38 +34,39 @@ schedule_of-missing blocks all none = ap (schedule_of blocks) none
 pub schedule_of-other : (blocks : ℕ) (all rest : List Record) (r : Record) → all ≡ r ∷ rest → is_header r ≡ false → schedule_of blocks all ≡ Err fault.Header
 unfolding schedule_of
 schedule_of-other blocks all rest r some other =
-    ap (schedule_of blocks) some ∙ ap (λ b. cond b (transmissions_from blocks (length r) 2 rest) (Err fault.Header)) other
+    ap (schedule_of blocks) some ∙ ap (λ b. cond b (in_columns (length r) (transmissions_from blocks (length r) 2 [] rest)) (Err fault.Header)) other
 
-pub schedule_of-header : (blocks : ℕ) (all rest : List Record) (r : Record) → all ≡ r ∷ rest → is_header r ≡ true → with_front [] (transmissions_from blocks (length r) 2 rest) ≡ schedule_of blocks all
+pub schedule_of-header : (blocks : ℕ) (all rest : List Record) (r : Record) → all ≡ r ∷ rest → is_header r ≡ true → in_columns (length r) (with_front [] (transmissions_from blocks (length r) 2 [] rest)) ≡ schedule_of blocks all
 unfolding schedule_of
 schedule_of-header blocks all rest r some header =
-    with_front-none (transmissions_from blocks (length r) 2 rest)
-    ∙ sym (ap (schedule_of blocks) some ∙ ap (λ b. cond b (transmissions_from blocks (length r) 2 rest) (Err fault.Header)) header)
+    ap (in_columns (length r)) (with_front-none (transmissions_from blocks (length r) 2 [] rest))
+    ∙ sym (ap (schedule_of blocks) some ∙ ap (λ b. cond b (in_columns (length r) (transmissions_from blocks (length r) 2 [] rest)) (Err fault.Header)) header)
 
 -- a turn of the loop over the other records, behind the transmissions of those before record k
-turn : (blocks width k : ℕ) (front : List Transmission) (before rest : List Record) (r : Record) (said : Result Transmission ScheduleFault) → before ≡ r ∷ rest → transmission_of blocks width k r ≡ said
-    → with_front front (transmissions_from blocks width k before) ≡ with_front front (said >>= λ t. transmissions_from blocks width (k + 1) rest >>= λ more. Ok (t ∷ more))
+turn : (blocks width k : ℕ) (front : List Transmission) (before rest : List Record) (r : Record) (said : Result Transmission ScheduleFault) → before ≡ r ∷ rest → transmission_of blocks width k front r ≡ said
+    → with_front front (transmissions_from blocks width k front before) ≡ with_front front (said >>= λ t. transmissions_from blocks width (k + 1) (front ++ t ∷ []) rest >>= λ more. Ok (t ∷ more))
 unfolding transmissions_from
 turn blocks width k front before rest r said some is =
-    ap (λ rs. with_front front (transmissions_from blocks width k rs)) some
-    ∙ ap (λ o. with_front front (o >>= λ t. transmissions_from blocks width (k + 1) rest >>= λ more. Ok (t ∷ more))) is
+    ap (λ rs. with_front front (transmissions_from blocks width k front rs)) some
+    ∙ ap (λ o. with_front front (o >>= λ t. transmissions_from blocks width (k + 1) (front ++ t ∷ []) rest >>= λ more. Ok (t ∷ more))) is
 
-pub turn-ok : (blocks width k : ℕ) (front : List Transmission) (before rest : List Record) (r : Record) (t : Transmission) (all : Result (List Transmission) ScheduleFault) → before ≡ r ∷ rest
-    → transmission_of blocks width k r ≡ Ok t → with_front front (transmissions_from blocks width k before) ≡ all → with_front (front ++ t ∷ []) (transmissions_from blocks width (k + 1) rest) ≡ all
+pub turn-ok : (blocks width k : ℕ) (front : List Transmission) (before rest : List Record) (r : Record) (t : Transmission) (all : Result Timetable ScheduleFault) → before ≡ r ∷ rest
+    → transmission_of blocks width k front r ≡ Ok t → in_columns width (with_front front (transmissions_from blocks width k front before)) ≡ all → in_columns width (with_front (front ++ t ∷ []) (transmissions_from blocks width (k + 1) (front ++ t ∷ []) rest)) ≡ all
 turn-ok blocks width k front before rest r t all some is so_far =
-    sym (turn blocks width k front before rest r (Ok t) some is ∙ with_front-more front t (transmissions_from blocks width (k + 1) rest)) ∙ so_far
+    sym (ap (in_columns width) (turn blocks width k front before rest r (Ok t) some is ∙ with_front-more front t (transmissions_from blocks width (k + 1) (front ++ t ∷ []) rest))) ∙ so_far
 
 -- the first fault of record k is the schedule's, unless memory ran out
-pub turn-refused : (blocks width k : ℕ) (front : List Transmission) (before rest : List Record) (r : Record) (e : ScheduleFault) (all : Result (List Transmission) ScheduleFault) → before ≡ r ∷ rest
-    → (e ≡ fault.Memory) ⊎ (transmission_of blocks width k r ≡ Err e) → with_front front (transmissions_from blocks width k before) ≡ all → (e ≡ fault.Memory) ⊎ (all ≡ Err e)
+pub turn-refused : (blocks width k : ℕ) (front : List Transmission) (before rest : List Record) (r : Record) (e : ScheduleFault) (all : Result Timetable ScheduleFault) → before ≡ r ∷ rest
+    → (e ≡ fault.Memory) ⊎ (transmission_of blocks width k front r ≡ Err e) → in_columns width (with_front front (transmissions_from blocks width k front before)) ≡ all → (e ≡ fault.Memory) ⊎ (all ≡ Err e)
 turn-refused blocks width k front before rest r e all some (inl memory) so_far = inl memory
-turn-refused blocks width k front before rest r e all some (inr is) so_far = inr (sym so_far ∙ turn blocks width k front before rest r (Err e) some is)
+turn-refused blocks width k front before rest r e all some (inr is) so_far = inr (sym so_far ∙ ap (in_columns width) (turn blocks width k front before rest r (Err e) some is))
 
-pub turn-end : (blocks width k : ℕ) (front : List Transmission) (before : List Record) (all : Result (List Transmission) ScheduleFault) → before ≡ []
-    → with_front front (transmissions_from blocks width k before) ≡ all → all ≡ Ok front
+pub turn-end : (blocks width k : ℕ) (front : List Transmission) (before : List Record) (all : Result Timetable ScheduleFault) → before ≡ []
+    → in_columns width (with_front front (transmissions_from blocks width k front before)) ≡ all → all ≡ Ok (record { by_process = width == 10; transmissions = front })
 unfolding transmissions_from
 turn-end blocks width k front before all none so_far =
-    sym so_far ∙ ap (λ rs. with_front front (transmissions_from blocks width k rs)) none ∙ ap Ok (append-nil front)
+    sym so_far ∙ ap (λ rs. in_columns width (with_front front (transmissions_from blocks width k front rs))) none
+    ∙ ap (λ ts. Ok (record { by_process = width == 10; transmissions = ts })) (append-nil front)
 
 -- what is so of the transmission of record k
 pub record IsRecord (blocks k : ℕ) (t : Transmission) : Type 0 where
@@ -80,9 +82,9 @@ block_in-inside k blocks n m true inside is =
     (omega arith, omega arith)
 block_in-inside k blocks n m false inside is = absurd (cc)
 
-transmission_of-record : (blocks width k : ℕ) (r : Record) → IfOk (transmission_of blocks width k r) (IsRecord blocks k)
+transmission_of-record : (blocks width k : ℕ) (before : List Transmission) (r : Record) → IfOk (transmission_of blocks width k before r) (IsRecord blocks k)
 unfolding transmission_of
-transmission_of-record blocks width k r =
+transmission_of-record blocks width k before r =
     holds_if _ (not (length r == width)) _ _ (λ other. tt) (λ same.
     holds_if _ (nat_lt 4097 k) _ _ (λ many. tt) (λ few.
     let below : k ≤ 4097 = grind (arith, nat_tests) in
@@ -95,11 +97,13 @@ transmission_of-record blocks width k r =
     holds_then _ (erasure_at k r 5) _ (λ erasure erasure_is.
     holds_then _ (flip_at k r 6) _ (λ flip flip_is.
     holds_then _ (mask_at k r 7) _ (λ mask mask_is.
+    holds_then _ (process_at k r 8 block) _ (λ process process_is.
+    holds_then _ (fresh_at k r 9 block (fresh_block (round_of process before))) _ (λ fresh fresh_is.
     record {
       block = block_in-inside k blocks number block _ refl block_is;
       number = refl;
       few = below;
-    })))))))))))
+    })))))))))))))
 
 -- what is so of the transmissions of the records from record k on
 pub record AreRecords (count k : ℕ) (ts : List Transmission) : Type 0 where
@@ -107,15 +111,15 @@ pub record AreRecords (count k : ℕ) (ts : List Transmission) : Type 0 where
   pub numbers : map (λ t. t.number) ts ≡ range_with_len (k - 1) (length ts)
   pub few : k + length ts ≤ 4098
 
-transmissions_from-records : (blocks width k : ℕ) (rs : List Record) → 1 ≤ k → k ≤ 4098 → IfOk (transmissions_from blocks width k rs) (AreRecords blocks k)
+transmissions_from-records : (blocks width k : ℕ) (before : List Transmission) (rs : List Record) → 1 ≤ k → k ≤ 4098 → IfOk (transmissions_from blocks width k before rs) (AreRecords blocks k)
 unfolding transmissions_from
-transmissions_from-records blocks width k [] some few = record { blocks = All-nil (HasBlock blocks); numbers = refl; few = omega arith }
-transmissions_from-records blocks width k (r ∷ rs) some few =
-    holds_then _ (transmission_of blocks width k r) _ (λ t t_is.
-    let first : IsRecord blocks k t = of_ok _ _ t t_is (transmission_of-record blocks width k r) in
+transmissions_from-records blocks width k before [] some few = record { blocks = All-nil (HasBlock blocks); numbers = refl; few = omega arith }
+transmissions_from-records blocks width k before (r ∷ rs) some few =
+    holds_then _ (transmission_of blocks width k before r) _ (λ t t_is.
+    let first : IsRecord blocks k t = of_ok _ _ t t_is (transmission_of-record blocks width k before r) in
     let few_more : k + 1 ≤ 4098 = omega (arith, first.few) in
-    holds_then _ (transmissions_from blocks width (k + 1) rs) _ (λ more more_is.
-    let others : AreRecords blocks (k + 1) more = of_ok _ _ more more_is (transmissions_from-records blocks width (k + 1) rs (omega arith) few_more) in
+    holds_then _ (transmissions_from blocks width (k + 1) (before ++ t ∷ []) rs) _ (λ more more_is.
+    let others : AreRecords blocks (k + 1) more = of_ok _ _ more more_is (transmissions_from-records blocks width (k + 1) (before ++ t ∷ []) rs (omega arith) few_more) in
     let next : k + 1 - 1 ≡ k - 1 + 1 = omega arith in
     record {
       blocks = All-cons (HasBlock blocks) t more first.block others.blocks;
@@ -123,18 +127,19 @@ transmissions_from-records blocks width k (r ∷ rs) some few =
       few = omega (arith, others.few);
     }))
 
-pub schedule_said-records : (blocks : ℕ) (text : List ℕ) → IfOk (schedule_said blocks text) (AreRecords blocks 2)
+pub schedule_said-records : (blocks : ℕ) (text : List ℕ) → IfOk (schedule_said blocks text) (λ said. AreRecords blocks 2 said.transmissions)
 unfolding schedule_said schedule_of
 schedule_said-records blocks text = holds_if _ (nat_lt 16777216 (length text)) _ _ (λ long. tt) (λ short. all (records_of text))
   where
-    all : (rs : List Record) → IfOk (schedule_of blocks rs) (AreRecords blocks 2)
+    all : (rs : List Record) → IfOk (schedule_of blocks rs) (λ said. AreRecords blocks 2 said.transmissions)
     all [] = tt
-    all (r ∷ rs) = holds_if _ (is_header r) _ _ (λ header. transmissions_from-records blocks (length r) 2 rs (omega arith) (omega arith)) (λ other. tt)
+    all (r ∷ rs) = holds_if _ (is_header r) _ _ (λ header.
+        holds_then _ (transmissions_from blocks (length r) 2 [] rs) _ (λ ts is. of_ok _ _ ts is (transmissions_from-records blocks (length r) 2 [] rs (omega arith) (omega arith)))) (λ other. tt)
 
 -- the text of a schedule is never unread
-transmission_of-unread : (blocks width k : ℕ) (r : Record) → transmission_of blocks width k r ≢ Err fault.Read
+transmission_of-unread : (blocks width k : ℕ) (before : List Transmission) (r : Record) → transmission_of blocks width k before r ≢ Err fault.Read
 unfolding transmission_of
-transmission_of-unread blocks width k r =
+transmission_of-unread blocks width k before r =
     never_if _ (not (length r == width)) _ _ (λ is. cc)
     (never_if _ (nat_lt 4097 k) _ _ (λ is. cc)
     (never_then _ (number_at k r 0) _ (number 0) (λ number_of.
@@ -145,17 +150,25 @@ transmission_of-unread blocks width k r =
     never_then _ (block_in k blocks number_of) _ (never_if _ (nat_le 1 number_of && nat_le number_of blocks) _ _ (λ is. cc) (λ is. cc)) (λ block.
     never_then _ (erasure_at k r 5) _ (never_or _ (fault.Erase k) _ (λ is. cc)) (λ erasure.
     never_then _ (flip_at k r 6) _ (never_if _ (nat_le (length r) 6) _ _ (λ is. cc) (never_or _ (fault.Flip k) _ (λ is. cc))) (λ flip.
-    never_then _ (mask_at k r 7) _ (never_if _ (nat_le (length r) 7) _ _ (λ is. cc) (never_or _ (fault.Mask k) _ (λ is. cc))) (λ mask is. cc)))))))))))
+    never_then _ (mask_at k r 7) _ (never_if _ (nat_le (length r) 7) _ _ (λ is. cc) (never_or _ (fault.Mask k) _ (λ is. cc))) (λ mask.
+    never_then _ (process_at k r 8 block) _ (never_if _ (nat_le (length r) 8) _ _ (λ is. cc) (never_or _ (fault.Process k) _ (λ is. cc))) (λ process.
+    never_then _ (fresh_at k r 9 block (fresh_block (round_of process before))) _ (fresh block (fresh_block (round_of process before))) (λ fresh_is is. cc)))))))))))))
   where
     number : (i : ℕ) → number_at k r i ≢ Err fault.Read
     number i = never_or _ (fault.Number k) _ (λ is. cc)
 
-transmissions_from-unread : (blocks width k : ℕ) (rs : List Record) → transmissions_from blocks width k rs ≢ Err fault.Read
+    fresh : (block : ℕ) (begun : Option ℕ) → fresh_at k r 9 block begun ≢ Err fault.Read
+    fresh block begun =
+        never_if _ (nat_le (length r) 9) _ _ (λ is. cc)
+        (never_if _ (is_called r 9 (codes "1")) _ _ (λ is. cc)
+        (never_if _ (is_called r 9 (codes "0") && is_of_block block begun) _ _ (λ is. cc) (λ is. cc)))
+
+transmissions_from-unread : (blocks width k : ℕ) (before : List Transmission) (rs : List Record) → transmissions_from blocks width k before rs ≢ Err fault.Read
 unfolding transmissions_from
-transmissions_from-unread blocks width k [] = λ is. cc
-transmissions_from-unread blocks width k (r ∷ rs) =
-    never_then _ (transmission_of blocks width k r) _ (transmission_of-unread blocks width k r) (λ t.
-    never_then _ (transmissions_from blocks width (k + 1) rs) _ (transmissions_from-unread blocks width (k + 1) rs) (λ more is. cc))
+transmissions_from-unread blocks width k before [] = λ is. cc
+transmissions_from-unread blocks width k before (r ∷ rs) =
+    never_then _ (transmission_of blocks width k before r) _ (transmission_of-unread blocks width k before r) (λ t.
+    never_then _ (transmissions_from blocks width (k + 1) (before ++ t ∷ []) rs) _ (transmissions_from-unread blocks width (k + 1) (before ++ t ∷ []) rs) (λ more is. cc))
 
 pub schedule_said-unread : (blocks : ℕ) (text : List ℕ) → schedule_said blocks text ≢ Err fault.Read
 unfolding schedule_said schedule_of
@@ -163,7 +176,7 @@ schedule_said-unread blocks text = never_if _ (nat_lt 16777216 (length text)) _ 
   where
     all : (rs : List Record) → schedule_of blocks rs ≢ Err fault.Read
     all [] = λ is. cc
-    all (r ∷ rs) = never_if _ (is_header r) _ _ (transmissions_from-unread blocks (length r) 2 rs) (λ is. cc)
+    all (r ∷ rs) = never_if _ (is_header r) _ _ (never_then _ (transmissions_from blocks (length r) 2 [] rs) _ (transmissions_from-unread blocks (length r) 2 [] rs) (λ ts is. cc)) (λ is. cc)
 
 -- a file that is too long
 pub schedule_said-too_long : (blocks : ℕ) (text : List ℕ) → 16777216 < length text → schedule_said blocks text ≡ Err fault.TooLong

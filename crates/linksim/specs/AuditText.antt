@@ -1,10 +1,9 @@
--- The text of `audit`: of each code block, after all transmissions of a schedule, how many positions peeling fixed, or
+-- The lines of `audit`: of each code block, after all transmissions of a schedule, how many positions peeling fixed, or
 -- those that it left.
-use Rattle.std.specs.Prelude.{◌≡◌, ℕ, ◌+◌, ◌==◌, ◌&&◌, not, if◌then◌else◌, List, [], ◌∷◌, ◌++◌, length, filter, flat_map, count_by, codes, Result, Ok}
+use Rattle.std.specs.Prelude.{◌≡◌, ℕ, ◌+◌, ◌==◌, ◌&&◌, not, if◌then◌else◌, List, [], ◌∷◌, ◌++◌, length, filter, flat_map, count_by, codes}
 use Rattle.std.specs.Fmt.{decimal}
 use Rattle.std.specs.List.{range_with_len}
 use Rattle.nr_bitvec.specs.Bit.{bit}
-use Rattle.nr_graphpick.specs.Refusal.{◌>>=◌}
 use Rattle.nr_harqbuf.specs.Record.{Heardbits}
 use Rattle.nr_ldpcenc.specs.Rows.{word_size}
 use Rattle.nr_peel.specs.Peeling.{Peeling}
@@ -14,10 +13,8 @@ use Rattle.nr_blockdesk.specs.Link.{Link}
 use Rattle.nr_blockdesk.specs.Outcome.{fixed, given, left}
 use Rattle.nr_blockdesk.specs.Receiving.{Receiving}
 use Rattle.nr_blockdesk.specs.Sent.{Sending}
-use Rattle.linksim.specs.Inputs.{inputs_said}
 use Rattle.linksim.specs.RunText.{own, received}
 use Rattle.linksim.specs.declared.schedule.Transmission.{Transmission}
-use Rattle.linksim.specs.declared.fault.RunFault.{RunFault}
 
 -- how many positions of a code block peeling fixed: those that are fixed, but neither heard nor fillers
 abbrev pub steps_of : Link → Heardbits → ℕ
@@ -53,24 +50,18 @@ audit_line n link records r =
     if left link records r == 0 then order_line n r (steps_of link (heard_of records r))
     else stuck_line n r (unfixed link (heard_of records r))
 
--- the lines of block n's code blocks
-abbrev pub audit_block : ℕ → Link → List Heardbits → List ℕ
-audit_block n link records = flat_map (audit_line n link records) (range_with_len 0 link.plan.c)
+-- the lines of block n's code blocks, each behind these words
+abbrev pub audit_block : List ℕ → ℕ → Link → List Heardbits → List ℕ
+audit_block head n link records = flat_map (λ r. head ++ audit_line n link records r) (range_with_len 0 link.plan.c)
 
 -- the same after the transmissions of a schedule
 abbrev pub audit_of : List Transmission → ℕ → Sending → List ℕ
-audit_of schedule n sender = audit_block n sender.link (heard_record sender.link (received sender (own n schedule)))
+audit_of schedule n sender = audit_block [] n sender.link (heard_record sender.link (received sender (own n schedule)))
 
 -- the lines of the blocks from block n on, each with its sender
 unfoldable pub audit_lines : List Transmission → ℕ → List Sending → List ℕ
 audit_lines schedule n [] = []
 audit_lines schedule n (sender ∷ senders) = audit_of schedule n sender ++ audit_lines schedule (n + 1) senders
-
--- what `audit` says of its four files: its text, or the first refusal
-unfoldable pub audit_said : List ℕ → List ℕ → List ℕ → List ℕ → Result (List ℕ) RunFault
-audit_said table settings blocks schedule = do
-  inputs ← inputs_said table settings blocks schedule
-  Ok (audit_lines inputs.schedule 1 inputs.senders)
 
 -- a receiver of a sender's transport block has heard this list
 pub record HasHeard (sender : Sending) (list : List Reception) (receiver : Receiving) : Type 0 where

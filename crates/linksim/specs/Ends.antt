@@ -1,5 +1,5 @@
 -- What the receiving ends of a run keep.
-use Rattle.std.specs.Prelude.{◌≡◌, ℕ, ◌+◌, ◌*◌, ◌<◌, ◌≤◌, List, [], Option, Some, None, Ok, length, slice_index_or}
+use Rattle.std.specs.Prelude.{◌≡◌, ℕ, ◌+◌, ◌*◌, ◌<◌, ◌≤◌, false, List, [], ◌∷◌, Option, Some, None, Ok, length, take, slice_index_or}
 use Rattle.nr_shifttable.specs.Accepted.{Entries}
 use Rattle.nr_blockdesk.specs.Explains.{Reception}
 use Rattle.nr_blockdesk.specs.Heard.{IsRecordOf}
@@ -8,6 +8,8 @@ use Rattle.nr_blockdesk.specs.Outcome.{outcome_of}
 use Rattle.nr_blockdesk.specs.Receiving.{verdict}
 use Rattle.nr_blockdesk.specs.Sent.{Sending}
 use Rattle.nr_blockdesk.specs.declared.settings.Settings.{Settings}
+use Rattle.linksim.specs.RoundTexts.{sender_of}
+use Rattle.linksim.specs.Rounds.{round_of}
 use Rattle.linksim.specs.RunText.{own, received}
 use Rattle.linksim.specs.declared.received.End.{End}
 use Rattle.linksim.specs.declared.received.Totals.{Totals}
@@ -41,7 +43,32 @@ AllHold senders transmissions ends = (i : ℕ) (sender : Sending) → i < length
     → sender ≡ slice_index_or senders i sender
     → Holds sender.link (received sender (own (i + 1) transmissions)) (slice_index_or ends i None)
 
--- no total of n blocks is greater: each block has fewer than 2^32 code blocks
+-- a place has received what a round gave, by the sender of the round's block
+abbrev pub HoldsIf : Option Sending → List Transmission → Option End → Type 0
+HoldsIf None round end = Unit {0}
+HoldsIf (Some sender) round end = Holds sender.link (received sender round) end
+
+-- the same by the block that the round's first transmission names; a place that is in no round has received nothing
+abbrev pub HoldsRound : List Sending → List Transmission → Option End → Type 0
+HoldsRound senders [] end = end ≡ None
+HoldsRound senders (x ∷ more) end = HoldsIf (sender_of senders x) (x ∷ more) end
+
+-- each place has received its process's round
+abbrev pub HoldRounds : List Sending → List Transmission → List (Option End) → Type 0
+HoldRounds senders before ends =
+    (p : ℕ) → p < length ends → HoldsRound senders (round_of p before) (slice_index_or ends p None)
+
+-- a transmission is of the block of the round that it goes on with
+abbrev pub IsOfRound : List Transmission → Transmission → Type 0
+IsOfRound [] x = Unit {0}
+IsOfRound (y ∷ more) x = y.block ≡ x.block
+
+-- so is each of these that is not fresh
+abbrev pub AreOfRounds : List Transmission → Type 0
+AreOfRounds xs = (i : ℕ) (x : Transmission) → i < length xs → x ≡ slice_index_or xs i x → x.fresh ≡ false
+    → IsOfRound (round_of x.process (take i xs)) x
+
+-- no total of n blocks or rounds is greater: each has fewer than 2^32 code blocks
 pub record IsWithin (n : ℕ) (t : Totals) : Type 0 where
   pub blocks : t.blocks ≤ n
   pub delivered : t.delivered ≤ n

@@ -4,11 +4,10 @@ use Rattle.nr_bitvec.specs.BitList.{bits_of}
 use Rattle.nr_graphpick.specs.Refusal.{◌>>=◌, with_fault}
 use Rattle.nr_shifttable.specs.Accepted.{Entries, table_said}
 use Rattle.linksim.specs.Blocks.{blocks_of}
-use Rattle.linksim.specs.Schedule.{schedule_said}
+use Rattle.linksim.specs.Schedule.{Timetable, schedule_said, timetable_by}
 use Rattle.linksim.specs.Settings.{settings_said}
 use Rattle.nr_blockdesk.specs.Sent.{Sending, sending_said}
 use Rattle.nr_blockdesk.specs.declared.settings.Settings.{Settings}
-use Rattle.linksim.specs.declared.schedule.Transmission.{Transmission}
 use Rattle.linksim.specs.declared.inputs.Inputs.{Inputs}
 use Rattle.linksim.specs.declared.fault.RunFault.{RunFault}
 use Rattle.linksim.specs.declared.fault.RunFault.TheVariants as faults
@@ -18,7 +17,7 @@ pub record Given : Type 0 where
   pub table : Entries
   pub settings : Settings
   pub blocks : List (List ℕ)
-  pub schedule : List Transmission
+  pub schedule : Timetable
 
 -- the same of files that were read
 abbrev pub given_by : Inputs → Given
@@ -26,7 +25,7 @@ given_by inputs = record {
   table = inputs.table;
   settings = inputs.settings;
   blocks = map (λ block. block.items) inputs.blocks.items;
-  schedule = inputs.schedule.items;
+  schedule = timetable_by inputs.schedule;
 }
 
 -- the four files, or the first fault: in this order the table, the settings, the blocks, and the schedule for so many
@@ -51,10 +50,10 @@ senders_from table settings n (octets ∷ blocks) = do
   more ← senders_from table settings (n + 1) blocks
   Ok (sender ∷ more)
 
--- a sender for each transport block, and the transmissions
+-- a sender for each transport block, and the schedule
 pub record Ready : Type 0 where
   pub senders : List Sending
-  pub schedule : List Transmission
+  pub schedule : Timetable
 
 -- what a command over a schedule works from, or the first fault: that of a file, or of a transport block
 unfoldable pub inputs_said : List ℕ → List ℕ → List ℕ → List ℕ → Result Ready RunFault

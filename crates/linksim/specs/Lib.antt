@@ -15,6 +15,9 @@ pub mod Jobs
 pub mod Lines
 pub mod Masks
 pub mod PlaceLists
+pub mod ProcessTexts
+pub mod RoundTexts
+pub mod Rounds
 pub mod RunText
 pub mod Schedule
 pub mod SendText

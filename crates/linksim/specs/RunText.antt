@@ -1,8 +1,7 @@
--- The text of `run`.
-use Rattle.std.specs.Prelude.{ℕ, ◌+◌, ◌-◌, ◌==◌, Bool, not, List, [], ◌∷◌, ◌++◌, length, Option, Some, None, slice_get, flat_map, count_by, codes, Result, Ok, Err}
+-- The lines of `run`.
+use Rattle.std.specs.Prelude.{ℕ, ◌+◌, ◌==◌, Bool, not, List, [], ◌∷◌, ◌++◌, length, flat_map, count_by, codes, Result, Ok, Err}
 use Rattle.std.specs.Fmt.{decimal}
 use Rattle.std.specs.List.{filter, range_with_len}
-use Rattle.nr_graphpick.specs.Refusal.{◌>>=◌}
 use Rattle.nr_harqbuf.specs.Record.{Heardbits}
 use Rattle.nr_blockdesk.specs.Explains.{Reception, reception}
 use Rattle.nr_blockdesk.specs.Heard.{heard_record}
@@ -11,10 +10,8 @@ use Rattle.nr_blockdesk.specs.Outcome.{Verdict, contradiction, delivered, left, 
 use Rattle.nr_blockdesk.specs.Sent.{Sending, sent_said}
 use Rattle.nr_blockdesk.specs.declared.fault.DeskFault.{DeskFault}
 use Rattle.linksim.specs.Hearing.{heard_through}
-use Rattle.linksim.specs.Inputs.{inputs_said}
 use Rattle.linksim.specs.Lines.{hex}
 use Rattle.linksim.specs.SendText.{refused_line, sent_line}
-use Rattle.linksim.specs.declared.fault.RunFault.{RunFault}
 use Rattle.linksim.specs.declared.schedule.Transmission.{Transmission}
 use Rattle.linksim.specs.declared.received.Totals.{Totals}
 
@@ -55,17 +52,6 @@ lines_if x link list (Err e) = refused_line x.number x.block e
 unfoldable pub lines_of : Sending → List Reception → Transmission → List ℕ
 lines_of sender list x =
     lines_if x sender.link (list ++ received_of sender x) (sent_said sender.link x.tx sender.block)
-
--- the same by the transmissions before; there is a sender for each block
-abbrev pub lines_by : Option Sending → List Transmission → Transmission → List ℕ
-lines_by None before x = []
-lines_by (Some sender) before x = lines_of sender (received sender (own x.block before)) x
-
--- the lines of the transmissions after those before. Blocks count from 1
-unfoldable pub run_lines : List Sending → List Transmission → List Transmission → List ℕ
-run_lines senders before [] = []
-run_lines senders before (x ∷ more) =
-    lines_by (slice_get senders (x.block - 1)) before x ++ run_lines senders (before ++ x ∷ []) more
 
 -- how many code blocks have a position below K' that is not fixed
 unfoldable pub unfixed_blocks : Link → List Heardbits → ℕ
@@ -141,21 +127,3 @@ totals_from t n (sender ∷ senders) schedule =
 -- no block
 abbrev pub no_totals : Totals
 no_totals = record { blocks = 0; delivered = 0; open_still = 0; contradiction = 0; code_blocks = 0; failed = 0 }
-
--- the last line
-unfoldable pub totals_line : Totals → List ℕ
-totals_line t =
-    codes "total blocks " ++ decimal t.blocks ++ codes " delivered " ++ decimal t.delivered
-    ++ codes " open " ++ decimal t.open_still ++ codes " contradiction " ++ decimal t.contradiction
-    ++ codes " codeblocks " ++ decimal t.code_blocks ++ codes " failed " ++ decimal t.failed ++ 10 ∷ []
-
--- the text of a run
-abbrev pub run_text : List Sending → List Transmission → List ℕ
-run_text senders schedule =
-    run_lines senders [] schedule ++ outcome_lines 1 senders schedule ++ totals_line (totals_from no_totals 1 senders schedule)
-
--- what `run` says of its four files: its text, or the first refusal
-unfoldable pub run_said : List ℕ → List ℕ → List ℕ → List ℕ → Result (List ℕ) RunFault
-run_said table settings blocks schedule = do
-  inputs ← inputs_said table settings blocks schedule
-  Ok (run_text inputs.senders inputs.schedule)

@@ -62,4 +62,4 @@ transmission_lines senders schedule = flat_map (transmission_line senders) sched
 unfoldable pub send_said : List ℕ → List ℕ → List ℕ → List ℕ → Result (List ℕ) RunFault
 send_said table settings blocks schedule = do
   inputs ← inputs_said table settings blocks schedule
-  Ok (transmission_lines inputs.senders inputs.schedule)
+  Ok (transmission_lines inputs.senders inputs.schedule.transmissions)

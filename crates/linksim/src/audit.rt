@@ -5,11 +5,15 @@ ghost use Rattle.std.specs.String.{string_bytes};
 ghost use Rattle.nr_bitvec.specs.Bit.{bit};
 ghost use Rattle.nr_blockdesk.specs.Explains.{Reception};
 ghost use Rattle.nr_blockdesk.specs.Sent.{Sending};
-ghost use Rattle.linksim.specs.AuditText.{HasHeard, audit_block, audit_line, audit_lines, audit_of, audit_said, gained, order_line, stuck_line};
+ghost use Rattle.linksim.specs.AuditText.{HasHeard, audit_block, audit_line, audit_lines, audit_of, gained, order_line, stuck_line};
 ghost use Rattle.linksim.specs.Command.{Delivers, FailsAs, Writes};
 ghost use Rattle.linksim.specs.Ends.{IsLinked};
 ghost use Rattle.linksim.specs.Inputs.{IsFirst, LeavesLater, OfFour};
-ghost use Rattle.linksim.specs.RunText.{own, received, received_if, received_of};
+ghost use Rattle.linksim.specs.ProcessTexts.{audit_said, audit_words};
+ghost use Rattle.linksim.specs.RoundTexts.{joined, last_rounds, round_lines, turn_lines, turns, written};
+ghost use Rattle.linksim.specs.Rounds.{IsOfBlock, of_process, round_of};
+ghost use Rattle.linksim.specs.RunText.{received, received_if, received_of};
+ghost use Rattle.linksim.specs.Schedule.{HasBlock};
 
 use crate::blocks::BlocksFault;
 use crate::deliver::deliver;
@@ -17,7 +21,8 @@ use crate::fault::RunFault;
 use crate::hearing::heard_through;
 use crate::inputs::{Inputs, read, senders};
 use crate::received::{End, new_end};
-use crate::schedule::{ScheduleFault, Transmission};
+use crate::rounds::{process_words, round_block, round_start};
+use crate::schedule::{PROCESSES, ScheduleFault, Transmission};
 use crate::send::said_of;
 use crate::settings::SettingsFault;
 use crate::sink::Sink;
@@ -83,7 +88,129 @@ pub fn audit<T: Source, S: Source, B: Source, D: Source, O: Sink>(
     links_are_sound();
     let inputs = read(alloc, table, settings, blocks, schedule)?;
     let senders = senders(alloc, &inputs)?;
-    audit_blocks(alloc, &inputs, &senders, out)
+    if inputs.schedule.by_process {
+        audit_rounds(alloc, &inputs, &senders, out)
+    } else {
+        audit_blocks(alloc, &inputs, &senders, out)
+    }
+}
+
+// Writes the lines of each round of a HARQ process: first of those that a transmission ends, in their order, and then
+// of the others, by process.
+fn audit_rounds<O: Sink>(
+    alloc: Global,
+    inputs: &Inputs,
+    senders: &[Sender],
+    out: &mut O,
+) -> Result<(), RunFault>
+    requires puts { O.failures out.old < 2 ^ 32 }
+    requires linked { All (λ sender. IsLinked inputs.now.table inputs.now.settings sender.link)
+        senders.now }
+    requires named { All (HasBlock (length senders.now)) inputs.now.schedule.transmissions.items }
+    ensures text { Writes (O.written out.old) (O.written out.new) result
+        (joined (written audit_words senders.now inputs.now.schedule.transmissions.items)) }
+    ensures put { FailsAs RunFault.Write result (O.failures out.old) (O.failures out.new) }
+{
+    audit_ended(alloc, inputs, senders, out)?;
+    audit_last(alloc, inputs, senders, out)
+}
+
+// Writes the lines of each round that a transmission ends.
+fn audit_ended<O: Sink>(
+    alloc: Global,
+    inputs: &Inputs,
+    senders: &[Sender],
+    out: &mut O,
+) -> Result<(), RunFault>
+    requires puts { O.failures out.old < 2 ^ 32 }
+    requires linked { All (λ sender. IsLinked inputs.now.table inputs.now.settings sender.link)
+        senders.now }
+    requires named { All (HasBlock (length senders.now)) inputs.now.schedule.transmissions.items }
+    ensures text { Writes (O.written out.old) (O.written out.new) result
+        (joined (turns audit_words senders.now [] inputs.now.schedule.transmissions.items)) }
+    ensures put { FailsAs RunFault.Write result (O.failures out.old) (O.failures out.new) }
+{
+    let schedule = inputs.schedule.transmissions.as_slice();
+    for (index, transmission) in schedule.iter().enumerate() {
+        let before = &schedule[..index];
+        audit_turn(alloc, inputs, senders, before, transmission, out)?;
+    }
+    Ok(())
+}
+
+// Writes the lines of the round that a transmission ends, if it is fresh.
+fn audit_turn<O: Sink>(
+    alloc: Global,
+    inputs: &Inputs,
+    senders: &[Sender],
+    before: &[Transmission],
+    transmission: &Transmission,
+    out: &mut O,
+) -> Result<(), RunFault>
+    requires puts { O.failures out.old < 2 ^ 32 }
+    requires linked { All (λ sender. IsLinked inputs.now.table inputs.now.settings sender.link)
+        senders.now }
+    requires named { All (HasBlock (length senders.now)) before.now }
+    ensures text { Writes (O.written out.old) (O.written out.new) result
+        (turn_lines audit_words senders.now before.now transmission.now) }
+    ensures put { FailsAs RunFault.Write result (O.failures out.old) (O.failures out.new) }
+{
+    if !transmission.fresh {
+        return Ok(());
+    }
+    write_round(alloc, inputs, senders, transmission.process, before, out)
+}
+
+// Writes the lines of each round that no transmission ends, by process.
+fn audit_last<O: Sink>(
+    alloc: Global,
+    inputs: &Inputs,
+    senders: &[Sender],
+    out: &mut O,
+) -> Result<(), RunFault>
+    requires puts { O.failures out.old < 2 ^ 32 }
+    requires linked { All (λ sender. IsLinked inputs.now.table inputs.now.settings sender.link)
+        senders.now }
+    requires named { All (HasBlock (length senders.now)) inputs.now.schedule.transmissions.items }
+    ensures text { Writes (O.written out.old) (O.written out.new) result
+        (joined (last_rounds audit_words senders.now inputs.now.schedule.transmissions.items)) }
+    ensures put { FailsAs RunFault.Write result (O.failures out.old) (O.failures out.new) }
+{
+    let schedule = inputs.schedule.transmissions.as_slice();
+    for process in 0..PROCESSES {
+        write_round(alloc, inputs, senders, process, schedule, out)?;
+    }
+    Ok(())
+}
+
+// Writes the lines of the round that a process is in after these transmissions, if it is in one.
+fn write_round<O: Sink>(
+    alloc: Global,
+    inputs: &Inputs,
+    senders: &[Sender],
+    process: u32,
+    before: &[Transmission],
+    out: &mut O,
+) -> Result<(), RunFault>
+    requires puts { O.failures out.old < 2 ^ 32 }
+    requires linked { All (λ sender. IsLinked inputs.now.table inputs.now.settings sender.link)
+        senders.now }
+    requires named { All (HasBlock (length senders.now)) before.now }
+    ensures text { Writes (O.written out.old) (O.written out.new) result
+        (round_lines audit_words senders.now process (round_of process before.now)) }
+    ensures put { FailsAs RunFault.Write result (O.failures out.old) (O.failures out.new) }
+{
+    plans_are_sound();
+    match round_block(process, before) {
+        None => Ok(()),
+        Some(number) => {
+            let sender = &senders[number as usize - 1];
+            let round = &before[round_start(process, before)..];
+            let end = end_of(alloc, inputs, sender, process, round)?;
+            let head = process_words(alloc, process)?;
+            write_codes(alloc, &head, number, &end.receiver, out)
+        }
+    }
 }
 
 // Writes the lines of each transport block.
@@ -97,8 +224,9 @@ fn audit_blocks<O: Sink>(
     requires few { length senders.now ≤ 256 }
     requires linked { All (λ sender. IsLinked inputs.now.table inputs.now.settings sender.link)
         senders.now }
+    requires placed { All IsOfBlock inputs.now.schedule.transmissions.items }
     ensures text { Writes (O.written out.old) (O.written out.new) result
-        (audit_lines inputs.now.schedule.items 1 senders.now) }
+        (audit_lines inputs.now.schedule.transmissions.items 1 senders.now) }
     ensures put { FailsAs RunFault.Write result (O.failures out.old) (O.failures out.new) }
 {
     for (index, sender) in senders.iter().enumerate() {
@@ -117,36 +245,40 @@ fn write_block<O: Sink>(
 ) -> Result<(), RunFault>
     requires puts { O.failures out.old < 2 ^ 32 }
     requires linked { IsLinked inputs.now.table inputs.now.settings sender.now.link }
+    requires placed { All IsOfBlock inputs.now.schedule.transmissions.items }
     ensures text { Writes (O.written out.old) (O.written out.new) result
-        (audit_of inputs.now.schedule.items number sender.now) }
+        (audit_of inputs.now.schedule.transmissions.items number sender.now) }
     ensures put { FailsAs RunFault.Write result (O.failures out.old) (O.failures out.new) }
 {
     plans_are_sound();
-    let end = end_of(alloc, inputs, number, sender)?;
-    write_codes(alloc, number, &end.receiver, out)
+    let schedule = &inputs.schedule.transmissions;
+    let end = end_of(alloc, inputs, sender, number, schedule)?;
+    write_codes(alloc, "", number, &end.receiver, out)
 }
 
-// Writes the line of each code block of block `number`, by its receiver.
+// Writes the line of each code block of block `number`, by its receiver, each behind `head`.
 fn write_codes<O: Sink>(
     alloc: Global,
+    head: &str,
     number: u32,
     receiver: &Receiver,
     out: &mut O,
 ) -> Result<(), RunFault>
     requires { O.failures out.old < 2 ^ 32 }
     ensures text { Writes (O.written out.old) (O.written out.new) result
-        (audit_block number receiver.now.link receiver.now.heard) }
+        (audit_block head.now number receiver.now.link receiver.now.heard) }
     ensures put { FailsAs RunFault.Write result (O.failures out.old) (O.failures out.new) }
 {
     for r in 0..receiver.plan().c {
-        write_code(alloc, number, receiver, r, out)?;
+        write_code(alloc, head, number, receiver, r, out)?;
     }
     Ok(())
 }
 
-// Writes the line of code block `r` of block `number`, by its receiver.
+// Writes the line of code block `r` of block `number`, by its receiver, behind `head`.
 fn write_code<O: Sink>(
     alloc: Global,
+    head: &str,
     number: u32,
     receiver: &Receiver,
     r: u32,
@@ -155,11 +287,21 @@ fn write_code<O: Sink>(
     requires puts { O.failures out.old < 2 ^ 32 }
     requires there { r < receiver.now.link.plan.c }
     ensures text { Writes (O.written out.old) (O.written out.new) result
-        (audit_line number receiver.now.link receiver.now.heard r) }
+        (head.now ++ audit_line number receiver.now.link receiver.now.heard r) }
     ensures put { FailsAs RunFault.Write result (O.failures out.old) (O.failures out.new) }
 {
     let line = line_of(alloc, number, receiver, r)?;
-    deliver(out, line.as_bytes())
+    let whole = behind(alloc, head, &line)?;
+    deliver(out, whole.as_bytes())
+}
+
+// A line behind its first words.
+fn behind(alloc: Global, head: &str, line: &str) -> Result<String, AllocError>
+    ensures { IfOk result (λ whole. string_bytes whole ≡ head.now ++ line.now) }
+{
+    let mut whole = String::new(alloc);
+    write!(whole, "{head}{line}")?;
+    Ok(whole)
 }
 
 // The line of code block `r` of block `number`, by its receiver.
@@ -223,53 +365,54 @@ fn stuck_line(alloc: Global, number: u32, r: u32, positions: &[u32]) -> Result<S
     Ok(line)
 }
 
-// The receiving end of block `number` after the transmissions of the schedule, by its sender.
+// The receiving end of a sender's transport block after those of these transmissions that are of a process.
 fn end_of<'t>(
     alloc: Global,
     inputs: &'t Inputs,
-    number: u32,
     sender: &Sender,
+    process: u32,
+    transmissions: &[Transmission],
 ) -> Result<End<'t>, AllocError>
     requires { IsLinked inputs.now.table inputs.now.settings sender.now.link }
     ensures { IfOk result (λ end. HasHeard sender.now
-        (received sender.now (own number inputs.now.schedule.items)) end.receiver) }
+        (received sender.now (of_process process transmissions.now)) end.receiver) }
 {
     let mut end = new_end(alloc, inputs, sender)?;
-    hear_all(alloc, sender, number, &mut end.receiver, &inputs.schedule)?;
+    hear_all(alloc, sender, process, &mut end.receiver, transmissions)?;
     Ok(end)
 }
 
-// Makes the transmissions of block `number` by its sender, and has its receiver hear what arrives.
+// Makes those of these transmissions that are of a process, and has a receiver hear what arrives.
 fn hear_all(
     alloc: Global,
     sender: &Sender,
-    number: u32,
+    process: u32,
     receiver: &mut Receiver,
-    schedule: &[Transmission],
+    transmissions: &[Transmission],
 ) -> Result<(), AllocError>
     requires { HasHeard sender.now [] receiver.old }
     ensures { OnOk result (HasHeard sender.now
-        (received sender.now (own number schedule.now)) receiver.new) }
+        (received sender.now (of_process process transmissions.now)) receiver.new) }
 {
-    for transmission in schedule {
-        receive(alloc, sender, number, receiver, transmission)?;
+    for transmission in transmissions {
+        receive(alloc, sender, process, receiver, transmission)?;
     }
     Ok(())
 }
 
-// Sends a transmission if it is one of block `number`, and has the receiver hear what arrives.
+// Sends a transmission if it is one of a process, and has the receiver hear what arrives.
 fn receive(
     alloc: Global,
     sender: &Sender,
-    number: u32,
+    process: u32,
     receiver: &mut Receiver,
     transmission: &Transmission,
 ) -> Result<(), AllocError>
     ensures { OnOk result ((list : List Reception) → HasHeard sender.now list receiver.old
-        → HasHeard sender.now (list ++ received sender.now (own number (transmission.now ∷ [])))
-        receiver.new) }
+        → HasHeard sender.now
+        (list ++ received sender.now (of_process process (transmission.now ∷ []))) receiver.new) }
 {
-    if transmission.block != number {
+    if transmission.process != process {
         return Ok(());
     }
     hear(alloc, sender, receiver, transmission)

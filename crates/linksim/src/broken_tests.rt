@@ -28,6 +28,11 @@ const BLOCKS: &[u8] = b"01\n";
 
 const SCHEDULE: &[u8] = b"block,rv,g,qm,nl,erase\n1,0,24,4,1,-\n";
 
+// Two rounds of one HARQ process.
+const ROUNDS: &[u8] = b"block,rv,g,qm,nl,erase,flip,mask,process,fresh\n\
+    1,0,24,4,1,-,-,all,3,1\n\
+    1,0,32,1,1,-,-,all,3,1\n";
+
 // A command of the program.
 #[derive(Clone, Copy, Debug, PartialEq, Eq)]
 enum Command {
@@ -122,14 +127,19 @@ fn perform<T: Source, S: Source, B: Source, D: Source>(
 // what it wrote.
 type Ended = (Result<(), RunFault>, [u32; 4], Vec<u8>);
 
-// How a command ends over the four files, where one Source or the Sink breaks. The table gives 64 octets a pull, the
-// other files one, and the Sink takes one octet a put.
-fn ended(alloc: Global, command: Command, breaks: Breaks) -> Result<Ended, AllocError> {
+// How a command ends over a schedule and the three other files, where one Source or the Sink breaks. The table gives 64
+// octets a pull, the other files one, and the Sink takes one octet a put.
+fn ended(
+    alloc: Global,
+    command: Command,
+    schedule: &[u8],
+    breaks: Breaks,
+) -> Result<Ended, AllocError> {
     let text = practice_table(alloc)?;
     let mut table = source_of(alloc, File::Table, text.as_bytes(), 64, breaks)?;
     let mut settings = source_of(alloc, File::Settings, SETTINGS, 1, breaks)?;
     let mut blocks = source_of(alloc, File::Blocks, BLOCKS, 1, breaks)?;
-    let mut schedule = source_of(alloc, File::Schedule, SCHEDULE, 1, breaks)?;
+    let mut schedule = source_of(alloc, File::Schedule, schedule, 1, breaks)?;
     let fail = match breaks {
         Breaks::Pull(_, _) => 0,
         Breaks::Put(k) => k,
@@ -150,12 +160,12 @@ fn ended(alloc: Global, command: Command, breaks: Breaks) -> Result<Ended, Alloc
 
 // How often a file is pulled that is read to its end: the table's 2,677 octets by 64, the other files by one, and once
 // for the end.
-fn pulls_of(file: File) -> u32 {
+fn pulls_of(file: File, schedule: &[u8]) -> u32 {
     match file {
         File::Table => 43,
         File::Settings => 17,
         File::Blocks => 4,
-        File::Schedule => 37,
+        File::Schedule => schedule.len().min(1000) as u32 + 1,
     }
 }
 
@@ -181,15 +191,16 @@ fn unread(file: File) -> RunFault {
     }
 }
 
-// A command whose file is Broken at its k-th pull, for each k: the last one meets the end.
+// A command over a schedule whose file is Broken at its k-th pull, for each k: the last one meets the end.
 fn breaks_at_each_pull(
     rt: &impl Abort,
     alloc: Global,
     command: Command,
+    schedule: &[u8],
     file: File,
 ) -> Result<(), Fail> {
-    for k in 1..=pulls_of(file) {
-        let (answer, pulls, written) = ended(alloc, command, Breaks::Pull(file, k))?;
+    for k in 1..=pulls_of(file, schedule) {
+        let (answer, pulls, written) = ended(alloc, command, schedule, Breaks::Pull(file, k))?;
         assert_eq!(rt; answer, Err(unread(file)), "{command:?} at pull {k}");
         assert_eq!(rt;
             pulls,
@@ -204,7 +215,7 @@ fn breaks_at_each_pull(
 #[test]
 fn a_broken_table_is_read(rt: HostRuntime) -> Result<(), Fail> {
     for command in [Command::Check, Command::Send, Command::Run, Command::Audit] {
-        breaks_at_each_pull(&rt, rt.alloc(), command, File::Table)?;
+        breaks_at_each_pull(&rt, rt.alloc(), command, SCHEDULE, File::Table)?;
     }
     Ok(())
 }
@@ -212,7 +223,7 @@ fn a_broken_table_is_read(rt: HostRuntime) -> Result<(), Fail> {
 #[test]
 fn broken_settings_are_read(rt: HostRuntime) -> Result<(), Fail> {
     for command in [Command::Send, Command::Run, Command::Audit] {
-        breaks_at_each_pull(&rt, rt.alloc(), command, File::Settings)?;
+        breaks_at_each_pull(&rt, rt.alloc(), command, SCHEDULE, File::Settings)?;
     }
     Ok(())
 }
@@ -220,7 +231,7 @@ fn broken_settings_are_read(rt: HostRuntime) -> Result<(), Fail> {
 #[test]
 fn broken_blocks_are_read(rt: HostRuntime) -> Result<(), Fail> {
     for command in [Command::Cut, Command::Send, Command::Run, Command::Audit] {
-        breaks_at_each_pull(&rt, rt.alloc(), command, File::Blocks)?;
+        breaks_at_each_pull(&rt, rt.alloc(), command, SCHEDULE, File::Blocks)?;
     }
     Ok(())
 }
@@ -228,22 +239,34 @@ fn broken_blocks_are_read(rt: HostRuntime) -> Result<(), Fail> {
 #[test]
 fn a_broken_schedule_is_read(rt: HostRuntime) -> Result<(), Fail> {
     for command in [Command::Send, Command::Run, Command::Audit] {
-        breaks_at_each_pull(&rt, rt.alloc(), command, File::Schedule)?;
+        breaks_at_each_pull(&rt, rt.alloc(), command, SCHEDULE, File::Schedule)?;
     }
     Ok(())
 }
 
-// A command whose Sink is Broken at its k-th put, for each k: the text's first k - 1 octets are written. Behind the
-// text's last octet there is no put.
+#[test]
+fn broken_files_are_read_by_rounds(rt: HostRuntime) -> Result<(), Fail> {
+    for command in [Command::Run, Command::Audit] {
+        for file in [File::Table, File::Settings, File::Blocks, File::Schedule] {
+            breaks_at_each_pull(&rt, rt.alloc(), command, ROUNDS, file)?;
+        }
+    }
+    Ok(())
+}
+
+// A command over a schedule whose Sink is Broken at its k-th put, for each k: the text's first k - 1 octets are written.
+// Behind the text's last octet there is no put.
 fn breaks_at_each_put(
     rt: &impl Abort,
     alloc: Global,
     command: Command,
+    schedule: &[u8],
     text: &[u8],
 ) -> Result<(), Fail> {
     assert!(rt; text.len() < 1000);
     for before in 0..=text.len() {
-        let (answer, _, written) = ended(alloc, command, Breaks::Put(before as u32 + 1))?;
+        let breaks = Breaks::Put(before as u32 + 1);
+        let (answer, _, written) = ended(alloc, command, schedule, breaks)?;
         let want = if before < text.len() {
             Err(RunFault::Write)
         } else {
@@ -270,29 +293,61 @@ const AUDIT: &[u8] =
     b"stuck 1 0 28 4 5 6 7 48 49 50 51 52 53 54 55 84 85 86 87 124 125 126 127 164 165 166 167 \
     204 205 206 207\n";
 
+// The same of the first round, which the second one ends; 32 bits leave nothing, and of 208 positions 16 are fillers.
+const RUN_BY_ROUNDS: &[u8] = b"sent 1 1 000a51\n\
+    left 1 1 0 4\n\
+    process 3 block 1 open tx 1 failed 1 of 1\n\
+    sent 2 1 10210330\n\
+    left 2 1 0 0\n\
+    process 3 block 1 delivered tx 1 failed 0 of 1 01\n\
+    total rounds 2 delivered 1 open 1 contradiction 0 codeblocks 2 failed 1\n";
+
+const AUDIT_BY_ROUNDS: &[u8] =
+    b"process 3 stuck 1 0 28 4 5 6 7 48 49 50 51 52 53 54 55 84 85 86 87 124 125 126 127 164 165 166 167 \
+    204 205 206 207\n\
+    process 3 order 1 0 160\n";
+
 #[test]
 fn cut_writes_until_the_sink_breaks(rt: HostRuntime) -> Result<(), Fail> {
-    breaks_at_each_put(&rt, rt.alloc(), Command::Cut, FIRST)
+    breaks_at_each_put(&rt, rt.alloc(), Command::Cut, SCHEDULE, FIRST)
 }
 
 #[test]
 fn check_writes_until_the_sink_breaks(rt: HostRuntime) -> Result<(), Fail> {
-    breaks_at_each_put(&rt, rt.alloc(), Command::Check, b"graph 2 entries 105\n")
+    breaks_at_each_put(
+        &rt,
+        rt.alloc(),
+        Command::Check,
+        SCHEDULE,
+        b"graph 2 entries 105\n",
+    )
 }
 
 #[test]
 fn send_writes_until_the_sink_breaks(rt: HostRuntime) -> Result<(), Fail> {
-    breaks_at_each_put(&rt, rt.alloc(), Command::Send, b"sent 1 1 000a51\n")
+    breaks_at_each_put(
+        &rt,
+        rt.alloc(),
+        Command::Send,
+        SCHEDULE,
+        b"sent 1 1 000a51\n",
+    )
 }
 
 #[test]
 fn run_writes_until_the_sink_breaks(rt: HostRuntime) -> Result<(), Fail> {
-    breaks_at_each_put(&rt, rt.alloc(), Command::Run, RUN)
+    breaks_at_each_put(&rt, rt.alloc(), Command::Run, SCHEDULE, RUN)
 }
 
 #[test]
 fn audit_writes_until_the_sink_breaks(rt: HostRuntime) -> Result<(), Fail> {
-    breaks_at_each_put(&rt, rt.alloc(), Command::Audit, AUDIT)
+    breaks_at_each_put(&rt, rt.alloc(), Command::Audit, SCHEDULE, AUDIT)
+}
+
+#[test]
+fn rounds_are_written_until_the_sink_breaks(rt: HostRuntime) -> Result<(), Fail> {
+    breaks_at_each_put(&rt, rt.alloc(), Command::Run, ROUNDS, RUN_BY_ROUNDS)?;
+    breaks_at_each_put(&rt, rt.alloc(), Command::Audit, ROUNDS, AUDIT_BY_ROUNDS)
 }
 
 // How a command ends over the practice table, where the three other files have no end: what it answered, how often it
@@ -398,9 +453,14 @@ fn transmissions_of_beginning(columns: u32, octets: usize) -> Result<usize, Sche
         (7, 41 | 43 | 44) => Err(ScheduleFault::Flip(2)),
         (7, _) => Ok(1),
         (_, 28..=31) => Err(ScheduleFault::Header),
-        (_, 32 | 33) => Ok(0),
-        (_, 34..=49) => Err(ScheduleFault::Csv(2)),
-        (_, 50..=52) => Err(ScheduleFault::Mask(2)),
+        (8, 32 | 33) => Ok(0),
+        (8, 34..=49) => Err(ScheduleFault::Csv(2)),
+        (8, 50..=52) => Err(ScheduleFault::Mask(2)),
+        (8, _) => Ok(1),
+        (_, 32 | 46 | 47) => Ok(0),
+        (_, 33..=45) => Err(ScheduleFault::Header),
+        (_, 48..=68) => Err(ScheduleFault::Csv(2)),
+        (_, 69) => Err(ScheduleFault::Fresh(2)),
         (_, _) => Ok(1),
     }
 }
@@ -418,10 +478,16 @@ fn beginnings_of_schedules(rt: HostRuntime) -> Result<(), Fail> {
             8,
             b"block,rv,g,qm,nl,erase,flip,mask\n1,0,24,4,1,-,110,all\n",
         ),
+        (
+            10,
+            b"block,rv,g,qm,nl,erase,flip,mask,process,fresh\n1,0,24,4,1,-,-,all,15,1\n",
+        ),
     ] {
         for octets in 0..=text.len() {
             let mut source = feed(rt.alloc(), &text[..octets])?;
-            let answer = read_schedule(rt.alloc(), 1, &mut source).map(|schedule| schedule.len());
+            let answer = read_schedule(rt.alloc(), 1, &mut source).map(|schedule| schedule
+                .transmissions
+                .len());
             let want = transmissions_of_beginning(columns, octets);
             assert_eq!(rt;
                 answer,

@@ -7,12 +7,12 @@ ghost use Rattle.nr_shifttable.specs.Accepted.{IsTable};
 ghost use Rattle.linksim.specs.Blocks.{IsBlockLength};
 ghost use Rattle.linksim.specs.Command.{FailsAs, IsOfBlock};
 ghost use Rattle.linksim.specs.Inputs.{IsFirst, LeavesLater, OfFour, files_said, given_by, sender_said, senders_from};
-ghost use Rattle.linksim.specs.Schedule.{HasBlock};
+ghost use Rattle.linksim.specs.Schedule.{HasBlock, IsTimetable, timetable_by};
 
 use crate::blocks::BlocksFault;
 use crate::cut::read_blocks;
 use crate::fault::{DeskFault, RunFault};
-use crate::schedule::{ScheduleFault, Transmission, read_schedule};
+use crate::schedule::{Schedule, ScheduleFault, read_schedule};
 use crate::settings::{SettingsFault, read_settings};
 use nr_bitvec::Bits;
 use nr_blockdesk::{Sender, Settings};
@@ -28,8 +28,8 @@ pub struct Inputs {
     pub settings: Settings,
     /// The transport blocks as octets, in their order.
     pub blocks: Vec<Vec<u8>>,
-    /// The transmissions, in their order.
-    pub schedule: Vec<Transmission>,
+    /// The transmissions, in their order, and whether they name HARQ processes.
+    pub schedule: Schedule,
 }
 
 /// Reads the four files of a command over a schedule, each to its end, and judges them, in the order of the
@@ -61,7 +61,9 @@ pub fn read<T: Source, S: Source, B: Source, D: Source>(
     ensures sizes { IfOk result
         (λ inputs. All (λ block. IsBlockLength (length block.items)) inputs.blocks.items) }
     ensures named { IfOk result
-        (λ inputs. All (HasBlock (length inputs.blocks.items)) inputs.schedule.items) }
+        (λ inputs. All (HasBlock (length inputs.blocks.items)) inputs.schedule.transmissions.items) }
+    ensures timetable { IfOk result
+        (λ inputs. IsTimetable (length inputs.blocks.items) (timetable_by inputs.schedule)) }
     ensures table { FailsAs (RunFault.Table TableFault.Read) result
         (T.failures table.old) (T.failures table.new) }
     ensures settings { FailsAs (RunFault.Settings SettingsFault.Read) result

@@ -31,6 +31,9 @@ pub mod places;
 #[cfg(test)]
 mod program_tests;
 pub mod received;
+#[cfg(test)]
+mod round_tests;
+pub mod rounds;
 pub mod run;
 #[cfg(test)]
 mod run_tests;

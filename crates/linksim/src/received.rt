@@ -164,23 +164,31 @@ pub fn sum_up(senders: &[Sender], ends: &[Option<End>]) -> Totals
     ensures { (schedule : List Transmission) → AllHold senders.now schedule ends.now
         → result ≡ totals_from no_totals 1 senders.now schedule }
 {
-    let mut totals = Totals {
-        blocks: 0,
-        delivered: 0,
-        open_still: 0,
-        contradiction: 0,
-        code_blocks: 0,
-        failed: 0,
-    };
+    let mut totals = no_totals();
     for (index, sender) in senders.iter().enumerate() {
         totals = counted(totals, sender, &ends[index]);
     }
     totals
 }
 
-// The totals with a transport block more.
-fn counted(totals: Totals, sender: &Sender, end: &Option<End>) -> Totals
-    requires few { IsWithin 256 totals }
+/// No transport block, and no round.
+pub fn no_totals() -> Totals
+    ensures value { result ≡ no_totals }
+    ensures none { IsWithin 0 result }
+{
+    Totals {
+        blocks: 0,
+        delivered: 0,
+        open_still: 0,
+        contradiction: 0,
+        code_blocks: 0,
+        failed: 0,
+    }
+}
+
+/// The totals with a transport block or a round more.
+pub fn counted(totals: Totals, sender: &Sender, end: &Option<End>) -> Totals
+    requires few { IsWithin 65535 totals }
     requires linked { IsLink sender.now.link }
     ensures value { (list : List Reception) → Holds sender.now.link list end.now
         → result ≡ counted totals sender.now.link list }

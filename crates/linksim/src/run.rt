@@ -1,12 +1,15 @@
 //! The command `run`.
 
-ghost use Rattle.std.specs.Prelude.{◌≡◌, ◌≢◌, ℕ, ◌-◌, ◌^◌, ◌<◌, ◌≤◌, ◌++◌, [], All, List, Ok, Err, None, length, replicate, IfErr, IfOk, IsErr, OnOk};
+ghost use Rattle.std.specs.Prelude.{◌≡◌, ◌≢◌, ℕ, ◌+◌, ◌-◌, ◌^◌, ◌<◌, ◌≤◌, ◌++◌, if◌then◌else◌, true, false, [], All, List, Ok, Err, None, length, replicate, IfErr, IfOk, IsErr, OnOk};
 ghost use Rattle.std.specs.String.{string_bytes};
 ghost use Rattle.linksim.specs.Command.{Delivers, FailsAs, Writes};
-ghost use Rattle.linksim.specs.Ends.{AllHold, HasReceived, Holds, IsLinked};
+ghost use Rattle.linksim.specs.Ends.{AllHold, AreOfRounds, HasReceived, HoldRounds, Holds, HoldsRound, IsLinked, IsWithin};
 ghost use Rattle.linksim.specs.Inputs.{IsFirst, LeavesLater, OfFour};
-ghost use Rattle.linksim.specs.RunText.{contradiction_line, delivered_line, left_line, left_lines, lines_of, open_line, outcome_line, outcome_lines, received_of, run_lines, run_said, run_text, totals_line};
-ghost use Rattle.linksim.specs.Schedule.{HasBlock};
+ghost use Rattle.linksim.specs.ProcessTexts.{last_line, process_words, round_counted, rounds_counted, run_ends, run_said, run_words, text_of_run};
+ghost use Rattle.linksim.specs.RoundTexts.{joined, round_lines, turns};
+ghost use Rattle.linksim.specs.Rounds.{continued, ended_rounds, round_of};
+ghost use Rattle.linksim.specs.RunText.{contradiction_line, delivered_line, left_line, left_lines, lines_of, no_totals, open_line, outcome_line, outcome_lines, received_of};
+ghost use Rattle.linksim.specs.Schedule.{HasBlock, IsTimetable, timetable_by};
 ghost use Rattle.linksim.specs.SendText.{refused_line, sent_line};
 ghost use Rattle.linksim.specs.declared.schedule.Transmission.{Transmission};
 ghost use Rattle.nr_blockdesk.specs.Explains.{Reception};
@@ -18,8 +21,9 @@ use crate::deliver::deliver;
 use crate::fault::{DeskFault, RunFault};
 use crate::hearing::heard_through;
 use crate::inputs::{Inputs, read, senders};
-use crate::received::{End, Totals, no_ends, receive, sum_up, unfixed};
-use crate::schedule::{ScheduleFault, Transmission};
+use crate::received::{End, Totals, counted, no_ends, no_totals, receive, sum_up, unfixed};
+use crate::rounds::{process_words, round_block};
+use crate::schedule::{PROCESSES, ScheduleFault, Transmission};
 use crate::send::{refused_line, said_of, sent_line};
 use crate::settings::SettingsFault;
 use crate::sink::Sink;
@@ -97,48 +101,206 @@ fn write_run<O: Sink>(
     requires few { length senders.now ≤ 256 }
     requires linked { All (λ sender. IsLinked inputs.now.table inputs.now.settings sender.link)
         senders.now }
-    requires named { All (HasBlock (length senders.now)) inputs.now.schedule.items }
+    requires timetable { IsTimetable (length senders.now) (timetable_by inputs.now.schedule) }
     ensures text { Writes (O.written out.old) (O.written out.new) result
-        (run_text senders.now inputs.now.schedule.items) }
+        (text_of_run senders.now (timetable_by inputs.now.schedule)) }
     ensures put { FailsAs RunFault.Write result (O.failures out.old) (O.failures out.new) }
 {
-    let mut ends = no_ends(alloc, senders.len())?;
-    write_transmissions(alloc, inputs, senders, &mut ends, out)?;
-    write_outcomes(alloc, senders, &ends, out)?;
-    write_totals(alloc, &sum_up(senders, &ends), out)
+    let by_process = inputs.schedule.by_process;
+    let schedule = inputs.schedule.transmissions.as_slice();
+    let mut ends = no_ends(alloc, places(by_process, senders.len()))?;
+    let totals = write_transmissions(alloc, inputs, senders, &mut ends, out)?;
+    if by_process {
+        write_rounds(alloc, senders, schedule, &ends, totals, out)
+    } else {
+        write_blocks(alloc, senders, &ends[1..], out)
+    }
 }
 
-// Makes the transmissions, and writes the lines of each.
+// How many places a run has: one for each HARQ process, or one for each transport block, by its number.
+fn places(by_process: bool, blocks: usize) -> usize
+    requires { blocks ≤ 256 }
+    ensures { result ≡ (if by_process then 16 else blocks + 1) }
+{
+    if by_process {
+        PROCESSES as usize
+    } else {
+        blocks + 1
+    }
+}
+
+// Makes the transmissions, and writes the lines of each, with those of the rounds that it ends; answers how these end.
 fn write_transmissions<'t, O: Sink>(
     alloc: Global,
     inputs: &'t Inputs,
     senders: &[Sender],
     ends: &mut [Option<End<'t>>],
     out: &mut O,
-) -> Result<(), RunFault>
+) -> Result<Totals, RunFault>
     requires puts { O.failures out.old < 2 ^ 32 }
     requires linked { All (λ sender. IsLinked inputs.now.table inputs.now.settings sender.link)
         senders.now }
-    requires named { All (HasBlock (length senders.now)) inputs.now.schedule.items }
-    requires fresh { ends.old ≡ replicate (length senders.now) None }
+    requires named { All (HasBlock (length senders.now)) inputs.now.schedule.transmissions.items }
+    requires few { length inputs.now.schedule.transmissions.items ≤ 4096 }
+    requires placed { All (λ x. x.process < length ends.old)
+        inputs.now.schedule.transmissions.items }
+    requires rounds { AreOfRounds inputs.now.schedule.transmissions.items }
+    requires nothing { ends.old ≡ replicate (length ends.old) None }
     ensures text { Writes (O.written out.old) (O.written out.new) result
-        (run_lines senders.now [] inputs.now.schedule.items) }
-    ensures long { OnOk result (length ends.new ≡ length senders.now) }
-    ensures held { OnOk result (AllHold senders.now inputs.now.schedule.items ends.new) }
+        (joined (turns run_words senders.now [] inputs.now.schedule.transmissions.items)) }
+    ensures long { OnOk result (length ends.new ≡ length ends.old) }
+    ensures held { OnOk result
+        (HoldRounds senders.now inputs.now.schedule.transmissions.items ends.new) }
+    ensures totals { IfOk result (λ totals. totals ≡ rounds_counted no_totals senders.now
+        (ended_rounds [] inputs.now.schedule.transmissions.items)) }
+    ensures within { IfOk result (IsWithin 4096) }
     ensures put { FailsAs RunFault.Write result (O.failures out.old) (O.failures out.new) }
 {
-    for transmission in &inputs.schedule {
-        let at = transmission.block as usize - 1;
-        carry(
-            alloc,
-            inputs,
-            &senders[at],
-            &mut ends[at],
-            transmission,
-            out,
-        )?;
+    let schedule = inputs.schedule.transmissions.as_slice();
+    let mut totals = no_totals();
+    for (index, transmission) in schedule.iter().enumerate() {
+        let before = &schedule[..index];
+        let sender = &senders[transmission.block as usize - 1];
+        let end = &mut ends[transmission.process as usize];
+        totals = begin_round(alloc, senders, before, transmission, end, totals, out)?;
+        carry(alloc, inputs, sender, end, transmission, out)?;
     }
-    Ok(())
+    Ok(totals)
+}
+
+// Where a transmission is fresh, ends the round of its process, and forgets what was received of it.
+fn begin_round<O: Sink>(
+    alloc: Global,
+    senders: &[Sender],
+    before: &[Transmission],
+    transmission: &Transmission,
+    end: &mut Option<End>,
+    totals: Totals,
+    out: &mut O,
+) -> Result<Totals, RunFault>
+    requires puts { O.failures out.old < 2 ^ 32 }
+    requires linked { All (λ sender. IsLink sender.link) senders.now }
+    requires named { All (HasBlock (length senders.now)) before.now }
+    requires few { IsWithin 65535 totals }
+    requires held { HoldsRound senders.now (round_of transmission.now.process before.now) end.old }
+    ensures text { Writes (O.written out.old) (O.written out.new) result
+        (if transmission.now.fresh
+        then round_lines run_words senders.now transmission.now.process
+        (round_of transmission.now.process before.now)
+        else []) }
+    ensures held { OnOk result
+        (HoldsRound senders.now (continued before.now transmission.now) end.new) }
+    ensures totals { IfOk result (λ t. t ≡ (if transmission.now.fresh
+        then round_counted totals senders.now (round_of transmission.now.process before.now)
+        else totals)) }
+    ensures grows { IfOk result (λ t. (n : ℕ) → IsWithin n totals → IsWithin (n + 1) t) }
+    ensures put { FailsAs RunFault.Write result (O.failures out.old) (O.failures out.new) }
+{
+    if !transmission.fresh {
+        return Ok(totals);
+    }
+    let process = transmission.process;
+    let totals = end_round(alloc, senders, before, process, end, totals, out)?;
+    *end = None;
+    Ok(totals)
+}
+
+// Writes the line of the round that a process is in after these transmissions, and counts it, if it is in one.
+fn end_round<O: Sink>(
+    alloc: Global,
+    senders: &[Sender],
+    before: &[Transmission],
+    process: u32,
+    end: &Option<End>,
+    totals: Totals,
+    out: &mut O,
+) -> Result<Totals, RunFault>
+    requires puts { O.failures out.old < 2 ^ 32 }
+    requires linked { All (λ sender. IsLink sender.link) senders.now }
+    requires named { All (HasBlock (length senders.now)) before.now }
+    requires few { IsWithin 65535 totals }
+    requires held { HoldsRound senders.now (round_of process before.now) end.now }
+    ensures text { Writes (O.written out.old) (O.written out.new) result
+        (round_lines run_words senders.now process (round_of process before.now)) }
+    ensures totals { IfOk result
+        (λ t. t ≡ round_counted totals senders.now (round_of process before.now)) }
+    ensures grows { IfOk result (λ t. (n : ℕ) → IsWithin n totals → IsWithin (n + 1) t) }
+    ensures put { FailsAs RunFault.Write result (O.failures out.old) (O.failures out.new) }
+{
+    match round_block(process, before) {
+        None => Ok(totals),
+        Some(number) => {
+            let sender = &senders[number as usize - 1];
+            let line = round_line(alloc, process, number, sender, end)?;
+            deliver(out, &line)?;
+            Ok(counted(totals, sender, end))
+        }
+    }
+}
+
+// The line of a round of a process, and of transport block `number`.
+fn round_line(
+    alloc: Global,
+    process: u32,
+    number: u32,
+    sender: &Sender,
+    end: &Option<End>,
+) -> Result<Vec<u8>, AllocError>
+    requires { IsLink sender.now.link }
+    ensures { IfOk result (λ line. (list : List Reception) → Holds sender.now.link list end.now
+        → line.items ≡ process_words process ++ outcome_line number sender.now.link list) }
+{
+    let mut line = process_words(alloc, process)?.into_bytes();
+    line.extend_from_slice(&outcome_line(alloc, number, sender, end)?)?;
+    Ok(line)
+}
+
+// Writes the line of each round that no transmission ends, by process, and the totals.
+fn write_rounds<O: Sink>(
+    alloc: Global,
+    senders: &[Sender],
+    schedule: &[Transmission],
+    ends: &[Option<End>],
+    totals: Totals,
+    out: &mut O,
+) -> Result<(), RunFault>
+    requires puts { O.failures out.old < 2 ^ 32 }
+    requires linked { All (λ sender. IsLink sender.link) senders.now }
+    requires named { All (HasBlock (length senders.now)) schedule.now }
+    requires long { length ends.now ≡ 16 }
+    requires held { HoldRounds senders.now schedule.now ends.now }
+    requires totals { totals ≡ rounds_counted no_totals senders.now (ended_rounds [] schedule.now) }
+    requires few { IsWithin 4096 totals }
+    ensures text { Writes (O.written out.old) (O.written out.new) result
+        (run_ends true senders.now schedule.now) }
+    ensures put { FailsAs RunFault.Write result (O.failures out.old) (O.failures out.new) }
+{
+    let mut totals = totals;
+    for process in 0..PROCESSES {
+        let end = &ends[process as usize];
+        totals = end_round(alloc, senders, schedule, process, end, totals, out)?;
+    }
+    write_totals(alloc, "rounds", &totals, out)
+}
+
+// Writes the line of each transport block, and the totals.
+fn write_blocks<O: Sink>(
+    alloc: Global,
+    senders: &[Sender],
+    ends: &[Option<End>],
+    out: &mut O,
+) -> Result<(), RunFault>
+    requires puts { O.failures out.old < 2 ^ 32 }
+    requires few { length senders.now ≤ 256 }
+    requires long { length ends.now ≡ length senders.now }
+    requires linked { All (λ sender. IsLink sender.link) senders.now }
+    ensures text { (schedule : List Transmission) → AllHold senders.now schedule ends.now
+        → Writes (O.written out.old) (O.written out.new) result
+        (run_ends false senders.now schedule) }
+    ensures put { FailsAs RunFault.Write result (O.failures out.old) (O.failures out.new) }
+{
+    write_outcomes(alloc, senders, ends, out)?;
+    write_totals(alloc, "blocks", &sum_up(senders, ends), out)
 }
 
 // Makes a transmission of a sender's transport block, and writes its lines.
@@ -401,25 +563,30 @@ fn contradiction_line(
     Ok(line.into_bytes())
 }
 
-// Writes the last line.
-fn write_totals<O: Sink>(alloc: Global, totals: &Totals, out: &mut O) -> Result<(), RunFault>
+// Writes the last line: how so many blocks or rounds end.
+fn write_totals<O: Sink>(
+    alloc: Global,
+    name: &str,
+    totals: &Totals,
+    out: &mut O,
+) -> Result<(), RunFault>
     requires { O.failures out.old < 2 ^ 32 }
     ensures text { Writes (O.written out.old) (O.written out.new) result
-        (totals_line totals.now) }
+        (last_line name.now totals.now) }
     ensures put { FailsAs RunFault.Write result (O.failures out.old) (O.failures out.new) }
 {
-    let line = totals_line(alloc, totals)?;
+    let line = last_line(alloc, name, totals)?;
     deliver(out, line.as_bytes())
 }
 
-// The last line.
-fn totals_line(alloc: Global, totals: &Totals) -> Result<String, AllocError>
-    ensures { IfOk result (λ line. string_bytes line ≡ totals_line totals.now) }
+// The last line: how so many blocks or rounds end.
+fn last_line(alloc: Global, name: &str, totals: &Totals) -> Result<String, AllocError>
+    ensures { IfOk result (λ line. string_bytes line ≡ last_line name.now totals.now) }
 {
     let mut line = String::new(alloc);
     write!(
         line,
-        "total blocks {} delivered {} open {}",
+        "total {name} {} delivered {} open {}",
         totals.blocks, totals.delivered, totals.open_still
     )?;
     writeln!(

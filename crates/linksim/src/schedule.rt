@@ -1,12 +1,13 @@
 //! The schedule file: its transmissions, one a record.
 
-ghost use Rattle.std.specs.Prelude.{◌≡◌, ◌^◌, ◌<◌, ◌≤◌, All, IfOk, IfSome, length, map};
+ghost use Rattle.std.specs.Prelude.{◌≡◌, ◌^◌, ◌<◌, ◌≤◌, ◌==◌, ◌&&◌, true, if◌then◌else◌, All, Some, IfOk, IfSome, length, map};
 ghost use Rattle.std.specs.List.{range_with_len};
 ghost use Rattle.csv.specs.Records.{fields_of};
 ghost use Rattle.nr_graphpick.specs.Refusal.{Gives};
 ghost use Rattle.nr_shifttable.specs.Records.{records_of};
 ghost use Rattle.linksim.specs.Command.{FailsAs};
-ghost use Rattle.linksim.specs.Schedule.{HasBlock, block_in, erasure_at, field, flip_at, is_called, is_header, is_there, is_width, mask_at, number_at, schedule_of, schedule_said, transmission_of};
+ghost use Rattle.linksim.specs.Rounds.{round_of};
+ghost use Rattle.linksim.specs.Schedule.{EachGoesOn, HasBlock, IsPlaced, block_in, erasure_at, field, flip_at, fresh_at, fresh_block, is_called, is_header, is_of_block, is_there, is_width, mask_at, number_at, process_at, schedule_of, schedule_said, timetable_by, transmission_of};
 
 use crate::erasure::{Erasure, Places};
 use crate::places::{erasure_of, mask_of, places_of, short_word};
@@ -22,6 +23,12 @@ const MOST_OCTETS: usize = 16_777_216;
 
 // The last record that may be a transmission: a header and 4,096 transmissions.
 const LAST_RECORD: u32 = 4097;
+
+// How many columns a schedule has that names HARQ processes.
+const WIDTH_BY_PROCESS: usize = 10;
+
+/// How many HARQ processes a receiving end has (TS 38.214, 5.1).
+pub const PROCESSES: u32 = 16;
 
 /// Why a schedule file is refused. Records count from 1, the header being record 1.
 #[derive(Clone, Copy, Debug, PartialEq, Eq, Error)]
@@ -56,6 +63,13 @@ pub enum ScheduleFault {
     /// The record's field `mask` schedules no code blocks.
     #[error("Mask {0}")]
     Mask(u32),
+    /// The record's field `process` is no number below 16.
+    #[error("Process {0}")]
+    Process(u32),
+    /// The record's field `fresh` is neither `0` nor `1`, or it is `0` and no fresh record of its process stands before
+    /// it, or the last of them names another block.
+    #[error("Fresh {0}")]
+    Fresh(u32),
     /// Memory ran out.
     #[error("Memory")]
     Memory,
@@ -96,6 +110,20 @@ pub struct Transmission {
     pub erasure: Erasure,
     /// The places whose bits the receiver hears the other way.
     pub flip: Places,
+    /// Its HARQ process, from 0 (TS 38.212, 7.3.1). Where the schedule names none it is the number of its block, which
+    /// so has a process of its own.
+    pub process: u32,
+    /// Whether its process forgets what it received before. Where the schedule does not say it, none is fresh.
+    pub fresh: bool,
+}
+
+/// What a schedule says.
+#[derive(Drop)]
+pub struct Schedule {
+    /// Whether it names a HARQ process for each transmission.
+    pub by_process: bool,
+    /// The transmissions, in their order.
+    pub transmissions: Vec<Transmission>,
 }
 
 /// Reads a schedule file to its end, and judges it, for so many transport blocks.
@@ -107,14 +135,19 @@ pub fn read_schedule<S: Source>(
     alloc: Global,
     blocks: u32,
     source: &mut S,
-) -> Result<Vec<Transmission>, ScheduleFault>
+) -> Result<Schedule, ScheduleFault>
     requires { S.failures source.old < 2 ^ 32 }
     ensures said { S.failures source.new ≡ S.failures source.old → IfSome (S.remaining source.old)
-        (λ octets. Gives ScheduleFault.Memory (λ v. v.items) result (schedule_said blocks octets)) }
-    ensures few { IfOk result (λ v. length v.items ≤ 4096) }
-    ensures blocks { IfOk result (λ v. All (HasBlock blocks) v.items) }
+        (λ octets. Gives ScheduleFault.Memory timetable_by result (schedule_said blocks octets)) }
+    ensures few { IfOk result (λ s. length s.transmissions.items ≤ 4096) }
+    ensures blocks { IfOk result (λ s. All (HasBlock blocks) s.transmissions.items) }
     ensures numbers { IfOk result
-        (λ v. map (λ t. t.number) v.items ≡ range_with_len 1 (length v.items)) }
+        (λ s. map (λ t. t.number) s.transmissions.items
+        ≡ range_with_len 1 (length s.transmissions.items)) }
+    ensures placed { IfOk result
+        (λ s. All (IsPlaced s.by_process) s.transmissions.items) }
+    ensures rounds { IfOk result
+        (λ s. s.by_process ≡ true → EachGoesOn s.transmissions.items) }
     ensures pulled { FailsAs ScheduleFault.Read result
         (S.failures source.old) (S.failures source.new) }
 {
@@ -129,34 +162,36 @@ pub fn read_schedule<S: Source>(
 
 /// Reads the text of a schedule file, for so many transport blocks.
 ///
-/// Record 1 is the header `block,rv,g,qm,nl,erase`, perhaps with `flip`, and then perhaps with `mask`. Each other
-/// record is a transmission, at most 4,096 of them, in their order. Spaces and tabs at both ends of a field are left
-/// out. `block` is the number of a block; `rv`, `g`, `qm` and `nl` are numbers of 32 bits, which are not judged
-/// here; `erase` is read by `erasure_of`, `flip` by `places_of` and `mask` by `mask_of`. Without these two columns no
-/// place is flipped, and all code blocks are scheduled.
+/// Record 1 is the header `block,rv,g,qm,nl,erase`, perhaps with `flip`, then perhaps with `mask`, and then perhaps
+/// with both `process` and `fresh`. Each other record is a transmission, at most 4,096 of them, in their order. Spaces
+/// and tabs at both ends of a field are left out. `block` is the number of a block; `rv`, `g`, `qm` and `nl` are
+/// numbers of 32 bits, which are not judged here; `erase` is read by `erasure_of`, `flip` by `places_of` and `mask` by
+/// `mask_of`; `process` is a number below 16, and `fresh` `0` or `1`. Without these columns no place is flipped, all
+/// code blocks are scheduled, and each block has a process of its own, of which no record is fresh.
 ///
 /// # Errors
 /// In this order: `TooLong`; `Header`; then record by record `Csv`, `TooMany`, `Number`, `Block`, `Erase`, `Flip`,
-/// `Mask`. `Memory` where a growth is refused.
-pub fn parse_schedule(
-    alloc: Global,
-    blocks: u32,
-    text: &[u8],
-) -> Result<Vec<Transmission>, ScheduleFault>
-    ensures said { Gives ScheduleFault.Memory (λ v. v.items) result
+/// `Mask`, `Process`, `Fresh`. `Memory` where a growth is refused.
+pub fn parse_schedule(alloc: Global, blocks: u32, text: &[u8]) -> Result<Schedule, ScheduleFault>
+    ensures said { Gives ScheduleFault.Memory timetable_by result
         (schedule_said blocks text.now) }
-    ensures few { IfOk result (λ v. length v.items ≤ 4096) }
-    ensures blocks { IfOk result (λ v. All (HasBlock blocks) v.items) }
+    ensures few { IfOk result (λ s. length s.transmissions.items ≤ 4096) }
+    ensures blocks { IfOk result (λ s. All (HasBlock blocks) s.transmissions.items) }
     ensures numbers { IfOk result
-        (λ v. map (λ t. t.number) v.items ≡ range_with_len 1 (length v.items)) }
+        (λ s. map (λ t. t.number) s.transmissions.items
+        ≡ range_with_len 1 (length s.transmissions.items)) }
+    ensures placed { IfOk result
+        (λ s. All (IsPlaced s.by_process) s.transmissions.items) }
+    ensures rounds { IfOk result
+        (λ s. s.by_process ≡ true → EachGoesOn s.transmissions.items) }
 {
     judged(alloc, blocks, text)
 }
 
 // The transmissions of a text, if it is not too long.
 #[tactic(auto, unfolding(crate::specs::Schedule::schedule_said))]
-fn judged(alloc: Global, blocks: u32, text: &[u8]) -> Result<Vec<Transmission>, ScheduleFault>
-    ensures { Gives ScheduleFault.Memory (λ v. v.items) result (schedule_said blocks text.now) }
+fn judged(alloc: Global, blocks: u32, text: &[u8]) -> Result<Schedule, ScheduleFault>
+    ensures { Gives ScheduleFault.Memory timetable_by result (schedule_said blocks text.now) }
 {
     if text.len() > MOST_OCTETS {
         return Err(ScheduleFault::TooLong);
@@ -165,9 +200,9 @@ fn judged(alloc: Global, blocks: u32, text: &[u8]) -> Result<Vec<Transmission>, 
 }
 
 // The transmissions, record by record.
-fn read_records(alloc: Global, blocks: u32, text: &[u8]) -> Result<Vec<Transmission>, ScheduleFault>
+fn read_records(alloc: Global, blocks: u32, text: &[u8]) -> Result<Schedule, ScheduleFault>
     requires { length text.now < 2 ^ 32 }
-    ensures { Gives ScheduleFault.Memory (λ v. v.items) result
+    ensures { Gives ScheduleFault.Memory timetable_by result
         (schedule_of blocks (records_of text.now)) }
 {
     let mut records = Records::new(alloc, text);
@@ -183,10 +218,13 @@ fn read_records(alloc: Global, blocks: u32, text: &[u8]) -> Result<Vec<Transmiss
     let mut number = 1;
     while records.next(&mut row)? {
         number += 1;
-        let transmission = transmission_of(alloc, blocks, width, number, &row)?;
+        let transmission = transmission_of(alloc, blocks, width, number, &transmissions, &row)?;
         transmissions.push(transmission)?;
     }
-    Ok(transmissions)
+    Ok(Schedule {
+        by_process: width == WIDTH_BY_PROCESS,
+        transmissions,
+    })
 }
 
 // Whether a record names the columns of a schedule.
@@ -203,13 +241,15 @@ fn is_header(row: &ByteRecord) -> bool
         && is_called(row, 5, b"erase")
         && is_there(row, 6, b"flip")
         && is_there(row, 7, b"mask")
+        && is_there(row, 8, b"process")
+        && is_there(row, 9, b"fresh")
 }
 
 // Whether a schedule may have so many columns.
 fn is_width(width: usize) -> bool
     ensures { result ≡ is_width width }
 {
-    width == 6 || width == 7 || width == 8
+    width == 6 || width == 7 || width == 8 || width == WIDTH_BY_PROCESS
 }
 
 // Whether a field is this word.
@@ -236,20 +276,21 @@ fn field(row: &ByteRecord, index: usize) -> &[u8]
     }
 }
 
-// What the record of this number says, in a schedule of so many columns.
+// What the record of this number says, in a schedule of so many columns, behind the transmissions before it.
 //
-// Errors, in this order: `Csv`, `TooMany`, `Number`, `Block`, `Erase`, `Flip`, `Mask`; `Memory`.
+// Errors, in this order: `Csv`, `TooMany`, `Number`, `Block`, `Erase`, `Flip`, `Mask`, `Process`, `Fresh`; `Memory`.
 #[tactic(auto, unfolding(crate::specs::Schedule::transmission_of))]
 fn transmission_of(
     alloc: Global,
     blocks: u32,
     width: usize,
     number: u32,
+    before: &[Transmission],
     row: &ByteRecord,
 ) -> Result<Transmission, ScheduleFault>
     requires { 1 ≤ number }
     ensures { Gives ScheduleFault.Memory (λ t. t) result
-        (transmission_of blocks width number (fields_of row.now)) }
+        (transmission_of blocks width number before.now (fields_of row.now)) }
 {
     if row.len() != width {
         return Err(ScheduleFault::Csv(number));
@@ -266,6 +307,8 @@ fn transmission_of(
     let erasure = erasure_at(alloc, number, row, 5)?;
     let flip = flip_at(alloc, number, row, 6)?;
     let mask = mask_at(alloc, number, row, 7)?;
+    let process = process_at(number, row, 8, block)?;
+    let fresh = fresh_at(number, row, 9, block, fresh_block(process, before))?;
     let number = number - 1;
     let tx = Tx {
         rv,
@@ -280,6 +323,8 @@ fn transmission_of(
         tx,
         erasure,
         flip,
+        process,
+        fresh,
     })
 }
 
@@ -355,6 +400,75 @@ fn mask_at(
     match mask_of(alloc, field(row, index))? {
         Some(mask) => Ok(mask),
         None => Err(ScheduleFault::Mask(number)),
+    }
+}
+
+// The HARQ process that a field of the record names, or where it has no such field the number of its block.
+fn process_at(number: u32, row: &ByteRecord, index: usize, block: u32) -> Result<u32, ScheduleFault>
+    ensures { result ≡ process_at number (fields_of row.now) index block }
+{
+    if row.len() <= index {
+        return Ok(block);
+    }
+    match short_word(field(row, index)) {
+        Some(process) if process < PROCESSES => Ok(process),
+        _ => Err(ScheduleFault::Process(number)),
+    }
+}
+
+// The block of the last fresh transmission of a process, if there is one.
+fn fresh_block(process: u32, before: &[Transmission]) -> Option<u32>
+    ensures { result ≡ fresh_block (round_of process before.now) }
+{
+    let mut block = None;
+    for transmission in before {
+        block = next_block(process, transmission, block);
+    }
+    block
+}
+
+// The same after one transmission more.
+fn next_block(process: u32, transmission: &Transmission, block: Option<u32>) -> Option<u32>
+    ensures { result ≡ (if (transmission.now.process == process) && transmission.now.fresh
+        then Some transmission.now.block else block) }
+{
+    if transmission.process == process && transmission.fresh {
+        Some(transmission.block)
+    } else {
+        block
+    }
+}
+
+// Whether a field of the record says that it is fresh, by the block of the round that its process is in. No record is
+// where it has no such field.
+fn fresh_at(
+    number: u32,
+    row: &ByteRecord,
+    index: usize,
+    block: u32,
+    begun: Option<u32>,
+) -> Result<bool, ScheduleFault>
+    ensures { result ≡ fresh_at number (fields_of row.now) index block begun }
+{
+    if row.len() <= index {
+        return Ok(false);
+    }
+    if is_called(row, index, b"1") {
+        return Ok(true);
+    }
+    if is_called(row, index, b"0") && is_of_block(block, begun) {
+        return Ok(false);
+    }
+    Err(ScheduleFault::Fresh(number))
+}
+
+// Whether a round was begun by a transmission of this block.
+fn is_of_block(block: u32, begun: Option<u32>) -> bool
+    ensures { result ≡ is_of_block block begun }
+{
+    match begun {
+        Some(begun) => begun == block,
+        None => false,
     }
 }
 

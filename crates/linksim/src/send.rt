@@ -73,7 +73,7 @@ pub fn send<T: Source, S: Source, B: Source, D: Source, O: Sink>(
 {
     let inputs = read(alloc, table, settings, blocks, schedule)?;
     let senders = senders(alloc, &inputs)?;
-    send_lines(alloc, &senders, &inputs.schedule, out)
+    send_lines(alloc, &senders, &inputs.schedule.transmissions, out)
 }
 
 // Writes the line of each transmission.

@@ -11,6 +11,8 @@ const SEVEN: &[u8] = b"block,rv,g,qm,nl,erase,flip\n";
 
 const EIGHT: &[u8] = b"block,rv,g,qm,nl,erase,flip,mask\n";
 
+const TEN: &[u8] = b"block,rv,g,qm,nl,erase,flip,mask,process,fresh\n";
+
 // A header and records.
 fn text_of(alloc: Global, header: &[u8], records: &[u8]) -> Result<Vec<u8>, AllocError> {
     let mut text = Vec::from_slice(alloc, header)?;
@@ -25,7 +27,7 @@ fn reads_a_schedule(rt: HostRuntime) -> Result<(), Fail> {
         EIGHT,
         b" 2 ,0,64,2,1,-,-,all\n\n1,3,4294967295,0,9,pcg:42:7,1 3-5,65 2\n",
     )?;
-    let schedule = read_schedule(rt.alloc(), 2, &mut Feed::new(text, 7, 0))?;
+    let schedule = read_schedule(rt.alloc(), 2, &mut Feed::new(text, 7, 0))?.transmissions;
     assert_eq!(rt; schedule.len(), 2);
     let tx = Tx {
         rv: 0,
@@ -74,8 +76,11 @@ fn reads_a_schedule(rt: HostRuntime) -> Result<(), Fail> {
 
 #[test]
 fn reads_a_header_alone(rt: HostRuntime) -> Result<(), Fail> {
-    for header in [SIX, SEVEN, EIGHT] {
-        assert_eq!(rt; parse_schedule(rt.alloc(), 1, header)?.len(), 0);
+    for header in [SIX, SEVEN, EIGHT, TEN] {
+        assert_eq!(rt;
+            parse_schedule(rt.alloc(), 1, header)?.transmissions.len(),
+            0
+        );
     }
     Ok(())
 }
@@ -118,13 +123,126 @@ fn refuses_the_first_fault(rt: HostRuntime) -> Result<(), Fail> {
     Ok(())
 }
 
+// The process of a transmission, and whether it is fresh.
+fn placed(schedule: &Schedule, index: usize) -> Option<(u32, bool)> {
+    let transmission = schedule.transmissions.get(index)?;
+    Some((transmission.process, transmission.fresh))
+}
+
+// The transmissions' processes, and which of them are fresh.
+#[test]
+fn reads_processes(rt: HostRuntime) -> Result<(), Fail> {
+    let text = text_of(
+        rt.alloc(),
+        TEN,
+        b"1,0,24,1,1,-,-,all,0,1\n2,0,24,1,1,-,-,all,0000000015,1\n1,0,28,1,1,-,-,all, 0 , 0 \n\
+          2,0,24,1,1,-,-,all,0,\t1 \n2,0,24,1,1,-,-,all,00,0\n",
+    )?;
+    let schedule = parse_schedule(rt.alloc(), 2, &text)?;
+    assert!(rt; schedule.by_process);
+    let wanted = [(0, true), (15, true), (0, false), (0, true), (0, false)];
+    assert_eq!(rt; schedule.transmissions.len(), wanted.len());
+    for (index, want) in wanted.iter().enumerate() {
+        assert_eq!(rt; placed(&schedule, index), Some(*want));
+    }
+    Ok(())
+}
+
+// Without the two columns each block has a process of its own, and none is fresh.
+#[test]
+fn names_processes_by_blocks(rt: HostRuntime) -> Result<(), Fail> {
+    let text = text_of(rt.alloc(), EIGHT, b"2,0,24,1,1,-,-,all\n")?;
+    let schedule = parse_schedule(rt.alloc(), 2, &text)?;
+    assert!(rt; !schedule.by_process);
+    assert_eq!(rt; placed(&schedule, 0), Some((2, false)));
+    Ok(())
+}
+
+// The two columns stand behind all others, and together.
+#[test]
+fn refuses_headers_of_processes(rt: HostRuntime) {
+    let headers: [&[u8]; 6] = [
+        b"block,rv,g,qm,nl,erase,process,fresh\n",
+        b"block,rv,g,qm,nl,erase,flip,process,fresh\n",
+        b"block,rv,g,qm,nl,erase,flip,mask,process\n",
+        b"block,rv,g,qm,nl,erase,mask,flip,process,fresh\n",
+        b"block,rv,g,qm,nl,erase,flip,mask,fresh,process\n",
+        b"block,rv,g,qm,nl,erase,flip,mask,process,fresh,x\n",
+    ];
+    for header in headers {
+        assert_eq!(rt;
+            parse_schedule(rt.alloc(), 1, header).err(),
+            Some(ScheduleFault::Header)
+        );
+    }
+}
+
+// A record's faults go from the left to the right, and those of a record before those of the next one.
+#[test]
+fn refuses_processes(rt: HostRuntime) -> Result<(), Fail> {
+    for (records, fault) in [
+        (b"1,0,24,1,1,-,-,all,0\n" as &[u8], ScheduleFault::Csv(2)),
+        (b"1,0,24,1,1,-,-,-,16,2\n", ScheduleFault::Mask(2)),
+        (b"1,0,24,1,1,-,-,all,16,2\n", ScheduleFault::Process(2)),
+        (b"1,0,24,1,1,-,-,all,,1\n", ScheduleFault::Process(2)),
+        (b"1,0,24,1,1,-,-,all,x,1\n", ScheduleFault::Process(2)),
+        (b"1,0,24,1,1,-,-,all,-1,1\n", ScheduleFault::Process(2)),
+        (
+            b"1,0,24,1,1,-,-,all,00000000015,1\n",
+            ScheduleFault::Process(2),
+        ),
+        (
+            b"1,0,24,1,1,-,-,all,4294967296,1\n",
+            ScheduleFault::Process(2),
+        ),
+        (b"1,0,24,1,1,-,-,all,0,2\n1,0\n", ScheduleFault::Fresh(2)),
+        (b"1,0,24,1,1,-,-,all,0,\n", ScheduleFault::Fresh(2)),
+        (b"1,0,24,1,1,-,-,all,0,01\n", ScheduleFault::Fresh(2)),
+    ] {
+        let text = text_of(rt.alloc(), TEN, records)?;
+        assert_eq!(rt; parse_schedule(rt.alloc(), 2, &text).err(), Some(fault));
+    }
+    Ok(())
+}
+
+// Two blocks. A record that is not fresh needs a fresh one of its process before it, and the last of these is of its
+// block.
+#[test]
+fn refuses_records_without_a_round(rt: HostRuntime) -> Result<(), Fail> {
+    for (records, fault) in [
+        (
+            b"1,0,24,1,1,-,-,all,0,0\n" as &[u8],
+            ScheduleFault::Fresh(2),
+        ),
+        (
+            b"1,0,24,1,1,-,-,all,3,1\n1,0,24,1,1,-,-,all,2,0\n",
+            ScheduleFault::Fresh(3),
+        ),
+        (
+            b"1,0,24,1,1,-,-,all,3,1\n2,0,24,1,1,-,-,all,3,0\n",
+            ScheduleFault::Fresh(3),
+        ),
+        (
+            b"1,0,24,1,1,-,-,all,3,1\n2,0,24,1,1,-,-,all,3,1\n1,0,24,1,1,-,-,all,3,0\n",
+            ScheduleFault::Fresh(4),
+        ),
+    ] {
+        let text = text_of(rt.alloc(), TEN, records)?;
+        assert_eq!(rt; parse_schedule(rt.alloc(), 2, &text).err(), Some(fault));
+    }
+    Ok(())
+}
+
 #[test]
 fn takes_4096_transmissions(rt: HostRuntime) -> Result<(), Fail> {
     let mut text = Vec::from_slice(rt.alloc(), SIX)?;
     for _ in 0..4096 {
         text.extend_from_slice(b"1,0,1,1,1,-\n")?;
     }
-    assert_eq!(rt; parse_schedule(rt.alloc(), 1, &text)?.len(), 4096);
+    assert_eq!(rt;
+        parse_schedule(rt.alloc(), 1, &text)?.transmissions.len(),
+        4096
+    );
     text.extend_from_slice(b"1,0,1,1,1,-")?;
     assert_eq!(rt;
         parse_schedule(rt.alloc(), 1, &text).err(),

@@ -1,7 +1,9 @@
-use Rattle.std.proofs.Common.{Err, ap, length, arith}
+use Rattle.std.proofs.Common.{◌≡◌, true, false, Err, ap, length, arith}
 use Rattle.std.proofs.lemmas.Result.{err_from_is_err_and}
 use Rattle.linksim.specs.Inputs.{given_by}
-use Rattle.linksim.specs.AuditText.{audit_lines, audit_said}
+use Rattle.linksim.specs.AuditText.{audit_lines}
+use Rattle.linksim.specs.ProcessTexts.{audit_said, audit_words}
+use Rattle.linksim.specs.RoundTexts.{joined, written}
 use Rattle.linksim.specs.declared.fault.RunFault.TheVariants.{Write}
 use Rattle.linksim.proofs.CommandLemmas.{delivers-refused, delivers-writes, writes_said}
 use Rattle.linksim.proofs.InputLemmas.{first_block, first_err, first_written, later_block, later_err, later_written, of_block_or_memory, of_four_then}
@@ -10,10 +12,14 @@ use Rattle.linksim.proofs.RunInputs.{senders-linked}
 use Rattle.linksim.proofs.audit.audit.Goals as goal
 
 pub audit_blocks-requires-clause-few : goal.audit_blocks-requires-clause-few
-audit_blocks-requires-clause-few g c = omega (arith, ap length c.deref.ensures.value, c.in_ok-senders.ensures.each, c.in_ok-inputs.ensures.few)
+audit_blocks-requires-clause-few g c = omega (arith, ap length c.deref-else-inputs.ensures.value, c.in_ok-senders.ensures.each, c.in_ok-inputs.ensures.few)
 
 pub audit_blocks-requires-clause-linked : goal.audit_blocks-requires-clause-linked
 audit_blocks-requires-clause-linked g c =
+    rw c.deref-else-inputs.ensures.value (senders-linked c.links_are_sound.ensures c.in_ok-inputs.inputs.table c.in_ok-inputs.inputs.settings _ c.in_ok-senders.senders.items c.in_ok-inputs.ensures.accepted c.in_ok-senders.ensures.said)
+
+pub audit_rounds-requires-clause-linked : goal.audit_rounds-requires-clause-linked
+audit_rounds-requires-clause-linked g c =
     rw c.deref.ensures.value (senders-linked c.links_are_sound.ensures c.in_ok-inputs.inputs.table c.in_ok-inputs.inputs.settings _ c.in_ok-senders.senders.items c.in_ok-inputs.ensures.accepted c.in_ok-senders.ensures.said)
 
 pub returns-in_err-inputs-clause-text : goal.returns-in_err-inputs-clause-text
@@ -33,14 +39,25 @@ returns-in_err-senders-clause-text g c = λ same_t same_s same_b same_d.
     (of_block_or_memory _ Write c.in_err-senders.ensures.of_block (λ is. cc) (λ none. none))
     (audit_said-unsent t s b d (given_by c.in_ok-inputs.inputs) c.in_err-senders.field-0.0 given c.in_err-senders.ensures.said))
 
+pub returns-then-inputs-clause-text : goal.returns-then-inputs-clause-text
+returns-then-inputs-clause-text g c = λ same_t same_s same_b same_d.
+    let by : c.in_ok-inputs.inputs.schedule.by_process ≡ true = cc in
+    let text = rw c.deref.ensures.value at c.audit_rounds.ensures.text in
+    of_four_then (g.T.Source.remaining c.args.table.now) (g.S.Source.remaining c.args.settings.now) (g.B.Source.remaining c.args.blocks.now) (g.D.Source.remaining c.args.schedule.now)
+    (c.in_ok-inputs.ensures.said same_t same_s same_b same_d)
+    (λ t s b d given. delivers-writes _ _ c.audit_rounds.result (audit_said t s b d)
+    (writes_said _ _ c.audit_rounds.result (joined (written audit_words c.in_ok-senders.senders.items c.in_ok-inputs.inputs.schedule.transmissions.items)) (audit_said t s b d)
+    (audit_said-ready t s b d (given_by c.in_ok-inputs.inputs) c.in_ok-senders.senders.items true given c.in_ok-senders.ensures.said by) text))
+
 pub returns-clause-text : goal.returns-clause-text
 returns-clause-text g c = λ same_t same_s same_b same_d.
-    let text = rw c.deref.ensures.value at c.audit_blocks.ensures.text in
+    let by : c.in_ok-inputs.inputs.schedule.by_process ≡ false = cc in
+    let text = rw c.deref-else-inputs.ensures.value at c.audit_blocks.ensures.text in
     of_four_then (g.T.Source.remaining c.args.table.now) (g.S.Source.remaining c.args.settings.now) (g.B.Source.remaining c.args.blocks.now) (g.D.Source.remaining c.args.schedule.now)
     (c.in_ok-inputs.ensures.said same_t same_s same_b same_d)
     (λ t s b d given. delivers-writes _ _ c.audit_blocks.result (audit_said t s b d)
-    (writes_said _ _ c.audit_blocks.result (audit_lines c.in_ok-inputs.inputs.schedule.items 1 c.in_ok-senders.senders.items) (audit_said t s b d)
-    (audit_said-ready t s b d (given_by c.in_ok-inputs.inputs) c.in_ok-senders.senders.items given c.in_ok-senders.ensures.said) text))
+    (writes_said _ _ c.audit_blocks.result (audit_lines c.in_ok-inputs.inputs.schedule.transmissions.items 1 c.in_ok-senders.senders.items) (audit_said t s b d)
+    (audit_said-ready t s b d (given_by c.in_ok-inputs.inputs) c.in_ok-senders.senders.items false given c.in_ok-senders.ensures.said by) text))
 
 pub returns-in_err-inputs-clause-first : goal.returns-in_err-inputs-clause-first
 returns-in_err-inputs-clause-first g c =

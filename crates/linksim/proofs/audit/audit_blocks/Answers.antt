@@ -19,7 +19,7 @@ pub returns-in_err-write_block-clause-text : goal.returns-in_err-write_block-cla
 returns-in_err-write_block-clause-text g c =
     let p = err_from_is_err_and c.from_residual.result c.from_residual.ensures.1 in
     let i = c.loop-index.index in
-    let schedule = c.args.inputs.now.schedule.items in
+    let schedule = c.args.inputs.now.schedule.transmissions.items in
     writes_behind _ _ _ c.from_residual.result p.0 _ _ (audit_lines schedule 1 (take i c.args.senders.now)) (audit_of schedule (i + 1) c.index-senders-index.result) (audit_lines schedule (i + 1 + 1) (drop (i + 1) c.args.senders.now)) p.1 p.2
     (audit_lines-parts schedule 1 c.args.senders.now i c.index-senders-index.result c.index-senders-index.result c.loop-index-test.true c.index-senders-index.is) c.loop-index.invariant.written c.in_err-write_block.ensures.text
 
@@ -33,7 +33,7 @@ loop-index-init g c = record {
 pub loop-index-preserved : goal.loop-index-preserved
 loop-index-preserved g c =
     let i = c.loop-index.index in
-    let schedule = c.args.inputs.now.schedule.items in
+    let schedule = c.args.inputs.now.schedule.transmissions.items in
     record {
       written = c.in_ok-write_block.ensures.text ∙ ap (λ w. with_text w (audit_of schedule (i + 1) c.index-senders-index.result)) c.loop-index.invariant.written
           ∙ with_text-append _ (audit_lines schedule 1 (take i c.args.senders.now)) (audit_of schedule (i + 1) c.index-senders-index.result)

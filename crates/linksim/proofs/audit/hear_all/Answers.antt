@@ -10,6 +10,6 @@ loop-transmission-preserved c =
     let x = c.transmission-item.result in
     record {
       heard = subst (λ (l : List Reception). HasHeard c.args.sender.now l c.receive.new.receiver)
-          (sym (received-next c.args.number c.args.sender.now c.args.schedule.now i x x c.loop-transmission-test.true c.transmission-item.is))
+          (sym (received-next c.args.process c.args.sender.now c.args.transmissions.now i x x c.loop-transmission-test.true c.transmission-item.is))
           (c.in_ok-receive.ensures _ c.loop-transmission.invariant.heard);
     }

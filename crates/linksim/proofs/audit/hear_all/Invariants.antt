@@ -1,10 +1,11 @@
 use Rattle.std.proofs.Common.{take}
 use Rattle.linksim.specs.AuditText.{HasHeard}
-use Rattle.linksim.specs.RunText.{own, received}
+use Rattle.linksim.specs.Rounds.{of_process}
+use Rattle.linksim.specs.RunText.{received}
 use Rattle.linksim.proofs.audit.hear_all.Given as goal
 
--- the receiver has heard what arrives of the transmissions so far
+-- the receiver has heard what arrives of the process's transmissions so far
 abbrev pub invariant-loop-transmission : goal.invariant-loop-transmission
 invariant-loop-transmission l = record {
-  heard : HasHeard l.sender (received l.sender (own l.number (take l.transmission-index l.schedule))) l.receiver;
+  heard : HasHeard l.sender (received l.sender (of_process l.process (take l.transmission-index l.transmissions))) l.receiver;
 }

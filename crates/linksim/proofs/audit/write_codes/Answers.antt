@@ -1,4 +1,4 @@
-use Rattle.std.proofs.Common.{◌≡◌, ◌+◌, ◌-◌, ◌<◌, [], List, ℕ, flat_map, ap, ◌∙◌, arith}
+use Rattle.std.proofs.Common.{◌≡◌, ◌+◌, ◌-◌, ◌<◌, ◌++◌, [], List, ℕ, flat_map, ap, ◌∙◌, arith}
 use Rattle.std.specs.List.{range_with_len}
 use Rattle.std.proofs.lemmas.Result.{err_from_is_err_and}
 use Rattle.nr_segment.specs.Plan.{Numbers}
@@ -16,7 +16,7 @@ write_code-requires-clause-there g c =
 pub returns-in_err-write_code-clause-text : goal.returns-in_err-write_code-clause-text
 returns-in_err-write_code-clause-text g c =
     let p = err_from_is_err_and c.from_residual.result c.from_residual.ensures.1 in
-    let line : ℕ → List ℕ = audit_line c.args.number c.args.receiver.now.link c.args.receiver.now.heard in
+    let line : ℕ → List ℕ = λ r. c.args.head.now ++ audit_line c.args.number c.args.receiver.now.link c.args.receiver.now.heard r in
     let blocks = c.args.receiver.now.link.plan.c in
     let r = c.loop-r.r in
     let below : r < blocks = omega (arith, ap (λ (n : Numbers). n.c) c.plan.ensures.numbers, c.loop-r-test.true) in
@@ -25,7 +25,7 @@ returns-in_err-write_code-clause-text g c =
 
 pub loop-r-preserved : goal.loop-r-preserved
 loop-r-preserved g c =
-    let line : ℕ → List ℕ = audit_line c.args.number c.args.receiver.now.link c.args.receiver.now.heard in
+    let line : ℕ → List ℕ = λ r. c.args.head.now ++ audit_line c.args.number c.args.receiver.now.link c.args.receiver.now.heard r in
     let r = c.loop-r.r in
     record {
       written = c.in_ok-write_code.ensures.text ∙ ap (λ w. with_text w (line r)) c.loop-r.invariant.written

@@ -1,4 +1,4 @@
-use Rattle.std.proofs.Common.{◌≡◌, flat_map}
+use Rattle.std.proofs.Common.{◌≡◌, ◌++◌, flat_map}
 use Rattle.std.specs.List.{range_with_len}
 use Rattle.linksim.specs.AuditText.{audit_line}
 use Rattle.linksim.specs.Written.{with_text}
@@ -8,6 +8,6 @@ use Rattle.linksim.proofs.audit.write_codes.Given as goal
 abbrev pub invariant-loop-r : goal.invariant-loop-r
 invariant-loop-r g l = record {
   written : g.O.Sink.written l.out ≡ with_text (g.O.Sink.written l.fn.out)
-      (flat_map (audit_line l.number l.receiver.link l.receiver.heard) (range_with_len 0 l.r));
+      (flat_map (λ r. l.head ++ audit_line l.number l.receiver.link l.receiver.heard r) (range_with_len 0 l.r));
   sound : g.O.Sink.failures l.out ≡ g.O.Sink.failures l.fn.out;
 }

@@ -3,6 +3,7 @@ use Rattle.std.proofs.lemmas.List.{length-map}
 use Rattle.std.proofs.lemmas.Result.{err_from_is_err_and}
 use Rattle.linksim.specs.Blocks.{blocks_of}
 use Rattle.linksim.specs.Inputs.{files_said, given_by}
+use Rattle.linksim.specs.Schedule.{timetable_by}
 use Rattle.linksim.specs.Settings.{settings_said}
 use Rattle.linksim.proofs.InputLemmas.{first_blocks, first_schedule, first_settings, first_table, first_err, later_err, later_blocks, later_schedule, later_settings, later_table, sound, sound_table, given-all, given-blocks, given-schedule, given-settings, given-table, gives-refused, of_all, of_first, of_three, of_two, table_read}
 use Rattle.linksim.proofs.inputs.read.Goals as goal
@@ -47,7 +48,7 @@ returns-clause-said g c = λ same_t same_s same_b same_d.
     omega (arith, length-map c.in_ok-blocks.blocks.items (λ block. block.items)) in
     let schedule = rw count at c.in_ok-schedule.ensures.said same_d in
     of_all (g.T.Source.remaining c.args.table.now) (g.S.Source.remaining c.args.settings.now) (g.B.Source.remaining c.args.blocks.now) (g.D.Source.remaining c.args.schedule.now) c.in_ok-table.ensures.said (c.in_ok-settings.ensures.said same_s) (c.in_ok-blocks.ensures.said same_b) schedule
-    (λ t s b d table settings blocks said. given-all t s b d c.in_ok-table.table c.in_ok-settings.settings (map (λ block. block.items) c.in_ok-blocks.blocks.items) c.in_ok-schedule.schedule.items
+    (λ t s b d table settings blocks said. given-all t s b d c.in_ok-table.table c.in_ok-settings.settings (map (λ block. block.items) c.in_ok-blocks.blocks.items) (timetable_by c.in_ok-schedule.schedule)
     (table_read _ t c.in_ok-table.table (λ read. omega (arith, same_t, c.in_ok-table.ensures.failed.0 read)) table) settings blocks said)
 
 pub returns-in_err-table-clause-first : goal.returns-in_err-table-clause-first

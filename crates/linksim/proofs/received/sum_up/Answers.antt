@@ -1,4 +1,4 @@
-use Rattle.std.proofs.Common.{◌+◌, ◌≤◌, length, drop, ap, sym, refl, ◌∙◌, arith}
+use Rattle.std.proofs.Common.{◌+◌, ◌≤◌, length, drop, ap, sym, ◌∙◌, arith}
 use Rattle.linksim.specs.RunText.{totals_from}
 use Rattle.linksim.specs.declared.received.Totals.{Totals}
 use Rattle.linksim.proofs.RunLines.{holds-at}
@@ -6,19 +6,12 @@ use Rattle.linksim.proofs.RunOutcomes.{totals-end, totals-turn, within-more}
 use Rattle.linksim.proofs.received.sum_up.Goals as goal
 
 pub counted-totals-requires-clause-few : goal.counted-totals-requires-clause-few
-counted-totals-requires-clause-few c = within-more c.loop-index.index 256 c.loop-index.totals (omega (arith, c.requires.few, c.loop-index-test.true)) c.loop-index.invariant.within
+counted-totals-requires-clause-few c = within-more c.loop-index.index 65535 c.loop-index.totals (omega (arith, c.requires.few, c.loop-index-test.true)) c.loop-index.invariant.within
 
 pub loop-index-init : goal.loop-index-init
 loop-index-init c = record {
-  so_far = λ schedule held. refl;
-  within = record {
-    blocks = omega arith;
-    delivered = omega arith;
-    open_still = omega arith;
-    contradiction = omega arith;
-    code_blocks = omega arith;
-    failed = omega arith;
-  };
+  so_far = λ schedule held. ap (λ (t : Totals). totals_from t 1 c.args.senders.now schedule) c.no_totals-totals.ensures.value;
+  within = c.no_totals-totals.ensures.none;
 }
 
 pub loop-index-preserved : goal.loop-index-preserved

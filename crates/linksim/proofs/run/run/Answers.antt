@@ -1,7 +1,8 @@
-use Rattle.std.proofs.Common.{Err, ap}
+use Rattle.std.proofs.Common.{Err, ap, sym, subst, ◌∙◌, length, arith}
 use Rattle.std.proofs.lemmas.Result.{err_from_is_err_and}
 use Rattle.linksim.specs.Inputs.{given_by}
-use Rattle.linksim.specs.RunText.{run_said, run_text}
+use Rattle.linksim.specs.ProcessTexts.{run_said, text_of_run}
+use Rattle.linksim.specs.Schedule.{IsTimetable, timetable_by}
 use Rattle.linksim.specs.declared.fault.RunFault.TheVariants.{Write}
 use Rattle.linksim.proofs.CommandLemmas.{delivers-refused, delivers-writes, writes_said}
 use Rattle.linksim.proofs.InputLemmas.{first_block, first_err, first_written, later_block, later_err, later_written, of_block_or_memory, of_four_then}
@@ -31,12 +32,19 @@ returns-clause-text g c = λ same_t same_s same_b same_d.
     of_four_then (g.T.Source.remaining c.args.table.now) (g.S.Source.remaining c.args.settings.now) (g.B.Source.remaining c.args.blocks.now) (g.D.Source.remaining c.args.schedule.now)
     (c.in_ok-inputs.ensures.said same_t same_s same_b same_d)
     (λ t s b d given. delivers-writes _ _ c.write_run.result (run_said t s b d)
-    (writes_said _ _ c.write_run.result (run_text c.in_ok-senders.senders.items c.in_ok-inputs.inputs.schedule.items) (run_said t s b d)
+    (writes_said _ _ c.write_run.result (text_of_run c.in_ok-senders.senders.items (timetable_by c.in_ok-inputs.inputs.schedule)) (run_said t s b d)
     (run_said-ready t s b d (given_by c.in_ok-inputs.inputs) c.in_ok-senders.senders.items given c.in_ok-senders.ensures.said) text))
 
 pub write_run-requires-clause-linked : goal.write_run-requires-clause-linked
 write_run-requires-clause-linked g c =
     rw c.deref.ensures.value (senders-linked c.links_are_sound.ensures c.in_ok-inputs.inputs.table c.in_ok-inputs.inputs.settings _ c.in_ok-senders.senders.items c.in_ok-inputs.ensures.accepted c.in_ok-senders.ensures.said)
+
+pub write_run-requires-clause-few : goal.write_run-requires-clause-few
+write_run-requires-clause-few g c = omega (arith, ap length c.deref.ensures.value, c.in_ok-senders.ensures.each, c.in_ok-inputs.ensures.few)
+
+pub write_run-requires-clause-timetable : goal.write_run-requires-clause-timetable
+write_run-requires-clause-timetable g c =
+    subst (λ n. IsTimetable n (timetable_by c.in_ok-inputs.inputs.schedule)) (sym (ap length c.deref.ensures.value ∙ c.in_ok-senders.ensures.each)) c.in_ok-inputs.ensures.timetable
 
 pub returns-in_err-inputs-clause-first : goal.returns-in_err-inputs-clause-first
 returns-in_err-inputs-clause-first g c =

@@ -1,77 +1,109 @@
-use Rattle.std.proofs.Common.{◌≡◌, ◌<◌, ◌≤◌, List, None, get_or, length, take, drop, ap, refl, ◌∙◌, arith}
+use Rattle.std.proofs.Common.{◌≡◌, ◌<◌, ◌≤◌, cond, get_or, length, take, drop, ap, sym, refl, ◌∙◌, arith}
 use Rattle.std.proofs.Math.ListN.{length-set}
-use Rattle.std.proofs.lemmas.List.{drop_all, length-replicate, take_all}
+use Rattle.std.proofs.lemmas.List.{drop_all}
 use Rattle.std.proofs.lemmas.Result.{err_from_is_err_and}
-use Rattle.nr_blockdesk.specs.Explains.{Reception}
-use Rattle.linksim.specs.RunText.{own, received}
+use Rattle.linksim.specs.ProcessTexts.{round_counted, rounds_counted, run_words}
+use Rattle.linksim.specs.Rounds.{ended_rounds, round_of}
+use Rattle.linksim.specs.RunText.{no_totals}
 use Rattle.linksim.specs.Schedule.{HasBlock}
-use Rattle.linksim.proofs.RunLines.{all-at, has_received, held-at, held-first, held-turn, lines-end, lines-turn, received-before}
+use Rattle.linksim.specs.declared.schedule.Transmission.{Transmission}
+use Rattle.linksim.proofs.RoundEnds.{continued-room, holds-continued, rounds-first, rounds-turn, sender-there, turn-parts}
+use Rattle.linksim.proofs.RoundTurns.{counted-turn, turns-end}
+use Rattle.linksim.proofs.RunLines.{all-at}
 use Rattle.linksim.proofs.RunTexts.{left-first, left-last, left-more, left-stopped}
 use Rattle.linksim.proofs.run.write_transmissions.Goals as goal
 
-pub returns-in_err-carry-clause-text : goal.returns-in_err-carry-clause-text
-returns-in_err-carry-clause-text g c =
-    let xs = c.args.inputs.now.schedule.items in
-    let i = c.loop-transmission.transmission-index in
-    let x = c.transmission-item.result in
-    let sender = c.index-senders-at.result in
-    let within : i < length xs = rw c.deref-transmission-items.ensures.value at c.loop-transmission-test.true in
-    let at : x ≡ get_or xs i x = rw c.deref-transmission-items.ensures.value at c.transmission-item.is in
-    let named = all-at (HasBlock (length c.args.senders.now)) xs i x c.requires.named within at in
-    let list : List Reception = received sender (own x.block (take i xs)) in
-    let held = held-at c.args.senders.now (take i xs) x sender c.loop-transmission.ends c.index-ends-at.result named c.index-senders-at.is c.loop-transmission.invariant.long c.loop-transmission.invariant.held in
-    let p = err_from_is_err_and c.from_residual.result c.from_residual.ensures.1 in
-    let turn = lines-turn c.args.senders.now xs i x sender within at named c.index-senders-at.is in
-    left-stopped _ _ _ c.from_residual.result p.0 _ _ _ _ p.1 p.2 (rw turn at c.loop-transmission.invariant.lines) (c.in_err-carry.ensures.text list held)
-
-pub loop-transmission-init : goal.loop-transmission-init
-loop-transmission-init g c = record {
+pub loop-index-init : goal.loop-index-init
+unfolding rounds_counted ended_rounds
+loop-index-init g c = record {
   lines = left-first _ _;
-  long = ap length c.requires.fresh ∙ length-replicate (length c.args.senders.now) None;
-  held = rw c.requires.fresh (held-first c.args.senders.now);
+  long = refl;
+  held = rw c.requires.nothing (rounds-first c.args.senders.now (length c.args.ends.now));
+  counts = c.no_totals-totals.ensures.value;
+  within = c.no_totals-totals.ensures.none;
   sound = refl;
 }
 
-pub loop-transmission-preserved : goal.loop-transmission-preserved
-loop-transmission-preserved g c =
-    let xs = c.args.inputs.now.schedule.items in
-    let i = c.loop-transmission.transmission-index in
-    let x = c.transmission-item.result in
-    let sender = c.index-senders-at.result in
-    let within : i < length xs = rw c.deref-transmission-items.ensures.value at c.loop-transmission-test.true in
-    let at : x ≡ get_or xs i x = rw c.deref-transmission-items.ensures.value at c.transmission-item.is in
-    let named = all-at (HasBlock (length c.args.senders.now)) xs i x c.requires.named within at in
-    let list : List Reception = received sender (own x.block (take i xs)) in
-    let held = held-at c.args.senders.now (take i xs) x sender c.loop-transmission.ends c.index-ends-at.result named c.index-senders-at.is c.loop-transmission.invariant.long c.loop-transmission.invariant.held in
-    let turn = lines-turn c.args.senders.now xs i x sender within at named c.index-senders-at.is in
+pub carry-requires-clause-room : goal.carry-requires-clause-room
+carry-requires-clause-room g c =
+    let senders = c.args.senders.now in
+    let xs = c.args.inputs.now.schedule.transmissions.items in
+    let i = c.loop-index.index in
+    let x = c.index-schedule-index.result in
+    let sender = c.index-senders-transmission.result in
+    let within : i < length xs = rw c.as_slice-schedule.ensures.value at c.loop-index-test.true in
+    let at : x ≡ get_or xs i x = rw c.as_slice-schedule.ensures.value at c.index-schedule-index.is in
+    let named = all-at (HasBlock (length senders)) xs i x c.requires.named within at in
+    let there = sender-there senders x x.block sender refl (omega (arith, named.0, named.1)) c.index-senders-transmission.is in
+    let begun = rw c.as_slice-schedule.ensures.value at c.in_ok-totals.ensures.held in
+    let held = holds-continued senders xs i x sender c.begin_round.new.end within at c.requires.rounds there begun in
+    continued-room sender.link sender xs i _ x c.begin_round.new.end (omega (arith, within)) (omega (arith, within, c.requires.few)) held
+
+pub returns-in_err-totals-clause-text : goal.returns-in_err-totals-clause-text
+returns-in_err-totals-clause-text g c =
+    let senders = c.args.senders.now in
+    let xs = c.args.inputs.now.schedule.transmissions.items in
+    let i = c.loop-index.index in
+    let x = c.index-schedule-index.result in
+    let sender = c.index-senders-transmission.result in
+    let within : i < length xs = rw c.as_slice-schedule.ensures.value at c.loop-index-test.true in
+    let at : x ≡ get_or xs i x = rw c.as_slice-schedule.ensures.value at c.index-schedule-index.is in
+    let named = all-at (HasBlock (length senders)) xs i x c.requires.named within at in
+    let there = sender-there senders x x.block sender refl (omega (arith, named.0, named.1)) c.index-senders-transmission.is in
+    let parts = turn-parts senders xs i x sender within at there in
+    let p = err_from_is_err_and c.from_residual.result c.from_residual.ensures.1 in
+    left-stopped _ _ _ c.from_residual.result p.0 _ _ _ _ p.1 p.2 (rw parts at c.loop-index.invariant.lines) (rw c.as_slice-schedule.ensures.value at c.in_err-totals.ensures.text)
+
+pub returns-in_err-carry-clause-text : goal.returns-in_err-carry-clause-text
+returns-in_err-carry-clause-text g c =
+    let senders = c.args.senders.now in
+    let xs = c.args.inputs.now.schedule.transmissions.items in
+    let i = c.loop-index.index in
+    let x = c.index-schedule-index.result in
+    let sender = c.index-senders-transmission.result in
+    let within : i < length xs = rw c.as_slice-schedule.ensures.value at c.loop-index-test.true in
+    let at : x ≡ get_or xs i x = rw c.as_slice-schedule.ensures.value at c.index-schedule-index.is in
+    let named = all-at (HasBlock (length senders)) xs i x c.requires.named within at in
+    let there = sender-there senders x x.block sender refl (omega (arith, named.0, named.1)) c.index-senders-transmission.is in
+    let parts = turn-parts senders xs i x sender within at there in
+    let begun = rw c.as_slice-schedule.ensures.value at c.in_ok-totals.ensures.held in
+    let held = holds-continued senders xs i x sender c.begin_round.new.end within at c.requires.rounds there begun in
+    let ended = rw c.as_slice-schedule.ensures.value at c.in_ok-totals.ensures.text in
+    let p = err_from_is_err_and c.from_residual-in_err-carry.result c.from_residual-in_err-carry.ensures.1 in
+    left-stopped _ _ _ c.from_residual-in_err-carry.result p.0 _ _ _ _ p.1 p.2
+    (left-more _ _ _ _ _ _ (rw parts at c.loop-index.invariant.lines) ended) (c.in_err-carry.ensures.text _ held)
+
+pub loop-index-preserved : goal.loop-index-preserved
+loop-index-preserved g c =
+    let senders = c.args.senders.now in
+    let xs = c.args.inputs.now.schedule.transmissions.items in
+    let i = c.loop-index.index in
+    let x = c.index-schedule-index.result in
+    let sender = c.index-senders-transmission.result in
+    let within : i < length xs = rw c.as_slice-schedule.ensures.value at c.loop-index-test.true in
+    let at : x ≡ get_or xs i x = rw c.as_slice-schedule.ensures.value at c.index-schedule-index.is in
+    let named = all-at (HasBlock (length senders)) xs i x c.requires.named within at in
+    let there = sender-there senders x x.block sender refl (omega (arith, named.0, named.1)) c.index-senders-transmission.is in
+    let parts = turn-parts senders xs i x sender within at there in
+    let begun = rw c.as_slice-schedule.ensures.value at c.in_ok-totals.ensures.held in
+    let held = holds-continued senders xs i x sender c.begin_round.new.end within at c.requires.rounds there begun in
+    let ended = rw c.as_slice-schedule.ensures.value at c.in_ok-totals.ensures.text in
+    let counted = rw c.as_slice-schedule.ensures.value at c.in_ok-totals.ensures.totals in
+    let placed = all-at (λ (y : Transmission). y.process < length c.args.ends.now) xs i x c.requires.placed within at in
+    let inside : x.process < length c.loop-index.ends = omega (arith, placed, c.loop-index.invariant.long) in
     record {
-      lines = left-more _ _ _ _ _ _ (rw turn at c.loop-transmission.invariant.lines) (c.in_ok-carry.ensures.text list held);
-      long = length-set c.loop-transmission.ends _ _ ∙ c.loop-transmission.invariant.long;
-      held = held-turn c.args.senders.now xs i x sender c.loop-transmission.ends c.carry.new.end within at named c.index-senders-at.is c.loop-transmission.invariant.long c.loop-transmission.invariant.held (c.in_ok-carry.ensures.held list held);
-      sound = c.in_ok-carry.ensures.put ∙ c.loop-transmission.invariant.sound;
+      lines = left-more _ _ _ _ _ _ (left-more _ _ _ _ _ _ (rw parts at c.loop-index.invariant.lines) ended) (c.in_ok-carry.ensures.text _ held);
+      long = length-set c.loop-index.ends _ _ ∙ c.loop-index.invariant.long;
+      held = rounds-turn senders xs i x sender c.loop-index.ends c.carry.new.end within at c.requires.rounds there inside c.loop-index.invariant.held (c.in_ok-carry.ensures.held _ held);
+      counts = counted ∙ ap (λ t. cond x.fresh (round_counted t senders (round_of x.process (take i xs))) t) c.loop-index.invariant.counts
+          ∙ sym (counted-turn no_totals senders xs i x within at);
+      within = c.in_ok-totals.ensures.grows i c.loop-index.invariant.within;
+      sound = c.in_ok-carry.ensures.put ∙ c.in_ok-totals.ensures.put ∙ c.loop-index.invariant.sound;
     }
 
 pub returns-clause-text : goal.returns-clause-text
 returns-clause-text g c =
-    let xs = c.args.inputs.now.schedule.items in
-    let none : length xs ≤ c.loop-transmission.transmission-index = omega arith in
-    left-last _ _ _ (rw (lines-end c.args.senders.now (take c.loop-transmission.transmission-index xs) (drop c.loop-transmission.transmission-index xs) (drop_all _ xs none)) at c.loop-transmission.invariant.lines)
-
-pub returns-clause-held : goal.returns-clause-held
-returns-clause-held g c =
-    let xs = c.args.inputs.now.schedule.items in
-    let none : length xs ≤ c.loop-transmission.transmission-index = omega arith in
-    rw (take_all _ xs none) at c.loop-transmission.invariant.held
-
-pub carry-requires-clause-room : goal.carry-requires-clause-room
-carry-requires-clause-room g c =
-    let xs = c.args.inputs.now.schedule.items in
-    let i = c.loop-transmission.transmission-index in
-    let x = c.transmission-item.result in
-    let sender = c.index-senders-at.result in
-    let within : i < length xs = rw c.deref-transmission-items.ensures.value at c.loop-transmission-test.true in
-    let at : x ≡ get_or xs i x = rw c.deref-transmission-items.ensures.value at c.transmission-item.is in
-    let named = all-at (HasBlock (length c.args.senders.now)) xs i x c.requires.named within at in
-    let held = held-at c.args.senders.now (take i xs) x sender c.loop-transmission.ends c.index-ends-at.result named c.index-senders-at.is c.loop-transmission.invariant.long c.loop-transmission.invariant.held in
-    let before : i ≤ length xs = omega arith in
-    has_received sender.link (received sender (own x.block (take i xs))) _ _ held (omega (arith, received-before sender x.block i xs before))
+    let xs = c.args.inputs.now.schedule.transmissions.items in
+    let i = c.loop-index.index in
+    let none : length xs ≤ i = rw c.as_slice-schedule.ensures.value at c.loop-index-test.false in
+    left-last _ _ _ (rw (turns-end run_words c.args.senders.now (take i xs) (drop i xs) (drop_all i xs none)) at c.loop-index.invariant.lines)

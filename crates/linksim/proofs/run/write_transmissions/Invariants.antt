@@ -1,16 +1,22 @@
 use Rattle.std.proofs.Common.{◌≡◌, [], length, take, drop}
-use Rattle.linksim.specs.Ends.{AllHold}
-use Rattle.linksim.specs.RunText.{run_lines}
+use Rattle.linksim.specs.Ends.{HoldRounds, IsWithin}
+use Rattle.linksim.specs.ProcessTexts.{rounds_counted, run_words}
+use Rattle.linksim.specs.RoundTexts.{joined, turns}
+use Rattle.linksim.specs.Rounds.{ended_rounds}
+use Rattle.linksim.specs.RunText.{no_totals}
 use Rattle.linksim.proofs.RunTexts.{IsLeft}
 use Rattle.linksim.proofs.run.write_transmissions.Given as goal
 
--- the lines of the transmissions so far are written, each end has received what they gave, and no put failed
-abbrev pub invariant-loop-transmission : goal.invariant-loop-transmission
-invariant-loop-transmission g l = record {
+-- the lines of the transmissions so far are written, each place has received its process's round, the rounds that ended are
+-- counted, and no put failed
+abbrev pub invariant-loop-index : goal.invariant-loop-index
+invariant-loop-index g l = record {
   lines : IsLeft (g.O.Sink.written l.fn.out) (g.O.Sink.written l.out)
-      (run_lines l.senders (take l.transmission-index l.inputs.schedule.items) (drop l.transmission-index l.inputs.schedule.items))
-      (run_lines l.senders [] l.inputs.schedule.items);
-  long : length l.ends ≡ length l.senders;
-  held : AllHold l.senders (take l.transmission-index l.inputs.schedule.items) l.ends;
+      (joined (turns run_words l.senders (take l.index l.inputs.schedule.transmissions.items) (drop l.index l.inputs.schedule.transmissions.items)))
+      (joined (turns run_words l.senders [] l.inputs.schedule.transmissions.items));
+  long : length l.ends ≡ length l.fn.ends;
+  held : HoldRounds l.senders (take l.index l.inputs.schedule.transmissions.items) l.ends;
+  counts : l.totals ≡ rounds_counted no_totals l.senders (ended_rounds [] (take l.index l.inputs.schedule.transmissions.items));
+  within : IsWithin l.index l.totals;
   sound : g.O.Sink.failures l.out ≡ g.O.Sink.failures l.fn.out;
 }

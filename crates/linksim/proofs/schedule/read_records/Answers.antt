@@ -31,7 +31,7 @@ returns-in_err-transmission c =
     let p = err_from_is_err_and c.from_residual-in_err-transmission.result c.from_residual-in_err-transmission.ensures.1 in
     rw (p.1, p.2)
     (turn-refused _ _ (c.loop-transmissions.number + 1) _ c.loop-transmissions.records c.next-in-loop-transmissions.new.self (fields_of c.next-in-loop-transmissions.new.row) _ _ some
-    c.in_err-transmission.ensures c.loop-transmissions.invariant.said)
+    (rw c.deref.ensures.value at c.in_err-transmission.ensures) c.loop-transmissions.invariant.said)
 
 pub loop-transmissions-preserved : goal.loop-transmissions-preserved
 loop-transmissions-preserved c =
@@ -39,7 +39,7 @@ loop-transmissions-preserved c =
     record {
       said = rw c.in_ok-push.ensures.items
           (turn-ok _ _ (c.loop-transmissions.number + 1) _ c.loop-transmissions.records c.next-in-loop-transmissions.new.self (fields_of c.next-in-loop-transmissions.new.row) _ _ some
-          c.in_ok-transmission.ensures c.loop-transmissions.invariant.said);
+          (rw c.deref.ensures.value at c.in_ok-transmission.ensures) c.loop-transmissions.invariant.said);
       few = omega (arith, ap length some);
     }
 

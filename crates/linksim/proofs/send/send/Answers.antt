@@ -31,7 +31,7 @@ returns-clause-text g c = λ same_t same_s same_b same_d.
     of_four_then (g.T.Source.remaining c.args.table.now) (g.S.Source.remaining c.args.settings.now) (g.B.Source.remaining c.args.blocks.now) (g.D.Source.remaining c.args.schedule.now)
     (c.in_ok-inputs.ensures.said same_t same_s same_b same_d)
     (λ t s b d given. delivers-writes _ _ c.send_lines.result (send_said t s b d)
-    (writes_said _ _ c.send_lines.result (transmission_lines c.in_ok-senders.senders.items c.in_ok-inputs.inputs.schedule.items) (send_said t s b d)
+    (writes_said _ _ c.send_lines.result (transmission_lines c.in_ok-senders.senders.items c.in_ok-inputs.inputs.schedule.transmissions.items) (send_said t s b d)
     (send_said-ready t s b d (given_by c.in_ok-inputs.inputs) c.in_ok-senders.senders.items given c.in_ok-senders.ensures.said) text))
 
 pub returns-in_err-inputs-clause-first : goal.returns-in_err-inputs-clause-first
