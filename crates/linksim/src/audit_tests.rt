@@ -1,33 +1,10 @@
 //! `audit` over Sources and a Sink in memory. The values are worked by hand: under the practice table the word of block
 //! 01 has 52 columns of four positions, columns 6 to 9 are fillers, and column 10 + i is a rotation of column i mod 10.
 
-use crate::audit::audit;
-use crate::fault::{DeskFault, RunFault};
-use crate::sink::Tape;
-use crate::tests::{Outcome, feed, least_table, practice_table};
+use crate::commands::{Command, SETTINGS, written};
 use std::alloc::{AllocError, Global};
 use std::fmt::Write;
 use std::test::Fail;
-
-const ROOM: u32 = 4096;
-
-// `audit` of a table, block 01 and a schedule, with a Tape of ample room.
-fn audit_of(alloc: Global, table: &[u8], schedule: &[u8]) -> Result<Outcome, AllocError> {
-    let mut table = feed(alloc, table)?;
-    let mut settings = feed(alloc, b"rate2048 = 2048\n")?;
-    let mut blocks = feed(alloc, b"01")?;
-    let mut schedule = feed(alloc, schedule)?;
-    let mut tape = Tape::new(alloc, ROOM, ROOM, 0)?;
-    let answer = audit(
-        alloc,
-        &mut table,
-        &mut settings,
-        &mut blocks,
-        &mut schedule,
-        &mut tape,
-    );
-    Ok((answer, Vec::from_slice(alloc, tape.bytes())?))
-}
 
 // Whether a column is in one of these ranges, each by its first and its last column.
 fn is_in(columns: &[(u32, u32)], column: u32) -> bool {
@@ -54,7 +31,6 @@ fn stuck_on(alloc: Global, count: u32, columns: &[(u32, u32)]) -> Result<String,
 #[test]
 fn audits(rt: HostRuntime) -> Result<(), Fail> {
     let alloc = rt.alloc();
-    let table = practice_table(alloc)?;
     let stuck = stuck_on(
         alloc,
         28,
@@ -69,9 +45,8 @@ fn audits(rt: HostRuntime) -> Result<(), Fail> {
         ),
     ];
     for (schedule, want) in cases {
-        let (answer, written) = audit_of(alloc, table.as_bytes(), schedule)?;
-        assert_eq!(rt; answer, Ok(()));
-        assert_eq!(rt; written.as_slice(), want.as_bytes());
+        let text = written(alloc, Command::Audit, SETTINGS, b"01", schedule)?;
+        assert_eq!(rt; text.as_slice(), want.as_bytes());
     }
     Ok(())
 }
@@ -80,7 +55,6 @@ fn audits(rt: HostRuntime) -> Result<(), Fail> {
 #[test]
 fn audits_what_is_not_heard(rt: HostRuntime) -> Result<(), Fail> {
     let alloc = rt.alloc();
-    let table = practice_table(alloc)?;
     let want = stuck_on(
         alloc,
         128,
@@ -90,19 +64,8 @@ fn audits_what_is_not_heard(rt: HostRuntime) -> Result<(), Fail> {
         b"block,rv,g,qm,nl,erase\n".as_slice(),
         b"block,rv,g,qm,nl,erase\n1,4,24,1,1,-\n".as_slice(),
     ] {
-        let (answer, written) = audit_of(alloc, table.as_bytes(), schedule)?;
-        assert_eq!(rt; answer, Ok(()));
-        assert_eq!(rt; written.as_slice(), want.as_bytes());
+        let text = written(alloc, Command::Audit, SETTINGS, b"01", schedule)?;
+        assert_eq!(rt; text.as_slice(), want.as_bytes());
     }
-    Ok(())
-}
-
-// A transport block that cannot be sent is refused before the first put.
-#[test]
-fn refuses_a_block(rt: HostRuntime) -> Result<(), Fail> {
-    let table = least_table(rt.alloc())?;
-    let (answer, written) = audit_of(rt.alloc(), table.as_bytes(), b"block,rv,g,qm,nl,erase\n")?;
-    assert_eq!(rt; answer, Err(RunFault::Desk(1, DeskFault::Graph)));
-    assert_eq!(rt; written.len(), 0);
     Ok(())
 }

@@ -2,27 +2,19 @@
 //! Sources without an end; and files that are cut short. A command that a file refuses has pulled no more, and has
 //! written nothing.
 
-ghost use Rattle.std.specs.Prelude.{◌≡◌, ◌^◌, ◌<◌, Some, IfOk};
+ghost use Rattle.std.specs.Prelude.{◌≡◌, ◌<◌, Some, IfOk};
 
-use crate::audit::audit;
 use crate::blocks::BlocksFault;
-use crate::check::check;
-use crate::cut::cut;
+use crate::commands::{Command, ROOM, SETTINGS, feed, perform};
 use crate::fault::RunFault;
-use crate::run::run;
 use crate::schedule::{ScheduleFault, read_schedule};
-use crate::send::send;
 use crate::settings::{Settings, SettingsFault, read_settings};
 use crate::sink::Tape;
-use crate::tests::{FIRST, feed, practice_table};
+use crate::tests::{FIRST, practice_table};
 use nr_shifttable::{Broken, Endless, Feed, Source, TableFault};
 use std::alloc::{AllocError, Global};
 use std::process::Abort;
 use std::test::Fail;
-
-const ROOM: u32 = 4096;
-
-const SETTINGS: &[u8] = b"rate2048 = 2048\n";
 
 const BLOCKS: &[u8] = b"01\n";
 
@@ -32,16 +24,6 @@ const SCHEDULE: &[u8] = b"block,rv,g,qm,nl,erase\n1,0,24,4,1,-\n";
 const ROUNDS: &[u8] = b"block,rv,g,qm,nl,erase,flip,mask,process,fresh\n\
     1,0,24,4,1,-,-,all,3,1\n\
     1,0,32,1,1,-,-,all,3,1\n";
-
-// A command of the program.
-#[derive(Clone, Copy, Debug, PartialEq, Eq)]
-enum Command {
-    Cut,
-    Check,
-    Send,
-    Run,
-    Audit,
-}
 
 // A file that a command reads.
 #[derive(Clone, Copy, Debug, PartialEq, Eq)]
@@ -96,31 +78,6 @@ fn source_of(
         feed: Feed::new(Vec::from_slice(alloc, text)?, step, fail),
         pulls: 0,
     })
-}
-
-// Does a command.
-fn perform<T: Source, S: Source, B: Source, D: Source>(
-    alloc: Global,
-    command: Command,
-    table: &mut T,
-    settings: &mut S,
-    blocks: &mut B,
-    schedule: &mut D,
-    tape: &mut Tape,
-) -> Result<(), RunFault>
-    requires table { T.failures table.old < 2 ^ 32 }
-    requires settings { S.failures settings.old < 2 ^ 32 }
-    requires blocks { B.failures blocks.old < 2 ^ 32 }
-    requires schedule { D.failures schedule.old < 2 ^ 32 }
-    requires puts { tape.old.failures < 2 ^ 32 }
-{
-    match command {
-        Command::Cut => cut(alloc, 2048, blocks, tape),
-        Command::Check => check(alloc, table, tape),
-        Command::Send => send(alloc, table, settings, blocks, schedule, tape),
-        Command::Run => run(alloc, table, settings, blocks, schedule, tape),
-        Command::Audit => audit(alloc, table, settings, blocks, schedule, tape),
-    }
 }
 
 // How a command ended: what it answered, how often it pulled the table, the settings, the blocks and the schedule, and

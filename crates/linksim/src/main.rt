@@ -19,6 +19,8 @@ pub mod blocks;
 mod broken_tests;
 pub mod check;
 pub mod command_line;
+#[cfg(test)]
+mod commands;
 pub mod cut;
 pub mod deliver;
 pub mod ending;
@@ -31,6 +33,8 @@ pub mod places;
 #[cfg(test)]
 mod program_tests;
 pub mod received;
+#[cfg(test)]
+mod refusal_tests;
 #[cfg(test)]
 mod round_tests;
 pub mod rounds;

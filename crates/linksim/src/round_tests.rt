@@ -1,20 +1,11 @@
 //! `run` and `audit` over HARQ processes, by Sources and a Sink in memory. The values are worked by hand: of blocks 01 and
 //! 80, 24 bits leave column 1, which the last four of 28 bits give, and 32 bits leave nothing.
 
-use crate::audit::audit;
-use crate::fault::RunFault;
-use crate::run::run;
-use crate::schedule::ScheduleFault;
-use crate::sink::Tape;
-use crate::tests::{Outcome, feed, practice_table};
+use crate::commands::{Command, SETTINGS, written};
 use std::alloc::{AllocError, Global};
 use std::fmt::Write;
 use std::process::Abort;
 use std::test::Fail;
-
-const ROOM: u32 = 4096;
-
-const SETTINGS: &[u8] = b"rate2048 = 2048\n";
 
 const BLOCKS: &[u8] = b"01\n80\n";
 
@@ -36,54 +27,12 @@ fn schedule_of(alloc: Global, records: &[u8]) -> Result<Vec<u8>, AllocError> {
     Ok(text)
 }
 
-// `run` of both blocks under the practice table.
-fn run_of(alloc: Global, records: &[u8]) -> Result<Outcome, AllocError> {
-    let table = practice_table(alloc)?;
-    let schedule = schedule_of(alloc, records)?;
-    let mut tape = Tape::new(alloc, ROOM, ROOM, 0)?;
-    let answer = run(
-        alloc,
-        &mut feed(alloc, table.as_bytes())?,
-        &mut feed(alloc, SETTINGS)?,
-        &mut feed(alloc, BLOCKS)?,
-        &mut feed(alloc, &schedule)?,
-        &mut tape,
-    );
-    Ok((answer, Vec::from_slice(alloc, tape.bytes())?))
-}
-
-// `audit` of the same.
-fn audit_of(alloc: Global, records: &[u8]) -> Result<Outcome, AllocError> {
-    let table = practice_table(alloc)?;
-    let schedule = schedule_of(alloc, records)?;
-    let mut tape = Tape::new(alloc, ROOM, ROOM, 0)?;
-    let answer = audit(
-        alloc,
-        &mut feed(alloc, table.as_bytes())?,
-        &mut feed(alloc, SETTINGS)?,
-        &mut feed(alloc, BLOCKS)?,
-        &mut feed(alloc, &schedule)?,
-        &mut tape,
-    );
-    Ok((answer, Vec::from_slice(alloc, tape.bytes())?))
-}
-
-// Runs each case, and compares the texts.
-fn check_runs(rt: &impl Abort, alloc: Global, cases: &[Case]) -> Result<(), Fail> {
+// Does a command over each schedule, and compares the texts.
+fn check(rt: &impl Abort, alloc: Global, command: Command, cases: &[Case]) -> Result<(), Fail> {
     for (records, want) in cases {
-        let (answer, written) = run_of(alloc, *records)?;
-        answer?;
-        assert_eq!(rt; written.as_slice(), *want);
-    }
-    Ok(())
-}
-
-// Audits each case, and compares the texts.
-fn check_audits(rt: &impl Abort, alloc: Global, cases: &[Case]) -> Result<(), Fail> {
-    for (records, want) in cases {
-        let (answer, written) = audit_of(alloc, *records)?;
-        answer?;
-        assert_eq!(rt; written.as_slice(), *want);
+        let schedule = schedule_of(alloc, *records)?;
+        let text = written(alloc, command, SETTINGS, BLOCKS, &schedule)?;
+        assert_eq!(rt; text.as_slice(), *want);
     }
     Ok(())
 }
@@ -128,7 +77,7 @@ fn follows_two_processes(rt: HostRuntime) -> Result<(), Fail> {
               total rounds 3 delivered 3 open 0 contradiction 0 codeblocks 3 failed 0\n",
         ),
     ];
-    check_runs(&rt, rt.alloc(), &cases)
+    check(&rt, rt.alloc(), Command::Run, &cases)
 }
 
 // The same block in two processes at once: what one has heard is nothing to the other. Then in two rounds of one
@@ -162,7 +111,7 @@ fn follows_one_block_twice(rt: HostRuntime) -> Result<(), Fail> {
               total rounds 2 delivered 0 open 2 contradiction 0 codeblocks 2 failed 2\n",
         ),
     ];
-    check_runs(&rt, rt.alloc(), &cases)
+    check(&rt, rt.alloc(), Command::Run, &cases)
 }
 
 // One flipped parity bit, which no block explains; the round after it has not heard it. Two rounds of process 1 stand
@@ -189,7 +138,7 @@ fn forgets_what_a_round_heard(rt: HostRuntime) -> Result<(), Fail> {
           process 2 block 2 delivered tx 2 failed 0 of 1 80\n\
           total rounds 3 delivered 2 open 0 contradiction 1 codeblocks 3 failed 0\n",
     )];
-    check_runs(&rt, rt.alloc(), &cases)
+    check(&rt, rt.alloc(), Command::Run, &cases)
 }
 
 // A transmission that is refused begins a round too, and ends the one before it, whose line stands before its own. Then
@@ -227,7 +176,7 @@ fn begins_rounds_that_are_refused(rt: HostRuntime) -> Result<(), Fail> {
             b"total rounds 0 delivered 0 open 0 contradiction 0 codeblocks 0 failed 0\n",
         ),
     ];
-    check_runs(&rt, rt.alloc(), &cases)
+    check(&rt, rt.alloc(), Command::Run, &cases)
 }
 
 // Sixteen processes, each with a fresh transmission, the last process first: block 1 by those of even numbers.
@@ -257,12 +206,12 @@ fn follows_sixteen_processes(rt: HostRuntime) -> Result<(), Fail> {
             "process {process} block {block} delivered tx 1 failed 0 of 1 {octet}"
         )?;
     }
-    let (answer, written) = run_of(alloc, records.as_bytes())?;
-    answer?;
+    let schedule = schedule_of(alloc, records.as_bytes())?;
+    let text = written(alloc, Command::Run, SETTINGS, BLOCKS, &schedule)?;
     let want = format!(in alloc;
         "{sent}{ended}total rounds 16 delivered 16 open 0 contradiction 0 codeblocks 16 failed 0\n"
     )?;
-    assert_eq!(rt; written.as_slice(), want.as_bytes());
+    assert_eq!(rt; text.as_slice(), want.as_bytes());
     Ok(())
 }
 
@@ -299,29 +248,5 @@ fn audits_rounds(rt: HostRuntime) -> Result<(), Fail> {
         ),
         (b"", b""),
     ];
-    check_audits(&rt, rt.alloc(), &cases)
-}
-
-// A schedule that is refused leaves no line.
-#[test]
-fn refuses_schedules(rt: HostRuntime) -> Result<(), Fail> {
-    for (records, fault) in [
-        (
-            b"1,0,24,1,1,-,-,all,0,0\n" as &[u8],
-            ScheduleFault::Fresh(2),
-        ),
-        (b"1,0,24,1,1,-,-,all,16,1\n", ScheduleFault::Process(2)),
-        (
-            b"1,0,24,1,1,-,-,all,0,1\n2,0,24,1,1,-,-,all,0,0\n",
-            ScheduleFault::Fresh(3),
-        ),
-    ] {
-        let (answer, written) = run_of(rt.alloc(), records)?;
-        assert_eq!(rt; answer, Err(RunFault::Schedule(fault)));
-        assert_eq!(rt; written.len(), 0);
-        let (answer, written) = audit_of(rt.alloc(), records)?;
-        assert_eq!(rt; answer, Err(RunFault::Schedule(fault)));
-        assert_eq!(rt; written.len(), 0);
-    }
-    Ok(())
+    check(&rt, rt.alloc(), Command::Audit, &cases)
 }

@@ -1,62 +1,18 @@
 //! `run` over Sources and a Sink in memory. The values are worked by hand: under the practice table parity columns are
 //! sums and rotations of columns that can be written down.
 
-use crate::fault::{DeskFault, RunFault};
-use crate::run::run;
-use crate::sink::Tape;
-use crate::tests::{Outcome, feed, least_table, practice_table};
-use std::alloc::{AllocError, Global};
+use crate::commands::{Command, SETTINGS, written};
+use std::alloc::Global;
 use std::process::Abort;
 use std::test::Fail;
-
-const ROOM: u32 = 4096;
-
-const SETTINGS: &[u8] = b"rate2048 = 2048\n";
 
 // A blocks file, a schedule, and the text of `run` under the practice table.
 type Case = (&'static [u8], &'static [u8], &'static [u8]);
 
-// `run` of four files' texts, with a Tape of ample room.
-fn run_of(
-    alloc: Global,
-    table: &[u8],
-    settings: &[u8],
-    blocks: &[u8],
-    schedule: &[u8],
-) -> Result<Outcome, AllocError> {
-    let mut table = feed(alloc, table)?;
-    let mut settings = feed(alloc, settings)?;
-    let mut blocks = feed(alloc, blocks)?;
-    let mut schedule = feed(alloc, schedule)?;
-    let mut tape = Tape::new(alloc, ROOM, ROOM, 0)?;
-    let answer = run(
-        alloc,
-        &mut table,
-        &mut settings,
-        &mut blocks,
-        &mut schedule,
-        &mut tape,
-    );
-    Ok((answer, Vec::from_slice(alloc, tape.bytes())?))
-}
-
-// What is written under the practice table.
-fn written(
-    alloc: Global,
-    settings: &[u8],
-    blocks: &[u8],
-    schedule: &[u8],
-) -> Result<Vec<u8>, Fail> {
-    let table = practice_table(alloc)?;
-    let (answer, written) = run_of(alloc, table.as_bytes(), settings, blocks, schedule)?;
-    answer?;
-    Ok(written)
-}
-
 // Runs each case, and compares the texts.
 fn check(rt: &impl Abort, alloc: Global, cases: &[Case]) -> Result<(), Fail> {
     for (blocks, schedule, want) in cases {
-        let text = written(alloc, SETTINGS, *blocks, *schedule)?;
+        let text = written(alloc, Command::Run, SETTINGS, *blocks, *schedule)?;
         assert_eq!(rt; text.as_slice(), *want);
     }
     Ok(())
@@ -234,6 +190,7 @@ fn hears_flipped_places(rt: HostRuntime) -> Result<(), Fail> {
 fn runs_with_a_limited_buffer(rt: HostRuntime) -> Result<(), Fail> {
     let text = written(
         rt.alloc(),
+        Command::Run,
         b"rate2048 = 2048\nlbrm = 1\n",
         b"01",
         b"block,rv,g,qm,nl,erase\n1,0,4,1,1,-\n",
@@ -271,24 +228,14 @@ fn runs_with_two_code_blocks(rt: HostRuntime) -> Result<(), Fail> {
     ];
     let zeros = vec![in rt.alloc(); b'0'; 958]?;
     for (schedule, want) in cases {
-        let text = written(rt.alloc(), b"rate2048 = 512\n", &zeros, schedule)?;
+        let text = written(
+            rt.alloc(),
+            Command::Run,
+            b"rate2048 = 512\n",
+            &zeros,
+            schedule,
+        )?;
         assert_eq!(rt; text.as_slice(), want);
     }
-    Ok(())
-}
-
-// A transport block that cannot be sent is refused before the first put.
-#[test]
-fn refuses_a_block(rt: HostRuntime) -> Result<(), Fail> {
-    let table = least_table(rt.alloc())?;
-    let (answer, written) = run_of(
-        rt.alloc(),
-        table.as_bytes(),
-        SETTINGS,
-        b"01",
-        b"block,rv,g,qm,nl,erase\n",
-    )?;
-    assert_eq!(rt; answer, Err(RunFault::Desk(1, DeskFault::Graph)));
-    assert_eq!(rt; written.len(), 0);
     Ok(())
 }

@@ -1,15 +1,14 @@
 //! Whole commands over Sources and a Sink in memory. The values are those of TS 38.212, worked by hand.
 
-ghost use Rattle.std.specs.Prelude.{◌≡◌, IfOk};
-
 use crate::blocks::BlocksFault;
 use crate::check::check;
+use crate::commands::{Outcome, feed};
 use crate::cut::cut;
 use crate::fault::{DeskFault, RunFault};
 use crate::sink::Tape;
 use nr_graphpick::PickFault;
 use nr_segment::SegFault;
-use nr_shifttable::{Feed, TableFault};
+use nr_shifttable::TableFault;
 use std::alloc::{AllocError, Global};
 use std::fmt::Write;
 use std::process::Abort;
@@ -17,16 +16,6 @@ use std::test::Fail;
 
 // More octets than any text of these tests has, but for the one that measures size.
 const ROOM: u32 = 1 << 20;
-
-// What a command answered, and what it wrote.
-pub(crate) type Outcome = (Result<(), RunFault>, Vec<u8>);
-
-// A Source of this text, which does not fail.
-pub(crate) fn feed(alloc: Global, text: &[u8]) -> Result<Feed, AllocError>
-    ensures { IfOk result (λ feed. feed.failed ≡ 0) }
-{
-    Ok(Feed::new(Vec::from_slice(alloc, text)?, 65_536, 0))
-}
 
 // `cut` of a blocks file, with a Tape of ample room.
 fn cut_of(alloc: Global, rate2048: u32, text: &[u8]) -> Result<Outcome, AllocError> {
