@@ -99,10 +99,11 @@ pub record Resizes (ws mid : List ℕ) (count : ℕ) : Type 0 where
   pub same : (t : ℕ) → place mid t ≡ place ws t
   pub long : length mid ≡ count
 
-pub resizes : (n m count len : ℕ) (ws mid : List ℕ) → IsPacked n ws → len ≡ length ws → count ≡ (n + m) / 64 + min 1 ((n + m) % 64) → mid ≡ take count ws ++ replicate (count - len) 0 → Resizes ws mid count
+pub resizes : (n m count len : ℕ) (ws mid : List ℕ) → IsPacked n ws → len ≡ length ws → count ≡ (n + m) / 64 + min 1 ((n + m) % 64) → mid ≡ ws ++ replicate (count - len) 0 → Resizes ws mid count
 resizes n m count len ws mid packed e f g =
     let enough : length ws ≤ count = omega (arith, packed.above, f) in
-    let h : mid ≡ take count ws ++ replicate (count - length ws) 0 = g ∙ ap (λ k. take count ws ++ replicate (count - k) 0) e in
+    let h : mid ≡ take count ws ++ replicate (count - length ws) 0 =
+    g ∙ ap (λ k. ws ++ replicate (count - k) 0) e ∙ ap (λ (l : List ℕ). l ++ replicate (count - length ws) 0) (sym (take_all count ws enough)) in
     record {
       same = λ t. ap (λ (vs : List ℕ). place vs t) h ∙ place-resized ws count t enough;
       long = ap length h ∙ length-resized ws count enough;

@@ -1,4 +1,5 @@
-// Laws over the definitions alone.
+//! Laws over the definitions alone.
+
 ghost use Rattle.nr_bitvec.specs.BitList.{OctetsRoundTrip};
 
 /// Law: octets that are written as bits and read again are the same octets.

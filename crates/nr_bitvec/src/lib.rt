@@ -1,8 +1,8 @@
-//! Lists of bits. A `Bits` is seen by contracts as the list of its bits (`BitList`, whose `items` are truth
-//! values) and the room that it has for more, and every call is stated by what it makes of that list;
-//! `from_bytes` and `to_bytes` go between octets and bits, the most significant bit first, as TS 38.212 numbers
-//! them. A list holds at most 2^24 bits, 64 of them in a word (`words`). It stands on std's `Vec` alone. The
-//! words for single bits, `bit` and the sum modulo two, are those of every crate above.
+//! Lists of at most 2^24 bits, kept 64 to a word, and octets as bits, the most significant first
+//! (TS 38.212). A `Bits` is seen by contracts as the list of its bits and the room that it has for
+//! more (specs/BitList.antt), and every call's contract says what it makes of that list;
+//! `octets_round_trip` is the law of octets. The words for single bits, `bit` and the sum modulo
+//! two (specs/Bit.antt), are those of every crate above. Stands on std's `Vec` alone.
 #![tactic(auto)]
 
 mod laws;

@@ -1,4 +1,6 @@
-// Octets as words: the places of octets have the most significant bit of each first, those of a word the least.
+//! Octets as words: the places of octets have the most significant bit of each first, those of a
+//! word the least.
+
 ghost use Rattle.std.specs.Prelude.{◌≡◌, ℕ, ◌+◌, ◌-◌, ◌*◌, ◌/◌, ◌%◌, ◌<◌, ◌≤◌, length};
 ghost use Rattle.std.specs.Int.{bit_at};
 ghost use Rattle.nr_bitvec.specs.Packed.{octet_place, Swaps};

@@ -1,4 +1,5 @@
-// The list of bits, kept as words.
+//! The list of bits, kept as words.
+
 ghost use Rattle.std.specs.Prelude.{◌≡◌, ℕ, ◌+◌, ◌*◌, ◌^◌, ◌<◌, ◌≤◌, ◌==◌, false, List, [], ◌∷◌, ◌++◌, length, take, drop, replicate, slice_set, IfOk, OnOk, OnErr};
 ghost use Rattle.std.specs.Int.{bit_at};
 ghost use Rattle.std.specs.Cmp.{on_equiv, on_per, partial_equiv_from_equiv, bool_eq_equiv};
@@ -7,11 +8,12 @@ ghost use Rattle.nr_bitvec.specs.Bit.{bit};
 ghost use Rattle.nr_bitvec.specs.BitList.{bits_of, number_of, octets_of, same_bits};
 
 use super::octets::{turned, word_of_octets};
-use super::words::{change, flip, join, low_bits, make_place, same_words, window};
+use super::words::{change, flip, join, lengthen, low_bits, make_place, same_words, window};
 use std::alloc::{AllocError, Global};
 use std::marker::Model;
 
-/// A list of at most 2^24 bits, which keeps its allocator. Two lists are equal where their bits are.
+/// A list of at most 2^24 bits, which keeps its allocator. Two lists are equal where their bits
+/// are.
 #[derive(Debug, Drop)]
 pub struct Bits {
     words: Vec<u64>,
@@ -41,7 +43,11 @@ impl Bits {
         }
     }
 
-    /// An empty list that has memory for `n` bits, at most 2^24. `AllocError` is want of memory.
+    /// An empty list that has memory for `n` bits, at most 2^24.
+    ///
+    /// # Errors
+    ///
+    /// `AllocError` is want of memory.
     pub fn with_room(alloc: Global, n: u32) -> Result<Bits, AllocError>
         requires { n ≤ 2 ^ 24 }
         ensures items { IfOk result (λ b. b.items ≡ []) }
@@ -51,7 +57,11 @@ impl Bits {
         Ok(Bits { words, len: 0 })
     }
 
-    /// A list of `n` zero bits, at most 2^24. `AllocError` is want of memory.
+    /// A list of `n` zero bits, at most 2^24.
+    ///
+    /// # Errors
+    ///
+    /// `AllocError` is want of memory.
     pub fn zeros(alloc: Global, n: u32) -> Result<Bits, AllocError>
         requires { n ≤ 2 ^ 24 }
         ensures { IfOk result (λ b. b.items ≡ replicate n false) }
@@ -61,9 +71,13 @@ impl Bits {
         Ok(Bits { words, len })
     }
 
-    /// The bits of octets, the most significant bit of each first, so that the first bit of a transport block
-    /// is the highest of its first octet (TS 38.212, 6.2.1 and 7.2.1). At most 2^21 octets. `AllocError` is want
-    /// of memory.
+    /// The bits of octets, the most significant bit of each first, so that the first bit of a
+    /// transport block is the highest of its first octet (TS 38.212, 6.2.1 and 7.2.1). At most 2^21
+    /// octets.
+    ///
+    /// # Errors
+    ///
+    /// `AllocError` is want of memory.
     pub fn from_bytes(alloc: Global, octets: &[u8]) -> Result<Bits, AllocError>
         requires { 8 * length octets.now ≤ 2 ^ 24 }
         ensures { IfOk result (λ b. b.items ≡ bits_of octets.now) }
@@ -79,8 +93,12 @@ impl Bits {
         })
     }
 
-    /// The octets of the list, eight bits an octet, the first bit most significant. The last octet is filled
-    /// with zero bits. `AllocError` is want of memory.
+    /// The octets of the list, eight bits an octet, the first bit most significant. The last octet
+    /// is filled with zero bits.
+    ///
+    /// # Errors
+    ///
+    /// `AllocError` is want of memory.
     pub fn to_bytes(&self) -> Result<Vec<u8>, AllocError>
         ensures { IfOk result (λ v. v.items ≡ octets_of self.now.items) }
     {
@@ -99,8 +117,12 @@ impl Bits {
         (turned(self.window(at)) & 0xff) as u8
     }
 
-    /// Puts a bit at the end of a list that is not full. `AllocError` is want of memory where the list has no room, and
-    /// leaves the list as it was.
+    /// Puts a bit at the end of a list that is not full.
+    ///
+    /// # Errors
+    ///
+    /// `AllocError` is want of memory where the list has no room, and leaves the list and its room
+    /// as they were.
     pub fn push(&mut self, bit: bool) -> Result<(), AllocError>
         requires { length self.old.items < 2 ^ 24 }
         ensures ok { OnOk result (self.new.items ≡ self.old.items ++ bit ∷ []) }
@@ -153,16 +175,20 @@ impl Bits {
         self.len = 0;
     }
 
-    /// Puts the bits of `more` at the end, where both lists together have at most 2^24 bits. `AllocError` is
-    /// want of memory where the list lacks the room, and leaves the list as it was.
+    /// Puts the bits of `more` at the end, where both lists together have at most 2^24 bits.
+    ///
+    /// # Errors
+    ///
+    /// `AllocError` is want of memory where the list lacks the room, and leaves the list and its
+    /// room as they were.
     pub fn extend(&mut self, more: &Bits) -> Result<(), AllocError>
         requires { length self.old.items + length more.now.items ≤ 2 ^ 24 }
         ensures ok { OnOk result (self.new.items ≡ self.old.items ++ more.now.items) }
-        ensures err { OnErr result (self.new.items ≡ self.old.items) }
+        ensures err { OnErr result (self.new ≡ self.old) }
         ensures full { OnErr result (self.old.room < length more.now.items) }
     {
         let len = self.len + more.len;
-        self.words.resize(len.div_ceil(64), 0)?;
+        lengthen(&mut self.words, len.div_ceil(64))?;
         join(&mut self.words, self.len, &more.words);
         self.len = len;
         Ok(())
@@ -207,8 +233,8 @@ impl Bits {
         window(&self.words, at / 64, at % 64)
     }
 
-    /// Puts the `count` lowest bits of `word`, at most 64, in the places of the bits from bit `at` on, the lowest
-    /// first, which the list has. Takes no memory.
+    /// Puts the `count` lowest bits of `word`, at most 64, in the places of the bits from bit `at`
+    /// on, the lowest first, which the list has. Takes no memory.
     pub fn put(&mut self, at: usize, count: usize, word: u64)
         requires count { count ≤ 64 }
         requires inside { at + count ≤ length self.old.items }
@@ -222,7 +248,11 @@ impl Bits {
         flip(&mut self.words, at, added);
     }
 
-    /// The `len` bits from bit `from` on, which the list has. `AllocError` is want of memory.
+    /// The `len` bits from bit `from` on, which the list has.
+    ///
+    /// # Errors
+    ///
+    /// `AllocError` is want of memory.
     pub fn copy_range(&self, from: usize, len: usize) -> Result<Bits, AllocError>
         requires { from + len ≤ length self.now.items }
         ensures { IfOk result (λ b. b.items ≡ take len (drop from self.now.items)) }
@@ -236,7 +266,11 @@ impl Bits {
         Ok(Bits { words, len })
     }
 
-    /// The same bits in a list of their own. `AllocError` is want of memory.
+    /// The same bits in a list of their own.
+    ///
+    /// # Errors
+    ///
+    /// `AllocError` is want of memory.
     pub fn try_clone(&self) -> Result<Bits, AllocError>
         ensures { IfOk result (λ b. b.items ≡ self.now.items) }
     {

@@ -1,3 +1,5 @@
+//! What no clause says, and each public call once.
+
 use super::words::{low_bits, window};
 use super::*;
 use std::test::Fail;

@@ -1,7 +1,11 @@
-// Words of 64 places, place 0 the lowest bit of the first word, as a list of bits and a rotated block keep them.
-ghost use Rattle.std.specs.Prelude.{◌≡◌, ℕ, ◌+◌, ◌*◌, ◌^◌, ◌<◌, ◌≤◌, length, vec_len, vec_capacity, IsTrue};
+//! Words of 64 places, place 0 the lowest bit of the first word, as a list of bits and a rotated
+//! block keep them.
+
+ghost use Rattle.std.specs.Prelude.{◌≡◌, ℕ, ◌+◌, ◌-◌, ◌*◌, ◌^◌, ◌<◌, ◌≤◌, ◌++◌, length, replicate, vec_len, vec_capacity, IsTrue, OnOk, OnErr};
 ghost use Rattle.std.specs.Int.{bit_at};
 ghost use Rattle.nr_bitvec.specs.Packed.{place, Adds, Changes, HasPlace, IsClear, IsPacked, Joins, SamePlaces};
+
+use std::alloc::AllocError;
 
 /// The `count` lowest bits of a word, and zeros above them.
 pub fn low_bits(word: u64, count: usize) -> u64
@@ -15,7 +19,8 @@ pub fn low_bits(word: u64, count: usize) -> u64
     }
 }
 
-/// The 64 places from place `turn` of word `word` on, the first of them lowest. Places past the end are zero.
+/// The 64 places from place `turn` of word `word` on, the first of them lowest. Places past the end
+/// are zero.
 pub fn window(words: &[u64], word: usize, turn: usize) -> u64
     requires { turn < 64 }
     ensures { (j : ℕ) → j < 64 → bit_at result j ≡ place words.now (64 * word + turn + j) }
@@ -30,7 +35,8 @@ pub fn window(words: &[u64], word: usize, turn: usize) -> u64
     low | words[word + 1] << (64 - turn)
 }
 
-// Adds 64 bits modulo two, from place `at` on, the lowest first. Those that go past the end are zero.
+// Adds 64 bits modulo two, from place `at` on, the lowest first. Those that go past the end are
+// zero.
 pub(crate) fn flip(words: &mut Vec<u64>, at: usize, bits: u64)
     requires { (j : ℕ) → 64 * length words.old.items ≤ at + j → bit_at bits j ≡ 0 }
     ensures places { Adds at bits words.old.items words.new.items }
@@ -67,7 +73,21 @@ pub(crate) fn make_place(words: &mut Vec<u64>, len: usize)
     }
 }
 
-// Puts words after the first `len` places, where no place is set. Their places past the end are zero.
+// Puts zeros behind words until there are `count` of them. Where that is refused, they and their
+// memory stay as they were.
+pub(crate) fn lengthen(words: &mut Vec<u64>, count: usize) -> Result<(), AllocError>
+    requires { vec_len words.old ≤ count }
+    ensures items { OnOk result (words.new.items ≡ words.old.items ++ replicate (count - vec_len words.old) 0) }
+    ensures err { OnErr result (words.new.items ≡ words.old.items) }
+    ensures capacity { OnErr result (vec_capacity words.new ≡ vec_capacity words.old) }
+    ensures full { OnErr result (vec_capacity words.old < count) }
+{
+    words.reserve(count - words.len())?;
+    words.resize(count, 0)
+}
+
+// Puts words after the first `len` places, where no place is set. Their places past the end are
+// zero.
 pub(crate) fn join(words: &mut Vec<u64>, len: usize, more: &[u64])
     requires clear { IsClear words.old.items len }
     requires fits { (t : ℕ) → 64 * length words.old.items ≤ len + t → place more.now t ≡ 0 }

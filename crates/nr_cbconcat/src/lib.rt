@@ -1,7 +1,7 @@
-//! The concatenation of code blocks of TS 38.212, 5.5.
-//! `append` puts the bits of a code block behind those before it, and `owner` says whose bit stands at a place of the
-//! joined list. Their contracts cite specs/Concatenation.antt. Law: each place has one owner.
-//! Stands on nr_bitvec; `owner` takes no memory.
+//! The concatenation of code blocks (TS 38.212, 5.5). `append` puts the bits of a code block behind
+//! those before it, and `owner` says whose bit stands at a place of the joined list. Their
+//! contracts say the joined list, and cite `IsOwner` of specs/Concatenation.antt; the law is that
+//! each place has one owner. Stands on `nr_bitvec`.
 #![tactic(auto)]
 
 ghost use Rattle.std.specs.Prelude.{◌≡◌, ◌+◌, ◌^◌, ◌<◌, ◌≤◌, ◌++◌, length, sum, OnOk, OnErr};
@@ -15,18 +15,20 @@ use std::alloc::AllocError;
 ///
 /// # Errors
 ///
-/// `AllocError` is want of memory where the joined bits lack the room, and leaves them as they were.
+/// `AllocError` is want of memory where the joined bits lack the room, and leaves them and their
+/// room as they were.
 pub fn append(joined: &mut Bits, block: &Bits) -> Result<(), AllocError>
     requires { length joined.old.items + length block.now.items ≤ 2 ^ 24 }
     ensures ok { OnOk result (joined.new.items ≡ joined.old.items ++ block.now.items) }
-    ensures err { OnErr result (joined.new.items ≡ joined.old.items) }
+    ensures err { OnErr result (joined.new ≡ joined.old) }
     ensures full { OnErr result (joined.old.room < length block.now.items) }
 {
     joined.extend(block)
 }
 
-/// The code block of place `m` of the joined bits, counted from 0, and the place there, where `lengths` are the
-/// lengths of the code blocks and `m` is below their sum (TS 38.212, 5.5). Takes no memory; walks the lengths.
+/// The code block of place `m` of the joined bits, counted from 0, and the place there, where
+/// `lengths` are the lengths of the code blocks and `m` is below their sum (TS 38.212, 5.5). Takes
+/// no memory; walks the lengths.
 pub fn owner(lengths: &[u32], m: u32) -> (u32, u32)
     requires few { length lengths.now < 2 ^ 32 }
     requires inside { m < sum lengths.now }

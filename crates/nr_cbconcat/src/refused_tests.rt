@@ -1,5 +1,7 @@
-//! The call that takes memory. The test ends by `AllocError` exactly where a growth is refused, and first compares the
-//! joined bits with what was before. `tests/refused-growths` refuses them, one after another.
+//! The call that takes memory. The test ends by `AllocError` exactly where a growth is refused, and
+//! first compares the joined bits with what was before, and makes the call again: where memory is
+//! there, the answer is the true one. `tests/refused-growths` refuses the growths, one after
+//! another.
 
 use super::*;
 
@@ -13,6 +15,12 @@ fn appends(rt: HostRuntime) -> Result<(), AllocError> {
     let answer = append(&mut joined, &block);
     if answer.is_err() {
         assert_eq!(rt; joined, before);
+        assert_eq!(rt; joined.len(), 64);
+        // Where one growth alone was refused, memory is there again.
+        if Bits::with_room(rt.alloc(), 64).is_ok() {
+            append(&mut joined, &block).expect(&rt, "memory is there again");
+            assert_eq!(rt; joined.octet(64), 0xa0);
+        }
     }
     answer?;
     assert_eq!(rt; joined.octet(64), 0xa0);

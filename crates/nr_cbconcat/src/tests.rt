@@ -1,3 +1,5 @@
+//! Each public call once, by values made by hand.
+
 use super::*;
 use std::test::Fail;
 

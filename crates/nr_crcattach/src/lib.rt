@@ -1,8 +1,8 @@
-//! The cyclic redundancy checks of NR (TS 38.212, 5.1) and their attachment to transport blocks (6.2.1, 7.2.1) and
-//! to code blocks (5.2.2). A list of bits is a polynomial, its first bit the highest coefficient; every call is stated
-//! by the remainders of that polynomial (specs/Crc.antt) and by the list with its parity bits behind it
-//! (specs/Attachment.antt), never by the register and the tables of the code. The main contract is that of `attach`,
-//! and `attachment_divides` is the law that what was attached leaves remainder 0. It stands on `nr_bitvec`.
+//! The cyclic redundancy checks of NR (TS 38.212, 5.1) and their attachment to transport blocks
+//! (6.2.1, 7.2.1) and to code blocks (5.2.2). A list of bits is a polynomial, its first bit the
+//! highest coefficient. The main contract is that of `attach`, the list with its parity bits behind
+//! it (specs/Attachment.antt), which are the remainder of that polynomial (specs/Crc.antt);
+//! `attachment_divides` is the law that what was attached leaves 0. Stands on `nr_bitvec`.
 #![tactic(auto)]
 
 ghost use Rattle.nr_crcattach.specs.Attachment.{AttachedBlocksDivide, CheckedListsDivide, CheckedListsLengthen, LongBlocksLengthen, ShortBlocksLengthen, attached, with_check};
@@ -15,7 +15,8 @@ mod octets;
 use nr_bitvec::Bits;
 use std::alloc::{AllocError, Global};
 
-// A transport block of more bits than this has 24 parity bits, any other 16 (TS 38.212, 6.2.1 and 7.2.1).
+// A transport block of more bits than this has 24 parity bits, any other 16 (TS 38.212, 6.2.1 and
+// 7.2.1).
 const MOST_FOR_C16: usize = 3824;
 
 /// A generator polynomial of TS 38.212 clause 5.1.
@@ -66,8 +67,8 @@ impl Poly {
     }
 }
 
-/// The parity bits of `bits` by the generator `poly`, as a number of 24 or 16 bits, the first parity bit
-/// highest (TS 38.212, 5.1). Takes no memory.
+/// The parity bits of `bits` by the generator `poly`, as a number of 24 or 16 bits, the first
+/// parity bit highest (TS 38.212, 5.1). Takes no memory.
 pub fn crc(poly: Poly, bits: &Bits) -> u32
     ensures value { result ≡ crc_of poly bits.now.items }
     ensures fits { result < 2 ^ degree poly }
@@ -75,8 +76,8 @@ pub fn crc(poly: Poly, bits: &Bits) -> u32
     crc_range(poly, bits, 0, bits.len())
 }
 
-/// The parity bits of the `len` bits from bit `from` on, as `crc` gives them for a list of these bits alone.
-/// The range lies within the list. Takes no memory.
+/// The parity bits of the `len` bits from bit `from` on, as `crc` gives them for a list of these
+/// bits alone. The range lies within the list. Takes no memory.
 pub fn crc_range(poly: Poly, bits: &Bits, from: usize, len: usize) -> u32
     requires { from + len ≤ length bits.now.items }
     ensures value { result ≡ crc_of poly (take len (drop from bits.now.items)) }
@@ -109,8 +110,8 @@ fn crc_of_words(poly: Poly, bits: &Bits, from: usize, words: usize) -> u32
     register
 }
 
-/// Whether `bits`, as a polynomial, leaves remainder 0 by the generator `poly` (TS 38.212, 5.1), as a list
-/// followed by its parity bits does. Takes no memory.
+/// Whether `bits`, as a polynomial, leaves remainder 0 by the generator `poly` (TS 38.212, 5.1), as
+/// a list followed by its parity bits does. Takes no memory.
 pub fn divides(poly: Poly, bits: &Bits) -> bool
     ensures { IsTrue result ↔ IsDivided poly bits.now.items }
 {
@@ -118,8 +119,8 @@ pub fn divides(poly: Poly, bits: &Bits) -> bool
     crc(poly, bits) == 0
 }
 
-/// A transport block followed by its parity bits: 24 by CRC24A where it has more than 3824 bits, else 16 by
-/// CRC16 (TS 38.212, 6.2.1 and 7.2.1). The block has at most 2^24 - 24 bits.
+/// A transport block followed by its parity bits: 24 by CRC24A where it has more than 3824 bits,
+/// else 16 by CRC16 (TS 38.212, 6.2.1 and 7.2.1). The block has at most 2^24 - 24 bits.
 ///
 /// # Errors
 ///
@@ -136,7 +137,8 @@ pub fn attach(alloc: Global, block: &Bits) -> Result<Bits, AllocError>
     followed_by_check(alloc, poly, block)
 }
 
-/// The bits of a code block, at most 2^24 - 24, followed by their 24 parity bits by CRC24B (TS 38.212, 5.2.2).
+/// The bits of a code block, at most 2^24 - 24, followed by their 24 parity bits by CRC24B (TS
+/// 38.212, 5.2.2).
 ///
 /// # Errors
 ///
@@ -148,7 +150,8 @@ pub fn attach_code(alloc: Global, bits: &Bits) -> Result<Bits, AllocError>
     followed_by_check(alloc, Poly::B24, bits)
 }
 
-// The bits followed by their parity bits, the highest first. The room for all of them is asked for once.
+// The bits followed by their parity bits, the highest first. The room for all of them is asked for
+// once.
 fn followed_by_check(alloc: Global, poly: Poly, bits: &Bits) -> Result<Bits, AllocError>
     requires { length bits.now.items + 24 ≤ 2 ^ 24 }
     ensures { IfOk result (λ b. b.items ≡ with_check poly bits.now.items) }
@@ -162,24 +165,24 @@ fn followed_by_check(alloc: Global, poly: Poly, bits: &Bits) -> Result<Bits, All
     Ok(checked)
 }
 
-/// The law of attachment: every list followed by its parity bits leaves remainder 0 by their generator, and
-/// so does every transport block as `attach` gives it.
+/// The law of attachment: every list followed by its parity bits leaves remainder 0 by their
+/// generator, and so does every transport block as `attach` gives it.
 pub fn attachment_divides()
     ensures check { CheckedListsDivide }
     ensures block { AttachedBlocksDivide }
 {}
 
-/// The law of lengths: parity bits lengthen a list by their number, and a transport block by 24 bits exactly
-/// where it has more than 3824, else by 16.
+/// The law of lengths: parity bits lengthen a list by their number, and a transport block by 24
+/// bits exactly where it has more than 3824, else by 16.
 pub fn attachment_lengthens()
     ensures check { CheckedListsLengthen }
     ensures long { LongBlocksLengthen }
     ensures short { ShortBlocksLengthen }
 {}
 
-/// The laws of sums: a sum times D is the sum of both times D, one more power of D is the remainder times D,
-/// and the remainder of two lists joined is the sum of both, the first's raised by as many powers as the
-/// second has bits.
+/// The laws of sums: a sum times D is the sum of both times D, one more power of D is the remainder
+/// times D, and the remainder of two lists joined is the sum of both, the first's raised by as many
+/// powers as the second has bits.
 pub fn residues_add()
     ensures sum { TimesDIsAdditive }
     ensures power { PowersMultiply }

@@ -1,4 +1,5 @@
-// A check sixteen bits at a turn, by two tables of the remainders of octets for each generator.
+//! A check sixteen bits at a turn, by two tables of the remainders of octets for each generator.
+
 ghost use Rattle.std.specs.Prelude.{◌≡◌, ◌<◌, ◌^◌};
 ghost use Rattle.nr_crcattach.specs.Crc.{degree, high_first};
 ghost use Rattle.nr_crcattach.specs.Octets.{Continues, low_first, octet_residues};
@@ -225,8 +226,8 @@ impl Poly {
         }
     }
 
-    // The check of bits, of which `remainder` is the check, with the sixteen bits of `pair` behind them, the highest
-    // first.
+    // The check of bits, of which `remainder` is the check, with the sixteen bits of `pair` behind
+    // them, the highest first.
     fn with_pair(self, remainder: u32, pair: u16) -> u32
         requires { remainder < 2 ^ degree self }
         ensures value { Continues self remainder (high_first 16 pair) result }

@@ -1,3 +1,5 @@
+//! Checks by values from catalogues and by hand, and each public call once.
+
 ghost use Rattle.std.specs.Prelude.{◌<◌, IfOk, length};
 
 use super::*;
@@ -52,7 +54,8 @@ fn range_behind_three_zeros(rt: HostRuntime) -> Result<(), Fail> {
     Ok(())
 }
 
-// For each generator: the top bit of its register, the bits below it, and the generator without its highest power.
+// For each generator: the top bit of its register, the bits below it, and the generator without its
+// highest power.
 const REGISTERS: [(Poly, u32, u32, u32); 3] = [
     (Poly::A24, 0x80_0000, 0x7f_ffff, 0x86_4cfb),
     (Poly::B24, 0x80_0000, 0x7f_ffff, 0x80_0063),

@@ -1,8 +1,8 @@
-//! The choice between the two LDPC base graphs, and their sizes (3GPP TS 38.212, 5.3.2, 6.2.2 and 7.2.2).
-//! `pick` answers the base graph of a transport block by its size and its code rate.
-//! Its contract: the answer is `picked` of specs/Graph.antt, the three comparisons of the standard in whole
-//! numbers, or the first of the two faults.
-//! Stands on std alone, with `thiserror` for the fault; nothing here takes memory.
+//! The choice between the two LDPC base graphs, and their sizes (3GPP TS 38.212, 5.3.2, 6.2.2 and
+//! 7.2.2). `pick` answers the base graph of a transport block by its size and its code rate. Its
+//! contract: the answer is `picked` of specs/Graph.antt, the three comparisons of the standard in
+//! whole numbers, or the first of the two faults. Stands on std alone, with `thiserror` for the
+//! fault; nothing here takes memory.
 #![tactic(auto)]
 
 ghost use Rattle.std.specs.Prelude.{◌≡◌};
@@ -47,7 +47,8 @@ impl Graph {
         }
     }
 
-    /// How many of its columns, the first ones, stand for information bits: 22 or 10 (TS 38.212, 5.2.2).
+    /// How many of its columns, the first ones, stand for information bits: 22 or 10 (TS 38.212,
+    /// 5.2.2).
     pub fn info_cols(self) -> u32
         ensures { result ≡ info_cols_of self }
     {
@@ -86,14 +87,14 @@ pub enum PickFault {
 /// Picks the base graph of a transport block of `a` bits at the code rate `rate2048` / 2048
 /// (TS 38.212, 6.2.2 and 7.2.2).
 ///
-/// Base graph 2 is taken where `a` is at most 292, or `a` is at most 3824 and the rate at most 0.67, or the
-/// rate is at most 0.25; else base graph 1. The rate is compared in whole numbers, as
+/// Base graph 2 is taken where `a` is at most 292, or `a` is at most 3824 and the rate at most
+/// 0.67, or the rate is at most 0.25; else base graph 1. The rate is compared in whole numbers, as
 /// `100 * rate2048 <= 137216` and `4 * rate2048 <= 2048`.
 ///
 /// # Errors
 ///
-/// In this order: `RateRange`, where `rate2048` is not in 1..=2048; `SizeRange`, where `a` is not in
-/// 1..=1,310,720.
+/// In this order: `RateRange`, where `rate2048` is not in 1..=2048; `SizeRange`, where `a` is not
+/// in 1..=1,310,720.
 pub fn pick(a: u32, rate2048: u32) -> Result<Graph, PickFault>
     ensures { result ≡ picked a rate2048 }
 {
@@ -121,7 +122,8 @@ mod tests {
         assert_eq!(rt; (two.rows(), two.cols(), two.info_cols()), (42, 52, 10));
     }
 
-    // Around each of the standard's bounds: 292 bits, 3824 bits, the rates 0.67 (1372.16 2048ths) and 0.25.
+    // Around each of the standard's bounds: 292 bits, 3824 bits, the rates 0.67 (1372.16 2048ths)
+    // and 0.25.
     #[test]
     fn picks(rt: HostRuntime) {
         let cases = [

@@ -3,7 +3,8 @@
 //! whether some position was heard with both bits.
 //! Its contract: `hear` makes the record of the longer list of hearings of that of the list so far (specs/Record.antt),
 //! by a proved law; which words agree with all that was heard can be read off the record, by another.
-//! Stands on nr_bitvec for the bits and on nr_segment for the plan. A store holds two bits a position.
+//! Stands on nr_bitvec for the bits, and on nr_segment and nr_graphpick for the plan. A store holds two bits a
+//! position.
 #![tactic(auto)]
 
 mod laws;

@@ -1,7 +1,7 @@
 //! The store of one code block.
 
 ghost use Rattle.std.specs.Prelude.{◌≡◌, ◌<◌, [], length, IfOk};
-ghost use Rattle.nr_harqbuf.specs.Positions.{positions_of};
+ghost use Rattle.nr_segment.specs.CodeBlock.{positions_of};
 ghost use Rattle.nr_harqbuf.specs.Record.{first_at, record_of, with_hearing};
 
 use nr_bitvec::Bits;
@@ -31,8 +31,11 @@ impl Model for Store {
 }
 
 impl Store {
-    /// A store in which nothing was heard yet, of one code block of this plan. `AllocError` is want of memory: all
-    /// that a store ever needs is taken here.
+    /// A store in which nothing was heard yet, of one code block of this plan. All memory of its life is taken here.
+    ///
+    /// # Errors
+    ///
+    /// `AllocError` is want of memory.
     pub fn new(alloc: Global, plan: &Plan) -> Result<Store, AllocError>
         ensures { IfOk result (λ store. store ≡ record_of (positions_of plan.now) []) }
     {

@@ -1,3 +1,5 @@
+//! What a store keeps of the bits that it hears.
+
 use super::*;
 use nr_graphpick::Graph;
 use nr_segment::plan;

@@ -1,3 +1,5 @@
+//! Seats and bits in their order, by hand from the matrix of TS 38.212, 5.4.2.2.
+
 use super::*;
 use std::test::Fail;
 

@@ -1,3 +1,5 @@
+//! Sums of rotated blocks at the sizes of each set, as `add_block`.
+
 ghost use Rattle.std.specs.Prelude.{◌≡◌, ◌+◌, ◌*◌, ◌<◌, ◌≤◌, length, IsTrue};
 ghost use Rattle.nr_lifting.specs.Blocks.{GainsBlock};
 ghost use Rattle.nr_lifting.specs.Sizes.{is_in, set_0, set_1, set_2, set_3, set_4, set_5, set_6, set_7};

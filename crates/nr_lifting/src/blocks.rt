@@ -1,3 +1,5 @@
+//! Blocks of bits at any lifting size, added up and counted 64 bits at a time.
+
 ghost use Rattle.std.specs.Prelude.{◌≡◌, ◌+◌, ◌<◌, ◌≤◌, length};
 ghost use Rattle.nr_lifting.specs.Blocks.{IsSize, GainsBlock, TalliesBlock};
 ghost use Rattle.nr_lifting.specs.Sizes.{set_index};

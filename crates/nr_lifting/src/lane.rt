@@ -1,3 +1,5 @@
+//! Lanes of as many bits as a lifting size, kept as words of 64.
+
 ghost use Rattle.std.specs.Prelude.{◌≡◌, ℕ, ◌+◌, ◌*◌, ◌<◌, ◌≤◌, false, length, replicate};
 ghost use Rattle.std.specs.Int.{bit_at};
 ghost use Rattle.nr_bitvec.specs.Bit.{bit};
@@ -45,6 +47,7 @@ impl<const Z: usize, const W: usize> Lane<Z, W> {
         ensures bits { (t : ℕ) → t < Z → bit result t ≡ bit src.now.items (from + t) }
         ensures long { length result ≡ Z }
     {
+        // A list has at most 2^24 bits, so no place below overflows.
         let _ = src.len();
         let mut words = [0; W];
         for i in 0..W {
@@ -62,6 +65,7 @@ impl<const Z: usize, const W: usize> Lane<Z, W> {
         ensures long { length dst.new.items ≡ length dst.old.items }
         ensures room { dst.new.room ≡ dst.old.room }
     {
+        // A list has at most 2^24 bits, so no place below overflows.
         let _ = dst.len();
         for i in 0..W {
             let start = 64 * i;

@@ -1,4 +1,5 @@
-// `add_block` and `tally_block` bit by bit, under the same contracts, as the reference of their tests.
+//! `add_block` and `tally_block` bit by bit, under the same contracts, as the reference of their tests.
+
 ghost use Rattle.std.specs.Prelude.{◌≡◌, ◌+◌, ◌%◌, ◌<◌, ◌≤◌, length};
 ghost use Rattle.nr_lifting.specs.Blocks.{IsSize, GainsBlock, TalliesBlock};
 
@@ -12,6 +13,7 @@ pub(crate) fn add_plain(z: usize, acc: &mut Bits, at: usize, src: &Bits, from: u
     ensures sum { GainsBlock z acc.new.items acc.old.items at src.now.items from p }
     ensures room { acc.new.room ≡ acc.old.room }
 {
+    // A list has at most 2^24 bits, so no place below overflows.
     let _ = acc.len();
     let _ = src.len();
     for t in 0..z {
@@ -38,6 +40,7 @@ pub(crate) fn tally_plain(
     ensures ones_room { ones.new.room ≡ ones.old.room }
     ensures more_room { more.new.room ≡ more.old.room }
 {
+    // A list has at most 2^24 bits, so no place below overflows.
     let _ = src.len();
     for t in 0..z {
         let bit = src.get(from + turned(t, p, z));

@@ -1,3 +1,5 @@
+//! The lifting sizes and their sets.
+
 ghost use Rattle.std.specs.Prelude.{◌≡◌};
 ghost use Rattle.nr_lifting.specs.Sizes.{sizes, set_index, least_size, IsSizeTable};
 

@@ -1,3 +1,5 @@
+//! Counts of rotated blocks at the sizes of each set, as `tally_block`.
+
 ghost use Rattle.std.specs.Prelude.{◌≡◌, ◌+◌, ◌*◌, ◌<◌, ◌≤◌, length, IsTrue};
 ghost use Rattle.nr_lifting.specs.Blocks.{TalliesBlock};
 ghost use Rattle.nr_lifting.specs.Sizes.{is_in, set_0, set_1, set_2, set_3, set_4, set_5, set_6, set_7};

@@ -1,3 +1,5 @@
+//! Lanes by hand, and blocks beside those of single bits at all 51 lifting sizes.
+
 ghost use Rattle.std.specs.Prelude.{◌≡◌, ◌<◌, length};
 ghost use Rattle.nr_lifting.specs.Blocks.{IsSize};
 ghost use Rattle.nr_lifting.specs.Sizes.{is_in, sizes};

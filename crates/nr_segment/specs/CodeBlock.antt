@@ -5,12 +5,16 @@ use Rattle.nr_bitvec.specs.Bit.{bit}
 use Rattle.nr_crcattach.specs.Attachment.{with_check}
 use Rattle.nr_crcattach.specs.declared.Poly.TheVariants.{B24}
 use Rattle.nr_graphpick.specs.declared.Graph.{Graph}
-use Rattle.nr_segment.specs.Plan.{Numbers, plan_of}
+use Rattle.nr_segment.specs.Plan.{Numbers, plan_of, word_size}
 use Rattle.nr_segment.specs.declared.numbers.Plan.{Plan}
 
 -- the numbers of a plan
 abbrev pub numbers : Plan → Numbers
 numbers p = record { l = p.l; c = p.c; kdash = p.kdash; kb = p.kb; z = p.z; set = p.set; k = p.k; n = p.n }
+
+-- how many positions a codeword of a plan's code blocks has
+abbrev pub positions_of : Plan → ℕ
+positions_of p = word_size p.graph (numbers p)
 
 -- how many bits of the transport block each code block has: K' - L
 abbrev pub share : Numbers → ℕ

@@ -63,6 +63,10 @@ numbers_of graph b = record {
   n = (cols_of graph - 2) * lifting_size graph b;
 }
 
+-- how many positions a codeword has, the punctured ones too: 2 Zc more than N (5.3.2)
+abbrev pub word_size : Graph → Numbers → ℕ
+word_size graph p = cols_of graph * p.z
+
 -- the plan for b bits, or the first fault
 unfoldable pub plan_of : Graph → ℕ → Result Numbers SegFault
 plan_of graph b =

@@ -1,4 +1,5 @@
-// Code blocks: the transport block's bits that they hold, and the CRC24B of each of several.
+//! Code blocks: the transport block's bits that they hold, and the CRC24B of each of several.
+
 ghost use Rattle.std.specs.Prelude.{◌≡◌, ◌-◌, ◌<◌, length, map, IfOk, All};
 ghost use Rattle.nr_segment.specs.CodeBlock.{
   numbers,

@@ -3,7 +3,8 @@
 //! with its CRC, `join` puts code blocks together again, and `part` says where a bit comes from.
 //! Their contracts cite specs/Plan.antt, with each number as the standard words it, and specs/CodeBlock.antt; a `Plan`
 //! always holds the numbers of its base graph and of B. `join` undoes `cut`, by a proved law.
-//! It stands on `nr_bitvec`, `nr_crcattach`, `nr_graphpick` and `nr_lifting`; `plan` and `part` take no memory.
+//! Stands on nr_bitvec, nr_lifting, nr_crcattach and nr_graphpick, with `thiserror` for the fault; `plan` and `part`
+//! take no memory.
 #![tactic(auto)]
 
 mod code_block;

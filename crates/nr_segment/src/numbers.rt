@@ -1,4 +1,5 @@
-// The plan's type and its faults.
+//! The plan's type and its faults.
+
 ghost use Rattle.std.specs.Prelude.{◌≡◌, Ok};
 ghost use Rattle.nr_segment.specs.Plan.{plan_of, IsSound};
 

@@ -1,4 +1,5 @@
-// The plan of a transport block.
+//! The plan of a transport block.
+
 ghost use Rattle.std.specs.Prelude.{◌≡◌, IfOk, IfErr, Ok, Err};
 ghost use Rattle.nr_segment.specs.CodeBlock.{numbers};
 ghost use Rattle.nr_segment.specs.Plan.{largest_block, check_bits, block_count, info_columns, plan_of, PlansAreSound};

@@ -1,3 +1,5 @@
+//! Plans, and code blocks cut and joined, by hand from TS 38.212, 5.2.2 and 5.3.2.
+
 use super::*;
 use nr_bitvec::Bits;
 use nr_crcattach::{Poly, divides};

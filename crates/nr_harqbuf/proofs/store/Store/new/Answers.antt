@@ -1,5 +1,5 @@
 use Rattle.std.proofs.Common.{◌≡◌, ◌*◌, ap}
-use Rattle.nr_harqbuf.specs.Positions.{positions_of}
+use Rattle.nr_segment.specs.CodeBlock.{positions_of}
 use Rattle.nr_harqbuf.proofs.Keeping.{record-none}
 use Rattle.nr_harqbuf.proofs.store.Store.new.Goals as goal
 
