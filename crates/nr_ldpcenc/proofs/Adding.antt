@@ -7,7 +7,7 @@ use Rattle.nr_bitvec.specs.Bit.{◌⊕◌}
 use Rattle.nr_shifttable.specs.declared.entry.Entry.{Entry}
 use Rattle.nr_shifttable.specs.Tails.{value_in}
 use Rattle.nr_ldpcenc.specs.Parity.{parity}
-use Rattle.nr_ldpcenc.specs.Rows.{place, positions}
+use Rattle.nr_ldpcenc.specs.Rows.{one_at, positions}
 use Rattle.nr_ldpcenc.specs.Solving.{sum_before}
 
 zero_right : (a : Bool) → a ≡ a ⊕ false
@@ -22,19 +22,19 @@ deeper x s t b e = grind arith
 module _ (set z : ℕ) (w : ℕ → Bool) (j t : ℕ) where
   -- what one entry adds
   abbrev pub entry_bit : Entry → Bool
-  entry_bit e = cond (nat_lt e.col j) (w (place z t e.col (value_in set e))) false
+  entry_bit e = cond (nat_lt e.col j) (w (one_at z t e.col (value_in set e))) false
 
   sum-last : (xs : List Entry) (x : Entry) → sum_before set z w j t (xs ++ x ∷ []) ≡ sum_before set z w j t xs ⊕ entry_bit x
   sum-last [] x = by_test (nat_lt x.col j) refl
     where
       by_test : (b : Bool) → nat_lt x.col j ≡ b → sum_before set z w j t (x ∷ []) ≡ false ⊕ entry_bit x
-      by_test true h = rw h (sym (zero_right (w (place z t x.col (value_in set x)))))
+      by_test true h = rw h (sym (zero_right (w (one_at z t x.col (value_in set x)))))
       by_test false h = rw h refl
   sum-last (y ∷ ys) x = by_test (nat_lt y.col j) refl (sum-last ys x)
     where
       by_test : (b : Bool) → nat_lt y.col j ≡ b → sum_before set z w j t (ys ++ x ∷ []) ≡ sum_before set z w j t ys ⊕ entry_bit x
           → sum_before set z w j t (y ∷ ys ++ x ∷ []) ≡ sum_before set z w j t (y ∷ ys) ⊕ entry_bit x
-      by_test true h more = rw h (deeper (w (place z t y.col (value_in set y))) (sum_before set z w j t ys) (sum_before set z w j t (ys ++ x ∷ [])) (entry_bit x) more)
+      by_test true h more = rw h (deeper (w (one_at z t y.col (value_in set y))) (sum_before set z w j t ys) (sum_before set z w j t (ys ++ x ∷ [])) (entry_bit x) more)
       by_test false h more = rw h more
 
   -- one more entry
@@ -59,7 +59,7 @@ pub entry_bit-there : (set z : ℕ) (w : ℕ → Bool) (j t : ℕ) (e : Entry) (
     → w (col * z + (t + v % z) % z) ≡ entry_bit set z w j t e
 entry_bit-there set z w j t e col v is_col is_value lt =
     let inside : e.col < j = omega arith in
-    let here : w (col * z + (t + v % z) % z) ≡ w (place z t e.col (value_in set e)) = λ i. w (is_col i * z + (t + is_value i % z) % z) in
+    let here : w (col * z + (t + v % z) % z) ≡ w (one_at z t e.col (value_in set e)) = λ i. w (is_col i * z + (t + is_value i % z) % z) in
     rw (lt_test e.col j inside) here
 
 pub entry_bit-not : (set z : ℕ) (w : ℕ → Bool) (j t : ℕ) (e : Entry) (col : ℕ) → col ≡ e.col → j ≤ col → entry_bit set z w j t e ≡ false
@@ -81,8 +81,8 @@ parity-last w [] p = sym (zero_right (w p))
 parity-last w (q ∷ ps) p = deeper (w q) (parity w ps) (parity w (ps ++ p ∷ [])) (w p) (parity-last w ps p)
 
 pub parity-next : (w : ℕ → Bool) (set z t : ℕ) (xs : List Entry) (i : ℕ) (d : Entry) → i < length xs
-    → parity w (positions set z t (take (i + 1) xs)) ≡ parity w (positions set z t (take i xs)) ⊕ w (place z t (get_or xs i d).col (value_in set (get_or xs i d)))
+    → parity w (positions set z t (take (i + 1) xs)) ≡ parity w (positions set z t (take i xs)) ⊕ w (one_at z t (get_or xs i d).col (value_in set (get_or xs i d)))
 parity-next w set z t xs i d lt =
     ap (λ l. parity w (positions set z t l)) (take_more xs i d lt)
-    ∙ ap (parity w) (map-append (λ e. place z t e.col (value_in set e)) (take i xs) (get_or xs i d ∷ []))
-    ∙ parity-last w (positions set z t (take i xs)) (place z t (get_or xs i d).col (value_in set (get_or xs i d)))
+    ∙ ap (parity w) (map-append (λ e. one_at z t e.col (value_in set e)) (take i xs) (get_or xs i d ∷ []))
+    ∙ parity-last w (positions set z t (take i xs)) (one_at z t (get_or xs i d).col (value_in set (get_or xs i d)))

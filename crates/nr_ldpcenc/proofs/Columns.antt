@@ -13,8 +13,8 @@ use Rattle.nr_shifttable.specs.declared.entry.Entry.{Entry}
 use Rattle.nr_shifttable.specs.CoreRows.{CoreSum}
 use Rattle.nr_shifttable.specs.Tails.{HasShape, tail_of}
 use Rattle.nr_ldpcenc.specs.Parity.{parity}
-use Rattle.nr_ldpcenc.specs.Rows.{Checks, Meets, place, row_at, checks_of}
-use Rattle.nr_ldpcenc.specs.Solving.{head_sum, core_sum, core_rotation, unrotate, with_column, with_first, with_next, with_columns, row_ending, IsSolvedTo, AgreeBelow}
+use Rattle.nr_ldpcenc.specs.Rows.{Checks, Meets, one_at, row_at, checks_of, unrotate}
+use Rattle.nr_ldpcenc.specs.Solving.{head_sum, core_sum, core_rotation, with_column, with_first, with_next, with_columns, row_ending, IsSolvedTo, AgreeBelow}
 use Rattle.nr_ldpcenc.proofs.Sums.{heads-agree, row-splits, tail_sum}
 use Rattle.nr_ldpcenc.proofs.Core.{core_rows-add_up, rows_sum, row-ends}
 
@@ -32,7 +32,7 @@ le_or_lt a b = by_test (nat_le a b) refl
         is_lt h = grind (arith, nat_tests)
 
 -- the places of a column, lane by lane
-pub place-zero : (z t j : ℕ) → t < z → place z t j 0 ≡ j * z + t
+pub place-zero : (z t j : ℕ) → t < z → one_at z t j 0 ≡ j * z + t
 place-zero z t j lt =
     let none : 0 % z ≡ 0 = mod-eq_of_lt (omega arith) in
     let same : (t + 0 % z) % z ≡ t = ap (λ r. (t + r) % z) none ∙ ap (λ r. r % z) (omega arith) ∙ mod-eq_of_lt lt in
@@ -50,7 +50,7 @@ unrotate-rotate z v t lt =
     let whole : (t + v % z) + (z - v % z) ≡ t + z = omega arith in
     mod-add-mod (t + v % z) z (z - v % z) ∙ ap (λ n. n % z) whole ∙ add-mod_right t z ∙ mod-eq_of_lt lt
 
-pub place-unrotate : (z v u j : ℕ) → u < z → place z (unrotate z v u) j v ≡ j * z + u
+pub place-unrotate : (z v u j : ℕ) → u < z → one_at z (unrotate z v u) j v ≡ j * z + u
 place-unrotate z v u j lt = ap (λ r. j * z + r) (rotate-unrotate z v u lt)
 
 -- agreement below a position
@@ -106,11 +106,11 @@ module _ (es : List Entry) (set n rows z : ℕ) (shape : HasShape es set n rows)
   solved_from_meets cols w met = record {
     first = λ t lt. core_gives
         (parity w (row_at es set z 0 t)) (parity w (row_at es set z 1 t)) (parity w (row_at es set z 2 t)) (parity w (row_at es set z 3 t))
-        (core_sum es set z w n t) (w (place z t n (core_rotation es set n)))
+        (core_sum es set z w n t) (w (one_at z t n (core_rotation es set n)))
         (core_rows-add_up es set z n w t adds)
         (met 0 t (omega arith) lt) (met 1 t (omega arith) lt) (met 2 t (omega arith) lt) (met 3 t (omega arith) lt);
     later = λ i t some lim lt. no_more
-        (head_sum es set z w (n + i) (row_ending i) t) (w (place z t (n + i) 0))
+        (head_sum es set z w (n + i) (row_ending i) t) (w (one_at z t (n + i) 0))
         (sym (row-splits es set z w (n + i) (row_ending i) t ((n + i, 0) ∷ []) (row-ends es set n rows i shape some lim)) ∙ met (row_ending i) t (ends_low i some lim) lt);
   }
 
@@ -118,7 +118,7 @@ module _ (es : List Entry) (set n rows z : ℕ) (shape : HasShape es set n rows)
   ending_met : (w : ℕ → Bool) → IsSolvedTo es set n z rows w → (i t : ℕ) → 1 ≤ i → i < rows → t < z → parity w (row_at es set z (row_ending i) t) ≡ false
   ending_met w solved i t some lim lt =
       row-splits es set z w (n + i) (row_ending i) t ((n + i, 0) ∷ []) (row-ends es set n rows i shape some lim)
-      ∙ met_by (head_sum es set z w (n + i) (row_ending i) t) (w (place z t (n + i) 0)) (solved.later i t some lim lt)
+      ∙ met_by (head_sum es set z w (n + i) (row_ending i) t) (w (one_at z t (n + i) 0)) (solved.later i t some lim lt)
 
   -- a word with its parity columns solved meets every row
   pub meets_from_solved : (cols : ℕ) (w : ℕ → Bool) → IsSolvedTo es set n z rows w → Meets (checks_of es set z rows cols) w
@@ -145,7 +145,7 @@ module _ (es : List Entry) (set n rows z : ℕ) (shape : HasShape es set n rows)
       second : parity w (row_at es set z 2 t) ≡ false
       second = third_met
           (parity w (row_at es set z 0 t)) (parity w (row_at es set z 1 t)) (parity w (row_at es set z 2 t)) (parity w (row_at es set z 3 t))
-          (core_sum es set z w n t) (w (place z t n (core_rotation es set n)))
+          (core_sum es set z w n t) (w (one_at z t n (core_rotation es set n)))
           (core_rows-add_up es set z n w t adds)
           zeroth first third (solved.first t lt)
 
@@ -169,13 +169,13 @@ module _ (es : List Entry) (set n z : ℕ) (pos : 0 < z) where
           let rot = core_rotation es set n in
           let t = unrotate z rot u in
           let lane : t < z = mod_below (u + (z - rot % z)) z pos in
-          let at : place z t n rot ≡ n * z + u = place-unrotate z rot u n low in
+          let at : one_at z t n rot ≡ n * z + u = place-unrotate z rot u n low in
           sym (ap v at) ∙ sv.first t lane ∙ core_sums-agree es set z v w n t pos same ∙ sym (sw.first t lane) ∙ ap w at
   solved_agree lim v w sv sw same (suc k) lt = step (solved_agree lim v w sv sw same k (omega arith))
     where
       here : AgreeBelow ((n + suc k) * z) v w → (u : ℕ) → u < z → v ((n + suc k) * z + u) ≡ w ((n + suc k) * z + u)
       here before u low =
-          let at : place z u (n + suc k) 0 ≡ (n + suc k) * z + u = place-zero z u (n + suc k) low in
+          let at : one_at z u (n + suc k) 0 ≡ (n + suc k) * z + u = place-zero z u (n + suc k) low in
           sym (ap v at)
           ∙ sv.later (suc k) u (omega arith) lt low
           ∙ heads-agree es set z v w (n + suc k) (row_ending (suc k)) u pos before
@@ -187,7 +187,7 @@ module _ (es : List Entry) (set n z : ℕ) (pos : 0 < z) where
           let moved : AgreeBelow ((n + suc k) * z) v w = subst (λ m. AgreeBelow (m * z) v w) (omega arith) before in
           agree_more z (n + suc k) v w moved (here moved)
 
-  place_in : (t j v lim : ℕ) → j < lim → place z t j v < lim * z
+  place_in : (t j v lim : ℕ) → j < lim → one_at z t j v < lim * z
   place_in t j v lim lt =
       let lane : (t + v % z) % z < z = mod_below (t + v % z) z pos in
       let up : (j + 1) * z ≤ lim * z = mul-le-mul_right z (omega arith) in
@@ -199,12 +199,12 @@ module _ (es : List Entry) (set n z : ℕ) (pos : 0 < z) where
     first = λ t lt.
         let rot = core_rotation es set n in
         let low : n * z ≤ (n + lim) * z = mul-le-mul_right z (omega arith) in
-        sym (same (place z t n rot) (place_in t n rot (n + lim) (omega arith)))
+        sym (same (one_at z t n rot) (place_in t n rot (n + lim) (omega arith)))
         ∙ solved.first t lt
         ∙ core_sums-agree es set z v w n t pos (agree_narrow (n * z) ((n + lim) * z) v w low same);
     later = λ i t one lt lane.
         let low : (n + i) * z ≤ (n + lim) * z = mul-le-mul_right z (omega arith) in
-        sym (same (place z t (n + i) 0) (place_in t (n + i) 0 (n + lim) (omega arith)))
+        sym (same (one_at z t (n + i) 0) (place_in t (n + i) 0 (n + lim) (omega arith)))
         ∙ solved.later i t one lt lane
         ∙ heads-agree es set z v w (n + i) (row_ending i) t pos (agree_narrow ((n + i) * z) ((n + lim) * z) v w low same);
   }
@@ -230,7 +230,7 @@ module _ (es : List Entry) (set n z : ℕ) (pos : 0 < z) where
       record {
         first = old.first;
         later = λ i t one lt lane. ⊎_elim
-            (λ e. subst (λ k. w (place z t (n + k) 0) ≡ head_sum es set z w (n + k) (row_ending k) t) (sym e)
+            (λ e. subst (λ k. w (one_at z t (n + k) 0) ≡ head_sum es set z w (n + k) (row_ending k) t) (sym e)
             (ap w (place-zero z t (n + lim) lane) ∙ here t lane ∙ heads-agree es set z v w (n + lim) (row_ending lim) t pos same))
             (λ ne. old.later i t one (omega arith) lane)
             (cases_eq i lim);

@@ -10,7 +10,7 @@ use Rattle.nr_shifttable.specs.Accepted.{row_of}
 use Rattle.nr_shifttable.specs.CoreRows.{plus, cells_sum, core_cells, third_of, CoreSum}
 use Rattle.nr_shifttable.specs.Tails.{value_in, tail_of, HasMiddle, HasCore, HasShape}
 use Rattle.nr_ldpcenc.specs.Parity.{parity}
-use Rattle.nr_ldpcenc.specs.Rows.{place, row_at}
+use Rattle.nr_ldpcenc.specs.Rows.{one_at, row_at}
 use Rattle.nr_ldpcenc.specs.Solving.{head_sum, core_sum, shift_at, either, core_rotation, row_ending}
 use Rattle.nr_ldpcenc.proofs.Sums.{row-splits, tail_sum}
 
@@ -95,7 +95,7 @@ named z t w j r = w (j * z + (t + r) % z)
 
 cells-are : (z t : ℕ) (w : ℕ → Bool) (cs : List (ℕ × ℕ)) → tail_sum w z t cs ≡ cells_sum z (named z t w) cs
 cells-are z t w [] = refl
-cells-are z t w (c ∷ cs) = ap (λ b. w (place z t c.0 c.1) ⊕ b) (cells-are z t w cs) ∙ plus_is (w (place z t c.0 c.1)) (cells_sum z (named z t w) cs)
+cells-are z t w (c ∷ cs) = ap (λ b. w (one_at z t c.0 c.1) ⊕ b) (cells-are z t w cs) ∙ plus_is (w (one_at z t c.0 c.1)) (cells_sum z (named z t w) cs)
 
 cells-append : (z : ℕ) (f : ℕ → ℕ → Bool) (cs ds : List (ℕ × ℕ)) → cells_sum z f (cs ++ ds) ≡ cells_sum z f cs ⊕ cells_sum z f ds
 cells-append z f [] ds = refl
@@ -111,7 +111,7 @@ nested a b c d = grind arith
 
 -- what the four core rows have from the first parity column on adds up to that column, rotated
 ending : (es : List Entry) (set z n : ℕ) (w : ℕ → Bool) (t : ℕ) → CoreSum es set n
-    → (tail_sum w z t (tail_of es set n 0) ⊕ tail_sum w z t (tail_of es set n 1)) ⊕ (tail_sum w z t (tail_of es set n 2) ⊕ tail_sum w z t (tail_of es set n 3)) ≡ w (place z t n (core_rotation es set n))
+    → (tail_sum w z t (tail_of es set n 0) ⊕ tail_sum w z t (tail_of es set n 1)) ⊕ (tail_sum w z t (tail_of es set n 2) ⊕ tail_sum w z t (tail_of es set n 3)) ≡ w (one_at z t n (core_rotation es set n))
 ending es set z n w t adds =
     let f : ℕ → ℕ → Bool = named z t w in
     let p0 : List (ℕ × ℕ) = tail_of es set n 0 in
@@ -124,11 +124,11 @@ ending es set z n w t adds =
     ∙ ap (λ b. b ⊕ cells_sum z f p3) (sym (cells-append z f (p0 ++ p1) p2))
     ∙ sym (cells-append z f ((p0 ++ p1) ++ p2) p3)
     ∙ adds.sum z f
-    ∙ ap (λ v. w (place z t n v)) (sym (core_rotation-is es set n adds.first adds.middle adds.last adds.core))
+    ∙ ap (λ v. w (one_at z t n v)) (sym (core_rotation-is es set n adds.first adds.middle adds.last adds.core))
 
 -- the four core rows add up to what they have before the first parity column, and that column, rotated
 pub core_rows-add_up : (es : List Entry) (set z n : ℕ) (w : ℕ → Bool) (t : ℕ) → CoreSum es set n
-    → rows_sum es set z w t ≡ core_sum es set z w n t ⊕ w (place z t n (core_rotation es set n))
+    → rows_sum es set z w t ≡ core_sum es set z w n t ⊕ w (one_at z t n (core_rotation es set n))
 core_rows-add_up es set z n w t adds =
     rows-split es set z w n t (tail_of es set n 0) (tail_of es set n 1) (tail_of es set n 2) (tail_of es set n 3) refl refl refl refl
     ∙ ap (λ q. core_sum es set z w n t ⊕ q) (ending es set z n w t adds)

@@ -9,7 +9,7 @@ use Rattle.nr_shifttable.specs.declared.entry.Entry.{Entry}
 use Rattle.nr_shifttable.specs.Accepted.{row_of, tail}
 use Rattle.nr_shifttable.specs.Tails.{value_in, tail_of}
 use Rattle.nr_ldpcenc.specs.Parity.{parity}
-use Rattle.nr_ldpcenc.specs.Rows.{place, row_at}
+use Rattle.nr_ldpcenc.specs.Rows.{one_at, row_at}
 use Rattle.nr_ldpcenc.specs.Solving.{head_sum, AgreeBelow}
 
 left_more : (x h t p : Bool) → p ≡ h ⊕ t → x ⊕ p ≡ (x ⊕ h) ⊕ t
@@ -37,20 +37,20 @@ parity-split w f j (x ∷ xs) = by_order (nat_lt x.col j) refl (parity-split w f
 
 -- the sum of a word over a list of columns and values, in lane t
 abbrev pub tail_sum : (ℕ → Bool) → ℕ → ℕ → List (ℕ × ℕ) → Bool
-tail_sum w z t cs = parity w (map (λ c. place z t c.0 c.1) cs)
+tail_sum w z t cs = parity w (map (λ c. one_at z t c.0 c.1) cs)
 
-tail_sum-cells : (w : ℕ → Bool) (set z t : ℕ) (xs : List Entry) → parity w (map (λ e. place z t e.col (value_in set e)) xs) ≡ tail_sum w z t (map (λ e. (e.col, value_in set e)) xs)
+tail_sum-cells : (w : ℕ → Bool) (set z t : ℕ) (xs : List Entry) → parity w (map (λ e. one_at z t e.col (value_in set e)) xs) ≡ tail_sum w z t (map (λ e. (e.col, value_in set e)) xs)
 tail_sum-cells w set z t [] = refl
-tail_sum-cells w set z t (x ∷ xs) = ap (λ b. w (place z t x.col (value_in set x)) ⊕ b) (tail_sum-cells w set z t xs)
+tail_sum-cells w set z t (x ∷ xs) = ap (λ b. w (one_at z t x.col (value_in set x)) ⊕ b) (tail_sum-cells w set z t xs)
 
 -- a row's sum, where it is known what it has from column j on
 pub row-splits : (es : List Entry) (set z : ℕ) (w : ℕ → Bool) (j i t : ℕ) (cs : List (ℕ × ℕ)) → tail_of es set j i ≡ cs → parity w (row_at es set z i t) ≡ head_sum es set z w j i t ⊕ tail_sum w z t cs
 row-splits es set z w j i t cs e =
-    parity-split w (λ e. place z t e.col (value_in set e)) j (row_of es i)
+    parity-split w (λ e. one_at z t e.col (value_in set e)) j (row_of es i)
     ∙ ap (λ b. head_sum es set z w j i t ⊕ b) (tail_sum-cells w set z t (tail es i j) ∙ ap (tail_sum w z t) e)
 
 -- a place of a column below j
-pub place_below : (z t c v j : ℕ) → 0 < z → c < j → place z t c v < j * z
+pub place_below : (z t c v j : ℕ) → 0 < z → c < j → one_at z t c v < j * z
 place_below z t c v j pos lt =
     let up : (c + 1) * z ≤ j * z = mul-le-mul_right z (omega arith) in
     omega arith
@@ -59,14 +59,14 @@ place_below z t c v j pos lt =
 pub heads-agree : (es : List Entry) (set z : ℕ) (v w : ℕ → Bool) (j i t : ℕ) → 0 < z → AgreeBelow (j * z) v w → head_sum es set z v j i t ≡ head_sum es set z w j i t
 heads-agree es set z v w j i t pos same = over (row_of es i)
   where
-    over : (xs : List Entry) → parity v (map (λ e. place z t e.col (value_in set e)) (filter (λ e. nat_lt e.col j) xs)) ≡ parity w (map (λ e. place z t e.col (value_in set e)) (filter (λ e. nat_lt e.col j) xs))
+    over : (xs : List Entry) → parity v (map (λ e. one_at z t e.col (value_in set e)) (filter (λ e. nat_lt e.col j) xs)) ≡ parity w (map (λ e. one_at z t e.col (value_in set e)) (filter (λ e. nat_lt e.col j) xs))
     over [] = refl
     over (x ∷ xs) = by_order (nat_lt x.col j) refl (over xs)
       where
         by_order : (b : Bool) → nat_lt x.col j ≡ b
-            → parity v (map (λ e. place z t e.col (value_in set e)) (filter (λ e. nat_lt e.col j) xs)) ≡ parity w (map (λ e. place z t e.col (value_in set e)) (filter (λ e. nat_lt e.col j) xs))
-            → parity v (map (λ e. place z t e.col (value_in set e)) (filter (λ e. nat_lt e.col j) (x ∷ xs))) ≡ parity w (map (λ e. place z t e.col (value_in set e)) (filter (λ e. nat_lt e.col j) (x ∷ xs)))
+            → parity v (map (λ e. one_at z t e.col (value_in set e)) (filter (λ e. nat_lt e.col j) xs)) ≡ parity w (map (λ e. one_at z t e.col (value_in set e)) (filter (λ e. nat_lt e.col j) xs))
+            → parity v (map (λ e. one_at z t e.col (value_in set e)) (filter (λ e. nat_lt e.col j) (x ∷ xs))) ≡ parity w (map (λ e. one_at z t e.col (value_in set e)) (filter (λ e. nat_lt e.col j) (x ∷ xs)))
         by_order true h more =
-            let here : v (place z t x.col (value_in set x)) ≡ w (place z t x.col (value_in set x)) = same (place z t x.col (value_in set x)) (place_below z t x.col (value_in set x) j pos (omega (arith, ltb-true))) in
+            let here : v (one_at z t x.col (value_in set x)) ≡ w (one_at z t x.col (value_in set x)) = same (one_at z t x.col (value_in set x)) (place_below z t x.col (value_in set x) j pos (omega (arith, ltb-true))) in
             rw h (cc)
         by_order false h more = rw h more

@@ -5,9 +5,9 @@ use Rattle.nr_bitvec.specs.Bit.{bit}
 use Rattle.nr_graphpick.specs.declared.Graph.{Graph}
 use Rattle.nr_graphpick.specs.Graph.{rows_of, info_cols_of}
 use Rattle.nr_segment.specs.CodeBlock.{with_fillers}
-use Rattle.nr_segment.specs.Plan.{Numbers, plan_of}
+use Rattle.nr_segment.specs.Plan.{Numbers, plan_of, word_size}
 use Rattle.nr_shifttable.specs.Accepted.{Entries, entries_in, has_graph, IsTable}
-use Rattle.nr_ldpcenc.specs.Rows.{Checks, Meets, block_checks, word_size}
+use Rattle.nr_ldpcenc.specs.Rows.{Checks, Meets, block_checks}
 use Rattle.nr_ldpcenc.specs.Solving.{word_of}
 
 -- a word that begins with these bits and meets every row

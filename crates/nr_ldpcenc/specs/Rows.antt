@@ -1,9 +1,11 @@
 -- The rows of the parity-check matrix H of a code block (TS 38.212, 5.3.2): each entry of the base graph stands for
 -- the identity matrix of the lifting size, shifted to the right by the entry's value modulo that size.
-use Rattle.std.specs.Prelude.{◌≡◌, ℕ, ◌+◌, ◌*◌, ◌%◌, ◌<◌, Bool, false, List, map}
+use Rattle.std.specs.Prelude.{◌≡◌, ℕ, ◌+◌, ◌-◌, ◌*◌, ◌%◌, ◌<◌, Bool, false, List, map}
 use Rattle.nr_graphpick.specs.declared.Graph.{Graph}
 use Rattle.nr_graphpick.specs.Graph.{rows_of, cols_of}
+use Rattle.nr_segment.specs.CodeBlock.{numbers}
 use Rattle.nr_segment.specs.Plan.{Numbers}
+use Rattle.nr_segment.specs.declared.numbers.Plan.{Plan}
 use Rattle.nr_shifttable.specs.declared.entry.Entry.{Entry}
 use Rattle.nr_shifttable.specs.Accepted.{Entries, entries_in, row_of}
 use Rattle.nr_shifttable.specs.Tails.{value_in}
@@ -22,12 +24,16 @@ abbrev pub Meets : Checks → (ℕ → Bool) → Type 0
 Meets c w = (i t : ℕ) → i < c.rows → t < c.lanes → parity w (c.row i t) ≡ false
 
 -- where row t of a block has its one, for the lifting size z, the block's column and the entry's value v
-abbrev pub place : ℕ → ℕ → ℕ → ℕ → ℕ
-place z t col v = col * z + (t + v % z) % z
+abbrev pub one_at : ℕ → ℕ → ℕ → ℕ → ℕ
+one_at z t col v = col * z + (t + v % z) % z
+
+-- the row of a block that has its one in column u, where the block is shifted by v
+abbrev pub unrotate : ℕ → ℕ → ℕ → ℕ
+unrotate z v u = (u + (z - v % z)) % z
 
 -- the positions of the ones in row t of a row of blocks, a list of entries
 abbrev pub positions : ℕ → ℕ → ℕ → List Entry → List ℕ
-positions set z t row = map (λ e. place z t e.col (value_in set e)) row
+positions set z t row = map (λ e. one_at z t e.col (value_in set e)) row
 
 -- the same of row of blocks i
 abbrev pub row_at : List Entry → ℕ → ℕ → ℕ → ℕ → List ℕ
@@ -41,6 +47,6 @@ checks_of es set z rows cols = record { rows = rows; lanes = z; size = cols * z;
 abbrev pub block_checks : Entries → Graph → Numbers → Checks
 block_checks t g p = checks_of (entries_in g t) p.set p.z (rows_of g) (cols_of g)
 
--- how many bits a word has
-abbrev pub word_size : Graph → Numbers → ℕ
-word_size g p = cols_of g * p.z
+-- the same by a plan
+abbrev pub plan_checks : Entries → Plan → Checks
+plan_checks t p = block_checks t p.graph (numbers p)

@@ -11,11 +11,11 @@ use Rattle.nr_shifttable.specs.Accepted.{Entries, entries_in, row_of, values_at}
 use Rattle.nr_shifttable.specs.CoreRows.{third_of}
 use Rattle.nr_shifttable.specs.Tails.{value_in}
 use Rattle.nr_ldpcenc.specs.Parity.{parity}
-use Rattle.nr_ldpcenc.specs.Rows.{place}
+use Rattle.nr_ldpcenc.specs.Rows.{unrotate, one_at}
 
 -- the sum of a word over what row t of a row of blocks, a list of entries, has before column j
 abbrev pub sum_before : ℕ → ℕ → (ℕ → Bool) → ℕ → ℕ → List Entry → Bool
-sum_before set z w j t row = parity w (map (λ e. place z t e.col (value_in set e)) (filter (λ e. nat_lt e.col j) row))
+sum_before set z w j t row = parity w (map (λ e. one_at z t e.col (value_in set e)) (filter (λ e. nat_lt e.col j) row))
 
 -- the same of row of blocks i
 abbrev pub head_sum : List Entry → ℕ → ℕ → (ℕ → Bool) → ℕ → ℕ → ℕ → Bool
@@ -37,10 +37,6 @@ either (Some a) b = a
 -- by how much the first parity column is rotated in the sum of the four core rows: the values that agree cancel
 unfoldable pub core_rotation : List Entry → ℕ → ℕ → ℕ
 core_rotation es set n = third_of (unwrap_or (shift_at es set 0 n) 0) (either (shift_at es set 1 n) (shift_at es set 2 n)) (unwrap_or (shift_at es set 3 n) 0)
-
--- the lane that a rotation by v takes to lane u
-abbrev pub unrotate : ℕ → ℕ → ℕ → ℕ
-unrotate z v u = (u + (z - v % z)) % z
 
 -- a word with other bits in column j
 abbrev pub with_column : ℕ → ℕ → (ℕ → Bool) → (ℕ → Bool) → ℕ → Bool
@@ -73,8 +69,8 @@ AgreeBelow n v w = (p : ℕ) → p < n → v p ≡ w p
 
 -- the parity columns from n on and below n + lim are solved
 pub record IsSolvedTo (es : List Entry) (set n z lim : ℕ) (w : ℕ → Bool) : Type 0 where
-  pub first : (t : ℕ) → t < z → w (place z t n (core_rotation es set n)) ≡ core_sum es set z w n t
-  pub later : (i t : ℕ) → 1 ≤ i → i < lim → t < z → w (place z t (n + i) 0) ≡ head_sum es set z w (n + i) (row_ending i) t
+  pub first : (t : ℕ) → t < z → w (one_at z t n (core_rotation es set n)) ≡ core_sum es set z w n t
+  pub later : (i t : ℕ) → 1 ≤ i → i < lim → t < z → w (one_at z t (n + i) 0) ≡ head_sum es set z w (n + i) (row_ending i) t
 
 -- the parity columns below n + lim of a code block's word are solved
 abbrev pub IsSolved : Entries → Graph → Numbers → ℕ → List Bool → Type 0

@@ -4,8 +4,8 @@ ghost use Rattle.std.specs.Prelude.{◌≡◌, ◌↔◌, ◌<◌, false, length
 ghost use Rattle.nr_bitvec.specs.Bit.{bit};
 ghost use Rattle.nr_ldpcenc.specs.Codeword.{codeword, IsCodeword};
 ghost use Rattle.nr_ldpcenc.specs.Parity.{parity};
-ghost use Rattle.nr_ldpcenc.specs.Rows.{Meets, block_checks, positions, word_size};
-ghost use Rattle.nr_segment.specs.CodeBlock.{numbers};
+ghost use Rattle.nr_ldpcenc.specs.Rows.{plan_checks, Meets, positions};
+ghost use Rattle.nr_segment.specs.CodeBlock.{positions_of, numbers};
 ghost use Rattle.nr_shifttable.specs.Accepted.{entries_in, has_graph, IsInRange};
 
 use crate::fault::EncFault;
@@ -48,9 +48,9 @@ pub fn encode(alloc: Global, table: &Table, plan: &Plan, bits: &Bits) -> Result<
 /// Whether a word meets every row of a code block's parity-check matrix (TS 38.212, 5.3.2). Takes no memory.
 pub fn meets(table: &Table, plan: &Plan, word: &Word) -> bool
     requires graph { IsTrue (has_graph plan.now.graph table.now) }
-    requires long { length word.now ≡ word_size plan.now.graph (numbers plan.now) }
+    requires long { length word.now ≡ positions_of plan.now }
     ensures { IsTrue result
-        ↔ Meets (block_checks table.now plan.now.graph (numbers plan.now)) (bit word.now) }
+        ↔ Meets (plan_checks table.now plan.now) (bit word.now) }
 {
     for i in 0..plan.graph.rows() {
         let row = table.row_entries(plan.graph, i);
@@ -67,7 +67,7 @@ pub fn meets(table: &Table, plan: &Plan, word: &Word) -> bool
 fn sum_of(plan: &Plan, row: &[Entry], t: u32, word: &Word) -> bool
     requires lane { t < plan.now.z }
     requires in_range { All (IsInRange plan.now.graph) row.now }
-    requires long { length word.now ≡ word_size plan.now.graph (numbers plan.now) }
+    requires long { length word.now ≡ positions_of plan.now }
     ensures { result ≡ parity (bit word.now) (positions plan.now.set plan.now.z t row.now) }
 {
     let z = plan.z as usize;

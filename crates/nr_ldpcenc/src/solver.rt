@@ -5,10 +5,10 @@ ghost use Rattle.std.specs.Prelude.{◌≡◌, ℕ, ◌+◌, ◌*◌, ◌<◌, �
 ghost use Rattle.nr_bitvec.specs.Bit.{◌⊕◌, bit};
 ghost use Rattle.nr_graphpick.specs.Graph.{info_cols_of, rows_of};
 ghost use Rattle.nr_ldpcenc.specs.Codeword.{completed, IsWordOf};
-ghost use Rattle.nr_ldpcenc.specs.Rows.{block_checks, word_size};
+ghost use Rattle.nr_ldpcenc.specs.Rows.{plan_checks};
 ghost use Rattle.nr_ldpcenc.specs.Solving.{sum_before, core_of, shift_at, either, core_rotation, AgreeBelow, IsSolved, PutsBlock};
 ghost use Rattle.nr_lifting.specs.Blocks.{IsSize};
-ghost use Rattle.nr_segment.specs.CodeBlock.{numbers};
+ghost use Rattle.nr_segment.specs.CodeBlock.{positions_of, numbers};
 ghost use Rattle.nr_shifttable.specs.Accepted.{entries_in, has_graph};
 ghost use Rattle.nr_shifttable.specs.CoreRows.{third_of};
 
@@ -23,6 +23,7 @@ fn clear_block(z: usize, bits: &mut Bits, at: usize)
     requires { at + z ≤ length bits.old.items }
     ensures { PutsBlock z bits.new.items bits.old.items at (λ t. false) 0 }
 {
+    // A list has at most 2^24 bits, so no place below overflows.
     let _ = bits.len();
     for i in 0..z.div_ceil(64) {
         bits.put(at + 64 * i, (z - 64 * i).min(64), 0);
@@ -51,6 +52,7 @@ fn add_row(z: usize, set: usize, row: &[Entry], before: usize, bits: &Bits, sums
         ≡ bit sums.old.items t ⊕ sum_before set z (bit bits.now.items) before t row.now }
     ensures long { length sums.new.items ≡ length sums.old.items }
 {
+    // A list has at most 2^24 bits, so no place below overflows.
     let _ = bits.len();
     for entry in row {
         let col = usize::from(entry.col);
@@ -125,7 +127,7 @@ fn rotation_of(table: &Table, plan: &Plan) -> u16
 
 // Sums up what the four core rows have before the first parity column.
 fn sum_core(table: &Table, plan: &Plan, bits: &Bits, sums: &mut Bits)
-    requires long { length bits.now.items ≡ word_size plan.now.graph (numbers plan.now) }
+    requires long { length bits.now.items ≡ positions_of plan.now }
     requires sums { length sums.old.items ≡ 384 }
     ensures sum { (t : ℕ) → t < plan.now.z → bit sums.new.items t
         ≡ core_of table.now plan.now.graph (numbers plan.now) bits.now.items t }
@@ -171,7 +173,7 @@ fn sum_core(table: &Table, plan: &Plan, bits: &Bits, sums: &mut Bits)
 
 // Solves the first parity column: the sum of the four core rows is this column alone, rotated.
 fn solve_first(table: &Table, plan: &Plan, bits: &mut Bits, sums: &mut Bits)
-    requires long { length bits.old.items ≡ word_size plan.now.graph (numbers plan.now) }
+    requires long { length bits.old.items ≡ positions_of plan.now }
     requires sums { length sums.old.items ≡ 384 }
     ensures solved { IsSolved table.now plan.now.graph (numbers plan.now) 1 bits.new.items }
     ensures kept { AgreeBelow plan.now.k (bit bits.old.items) (bit bits.new.items) }
@@ -189,7 +191,7 @@ fn solve_next(table: &Table, plan: &Plan, i: u32, bits: &mut Bits, sums: &mut Bi
     requires after { 1 ≤ i }
     requires last { i < rows_of plan.now.graph }
     requires solved { IsSolved table.now plan.now.graph (numbers plan.now) i bits.old.items }
-    requires long { length bits.old.items ≡ word_size plan.now.graph (numbers plan.now) }
+    requires long { length bits.old.items ≡ positions_of plan.now }
     requires sums { length sums.old.items ≡ 384 }
     ensures solved { IsSolved table.now plan.now.graph (numbers plan.now) (i + 1) bits.new.items }
     ensures kept { AgreeBelow plan.now.k (bit bits.old.items) (bit bits.new.items) }
@@ -215,16 +217,17 @@ fn solve_next(table: &Table, plan: &Plan, i: u32, bits: &mut Bits, sums: &mut Bi
 // Solves all parity columns of a word: its first K bits stay, and it meets every row.
 pub fn solve(table: &Table, plan: &Plan, bits: &mut Bits, sums: &mut Bits)
     requires graph { IsTrue (has_graph plan.now.graph table.now) }
-    requires long { length bits.old.items ≡ word_size plan.now.graph (numbers plan.now) }
+    requires long { length bits.old.items ≡ positions_of plan.now }
     requires sums { length sums.old.items ≡ 384 }
     ensures completed { bits.new.items ≡ completed table.now plan.now.graph (numbers plan.now)
         (take plan.now.k bits.old.items) }
-    ensures is_word { IsWordOf (block_checks table.now plan.now.graph (numbers plan.now))
+    ensures is_word { IsWordOf (plan_checks table.now plan.now)
         (take plan.now.k bits.old.items) bits.new.items }
     ensures sums { length sums.new.items ≡ 384 }
 {
     accepted_shape();
     core_rows_add_up();
+    // Each table is an accepted one, which the two laws speak of.
     let _ = table.has(plan.graph);
     solve_first(table, plan, bits, sums);
     for i in 1..plan.graph.rows() {

@@ -3,9 +3,9 @@
 ghost use Rattle.std.specs.Prelude.{◌≡◌, ℕ, ◌*◌, ◌^◌, ◌<◌, ◌≤◌, false, IfOk, IsTrue, length, replicate, slice_set, take};
 ghost use Rattle.nr_bitvec.specs.Bit.{bit};
 ghost use Rattle.nr_ldpcenc.specs.Codeword.{completed, IsWordOf};
-ghost use Rattle.nr_ldpcenc.specs.Rows.{block_checks, word_size};
+ghost use Rattle.nr_ldpcenc.specs.Rows.{plan_checks};
 ghost use Rattle.nr_ldpcenc.specs.Solving.{Copies};
-ghost use Rattle.nr_segment.specs.CodeBlock.{numbers};
+ghost use Rattle.nr_segment.specs.CodeBlock.{positions_of, numbers};
 ghost use Rattle.nr_shifttable.specs.Accepted.{has_graph};
 
 use crate::solver::solve;
@@ -38,10 +38,14 @@ impl Model for Word {
 }
 
 impl Word {
-    /// The word of zeros for the code blocks of a plan. `AllocError` is want of memory.
+    /// The word of zeros for the code blocks of a plan.
+    ///
+    /// # Errors
+    ///
+    /// `AllocError` is want of memory.
     pub fn new(alloc: Global, plan: &Plan) -> Result<Word, AllocError>
         ensures { IfOk result (λ word. word
-            ≡ replicate (word_size plan.now.graph (numbers plan.now)) false) }
+            ≡ replicate (positions_of plan.now) false) }
     {
         let bits = Bits::zeros(alloc, plan.graph.cols() * plan.z)?;
         let work = Bits::zeros(alloc, MOST_SIZE)?;
@@ -86,11 +90,11 @@ impl Word {
 /// begins with these and meets every row (TS 38.212, 5.3.2). Takes no memory.
 pub fn fill(table: &Table, plan: &Plan, word: &mut Word)
     requires graph { IsTrue (has_graph plan.now.graph table.now) }
-    requires long { length word.old ≡ word_size plan.now.graph (numbers plan.now) }
+    requires long { length word.old ≡ positions_of plan.now }
+    ensures is_word { IsWordOf (plan_checks table.now plan.now)
+        (take plan.now.k word.old) word.new }
     ensures completed { word.new ≡ completed table.now plan.now.graph (numbers plan.now)
         (take plan.now.k word.old) }
-    ensures is_word { IsWordOf (block_checks table.now plan.now.graph (numbers plan.now))
-        (take plan.now.k word.old) word.new }
 {
     solve(table, plan, &mut word.bits, &mut word.work);
 }

@@ -10,7 +10,7 @@ use Rattle.nr_segment.specs.Plan.{Numbers}
 use Rattle.nr_shifttable.specs.declared.entry.Entry.{Entry}
 use Rattle.nr_shifttable.specs.Accepted.{Entries, entries_in, row_of}
 use Rattle.nr_shifttable.specs.Tails.{value_in}
-use Rattle.nr_ldpcenc.specs.Rows.{block_checks, place}
+use Rattle.nr_ldpcenc.specs.Rows.{block_checks, one_at}
 use Rattle.nr_bitvec.specs.Bit.{bit}
 use Rattle.nr_peel.specs.Peeling.{IsPeeled, Peeling, most_visits}
 use Rattle.nr_peel.specs.Touches.{pairs_in, sum_below}
@@ -64,7 +64,7 @@ pairs_few t g p S =
     let es = entries_in g t in
     let each = sum_below-le (λ i. sum_below (λ l. count_by S (c.row i l)) c.lanes) (λ i. p.z * length (row_of es i)) c.rows
     (λ i lt. lanes_sum (λ l. count_by S (c.row i l)) (length (row_of es i)) p.z
-    (λ l. omega (arith, count_both S (c.row i l), length-map (row_of es i) (λ (e : Entry). place p.z l e.col (value_in p.set e))))) in
+    (λ l. omega (arith, count_both S (c.row i l), length-map (row_of es i) (λ (e : Entry). one_at p.z l e.col (value_in p.set e))))) in
     omega (arith, each, times (λ i. length (row_of es i)) p.z (rows_of g), mul-le-mul_left p.z (rows_sum es (rows_of g)))
 
 pub visits_few : (s : Peeling) → IsPeeled s → s.touches ≤ most_visits s

@@ -3,7 +3,7 @@ use Rattle.std.proofs.Common.{◌≡◌, ℕ, ◌+◌, ◌<◌, ◌≤◌, ◌&&
 use Rattle.std.specs.Prelude.{◌⊎◌, zero, suc}
 use Rattle.std.proofs.lemmas.Bool.{and_parts, and_from, or_cases, or_left, or_right, false≢true, true≢false, cases_lt}
 use Rattle.nr_ldpcenc.specs.Rows.{Checks}
-use Rattle.nr_peel.specs.Closure.{Within, IsClosed, IsSound, any_below, closure, fixes, round, rounds, stands, union}
+use Rattle.nr_peel.specs.Closure.{Within, IsClosed, AreSound, any_below, closure, fixes, round, rounds, stands, union}
 use Rattle.nr_peel.proofs.Standing.{fixes_more}
 
 pub cases_below : (k n : ℕ) → k < suc n → (k < n) ⊎ (k ≡ n)
@@ -114,7 +114,7 @@ closed_round c T closed i t p li lt h =
     round_keeps c T p (closed i t p li lt (fixes_more (round c T) T (c.row i t) p (round_within c T T (λ q e. e) closed) h))
 
 -- after k rounds the set is closed, or has k positions
-settles : (c : Checks) (S : ℕ → Bool) → IsSound c → (k : ℕ) → IsClosed c (rounds c S k) ⊎ (k ≤ size_below (rounds c S k) c.size)
+settles : (c : Checks) (S : ℕ → Bool) → AreSound c → (k : ℕ) → IsClosed c (rounds c S k) ⊎ (k ≤ size_below (rounds c S k) c.size)
 settles c S sound zero = inr (omega arith)
 settles c S sound (suc k) = ⊎_elim (λ closed. inl (closed_round c (rounds c S k) closed)) grown (settles c S sound k)
   where
@@ -147,30 +147,46 @@ settles c S sound (suc k) = ⊎_elim (λ closed. inl (closed_round c (rounds c S
     grown : k ≤ size_below (rounds c S k) c.size → IsClosed c (round c (rounds c S k)) ⊎ (suc k ≤ size_below (round c (rounds c S k)) c.size)
     grown le = step (any_below new c.size) refl le
 
-pub closure_closed : (c : Checks) (S : ℕ → Bool) → IsSound c → IsClosed c (closure c S)
+pub closure_closed : (c : Checks) (S : ℕ → Bool) → AreSound c → IsClosed c (closure c S)
 unfolding closure
 closure_closed c S sound = ⊎_elim (λ closed. closed) full (settles c S sound c.size)
   where
     full : c.size ≤ size_below (rounds c S c.size) c.size → IsClosed c (rounds c S c.size)
     full le i t p li lt h = size_full (rounds c S c.size) c.size le p (sound.in_range i t p li lt (and_parts (stands p (c.row i t)) _ h).0)
 
-pub closure_monotone : (c : Checks) (S T : ℕ → Bool) → IsSound c → Within S T → Within (closure c S) (closure c T)
-closure_monotone c S T sound within = closure_least c S (closure c T) (λ p h. closure_keeps c T p (within p h)) (closure_closed c T sound)
+-- a round of a larger set is larger
+round_more : (c : Checks) (S T : ℕ → Bool) → Within S T → Within (round c S) (round c T)
+unfolding round
+round_more c S T within p h = ⊎_elim (λ s. round_keeps c T p (within p s)) added (or_cases (S p) (any_below (λ i. any_below (λ t. fixes S (c.row i t) p) c.lanes) c.rows) h)
+  where
+    added : any_below (λ i. any_below (λ t. fixes S (c.row i t) p) c.lanes) c.rows ≡ true → round c T p ≡ true
+    added a =
+        let r = any_below_passes (λ i. any_below (λ t. fixes S (c.row i t) p) c.lanes) c.rows a in
+        let q = any_below_passes (λ t. fixes S (c.row r.number t) p) c.lanes r.passes in
+        round_adds c T r.number q.number p r.below q.below (fixes_more S T (c.row r.number q.number) p within q.passes)
+
+rounds_more : (c : Checks) (S T : ℕ → Bool) (k : ℕ) → Within S T → Within (rounds c S k) (rounds c T k)
+rounds_more c S T zero within = within
+rounds_more c S T (suc k) within = round_more c (rounds c S k) (rounds c T k) (rounds_more c S T k within)
+
+pub closure_monotone : (c : Checks) (S T : ℕ → Bool) → Within S T → Within (closure c S) (closure c T)
+unfolding closure
+closure_monotone c S T = rounds_more c S T c.size
 
 pub same_truth : (a b : Bool) → (a ≡ true → b ≡ true) → (b ≡ true → a ≡ true) → a ≡ b
 same_truth true b f g = sym (f refl)
 same_truth false true f g = g refl
 same_truth false false f g = refl
 
-pub closure_continues : (c : Checks) (S T : ℕ → Bool) (p : ℕ) → IsSound c → closure c (union (closure c S) T) p ≡ closure c (union S T) p
-closure_continues c S T p sound = same_truth (closure c (union (closure c S) T) p) (closure c (union S T) p) (down p) (closure_monotone c (union S T) (union (closure c S) T) sound up p)
+pub closure_continues : (c : Checks) (S T : ℕ → Bool) (p : ℕ) → AreSound c → closure c (union (closure c S) T) p ≡ closure c (union S T) p
+closure_continues c S T p sound = same_truth (closure c (union (closure c S) T) p) (closure c (union S T) p) (down p) (closure_monotone c (union S T) (union (closure c S) T) up p)
   where
     up : Within (union S T) (union (closure c S) T)
     up q h = ⊎_elim (λ s. or_left (closure c S q) (T q) (closure_keeps c S q s)) (λ t. or_right (closure c S q) (T q) t) (or_cases (S q) (T q) h)
 
     inside : Within (union (closure c S) T) (closure c (union S T))
     inside q h = ⊎_elim
-        (λ s. closure_monotone c S (union S T) sound (λ r e. or_left (S r) (T r) e) q s)
+        (λ s. closure_monotone c S (union S T) (λ r e. or_left (S r) (T r) e) q s)
         (λ t. closure_keeps c (union S T) q (or_right (S q) (T q) t))
         (or_cases (closure c S q) (T q) h)
 

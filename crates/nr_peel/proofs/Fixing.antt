@@ -8,9 +8,9 @@ use Rattle.std.proofs.Math.Nat.{mul-le-mul_right}
 use Rattle.nr_bitvec.specs.Bit.{bit}
 use Rattle.nr_ldpcenc.specs.Parity.{parity}
 use Rattle.nr_ldpcenc.specs.Rows.{Checks}
-use Rattle.nr_peel.specs.Closure.{IsOnlyMissing, IsSound, Within, stands}
+use Rattle.nr_peel.specs.Closure.{IsOnlyMissing, AreSound, Within, stands}
 use Rattle.nr_peel.specs.Certificates.{accepts, after_steps, is_fixed_by, with_position}
-use Rattle.nr_peel.specs.Counters.{Follows, IsLowered, IsTied}
+use Rattle.nr_peel.specs.Counters.{Follows, IsLowered, AreTied}
 use Rattle.nr_peel.specs.State.{Grows, IsWorking}
 use Rattle.nr_peel.specs.Touches.{all_pairs}
 use Rattle.nr_peel.specs.declared.counters.Counters.{Counters}
@@ -54,12 +54,12 @@ pub record IsFix (c : Checks) (a d : State) (i t pos : ℕ) (v : Bool) (step : F
   pub bits : d.bits.items ≡ set a.bits.items pos v
   pub order : d.order.items ≡ a.order.items ++ step ∷ []
   pub capacity : vec_capacity d.order ≡ vec_capacity a.order
-  pub tied : IsTied c d.known.items d.counters
+  pub tied : AreTied c d.known.items d.counters
   pub one : slice_index a.counters.counts.items (i * c.lanes + t) ≡ 1
   pub falls : (k : ℕ) → slice_index d.counters.counts.items k ≤ slice_index a.counters.counts.items k
   pub visits : d.counters.touches + sum d.counters.counts.items ≡ a.counters.touches + length (c.row i t) + sum a.counters.counts.items
 
-module _ (c : Checks) (a d : State) (i t pos : ℕ) (v : Bool) (step : Fix) (sound : IsSound c) (w : IsWorking c a) (f : IsFix c a d i t pos v step) where
+module _ (c : Checks) (a d : State) (i t pos : ℕ) (v : Bool) (step : Fix) (sound : AreSound c) (w : IsWorking c a) (f : IsFix c a d i t pos v step) where
   in_known : pos < length a.known.items
   in_known = omega (arith, f.inside, w.known_long)
 

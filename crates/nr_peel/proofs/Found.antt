@@ -1,19 +1,22 @@
 -- The check of a stopping set, member by member.
-use Rattle.std.proofs.Common.{◌≡◌, ◌≢◌, ℕ, ◌+◌, ◌*◌, ◌/◌, ◌%◌, ◌<◌, ◌≤◌, Bool, true, false, cond, List, length, get_or, take, sym, ap, ◌∙◌, subst, ⊎_elim, arith}
+use Rattle.std.proofs.Common.{◌≡◌, ◌≢◌, ℕ, ◌+◌, ◌*◌, ◌/◌, ◌%◌, ◌<◌, ◌≤◌, ◌==◌, nat_lt, Bool, true, false, cond, List, [], ◌∷◌, length, get_or, take, refl, sym, ap, ◌∙◌, subst, ⊎_elim, arith}
 use Rattle.std.specs.Prelude.{Result, Ok, Err, count_by, map, slice_index}
 use Rattle.std.specs.List.Sorted.{IsBinarySearchResult}
 use Rattle.std.specs.Ordering.{nat_cmp}
 use Rattle.std.specs.Result.{is_ok}
-use Rattle.std.proofs.lemmas.Bool.{cases_lt, false_from_ne_true}
+use Rattle.std.proofs.lemmas.Bool.{cases_lt, eq-eqb, false_from_ne_true, ltb-true, or_left, or_right, true≢false}
 use Rattle.std.proofs.lemmas.List.Sorted.{searched}
 use Rattle.std.proofs.lemmas.Nat.{div-mul-add, mod-mul-add, mul-le}
 use Rattle.std.proofs.lemmas.List.{get_or-map, length-map}
 use Rattle.nr_shifttable.specs.declared.entry.Entry.{Entry}
 use Rattle.nr_ldpcenc.specs.Rows.{Checks}
-use Rattle.nr_peel.specs.Closure.{IsSound, IsStopping, closure, stands}
-use Rattle.nr_peel.specs.Certificates.{IsRising, IsStoppingSet}
+use Rattle.nr_peel.specs.Closure.{AreSound, IsStopping, closure, stands}
+use Rattle.nr_peel.specs.Certificates.{IsFixOrder, IsRising, IsStoppingSet}
+use Rattle.nr_peel.specs.declared.fix.Fix.{Fix}
 use Rattle.nr_peel.proofs.Left.{place_of, stands_at}
 use Rattle.nr_peel.proofs.Lowered.{count_more}
+use Rattle.nr_peel.proofs.Ordered.{steps_stay}
+use Rattle.nr_peel.proofs.Standing.{count_no}
 use Rattle.nr_peel.proofs.Words.{stopping_stays_out}
 
 -- a rising list's search finds what stands in it
@@ -51,10 +54,32 @@ row_at_number P rows z all i t lt small =
     subst (λ n. P n t) (div-mul-add i z t small) (subst (P ((i * z + t) / z)) (mod-mul-add i z t small) (all (i * z + t) (row_below i t rows z lt small)))
 
 -- a stopping set's members are not in the closure
-pub stops_out : (c : Checks) (S : ℕ → Bool) (kdash : ℕ) (set : List ℕ) (p : ℕ) → IsSound c → IsStoppingSet c kdash S set → stands p set ≡ true → closure c S p ≡ false
+pub stops_out : (c : Checks) (S : ℕ → Bool) (kdash : ℕ) (set : List ℕ) (p : ℕ) → AreSound c → IsStoppingSet c kdash S set → stands p set ≡ true → closure c S p ≡ false
 stops_out c S kdash set p sound stop member =
     let as_set : IsStopping c S (λ q. stands q set) = record { beside = λ q m. (let w = place_of set q m in ap S (sym w.is) ∙ stop.is_beside.beside w.index w.below); never_one = stop.never_one } in
     stopping_stays_out c S (λ q. stands q set) p sound as_set member
+
+-- a member below a bound, where some are counted
+pub record HasLow (xs : List ℕ) (k : ℕ) : Type 0 where
+  pub pos : ℕ
+  pub member : stands pos xs ≡ true
+  pub below : pos < k
+
+pub low_member : (xs : List ℕ) (k : ℕ) → 0 < count_by (λ p. nat_lt p k) xs → HasLow xs k
+low_member [] k h = absurd (omega arith)
+low_member (x ∷ xs) k h = go (nat_lt x k) refl (low_member xs k)
+  where
+    go : (b : Bool) → nat_lt x k ≡ b → (0 < count_by (λ p. nat_lt p k) xs → HasLow xs k) → HasLow (x ∷ xs) k
+    go true e ih = record { pos = x; member = or_left (x == x) (stands x xs) (eq-eqb x x refl); below = ltb-true x k e }
+    go false e ih =
+        let r = ih (omega (arith, h, count_no (λ p. nat_lt p k) x xs e)) in
+        record { pos = r.pos; member = or_right (x == r.pos) (stands r.pos xs) r.member; below = r.below }
+
+-- beside a stopping set no steps are a fix order
+pub stops_orders : (c : Checks) (S : ℕ → Bool) (kdash : ℕ) (set : List ℕ) (steps : List Fix) → AreSound c → IsStoppingSet c kdash S set → ¬ (IsFixOrder c kdash S steps)
+stops_orders c S kdash set steps sound stop order =
+    let m = low_member set kdash stop.low in
+    true≢false (sym (steps_stay c S steps sound m.pos (order.complete m.pos m.below)) ∙ stops_out c S kdash set m.pos sound stop m.member)
 
 -- the members so far: each is below `least`
 pub record IsBesideSo (size : ℕ) (S : ℕ → Bool) (set : List ℕ) (n least : ℕ) : Type 0 where

@@ -8,7 +8,7 @@ use Rattle.std.proofs.lemmas.List.{map-id, take-replicate}
 use Rattle.std.proofs.lemmas.List.Elements.{filter-append}
 use Rattle.std.proofs.lemmas.List.FromFn.{map-range_with_len_more}
 use Rattle.nr_bitvec.specs.Bit.{bit}
-use Rattle.nr_peel.specs.Closure.{IsSound, IsStopping, closure, stands}
+use Rattle.nr_peel.specs.Closure.{AreSound, IsStopping, closure, stands}
 use Rattle.nr_peel.specs.Certificates.{IsFixOrder, IsStoppingSet}
 use Rattle.nr_peel.specs.Peeling.{IsPeeled, Peeling, checks_for, left_of, unknown_in}
 use Rattle.nr_peel.proofs.Closed.{same_truth}
@@ -91,6 +91,14 @@ some_left (suc n) known le h = go (bit known n) refl (some_left n known (omega a
         none : bit known n ≡ true → ◌≡◌ {A = ℕ} (cond (not (get_or known n false)) 1 0) 0
         none e = ap (λ b. cond (not b) 1 0) e
 
+-- where none of the first positions is known, all of them are left
+pub all_left : (n : ℕ) (known : List Bool) → n ≤ length known → ((p : ℕ) → p < n → bit known p ≡ false) → left_of n known ≡ n
+all_left zero known le out = refl
+all_left (suc n) known le out = omega (arith, left_more n known (omega arith), one (out n (omega arith)), all_left n known (omega arith) (λ p lt. out p (omega arith)))
+  where
+    one : bit known n ≡ false → ◌≡◌ {A = ℕ} (cond (not (get_or known n false)) 1 0) 1
+    one e = ap (λ b. cond (not b) 1 0) e
+
 pub whole_order : (s : Peeling) → IsPeeled s → s.numbers.kdash ≤ length s.known → left_of s.numbers.kdash s.known ≡ 0 → IsFixOrder (checks_for s) s.numbers.kdash (bit s.given) s.order
 whole_order s h le none = record {
   accepted = h.accepted;
@@ -171,7 +179,7 @@ counted_low (x ∷ xs) p k h lt = ⊎_elim
     (λ r. omega (arith, count_by-cons (λ q. nat_lt q k) x xs, counted_low xs p k r lt))
     (or_cases (x == p) (stands p xs) h)
 
-module _ (s : Peeling) (h : IsPeeled s) (sound : IsSound (checks_for s)) where
+module _ (s : Peeling) (h : IsPeeled s) (sound : AreSound (checks_for s)) where
   abbrev out : ℕ → Bool
   out p = not (bit s.known p)
 

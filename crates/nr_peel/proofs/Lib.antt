@@ -16,6 +16,7 @@ pub mod Settling
 pub mod Taking
 pub mod Counting
 pub mod Peeled
+pub mod Fresh
 pub mod Starting
 pub mod Left
 pub mod Judged

@@ -8,11 +8,11 @@ use Rattle.std.proofs.lemmas.Nat.{mod_below, same_from_place}
 use Rattle.std.proofs.Math.Nat.{mul-le-mul_right, mod-eq_of_lt, zero-mod}
 use Rattle.nr_graphpick.specs.declared.Graph.{Graph}
 use Rattle.nr_graphpick.specs.Graph.{rows_of, info_cols_of}
-use Rattle.nr_segment.specs.Plan.{Numbers, IsSound as IsSoundPlan}
+use Rattle.nr_segment.specs.Plan.{Numbers, IsSound}
 use Rattle.nr_shifttable.specs.declared.entry.Entry.{Entry}
 use Rattle.nr_shifttable.specs.Accepted.{Entries, IsTable, entries_in, row_of, tail}
 use Rattle.nr_shifttable.specs.Tails.{AcceptedHasShape, HasShape, HasCore, tail_of, value_in}
-use Rattle.nr_ldpcenc.specs.Rows.{Checks, block_checks, place, row_at}
+use Rattle.nr_ldpcenc.specs.Rows.{Checks, block_checks, one_at, row_at}
 use Rattle.nr_ldpcenc.specs.Codeword.{filler}
 use Rattle.nr_peel.specs.Closure.{IsClosed, Within, any_below, closure, fixes, stands}
 use Rattle.nr_peel.proofs.Closed.{any_below_passes, passes_any_below, closure_least}
@@ -30,20 +30,20 @@ other_in T (x ∷ row) p q all h ne =
 
 -- the places of a row's tail
 abbrev places_of : ℕ → ℕ → List (ℕ × ℕ) → List ℕ
-places_of z t xs = map (λ x. place z t x.0 x.1) xs
+places_of z t xs = map (λ x. one_at z t x.0 x.1) xs
 
 abbrev pairs : ℕ → List Entry → List (ℕ × ℕ)
 pairs set es = map (λ e. (e.col, value_in set e)) es
 
 abbrev all_places : ℕ → ℕ → ℕ → List Entry → List ℕ
-all_places set z t es = map (λ e. place z t e.col (value_in set e)) es
+all_places set z t es = map (λ e. one_at z t e.col (value_in set e)) es
 
 tail_stands : (set z t from p : ℕ) (es : List Entry) → stands p (places_of z t (pairs set (filter (λ e. nat_le from e.col) es))) ≡ true → stands p (all_places set z t es) ≡ true
 tail_stands set z t from p [] h = h
 tail_stands set z t from p (e ∷ es) h = go (nat_le from e.col) h (tail_stands set z t from p es)
   where
     at : Bool
-    at = place z t e.col (value_in set e) == p
+    at = one_at z t e.col (value_in set e) == p
 
     go : (b : Bool) → stands p (places_of z t (pairs set (cond b (e ∷ filter (λ e. nat_le from e.col) es) (filter (λ e. nat_le from e.col) es)))) ≡ true
         → (stands p (places_of z t (pairs set (filter (λ e. nat_le from e.col) es))) ≡ true → stands p (all_places set z t es) ≡ true) → (at || stands p (all_places set z t es)) ≡ true
@@ -56,7 +56,7 @@ stands_tail set z t from p pos [] h = absurd (false≢true h)
 stands_tail set z t from p pos (e ∷ es) h = go (nat_le from e.col) refl (or_cases at (stands p (all_places set z t es)) h) (stands_tail set z t from p pos es)
   where
     at : Bool
-    at = place z t e.col (value_in set e) == p
+    at = one_at z t e.col (value_in set e) == p
 
     rest : List Entry
     rest = filter (λ e. nat_le from e.col) es
@@ -67,7 +67,7 @@ stands_tail set z t from p pos (e ∷ es) h = go (nat_le from e.col) refl (or_ca
     go false f (inl a) ih =
         let low : e.col < from = leb_low from e.col f in
         let below = place_below z t e.col (value_in set e) from pos low in
-        inl (omega (arith, eqb-true (place z t e.col (value_in set e)) p a, below))
+        inl (omega (arith, eqb-true (one_at z t e.col (value_in set e)) p a, below))
       where
         leb_low : (a b : ℕ) → nat_le a b ≡ false → b < a
         leb_low a b h = ⊎_elim (λ l. l) (λ (le : a ≤ b). absurd (true≢false (sym (le-leb a b le) ∙ h))) (cases_lt b a)
@@ -144,7 +144,7 @@ module _ (es : List Entry) (set z n rows kdash : ℕ) where
           let more : (n + 4) * z ≤ (n + r.row) * z = mul-le-mul_right z (omega arith) in
           absurd (omega (arith, more, own))
 
-  place_zero : (t j : ℕ) → t < z → place z t j 0 ≡ j * z + t
+  place_zero : (t j : ℕ) → t < z → one_at z t j 0 ≡ j * z + t
   place_zero t j lt = ap (λ m. j * z + m) (small t lt)
     where
       small : (t : ℕ) → t < z → (t + 0 % z) % z ≡ t
@@ -159,8 +159,8 @@ module _ (es : List Entry) (set z n rows kdash : ℕ) where
   two_out pos i t p lt x y xs shape low apart high f =
       let row = row_at es set z i t in
       let all = (and_parts (stands p row) (list_all (λ r. (r == p) || reach r) row) f).1 in
-      let a = place z t x.0 x.1 in
-      let b = place z t y.0 y.1 in
+      let a = one_at z t x.0 x.1 in
+      let b = one_at z t y.0 y.1 in
       let tails : places_of z t (pairs set (filter (λ e. nat_le n e.col) (row_of es i))) ≡ a ∷ b ∷ places_of z t xs = ap (places_of z t) shape in
       let in_a : stands a row ≡ true = tail_stands set z t n a (row_of es i) (ap (stands a) tails ∙ or_left (a == a) (stands a (b ∷ places_of z t xs)) (eq-eqb a a refl)) in
       let in_b : stands b row ≡ true = tail_stands set z t n b (row_of es i) (ap (stands b) tails ∙ or_right (a == b) (stands b (b ∷ places_of z t xs)) (or_left (b == b) (stands b (places_of z t xs)) (eq-eqb b b refl))) in
@@ -296,7 +296,7 @@ module _ (es : List Entry) (set z n rows kdash : ℕ) where
           let more : n * z ≤ (n + r.row) * z = mul-le-mul_right z (omega arith) in
           absurd (omega (arith, more, own))
 
-pub nothing_fixed : AcceptedHasShape → (t : Entries) (g : Graph) (b : ℕ) (p : Numbers) (q : ℕ) → IsTable t → 0 < length (entries_in g t) → IsSoundPlan g b p → p.set < 8
+pub nothing_fixed : AcceptedHasShape → (t : Entries) (g : Graph) (b : ℕ) (p : Numbers) (q : ℕ) → IsTable t → 0 < length (entries_in g t) → IsSound g b p → p.set < 8
     → q < p.kdash → closure (block_checks t g p) (filler p.kdash p.k) q ≡ false
 nothing_fixed shapes t g b p q table some plan small low =
     let es = entries_in g t in

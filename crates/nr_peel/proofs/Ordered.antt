@@ -2,7 +2,7 @@
 use Rattle.std.proofs.Common.{◌≡◌, ℕ, ◌<◌, ◌==◌, nat_lt, ◌||◌, ◌&&◌, Bool, true, false, cond, List, [], ◌∷◌, ◌++◌, refl, sym, ap, ◌∙◌, ⊎_elim}
 use Rattle.std.proofs.lemmas.Bool.{and_parts, and_from, or_cases, or_left, or_right, ltb-true, lt-ltb, eqb-true}
 use Rattle.nr_ldpcenc.specs.Rows.{Checks}
-use Rattle.nr_peel.specs.Closure.{IsSound, Within, closure, fixes}
+use Rattle.nr_peel.specs.Closure.{AreSound, Within, closure, fixes}
 use Rattle.nr_peel.specs.Certificates.{accepts, after_steps, all_accepted, is_fixed_by, with_position}
 use Rattle.nr_peel.specs.declared.fix.Fix.{Fix}
 use Rattle.nr_peel.proofs.Closed.{closure_closed, closure_keeps}
@@ -46,7 +46,7 @@ all_accepted_within c S T (s ∷ ss) within h =
     (all_accepted_within c (with_position S s.pos) (with_position T s.pos) ss (with_within S T s.pos within) parts.1)
 
 -- accepted steps stay in the closure
-pub steps_within : (c : Checks) (S T : ℕ → Bool) (ss : List Fix) → IsSound c → Within S (closure c T) → Within (after_steps c S ss) (closure c T)
+pub steps_within : (c : Checks) (S T : ℕ → Bool) (ss : List Fix) → AreSound c → Within S (closure c T) → Within (after_steps c S ss) (closure c T)
 steps_within c S T [] sound within p h = within p h
 steps_within c S T (s ∷ ss) sound within p h = go (accepts c S s) refl h (λ w. steps_within c (with_position S s.pos) T ss sound w p)
   where
@@ -61,7 +61,7 @@ steps_within c S T (s ∷ ss) sound within p h = go (accepts c S s) refl h (λ w
             (λ m. ap (closure c T) (sym (eqb-true s.pos q m)) ∙ closure_closed c T sound s.row s.lane s.pos a.row a.lane (fixes_more S (closure c T) (c.row s.row s.lane) s.pos within a.fixed))
             (or_cases (S q) (s.pos == q) g)
 
-pub steps_stay : (c : Checks) (S : ℕ → Bool) (ss : List Fix) → IsSound c → Within (after_steps c S ss) (closure c S)
+pub steps_stay : (c : Checks) (S : ℕ → Bool) (ss : List Fix) → AreSound c → Within (after_steps c S ss) (closure c S)
 steps_stay c S ss sound = steps_within c S S ss sound (closure_keeps c S)
 
 -- after steps that were all accepted, their positions are added

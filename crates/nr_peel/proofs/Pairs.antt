@@ -4,7 +4,7 @@ use Rattle.std.specs.Prelude.{zero, suc, slice_index}
 use Rattle.std.proofs.lemmas.Bool.{eqb-true, eq-eqb, ne_eqb}
 use Rattle.std.proofs.lemmas.Nat.{div-mul-add, mod-mul-add}
 use Rattle.nr_ldpcenc.specs.Rows.{Checks}
-use Rattle.nr_peel.specs.Touches.{all_pairs, degree, spent_pairs, sum_below}
+use Rattle.nr_peel.specs.Touches.{all_pairs, row_length, spent_pairs, sum_below}
 use Rattle.nr_peel.proofs.Closed.{cases_below}
 
 pub sum_below-le : (f g : ℕ → ℕ) (n : ℕ) → ((k : ℕ) → k < n → f k ≤ g k) → sum_below f n ≤ sum_below g n
@@ -31,7 +31,7 @@ pub sum_below-plus : (f g h : ℕ → ℕ) (n : ℕ) → ((k : ℕ) → k < n �
 sum_below-plus f g h zero e = refl
 sum_below-plus f g h (suc n) e = omega (arith, sum_below-plus f g h n (λ k lt. e k (omega arith)), e n (omega arith))
 
-pub degree_at : (c : Checks) (i t : ℕ) → t < c.lanes → degree c (i * c.lanes + t) ≡ length (c.row i t)
+pub degree_at : (c : Checks) (i t : ℕ) → t < c.lanes → row_length c (i * c.lanes + t) ≡ length (c.row i t)
 degree_at c i t lt = ap (λ r. length (c.row r ((i * c.lanes + t) % c.lanes))) (div-mul-add i c.lanes t lt) ∙ ap (λ l. length (c.row i l)) (mod-mul-add i c.lanes t lt)
 
 cond_le : (b : Bool) (d : ℕ) → cond b d 0 ≤ d
@@ -40,11 +40,11 @@ cond_le false d = omega arith
 
 pub spent_le : (c : Checks) (counts : List ℕ) → spent_pairs c counts ≤ all_pairs c
 unfolding spent_pairs all_pairs
-spent_le c counts = sum_below-le (λ k. cond (slice_index counts k == 0) (degree c k) 0) (degree c) (c.rows * c.lanes) (λ k lt. cond_le (slice_index counts k == 0) (degree c k))
+spent_le c counts = sum_below-le (λ k. cond (slice_index counts k == 0) (row_length c k) 0) (row_length c) (c.rows * c.lanes) (λ k lt. cond_le (slice_index counts k == 0) (row_length c k))
 
-pub degree_le : (c : Checks) (k : ℕ) → k < c.rows * c.lanes → degree c k ≤ all_pairs c
+pub degree_le : (c : Checks) (k : ℕ) → k < c.rows * c.lanes → row_length c k ≤ all_pairs c
 unfolding all_pairs
-degree_le c k lt = sum_below-at (degree c) (c.rows * c.lanes) k lt
+degree_le c k lt = sum_below-at (row_length c) (c.rows * c.lanes) k lt
 
 -- counters that fall
 spent_term : (a b d : ℕ) → b ≤ a → cond (a == 0) d 0 ≤ cond (b == 0) d 0
@@ -59,21 +59,21 @@ spent_term a b d le = go (a == 0) refl
 
 pub spent_more : (c : Checks) (old new : List ℕ) → ((k : ℕ) → slice_index new k ≤ slice_index old k) → spent_pairs c old ≤ spent_pairs c new
 unfolding spent_pairs
-spent_more c old new fall = sum_below-le (λ k. cond (slice_index old k == 0) (degree c k) 0) (λ k. cond (slice_index new k == 0) (degree c k) 0) (c.rows * c.lanes) (λ k lt. spent_term (slice_index old k) (slice_index new k) (degree c k) (fall k))
+spent_more c old new fall = sum_below-le (λ k. cond (slice_index old k == 0) (row_length c k) 0) (λ k. cond (slice_index new k == 0) (row_length c k) 0) (c.rows * c.lanes) (λ k lt. spent_term (slice_index old k) (slice_index new k) (row_length c k) (fall k))
 
 -- a row that comes down to none adds its pairs
 pub spent_gain : (c : Checks) (old new : List ℕ) (k : ℕ) → k < c.rows * c.lanes → ((j : ℕ) → slice_index new j ≤ slice_index old j) → 0 < slice_index old k → slice_index new k ≡ 0
-    → spent_pairs c old + degree c k ≤ spent_pairs c new
+    → spent_pairs c old + row_length c k ≤ spent_pairs c new
 unfolding spent_pairs
 spent_gain c old new k lt fall some none =
-    sum_below-gain (λ k. cond (slice_index old k == 0) (degree c k) 0) (λ k. cond (slice_index new k == 0) (degree c k) 0) (c.rows * c.lanes) k (degree c k) lt
-    (λ j l. spent_term (slice_index old j) (slice_index new j) (degree c j) (fall j)) gain
+    sum_below-gain (λ k. cond (slice_index old k == 0) (row_length c k) 0) (λ k. cond (slice_index new k == 0) (row_length c k) 0) (c.rows * c.lanes) k (row_length c k) lt
+    (λ j l. spent_term (slice_index old j) (slice_index new j) (row_length c j) (fall j)) gain
   where
-    before : cond (slice_index old k == 0) (degree c k) 0 ≡ 0
-    before = ap (λ t. cond t (degree c k) 0) (ne_eqb (slice_index old k) 0 (λ e. absurd (omega arith)))
+    before : cond (slice_index old k == 0) (row_length c k) 0 ≡ 0
+    before = ap (λ t. cond t (row_length c k) 0) (ne_eqb (slice_index old k) 0 (λ e. absurd (omega arith)))
 
-    after : cond (slice_index new k == 0) (degree c k) 0 ≡ degree c k
-    after = ap (λ t. cond t (degree c k) 0) (eq-eqb (slice_index new k) 0 none)
+    after : cond (slice_index new k == 0) (row_length c k) 0 ≡ row_length c k
+    after = ap (λ t. cond t (row_length c k) 0) (eq-eqb (slice_index new k) 0 none)
 
-    gain : cond (slice_index old k == 0) (degree c k) 0 + degree c k ≤ cond (slice_index new k == 0) (degree c k) 0
+    gain : cond (slice_index old k == 0) (row_length c k) 0 + row_length c k ≤ cond (slice_index new k == 0) (row_length c k) 0
     gain = omega (arith, before, after)

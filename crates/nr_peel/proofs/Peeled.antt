@@ -9,7 +9,7 @@ use Rattle.nr_graphpick.specs.declared.Graph.TheVariants.{One, Two}
 use Rattle.nr_graphpick.specs.Graph.{info_cols_of, cols_of}
 use Rattle.nr_segment.specs.CodeBlock.{numbers}
 use Rattle.nr_ldpcenc.specs.Rows.{Checks}
-use Rattle.nr_peel.specs.Closure.{IsSound, Within, closure}
+use Rattle.nr_peel.specs.Closure.{AreSound, Within, closure}
 use Rattle.nr_peel.specs.Certificates.{is_fixed_by}
 use Rattle.nr_peel.specs.Counters.{IsSettled}
 use Rattle.nr_peel.specs.Peeling.{IsPeeled, Peeling}
@@ -34,7 +34,7 @@ view_of l s = record {
   touches = s.counters.touches;
 }
 
-settled_closed : (c : Checks) (s : State) → IsSound c → IsWorking c s → IsSettled s.counters → (p : ℕ) → bit s.known.items p ≡ closure c (bit s.given.items) p
+settled_closed : (c : Checks) (s : State) → AreSound c → IsWorking c s → IsSettled s.counters → (p : ℕ) → bit s.known.items p ≡ closure c (bit s.given.items) p
 settled_closed c s sound w settled = done_is_closure c (bit s.given.items) (bit s.known.items) sound up inside lacks
   where
     up : Within (bit s.given.items) (bit s.known.items)

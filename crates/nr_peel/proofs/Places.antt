@@ -5,8 +5,8 @@ use Rattle.std.proofs.lemmas.Nat.{mod_below, same_from_place, div-add-mod'}
 use Rattle.std.proofs.Math.Nat.{mod-eq_of_lt, add-mod_left}
 use Rattle.nr_shifttable.specs.declared.entry.Entry.{Entry}
 use Rattle.nr_shifttable.specs.Tails.{value_in}
-use Rattle.nr_ldpcenc.specs.Rows.{place}
-use Rattle.nr_peel.specs.Touches.{holder, unrotate}
+use Rattle.nr_ldpcenc.specs.Rows.{one_at, unrotate}
+use Rattle.nr_peel.specs.Touches.{holder}
 use Rattle.nr_peel.proofs.Closed.{same_truth}
 use Rattle.nr_peel.proofs.Grid.{place_column, place_lane}
 
@@ -68,8 +68,8 @@ rotate-eqb z v t u tl ul =
     (λ h. eq-eqb ((t + v % z) % z) u (rotate_there z (v % z) t u wl ul (eqb-true (unrotate z v u) t h)))
 
 -- an entry's place is a position where its column and its lane are the position's
-pub place-eqb : (z t col v p : ℕ) → t < z → (place z t col v == p) ≡ ((col == p / z) && (unrotate z v (p % z) == t))
-place-eqb z t col v p tl = same_truth (place z t col v == p) ((col == p / z) && (unrotate z v (p % z) == t)) there back
+pub place-eqb : (z t col v p : ℕ) → t < z → (one_at z t col v == p) ≡ ((col == p / z) && (unrotate z v (p % z) == t))
+place-eqb z t col v p tl = same_truth (one_at z t col v == p) ((col == p / z) && (unrotate z v (p % z) == t)) there back
   where
     pos : 0 < z
     pos = omega arith
@@ -77,20 +77,20 @@ place-eqb z t col v p tl = same_truth (place z t col v == p) ((col == p / z) && 
     ul : p % z < z
     ul = mod_below p z pos
 
-    there : (place z t col v == p) ≡ true → ((col == p / z) && (unrotate z v (p % z) == t)) ≡ true
+    there : (one_at z t col v == p) ≡ true → ((col == p / z) && (unrotate z v (p % z) == t)) ≡ true
     there h =
-        let at = eqb-true (place z t col v) p h in
+        let at = eqb-true (one_at z t col v) p h in
         let column : col ≡ p / z = sym (place_column z t col v pos) ∙ ap (λ q. q / z) at in
         let lane : (t + v % z) % z ≡ p % z = sym (place_lane z t col v pos) ∙ ap (λ q. q % z) at in
         and_from (col == p / z) (unrotate z v (p % z) == t) (eq-eqb col (p / z) column)
         (sym (rotate-eqb z v t (p % z) tl ul) ∙ eq-eqb ((t + v % z) % z) (p % z) lane)
 
-    back : ((col == p / z) && (unrotate z v (p % z) == t)) ≡ true → (place z t col v == p) ≡ true
+    back : ((col == p / z) && (unrotate z v (p % z) == t)) ≡ true → (one_at z t col v == p) ≡ true
     back h =
         let parts = and_parts (col == p / z) (unrotate z v (p % z) == t) h in
         let column : col ≡ p / z = eqb-true col (p / z) parts.0 in
         let lane : (t + v % z) % z ≡ p % z = eqb-true ((t + v % z) % z) (p % z) (rotate-eqb z v t (p % z) tl ul ∙ parts.1) in
-        eq-eqb (place z t col v) p (ap (λ c. c * z + (t + v % z) % z) column ∙ ap (λ l. p / z * z + l) lane ∙ div-add-mod' p z)
+        eq-eqb (one_at z t col v) p (ap (λ c. c * z + (t + v % z) % z) column ∙ ap (λ l. p / z * z + l) lane ∙ div-add-mod' p z)
 
 -- an entry's row number is that of row t of row of blocks i
 pub holder-eqb : (set z u i t : ℕ) (e : Entry) → t < z → u < z → (holder set z u e == i * z + t) ≡ ((e.row == i) && (unrotate z (value_in set e) u == t))
@@ -121,7 +121,7 @@ holder_below set z u rows e pos le =
 pub row_number : (k z : ℕ) → k / z * z + k % z ≡ k
 row_number k z = div-add-mod' k z
 
-pub place_fits : (z t : ℕ) (e : Entry) (v size : ℕ) → t < z → (e.col + 1) * z ≤ size → place z t e.col v < size
+pub place_fits : (z t : ℕ) (e : Entry) (v size : ℕ) → t < z → (e.col + 1) * z ≤ size → one_at z t e.col v < size
 place_fits z t e v size lt le =
     let small = mod_below (t + v % z) z (omega arith) in
     omega arith

@@ -9,7 +9,7 @@ use Rattle.nr_ldpcenc.specs.Rows.{Checks}
 use Rattle.nr_segment.specs.CodeBlock.{numbers}
 use Rattle.nr_shifttable.specs.declared.entry.Entry.{Entry}
 use Rattle.nr_shifttable.specs.Accepted.{IsTable, entries_in, row_of}
-use Rattle.nr_peel.specs.Closure.{IsDistinctRow, IsSound, LacksNoneOrSeveral, Within, any_below, closure, fixes, round, stands}
+use Rattle.nr_peel.specs.Closure.{IsDistinctRow, AreSound, LacksNoneOrSeveral, Within, any_below, closure, fixes, round, stands}
 use Rattle.nr_peel.specs.Rounds.{CountsMarks, counts_one, is_counted_once, lacks_one, row_in, some_counts_one, some_lacks_one}
 use Rattle.nr_peel.specs.State.{lifted_checks}
 use Rattle.nr_peel.specs.declared.lifted.Lifted.{Lifted}
@@ -158,13 +158,13 @@ module _
 
 -- marking each row with one unknown position is a round
 -- at a position outside the set
-out_marks : (c : Checks) (S : ℕ → Bool) (p : ℕ) → IsSound c → S p ≡ false → (S p || any_below (is_completed c S p) c.rows) ≡ round c S p
+out_marks : (c : Checks) (S : ℕ → Bool) (p : ℕ) → AreSound c → S p ≡ false → (S p || any_below (is_completed c S p) c.rows) ≡ round c S p
 unfolding round
 out_marks c S p sound out = ap (λ b. S p || b) (any_below-same (is_completed c S p) (λ i. any_below (λ t. fixes S (c.row i t) p) c.lanes) c.rows
     (λ i li. any_below-same (λ t. lacks_one S (c.row i t) && stands p (c.row i t)) (λ t. fixes S (c.row i t) p) c.lanes
     (λ t lt. one_is_fixed S (c.row i t) p (sound.distinct i t li lt) out)))
 
-pub round_marks : (c : Checks) (S : ℕ → Bool) (p : ℕ) → IsSound c → (S p || any_below (is_completed c S p) c.rows) ≡ round c S p
+pub round_marks : (c : Checks) (S : ℕ → Bool) (p : ℕ) → AreSound c → (S p || any_below (is_completed c S p) c.rows) ≡ round c S p
 round_marks c S p sound = by_mark (S p) refl
   where
     by_mark : (b : Bool) → S p ≡ b → (S p || any_below (is_completed c S p) c.rows) ≡ round c S p
@@ -172,7 +172,7 @@ round_marks c S p sound = by_mark (S p) refl
     by_mark false e = out_marks c S p sound e
 
 -- a round with such a row marks a new position
-pub round_grows : (c : Checks) (S T : ℕ → Bool) → IsSound c → some_lacks_one c S ≡ true → ((p : ℕ) → T p ≡ round c S p) → size_below S c.size < size_below T c.size
+pub round_grows : (c : Checks) (S T : ℕ → Bool) → AreSound c → some_lacks_one c S ≡ true → ((p : ℕ) → T p ≡ round c S p) → size_below S c.size < size_below T c.size
 unfolding some_lacks_one
 round_grows c S T sound some is =
     let r = any_below_passes (λ i. any_below (λ t. lacks_one S (c.row i t)) c.lanes) c.rows some in
@@ -190,7 +190,7 @@ none_lacks c S none i t li lt one =
     true≢false (sym (passes_any_below (λ i. any_below (λ t. lacks_one S (c.row i t)) c.lanes) c.rows i li here) ∙ none)
 
 -- a round without such a row ends at the closure
-pub rounds_done : (c : Checks) (S K : ℕ → Bool) → IsSound c → Within S K → Within K (closure c S) → some_lacks_one c K ≡ false → (p : ℕ) → round c K p ≡ closure c S p
+pub rounds_done : (c : Checks) (S K : ℕ → Bool) → AreSound c → Within S K → Within K (closure c S) → some_lacks_one c K ≡ false → (p : ℕ) → round c K p ≡ closure c S p
 rounds_done c S K sound up inside none p = same_truth (round c K p) (closure c S p)
     (round_within c K (closure c S) inside (closure_closed c S sound) p)
     (λ h. round_keeps c K p (done_is_closure c S K sound up inside (none_lacks c K none) p ∙ h))

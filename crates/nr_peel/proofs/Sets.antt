@@ -1,11 +1,11 @@
 -- The set index of a plan's lifting size is one of eight.
 use Rattle.std.proofs.Common.{ℕ, ◌<◌}
 use Rattle.nr_graphpick.specs.declared.Graph.{Graph}
-use Rattle.nr_segment.specs.Plan.{Numbers, IsSound as IsSoundPlan}
+use Rattle.nr_segment.specs.Plan.{Numbers, IsSound}
 use Rattle.nr_segment.specs.declared.numbers.Plan.{Plan}
 use Rattle.nr_ldpcenc.proofs.Codes.{set_below}
 
-pub sound_set : (g : Graph) (b : ℕ) (p : Numbers) → IsSoundPlan g b p → p.set < 8
+pub sound_set : (g : Graph) (b : ℕ) (p : Numbers) → IsSound g b p → p.set < 8
 sound_set g b p plan = set_below p.z p.set plan.set_is
 
 pub in_sets : (p : Plan) → p.set < 8

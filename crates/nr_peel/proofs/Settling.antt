@@ -8,7 +8,7 @@ use Rattle.nr_ldpcenc.specs.Rows.{Checks}
 use Rattle.nr_peel.specs.Certificates.{is_fixed_by}
 use Rattle.nr_peel.specs.Touches.{spent_pairs}
 use Rattle.nr_peel.specs.Closure.{stands}
-use Rattle.nr_peel.specs.Counters.{Follows, IsListed, IsSettled, IsTied}
+use Rattle.nr_peel.specs.Counters.{Follows, IsListed, IsSettled, AreTied}
 use Rattle.nr_peel.specs.State.{IsWorking}
 use Rattle.nr_peel.specs.declared.counters.Counters.{Counters}
 use Rattle.nr_peel.specs.declared.state.State.{State}
@@ -28,7 +28,7 @@ pub record IsPopped (a d : State) (row : ℕ) : Type 0 where
 all_front : (P : ℕ → Type 0) (xs : List ℕ) (y : ℕ) → All P (xs ++ y ∷ []) → All P xs
 all_front P xs y all k d lt = subst P (get_or_append_left xs (y ∷ []) d k lt) (all k d (omega (arith, length_push xs y)))
 
-pub popped_tied : (c : Checks) (known : List Bool) (a d : Counters) (row : ℕ) → IsTied c known a → d.counts ≡ a.counts → a.ready.items ≡ d.ready.items ++ row ∷ [] → vec_capacity d.ready ≡ vec_capacity a.ready → IsTied c known d
+pub popped_tied : (c : Checks) (known : List Bool) (a d : Counters) (row : ℕ) → AreTied c known a → d.counts ≡ a.counts → a.ready.items ≡ d.ready.items ++ row ∷ [] → vec_capacity d.ready ≡ vec_capacity a.ready → AreTied c known d
 popped_tied c known a d row tied counts ready capacity = record {
   counted = λ i t li lt. ap (λ v. slice_index v.items (i * c.lanes + t)) counts ∙ tied.counted i t li lt;
   long = ap (λ v. length v.items) counts ∙ tied.long;
@@ -69,7 +69,7 @@ popped_works c a d row f w = record {
   known_long = ap (λ b. length b.items) f.known ∙ w.known_long;
   bits_long = ap (λ b. length b.items) f.bits ∙ w.bits_long;
   blank = λ p h. ap (λ b. bit b.items p) f.bits ∙ w.blank p (sym (ap (λ b. bit b.items p) f.known) ∙ h);
-  tied = subst (λ k. IsTied c k.items d.counters) (sym f.known) (popped_tied c a.known.items a.counters d.counters row w.tied f.counts f.ready f.capacity);
+  tied = subst (λ k. AreTied c k.items d.counters) (sym f.known) (popped_tied c a.known.items a.counters d.counters row w.tied f.counts f.ready f.capacity);
   accepted = rw (f.given, f.order) w.accepted;
   reached = λ p. ap (λ b. bit b.items p) f.known ∙ w.reached p ∙ ap (λ b. bit b.items p || is_fixed_by a.order.items p) (sym f.given) ∙ ap (λ o. bit d.given.items p || is_fixed_by o.items p) (sym f.order);
   order_few = omega (arith, w.order_few, ap (λ o. length o.items) f.order, ap (λ b. count_by (λ x. x) b.items) f.known);

@@ -17,13 +17,13 @@ use Rattle.nr_shifttable.specs.Accepted.{IsTable, entries_in, row_of}
 use Rattle.nr_shifttable.specs.Tails.{value_in}
 use Rattle.nr_peel.specs.Certificates.{all_accepted}
 use Rattle.nr_peel.proofs.Standing.{count_no}
-use Rattle.nr_ldpcenc.specs.Rows.{Checks, place}
+use Rattle.nr_ldpcenc.specs.Rows.{Checks, one_at}
 use Rattle.nr_ldpcenc.specs.Codeword.{filler}
 use Rattle.nr_peel.specs.Closure.{stands}
 use Rattle.nr_peel.specs.Counters.{IsStart}
 use Rattle.nr_peel.specs.Peeling.{left_of}
 use Rattle.nr_peel.specs.State.{IsBlank, lifted_checks}
-use Rattle.nr_peel.specs.Touches.{all_pairs, degree, sum_below}
+use Rattle.nr_peel.specs.Touches.{all_pairs, row_length, sum_below}
 use Rattle.nr_peel.specs.declared.counters.Counters.{Counters}
 use Rattle.nr_peel.specs.declared.lifted.Lifted.{Lifted}
 use Rattle.nr_peel.specs.declared.state.State.{State}
@@ -38,19 +38,19 @@ use Rattle.nr_peel.proofs.Searched.{stands-push}
 -- the counters of the first n rows
 pub record IsBuilt (c : Checks) (counts ready : List ℕ) (n : ℕ) : Type 0 where
   pub long : length counts ≡ n
-  pub counted : (k : ℕ) → k < n → slice_index counts k ≡ degree c k
-  pub listed : (k : ℕ) → k < n → degree c k ≡ 1 → stands k ready ≡ true
+  pub counted : (k : ℕ) → k < n → slice_index counts k ≡ row_length c k
+  pub listed : (k : ℕ) → k < n → row_length c k ≡ 1 → stands k ready ≡ true
   pub inside : All (λ k. k < n) ready
   pub weight : length ready + count_by (nat_lt 1) counts ≤ n
 
 pub built_none : (c : Checks) → IsBuilt c [] [] 0
 built_none c = record { long = refl; counted = λ k lt. absurd (omega arith); listed = λ k lt. absurd (omega arith); inside = λ k d lt. absurd (omega arith); weight = omega arith }
 
-module _ (c : Checks) (counts ready : List ℕ) (n d : ℕ) (b : IsBuilt c counts ready n) (is : d ≡ degree c n) where
-  counted_more : (k : ℕ) → k < n + 1 → slice_index (counts ++ d ∷ []) k ≡ degree c k
+module _ (c : Checks) (counts ready : List ℕ) (n d : ℕ) (b : IsBuilt c counts ready n) (is : d ≡ row_length c n) where
+  counted_more : (k : ℕ) → k < n + 1 → slice_index (counts ++ d ∷ []) k ≡ row_length c k
   counted_more k lt = ⊎_elim
       (λ l. get_or_append_left counts (d ∷ []) 0 k (omega (arith, b.long)) ∙ b.counted k l)
-      (λ e. get_or_push counts d 0 k (b.long ∙ sym e) ∙ is ∙ ap (degree c) (sym e))
+      (λ e. get_or_push counts d 0 k (b.long ∙ sym e) ∙ is ∙ ap (row_length c) (sym e))
       (cases_below k n (omega arith))
 
   count_push : count_by (nat_lt 1) (counts ++ d ∷ []) ≡ count_by (nat_lt 1) counts + cond (nat_lt 1 d) 1 0
@@ -64,7 +64,7 @@ module _ (c : Checks) (counts ready : List ℕ) (n d : ℕ) (b : IsBuilt c count
   built_more other = record {
     long = length_push counts d ∙ ap (λ m. m + 1) b.long;
     counted = counted_more;
-    listed = λ k lt one. ⊎_elim (λ l. b.listed k l one) (λ e. absurd (other (is ∙ ap (degree c) (sym e) ∙ one))) (cases_below k n (omega arith));
+    listed = λ k lt one. ⊎_elim (λ l. b.listed k l one) (λ e. absurd (other (is ∙ ap (row_length c) (sym e) ∙ one))) (cases_below k n (omega arith));
     inside = All-weaker (λ k. k < n) (λ k. k < n + 1) (λ k l. more k n l) ready b.inside;
     weight = omega (arith, b.weight, count_push, at_most (nat_lt 1 d));
   }
@@ -95,13 +95,13 @@ rows_most : (g : Graph) → rows_of g ≤ 46
 rows_most One = omega arith
 rows_most Two = omega arith
 
-pub degree_short : (l : Lifted) (k : ℕ) → IsTable l.table.now → degree (lifted_checks l) k ≤ 68
-degree_short l k table = omega (arith, rows_short l.table.now l.plan.graph (k / l.plan.z) table, length-map (row_of (entries_in l.plan.graph l.table.now) (k / l.plan.z)) (λ (e : Entry). place l.plan.z (k % l.plan.z) e.col (value_in l.plan.set e)))
+pub degree_short : (l : Lifted) (k : ℕ) → IsTable l.table.now → row_length (lifted_checks l) k ≤ 68
+degree_short l k table = omega (arith, rows_short l.table.now l.plan.graph (k / l.plan.z) table, length-map (row_of (entries_in l.plan.graph l.table.now) (k / l.plan.z)) (λ (e : Entry). one_at l.plan.z (k % l.plan.z) e.col (value_in l.plan.set e)))
 
 few_pairs : (l : Lifted) → IsTable l.table.now → 4 * all_pairs (lifted_checks l) + 4 < 2 ^ 64
 unfolding all_pairs
 few_pairs l table =
-    let most = sum_below-most (degree (lifted_checks l)) 68 (rows_of l.plan.graph * l.plan.z) (λ k lt. degree_short l k table) in
+    let most = sum_below-most (row_length (lifted_checks l)) 68 (rows_of l.plan.graph * l.plan.z) (λ k lt. degree_short l k table) in
     let size : rows_of l.plan.graph * l.plan.z ≤ 46 * 384 = mul-le (rows_of l.plan.graph) l.plan.z 46 384 (rows_most l.plan.graph) l.plan.sound.size_most in
     omega arith
 
@@ -116,7 +116,7 @@ built_start l s table untouched b room = record {
   inside = subst (λ n. All (λ k. k < n) s.ready.items) (sym b.long) b.inside;
   room = omega (arith, b.weight, room);
   listed = λ k one. ⊎_elim (λ lt. b.listed k lt (sym (b.counted k lt) ∙ one)) (λ le. absurd (past k le one)) (cases_lt k (rows_of l.plan.graph * l.plan.z));
-  total = sum-below s.counts.items ∙ ap (sum_below (slice_index s.counts.items)) b.long ∙ sum_below-same (slice_index s.counts.items) (degree (lifted_checks l)) (rows_of l.plan.graph * l.plan.z) b.counted;
+  total = sum-below s.counts.items ∙ ap (sum_below (slice_index s.counts.items)) b.long ∙ sum_below-same (slice_index s.counts.items) (row_length (lifted_checks l)) (rows_of l.plan.graph * l.plan.z) b.counted;
   small = few_pairs l table;
 }
   where

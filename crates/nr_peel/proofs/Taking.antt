@@ -7,7 +7,7 @@ use Rattle.nr_bitvec.specs.Bit.{bit}
 use Rattle.nr_ldpcenc.specs.Rows.{Checks}
 use Rattle.nr_peel.specs.Closure.{Within}
 use Rattle.nr_peel.specs.Certificates.{is_fixed_by, with_position}
-use Rattle.nr_peel.specs.Counters.{IsLowered, IsListed, IsSettled, IsTied}
+use Rattle.nr_peel.specs.Counters.{IsLowered, IsListed, IsSettled, AreTied}
 use Rattle.nr_peel.specs.State.{IsWorking, LearnsWords}
 use Rattle.nr_peel.specs.declared.counters.Counters.{Counters}
 use Rattle.nr_peel.specs.declared.state.State.{State}
@@ -24,7 +24,7 @@ pub record IsTaken (c : Checks) (a d : State) (pos : ℕ) (v : Bool) : Type 0 wh
   pub known : d.known.items ≡ set a.known.items pos true
   pub bits : d.bits.items ≡ set a.bits.items pos v
   pub order : d.order ≡ a.order
-  pub tied : IsTied c d.known.items d.counters
+  pub tied : AreTied c d.known.items d.counters
   pub falls : (k : ℕ) → slice_index d.counters.counts.items k ≤ slice_index a.counters.counts.items k
   pub visits : d.counters.touches + sum d.counters.counts.items ≡ a.counters.touches + sum a.counters.counts.items
 

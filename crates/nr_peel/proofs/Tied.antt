@@ -15,7 +15,7 @@ use Rattle.nr_shifttable.specs.Accepted.{Entries, IsTable, column_of, entries_in
 use Rattle.nr_ldpcenc.specs.Rows.{Checks, block_checks}
 use Rattle.nr_peel.specs.Closure.{times_in}
 use Rattle.nr_peel.specs.Certificates.{with_position}
-use Rattle.nr_peel.specs.Counters.{IsLowered, IsTied}
+use Rattle.nr_peel.specs.Counters.{IsLowered, AreTied}
 use Rattle.nr_peel.specs.Touches.{holder}
 use Rattle.nr_peel.specs.declared.counters.Counters.{Counters}
 use Rattle.nr_peel.proofs.Standing.{count_alike, count_no}
@@ -72,7 +72,7 @@ module _ (t : Entries) (g : Graph) (n : Numbers) (table : IsTable t) (pos : 0 < 
   hits_times p i l lt = hits_are_times n.set n.z i l p lt (entries_in g t)
 
   -- no counter falls below zero
-  pub covered : (known : List Bool) (s : Counters) (p : ℕ) → IsTied c known s → bit known p ≡ false → (k : ℕ) → hits p k ≤ slice_index s.counts.items k
+  pub covered : (known : List Bool) (s : Counters) (p : ℕ) → AreTied c known s → bit known p ≡ false → (k : ℕ) → hits p k ≤ slice_index s.counts.items k
   covered known s p tied out k = ⊎_elim inside past (cases_lt k (rows_of g * n.z))
     where
       past : rows_of g * n.z ≤ k → hits p k ≤ slice_index s.counts.items k
@@ -90,7 +90,7 @@ module _ (t : Entries) (g : Graph) (n : Numbers) (table : IsTable t) (pos : 0 < 
           let le : hits p (i * n.z + l) ≤ slice_index s.counts.items (i * n.z + l) = omega (arith, hits_times p i l small, at, fall) in
           subst (λ m. hits p m ≤ slice_index s.counts.items m) here le
 
-  pub tied_more : (known : List Bool) (s s' : Counters) (p : ℕ) → IsTied c known s → IsLowered (hits p) s s' → bit known p ≡ false → p < length known → IsTied c (set known p true) s'
+  pub tied_more : (known : List Bool) (s s' : Counters) (p : ℕ) → AreTied c known s → IsLowered (hits p) s s' → bit known p ≡ false → p < length known → AreTied c (set known p true) s'
   tied_more known s s' p tied low out lt = record {
     counted = λ i l li ll.
         let at : slice_index s.counts.items (i * n.z + l) ≡ count_by (λ q. not (bit known q)) (c.row i l) = tied.counted i l li ll in
@@ -104,7 +104,7 @@ module _ (t : Entries) (g : Graph) (n : Numbers) (table : IsTable t) (pos : 0 < 
   }
 
 -- counters with the same numbers and the same list
-pub tied_same : (c : Checks) (known : List Bool) (s s' : Counters) → IsTied c known s → s'.counts ≡ s.counts → s'.ready ≡ s.ready → IsTied c known s'
+pub tied_same : (c : Checks) (known : List Bool) (s s' : Counters) → AreTied c known s → s'.counts ≡ s.counts → s'.ready ≡ s.ready → AreTied c known s'
 tied_same c known s s' tied counts ready = record {
   counted = λ i t li lt. ap (λ v. slice_index v.items (i * c.lanes + t)) counts ∙ tied.counted i t li lt;
   long = ap (λ v. length v.items) counts ∙ tied.long;

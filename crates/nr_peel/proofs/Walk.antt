@@ -6,10 +6,10 @@ use Rattle.std.proofs.lemmas.Nat.{mod_below}
 use Rattle.nr_shifttable.specs.declared.entry.Entry.{Entry}
 use Rattle.nr_shifttable.specs.Accepted.{column_of, row_of}
 use Rattle.nr_shifttable.specs.Tails.{value_in}
-use Rattle.nr_ldpcenc.specs.Rows.{place, row_at}
+use Rattle.nr_ldpcenc.specs.Rows.{one_at, row_at, unrotate}
 use Rattle.nr_peel.specs.Closure.{times_in}
 use Rattle.nr_peel.specs.Certificates.{with_position}
-use Rattle.nr_peel.specs.Touches.{holder, unrotate}
+use Rattle.nr_peel.specs.Touches.{holder}
 use Rattle.nr_peel.proofs.Standing.{count_by-cons, count_no, count_yes}
 use Rattle.nr_peel.proofs.Places.{holder-eqb, place-eqb}
 
@@ -30,11 +30,11 @@ hits_are_times set z i t p tl (e ∷ es) =
     lane = unrotate z (value_in set e) (p % z) == t
 
     at : ℕ
-    at = place z t e.col (value_in set e)
+    at = one_at z t e.col (value_in set e)
 
     split : (a b : Bool) → leads e ≡ ((e.row == i) && lane) → (at == p) ≡ ((e.col == p / z) && lane) → (e.col == p / z) ≡ a → (e.row == i) ≡ b
         → count_by leads (column_of es (p / z)) ≡ times_in p (row_at es set z i t)
-        → count_by leads (cond a (e ∷ column_of es (p / z)) (column_of es (p / z))) ≡ times_in p (map (λ e. place z t e.col (value_in set e)) (cond b (e ∷ row_of es i) (row_of es i)))
+        → count_by leads (cond a (e ∷ column_of es (p / z)) (column_of es (p / z))) ≡ times_in p (map (λ e. one_at z t e.col (value_in set e)) (cond b (e ∷ row_of es i) (row_of es i)))
     split false false h k f g ih = ih
     split true false h k f g ih = count_no leads e (column_of es (p / z)) (h ∙ ap (λ b. b && lane) g) ∙ ih
     split false true h k f g ih = ih ∙ sym (count_no (λ q. q == p) at (row_at es set z i t) (k ∙ ap (λ b. b && lane) f))

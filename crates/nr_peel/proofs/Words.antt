@@ -7,7 +7,7 @@ use Rattle.std.proofs.lemmas.Bool.{and_parts, and_from, or_cases, or_left, or_ri
 use Rattle.nr_bitvec.specs.Bit.{◌⊕◌}
 use Rattle.nr_ldpcenc.specs.Parity.{parity}
 use Rattle.nr_ldpcenc.specs.Rows.{Checks, Meets}
-use Rattle.nr_peel.specs.Closure.{AgreeOn, IsClosed, IsDistinctRow, IsOnlyMissing, IsSound, IsStopping, LacksNoneOrSeveral, Within, closure, fixes, stands, times_in}
+use Rattle.nr_peel.specs.Closure.{AgreeOn, IsClosed, IsDistinctRow, IsOnlyMissing, AreSound, IsStopping, LacksNoneOrSeveral, Within, closure, fixes, stands, times_in}
 use Rattle.nr_peel.proofs.Standing.{count_alike, count_no, count_yes, fixed_counted, not_not, only_from_count, stands_counted}
 use Rattle.nr_peel.proofs.Closed.{closure_closed, closure_keeps, closure_least, same_truth}
 
@@ -82,7 +82,7 @@ others_agree S v w p agree (x ∷ row) h =
     (⊎_elim (λ e. or_left (x == p) (beq (v x) (w x)) e) (λ s. or_right (x == p) (beq (v x) (w x)) (beq_same (v x) (w x) (agree x s))) (or_cases (x == p) (S x) parts.0))
     (others_agree S v w p agree row parts.1)
 
-pub words_agree : (c : Checks) (S v w : ℕ → Bool) → IsSound c → Meets c v → Meets c w → AgreeOn S v w → AgreeOn (closure c S) v w
+pub words_agree : (c : Checks) (S v w : ℕ → Bool) → AreSound c → Meets c v → Meets c w → AgreeOn S v w → AgreeOn (closure c S) v w
 words_agree c S v w sound mv mw agree p h = beq_true (v p) (w p) (closure_least c S (λ q. beq (v q) (w q)) (λ q s. beq_same (v q) (w q) (agree q s)) closed p h)
   where
     closed : IsClosed c (λ q. beq (v q) (w q))
@@ -118,7 +118,7 @@ forced_bit w k S p row distinct sum only zero agree = forced row (others_agree S
             go false e a rest ih = step (w x) (k x) (parity w row) (parity k row) (w p) (beq_true (w x) (k x) a) (ih (sym (count_no (λ q. q == p) x row e) ∙ n))
 
 -- no member of a stopping set is in the closure
-pub stopping_stays_out : (c : Checks) (S U : ℕ → Bool) (p : ℕ) → IsSound c → IsStopping c S U → U p ≡ true → closure c S p ≡ false
+pub stopping_stays_out : (c : Checks) (S U : ℕ → Bool) (p : ℕ) → AreSound c → IsStopping c S U → U p ≡ true → closure c S p ≡ false
 stopping_stays_out c S U p sound stop member =
     false_from_ne_true (closure c S p) (λ h. unnot (U p) member (closure_least c S (λ q. not (U q)) beside closed p h))
   where
@@ -147,7 +147,7 @@ stopping_stays_out c S U p sound stop member =
 pub only_fixes : (S : ℕ → Bool) (row : List ℕ) (p : ℕ) → IsOnlyMissing S row p → fixes S row p ≡ true
 only_fixes S row p only = and_from (stands p row) (list_all (λ q. (q == p) || S q) row) only.stands_there only.others
 
-pub left_over_stops : (c : Checks) (S : ℕ → Bool) → IsSound c → IsStopping c S (λ p. not (closure c S p))
+pub left_over_stops : (c : Checks) (S : ℕ → Bool) → AreSound c → IsStopping c S (λ p. not (closure c S p))
 left_over_stops c S sound = record { beside = beside; never_one = never_one }
   where
     beside : (p : ℕ) → not (closure c S p) ≡ true → S p ≡ false
@@ -159,7 +159,7 @@ left_over_stops c S sound = record { beside = beside; never_one = never_one }
         true≢false (sym (closure_closed c S sound i t r.pos li lt (only_fixes (closure c S) (c.row i t) r.pos r.only)) ∙ r.only.missing)
 
 -- known positions that no row adds to are the closure, if they lie in it
-pub done_is_closure : (c : Checks) (S K : ℕ → Bool) → IsSound c → Within S K → Within K (closure c S) → LacksNoneOrSeveral c K → (p : ℕ) → K p ≡ closure c S p
+pub done_is_closure : (c : Checks) (S K : ℕ → Bool) → AreSound c → Within S K → Within K (closure c S) → LacksNoneOrSeveral c K → (p : ℕ) → K p ≡ closure c S p
 done_is_closure c S K sound up inside lacks p = same_truth (K p) (closure c S p) (inside p) (closure_least c S K up closed p)
   where
     closed : IsClosed c K

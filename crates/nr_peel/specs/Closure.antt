@@ -54,7 +54,7 @@ abbrev pub IsDistinctRow : List ℕ → Type 0
 IsDistinctRow row = (p : ℕ) → times_in p row ≤ 1
 
 -- the positions of each row are those of a word, and none stands twice in a row
-pub record IsSound (c : Checks) : Type 0 where
+pub record AreSound (c : Checks) : Type 0 where
   pub in_range : (i t p : ℕ) → i < c.rows → t < c.lanes → stands p (c.row i t) ≡ true → p < c.size
   pub distinct : (i t : ℕ) → i < c.rows → t < c.lanes → IsDistinctRow (c.row i t)
 

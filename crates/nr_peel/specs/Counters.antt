@@ -22,7 +22,7 @@ pub record IsLowered (hits : ℕ → ℕ) (old new : Counters) : Type 0 where
   pub capacity : vec_capacity new.ready ≡ vec_capacity old.ready
 
 -- each counter is the number of its row's positions that aren't known; the worklist has room, and rows alone
-pub record IsTied (c : Checks) (known : List Bool) (s : Counters) : Type 0 where
+pub record AreTied (c : Checks) (known : List Bool) (s : Counters) : Type 0 where
   pub counted : (i t : ℕ) → i < c.rows → t < c.lanes → slice_index s.counts.items (i * c.lanes + t) ≡ count_by (λ p. not (bit known p)) (c.row i t)
   pub long : length s.counts.items ≡ c.rows * c.lanes
   pub inside : All (λ k. k < length s.counts.items) s.ready.items

@@ -1,5 +1,5 @@
 -- What contracts see of a peeler, and what is true of every one.
-use Rattle.std.specs.Prelude.{◌≡◌, ℕ, ◌*◌, ◌≤◌, ◌||◌, Bool, true, false, not, if◌then◌else◌, List, length, map, filter, take, count_by, Option, Some, None}
+use Rattle.std.specs.Prelude.{◌≡◌, ◌≢◌, ℕ, ◌*◌, ◌≤◌, ◌||◌, Bool, true, false, not, if◌then◌else◌, List, length, map, filter, take, count_by, Option, Some, None}
 use Rattle.std.specs.List.{range_with_len}
 use Rattle.nr_bitvec.specs.Bit.{bit}
 use Rattle.nr_graphpick.specs.declared.Graph.{Graph}
@@ -7,8 +7,8 @@ use Rattle.nr_segment.specs.Plan.{Numbers}
 use Rattle.nr_shifttable.specs.Accepted.{Entries, entries_in}
 use Rattle.nr_ldpcenc.specs.Rows.{Checks, Meets, block_checks}
 use Rattle.nr_ldpcenc.specs.Codeword.{filler}
-use Rattle.nr_peel.specs.Closure.{closure}
-use Rattle.nr_peel.specs.Certificates.{all_accepted, is_fixed_by}
+use Rattle.nr_peel.specs.Closure.{closure, stands}
+use Rattle.nr_peel.specs.Certificates.{IsStoppingSet, all_accepted, is_fixed_by}
 use Rattle.nr_peel.specs.Touches.{pairs_in}
 use Rattle.nr_peel.specs.declared.fix.Fix.{Fix}
 
@@ -51,6 +51,27 @@ most_visits s = 2 * (s.numbers.z * length (entries_in s.graph s.table))
 -- a word has the bits that are known
 abbrev pub AgreesWith : Peeling → (ℕ → Bool) → Type 0
 AgreesWith s w = (p : ℕ) → bit s.known p ≡ true → w p ≡ bit s.bits p
+
+-- what was known stays known
+abbrev pub KeepsKnown : Peeling → Peeling → Type 0
+KeepsKnown old new = (p : ℕ) → bit old.known p ≡ true → bit new.known p ≡ true
+
+-- what was known keeps its bit
+abbrev pub KeepsBits : Peeling → Peeling → Type 0
+KeepsBits old new = (p : ℕ) → bit old.known p ≡ true → bit new.bits p ≡ bit old.bits p
+
+-- each word that meets every row, has the bits that were known and has this bit at this position, has the bits that
+-- are known
+abbrev pub KeepsWords : ℕ → Bool → Peeling → Peeling → Type 0
+KeepsWords pos value old new = (w : ℕ → Bool) → Meets (checks_for old) w → AgreesWith old w → w pos ≡ value → AgreesWith new w
+
+-- where some position below K' isn't known, the positions are a stopping set beside the given ones
+abbrev pub StopsWhereLeft : Peeling → List ℕ → Type 0
+StopsWhereLeft s positions = left_of s.numbers.kdash s.known ≢ 0 → IsStoppingSet (checks_for s) s.numbers.kdash (bit s.given) positions
+
+-- the positions have the members of each stopping set beside the given ones
+abbrev pub HasEachStopping : Peeling → List ℕ → Type 0
+HasEachStopping s positions = (set : List ℕ) (p : ℕ) → IsStoppingSet (checks_for s) s.numbers.kdash (bit s.given) set → stands p set ≡ true → stands p positions ≡ true
 
 -- What is true of every peeler: its known positions are the closure of the given ones, its steps are accepted in
 -- turn from the given ones and with them are all that is known, and each pair of a row and a known position of it

@@ -1,21 +1,20 @@
 -- What a peeler keeps while it peels.
 use Rattle.std.specs.Prelude.{◌≡◌, ℕ, ◌+◌, ◌*◌, ◌^◌, ◌<◌, ◌≤◌, ◌||◌, Bool, true, false, length, count_by, replicate, sum, vec_capacity}
 use Rattle.nr_bitvec.specs.Bit.{bit}
-use Rattle.nr_segment.specs.CodeBlock.{numbers}
 use Rattle.nr_segment.specs.Plan.{Numbers}
 use Rattle.nr_ldpcenc.specs.Codeword.{filler}
 use Rattle.nr_peel.specs.Peeling.{fillers, left_of}
 use Rattle.nr_shifttable.specs.Accepted.{IsTable}
-use Rattle.nr_ldpcenc.specs.Rows.{Checks, Meets, block_checks}
+use Rattle.nr_ldpcenc.specs.Rows.{plan_checks, Checks, Meets}
 use Rattle.nr_peel.specs.Certificates.{all_accepted, is_fixed_by}
-use Rattle.nr_peel.specs.Counters.{IsListed, IsSettled, IsTied}
+use Rattle.nr_peel.specs.Counters.{IsListed, IsSettled, AreTied}
 use Rattle.nr_peel.specs.Touches.{all_pairs, spent_pairs}
 use Rattle.nr_peel.specs.declared.lifted.Lifted.{Lifted}
 use Rattle.nr_peel.specs.declared.state.State.{State}
 
 -- the parity checks of a lifted table
 abbrev pub lifted_checks : Lifted → Checks
-lifted_checks l = block_checks l.table.now l.plan.graph (numbers l.plan)
+lifted_checks l = plan_checks l.table.now l.plan
 
 -- what is true at the head of the worklist's loop, and between calls
 pub record IsWorking (c : Checks) (s : State) : Type 0 where
@@ -23,7 +22,7 @@ pub record IsWorking (c : Checks) (s : State) : Type 0 where
   pub known_long : length s.known.items ≡ c.size
   pub bits_long : length s.bits.items ≡ c.size
   pub blank : (p : ℕ) → bit s.known.items p ≡ false → bit s.bits.items p ≡ false
-  pub tied : IsTied c s.known.items s.counters
+  pub tied : AreTied c s.known.items s.counters
   pub accepted : all_accepted c (bit s.given.items) s.order.items ≡ true
   pub reached : (p : ℕ) → bit s.known.items p ≡ (bit s.given.items p || is_fixed_by s.order.items p)
   pub order_few : length s.order.items ≤ count_by (λ b. b) s.known.items

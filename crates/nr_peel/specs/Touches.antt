@@ -1,8 +1,8 @@
 -- Pairs of a row and a position of it, by which the peeler's visits are bounded.
-use Rattle.std.specs.Prelude.{ℕ, zero, suc, ◌+◌, ◌-◌, ◌*◌, ◌/◌, ◌%◌, ◌==◌, Bool, if◌then◌else◌, List, length, count_by, slice_index}
+use Rattle.std.specs.Prelude.{ℕ, zero, suc, ◌+◌, ◌*◌, ◌/◌, ◌%◌, ◌==◌, Bool, if◌then◌else◌, List, length, count_by, slice_index}
 use Rattle.nr_shifttable.specs.declared.entry.Entry.{Entry}
 use Rattle.nr_shifttable.specs.Tails.{value_in}
-use Rattle.nr_ldpcenc.specs.Rows.{Checks}
+use Rattle.nr_ldpcenc.specs.Rows.{Checks, unrotate}
 
 -- the sum of a function's values below n
 abbrev pub sum_below : (ℕ → ℕ) → ℕ → ℕ
@@ -14,20 +14,16 @@ unfoldable pub pairs_in : Checks → (ℕ → Bool) → ℕ
 pairs_in c S = sum_below (λ i. sum_below (λ t. count_by S (c.row i t)) c.lanes) c.rows
 
 -- how many positions row number k has; the rows are numbered through, block of rows by block of rows
-abbrev pub degree : Checks → ℕ → ℕ
-degree c k = length (c.row (k / c.lanes) (k % c.lanes))
+abbrev pub row_length : Checks → ℕ → ℕ
+row_length c k = length (c.row (k / c.lanes) (k % c.lanes))
 
 -- how many pairs there are of a row and a position of it
 unfoldable pub all_pairs : Checks → ℕ
-all_pairs c = sum_below (degree c) (c.rows * c.lanes)
+all_pairs c = sum_below (row_length c) (c.rows * c.lanes)
 
 -- how many of them are of rows that have no unknown position
 unfoldable pub spent_pairs : Checks → List ℕ → ℕ
-spent_pairs c counts = sum_below (λ k. if slice_index counts k == 0 then degree c k else 0) (c.rows * c.lanes)
-
--- the lane of a row that has lane u of its column, where the block is shifted by v
-abbrev pub unrotate : ℕ → ℕ → ℕ → ℕ
-unrotate z v u = (u + (z - v % z)) % z
+spent_pairs c counts = sum_below (λ k. if slice_index counts k == 0 then row_length c k else 0) (c.rows * c.lanes)
 
 -- the number of the row that has lane u of an entry's column
 abbrev pub holder : ℕ → ℕ → ℕ → Entry → ℕ

@@ -1,13 +1,13 @@
 //! Checks of fix orders and of stopping sets, which share nothing with the peeler but where the entries lie.
 
-ghost use Rattle.std.specs.Prelude.{◌≡◌, ◌≢◌, ◌*◌, ◌<◌, ◌≤◌, ◌↔◌, ℕ, true, false, Bool, IsTrue, count_by, nat_lt, length};
+ghost use Rattle.std.specs.Prelude.{◌≡◌, ◌≢◌, ◌*◌, ◌<◌, ◌≤◌, ◌↔◌, ℕ, true, false, Bool, IsTrue, List, count_by, nat_lt, length};
 ghost use Rattle.nr_bitvec.specs.Bit.{bit};
-ghost use Rattle.nr_segment.specs.CodeBlock.{numbers};
 ghost use Rattle.nr_shifttable.specs.Accepted.{IsTable};
-ghost use Rattle.nr_ldpcenc.specs.Rows.{Meets, block_checks};
+ghost use Rattle.nr_ldpcenc.specs.Rows.{plan_checks, Meets};
 ghost use Rattle.nr_peel.specs.Closure.{AgreeOn, closure, stands};
 ghost use Rattle.nr_peel.specs.Certificates.{IsBeside, IsFixOrder, IsRising, IsStoppingSet, accepts, after_steps};
 ghost use Rattle.nr_peel.specs.State.{lifted_checks};
+ghost use Rattle.nr_peel.specs.declared.fix.Fix.{Fix};
 
 use crate::fix::Fix;
 use crate::lifted::Lifted;
@@ -63,22 +63,23 @@ fn all_known(known: &Bits, count: u32) -> bool
 /// below K' known. `known` then marks also the positions of the accepted steps, up to the first that was not.
 pub fn check_order(table: &Table, plan: &Plan, known: &mut Bits, steps: &[Fix]) -> bool
     requires { length known.old.items
-        ≡ (block_checks table.now plan.now.graph (numbers plan.now)).size }
+        ≡ (plan_checks table.now plan.now).size }
     ensures yes { IsTrue result
-        ↔ IsFixOrder (block_checks table.now plan.now.graph (numbers plan.now)) plan.now.kdash
+        ↔ IsFixOrder (plan_checks table.now plan.now) plan.now.kdash
         (bit known.old.items) steps.now }
     ensures after { (p : ℕ) → bit known.new.items p
-        ≡ after_steps (block_checks table.now plan.now.graph (numbers plan.now))
+        ≡ after_steps (plan_checks table.now plan.now)
         (bit known.old.items) steps.now p }
     ensures long { length known.new.items ≡ length known.old.items }
     ensures reached { IsTrue result → (p : ℕ) → p < plan.now.kdash
-        → closure (block_checks table.now plan.now.graph (numbers plan.now))
+        → closure (plan_checks table.now plan.now)
         (bit known.old.items) p ≡ true }
     ensures words { IsTrue result → (v w : ℕ → Bool)
-        → Meets (block_checks table.now plan.now.graph (numbers plan.now)) v
-        → Meets (block_checks table.now plan.now.graph (numbers plan.now)) w
+        → Meets (plan_checks table.now plan.now) v
+        → Meets (plan_checks table.now plan.now) w
         → AgreeOn (bit known.old.items) v w → (p : ℕ) → p < plan.now.kdash → v p ≡ w p }
 {
+    // Each table is an accepted one, so that its parity checks are sound.
     let _ = table.has(plan.graph);
     let lifted = Lifted { table, plan: *plan };
     for step in steps {
@@ -154,17 +155,22 @@ fn never_one(lifted: &Lifted<'_>, set: &[u32]) -> bool
 }
 
 /// Whether the set is a stopping set beside the positions that `given` marks, for a code block of a plan: strictly
-/// ascending, in range, with no given position and with one below K', such that no row has exactly one member.
+/// ascending, in range, with no given position and with one below K', such that no row has exactly one member. Then
+/// no steps are a fix order from the given positions.
 pub fn check_stuck(table: &Table, plan: &Plan, given: &Bits, set: &[u32]) -> bool
     requires { length given.now.items
-        ≡ (block_checks table.now plan.now.graph (numbers plan.now)).size }
+        ≡ (plan_checks table.now plan.now).size }
     ensures yes { IsTrue result
-        ↔ IsStoppingSet (block_checks table.now plan.now.graph (numbers plan.now)) plan.now.kdash
+        ↔ IsStoppingSet (plan_checks table.now plan.now) plan.now.kdash
         (bit given.now.items) set.now }
     ensures out { IsTrue result → (p : ℕ) → stands p set.now ≡ true
-        → closure (block_checks table.now plan.now.graph (numbers plan.now))
+        → closure (plan_checks table.now plan.now)
         (bit given.now.items) p ≡ false }
+    ensures no_order { IsTrue result → (steps : List Fix)
+        → ¬ (IsFixOrder (plan_checks table.now plan.now) plan.now.kdash
+        (bit given.now.items) steps) }
 {
+    // Each table is an accepted one, so that its parity checks are sound.
     let _ = table.has(plan.graph);
     let lifted = Lifted { table, plan: *plan };
     let size = plan.graph.cols() * plan.z;

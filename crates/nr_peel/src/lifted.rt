@@ -3,7 +3,7 @@
 ghost use Rattle.std.specs.Prelude.{◌≡◌, ◌+◌, ◌-◌, ◌*◌, ◌%◌, ◌<◌, ◌≤◌};
 ghost use Rattle.nr_shifttable.specs.Accepted.{column_of, entries_in, row_of};
 ghost use Rattle.nr_shifttable.specs.Tails.{value_in};
-ghost use Rattle.nr_ldpcenc.specs.Rows.{place};
+ghost use Rattle.nr_ldpcenc.specs.Rows.{one_at};
 ghost use Rattle.nr_peel.specs.Touches.{holder};
 
 use nr_segment::Plan;
@@ -31,7 +31,7 @@ impl<'t> Lifted<'t> {
     pub(crate) fn place(&self, entry: &Entry, lane: u32) -> u32
         requires { lane < self.now.plan.z }
         ensures { result
-            ≡ place self.now.plan.z lane entry.now.col (value_in self.now.plan.set entry.now) }
+            ≡ one_at self.now.plan.z lane entry.now.col (value_in self.now.plan.set entry.now) }
     {
         let z = self.plan.z;
         let turned = lane + self.turn(entry);

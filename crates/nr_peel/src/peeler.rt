@@ -1,13 +1,25 @@
 //! The peeler of one code block.
 
-ghost use Rattle.std.specs.Prelude.{◌≡◌, ◌≢◌, ◌<◌, ◌≤◌, ◌↔◌, ℕ, false, true, Bool, List, IfOk, IsErrOf, slice_set};
+ghost use Rattle.std.specs.Prelude.{◌≡◌, ◌<◌, ◌≤◌, ◌↔◌, false, true, IfOk, IsErrOf, slice_set};
 ghost use Rattle.nr_bitvec.specs.Bit.{bit};
 ghost use Rattle.nr_segment.specs.CodeBlock.{numbers};
 ghost use Rattle.nr_shifttable.specs.Accepted.{has_graph};
-ghost use Rattle.nr_ldpcenc.specs.Rows.{Meets};
-ghost use Rattle.nr_peel.specs.Closure.{stands};
-ghost use Rattle.nr_peel.specs.Certificates.{IsFixOrder, IsStoppingSet};
-ghost use Rattle.nr_peel.specs.Peeling.{AgreesWith, IsPeeled, IsSameCode, IsStarted, checks_for, known_at, left_of, most_visits, unknown_in};
+ghost use Rattle.nr_peel.specs.Certificates.{IsFixOrder};
+ghost use Rattle.nr_peel.specs.Peeling.{
+  HasEachStopping,
+  IsPeeled,
+  IsSameCode,
+  IsStarted,
+  KeepsBits,
+  KeepsKnown,
+  KeepsWords,
+  StopsWhereLeft,
+  checks_for,
+  known_at,
+  left_of,
+  most_visits,
+  unknown_in,
+};
 
 use crate::fix::Fix;
 use crate::lifted::Lifted;
@@ -49,8 +61,8 @@ impl<'t> Model for Peeler<'t> {
 }
 
 impl<'t> Peeler<'t> {
-    /// A peeler of a code block of a plan, to which only the fillers are given, as zeros (TS 38.212, 5.3.2). All
-    /// memory of its life is taken here.
+    /// A peeler of a code block of a plan, to which only the fillers are given, as zeros (TS 38.212, 5.3.2). They fix
+    /// no position below K'. All memory of its life is taken here.
     ///
     /// # Errors
     ///
@@ -59,6 +71,7 @@ impl<'t> Peeler<'t> {
         ensures no_graph { IsErrOf result EncFault.NoGraph
             ↔ (has_graph plan.now.graph table.now ≡ false) }
         ensures started { IfOk result (IsStarted table.now plan.now.graph (numbers plan.now)) }
+        ensures left { IfOk result (λ s. left_of plan.now.kdash s.known ≡ plan.now.kdash) }
     {
         if !table.has(plan.graph) {
             return Err(EncFault::NoGraph);
@@ -76,12 +89,10 @@ impl<'t> Peeler<'t> {
         requires { pos < (checks_for self.old).size }
         ensures code { IsSameCode self.old self.new }
         ensures given { self.new.given ≡ slice_set self.old.given pos true }
-        ensures known { (p : ℕ) → bit self.old.known p ≡ true → bit self.new.known p ≡ true }
-        ensures bits { (p : ℕ) → bit self.old.known p ≡ true
-            → bit self.new.bits p ≡ bit self.old.bits p }
+        ensures known { KeepsKnown self.old self.new }
+        ensures bits { KeepsBits self.old self.new }
         ensures taken { bit self.old.known pos ≡ false → bit self.new.bits pos ≡ value }
-        ensures words { (w : ℕ → Bool) → Meets (checks_for self.old) w → AgreesWith self.old w
-            → w pos ≡ value → AgreesWith self.new w }
+        ensures words { KeepsWords pos value self.old self.new }
         ensures peeled { IsPeeled self.new }
     {
         self.state.learn(&self.lifted, pos, value);
@@ -104,7 +115,8 @@ impl<'t> Peeler<'t> {
     /// How many positions below K' aren't known. They are counted as they become known, so this takes the same time
     /// however long the code block is.
     pub fn left(&self) -> u32
-        ensures { result ≡ left_of self.now.numbers.kdash self.now.known }
+        ensures value { result ≡ left_of self.now.numbers.kdash self.now.known }
+        ensures peeled { IsPeeled self.now }
     {
         self.state.left
     }
@@ -141,16 +153,16 @@ impl<'t> Peeler<'t> {
     }
 
     /// All positions that aren't known, ascending. Where a position below K' is left they are a stopping set beside
-    /// the given positions, and have every other one's members. `AllocError` is want of memory.
+    /// the given positions, and have every other one's members.
+    ///
+    /// # Errors
+    ///
+    /// `AllocError` is want of memory.
     pub fn stuck(&self) -> Result<Vec<u32>, AllocError>
         ensures value { IfOk result (λ v. v.items ≡ unknown_in self.now.known) }
         ensures peeled { IsPeeled self.now }
-        ensures stops { IfOk result (λ v. left_of self.now.numbers.kdash self.now.known ≢ 0
-            → IsStoppingSet (checks_for self.now) self.now.numbers.kdash
-            (bit self.now.given) v.items) }
-        ensures largest { IfOk result (λ v. (set : List ℕ) (p : ℕ)
-            → IsStoppingSet (checks_for self.now) self.now.numbers.kdash (bit self.now.given) set
-            → stands p set ≡ true → stands p v.items ≡ true) }
+        ensures stops { IfOk result (λ v. StopsWhereLeft self.now v.items) }
+        ensures largest { IfOk result (λ v. HasEachStopping self.now v.items) }
     {
         let positions = self.state.unknown()?;
         Ok(positions)

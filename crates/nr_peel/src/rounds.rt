@@ -2,9 +2,8 @@
 
 ghost use Rattle.std.specs.Prelude.{◌≡◌, ◌+◌, ◌*◌, ◌<◌, ◌≤◌, ◌||◌, ℕ, not, false, All, IfOk, OnErr, OnOk, length};
 ghost use Rattle.nr_bitvec.specs.Bit.{bit};
-ghost use Rattle.nr_segment.specs.CodeBlock.{numbers};
 ghost use Rattle.nr_shifttable.specs.Accepted.{IsTable};
-ghost use Rattle.nr_ldpcenc.specs.Rows.{block_checks};
+ghost use Rattle.nr_ldpcenc.specs.Rows.{plan_checks};
 ghost use Rattle.nr_peel.specs.Closure.{closure, round, stands};
 ghost use Rattle.nr_peel.specs.Rounds.{CountsMarks, HasLanes, counts_one, is_counted_once, row_in, some_counts_one, some_lacks_one};
 ghost use Rattle.nr_peel.specs.State.{lifted_checks};
@@ -92,6 +91,7 @@ fn mark_row(lifted: &Lifted<'_>, row: &[Entry], lane: u32, marks: &mut Bits)
         ≡ bit marks.old.items p || stands p (row_in lifted.now row.now lane) }
     ensures long { length marks.new.items ≡ length marks.old.items }
 {
+    // A list has at most 2^24 bits, so each of its places is a `u32`.
     let _ = marks.len();
     for entry in row {
         marks.set(lifted.place(entry, lane) as usize, true);
@@ -152,13 +152,14 @@ fn go_round(lifted: &Lifted<'_>, unknown: &mut Bits, tally: &mut Tally, known: &
 /// `AllocError`, where memory is refused; the marks are then as they were.
 pub fn close(alloc: Global, table: &Table, plan: &Plan, known: &mut Bits) -> Result<(), AllocError>
     requires { length known.old.items
-        ≡ (block_checks table.now plan.now.graph (numbers plan.now)).size }
+        ≡ (plan_checks table.now plan.now).size }
     ensures closed { OnOk result ((p : ℕ) → bit known.new.items p
-        ≡ closure (block_checks table.now plan.now.graph (numbers plan.now))
+        ≡ closure (plan_checks table.now plan.now)
         (bit known.old.items) p) }
     ensures long { length known.new.items ≡ length known.old.items }
-    ensures err { OnErr result (known.new.items ≡ known.old.items) }
+    ensures err { OnErr result (known.new ≡ known.old) }
 {
+    // Each table is an accepted one, so that its parity checks are sound.
     let _ = table.has(plan.graph);
     let lifted = Lifted { table, plan: *plan };
     let mut tally = Tally::new(alloc, plan.z)?;

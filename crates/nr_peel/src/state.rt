@@ -5,12 +5,12 @@ ghost use Rattle.nr_bitvec.specs.Bit.{bit};
 ghost use Rattle.nr_shifttable.specs.Accepted.{IsTable, column_of, entries_in};
 ghost use Rattle.nr_shifttable.specs.Tails.{value_in};
 ghost use Rattle.nr_ldpcenc.specs.Parity.{parity};
-ghost use Rattle.nr_ldpcenc.specs.Rows.{Meets, place};
+ghost use Rattle.nr_ldpcenc.specs.Rows.{Meets, one_at};
 ghost use Rattle.nr_segment.specs.CodeBlock.{numbers};
 ghost use Rattle.nr_peel.specs.Peeling.{unknown_in};
 ghost use Rattle.nr_peel.specs.Closure.{IsOnlyMissing};
 ghost use Rattle.nr_peel.specs.Touches.{holder};
-ghost use Rattle.nr_peel.specs.Counters.{Follows, IsListed, IsLowered, IsSettled, IsTied};
+ghost use Rattle.nr_peel.specs.Counters.{Follows, IsListed, IsLowered, IsSettled, AreTied};
 ghost use Rattle.nr_peel.specs.State.{Grows, HasKnown, IsBlank, IsCounted, IsFilled, IsVisited, IsWorking, LearnsWords, lifted_checks};
 
 use crate::counters::Counters;
@@ -88,15 +88,15 @@ impl State {
         requires bits { length self.old.bits.items ≡ length self.old.known.items }
         requires short { length self.old.known.items < 2 ^ 32 }
         requires one { count_by (λ p. not (bit self.old.known.items p))
-            (map (λ e. place lifted.now.plan.z lane e.col (value_in lifted.now.plan.set e))
+            (map (λ e. one_at lifted.now.plan.z lane e.col (value_in lifted.now.plan.set e))
             row.now) ≡ 1 }
         requires few { self.old.counters.touches + length row.now < 2 ^ 64 }
         ensures found { IsOnlyMissing (bit self.old.known.items)
-            (map (λ e. place lifted.now.plan.z lane e.col (value_in lifted.now.plan.set e))
+            (map (λ e. one_at lifted.now.plan.z lane e.col (value_in lifted.now.plan.set e))
             row.now) result.0 }
         ensures inside { result.0 < length self.old.known.items }
         ensures sum { result.1 ≡ parity (bit self.old.bits.items)
-            (map (λ e. place lifted.now.plan.z lane e.col (value_in lifted.now.plan.set e))
+            (map (λ e. one_at lifted.now.plan.z lane e.col (value_in lifted.now.plan.set e))
             row.now) }
         ensures visited { IsVisited (length row.now) self.old self.new }
     {
@@ -120,7 +120,7 @@ impl State {
         requires known_long { length self.old.known.items ≡ (lifted_checks lifted.now).size }
         requires bits_long { length self.old.bits.items ≡ (lifted_checks lifted.now).size }
         requires unknown { bit self.old.known.items pos ≡ false }
-        requires tied { IsTied (lifted_checks lifted.now) self.old.known.items self.old.counters }
+        requires tied { AreTied (lifted_checks lifted.now) self.old.known.items self.old.counters }
         requires few { self.old.counters.touches + sum self.old.counters.counts.items + 1 < 2 ^ 64 }
         requires counted { IsCounted lifted.now.plan.kdash self.old }
         ensures given { self.new.given ≡ self.old.given }
@@ -133,7 +133,7 @@ impl State {
             (column_of (entries_in lifted.now.plan.graph lifted.now.table.now)
             (pos / lifted.now.plan.z)))
             self.old.counters self.new.counters }
-        ensures tied { IsTied (lifted_checks lifted.now) self.new.known.items self.new.counters }
+        ensures tied { AreTied (lifted_checks lifted.now) self.new.known.items self.new.counters }
         ensures counted { IsCounted lifted.now.plan.kdash self.new }
     {
         self.known.set(pos as usize, true);

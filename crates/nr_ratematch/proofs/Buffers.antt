@@ -6,8 +6,9 @@ use Rattle.nr_graphpick.specs.Graph.{cols_of}
 use Rattle.nr_graphpick.specs.declared.Graph.{Graph}
 use Rattle.nr_graphpick.specs.declared.Graph.TheVariants.{One, Two}
 use Rattle.nr_segment.specs.Plan.{Numbers, IsSound, PlansAreSound}
+use Rattle.nr_ldpcenc.specs.Codeword.{filler}
 use Rattle.nr_ratematch.specs.Rounds.{index_of, index_from}
-use Rattle.nr_ratematch.specs.Selection.{Circular, IsCircular, IsSent, reference_size, buffer_size, circular_of, start_columns, start_of, is_filler, live, place_of, SelectionEnds, PlacesAreSent, BuffersAreCircular}
+use Rattle.nr_ratematch.specs.Selection.{Circular, IsCircular, IsSent, reference_size, buffer_size, circular_of, start_columns, start_of, live, place_of, SelectionEnds, PlacesAreSent, BuffersAreCircular}
 use Rattle.nr_ratematch.specs.declared.fault.RmFault.TheVariants.{NoBuffer}
 use Rattle.nr_ratematch.proofs.Ranges.{Skips, rank, below_or_not, index-low, index-high}
 use Rattle.nr_ratematch.proofs.Rounding.{length-turned, get_or-turned}
@@ -32,7 +33,7 @@ count_of b = rank_of b b.ncb
 
 -- a place has no filler
 abbrev keeps : Circular → ℕ → Bool
-keeps b n = not (is_filler b (n + 2 * b.z))
+keeps b n = not (filler b.kdash b.k (n + 2 * b.z))
 
 pub skips-buffer : (b : Circular) → IsCircular b → Skips (keeps b) (front_of b) (end_of b) b.ncb
 skips-buffer b ok =
@@ -122,7 +123,7 @@ coded-some One z some = omega arith
 coded-some Two z some = omega arith
 
 -- a place of the buffer that has no filler
-sent-place : (b : Circular) (n : ℕ) → IsCircular b → n < b.ncb → is_filler b (n + 2 * b.z) ≡ false
+sent-place : (b : Circular) (n : ℕ) → IsCircular b → n < b.ncb → filler b.kdash b.k (n + 2 * b.z) ≡ false
     → IsSent b (n + 2 * b.z)
 sent-place b n ok below no_filler =
     let within = ok.within in

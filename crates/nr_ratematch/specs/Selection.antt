@@ -1,11 +1,12 @@
 -- Bit selection, TS 38.212 clause 5.4.2.1: which bits of a codeword are sent, out of its circular buffer.
-use Rattle.std.specs.Prelude.{◌≡◌, ℕ, ◌+◌, ◌-◌, ◌*◌, ◌/◌, ◌%◌, ◌<◌, ◌≤◌, ◌==◌, Bool, false, nat_le, nat_lt, ◌&&◌, not, min, if◌then◌else◌, Option, Some, None, Result, Ok, Err, List, [], ◌∷◌, length, map, filter, slice_index}
+use Rattle.std.specs.Prelude.{◌≡◌, ℕ, ◌+◌, ◌-◌, ◌*◌, ◌/◌, ◌%◌, ◌<◌, ◌≤◌, ◌==◌, Bool, false, not, min, if◌then◌else◌, Option, Some, None, Result, Ok, Err, List, [], ◌∷◌, length, map, filter, slice_index}
 use Rattle.std.specs.List.{range_with_len}
 use Rattle.nr_bitvec.specs.Bit.{bit}
 use Rattle.nr_graphpick.specs.Graph.{cols_of, info_cols_of}
 use Rattle.nr_graphpick.specs.declared.Graph.{Graph}
 use Rattle.nr_graphpick.specs.declared.Graph.TheVariants.{One, Two}
 use Rattle.nr_segment.specs.Plan.{Numbers, plan_of}
+use Rattle.nr_ldpcenc.specs.Codeword.{filler}
 use Rattle.nr_ratematch.specs.declared.fault.RmFault.{RmFault}
 use Rattle.nr_ratematch.specs.declared.fault.RmFault.TheVariants.{NoBuffer}
 
@@ -55,14 +56,10 @@ start_columns Two = 0 ∷ 13 ∷ 25 ∷ 43 ∷ []
 unfoldable pub start_of : Circular → ℕ → ℕ
 start_of b rv = (slice_index (start_columns b.graph) rv * b.ncb) / ((cols_of b.graph - 2) * b.z) * b.z
 
--- a position of the codeword is a filler
-abbrev pub is_filler : Circular → ℕ → Bool
-is_filler b p = nat_le b.kdash p && nat_lt p b.k
-
 -- once round the buffer from k0 on, without the fillers; place n of the buffer, d_n, is position n + 2 Zc of the codeword
 unfoldable pub live : Circular → ℕ → List ℕ
 live b rv =
-    filter (λ n. not (is_filler b (n + 2 * b.z))) (map (λ j. (start_of b rv + j) % b.ncb) (range_with_len 0 b.ncb))
+    filter (λ n. not (filler b.kdash b.k (n + 2 * b.z))) (map (λ j. (start_of b rv + j) % b.ncb) (range_with_len 0 b.ncb))
 
 -- the position in the codeword of the k-th selected bit: round and round
 unfoldable pub place_of : Circular → ℕ → ℕ → ℕ
@@ -77,7 +74,7 @@ pub record IsSent (b : Circular) (p : ℕ) : Type 0 where
   pub unpunctured : 2 * b.z ≤ p
   pub buffered : p < b.ncb + 2 * b.z
   pub coded : p < cols_of b.graph * b.z
-  pub no_filler : is_filler b p ≡ false
+  pub no_filler : filler b.kdash b.k p ≡ false
 
 -- once round every buffer there is a bit that can be sent, so that selection ends
 abbrev pub SelectionEnds : Type 0

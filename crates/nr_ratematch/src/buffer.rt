@@ -1,4 +1,4 @@
-// The circular buffer of a code block.
+//! The circular buffer of a code block.
 
 ghost use Rattle.std.specs.Prelude.{◌≡◌, ℕ, ◌<◌};
 ghost use Rattle.nr_segment.specs.CodeBlock.{numbers};

@@ -1,4 +1,4 @@
-// Why bits are not selected.
+//! Why bits are not selected.
 
 use thiserror::Error;
 

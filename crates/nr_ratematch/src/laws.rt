@@ -1,4 +1,4 @@
-// The laws of bit selection.
+//! Laws of bit selection, each the contract of a function that does nothing.
 
 ghost use Rattle.nr_ratematch.specs.Selection.{SelectionEnds, PlacesAreSent, BuffersAreCircular};
 

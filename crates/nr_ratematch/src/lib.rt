@@ -2,7 +2,9 @@
 //! `lengths` shares the bits out to the scheduled code blocks, a `Buffer` says which position of the codeword each
 //! selected bit has, from the redundancy version's start on, and `select` takes the bits. Their contracts cite
 //! specs/Lengths.antt and specs/Selection.antt: the whole circular buffer once round, without its fillers.
-//! Laws: a selected position is never punctured and no filler. Stands on nr_ldpcenc; only `select` takes memory.
+//! Laws: a selected position is never punctured and no filler. Only `select` takes memory.
+//! Stands on nr_bitvec, nr_graphpick, nr_segment and nr_ldpcenc, with `arrayvec` for the lengths and `thiserror` for
+//! the fault.
 #![tactic(auto)]
 
 mod buffer;

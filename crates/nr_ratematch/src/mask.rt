@@ -1,4 +1,5 @@
-// Which code blocks of a transmission are scheduled.
+//! Which code blocks of a transmission are scheduled.
+
 ghost use Rattle.std.specs.Prelude.{◌≡◌, ◌<◌};
 ghost use Rattle.nr_ratematch.specs.Lengths.{scheduled};
 

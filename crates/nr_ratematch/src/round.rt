@@ -1,4 +1,4 @@
-// Once round the buffer, in numbers.
+//! Once round the buffer, in numbers.
 
 ghost use Rattle.std.specs.Prelude.{◌≡◌, ◌+◌, ◌^◌, ◌<◌, ◌≤◌};
 ghost use Rattle.nr_ratematch.specs.Rounds.{index_from};

@@ -1,4 +1,4 @@
-// The bits of a code block that are sent.
+//! The bits of a code block that are sent.
 
 ghost use Rattle.std.specs.Prelude.{◌≡◌, ◌*◌, ◌^◌, ◌<◌, ◌≤◌, length, IfOk};
 ghost use Rattle.nr_graphpick.specs.Graph.{cols_of};

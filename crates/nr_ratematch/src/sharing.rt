@@ -1,4 +1,5 @@
-// How the bits of a transmission are shared out to its code blocks.
+//! How the bits of a transmission are shared out to its code blocks.
+
 ghost use Rattle.std.specs.Prelude.{◌≡◌, ◌*◌, ◌^◌, ◌<◌, ◌≤◌, IfOk};
 ghost use Rattle.nr_ratematch.specs.Lengths.{scheduled, scheduled_count, is_order, share_of, shares_of, lengths_said, AreSaid, IsShared, LengthsAreShared};
 

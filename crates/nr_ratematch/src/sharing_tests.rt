@@ -1,4 +1,5 @@
-// The lengths of code blocks, by hand from TS 38.212, 5.4.2.1.
+//! The lengths of code blocks, by hand from TS 38.212, 5.4.2.1.
+
 use super::*;
 use nr_graphpick::Graph;
 use nr_segment::{Plan, plan};

@@ -1,3 +1,5 @@
+//! Buffers, where their redundancy versions begin, and what these select, by hand from TS 38.212, 5.4.2.1.
+
 use super::*;
 use nr_graphpick::Graph;
 use nr_ldpcenc::Word;

@@ -1,15 +1,16 @@
 -- From the shape of the parity columns, in all sets, back to the tests that decide acceptance.
-use Rattle.std.proofs.Common.{◌≡◌, ℕ, zero, suc, ◌+◌, ◌<◌, ◌==◌, nat_lt, nat_le, Bool, true, false, not, ◌&&◌, ◌||◌, ◌⊎◌, inl, inr, ⊎_elim, List, [], ◌∷◌, length, map, refl, sym, ap, ◌∙◌, arith}
+use Rattle.std.proofs.Common.{◌≡◌, ℕ, zero, suc, ◌+◌, ◌<◌, ◌≤◌, ◌==◌, nat_lt, nat_le, Bool, true, false, not, ◌&&◌, ◌||◌, ◌⊎◌, inl, inr, ⊎_elim, List, [], ◌∷◌, length, map, refl, sym, ap, ◌∙◌, arith}
 use Rattle.std.specs.Prelude.{Option, Some, None, Ok, slice_index}
 use Rattle.std.specs.List.{filter, list_all, All}
 use Rattle.std.proofs.lemmas.List.Elements.{All-head, All-tail, All-filter, All-weaker, filter_passes}
-use Rattle.std.proofs.lemmas.Bool.{and_from, eq-eqb, cases_lt, lt-ltb}
+use Rattle.std.proofs.lemmas.Bool.{and_from, eq-eqb, cases_lt, lt-ltb, ltb-false}
 use Rattle.std.proofs.lemmas.Bool.Decides.{nat_tests}
 use Rattle.nr_graphpick.specs.declared.Graph.{Graph}
 use Rattle.nr_graphpick.specs.declared.Graph.TheVariants.{One, Two}
 use Rattle.nr_graphpick.specs.Graph.{rows_of, info_cols_of}
 use Rattle.nr_shifttable.specs.declared.entry.Entry.{Entry}
-use Rattle.nr_shifttable.specs.Accepted.{row_of, tail, zero_at, lone_zero, zero_pair, two_agree, each_below, three_agree, rows_agree, first_column_ok, diagonals_ok, lacks_row, own_column_ok, extension_ok, is_present, rows_present, graph_checked, Ascending, IsInRange}
+use Rattle.nr_shifttable.specs.Accepted.{row_of, tail, zero_at, lone_zero, zero_pair, two_agree, each_below, three_agree, rows_agree, first_column_ok, diagonals_ok, core_ok, lacks_row, own_column_ok, extension_ok, is_present, rows_present, graph_checked, Ascending, IsInRange}
+use Rattle.nr_shifttable.specs.Faults.{HasCoreRows}
 use Rattle.nr_shifttable.specs.Tails.{value_in, tail_of, HasMiddle, HasCore, HasShape, ShapeIsAccepted}
 use Rattle.nr_shifttable.proofs.Order.{accepted-from}
 use Rattle.nr_shifttable.proofs.Shape.{Diagonals, at_column, cell, tail-none, tail-some, values_of}
@@ -27,7 +28,7 @@ none_some : (y : Entry) → ◌≡◌ {A = Option Entry} None (Some y) → ⊥
 none_some y e = cc e
 
 -- eight values, each 0
-abbrev Eight : Entry → Type 0
+abbrev pub Eight : Entry → Type 0
 Eight e = length e.values ≡ 8
 
 zeros : (vs : List ℕ) → ((k : ℕ) → k < length vs → slice_index vs k ≡ 0) → list_all (λ v. v == 0) vs ≡ true
@@ -147,15 +148,15 @@ unfolding rows_agree
 rows_agree-from a b c d x y z e (inl m) f t = rw (e, m.0, m.1, f) t
 rows_agree-from a b c d x y z e (inr m) f t = rw (e, m.0, m.1, f) t
 
--- all tests of a base graph, from its shape in all sets
-module _ (es : List Entry) (n rows : ℕ) (up : Ascending 0 es) (eight : All Eight es) (shape : (set : ℕ) → set < 8 → HasShape es set n rows) where
-  tail-eight : (i from : ℕ) → All Eight (tail es i from)
-  tail-eight i from = All-filter (λ e. nat_le from e.col) Eight (row_of es i) (All-filter (λ e. e.row == i) Eight es eight)
+tail-eight : (es : List Entry) → All Eight es → (i from : ℕ) → All Eight (tail es i from)
+tail-eight es eight i from = All-filter (λ e. nat_le from e.col) Eight (row_of es i) (All-filter (λ e. e.row == i) Eight es eight)
 
+-- the tests of the core rows, from their shape in all sets
+module _ (es : List Entry) (n : ℕ) (up : Ascending 0 es) (eight : All Eight es) (core : (set : ℕ) → set < 8 → HasCoreRows es set n) where
   values_agree : (x y z : Entry) → at_column es n 0 ≡ Some x → MiddleIs es n y → at_column es n 3 ≡ Some z → (set : ℕ) → set < 8
       → two_agree (value_in set x) (value_in set y) (value_in set z) ≡ true
   values_agree x y z first middle last set lt =
-      let s = shape set lt in
+      let s = core set lt in
       let row0 = present es set n 0 up s.first ((n + 1, 0) ∷ []) s.core.first in
       let mid = middle-there es set n s.middle up s.core.middle in
       let row3 = present es set n 3 up s.last ((n + 3, 0) ∷ []) s.core.last in
@@ -167,7 +168,7 @@ module _ (es : List Entry) (n rows : ℕ) (up : Ascending 0 es) (eight : All Eig
   first_column-from : first_column_ok n es ≡ true
   unfolding first_column_ok three_agree
   first_column-from =
-      let s = shape 0 (omega arith) in
+      let s = core 0 (omega arith) in
       let row0 = present es 0 n 0 up s.first ((n + 1, 0) ∷ []) s.core.first in
       let mid = middle-there es 0 n s.middle up s.core.middle in
       let row3 = present es 0 n 3 up s.last ((n + 3, 0) ∷ []) s.core.last in
@@ -175,36 +176,48 @@ module _ (es : List Entry) (n rows : ℕ) (up : Ascending 0 es) (eight : All Eig
       (each_below-all 8 (λ k. two_agree (slice_index row0.0.values k) (slice_index mid.0.values k) (slice_index row3.0.values k)) (λ k lt. values_agree row0.0 mid.0 row3.0 row0.1 mid.1 row3.1 k lt))
 
   diagonal-in : (set : ℕ) → set < 8 → Diagonals es set n
-  diagonal-in set lt = let s = shape set lt in diagonals-from es set n s.first s.middle s.last up s.core
+  diagonal-in set lt = let s = core set lt in diagonals-from es set n s.first s.middle s.last up s.core
 
   diagonals_ok-from : diagonals_ok n es ≡ true
   unfolding diagonals_ok
   diagonals_ok-from =
       let two : n + 2 ≡ (n + 1) + 1 = omega arith in
       let three : n + 3 ≡ (n + 2) + 1 = omega arith in
-      let a = lone_zero-from (n + 1) (tail es 0 (n + 1)) (tail-eight 0 (n + 1)) (λ set lt. (diagonal-in set lt).row0) in
-      let b = zero_pair-from (n + 1) (tail es 1 (n + 1)) (tail-eight 1 (n + 1)) (λ set lt. (diagonal-in set lt).row1 ∙ ap (λ j. (n + 1, 0) ∷ (j, 0) ∷ []) two) in
-      let c = zero_pair-from (n + 2) (tail es 2 (n + 1)) (tail-eight 2 (n + 1)) (λ set lt. (diagonal-in set lt).row2 ∙ ap (λ j. (n + 2, 0) ∷ (j, 0) ∷ []) three) in
-      let d = lone_zero-from (n + 3) (tail es 3 (n + 1)) (tail-eight 3 (n + 1)) (λ set lt. (diagonal-in set lt).row3) in
+      let a = lone_zero-from (n + 1) (tail es 0 (n + 1)) (tail-eight es eight 0 (n + 1)) (λ set lt. (diagonal-in set lt).row0) in
+      let b = zero_pair-from (n + 1) (tail es 1 (n + 1)) (tail-eight es eight 1 (n + 1)) (λ set lt. (diagonal-in set lt).row1 ∙ ap (λ j. (n + 1, 0) ∷ (j, 0) ∷ []) two) in
+      let c = zero_pair-from (n + 2) (tail es 2 (n + 1)) (tail-eight es eight 2 (n + 1)) (λ set lt. (diagonal-in set lt).row2 ∙ ap (λ j. (n + 2, 0) ∷ (j, 0) ∷ []) three) in
+      let d = lone_zero-from (n + 3) (tail es 3 (n + 1)) (tail-eight es eight 3 (n + 1)) (λ set lt. (diagonal-in set lt).row3) in
       and_from _ _ (and_from _ _ (and_from _ _ a b) c) d
 
+  pub core_ok-from : core_ok n es ≡ true
+  core_ok-from = and_from (first_column_ok n es) (diagonals_ok n es) first_column-from diagonals_ok-from
+
+-- the test of the rows from 4 on that have an entry, from their shape in all sets
+module _ (es : List Entry) (n rows : ℕ) (eight : All Eight es)
+    (own : (set i : ℕ) → set < 8 → 4 ≤ i → i < rows → 0 < length (row_of es i) → tail_of es set (n + 4) i ≡ (n + i, 0) ∷ []) where
   own-from : (i : ℕ) → i < rows → own_column_ok n es i ≡ true
-  own-from i lt = ⊎_elim
-      (λ early. first_true (nat_lt i 4) (lacks_row es i) (lone_zero (n + i) (tail es i (n + 4))) (lt-ltb i 4 early))
-      (λ late. last_true (nat_lt i 4) (lacks_row es i) (lone_zero (n + i) (tail es i (n + 4)))
-      (lone_zero-from (n + i) (tail es i (n + 4)) (tail-eight i (n + 4)) (λ set small. (shape set small).extension i late lt)))
-      (cases_lt i 4)
+  own-from i lt = by (nat_lt i 4) (lacks_row es i) refl refl
     where
-      first_true : (a b c : Bool) → a ≡ true → (a || b || c) ≡ true
-      first_true a b c e = grind arith
+      some : (k : ℕ) → (k == 0) ≡ false → 0 < k
+      some k h = grind (arith, nat_tests)
 
-      last_true : (a b c : Bool) → c ≡ true → (a || b || c) ≡ true
-      last_true a b c e = grind arith
+      by : (a b : Bool) → nat_lt i 4 ≡ a → lacks_row es i ≡ b → (a || b || lone_zero (n + i) (tail es i (n + 4))) ≡ true
+      by true b early there = grind arith
+      by false true late none = refl
+      by false false late there =
+          lone_zero-from (n + i) (tail es i (n + 4)) (tail-eight es eight i (n + 4))
+          (λ set small. own set i small (ltb-false i 4 late) lt (some (length (row_of es i)) there))
 
+  pub extension_ok-from : extension_ok n rows es ≡ true
+  unfolding extension_ok
+  extension_ok-from = each_below-all rows (own_column_ok n es) own-from
+
+-- the test that the rows from 4 on have an entry, where they have one
+module _ (es : List Entry) (rows : ℕ) (there : (i : ℕ) → 4 ≤ i → i < rows → 0 < length (row_of es i)) where
   there-from : (i : ℕ) → i < rows → is_present es i ≡ true
   there-from i lt = ⊎_elim
       (λ early. first_true (nat_lt i 4) (lacks_row es i) (lt-ltb i 4 early))
-      (λ late. last_true (nat_lt i 4) (lacks_row es i) (some (row_of es i) ((shape 0 (omega arith)).extension i late lt)))
+      (λ late. last_true (nat_lt i 4) (lacks_row es i) (some (length (row_of es i)) (there i late lt)))
       (cases_lt i 4)
     where
       first_true : (a b : Bool) → a ≡ true → (a || not b) ≡ true
@@ -213,13 +226,29 @@ module _ (es : List Entry) (n rows : ℕ) (up : Ascending 0 es) (eight : All Eig
       last_true : (a b : Bool) → b ≡ false → (a || not b) ≡ true
       last_true a b e = grind arith
 
-      some : (xs : List Entry) → map (cell 0) (filter (λ e. nat_le (n + 4) e.col) xs) ≡ (n + i, 0) ∷ [] → (length xs == 0) ≡ false
-      some [] h = cc h
-      some (x ∷ xs) h = grind (arith, nat_tests)
+      some : (k : ℕ) → 0 < k → (k == 0) ≡ false
+      some k h = grind (arith, nat_tests)
 
-  tests-from_shape : (first_column_ok n es ≡ true) × (diagonals_ok n es ≡ true) × (extension_ok n rows es ≡ true) × (rows_present rows es ≡ true)
-  unfolding extension_ok rows_present
-  tests-from_shape = (first_column-from, diagonals_ok-from, each_below-all rows (own_column_ok n es) own-from, each_below-all rows (is_present es) there-from)
+  pub rows_present-from : rows_present rows es ≡ true
+  unfolding rows_present
+  rows_present-from = each_below-all rows (is_present es) there-from
+
+-- what a row's cells past a column say of the row
+row-there : (es : List Entry) (set from i : ℕ) (c : ℕ × ℕ) → tail_of es set from i ≡ c ∷ [] → 0 < length (row_of es i)
+row-there es set from i c h = some (row_of es i) h
+  where
+    some : (xs : List Entry) → map (cell set) (filter (λ e. nat_le from e.col) xs) ≡ c ∷ [] → 0 < length xs
+    some [] h = cc h
+    some (x ∷ xs) h = omega arith
+
+-- the tests of a base graph's entries, from its shape in all sets
+tests-from_shape : (es : List Entry) (n rows : ℕ) → Ascending 0 es → All Eight es → ((set : ℕ) → set < 8 → HasShape es set n rows)
+    → (core_ok n es ≡ true) × (extension_ok n rows es ≡ true) × (rows_present rows es ≡ true)
+tests-from_shape es n rows up eight shape = (
+  core_ok-from es n up eight (λ set lt. let s = shape set lt in record { first = s.first; middle = s.middle; last = s.last; core = s.core }),
+  extension_ok-from es n rows eight (λ set i small late lt some. (shape set small).extension i late lt),
+  rows_present-from es rows (λ i late lt. row-there es 0 (n + 4) i (n + i, 0) ((shape 0 (omega arith)).extension i late lt)),
+)
 
 graph-well : (g : Graph) (es : List Entry) → Ascending 0 es → All (IsInRange g) es → ((set : ℕ) → 0 < length es → set < 8 → HasShape es set (info_cols_of g) (rows_of g)) → graph_checked g es ≡ Ok tt
 unfolding graph_checked
@@ -227,7 +256,7 @@ graph-well g [] up range shape = refl
 graph-well g (e ∷ es) up range shape =
     let some : (length (e ∷ es) == 0) ≡ false = nonempty (length es) in
     let tests = tests-from_shape (e ∷ es) (info_cols_of g) (rows_of g) up (All-weaker (IsInRange g) Eight (λ x r. r.eight) (e ∷ es) range) (λ set lt. shape set (omega arith) lt) in
-    rw (some, tests.0, tests.1, tests.2, tests.3) refl
+    rw (some, tests.0, tests.1, tests.2) refl
   where
     nonempty : (k : ℕ) → (suc k == 0) ≡ false
     nonempty k = grind (arith, nat_tests)

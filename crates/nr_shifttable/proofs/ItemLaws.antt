@@ -161,7 +161,7 @@ unfolding numeral
 header-number text is = ap short_number is
 
 -- a header writes no item
-header-numbers : (r : Record) → is_header r ≡ true → short_numbers r ≡ None
+pub header-numbers : (r : Record) → is_header r ≡ true → short_numbers r ≡ None
 header-numbers [] e = cc e
 header-numbers (f ∷ fs) e = ap (option_and_then (λ n. option_map (λ ns. n ∷ ns) (short_numbers fs))) (header-number (stripped f) ((bytes_eq-Decides (stripped f) (codes "graph")).0 e))
 

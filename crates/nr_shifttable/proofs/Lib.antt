@@ -13,3 +13,5 @@ mod Lines
 mod CoreSums
 mod Converse
 mod Written
+mod Faults
+mod RecordOrder

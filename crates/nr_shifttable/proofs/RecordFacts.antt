@@ -10,7 +10,7 @@ use Rattle.csv.specs.declared.parser.State.{State}
 use Rattle.csv.specs.declared.parser.State.TheVariants as st
 use Rattle.csv.specs.declared.reader.Reader.{Reader}
 use Rattle.csv.specs.declared.reader.Trim.TheVariants as trim
-use Rattle.nr_shifttable.specs.Records.{IsPlain, Record, records_left, rows_before_end, text_left}
+use Rattle.nr_shifttable.specs.Records.{IsPlainReader, Record, records_left, rows_before_end, text_left}
 
 -- what is in an option is determined
 some-same : {X : Type 0} {x y : X} → Some x ≡ Some y → x ≡ y
@@ -166,9 +166,9 @@ reached-one s s2 text rest fields b h = (
 )
 
 -- a read that found a record takes the first of those left, and leaves the reader to go on
-pub reads-one : (a b : Reader (Bor (List ℕ))) (fields : Record) → IsPlain a → ReadRecord (λ s. Some s.now) a b true fields
+pub reads-one : (a b : Reader (Bor (List ℕ))) (fields : Record) → IsPlainReader a → ReadRecord (λ s. Some s.now) a b true fields
     → ReadsOn a b → has_failed b ≡ has_failed a
-    → (rows_before_end false a ≡ fields ∷ rows_before_end false b) × IsPlain b
+    → (rows_before_end false a ≡ fields ∷ rows_before_end false b) × IsPlainReader b
 unfolding Reached
 reads-one a b fields plain read on alive =
     let known = text-known a plain.alive in
@@ -186,7 +186,7 @@ reads-one a b fields plain read on alive =
     )
 
 -- a read that found none was at the end
-pub reads-none : (a b : Reader (Bor (List ℕ))) (fields : Record) → IsPlain a → ReadRecord (λ s. Some s.now) a b false fields → rows_before_end false a ≡ []
+pub reads-none : (a b : Reader (Bor (List ℕ))) (fields : Record) → IsPlainReader a → ReadRecord (λ s. Some s.now) a b false fields → rows_before_end false a ≡ []
 reads-none a b fields plain read =
     let known = text-known a plain.alive in
     let none : next_record default_config a.state [] [] known.0 ≡ None = rows-end (λ (s : Bor (List ℕ)). Some s.now) a b fields default_config known.0 plain.config known.1 read in
@@ -195,10 +195,10 @@ reads-none a b fields plain read =
 -- A read's answer, with another error in the place of its own: what was left is the record and what is left now,
 -- or nothing; and where there was a record, the reader goes on.
 pub row-read : {E F : Type 0} (Q : E → Type 0) (a b : Reader (Bor (List ℕ))) (fields : Record) (r : Result Bool E) (s : Result Bool F)
-    → MatchResult r (λ x. s ≡ Ok x) Q → is_ok s ≡ is_ok r → IsPlain a
+    → MatchResult r (λ x. s ≡ Ok x) Q → is_ok s ≡ is_ok r → IsPlainReader a
     → IfOk r (λ found. reader_trim a ≡ trim.None → Ready a → ReadRecord (λ s. Some s.now) a b found fields)
     → IfOk r (λ _. has_failed b ≡ has_failed a) → IfOk r (λ found. found ≡ true → ReadsOn a b)
-    → IfOk s (λ found. found ≡ true → IsPlain b) × IfOk s (λ found. rows_before_end false a ≡ cond found (fields ∷ rows_before_end false b) [])
+    → IfOk s (λ found. found ≡ true → IsPlainReader b) × IfOk s (λ found. rows_before_end false a ≡ cond found (fields ∷ rows_before_end false b) [])
 row-read Q a b fields (Ok true) s m v plain read alive on =
     let one = reads-one a b fields plain (read plain.trim plain.ready) (on refl) alive in
     (rw m (λ h. one.1), rw m one.0)

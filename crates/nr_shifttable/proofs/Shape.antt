@@ -13,7 +13,8 @@ use Rattle.nr_shifttable.specs.declared.entry.Entry.{Entry}
 use Rattle.nr_shifttable.specs.declared.fault.TableFault.{TableFault}
 use Rattle.nr_shifttable.specs.declared.fault.TableFault.TheVariants.{Core, Extension, MissingRow, Empty}
 use Rattle.nr_graphpick.specs.Refusal.{◌>>=◌}
-use Rattle.nr_shifttable.specs.Accepted.{Entries, place, row_of, tail, zero_at, lone_zero, zero_pair, two_agree, each_below, three_agree, rows_agree, first_column_ok, diagonals_ok, core_ok, lacks_row, own_column_ok, extension_ok, is_present, rows_present, graph_checked, accepted, IsAccepted, Ascending}
+use Rattle.nr_shifttable.specs.Accepted.{Entries, entry_place, row_of, tail, zero_at, lone_zero, zero_pair, two_agree, each_below, three_agree, rows_agree, first_column_ok, diagonals_ok, core_ok, lacks_row, own_column_ok, extension_ok, is_present, rows_present, graph_checked, accepted, IsAcceptedTable, Ascending}
+use Rattle.nr_shifttable.specs.Faults.{HasCoreRows}
 use Rattle.nr_shifttable.specs.Tails.{value_in, tail_of, HasMiddle, HasShape, AcceptedHasShape}
 use Rattle.nr_shifttable.proofs.Order.{ascending-all}
 use Rattle.nr_shifttable.proofs.Slices.{filter_all}
@@ -61,8 +62,8 @@ row-rising : (low : ℕ) (es : List Entry) (i : ℕ) → Ascending low es → Ri
 row-rising low [] i up = tt
 row-rising low (e ∷ es) i up =
     let rest : List Entry = row_of es i in
-    let more = row-rising (place e + 1) es i up.2 in
-    let after : All (λ x. place e + 1 ≤ place x) rest = All-filter (λ x. x.row == i) (λ x. place e + 1 ≤ place x) es (ascending-all (place e + 1) es up.2) in
+    let more = row-rising (entry_place e + 1) es i up.2 in
+    let after : All (λ x. entry_place e + 1 ≤ entry_place x) rest = All-filter (λ x. x.row == i) (λ x. entry_place e + 1 ≤ entry_place x) es (ascending-all (entry_place e + 1) es up.2) in
     let same : All (λ x. (x.row == i) ≡ true) rest = filter_passes (λ x. x.row == i) es in
     cond_both (e.row == i) (e ∷ rest) rest Rising
     (λ t. ((λ k d lt. columns e.row e.col (get_or rest k d).row (get_or rest k d).col i (eqb-true e.row i t) (eqb-true (get_or rest k d).row i (same k d lt)) (after k d lt)), more))
@@ -221,22 +222,26 @@ found_in : (es : List Entry) (n : ℕ) → first_column_ok n es ≡ true → Fir
 unfolding first_column_ok
 found_in es n h = first_column (at_column es n 0) (at_column es n 1) (at_column es n 2) (at_column es n 3) h
 
-own_column : (n rows : ℕ) (es : List Entry) (set i : ℕ) → extension_ok n rows es ≡ true → rows_present rows es ≡ true → 4 ≤ i → i < rows → tail_of es set (n + 4) i ≡ (n + i, 0) ∷ []
-unfolding extension_ok rows_present
-own_column n rows es set i ext present late lt =
-    let early : nat_lt i 4 ≡ false = le-ltb i 4 late in
-    let there = present_row (nat_lt i 4) (lacks_row es i) early (each_below-at rows i (is_present es) present lt) in
-    lone_zero-is set (n + i) (tail es i (n + 4)) (own (nat_lt i 4) (lacks_row es i) (lone_zero (n + i) (tail es i (n + 4))) early there (each_below-at rows i (own_column_ok n es) ext lt))
+-- a row from 4 on that has an entry has its own column alone past the core's
+pub row-from_tests : (n rows : ℕ) (es : List Entry) (set i : ℕ) → extension_ok n rows es ≡ true → 4 ≤ i → i < rows → lacks_row es i ≡ false → tail_of es set (n + 4) i ≡ (n + i, 0) ∷ []
+unfolding extension_ok
+row-from_tests n rows es set i ext late lt there =
+    lone_zero-is set (n + i) (tail es i (n + 4)) (own (nat_lt i 4) (lacks_row es i) (lone_zero (n + i) (tail es i (n + 4))) (le-ltb i 4 late) there (each_below-at rows i (own_column_ok n es) ext lt))
+  where
+    own : (a b c : Bool) → a ≡ false → b ≡ false → (a || b || c) ≡ true → c ≡ true
+    own a b c e f h = ⊎_elim (λ k. ⊎_elim (λ t. no (sym e ∙ t)) (λ t. no (sym f ∙ t)) (or_cases a b k)) (λ t. t) (or_cases (a || b) c h)
+
+-- each row from 4 on has an entry
+pub row-is_there : (rows : ℕ) (es : List Entry) (i : ℕ) → rows_present rows es ≡ true → 4 ≤ i → i < rows → lacks_row es i ≡ false
+unfolding rows_present
+row-is_there rows es i present late lt = present_row (nat_lt i 4) (lacks_row es i) (le-ltb i 4 late) (each_below-at rows i (is_present es) present lt)
   where
     present_row : (a b : Bool) → a ≡ false → (a || not b) ≡ true → b ≡ false
     present_row a true e h = no (rw (← h) (rw e refl))
     present_row a false e h = refl
 
-    own : (a b c : Bool) → a ≡ false → b ≡ false → (a || b || c) ≡ true → c ≡ true
-    own a b c e f h = ⊎_elim (λ k. ⊎_elim (λ t. no (sym e ∙ t)) (λ t. no (sym f ∙ t)) (or_cases a b k)) (λ t. t) (or_cases (a || b) c h)
-
-pub shape-from_tests : (es : List Entry) (set n rows : ℕ) → Ascending 0 es → set < 8 → core_ok n es ≡ true → extension_ok n rows es ≡ true → rows_present rows es ≡ true → HasShape es set n rows
-shape-from_tests es set n rows up small core ext present =
+pub core-from_tests : (es : List Entry) (set n : ℕ) → Ascending 0 es → set < 8 → core_ok n es ≡ true → HasCoreRows es set n
+core-from_tests es set n up small core =
     let parts = and_parts (first_column_ok n es) (diagonals_ok n es) core in
     let f = found_in es n parts.0 in
     let d = diagonals es set n parts.1 in
@@ -250,7 +255,17 @@ shape-from_tests es set n rows up small core ext present =
         last = tail-some es set n 3 f.last up f.row3_is ∙ ap (λ l. (n, value_in set f.last) ∷ l) d.row3;
         two_agree = two_agree-cases (value_in set f.first) (value_in set f.middle) (value_in set f.last) (agree_at f.first.values f.middle.values f.last.values set f.agree small);
       };
-      extension = λ i late lt. own_column n rows es set i ext present late lt;
+    }
+
+pub shape-from_tests : (es : List Entry) (set n rows : ℕ) → Ascending 0 es → set < 8 → core_ok n es ≡ true → extension_ok n rows es ≡ true → rows_present rows es ≡ true → HasShape es set n rows
+shape-from_tests es set n rows up small core ext present =
+    let shape = core-from_tests es set n up small core in
+    record {
+      first = shape.first;
+      middle = shape.middle;
+      last = shape.last;
+      core = shape.core;
+      extension = λ i late lt. row-from_tests n rows es set i ext late lt (row-is_there rows es i present late lt);
     }
 
 -- the tests that a judgement passed
@@ -286,7 +301,7 @@ judged_well false (Err e) s t h = absurd (refused e t h)
     refused : (e : TableFault) (t : Entries) → ◌≡◌ {A = Result Entries TableFault} (Err e) (Ok t) → ⊥
     refused e t h = cc
 
-graphs_well : (t : Entries) → IsAccepted t → (graph_checked One t.one ≡ Ok tt) × (graph_checked Two t.two ≡ Ok tt)
+graphs_well : (t : Entries) → IsAcceptedTable t → (graph_checked One t.one ≡ Ok tt) × (graph_checked Two t.two ≡ Ok tt)
 unfolding accepted
 graphs_well t h = judged_well ((length t.one == 0) && (length t.two == 0)) (graph_checked One t.one) (graph_checked Two t.two) t h
 

@@ -131,7 +131,7 @@ unfolding item_of
 header-back items r header long = rw (long, header) refl
 
 -- the records behind the header, where the first is it or is not
-behind-header : (r : Record) (rs : List Record) (b : Bool) → is_header r ≡ b → map item_written (without_header (r ∷ rs)) ≡ map item_written (cond b rs (r ∷ rs))
+pub behind-header : (r : Record) (rs : List Record) (b : Bool) → is_header r ≡ b → map item_written (without_header (r ∷ rs)) ≡ map item_written (cond b rs (r ∷ rs))
 behind-header r rs b is = ap (λ b. map item_written (cond b rs (r ∷ rs))) is
 
 -- all records

@@ -28,13 +28,13 @@ abbrev pub has_graph : Graph → Entries → Bool
 has_graph g t = not (length (entries_in g t) == 0)
 
 -- an entry's place, row by row: no base graph has more than 68 columns
-abbrev pub place : Entry → ℕ
-place e = 68 * e.row + e.col
+abbrev pub entry_place : Entry → ℕ
+entry_place e = 68 * e.row + e.col
 
 -- a list with one more entry, which goes before the first one whose place is not below its own
 unfoldable pub with_entry : List Entry → Entry → List Entry
 with_entry [] e = e ∷ []
-with_entry (x ∷ xs) e = if nat_lt (place x) (place e) then x ∷ with_entry xs e else e ∷ x ∷ xs
+with_entry (x ∷ xs) e = if nat_lt (entry_place x) (entry_place e) then x ∷ with_entry xs e else e ∷ x ∷ xs
 
 -- the entries that items give to a base graph
 abbrev pub entries_for : Graph → List Item → List Entry
@@ -146,8 +146,8 @@ accepted t =
     if (length t.one == 0) && (length t.two == 0) then Err Empty
     else graph_checked One t.one >>= λ _. graph_checked Two t.two >>= λ _. Ok t
 
-abbrev pub IsAccepted : Entries → Type 0
-IsAccepted t = accepted t ≡ Ok t
+abbrev pub IsAcceptedTable : Entries → Type 0
+IsAcceptedTable t = accepted t ≡ Ok t
 
 -- what a table file's text says: a table, or the first fault
 unfoldable pub table_said : List ℕ → Result Entries TableFault
@@ -163,7 +163,7 @@ TellsTable known r = IfSome known (λ text. IsErrOf r Read ⊎ Gives Memory (λ 
 -- the places ascend, and none is below `low`; so no two entries stand at one place
 abbrev pub Ascending : ℕ → List Entry → Type 0
 Ascending low [] = ⊤
-Ascending low (e ∷ es) = (low ≤ place e) × (e.col < 68) × Ascending (place e + 1) es
+Ascending low (e ∷ es) = (low ≤ entry_place e) × (e.col < 68) × Ascending (entry_place e + 1) es
 
 -- an entry's row and column are those of a base graph, and its values are eight that fit 16 bits each
 abbrev pub IsInRange : Graph → Entry → Type 0
@@ -178,7 +178,7 @@ RowsAscend es = AllPairs (λ x y. x.row < y.row) es
 
 -- what is true of every table that was read
 pub record IsTable (t : Entries) : Type 0 where
-  pub accepted : IsAccepted t
+  pub accepted : IsAcceptedTable t
   pub one : Ascending 0 t.one
   pub two : Ascending 0 t.two
   pub one_in_range : All (IsInRange One) t.one

@@ -9,3 +9,5 @@ pub use Rattle.nr_graphpick.specs.Graph
 pub use Rattle.nr_graphpick.specs.Refusal
 pub mod CoreRows
 pub mod Written
+pub mod Faults
+pub mod RecordOrder

@@ -38,7 +38,7 @@ abbrev pub TakesRow : List Record → List Record → Bool → Record → Type 0
 TakesRow old new found row = MatchBool found (old ≡ row ∷ new) ((old ≡ []) × (new ≡ []))
 
 -- a reader that goes on, with no header, no trimming and records of any length, and stands between two records
-pub record IsPlain (r : Reader (Bor (List ℕ))) : Type 0 where
+pub record IsPlainReader (r : Reader (Bor (List ℕ))) : Type 0 where
   pub alive : has_failed r ≡ false
   pub config : reader_config r ≡ default_config
   pub trim : reader_trim r ≡ trim.None

@@ -1,11 +1,5 @@
--- What a pull of a source gives, and what a feed is.
-use Rattle.std.specs.Prelude.{◌≡◌, ◌↔◌, ◌⊎◌, ℕ, ◌+◌, ◌<◌, IfSome, IsErrOf, List, length, take, min, Bool, false, ◌==◌, Option, Some, None, Result, Ok, Err, MatchResult}
-use Rattle.std.specs.Io.KnownBytes.{Consumes, Keeps, IsAtEnd}
-
--- A pull into buf takes its octets off the front of those to come, where they are known. None come only at
--- the end or into an empty buffer. A failure takes none.
-abbrev pub Pulls : {E : Type 0} → Option (List ℕ) → Option (List ℕ) → Result ℕ E → List ℕ → Type 0
-Pulls old new r buf = MatchResult r (λ n. Consumes old new (take n buf) × (n ≡ 0 → 0 < length buf → IsAtEnd new)) (λ _. Keeps old new)
+-- What reading a source to its end gives, and what the sources over memory are.
+use Rattle.std.specs.Prelude.{◌≡◌, ◌↔◌, ◌⊎◌, ℕ, ◌+◌, ◌<◌, IfSome, IsErrOf, List, length, min, Bool, false, ◌==◌, Option, Some, None, Result, Ok, Err}
 
 -- octets are all that were still to come, where that is known; more than `limit` were still to come
 abbrev pub IsWhole : Option (List ℕ) → List ℕ → Type 0
@@ -42,3 +36,7 @@ fails_next (Some n) = n == 0
 -- how many octets a feed gives to a buffer of this length
 abbrev pub fed_count : Feeding → ℕ → ℕ
 fed_count f room = min (min (length f.octets) room) f.step
+
+-- A source without end: how many pulls there were.
+pub record Pulled : Type 0 where
+  pub pulls : ℕ

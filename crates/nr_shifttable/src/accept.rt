@@ -79,7 +79,8 @@ fn rows_agree(
     }
 }
 
-// Whether the first parity column, `n`, stands in rows 0 and 3 and in one of rows 1 and 2, with values that agree.
+// Whether the first parity column, `n`, stands in rows 0 and 3 and in one of rows 1 and 2, with
+// values that agree.
 #[tactic(auto, unfolding(crate::specs::Accepted::first_column_ok))]
 fn first_column_ok(n: u32, entries: &[Entry]) -> bool
     requires { Ascending 0 entries.now }
@@ -93,8 +94,8 @@ fn first_column_ok(n: u32, entries: &[Entry]) -> bool
     )
 }
 
-// Whether rows 0 to 3 have the double diagonal of zeros in columns `n + 1` to `n + 3`, and nothing else there
-// and above.
+// Whether rows 0 to 3 have the double diagonal of zeros in columns `n + 1` to `n + 3`, and nothing
+// else there and above.
 #[tactic(auto, unfolding(crate::specs::Accepted::diagonals_ok))]
 fn diagonals_ok(n: u32, entries: &[Entry]) -> bool
     requires order { Ascending 0 entries.now }
@@ -107,7 +108,8 @@ fn diagonals_ok(n: u32, entries: &[Entry]) -> bool
         && lone_zero(n + 3, tail(entries, 3, n + 1))
 }
 
-// Whether each row from 4 on that has an entry has, from column `n + 4` on, zeros at its own column alone.
+// Whether each row from 4 on that has an entry has, from column `n + 4` on, zeros at its own column
+// alone.
 #[tactic(auto, unfolding(crate::specs::Accepted::extension_ok))]
 fn extension_ok(n: u32, rows: u32, entries: &[Entry]) -> bool
     requires order { Ascending 0 entries.now }
@@ -137,8 +139,8 @@ fn rows_present(rows: u32, entries: &[Entry]) -> bool
     true
 }
 
-/// Judges the entries of one base graph, in ascending order. A table need not have the graph, so no entry at
-/// all is well.
+/// Judges the entries of one base graph, in ascending order. A table need not have the graph, so no
+/// entry at all is well.
 ///
 /// # Errors
 ///

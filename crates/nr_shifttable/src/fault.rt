@@ -4,12 +4,13 @@ use nr_graphpick::Graph;
 use std::alloc::{AllocError, AllocFailed};
 use thiserror::Error;
 
-/// Why a table file is refused. Its text is the variant's name, with the number that the variant carries.
+/// Why a table file is refused. Its text is the variant's name, with the number that the variant
+/// carries.
 ///
-/// `Read` or `TooLong` comes while the octets are read, whichever is met first; then the records are judged
-/// one by one, each by `Csv` or `Fields`, `Number`, `Range` and `Twice` in this order; then comes `Empty`;
-/// then, for each base graph that has an entry, `Core`, `Extension` and `MissingRow`. `Memory` comes where
-/// a growth is refused.
+/// `Read` or `TooLong` comes while the octets are read, whichever is met first; then the records
+/// are judged one by one, each by `Csv` or `Fields`, `Number`, `Range` and `Twice` in this order;
+/// then comes `Empty`; then, for each base graph that has an entry, `Core`, `Extension` and
+/// `MissingRow`. `Memory` comes where a growth is refused.
 #[derive(Clone, Copy, Debug, PartialEq, Eq, Error)]
 pub enum TableFault {
     /// The source failed during the call.
@@ -33,7 +34,8 @@ pub enum TableFault {
     /// Rows 0 to 3 of this base graph lack the shape of the core parity columns.
     #[error("Core {0}")]
     Core(Graph),
-    /// A row from 4 on of this base graph lacks its own parity column, or has an entry in another one.
+    /// A row from 4 on of this base graph lacks its own parity column, or has an entry in another
+    /// one.
     #[error("Extension {0}")]
     Extension(Graph),
     /// A row from 4 on of this base graph has no entry.

@@ -18,8 +18,8 @@ use std::alloc::{AllocError, Global};
 // How many fields a record has: base graph, row, column, and a value for each lifting-size set.
 const FIELDS: usize = 11;
 
-/// The items of a table file's text, in the order of its records. Each has a row and a column of its base
-/// graph, and no two stand at one place.
+/// The items of a table file's text, in the order of its records. Each has a row and a column of
+/// its base graph, and no two stand at one place.
 ///
 /// # Errors
 ///
@@ -62,7 +62,8 @@ fn add(items: &mut Vec<Item>, found: Option<Item>) -> Result<(), AllocError>
     Ok(())
 }
 
-// What a record says, given its number from 1 and the items of the records before it. A header gives none.
+// What a record says, given its number from 1 and the items of the records before it. A header
+// gives none.
 #[tactic(auto, unfolding(crate::specs::Items::item_of))]
 fn item_of(number: u32, earlier: &[Item], row: &ByteRecord) -> Result<Option<Item>, TableFault>
     ensures { result ≡ item_of number earlier.now (fields_of row.now) }
@@ -146,8 +147,9 @@ fn values_of(numbers: &[u64; FIELDS]) -> Option<[u16; 8]>
 
 // Whether one of the items stands at the place of this one.
 //
-// This goes over all of them for each record, which stays small: a base graph has at most 46 rows and 68
-// columns, so that no more than 5,312 records pass before one is out of range or at the place of another.
+// This goes over all of them for each record, which stays small: a base graph has at most 46 rows
+// and 68 columns, so that no more than 5,312 records pass before one is out of range or at the
+// place of another.
 fn has_place(items: &[Item], item: &Item) -> bool
     ensures { result ≡ has_place items.now item.now }
 {

@@ -163,7 +163,8 @@ fn items(alloc: Global, text: &str) -> Result<Vec<Item>, TableFault> {
     read_items(alloc, octets)
 }
 
-// Headers, blank lines, ends of lines, quotes, blanks round fields, leading zeros, and a byte order mark.
+// Headers, blank lines, ends of lines, quotes, blanks round fields, leading zeros, and a byte order
+// mark.
 #[test]
 fn accepted_records(rt: HostRuntime) {
     let one = Item {

@@ -2,14 +2,14 @@
 
 ghost use Rattle.std.specs.Prelude.{◌≡◌, [], ◌∷◌, ◌≤◌, if◌then◌else◌, true, false, length, MatchBool, IfOk, OnErr};
 ghost use Rattle.csv.specs.Records.{fields_of};
-ghost use Rattle.nr_shifttable.specs.Records.{IsPlain, TakesRow, records_of, rows_before_end};
+ghost use Rattle.nr_shifttable.specs.Records.{IsPlainReader, TakesRow, records_of, rows_before_end};
 
 use csv::{ByteRecord, Reader, ReaderBuilder};
 use std::alloc::{AllocError, Global};
 use std::marker::Model;
 
-/// The records of a text, one after another: as `csv` reads them, with no header, nothing trimmed, and
-/// records of any length.
+/// The records of a text, one after another: as `csv` reads them, with no header, nothing trimmed,
+/// and records of any length.
 #[derive(Drop)]
 pub struct Records<'a> {
     reader: Reader<&'a [u8]>,
@@ -18,13 +18,13 @@ pub struct Records<'a> {
 
 impl<'a> Model for Records<'a> {
     ghost use Rattle.std.specs.Prelude.{◌≡◌, ℕ, List, false};
-    ghost use Rattle.nr_shifttable.specs.Records.{IsPlain, rows_before_end};
+    ghost use Rattle.nr_shifttable.specs.Records.{IsPlainReader, rows_before_end};
 
     ghost Value = { List (List (List ℕ)) };
 
     ghost view = { λ a. rows_before_end a.ended a.reader };
 
-    ghost invariant = { λ a. a.ended ≡ false → IsPlain a.reader };
+    ghost invariant = { λ a. a.ended ≡ false → IsPlainReader a.reader };
 }
 
 impl<'a> Records<'a> {
@@ -47,7 +47,7 @@ impl<'a> Records<'a> {
     ///
     /// # Errors
     ///
-    /// Out of memory, and then no record is left.
+    /// `AllocError` is want of memory, and then no record is left.
     pub fn next(&mut self, row: &mut ByteRecord) -> Result<bool, AllocError>
         ensures next { IfOk result (λ found. TakesRow self.old self.new found (fields_of row.new)) }
         ensures err { OnErr result (self.new ≡ []) }
@@ -62,10 +62,11 @@ impl<'a> Records<'a> {
     }
 }
 
-// Fills `row` with the next record of a text in memory, if there is one. This fails for want of memory alone.
+// Fills `row` with the next record of a text in memory, if there is one. This fails for want of
+// memory alone.
 fn read_row(reader: &mut Reader<&[u8]>, row: &mut ByteRecord) -> Result<bool, AllocError>
-    requires { IsPlain reader.old }
-    ensures plain { IfOk result (λ found. found ≡ true → IsPlain reader.new) }
+    requires { IsPlainReader reader.old }
+    ensures plain { IfOk result (λ found. found ≡ true → IsPlainReader reader.new) }
     ensures next { IfOk result (λ found. rows_before_end false reader.old
         ≡ (if found then fields_of row.new ∷ rows_before_end false reader.new else [])) }
 {

@@ -1,7 +1,8 @@
 //! Where octets come from, piece by piece, and reading a source to its end.
 
 ghost use Rattle.std.specs.Prelude.{◌≡◌, ◌==◌, if◌then◌else◌, ℕ, ◌+◌, ◌-◌, ◌^◌, ◌<◌, ◌≤◌, ◌⊎◌, ◌↔◌, ◌++◌, List, length, take, drop, min, Option, Some, None, option_map, Ok, IfOk, IfSome, IsErrOf, is_err};
-ghost use Rattle.nr_shifttable.specs.Source.{HasMore, IsWhole, KeepsCount, Pulls, TellsFailure, failed_count, fails_next, fed_count, Feeding};
+ghost use Rattle.std.specs.Io.KnownBytes.{ReadConsumes};
+ghost use Rattle.nr_shifttable.specs.Source.{HasMore, IsWhole, KeepsCount, TellsFailure, failed_count, fails_next, fed_count, Feeding};
 ghost use Rattle.nr_shifttable.specs.declared.source.ReadFault.{ReadFault};
 
 use std::alloc::{AllocError, Global};
@@ -22,12 +23,16 @@ pub trait Source {
     /// How many pulls have failed.
     ghost failures: { Self → ℕ };
 
-    /// Puts the next octets at the front of `buf` and answers how many they are, or fails and takes none.
-    /// The answer for a buffer that is not empty is 0 only at the end of the octets.
+    /// Puts the next octets at the front of `buf` and answers how many they are. The answer for a
+    /// buffer that is not empty is 0 only at the end of the octets.
+    ///
+    /// # Errors
+    ///
+    /// `Broken`, where the source failed, and then no octet is taken.
     fn pull(&mut self, buf: &mut [u8]) -> Result<usize, Broken>
         requires { failures self.old < 2 ^ 32 }
         ensures within { IfOk result (λ n. n ≤ length buf.new) }
-        ensures octets { Pulls (remaining self.old) (remaining self.new) result buf.new }
+        ensures octets { ReadConsumes (remaining self.old) (remaining self.new) result buf.new }
         ensures broken { failures self.new ≡ failures self.old + failed_count result };
 }
 
@@ -58,8 +63,8 @@ impl From<AllocError> for ReadFault {
 /// # Errors
 ///
 /// Where they are met: `Broken`, where a pull failed, and then the source is pulled no more;
-/// `TooLong`, where more than `limit` octets came, even from a source that never ends, since each turn but
-/// the last gives at least one octet; `Memory`.
+/// `TooLong`, where more than `limit` octets came, even from a source that never ends, since each
+/// turn but the last gives at least one octet; `Memory`.
 pub fn read_to_end<S: Source>(
     alloc: Global,
     source: &mut S,
@@ -126,8 +131,8 @@ impl Model for Feed {
 }
 
 impl Feed {
-    /// A source that gives these octets, at most `step` a pull, and fails from its `fail`-th pull on, or
-    /// never where `fail` is 0. `step` is not 0.
+    /// A source that gives these octets, at most `step` a pull, and fails from its `fail`-th pull
+    /// on, or never where `fail` is 0. `step` is not 0.
     pub fn new(octets: Vec<u8>, step: u32, fail: u32) -> Feed
         requires { 0 < step }
         ensures octets { ⟦<Feed as Source>⟧.remaining result ≡ Some octets.items }
@@ -153,7 +158,7 @@ impl Source for Feed {
     fn pull(&mut self, buf: &mut [u8]) -> Result<usize, Broken>
         requires { self.old.failed < 2 ^ 32 }
         ensures within { IfOk result (λ n. n ≤ length buf.new) }
-        ensures octets { Pulls (Some self.old.octets) (Some self.new.octets) result buf.new }
+        ensures octets { ReadConsumes (Some self.old.octets) (Some self.new.octets) result buf.new }
         ensures broken { self.new.failed ≡ self.old.failed + failed_count result }
         ensures fails { is_err result ≡ fails_next self.old.sound }
         ensures count { IfOk result (λ n. n ≡ fed_count self.old (length buf.old)) }
@@ -180,6 +185,14 @@ pub struct Endless {
     pulls: u32,
 }
 
+impl Model for Endless {
+    ghost use Rattle.nr_shifttable.specs.Source.{Pulled};
+
+    ghost Value = { Pulled };
+
+    ghost view = { λ a. record { pulls = a.pulls } };
+}
+
 impl Endless {
     /// A source that was not pulled yet.
     pub fn new() -> Endless
@@ -203,7 +216,7 @@ impl Source for Endless {
     ghost failures = { λ _. 0 };
 
     fn pull(&mut self, buf: &mut [u8]) -> Result<usize, Broken>
-        ensures octets { Pulls None None result buf.new }
+        ensures octets { ReadConsumes None None result buf.new }
         ensures gives { result ≡ Ok (min (length buf.old) 1) }
         ensures kept { length buf.new ≡ length buf.old }
         ensures counted { self.new.pulls ≡ min (self.old.pulls + 1) (2 ^ 32 - 1) }
@@ -219,7 +232,8 @@ impl Source for Endless {
     }
 }
 
-// Copies as much of the front of `from` to the front of `to` as both and `most` allow, and answers how much.
+// Copies as much of the front of `from` to the front of `to` as both and `most` allow, and answers
+// how much.
 fn copy_front(from: &[u8], to: &mut [u8], most: u32) -> usize
     ensures count { result ≡ min (min (length from.now) (length to.old)) most }
     ensures copied { to.new ≡ take result from.now ++ drop result to.old }

@@ -19,8 +19,9 @@ use std::marker::Model;
 // The most octets that a table file may have.
 const LIMIT: usize = 4_194_304;
 
-/// A table of shift values that was accepted: the entries of base graph 1, of base graph 2, or of both
-/// (TS 38.212 clause 5.3.2). What is asked of it takes no memory, and a row or a column is found by halving.
+/// A table of shift values that was accepted: the entries of base graph 1, of base graph 2, or of
+/// both (TS 38.212 clause 5.3.2). What is asked of it takes no memory, and a row or a column is
+/// found by halving.
 #[derive(Drop)]
 pub struct Table {
     one: Sorted,
@@ -40,15 +41,16 @@ impl Model for Table {
 impl Table {
     /// Reads a table file to its end and judges it.
     ///
-    /// The file is CSV text. Each record has eleven fields: base graph (1 or 2), row, column, and the shift
-    /// values of the eight lifting-size sets, as TS 38.212, Tables 5.3.2-2 and 5.3.2-3 give them; a first
-    /// record that begins with `graph` is a header. The order of the records does not matter.
+    /// The file is CSV text. Each record has eleven fields: base graph (1 or 2), row, column, and
+    /// the shift values of the eight lifting-size sets, as TS 38.212, Tables 5.3.2-2 and 5.3.2-3
+    /// give them; a first record that begins with `graph` is a header. The order of the records
+    /// does not matter.
     ///
     /// # Errors
     ///
-    /// In the order of `TableFault`'s description: `Read` or `TooLong` while the octets are read; then
-    /// record by record `Csv`, `Fields`, `Number`, `Range`, `Twice`; then `Empty`; then by base graph `Core`,
-    /// `Extension`, `MissingRow`. `Memory` comes where a growth is refused.
+    /// In the order of `TableFault`'s description: `Read` or `TooLong` while the octets are read;
+    /// then record by record `Csv`, `Fields`, `Number`, `Range`, `Twice`; then `Empty`; then by
+    /// base graph `Core`, `Extension`, `MissingRow`. `Memory` comes where a growth is refused.
     pub fn read<S: Source>(alloc: Global, source: &mut S) -> Result<Table, TableFault>
         requires { S.failures source.old < 2 ^ 32 }
         ensures table { IfOk result IsTable }
@@ -84,7 +86,8 @@ impl Table {
     /// # Errors
     ///
     /// In this order: `Empty`, where there is no item; then, for each base graph that has an entry,
-    /// base graph 1 first, `Core`, `Extension` and `MissingRow`. `Memory` comes where a growth is refused.
+    /// base graph 1 first, `Core`, `Extension` and `MissingRow`. `Memory` comes where a growth is
+    /// refused.
     #[tactic(auto, unfolding(crate::specs::Accepted::accepted))]
     pub(crate) fn from_items(alloc: Global, items: Vec<Item>) -> Result<Table, TableFault>
         requires apart { Apart items.items }
@@ -113,8 +116,8 @@ impl Table {
         }
     }
 
-    /// Whether the table has an entry of the base graph. If it has one, it has all that an accepted table
-    /// must have.
+    /// Whether the table has an entry of the base graph. If it has one, it has all that an accepted
+    /// table must have.
     pub fn has(&self, graph: Graph) -> bool
         ensures table { IsTable self.now }
         ensures value { result ≡ has_graph graph self.now }
@@ -125,8 +128,9 @@ impl Table {
         }
     }
 
-    /// The shift value V at a row and a column of a base graph, for the lifting-size set `set` in 0..=7, as
-    /// it was read: it is not reduced modulo a lifting size. `None` where no entry stands there.
+    /// The shift value V at a row and a column of a base graph, for the lifting-size set `set` in
+    /// 0..=7, as it was read: it is not reduced modulo a lifting size. `None` where no entry stands
+    /// there.
     pub fn shift(&self, graph: Graph, row: u32, col: u32, set: u32) -> Option<u16>
         requires { set < 8 }
         ensures { result ≡ value_at graph row col set self.now }

@@ -23,8 +23,8 @@ fn item(row: u16, col: u16, value: u16) -> Item {
     }
 }
 
-/// A small table for base graph 2: in rows 0 to 3 the even or the odd information columns, in each row
-/// from 4 on one information column, rotated by the row's number.
+/// A small table for base graph 2: in rows 0 to 3 the even or the odd information columns, in each
+/// row from 4 on one information column, rotated by the row's number.
 fn practice(alloc: Global) -> Result<Vec<Item>, Fail> {
     let mut items = Vec::new(alloc);
     for row in 0..4 {
@@ -219,8 +219,8 @@ fn cut_files(rt: HostRuntime) -> Result<(), Fail> {
     Ok(())
 }
 
-/// What the reader answers to the beginning of the practice table that has so many whole records and a line of so many
-/// commas, with so many digits behind the last of them.
+/// What the reader answers to the beginning of the practice table that has so many whole records
+/// and a line of so many commas, with so many digits behind the last of them.
 fn cut_answer(records: u32, commas: u32, digits: u32) -> Option<TableFault> {
     let whole = match (commas, digits) {
         (0, 0) => records,

@@ -3,7 +3,7 @@ use Rattle.nr_bitvec.specs.Bit.{◌⊕◌, bit}
 use Rattle.nr_bitvec.specs.BitList.{BitList}
 use Rattle.nr_shifttable.specs.declared.entry.Entry.{Entry}
 use Rattle.nr_shifttable.specs.Tails.{value_in}
-use Rattle.nr_ldpcenc.specs.Rows.{place}
+use Rattle.nr_ldpcenc.specs.Rows.{one_at}
 use Rattle.nr_ldpcenc.specs.Solving.{sum_before}
 use Rattle.nr_ldpcenc.proofs.Adding.{sum-next, entry_bit, entry_bit-there, entry_bit-not, gained, not_gained}
 use Rattle.nr_ldpcenc.proofs.solver.add_row.Goals as goal

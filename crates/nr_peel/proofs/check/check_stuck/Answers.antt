@@ -2,7 +2,7 @@ use Rattle.std.proofs.Common.{◌*◌, ap, arith}
 use Rattle.nr_bitvec.specs.Bit.{bit}
 use Rattle.nr_segment.specs.CodeBlock.{numbers}
 use Rattle.nr_ldpcenc.specs.Rows.{block_checks}
-use Rattle.nr_peel.proofs.Found.{stops_out}
+use Rattle.nr_peel.proofs.Found.{stops_orders, stops_out}
 use Rattle.nr_peel.proofs.Grid.{checks_sound}
 use Rattle.nr_peel.proofs.Sets.{in_sets}
 use Rattle.nr_peel.proofs.check.check_stuck.Goals as goal
@@ -31,3 +31,10 @@ returns-clause-out c =
     let ck = block_checks c.args.table.now p.graph (numbers p) in
     let sound = checks_sound c.args.table.now p.graph (numbers p) c.has.ensures.table p.sound.size_some in
     λ y q member. stops_out ck (bit c.args.given.now.items) p.kdash c.args.set.now q sound ((returns-clause-yes c).0 y) member
+
+pub returns-clause-no_order : goal.returns-clause-no_order
+returns-clause-no_order c =
+    let p = c.args.plan.now in
+    let ck = block_checks c.args.table.now p.graph (numbers p) in
+    let sound = checks_sound c.args.table.now p.graph (numbers p) c.has.ensures.table p.sound.size_some in
+    λ y steps. stops_orders ck (bit c.args.given.now.items) p.kdash c.args.set.now steps sound ((returns-clause-yes c).0 y)

@@ -2,7 +2,7 @@ use Rattle.std.proofs.Common.{◌≡◌, ℕ, cond, [], ap, sym, ◌∙◌, arit
 use Rattle.nr_shifttable.specs.declared.entry.Entry.{Entry}
 use Rattle.nr_shifttable.specs.Accepted.{entries_in, row_of}
 use Rattle.nr_shifttable.specs.Tails.{value_in}
-use Rattle.nr_ldpcenc.specs.Rows.{place}
+use Rattle.nr_ldpcenc.specs.Rows.{one_at}
 use Rattle.nr_peel.specs.Closure.{stands}
 use Rattle.nr_peel.proofs.Found.{member_more, search_is}
 use Rattle.nr_peel.proofs.check.members.Goals as goal
@@ -14,7 +14,7 @@ loop-entry-preserved c =
     let set = c.args.set.now in
     let p = c.place.result in
     let none : Entry = record { row = 0; col = 0; values = [] } in
-    let f = λ (e : Entry). place l.plan.z c.args.lane e.col (value_in l.plan.set e) in
+    let f = λ (e : Entry). one_at l.plan.z c.args.lane e.col (value_in l.plan.set e) in
     let own = row_of (entries_in l.plan.graph l.table.now) c.args.row in
     let more = member_more set f own c.row-entry-items.result.now c.loop-entry.entry-index p none c.row-entry-items.ensures c.loop-entry-test.true c.place.ensures in
     let met : c.is_ok.result ≡ stands p set = c.is_ok.ensures.value ∙ search_is set p c.binary_search.result c.binary_search.ensures.position c.requires.rising in

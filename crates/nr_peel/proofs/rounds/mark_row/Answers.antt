@@ -3,7 +3,7 @@ use Rattle.std.proofs.lemmas.List.{get_or-map, length-map, length-set}
 use Rattle.nr_bitvec.specs.Bit.{bit}
 use Rattle.nr_shifttable.specs.declared.entry.Entry.{Entry}
 use Rattle.nr_shifttable.specs.Tails.{value_in}
-use Rattle.nr_ldpcenc.specs.Rows.{place}
+use Rattle.nr_ldpcenc.specs.Rows.{one_at}
 use Rattle.nr_peel.specs.Rounds.{row_in}
 use Rattle.nr_peel.proofs.Places.{place_fits}
 use Rattle.nr_peel.proofs.Rounded.{marked_more}
@@ -13,7 +13,7 @@ pub loop-entry-preserved : goal.loop-entry-preserved
 loop-entry-preserved c =
     let l = c.args.lifted.now in
     let none : Entry = record { row = 0; col = 0; values = [] } in
-    let f = λ (x : Entry). place l.plan.z c.args.lane x.col (value_in l.plan.set x) in
+    let f = λ (x : Entry). one_at l.plan.z c.args.lane x.col (value_in l.plan.set x) in
     let row = c.args.row.now in
     let i = c.loop-entry.entry-index in
     let e : Entry = get_or row i none in

@@ -4,9 +4,9 @@ use Rattle.std.proofs.lemmas.List.{length-map}
 use Rattle.nr_shifttable.specs.declared.entry.Entry.{Entry}
 use Rattle.nr_shifttable.specs.Accepted.{entries_in, row_of}
 use Rattle.nr_shifttable.specs.Tails.{value_in}
-use Rattle.nr_ldpcenc.specs.Rows.{place}
+use Rattle.nr_ldpcenc.specs.Rows.{one_at}
 use Rattle.nr_peel.specs.State.{lifted_checks}
-use Rattle.nr_peel.specs.Touches.{degree}
+use Rattle.nr_peel.specs.Touches.{row_length}
 use Rattle.nr_peel.proofs.Grid.{rows_short}
 use Rattle.nr_peel.proofs.Starting.{IsBuilt, built_more, built_ready, built_start}
 use Rattle.nr_peel.proofs.counters.Counters.new.Goals as goal
@@ -25,7 +25,7 @@ loop-row-preserved c =
     let n = c.loop-row.row in
     let inv = c.loop-row.invariant in
     let d = length c.row-count.result.now in
-    let is : d ≡ degree ck n = ap length c.row-count.ensures ∙ sym (length-map (row_of (entries_in l.plan.graph l.table.now) (n / l.plan.z)) (λ (e : Entry). place l.plan.z (n % l.plan.z) e.col (value_in l.plan.set e))) in
+    let is : d ≡ row_length ck n = ap length c.row-count.ensures ∙ sym (length-map (row_of (entries_in l.plan.graph l.table.now) (n / l.plan.z)) (λ (e : Entry). one_at l.plan.z (n % l.plan.z) e.col (value_in l.plan.set e))) in
     elim c.if-count-eq1.branch [
       | then-count-eq1 w ↦ record {
         built = rw (c.push_reserved.ensures.items, w.ready-is, w.push_reserved-then-count-eq1.ensures.items) (built_ready ck c.loop-row.counts.items c.loop-row.ready.items n d inv.built is w.if-count-eq1.true);

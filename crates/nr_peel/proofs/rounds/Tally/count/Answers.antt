@@ -4,7 +4,7 @@ use Rattle.std.proofs.lemmas.List.{get_or-map, length-map}
 use Rattle.nr_bitvec.specs.Bit.{bit}
 use Rattle.nr_shifttable.specs.declared.entry.Entry.{Entry}
 use Rattle.nr_shifttable.specs.Tails.{value_in}
-use Rattle.nr_ldpcenc.specs.Rows.{place}
+use Rattle.nr_ldpcenc.specs.Rows.{one_at}
 use Rattle.nr_peel.specs.Rounds.{row_in}
 use Rattle.nr_peel.proofs.Lowered.{count_more}
 use Rattle.nr_peel.proofs.Rounded.{tally_more, tally_ones}
@@ -21,9 +21,9 @@ loop-entry-preserved c =
     let U : ℕ → Bool = bit c.args.marks.now.items in
     let inv = c.loop-entry.invariant in
     let tally = c.tally_block.ensures.tally in
-    let at = λ (t : ℕ). place z t e.col (value_in l.plan.set e) in
-    let more = λ (t : ℕ). count_more U (row_in l row t) i 0 (omega (arith, length-map row (λ (x : Entry). place z t x.col (value_in l.plan.set x)), c.loop-entry-test.true))
-    ∙ ap (λ q. count_by U (take i (row_in l row t)) + cond (U q) 1 0) (get_or-map (λ (x : Entry). place z t x.col (value_in l.plan.set x)) row i none 0 c.loop-entry-test.true) in
+    let at = λ (t : ℕ). one_at z t e.col (value_in l.plan.set e) in
+    let more = λ (t : ℕ). count_more U (row_in l row t) i 0 (omega (arith, length-map row (λ (x : Entry). one_at z t x.col (value_in l.plan.set x)), c.loop-entry-test.true))
+    ∙ ap (λ q. count_by U (take i (row_in l row t)) + cond (U q) 1 0) (get_or-map (λ (x : Entry). one_at z t x.col (value_in l.plan.set x)) row i none 0 c.loop-entry-test.true) in
     let turned = λ (t : ℕ). ap (λ v. U (c.from.result * z + (t + v) % z)) c.turn-turn.ensures.value ∙ ap (λ n. U (n * z + (t + value_in l.plan.set e % z) % z)) c.from.ensures in
     record {
       ones = λ t lt. tally.ones_at t lt ∙ ap (λ b. bit c.loop-entry.self.ones.items t || b) (turned t) ∙ tally_ones (U (at t)) (bit c.loop-entry.self.ones.items t) (count_by U (take i (row_in l row t))) (inv.ones t lt) ∙ ap (nat_lt 0) (sym (more t));

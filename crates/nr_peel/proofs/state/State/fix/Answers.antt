@@ -9,10 +9,10 @@ use Rattle.nr_segment.specs.CodeBlock.{numbers}
 use Rattle.nr_shifttable.specs.declared.entry.Entry.{Entry}
 use Rattle.nr_shifttable.specs.Accepted.{entries_in, row_of}
 use Rattle.nr_shifttable.specs.Tails.{value_in}
-use Rattle.nr_ldpcenc.specs.Rows.{place}
+use Rattle.nr_ldpcenc.specs.Rows.{one_at}
 use Rattle.nr_peel.specs.Peeling.{left_of}
 use Rattle.nr_peel.specs.State.{lifted_checks}
-use Rattle.nr_peel.specs.Touches.{degree}
+use Rattle.nr_peel.specs.Touches.{row_length}
 use Rattle.nr_peel.proofs.Fixing.{count-room, few_visits, fix_grows, fix_spends, fix_works, follows_lowered, IsFix}
 use Rattle.nr_peel.proofs.Grid.{checks_sound}
 use Rattle.nr_peel.proofs.Pairs.{degree_le}
@@ -47,7 +47,7 @@ search-pos-requires-clause-few c =
     let below : row < rows_of l.plan.graph * z = omega (arith, c.requires.inside, c.requires.working.tied.long) in
     let few = few_visits ck c.args.self.now c.requires.working in
     let deg = degree_le ck row below in
-    let long : length c.row.result.now ≡ degree ck row = ap length c.row.ensures ∙ sym (length-map _ (λ (e : Entry). place z (row % z) e.col (value_in l.plan.set e))) in
+    let long : length c.row.result.now ≡ row_length ck row = ap length c.row.ensures ∙ sym (length-map _ (λ (e : Entry). one_at z (row % z) e.col (value_in l.plan.set e))) in
     omega (arith, few, deg, long, c.requires.working.small)
 
 pub push_reserved-requires : goal.push_reserved-requires
@@ -78,7 +78,7 @@ mark-requires-clause-few c =
     let below : row < rows_of l.plan.graph * z = omega (arith, c.requires.inside, c.requires.working.tied.long) in
     let few = few_visits ck c.args.self.now c.requires.working in
     let deg = degree_le ck row below in
-    let long : length c.row.result.now ≡ degree ck row = ap length c.row.ensures ∙ sym (length-map _ (λ (e : Entry). place z (row % z) e.col (value_in l.plan.set e))) in
+    let long : length c.row.result.now ≡ row_length ck row = ap length c.row.ensures ∙ sym (length-map _ (λ (e : Entry). one_at z (row % z) e.col (value_in l.plan.set e))) in
     rw v.counts (omega (arith, few, deg, long, v.touches, c.requires.working.small))
 
 is_fix : (c : goal.After-mark) → IsFix (lifted_checks c.args.lifted.now) c.args.self.now c.mark.new.self (c.args.row / c.args.lifted.now.plan.z) (c.args.row % c.args.lifted.now.plan.z)
@@ -108,7 +108,7 @@ is_fix c =
       tied = c.mark.ensures.tied;
       one = counter_at old.counters.counts.items row z c.requires.one;
       falls = λ k. omega (arith, c.mark.ensures.lowered.counts k, ap (λ v. slice_index v.items k) v.counts);
-      visits = omega (arith, c.mark.ensures.lowered.visits, ap (λ v. sum v.items) v.counts, v.touches, ap length c.row.ensures, length-map (row_of (entries_in l.plan.graph l.table.now) (row / z)) (λ (e : Entry). place z (row % z) e.col (value_in l.plan.set e)));
+      visits = omega (arith, c.mark.ensures.lowered.visits, ap (λ v. sum v.items) v.counts, v.touches, ap length c.row.ensures, length-map (row_of (entries_in l.plan.graph l.table.now) (row / z)) (λ (e : Entry). one_at z (row % z) e.col (value_in l.plan.set e)));
     }
 
 pub returns : goal.returns

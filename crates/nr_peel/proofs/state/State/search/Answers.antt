@@ -3,7 +3,7 @@ use Rattle.std.proofs.lemmas.List.{get_or-map, length-map}
 use Rattle.nr_bitvec.specs.Bit.{bit}
 use Rattle.nr_shifttable.specs.declared.entry.Entry.{Entry}
 use Rattle.nr_shifttable.specs.Tails.{value_in}
-use Rattle.nr_ldpcenc.specs.Rows.{place}
+use Rattle.nr_ldpcenc.specs.Rows.{one_at}
 use Rattle.nr_peel.proofs.Searched.{searched_found, searched_known, searched_unknown}
 use Rattle.nr_bitvec.specs.BitList.{BitList}
 use Rattle.nr_peel.proofs.Places.{place_fits}
@@ -17,7 +17,7 @@ pub loop-entry-preserved : goal.loop-entry-preserved
 loop-entry-preserved c =
     let l = c.args.lifted.now in
     let none : Entry = record { row = 0; col = 0; values = [] } in
-    let f = λ (e : Entry). place l.plan.z c.args.lane e.col (value_in l.plan.set e) in
+    let f = λ (e : Entry). one_at l.plan.z c.args.lane e.col (value_in l.plan.set e) in
     let row = c.args.row.now in
     let ps = map f row in
     let i = c.loop-entry.entry-index in
@@ -44,7 +44,7 @@ loop-entry-preserved c =
 pub returns : goal.returns
 returns c =
     let l = c.args.lifted.now in
-    let f = λ (e : Entry). place l.plan.z c.args.lane e.col (value_in l.plan.set e) in
+    let f = λ (e : Entry). one_at l.plan.z c.args.lane e.col (value_in l.plan.set e) in
     let ps = map f c.args.row.now in
     let old = c.args.self.now in
     let long : length ps ≤ c.loop-entry.entry-index = omega (arith, length-map c.args.row.now f, c.loop-entry-test.false) in

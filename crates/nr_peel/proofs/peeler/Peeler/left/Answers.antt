@@ -1,0 +1,5 @@
+use Rattle.nr_peel.proofs.Peeled.{peeler_peeled}
+use Rattle.nr_peel.proofs.peeler.Peeler.left.Goals as goal
+
+pub returns-clause-peeled : goal.returns-clause-peeled
+returns-clause-peeled c = rw (← c.self.view_is) (peeler_peeled c.self.inside.lifted c.self.inside.state c.self.invariant)

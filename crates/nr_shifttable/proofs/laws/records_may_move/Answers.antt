@@ -1,0 +1,5 @@
+use Rattle.nr_shifttable.proofs.RecordOrder.{records-may_move}
+use Rattle.nr_shifttable.proofs.laws.records_may_move.Goals as goal
+
+pub returns : goal.returns
+returns c = records-may_move

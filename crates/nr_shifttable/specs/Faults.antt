@@ -1,0 +1,69 @@
+-- Which fault of the parity columns is named, said by the literal lists of columns and values (TS 38.212, 5.3.2).
+use Rattle.std.specs.Prelude.{◌≡◌, ℕ, ◌+◌, ◌<◌, ◌≤◌, ◌↔◌, List, [], ◌∷◌, length, All, Err}
+use Rattle.nr_graphpick.specs.declared.Graph.{Graph}
+use Rattle.nr_graphpick.specs.declared.Graph.TheVariants.{One, Two}
+use Rattle.nr_graphpick.specs.Graph.{rows_of, info_cols_of}
+use Rattle.nr_shifttable.specs.declared.entry.Entry.{Entry}
+use Rattle.nr_shifttable.specs.declared.fault.TableFault.TheVariants.{Core, Extension, MissingRow}
+use Rattle.nr_shifttable.specs.Accepted.{Entries, entries_in, row_of, accepted, Ascending, IsInRange}
+use Rattle.nr_shifttable.specs.Tails.{tail_of, HasCore}
+
+-- rows 0 to 3 have the core's shape in one set, with some values of the first parity column
+pub record HasCoreRows (es : List Entry) (set n : ℕ) : Type 0 where
+  pub first : ℕ
+  pub middle : ℕ
+  pub last : ℕ
+  pub core : HasCore es set n first middle last
+
+-- rows 0 to 3 have the core's shape in each of the eight sets
+abbrev pub CoreIsWell : Graph → List Entry → Type 0
+CoreIsWell g es = (set : ℕ) → set < 8 → HasCoreRows es set (info_cols_of g)
+
+-- row i has an entry
+abbrev pub HasRow : List Entry → ℕ → Type 0
+HasRow es i = 0 < length (row_of es i)
+
+-- each row i from 4 on that has an entry has, past the core's columns, its own column alone, with 0 in each of the eight sets
+abbrev pub ExtensionIsWell : Graph → List Entry → Type 0
+ExtensionIsWell g es =
+    (set i : ℕ) → set < 8 → 4 ≤ i → i < rows_of g → HasRow es i → tail_of es set (info_cols_of g + 4) i ≡ (info_cols_of g + i, 0) ∷ []
+
+-- each row from 4 on has an entry
+abbrev pub RowsAreThere : Graph → List Entry → Type 0
+RowsAreThere g es = (i : ℕ) → 4 ≤ i → i < rows_of g → HasRow es i
+
+-- a base graph that has an entry has no fault
+pub record IsWell (g : Graph) (es : List Entry) : Type 0 where
+  pub core : CoreIsWell g es
+  pub extension : ExtensionIsWell g es
+  pub rows : RowsAreThere g es
+
+-- a base graph has an entry, and the one before it, if it has an entry, no fault
+abbrev pub IsReached : Graph → Entries → Type 0
+IsReached One t = 0 < length t.one
+IsReached Two t = (0 < length t.two) × (0 < length t.one → IsWell One t.one)
+
+-- the entries of each base graph are within it and in ascending order of their places, as the items of every file are
+pub record AreEntries (t : Entries) : Type 0 where
+  pub one : Ascending 0 t.one
+  pub two : Ascending 0 t.two
+  pub one_in_range : All (IsInRange One) t.one
+  pub two_in_range : All (IsInRange Two) t.two
+
+-- Core is named exactly where rows 0 to 3 lack the core's shape in one of the eight sets
+abbrev pub CoreIsNamed : Type 0
+CoreIsNamed = (t : Entries) (g : Graph) → AreEntries t → (accepted t ≡ Err (Core g)) ↔ (IsReached g t × (CoreIsWell g (entries_in g t) → ⊥))
+
+-- Extension is named exactly where they have it, and a row from 4 on that has an entry lacks its own column, has a value
+-- other than 0 there, or has another column past the core's
+abbrev pub ExtensionIsNamed : Type 0
+ExtensionIsNamed =
+    (t : Entries) (g : Graph) → AreEntries t
+    → (accepted t ≡ Err (Extension g)) ↔ (IsReached g t × CoreIsWell g (entries_in g t) × (ExtensionIsWell g (entries_in g t) → ⊥))
+
+-- MissingRow is named exactly where all that stands there is well, and a row from 4 on has no entry
+abbrev pub MissingRowIsNamed : Type 0
+MissingRowIsNamed =
+    (t : Entries) (g : Graph) → AreEntries t
+    → (accepted t ≡ Err (MissingRow g))
+    ↔ (IsReached g t × CoreIsWell g (entries_in g t) × ExtensionIsWell g (entries_in g t) × (RowsAreThere g (entries_in g t) → ⊥))
