@@ -3,7 +3,7 @@ use Rattle.std.proofs.Common.{◌≡◌, ℕ, ◌<◌, ◌==◌, Bool, true, fal
 use Rattle.std.proofs.lemmas.Bool.{cases_eq, cond-true, cond-false, eq-eqb, ne_eqb}
 use Rattle.std.proofs.lemmas.List.{get_or-replicate, get_or-set_same, get_or-set_other}
 use Rattle.nr_shifttable.specs.Accepted.{Entries}
-use Rattle.nr_blockdesk.specs.Calls.{Call, HadMemory, Holds, IsAfter, ProcessesAreApart, Round, after_call, answer_after, begin, begun_as, heard_as, is_on, round_after, round_from, take, taken}
+use Rattle.nr_blockdesk.specs.Calls.{Call, HadMemory, Holds, IsAfter, ProcessesAreApart, Round, after_call, answer_after, begin, begun_as, taken_as, is_on, round_after, round_from, take, taken}
 use Rattle.nr_blockdesk.specs.Explains.{Reception, reception_said}
 use Rattle.nr_blockdesk.specs.Heard.{IsRecordOf}
 use Rattle.nr_blockdesk.specs.Link.{link_said}
@@ -127,7 +127,7 @@ has_round r None holds = absurd holds
 has_round r (Some round) holds = record { round = round; is = refl; link = holds.0; heard = holds.1 }
 
 heard-ok : {X : Type 0} (said : Result X DeskFault) (x : Reception) (round : Round) → IsOk said
-    → heard_as said x round ≡ record { link = round.link; list = round.list ++ x ∷ [] }
+    → taken_as said x round ≡ record { link = round.link; list = round.list ++ x ∷ [] }
 heard-ok (Ok lengths) x round ok = refl
 heard-ok (Err e) x round ok = cc ok
 
@@ -176,7 +176,7 @@ module _ (s t : Processing) (p : ℕ) (x : Reception) (calls : List Call) (low :
           subst (λ n. after_call s.table s.settings n (round_after s.table s.settings n calls) (take p x) ≡ round_after s.table s.settings n calls) (sym is)
           (cond-true (p == p) (option_map (taken x) round) round (eq-eqb p p refl)
           ∙ ap (option_map (taken x)) has.is
-          ∙ ap (λ said. Some (heard_as said x has.round)) refused
+          ∙ ap (λ said. Some (taken_as said x has.round)) refused
           ∙ sym has.is)
 
       apart : (q : ℕ) → (q ≡ p → ⊥)

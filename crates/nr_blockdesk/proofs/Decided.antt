@@ -17,14 +17,14 @@ use Rattle.nr_graphpick.specs.Graph.{cols_of}
 use Rattle.nr_harqbuf.specs.Record.{Heardbits, first_at, first_heard, is_heard, record_of}
 use Rattle.nr_graphpick.specs.declared.Graph.{Graph}
 use Rattle.nr_ldpcenc.specs.Codeword.{codeword, filler}
-use Rattle.nr_ldpcenc.specs.Rows.{Checks, Meets, block_checks, word_size}
+use Rattle.nr_ldpcenc.specs.Rows.{Checks, Meets, block_checks}
+use Rattle.nr_segment.specs.Plan.{word_size, IsSound, Numbers, PlansAreSound}
 use Rattle.nr_ratematch.specs.Selection.{Circular}
 use Rattle.nr_shifttable.specs.Accepted.{Entries}
 use Rattle.nr_peel.specs.Closure.{closure}
-use Rattle.nr_peel.specs.Peeling.{IsStarted, Peeling, checks_for, left_of}
+use Rattle.nr_peel.specs.Peeling.{AgreesWith, IsStarted, Peeling, checks_for, left_of}
 use Rattle.nr_segment.specs.CodeBlock.{CodeBlocksAreLong, code_bits, part_of, share}
-use Rattle.nr_segment.specs.Plan.{IsSound, Numbers, PlansAreSound}
-use Rattle.nr_blockdesk.specs.Explains.{Reception, explains}
+use Rattle.nr_blockdesk.specs.Explains.{Explains, Reception, explains}
 use Rattle.nr_blockdesk.specs.Heard.{IsRecordOf, heard_of, heard_record, hearings}
 use Rattle.nr_blockdesk.specs.Link.{IsBlock, IsLink, Link, WordsArePlain, attached_length, word}
 use Rattle.nr_blockdesk.specs.Outcome.{ExplainedBy, all_fixed, blocks_of, contradiction, fixed, given, left, open_still, outcome_of, verdict_on}
@@ -36,6 +36,7 @@ use Rattle.nr_blockdesk.proofs.Deciding.{every_fixed}
 use Rattle.nr_blockdesk.proofs.Encoding.{code-shared, k-fits, part-inside}
 use Rattle.nr_blockdesk.proofs.Hears.{same-checks}
 use Rattle.nr_blockdesk.proofs.Links.{length-attached}
+use Rattle.nr_blockdesk.proofs.Recorded.{none_heard}
 use Rattle.nr_blockdesk.proofs.Taking.{one-all}
 
 -- an outcome that a record decides is that of each list of which it is the record
@@ -135,6 +136,16 @@ all-known sound link records peelers is desk =
         let tied = desk.tied k (subst (λ n. k < n) desk.peelings inside) in
         ap (λ n. n == 0) (left-known sound link (heard_of records k) (peeling_of link peelers k) is tied)
         ∙ ap (λ j. left link records j == 0) none
+
+-- each transport block that explains a list has the bits that the peelers know by its record
+pub known-bits : WordsArePlain → ExplainsByRecord → (link : Link) (records : List Heardbits) (peelers : List Peeling)
+    (list : List Reception) (block : List Bool) (r : ℕ) → IsLink link → IsDesk link records peelers → r < link.plan.c
+    → IsRecordOf link list records → IsBlock link block → Explains link list block
+    → AgreesWith (peeling_of link peelers r) (bit (word link block r))
+known-bits plain by_record link records peelers list block r is desk inside of whole explained =
+    let by : ExplainedBy link records block =
+    subst (λ (l : List Heardbits). ExplainedBy link l block) (sym of.same) ((by_record link list block is of.accepted whole).0 explained) in
+    (desk.tied r inside).words (bit (word link block r)) (plain link block r is whole inside).plain (by r inside).1
 
 known-value : (known : Bool) (b : Bool) → known ≡ true → unwrap_or (cond known (Some b) None) false ≡ b
 known-value true b e = refl
@@ -274,11 +285,7 @@ started-tied sound link s p is start s-is = record {
     gives = start.given ∙ ap (λ (c : Checks). map fill (range_with_len 0 c.size)) checks
 
     none : (k : ℕ) → is_heard (first_at s k) ≡ false
-    none k = ap (λ (h : Heardbits). is_heard (first_at h k)) s-is ∙ ⊎_elim
-        (λ (low : k < N). ap is_heard (get_or-map-range_with_len (first_heard []) 0 N k k None low (omega arith)))
-        (λ (high : N ≤ k). ap is_heard (get_or_past (map (first_heard []) (range_with_len 0 N)) k None
-        (omega (arith, length-map-range_with_len (first_heard []) 0 N, high))))
-        (cases_lt k N)
+    none k = ap (λ (h : Heardbits). is_heard (first_at h k)) s-is ∙ ap is_heard (none_heard N k)
 
     positions : (k : ℕ) → bit p.given k ≡ given link s k
     positions k =

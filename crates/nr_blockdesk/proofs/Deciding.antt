@@ -16,7 +16,7 @@ use Rattle.nr_peel.specs.Closure.{AgreeOn}
 use Rattle.nr_peel.specs.Laws.{ChecksAreSound, WordsAgreeOnClosure}
 use Rattle.nr_segment.specs.CodeBlock.{CodeBlocksAreLong, JoinUndoesCut, all_code_bits, code_bits, joined}
 use Rattle.nr_blockdesk.specs.Heard.{heard_of, heard_record}
-use Rattle.nr_blockdesk.specs.Link.{IsBlock, IsLink, Link, WordsArePlain, attached_length, code_block, word}
+use Rattle.nr_blockdesk.specs.Link.{IsBlock, IsLink, Link, WordsArePlain, attached_length, code_bits_of, word}
 use Rattle.nr_blockdesk.specs.Outcome.{all_fixed, fixed, given, left}
 use Rattle.nr_blockdesk.specs.ReceiverLaws.{ExplainersAgree, ExplainsByRecord, OneExplains}
 use Rattle.nr_blockdesk.proofs.Links.{length-attached}
@@ -84,7 +84,7 @@ map-same f g a (suc n) each =
 
 -- transport blocks whose code blocks are the same are the same
 pub blocks_make : LongBlocksLengthen → ShortBlocksLengthen → JoinUndoesCut → (link : Link) (x y : List Bool) → IsLink link
-    → IsBlock link x → IsBlock link y → ((r : ℕ) → r < link.plan.c → code_block link x r ≡ code_block link y r) → x ≡ y
+    → IsBlock link x → IsBlock link y → ((r : ℕ) → r < link.plan.c → code_bits_of link x r ≡ code_bits_of link y r) → x ≡ y
 blocks_make long short joins link x y is whole-x whole-y each =
     let long-x : length (attached x) ≡ attached_length link.a = length-attached long short x ∙ ap attached_length whole-x in
     let long-y : length (attached y) ≡ attached_length link.a = length-attached long short y ∙ ap attached_length whole-y in
@@ -105,23 +105,23 @@ pub words_make : LongBlocksLengthen → ShortBlocksLengthen → JoinUndoesCut �
     → ((r p : ℕ) → r < link.plan.c → p < link.plan.kdash → bit (word link x r) p ≡ bit (word link y r) p) → x ≡ y
 words_make long short joins codes plain link x y is whole-x whole-y same = blocks_make long short joins link x y is whole-x whole-y each
   where
-    kept : (block : List Bool) (r : ℕ) → IsBlock link block → r < link.plan.c → length (code_block link block r) ≡ link.plan.kdash
+    kept : (block : List Bool) (r : ℕ) → IsBlock link block → r < link.plan.c → length (code_bits_of link block r) ≡ link.plan.kdash
     kept block r whole inside =
         codes link.graph (attached_length link.a) link.plan (attached block) r is.planned
         (length-attached long short block ∙ ap attached_length whole) inside
 
-    each : (r : ℕ) → r < link.plan.c → code_block link x r ≡ code_block link y r
-    each r inside = same_lists (code_block link x r) (code_block link y r) (kept x r whole-x inside ∙ sym (kept y r whole-y inside)) at
+    each : (r : ℕ) → r < link.plan.c → code_bits_of link x r ≡ code_bits_of link y r
+    each r inside = same_lists (code_bits_of link x r) (code_bits_of link y r) (kept x r whole-x inside ∙ sym (kept y r whole-y inside)) at
       where
-        at : (k : ℕ) (d : Bool) → k < length (code_block link x r) → get_or (code_block link x r) k d ≡ get_or (code_block link y r) k d
+        at : (k : ℕ) (d : Bool) → k < length (code_bits_of link x r) → get_or (code_bits_of link x r) k d ≡ get_or (code_bits_of link y r) k d
         at k d low =
             let below : k < link.plan.kdash = subst (λ n. k < n) (kept x r whole-x inside) low in
-            let low-y : k < length (code_block link y r) = subst (λ n. k < n) (sym (kept y r whole-y inside)) below in
-            get_or_default (code_block link x r) k d false low
+            let low-y : k < length (code_bits_of link y r) = subst (λ n. k < n) (sym (kept y r whole-y inside)) below in
+            get_or_default (code_bits_of link x r) k d false low
             ∙ sym ((plain link x r is whole-x inside).begins k below)
             ∙ same r k inside below
             ∙ (plain link y r is whole-y inside).begins k below
-            ∙ get_or_default (code_block link y r) k false d low-y
+            ∙ get_or_default (code_bits_of link y r) k false d low-y
 
 pub one-explains : LongBlocksLengthen → ShortBlocksLengthen → JoinUndoesCut → CodeBlocksAreLong → WordsArePlain
     → ExplainersAgree → OneExplains

@@ -17,10 +17,10 @@ use Rattle.nr_graphpick.specs.declared.Graph.{Graph}
 use Rattle.nr_harqbuf.specs.Record.{HasFirsts, Heardbits, Hearing, RecordContinues, differs, first_at, is_heard, record_of, with_hearing}
 use Rattle.nr_interleave.specs.Interleaving.{seat_of}
 use Rattle.nr_ldpcenc.specs.Codeword.{filler}
-use Rattle.nr_ldpcenc.specs.Rows.{Checks, Meets, block_checks, word_size}
+use Rattle.nr_ldpcenc.specs.Rows.{Checks, Meets, block_checks}
+use Rattle.nr_segment.specs.Plan.{word_size, Numbers}
 use Rattle.nr_peel.specs.Peeling.{AgreesWith, IsPeeled, IsSameCode, Peeling, checks_for}
 use Rattle.nr_ratematch.specs.Selection.{Circular, place_of}
-use Rattle.nr_segment.specs.Plan.{Numbers}
 use Rattle.nr_shifttable.specs.Accepted.{Entries}
 use Rattle.nr_blockdesk.specs.Explains.{heard_at}
 use Rattle.nr_blockdesk.specs.Heard.{heard_of}

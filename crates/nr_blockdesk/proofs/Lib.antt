@@ -13,4 +13,6 @@ pub mod Taking
 pub mod Decided
 mod Kept
 mod Nothing
+mod Ends
+mod Exact
 mod CallFacts

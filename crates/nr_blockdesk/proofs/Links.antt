@@ -16,12 +16,12 @@ use Rattle.nr_segment.specs.declared.numbers.Plan.{Plan}
 use Rattle.nr_segment.specs.Plan.{Numbers, plan_of}
 use Rattle.nr_segment.specs.declared.numbers.SegFault.{SegFault}
 use Rattle.nr_shifttable.specs.Accepted.{Entries, has_graph}
-use Rattle.nr_blockdesk.specs.Link.{IsLink, LinksAreSound, WordsArePlain, attached_length, demanded, is_size, link_of, link_said, word}
+use Rattle.nr_blockdesk.specs.Link.{IsLink, Link, LinksAreSound, WordsArePlain, attached_length, demanded, is_size, link_of, link_said, word}
 use Rattle.nr_blockdesk.specs.declared.settings.Settings.{Settings}
 use Rattle.nr_blockdesk.specs.declared.fault.DeskFault.{DeskFault}
 use Rattle.nr_blockdesk.specs.declared.fault.DeskFault.TheVariants as fault
 
-ok-same : {X : Type 0} {x y : X} → ◌≡◌ {A = Result X DeskFault} (Ok x) (Ok y) → x ≡ y
+pub ok-same : {X : Type 0} {x y : X} → ◌≡◌ {A = Result X DeskFault} (Ok x) (Ok y) → x ≡ y
 ok-same e = cc e
 
 -- what a chain of steps that answers says of each step
@@ -74,6 +74,17 @@ link-sound circular table settings a link is said =
       circular = circular picks.0 (attached_length a) plans.0 settings.lbrm keeps.0 planned buffered;
       buffered = buffer-made picks.0 plans.0 settings.lbrm keeps.0 buffered;
     })
+
+-- the link is that of transport blocks of so many bits
+pub link-blocks : (table : Entries) (settings : Settings) (a : ℕ) (link : Link) → link_said table settings a ≡ Ok link → a ≡ link.a
+unfolding link_said
+link-blocks table settings a link said =
+    let whole = bind-ok (demanded fault.Size (is_size a)) _ link said in
+    let picks = bind-ok (with_fault fault.Pick (picked a settings.rate2048)) _ link whole.2 in
+    let plans = bind-ok (with_fault fault.Seg (plan_of picks.0 (attached_length a))) _ link picks.2 in
+    let there = bind-ok (demanded fault.Graph (has_graph picks.0 table)) _ link plans.2 in
+    let keeps = bind-ok (with_fault fault.Rm (buffer_said picks.0 plans.0 settings.lbrm)) _ link there.2 in
+    ap (λ (l : Link). l.a) (ok-same keeps.2)
 
 -- how many bits a transport block has with its CRC
 pub length-attached : LongBlocksLengthen → ShortBlocksLengthen → (block : List Bool)

@@ -1,14 +1,15 @@
 -- The law that a record says which transport blocks explain a list of receptions.
-use Rattle.std.proofs.Common.{◌≡◌, ℕ, ◌*◌, ◌<◌, ◌==◌, Bool, true, false, cond, nat_lt, List, [], ◌∷◌, length, get_or, All, refl, sym, ap, subst, ◌∙◌, arith}
+use Rattle.std.proofs.Common.{◌≡◌, ℕ, ◌*◌, ◌<◌, ◌≤◌, ◌==◌, Bool, true, false, cond, nat_lt, List, [], ◌∷◌, length, map, get_or, All, refl, sym, ap, subst, ◌∙◌, ⊎_elim, arith}
 use Rattle.std.specs.Prelude.{Option, Some, None, option_map, Ok, sum}
 use Rattle.std.specs.List.{list_all, range_with_len}
-use Rattle.std.proofs.lemmas.Bool.{and_from, eqb-true}
+use Rattle.std.proofs.lemmas.Bool.{and_from, cases_lt, eqb-true}
 use Rattle.std.proofs.lemmas.Bool.Decides.{nat_tests}
-use Rattle.std.proofs.lemmas.List.FromFn.{get_or-map-range_with_len}
+use Rattle.std.proofs.lemmas.List.{get_or_past}
+use Rattle.std.proofs.lemmas.List.FromFn.{get_or-map-range_with_len, length-map-range_with_len}
 use Rattle.nr_bitvec.specs.Bit.{bit}
 use Rattle.nr_graphpick.specs.Graph.{cols_of}
-use Rattle.nr_harqbuf.specs.Record.{FitsByRecord, HasFirsts, Heardbits, Hearing, record_of}
-use Rattle.nr_ldpcenc.specs.Rows.{word_size}
+use Rattle.nr_harqbuf.specs.Record.{FitsByRecord, HasFirsts, Heardbits, Hearing, first_at, first_heard, record_of}
+use Rattle.nr_segment.specs.Plan.{word_size}
 use Rattle.nr_blockdesk.specs.Explains.{Explains, IsAccepted, Reception, heard_at}
 use Rattle.nr_blockdesk.specs.Heard.{hearing_at, heard_of, heard_record, hearings, hearings_in}
 use Rattle.nr_blockdesk.specs.Hearing.{heard_bit}
@@ -64,6 +65,20 @@ unfolding heard_record
 record-at link list r inside =
     get_or-map-range_with_len (λ k. record_of (word_size link.graph link.plan) (hearings link list k)) 0 link.plan.c r r
     (record { first = []; clash = false }) inside (omega arith)
+
+-- what a record keeps of a position: the first bit heard there, and nothing of one that the word lacks
+pub first-inside : (n : ℕ) (hs : List Hearing) (p : ℕ) → p < n → first_at (record_of n hs) p ≡ first_heard hs p
+first-inside n hs p inside = get_or-map-range_with_len (first_heard hs) 0 n p p None inside (omega arith)
+
+pub first-past : (n : ℕ) (hs : List Hearing) (p : ℕ) → n ≤ p → first_at (record_of n hs) p ≡ None
+first-past n hs p past =
+    let long : length (map (first_heard hs) (range_with_len 0 n)) ≤ p = omega (arith, length-map-range_with_len (first_heard hs) 0 n, past) in
+    get_or_past (map (first_heard hs) (range_with_len 0 n)) p None long
+
+-- nothing is kept where nothing was heard
+pub none_heard : (n p : ℕ) → first_at (record_of n []) p ≡ None
+unfolding first_heard
+none_heard n p = ⊎_elim (λ (low : p < n). first-inside n [] p low) (λ (high : n ≤ p). first-past n [] p high) (cases_lt p n)
 
 -- the hearings of code block r are positions of its word
 abbrev is_below : ℕ → Hearing → Bool

@@ -11,7 +11,7 @@ use Rattle.std.proofs.lemmas.List.Sums.{sum_by_more_le}
 use Rattle.nr_cbconcat.specs.Concatenation.{IsOwner, PlacesHaveOneOwner, owner_of}
 use Rattle.nr_harqbuf.specs.Record.{Heardbits, Hearing, record_of}
 use Rattle.nr_interleave.specs.Interleaving.{seat_of}
-use Rattle.nr_ldpcenc.specs.Rows.{word_size}
+use Rattle.nr_segment.specs.Plan.{word_size}
 use Rattle.nr_peel.specs.Peeling.{Peeling}
 use Rattle.nr_ratematch.specs.Selection.{place_of}
 use Rattle.nr_blockdesk.specs.Explains.{IsAccepted, Reception, heard_at, reception, reception_said, reception_said_of}

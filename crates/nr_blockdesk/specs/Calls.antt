@@ -28,13 +28,13 @@ begun_as (Ok link) round = Some (record { link = link; list = [] })
 begun_as (Err e) round = round
 
 -- the round after a `take`: one reception more, unless the call is refused
-abbrev pub heard_as : {X : Type 0} → Result X DeskFault → Reception → Round → Round
-heard_as (Ok lengths) x round = record { link = round.link; list = round.list ++ x ∷ [] }
-heard_as (Err e) x round = round
+abbrev pub taken_as : {X : Type 0} → Result X DeskFault → Reception → Round → Round
+taken_as (Ok lengths) x round = record { link = round.link; list = round.list ++ x ∷ [] }
+taken_as (Err e) x round = round
 
 -- the same, by what is said of the reception
 abbrev pub taken : Reception → Round → Round
-taken x round = heard_as (reception_said round.link x) x round
+taken x round = taken_as (reception_said round.link x) x round
 
 -- the round of process p after one call
 abbrev pub after_call : Entries → Settings → ℕ → Option Round → Call → Option Round

@@ -2,7 +2,7 @@
 use Rattle.std.specs.Prelude.{◌≡◌, ℕ, ◌==◌, false, if◌then◌else◌, List, [], length, map, flat_map, All, Option, None, option_map, slice_index_or}
 use Rattle.std.specs.List.{filter_map, range_with_len}
 use Rattle.nr_harqbuf.specs.Record.{Hearing, Heardbits, record_of}
-use Rattle.nr_ldpcenc.specs.Rows.{word_size}
+use Rattle.nr_segment.specs.Plan.{word_size}
 use Rattle.nr_blockdesk.specs.Explains.{IsAccepted, Reception, heard_at}
 use Rattle.nr_blockdesk.specs.Hearing.{heard_bit}
 use Rattle.nr_blockdesk.specs.Link.{Link}

@@ -5,6 +5,7 @@ pub mod Explains
 pub mod Heard
 pub mod Outcome
 pub mod ReceiverLaws
+pub mod OutcomeLaws
 pub mod Receiving
 pub mod Processing
 pub mod Calls

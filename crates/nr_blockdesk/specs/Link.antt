@@ -65,12 +65,12 @@ abbrev pub IsBlock : Link → List Bool → Type 0
 IsBlock link block = length block ≡ link.a
 
 -- the K' bits of code block r of a transport block (5.2.2)
-abbrev pub code_block : Link → List Bool → ℕ → List Bool
-code_block link block r = code_bits link.plan (attached block) r
+abbrev pub code_bits_of : Link → List Bool → ℕ → List Bool
+code_bits_of link block r = code_bits link.plan (attached block) r
 
 -- the codeword of code block r of a transport block (5.3.2)
 unfoldable pub word : Link → List Bool → ℕ → List Bool
-word link block r = codeword link.table link.graph link.plan (code_block link block r)
+word link block r = codeword link.table link.graph link.plan (code_bits_of link block r)
 
 -- the codewords of a transport block
 abbrev pub words_of : Link → List Bool → List (List Bool)
@@ -80,7 +80,7 @@ words_of link block = map (word link block) (range_with_len 0 link.plan.c)
 -- every row (5.3.2)
 abbrev pub WordsArePlain : Type 0
 WordsArePlain = (link : Link) (block : List Bool) (r : ℕ) → IsLink link → IsBlock link block → r < link.plan.c
-    → IsCodeword link.table link.graph link.plan (code_block link block r) (word link block r)
+    → IsCodeword link.table link.graph link.plan (code_bits_of link block r) (word link block r)
 
 -- the link of every table is sound
 abbrev pub LinksAreSound : Type 0

@@ -6,11 +6,10 @@ use Rattle.nr_bitvec.specs.BitList.{BitList}
 use Rattle.nr_harqbuf.specs.Record.{Hearing, Heardbits, HasFirsts, record_of}
 use Rattle.nr_interleave.specs.Interleaving.{seat_of}
 use Rattle.nr_ldpcenc.specs.Codeword.{IsPlain}
-use Rattle.nr_ldpcenc.specs.Rows.{word_size}
+use Rattle.nr_segment.specs.Plan.{word_size, Numbers}
 use Rattle.nr_peel.specs.Peeling.{AgreesWith, IsPeeled, Peeling, checks_for, known_at}
 use Rattle.nr_ratematch.specs.Selection.{Circular, place_of}
 use Rattle.nr_segment.specs.CodeBlock.{share}
-use Rattle.nr_segment.specs.Plan.{Numbers}
 use Rattle.nr_blockdesk.specs.Explains.{heard_at}
 use Rattle.nr_blockdesk.specs.Heard.{heard_of}
 use Rattle.nr_blockdesk.specs.Hearing.{heard_bit}
@@ -23,10 +22,11 @@ use Rattle.nr_blockdesk.specs.declared.outcome.Outcome.{Outcome}
 use Rattle.nr_blockdesk.specs.declared.outcome.Outcome.TheVariants as outcome
 use Rattle.nr_blockdesk.specs.declared.tx.Tx.{Tx}
 
--- what contracts see of a `Receiver`: the link, and the record of each code block
+-- what contracts see of a `Receiver`: the link, and the record and the peeler of each code block
 pub record Receiving : Type 0 where
   pub link : Link
   pub heard : List Heardbits
+  pub peelings : List Peeling
 
 -- an outcome, as a verdict
 abbrev pub verdict : Outcome → Verdict

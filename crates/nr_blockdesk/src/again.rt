@@ -7,8 +7,7 @@ ghost use Rattle.nr_crcattach.specs.Crc.{crc_of};
 ghost use Rattle.nr_crcattach.specs.declared.Poly.TheVariants.{B24};
 ghost use Rattle.nr_harqbuf.specs.Record.{Heardbits};
 ghost use Rattle.nr_ldpcenc.specs.Codeword.{codeword};
-ghost use Rattle.nr_ldpcenc.specs.Rows.{word_size};
-ghost use Rattle.nr_segment.specs.CodeBlock.{code_bits, code_block, numbers, shared_bits};
+ghost use Rattle.nr_segment.specs.CodeBlock.{positions_of, code_bits, code_block, numbers, shared_bits};
 ghost use Rattle.nr_shifttable.specs.Accepted.{has_graph};
 ghost use Rattle.nr_blockdesk.specs.Heard.{heard_of};
 ghost use Rattle.nr_blockdesk.specs.Receiving.{AreWords, Fits, word_at};
@@ -69,10 +68,10 @@ fn encode_in(table: &Table, plan: &Plan, list: &Bits, r: u32, word: &mut Word)
     requires graph { IsTrue (has_graph plan.now.graph table.now) }
     requires whole { length list.now.items ≡ plan.now.b }
     requires block { r < plan.now.c }
-    requires long { length word.old ≡ word_size plan.now.graph (numbers plan.now) }
+    requires long { length word.old ≡ positions_of plan.now }
     ensures encoded { word.new ≡ codeword table.now plan.now.graph (numbers plan.now)
         (code_bits (numbers plan.now) list.now.items r) }
-    ensures long { length word.new ≡ word_size plan.now.graph (numbers plan.now) }
+    ensures long { length word.new ≡ positions_of plan.now }
 {
     code_blocks_are_long();
     let share = plan.kdash - plan.l;
@@ -114,10 +113,10 @@ pub(crate) fn explains(
     requires graph { IsTrue (has_graph plan.now.graph table.now) }
     requires whole { length list.now.items ≡ plan.now.b }
     requires words { AreWords plan.now.c
-        (word_size plan.now.graph (numbers plan.now)) words.old }
+        (positions_of plan.now) words.old }
     requires all { length stores.now ≡ plan.now.c }
     requires stored { (r : ℕ) → r < plan.now.c
-        → length (heard_of stores.now r).first ≡ word_size plan.now.graph (numbers plan.now) }
+        → length (heard_of stores.now r).first ≡ positions_of plan.now }
     ensures fits { result ≡ true → (r : ℕ) → r < plan.now.c → Fits (heard_of stores.now r)
         (bit (codeword table.now plan.now.graph (numbers plan.now)
         (code_bits (numbers plan.now) list.now.items r))) }
@@ -128,7 +127,7 @@ pub(crate) fn explains(
         ≡ codeword table.now plan.now.graph (numbers plan.now)
         (code_bits (numbers plan.now) list.now.items r) }
     ensures words { AreWords plan.now.c
-        (word_size plan.now.graph (numbers plan.now)) words.new }
+        (positions_of plan.now) words.new }
 {
     for r in 0..plan.c {
         let word = &mut words[r as usize];

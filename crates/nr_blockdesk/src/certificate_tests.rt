@@ -1,8 +1,9 @@
 //! What the peelers of receivers show is accepted by its checkers: an order where no position below K' is left, and else
 //! where peeling is stuck.
 
-use crate::tests::{PLAIN, on_one_layer, practice, receiver_of, sender_of, told, zeros};
-use crate::{Heard, Receiver, Sender, Settings, Tx};
+use crate::practice::{PLAIN, on_one_layer, practice, zeros};
+use crate::receiver_tests::{receiver_of, sender_of, told};
+use crate::{Heard, Outcome, Receiver, Sender, Settings, Tx};
 use nr_bitvec::Bits;
 use nr_peel::{check_order, check_stuck};
 use nr_ratematch::Mask;
@@ -12,7 +13,7 @@ use std::alloc::Global;
 use std::test::Fail;
 
 /// Ranges of places, each by its first and its last place.
-type Places<'a> = &'a [(usize, usize)];
+pub(crate) type Places<'a> = &'a [(usize, usize)];
 
 const NONE: Places<'static> = &[];
 
@@ -20,10 +21,10 @@ const FOUR: Places<'static> = &[(0, 3)];
 
 /// A transmission, the places that are heard, and those that are flipped.
 #[derive(Clone, Copy)]
-struct Arrival<'a> {
-    tx: Tx,
-    heard: Places<'a>,
-    flipped: Places<'a>,
+pub(crate) struct Arrival<'a> {
+    pub(crate) tx: Tx,
+    pub(crate) heard: Places<'a>,
+    pub(crate) flipped: Places<'a>,
 }
 
 /// The first `g` bits of redundancy version 0.
@@ -57,15 +58,15 @@ fn arrives(alloc: Global, bits: &Bits, arrival: &Arrival<'_>) -> Result<Vec<Hear
 }
 
 /// Sends a transmission: what the receiver answers to what arrives.
-fn hear(
+pub(crate) fn hear(
     alloc: Global,
     sender: &Sender<'_>,
     receiver: &mut Receiver<'_>,
     arrival: &Arrival<'_>,
-) -> Result<(u32, u8), Fail> {
+) -> Result<Outcome, Fail> {
     let bits = sender.send(&arrival.tx)?;
     let places = arrives(alloc, &bits, arrival)?;
-    Ok(told(&receiver.take(&arrival.tx, &places)?))
+    Ok(receiver.take(&arrival.tx, &places)?)
 }
 
 /// The receiver of a transport block after these transmissions.
@@ -282,7 +283,7 @@ fn hears_place_by_place(
 ) -> Result<(u32, u8), Fail> {
     let mut last = (0, 0);
     for m in 0..184 {
-        last = hear(alloc, sender, receiver, &first(184, &[(m, m)], &[]))?;
+        last = told(&hear(alloc, sender, receiver, &first(184, &[(m, m)], &[]))?);
     }
     Ok(last)
 }

@@ -30,8 +30,9 @@ pub use outcome::Outcome;
 pub use processes::{Processes, processes_are_apart};
 pub use receiver::Receiver;
 pub use receiver_laws::{
-    delivered_is_only, erasures_are_safe, explained_is_delivered, explained_never_contradicts,
-    explainers_agree, explains_by_record, nothing_is_open, one_explains,
+    delivered_is_only, ends_are_safe, erasures_are_safe, explained_is_delivered,
+    explained_never_contradicts, explainers_agree, explains_by_record, nothing_is_open,
+    nothing_leaves_all, one_explains, outcomes_are_exact, outcomes_settle,
 };
 pub use sender::Sender;
 pub use settings::Settings;
@@ -40,7 +41,13 @@ pub use tx::Tx;
 #[cfg(test)]
 mod certificate_tests;
 #[cfg(test)]
+mod delivery_tests;
+#[cfg(test)]
+mod practice;
+#[cfg(test)]
 mod processes_tests;
+#[cfg(test)]
+mod receiver_tests;
 #[cfg(test)]
 mod refused_tests;
 #[cfg(test)]

@@ -1,6 +1,7 @@
 //! Processes over a practice table, whose words can be written by hand.
 
-use crate::tests::{PLAIN, arrives, left_of, on_one_layer, practice, sender_of, told};
+use crate::practice::{PLAIN, on_one_layer, practice};
+use crate::receiver_tests::{arrives, left_of, sender_of, told};
 use crate::{DeskFault, Heard, Processes, Sender};
 use nr_shifttable::Table;
 use std::alloc::Global;

@@ -3,17 +3,15 @@
 ghost use Rattle.std.specs.Prelude.{◌≡◌, ◌≢◌, ℕ, ◌<◌, ◌++◌, [], ◌∷◌, Bool, true, List, length, All, IfOk, IfErr, IsErrOf, IsOk, OnErr, OnOk};
 ghost use Rattle.nr_bitvec.specs.Bit.{bit};
 ghost use Rattle.nr_graphpick.specs.Refusal.{Gives};
-ghost use Rattle.nr_harqbuf.specs.Positions.{positions_of};
+ghost use Rattle.nr_segment.specs.CodeBlock.{positions_of, numbers};
 ghost use Rattle.nr_harqbuf.specs.Record.{record_of};
-ghost use Rattle.nr_ldpcenc.specs.Rows.{word_size};
-ghost use Rattle.nr_peel.specs.Peeling.{IsPeeled, IsStarted};
-ghost use Rattle.nr_segment.specs.CodeBlock.{numbers};
+ghost use Rattle.nr_peel.specs.Peeling.{AgreesWith, IsPeeled, IsStarted};
 ghost use Rattle.nr_shifttable.specs.Accepted.{has_graph};
 ghost use Rattle.nr_blockdesk.specs.Explains.{Explains, Reception, reception, reception_said};
 ghost use Rattle.nr_blockdesk.specs.Heard.{IsRecordOf, heard_of};
-ghost use Rattle.nr_blockdesk.specs.Link.{IsBlock, attached_length, link_said};
+ghost use Rattle.nr_blockdesk.specs.Link.{IsBlock, attached_length, link_said, word};
 ghost use Rattle.nr_blockdesk.specs.Outcome.{all_fixed, contradiction, delivered, given, left, outcome_of};
-ghost use Rattle.nr_blockdesk.specs.Receiving.{AreWords, IsDecided, RefusesAs, verdict};
+ghost use Rattle.nr_blockdesk.specs.Receiving.{AreWords, IsDecided, RefusesAs, peeling_of, verdict};
 
 use crate::again::{attach_in_room, explains};
 use crate::candidate::{Standing, all_known, candidate, copy_bits};
@@ -67,6 +65,7 @@ impl<'t> Model for Receiver<'t> {
     ghost view = { λ x. record {
       link = link_of x.table.now x.plan x.a x.buffer;
       heard = x.stores.items;
+      peelings = x.peelers.items;
     } };
 
     ghost invariant = { λ x. IsReceiver (link_of x.table.now x.plan x.a x.buffer)
@@ -185,7 +184,8 @@ impl<'t> Receiver<'t> {
     }
 
     /// The peeler of code block `r`, counted from 0 and below C: it is given the positions that were heard, and the
-    /// fillers.
+    /// fillers. The bits that it knows are those of the codeword of each transport block that explains all that was
+    /// received.
     pub fn peeler(&self, r: u32) -> &Peeler<'t>
         requires { r < self.now.link.plan.c }
         ensures table { result.now.table ≡ self.now.link.table }
@@ -193,8 +193,15 @@ impl<'t> Receiver<'t> {
         ensures numbers { result.now.numbers ≡ self.now.link.plan }
         ensures given { (k : ℕ) → bit result.now.given k
             ≡ given self.now.link (heard_of self.now.heard r) k }
+        ensures value { result.now ≡ peeling_of self.now.link self.now.peelings r }
+        ensures bits { (list : List Reception) (block : List Bool)
+            → IsRecordOf self.now.link list self.now.heard → IsBlock self.now.link block
+            → Explains self.now.link list block
+            → AgreesWith result.now (bit (word self.now.link block r)) }
         ensures peeled { IsPeeled result.now }
     {
+        words_are_plain();
+        explains_by_record();
         &self.peelers[r as usize]
     }
 
@@ -276,7 +283,7 @@ fn parts<'t>(
 // A word of each code block.
 fn blank_words(alloc: Global, plan: &Plan) -> Result<Vec<Word>, AllocError>
     ensures { IfOk result (λ words. AreWords plan.now.c
-        (word_size plan.now.graph (numbers plan.now)) words.items) }
+        (positions_of plan.now) words.items) }
 {
     let mut words = Vec::with_capacity(alloc, plan.c as usize)?;
     for _ in 0..plan.c {

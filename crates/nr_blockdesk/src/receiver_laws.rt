@@ -1,20 +1,27 @@
 //! Laws of receptions and their outcome, each the contract of a function that does nothing.
 
+ghost use Rattle.nr_blockdesk.specs.OutcomeLaws.{OutcomesAreExact, OutcomesSettle};
 ghost use Rattle.nr_blockdesk.specs.ReceiverLaws.{
   DeliveredIsOnly,
+  EndsAreSafe,
   ErasuresAreSafe,
   ExplainedIsDelivered,
   ExplainedNeverContradicts,
   ExplainersAgree,
   ExplainsByRecord,
   NothingIsOpen,
+  NothingLeavesAll,
   OneExplains,
 };
 
-use crate::laws::{accepted_are_matched, sent_bits_are_at, words_are_plain};
+use crate::laws::{
+    accepted_are_matched, accepted_send_all, links_are_sound, sent_bits_are_at, words_are_plain,
+};
 use nr_crcattach::attachment_lengthens;
 use nr_harqbuf::fits_by_record;
-use nr_peel::laws::{checks_are_sound, nothing_heard_fixes_nothing, words_agree_on_closure};
+use nr_peel::laws::{
+    checks_are_sound, closure_is_monotone, nothing_heard_fixes_nothing, words_agree_on_closure,
+};
 use nr_segment::{code_blocks_are_long, join_undoes_cut, plans_are_sound};
 
 /// Law: which transport blocks explain all that arrived can be read off the record of the first bit heard at each
@@ -82,4 +89,43 @@ pub fn nothing_is_open()
 {
     nothing_heard_fixes_nothing();
     plans_are_sound();
+}
+
+/// Law: with nothing received all K' positions of each code block are left.
+pub fn nothing_leaves_all()
+    ensures { NothingLeavesAll }
+{
+    nothing_heard_fixes_nothing();
+    plans_are_sound();
+}
+
+/// Law: what `Sender::new` and `Receiver::new` answer for one table, one setting and blocks of one size are two ends of
+/// one link: the receiver takes all that arrives of the sender's transmissions, and over a link that only erases what is
+/// delivered is the sender's transport block, and there is no contradiction.
+pub fn ends_are_safe()
+    ensures { EndsAreSafe }
+{
+    links_are_sound();
+    accepted_send_all();
+    erasures_are_safe();
+}
+
+/// Law: a transport block is delivered exactly where every position below K' is fixed and it explains all that arrived;
+/// the outcome is open exactly where some position below K' is not fixed, and a contradiction exactly where all are
+/// fixed and no transport block explains all that arrived.
+pub fn outcomes_are_exact()
+    ensures { OutcomesAreExact }
+{
+    delivered_is_only();
+    explained_is_delivered();
+}
+
+/// Law: with more receptions an outcome is never open again, a contradiction stays one, and a delivered transport block
+/// is delivered again or contradicted.
+pub fn outcomes_settle()
+    ensures { OutcomesSettle }
+{
+    closure_is_monotone();
+    delivered_is_only();
+    outcomes_are_exact();
 }

@@ -7,7 +7,7 @@ ghost use Rattle.nr_ldpcenc.specs.Codeword.{IsCodeword};
 ghost use Rattle.nr_ratematch.specs.Lengths.{IsShared};
 ghost use Rattle.nr_ratematch.specs.Selection.{Circular};
 ghost use Rattle.nr_segment.specs.CodeBlock.{numbers};
-ghost use Rattle.nr_blockdesk.specs.Link.{attached_length, code_block, link_of, link_said, word, words_of};
+ghost use Rattle.nr_blockdesk.specs.Link.{attached_length, code_bits_of, link_of, link_said, word, words_of};
 ghost use Rattle.nr_blockdesk.specs.Sent.{matching_of, sending_said, sent_of, sent_said, tx_said, tx_said_of};
 
 use crate::fault::DeskFault;
@@ -114,7 +114,7 @@ impl<'t> Sender<'t> {
         requires { r < self.now.link.plan.c }
         ensures value { result.now ≡ word self.now.link self.now.block r }
         ensures meets { IsCodeword self.now.link.table self.now.link.graph self.now.link.plan
-            (code_block self.now.link self.now.block r) result.now }
+            (code_bits_of self.now.link self.now.block r) result.now }
     {
         words_are_plain();
         &self.words[r as usize]

@@ -1,7 +1,7 @@
 -- The bits so far are those of the code block with its fillers.
 use Rattle.std.proofs.Common.{◌≡◌, ℕ, ◌<◌, length}
 use Rattle.nr_bitvec.specs.Bit.{bit}
-use Rattle.nr_ldpcenc.specs.Rows.{word_size}
+use Rattle.nr_segment.specs.Plan.{word_size}
 use Rattle.nr_segment.specs.CodeBlock.{code_block, numbers}
 use Rattle.nr_blockdesk.proofs.again.encode_in.Given as goal
 

@@ -1,8 +1,7 @@
 use Rattle.std.proofs.Common.{◌≡◌, ◌+◌, [], ◌∷◌, length, All, length-append, subst, sym, ap, ◌∙◌, arith}
-use Rattle.nr_harqbuf.specs.Positions.{positions_of}
+use Rattle.nr_segment.specs.CodeBlock.{positions_of, numbers}
 use Rattle.nr_harqbuf.specs.Record.{Heardbits, record_of}
 use Rattle.nr_peel.specs.Peeling.{IsStarted}
-use Rattle.nr_segment.specs.CodeBlock.{numbers}
 use Rattle.nr_blockdesk.proofs.Decided.{all-push}
 use Rattle.nr_blockdesk.proofs.receiver.parts.Goals as goal
 

@@ -1,10 +1,9 @@
 -- A store and a peeler for each code block so far.
 use Rattle.std.proofs.Common.{◌≡◌, ◌≤◌, [], length, All}
 use Rattle.std.specs.Prelude.{vec_capacity}
-use Rattle.nr_harqbuf.specs.Positions.{positions_of}
+use Rattle.nr_segment.specs.CodeBlock.{positions_of, numbers}
 use Rattle.nr_harqbuf.specs.Record.{record_of}
 use Rattle.nr_peel.specs.Peeling.{IsStarted}
-use Rattle.nr_segment.specs.CodeBlock.{numbers}
 use Rattle.nr_blockdesk.proofs.receiver.parts.Given as goal
 
 abbrev pub invariant-loop : goal.invariant-loop

@@ -16,7 +16,7 @@ returns c =
     let here : r < s.plan.c = omega (arith, count, c.requires) in
     let is : c.index.result.now ≡ peeling_of link s.peelers.items r =
     c.index.ensures ∙ peeler-at link s.stores.items s.peelers.items c.self.invariant.desk r c.index.result.now here in
-    c.left.ensures
+    c.left.ensures.value
     ∙ ap (λ (p : Peeling). left_of p.numbers.kdash p.known) is
     ∙ left-known c.plans_are_sound.ensures link (heard_of s.stores.items r) (peeling_of link s.peelers.items r) c.self.invariant.is_link (c.self.invariant.desk.tied r here)
     ∙ ap (λ (v : Receiving). left v.link v.heard r) c.self.view_is

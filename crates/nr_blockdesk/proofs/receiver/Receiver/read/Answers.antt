@@ -1,5 +1,5 @@
 use Rattle.std.proofs.Common.{◌≡◌, ◌<◌, ◌≤◌, Bool, true, ◌++◌, List, length, get_or, drop, take, subst, sym, ap, ◌∙◌, arith}
-use Rattle.nr_ldpcenc.specs.Rows.{word_size}
+use Rattle.nr_segment.specs.Plan.{word_size}
 use Rattle.nr_peel.specs.Peeling.{Peeling, checks_for}
 use Rattle.nr_blockdesk.specs.Link.{IsBlock, attached_length, link_of}
 use Rattle.nr_blockdesk.specs.Outcome.{ExplainedBy, all_fixed}

@@ -1,7 +1,7 @@
 use Rattle.std.proofs.Common.{◌≡◌, ◌<◌, [], length, slice_index_or, subst, refl, sym, ap, ◌∙◌, arith}
 use Rattle.std.proofs.lemmas.List.{get_or_default}
 use Rattle.nr_ldpcenc.specs.Codeword.{IsCodeword}
-use Rattle.nr_blockdesk.specs.Link.{code_block, link_of, word}
+use Rattle.nr_blockdesk.specs.Link.{code_bits_of, link_of, word}
 use Rattle.nr_blockdesk.specs.Sent.{Sending}
 use Rattle.nr_blockdesk.proofs.Sends.{length-words, word-at}
 use Rattle.nr_blockdesk.proofs.sender.Sender.word.Goals as goal
@@ -40,5 +40,5 @@ returns-clause-meets c =
     ∙ ap (λ ws. slice_index_or ws c.args.r []) c.self.invariant.encoded
     ∙ word-at link s.block.items c.args.r [] here in
     rw (← c.self.view_is)
-    (subst (IsCodeword link.table link.graph link.plan (code_block link s.block.items c.args.r)) (sym value)
+    (subst (IsCodeword link.table link.graph link.plan (code_bits_of link s.block.items c.args.r)) (sym value)
     (c.words_are_plain.ensures link s.block.items c.args.r c.self.invariant.is_link refl here))

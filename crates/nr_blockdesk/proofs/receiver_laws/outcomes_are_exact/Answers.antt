@@ -1,0 +1,5 @@
+use Rattle.nr_blockdesk.proofs.Exact.{outcomes-exact}
+use Rattle.nr_blockdesk.proofs.receiver_laws.outcomes_are_exact.Goals as goal
+
+pub returns : goal.returns
+returns c = outcomes-exact c.delivered_is_only.ensures c.explained_is_delivered.ensures

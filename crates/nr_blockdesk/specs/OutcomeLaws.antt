@@ -1,0 +1,52 @@
+-- When each outcome is the one of a list of receptions, and what later receptions can make of it.
+use Rattle.std.specs.Prelude.{◌≡◌, ◌≢◌, ◌⊎◌, ◌↔◌, ℕ, ◌<◌, Bool, true, false, List, ◌++◌, All}
+use Rattle.nr_blockdesk.specs.Explains.{Explains, IsAccepted, Reception}
+use Rattle.nr_blockdesk.specs.Heard.{heard_of, heard_record}
+use Rattle.nr_blockdesk.specs.Link.{IsBlock, IsLink, Link}
+use Rattle.nr_blockdesk.specs.Outcome.{contradiction, delivered, fixed, open_still, outcome_of}
+
+-- position p of code block r is fixed by what arrived
+abbrev pub is_fixed : Link → List Reception → ℕ → ℕ → Bool
+is_fixed link list r p = fixed link (heard_of (heard_record link list) r) p
+
+-- every position below K' is fixed, in every code block
+abbrev pub AreAllFixed : Link → List Reception → Type 0
+AreAllFixed link list = (r p : ℕ) → r < link.plan.c → p < link.plan.kdash → is_fixed link list r p ≡ true
+
+-- a position below K' of a code block is not fixed
+pub record IsOneLeft (link : Link) (list : List Reception) : Type 0 where
+  pub block : ℕ
+  pub position : ℕ
+  pub inside : block < link.plan.c
+  pub below : position < link.plan.kdash
+  pub left : is_fixed link list block position ≡ false
+
+-- a transport block of the link's size explains all that arrived
+abbrev pub IsExplainer : Link → List Reception → List Bool → Type 0
+IsExplainer link list x = IsBlock link x × Explains link list x
+
+-- none does
+abbrev pub NoneExplains : Link → List Reception → Type 0
+NoneExplains link list = (x : List Bool) → IsExplainer link list x → ⊥
+
+-- Each outcome exactly when it is due: a transport block where all is fixed and the block explains all that arrived;
+-- open where some position is left; a contradiction where all is fixed and no transport block explains all that arrived.
+pub record IsExact (link : Link) (list : List Reception) : Type 0 where
+  pub delivers : (x : List Bool) → (outcome_of link list ≡ delivered x) ↔ (AreAllFixed link list × IsExplainer link list x)
+  pub opens : (outcome_of link list ≡ open_still) ↔ IsOneLeft link list
+  pub contradicts : (outcome_of link list ≡ contradiction) ↔ (AreAllFixed link list × NoneExplains link list)
+
+abbrev pub OutcomesAreExact : Type 0
+OutcomesAreExact = (link : Link) (list : List Reception) → IsLink link → All (IsAccepted link) list → IsExact link list
+
+-- The outcome settles: with more receptions it is never open again, a contradiction stays one, and where a transport
+-- block was delivered it is delivered again or contradicted.
+pub record Settles (link : Link) (list more : List Reception) : Type 0 where
+  pub never_open : outcome_of link list ≢ open_still → outcome_of link (list ++ more) ≢ open_still
+  pub contradicted : outcome_of link list ≡ contradiction → outcome_of link (list ++ more) ≡ contradiction
+  pub delivered_again : (x : List Bool) → outcome_of link list ≡ delivered x
+      → (outcome_of link (list ++ more) ≡ delivered x) ⊎ (outcome_of link (list ++ more) ≡ contradiction)
+
+abbrev pub OutcomesSettle : Type 0
+OutcomesSettle = (link : Link) (list more : List Reception) → IsLink link → All (IsAccepted link) (list ++ more)
+    → Settles link list more
