@@ -12,10 +12,10 @@ use Rattle.nr_bitvec.specs.Bit.{bit}
 use Rattle.nr_graphpick.specs.declared.Graph.{Graph}
 use Rattle.nr_graphpick.specs.Refusal.{◌>>=◌}
 use Rattle.nr_harqbuf.specs.Record.{Heardbits}
-use Rattle.nr_ldpcenc.specs.Rows.{Checks, block_checks, word_size}
+use Rattle.nr_ldpcenc.specs.Rows.{Checks, block_checks}
+use Rattle.nr_segment.specs.Plan.{word_size, Numbers, PlansAreSound}
 use Rattle.nr_peel.specs.Closure.{closure}
 use Rattle.nr_peel.specs.Peeling.{IsPeeled, Peeling, checks_for, known_at, unknown_in}
-use Rattle.nr_segment.specs.Plan.{Numbers, PlansAreSound}
 use Rattle.nr_shifttable.specs.Accepted.{Entries}
 use Rattle.nr_blockdesk.specs.Explains.{Reception}
 use Rattle.nr_blockdesk.specs.Heard.{heard_of, heard_record}

@@ -12,7 +12,7 @@ use Rattle.nr_blockdesk.specs.Link.{IsLink}
 use Rattle.nr_blockdesk.specs.Sent.{Sending}
 use Rattle.linksim.specs.AuditText.{audit_block}
 use Rattle.linksim.specs.ProcessTexts.{audit_words, process_words}
-use Rattle.linksim.specs.RoundTexts.{ended_if, joined, last_rounds, round_lines, said_if, sender_of, turn_lines}
+use Rattle.linksim.specs.RoundTexts.{ended_if, pieces_joined, last_rounds, round_lines, said_if, sender_of, turn_lines}
 use Rattle.linksim.specs.Rounds.{continued, of_process, round_of, since_fresh}
 use Rattle.linksim.specs.RunText.{received}
 use Rattle.linksim.specs.Schedule.{HasBlock}
@@ -83,9 +83,9 @@ pub turn-stale : (senders : List Sending) (before : List Transmission) (x : Tran
 turn-stale senders before x is = turn-by senders before x false is
 
 -- the lines of the rounds that no transmission ends, process after process
-joined-map : (f : ℕ → List ℕ) (ps : List ℕ) → joined (map (λ p. (p, f p)) ps) ≡ flat_map f ps
+joined-map : (f : ℕ → List ℕ) (ps : List ℕ) → pieces_joined (map (λ p. (p, f p)) ps) ≡ flat_map f ps
 joined-map f [] = refl
 joined-map f (p ∷ ps) = ap (λ lines. f p ++ lines) (joined-map f ps)
 
-pub last-lines : (senders : List Sending) (schedule : List Transmission) → joined (last_rounds audit_words senders schedule) ≡ flat_map (λ p. round_lines audit_words senders p (round_of p schedule)) (range_with_len 0 16)
+pub last-lines : (senders : List Sending) (schedule : List Transmission) → pieces_joined (last_rounds audit_words senders schedule) ≡ flat_map (λ p. round_lines audit_words senders p (round_of p schedule)) (range_with_len 0 16)
 last-lines senders schedule = joined-map (λ p. round_lines audit_words senders p (round_of p schedule)) (range_with_len 0 16)

@@ -5,7 +5,7 @@ use Rattle.std.proofs.lemmas.Bool.Decides.{nat_tests}
 use Rattle.linksim.specs.declared.blocks.BlocksFault.{BlocksFault}
 use Rattle.linksim.specs.declared.blocks.BlocksFault.TheVariants as fault
 use Rattle.nr_graphpick.specs.Refusal.{◌>>=◌}
-use Rattle.linksim.specs.Blocks.{without_last, parts_of, block_at, blocks_from, blocks_of}
+use Rattle.linksim.specs.Blocks.{without_last, parts_of, block_said, blocks_from, blocks_said}
 
 -- blocks before those of a result
 abbrev pub with_front : List (List ℕ) → Result (List (List ℕ)) BlocksFault → Result (List (List ℕ)) BlocksFault
@@ -22,7 +22,7 @@ unfolding blocks_from
 blocks_from_many number part parts h = let is : nat_lt 256 number ≡ true = grind (arith, nat_tests) in rw is
 
 -- an earlier line's block or fault counts
-blocks_from_line : (number : ℕ) (part : List ℕ) (parts : List (List ℕ)) → number ≤ 256 → blocks_from number (part ∷ parts) ≡ (block_at number (without_last 13 part) >>= λ block. blocks_from (number + 1) parts >>= λ blocks. Ok (block ∷ blocks))
+blocks_from_line : (number : ℕ) (part : List ℕ) (parts : List (List ℕ)) → number ≤ 256 → blocks_from number (part ∷ parts) ≡ (block_said number (without_last 13 part) >>= λ block. blocks_from (number + 1) parts >>= λ blocks. Ok (block ∷ blocks))
 unfolding blocks_from
 blocks_from_line number part parts h = let is : nat_lt 256 number ≡ false = grind (arith, nat_tests) in rw is
 
@@ -37,13 +37,13 @@ turn_many front n all part h is many =
     ∙ ap (with_front front) (blocks_from_many (n + 1) part (drop (n + 1) all) (omega arith))
 
 -- a turn where the line at index n counts
-turn_line : (front : List (List ℕ)) (n : ℕ) (all : List (List ℕ)) (part : List ℕ) → n < length all → part ≡ get_or all n part → n < 256 → with_front front (blocks_from (n + 1) (drop n all)) ≡ with_front front (block_at (n + 1) (without_last 13 part) >>= λ block. blocks_from (n + 1 + 1) (drop (n + 1) all) >>= λ blocks. Ok (block ∷ blocks))
+turn_line : (front : List (List ℕ)) (n : ℕ) (all : List (List ℕ)) (part : List ℕ) → n < length all → part ≡ get_or all n part → n < 256 → with_front front (blocks_from (n + 1) (drop n all)) ≡ with_front front (block_said (n + 1) (without_last 13 part) >>= λ block. blocks_from (n + 1 + 1) (drop (n + 1) all) >>= λ blocks. Ok (block ∷ blocks))
 turn_line front n all part h is few =
     ap (λ xs. with_front front (blocks_from (n + 1) xs)) (line_at n all part h is)
     ∙ ap (with_front front) (blocks_from_line (n + 1) part (drop (n + 1) all) (omega arith))
 
 -- a turn where that line holds a block
-pub turn_ok : (front : List (List ℕ)) (n : ℕ) (all : List (List ℕ)) (part block : List ℕ) → n < length all → part ≡ get_or all n part → n < 256 → block_at (n + 1) (without_last 13 part) ≡ Ok block → with_front (front ++ block ∷ []) (blocks_from (n + 1 + 1) (drop (n + 1) all)) ≡ with_front front (blocks_from (n + 1) (drop n all))
+pub turn_ok : (front : List (List ℕ)) (n : ℕ) (all : List (List ℕ)) (part block : List ℕ) → n < length all → part ≡ get_or all n part → n < 256 → block_said (n + 1) (without_last 13 part) ≡ Ok block → with_front (front ++ block ∷ []) (blocks_from (n + 1 + 1) (drop (n + 1) all)) ≡ with_front front (blocks_from (n + 1) (drop n all))
 turn_ok front n all part block h is few said =
     sym (turn_line front n all part h is few
     ∙ ap (λ r. with_front front (r >>= λ block. blocks_from (n + 1 + 1) (drop (n + 1) all) >>= λ blocks. Ok (block ∷ blocks))) said
@@ -55,28 +55,28 @@ unfolding blocks_from
 turn_end front n m all h = ap (λ xs. with_front front (blocks_from m xs)) (drop_all n all h) ∙ ap Ok (append-nil front)
 
 -- a file that is too long
-pub blocks_of-too_long : (text : List ℕ) → 100000000 < length text → blocks_of text ≡ Err fault.TooLong
-unfolding blocks_of
+pub blocks_of-too_long : (text : List ℕ) → 100000000 < length text → blocks_said text ≡ Err fault.TooLong
+unfolding blocks_said
 blocks_of-too_long text long = let is : nat_lt 100000000 (length text) ≡ true = grind (arith, nat_tests) in rw is
 
 -- a file without an octet
-pub blocks_of-empty : (text : List ℕ) → length text ≡ 0 → blocks_of text ≡ Err fault.Empty
-unfolding blocks_of
+pub blocks_of-empty : (text : List ℕ) → length text ≡ 0 → blocks_said text ≡ Err fault.Empty
+unfolding blocks_said
 blocks_of-empty text none =
     let is : nat_lt 100000000 (length text) ≡ false = grind (arith, nat_tests) in
     let is_none : nat_eq (length text) 0 ≡ true = grind (arith, nat_tests) in
     rw (is, is_none)
 
 -- of any other file the lines count
-pub blocks_of_lines : (text : List ℕ) → length text ≤ 100000000 → 0 < length text → blocks_of text ≡ blocks_from 1 (parts_of text)
-unfolding blocks_of
+pub blocks_of_lines : (text : List ℕ) → length text ≤ 100000000 → 0 < length text → blocks_said text ≡ blocks_from 1 (parts_of text)
+unfolding blocks_said
 blocks_of_lines text short some =
     let is : nat_lt 100000000 (length text) ≡ false = grind (arith, nat_tests) in
     let is_some : nat_eq (length text) 0 ≡ false = grind (arith, nat_tests) in
     rw (is, is_some)
 
 -- a fault of the line at index n is the file's
-pub refused_at : (text : List ℕ) (front : List (List ℕ)) (n : ℕ) (part : List ℕ) (e : BlocksFault) → length text ≤ 100000000 → 0 < length text → with_front front (blocks_from (n + 1) (drop n (parts_of text))) ≡ blocks_from 1 (parts_of text) → n < length (parts_of text) → part ≡ get_or (parts_of text) n part → n < 256 → (e ≡ fault.Memory) ⊎ (block_at (n + 1) (without_last 13 part) ≡ Err e) → (e ≡ fault.Memory) ⊎ (blocks_of text ≡ Err e)
+pub refused_at : (text : List ℕ) (front : List (List ℕ)) (n : ℕ) (part : List ℕ) (e : BlocksFault) → length text ≤ 100000000 → 0 < length text → with_front front (blocks_from (n + 1) (drop n (parts_of text))) ≡ blocks_from 1 (parts_of text) → n < length (parts_of text) → part ≡ get_or (parts_of text) n part → n < 256 → (e ≡ fault.Memory) ⊎ (block_said (n + 1) (without_last 13 part) ≡ Err e) → (e ≡ fault.Memory) ⊎ (blocks_said text ≡ Err e)
 refused_at text front n part e short some so_far h is few (inl memory) = inl memory
 refused_at text front n part e short some so_far h is few (inr said) =
     inr (blocks_of_lines text short some ∙ sym so_far ∙ turn_line front n (parts_of text) part h is few

@@ -4,7 +4,7 @@ use Rattle.std.specs.Prelude.{◌+◌, ◌==◌, ◌%◌, nat_lt, not, length}
 use Rattle.std.specs.List.{list_all}
 use Rattle.std.specs.Char.{is_ascii_hexdigit}
 use Rattle.nr_graphpick.specs.Refusal.{◌>>=◌, with_fault, Gives}
-use Rattle.linksim.specs.Blocks.{without_last, parts_of, block_at, blocks_from, blocks_of}
+use Rattle.linksim.specs.Blocks.{without_last, parts_of, block_said, blocks_from, blocks_said}
 use Rattle.linksim.specs.CutText.{lines_from, cut_said}
 use Rattle.linksim.specs.Faults.{blocks_refusal}
 use Rattle.linksim.specs.declared.fault.RunFault.TheVariants.{Blocks, Memory, Write}
@@ -27,8 +27,8 @@ read_count-bind (Err blocks_fault.Read) next first later = absurd (cc)
 read_count-bind (Err e) next first later = refl
 
 -- the text of a blocks file tells of no failed pull
-block_at-unread : (number : ℕ) (line : List ℕ) → read_count (block_at number line) ≡ 0
-unfolding block_at
+block_at-unread : (number : ℕ) (line : List ℕ) → read_count (block_said number line) ≡ 0
+unfolding block_said
 block_at-unread number line =
     read_count-cond (length line == 0) _ _ refl
     (read_count-cond (not (list_all is_ascii_hexdigit line)) _ _ refl
@@ -40,17 +40,17 @@ unfolding blocks_from
 blocks_from-unread number [] = refl
 blocks_from-unread number (part ∷ parts) =
     read_count-cond (nat_lt 256 number) _ _ refl
-    (read_count-bind (block_at number (without_last 13 part)) _ (block_at-unread number (without_last 13 part))
+    (read_count-bind (block_said number (without_last 13 part)) _ (block_at-unread number (without_last 13 part))
     (λ block. read_count-bind (blocks_from (number + 1) parts) _ (blocks_from-unread (number + 1) parts) (λ blocks. refl)))
 
-blocks_of-unread : (text : List ℕ) → read_count (blocks_of text) ≡ 0
-unfolding blocks_of
+blocks_of-unread : (text : List ℕ) → read_count (blocks_said text) ≡ 0
+unfolding blocks_said
 blocks_of-unread text =
     read_count-cond (nat_lt 100000000 (length text)) _ _ refl
     (read_count-cond (length text == 0) _ _ refl (blocks_from-unread 1 (parts_of text)))
 
 -- what is said of a blocks file's text is never Read
-pub given-unread : {X : Type 0} (view : X → List (List ℕ)) (r : Result X BlocksFault) (text : List ℕ) → Gives blocks_fault.Memory view r (blocks_of text) → r ≢ Err blocks_fault.Read
+pub given-unread : {X : Type 0} (view : X → List (List ℕ)) (r : Result X BlocksFault) (text : List ℕ) → Gives blocks_fault.Memory view r (blocks_said text) → r ≢ Err blocks_fault.Read
 given-unread view (Ok x) text given is = cc
 given-unread view (Err e) text (inl memory) is = let same : e ≡ blocks_fault.Read = cc in absurd (cc)
 given-unread view (Err e) text (inr said) is =
@@ -60,17 +60,17 @@ given-unread view (Err e) text (inr said) is =
     cc
 
 -- a refused blocks file is a refused command
-cut_said-refused : (rate : ℕ) (text : List ℕ) (e : BlocksFault) → blocks_of text ≡ Err e → cut_said rate text ≡ Err (Blocks e)
+cut_said-refused : (rate : ℕ) (text : List ℕ) (e : BlocksFault) → blocks_said text ≡ Err e → cut_said rate text ≡ Err (Blocks e)
 unfolding cut_said
 cut_said-refused rate text e is = ap (λ r. with_fault Blocks r >>= λ blocks. lines_from rate 1 blocks) is
 
-pub given-refused : (rate : ℕ) (text : List ℕ) (e : BlocksFault) → (e ≡ blocks_fault.Memory) ⊎ (blocks_of text ≡ Err e) → (blocks_refusal e ≡ Memory) ⊎ (cut_said rate text ≡ Err (blocks_refusal e))
+pub given-refused : (rate : ℕ) (text : List ℕ) (e : BlocksFault) → (e ≡ blocks_fault.Memory) ⊎ (blocks_said text ≡ Err e) → (blocks_refusal e ≡ Memory) ⊎ (cut_said rate text ≡ Err (blocks_refusal e))
 given-refused rate text e (inl is) = inl (ap blocks_refusal is)
 given-refused rate text blocks_fault.Memory (inr is) = inl refl
 given-refused rate text e (inr is) = inr (cut_said-refused rate text e is)
 
 -- the text of blocks that are read
-pub cut_said-read : (rate : ℕ) (text : List ℕ) (blocks : List (List ℕ)) → blocks_of text ≡ Ok blocks → cut_said rate text ≡ lines_from rate 1 blocks
+pub cut_said-read : (rate : ℕ) (text : List ℕ) (blocks : List (List ℕ)) → blocks_said text ≡ Ok blocks → cut_said rate text ≡ lines_from rate 1 blocks
 unfolding cut_said
 cut_said-read rate text blocks is = ap (λ r. with_fault Blocks r >>= λ blocks. lines_from rate 1 blocks) is
 

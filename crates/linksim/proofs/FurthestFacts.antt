@@ -9,7 +9,7 @@ use Rattle.std.specs.Prelude.{◌==◌, if◌then◌else◌}
 use Rattle.std.specs.List.{list_any, range_with_len}
 use Rattle.std.specs.Ordering.{ord_max}
 use Rattle.linksim.specs.declared.erasure.PlaceRange.{PlaceRange}
-use Rattle.linksim.specs.Erasures.{is_in}
+use Rattle.linksim.specs.Erasures.{is_within}
 use Rattle.linksim.specs.Furthest.{begins_at, begins_before, end_if, furthest}
 
 -- one range more
@@ -37,18 +37,18 @@ furthest-next m count (range ∷ ranges) =
     omega (arith, one, more)
 
 -- a place stands in a range where one that begins at it or before it ends behind it
-below-end : (m count : ℕ) (range : PlaceRange) → m < count → nat_lt m (end_if (begins_before (m + 1) range) count range) ≡ is_in m range
+below-end : (m count : ℕ) (range : PlaceRange) → m < count → nat_lt m (end_if (begins_before (m + 1) range) count range) ≡ is_within m range
 below-end m count range below = grind (arith, nat_tests)
 
 below-max : (m a b : ℕ) → nat_lt m (max a b) ≡ nat_lt m a || nat_lt m b
 below-max m a b = grind (arith, nat_tests)
 
-pub below-furthest : (m count : ℕ) (ranges : List PlaceRange) → m < count → nat_lt m (furthest (begins_before (m + 1)) count ranges) ≡ list_any (is_in m) ranges
+pub below-furthest : (m count : ℕ) (ranges : List PlaceRange) → m < count → nat_lt m (furthest (begins_before (m + 1)) count ranges) ≡ list_any (is_within m) ranges
 below-furthest m count [] below = grind (arith, nat_tests)
 below-furthest m count (range ∷ ranges) below =
     below-max m (end_if (begins_before (m + 1) range) count range) (furthest (begins_before (m + 1)) count ranges)
     ∙ ap (λ b. b || nat_lt m (furthest (begins_before (m + 1)) count ranges)) (below-end m count range below)
-    ∙ ap (λ b. is_in m range || b) (below-furthest m count ranges below)
+    ∙ ap (λ b. is_within m range || b) (below-furthest m count ranges below)
 
 -- the greater of two numbers, as code says it
 max-told : (a b : ℕ) → ord_max nat_cmp a b ≡ max a b
@@ -61,11 +61,11 @@ reach-more m count end reach next ranges at_end at_reach is =
     let more = furthest-next m count ranges in
     omega (arith, at_end, at_reach, is, told, more)
 
-pub marks-more : (m count next : ℕ) (ranges : List PlaceRange) (marks new : List Bool) → m < count → next ≡ furthest (begins_before (m + 1)) count ranges → marks ≡ map (λ k. list_any (is_in k) ranges) (range_with_len 0 m) → new ≡ marks ++ nat_lt m next ∷ [] → new ≡ map (λ k. list_any (is_in k) ranges) (range_with_len 0 (m + 1))
+pub marks-more : (m count next : ℕ) (ranges : List PlaceRange) (marks new : List Bool) → m < count → next ≡ furthest (begins_before (m + 1)) count ranges → marks ≡ map (λ k. list_any (is_within k) ranges) (range_with_len 0 m) → new ≡ marks ++ nat_lt m next ∷ [] → new ≡ map (λ k. list_any (is_within k) ranges) (range_with_len 0 (m + 1))
 marks-more m count next ranges marks new below reach so_far is =
     is ∙ ap (λ b. marks ++ b ∷ []) (ap (λ n. nat_lt m n) reach ∙ below-furthest m count ranges below)
-    ∙ ap (λ xs. xs ++ list_any (is_in m) ranges ∷ []) so_far
-    ∙ sym (map-range_with_len_more (λ k. list_any (is_in k) ranges) 0 m m (omega arith))
+    ∙ ap (λ xs. xs ++ list_any (is_within m) ranges ∷ []) so_far
+    ∙ sym (map-range_with_len_more (λ k. list_any (is_within k) ranges) 0 m m (omega arith))
 
 -- a turn over the ranges
 furthest-turn : (m count i : ℕ) (ranges : List PlaceRange) (range none : PlaceRange) → i < length ranges → range ≡ get_or ranges i none → furthest (begins_at m) count (take (i + 1) ranges) ≡ max (furthest (begins_at m) count (take i ranges)) (end_if (begins_at m range) count range)

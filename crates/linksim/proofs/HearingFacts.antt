@@ -10,7 +10,7 @@ use Rattle.nr_bitvec.specs.Bit.{◌⊕◌, bit}
 use Rattle.nr_blockdesk.specs.ReceiverLaws.{arrived_bit}
 use Rattle.nr_blockdesk.specs.declared.heard.Heard.{Heard}
 use Rattle.linksim.specs.Erasures.{erased_of, is_named, words_drawn}
-use Rattle.linksim.specs.Hearing.{heard_at, heard_through}
+use Rattle.linksim.specs.Hearing.{arrives_at, heard_through}
 use Rattle.linksim.specs.declared.erasure.Erasure.{Erasure}
 use Rattle.linksim.specs.declared.erasure.Erasure.TheVariants as erasure
 use Rattle.linksim.specs.declared.erasure.Places.{Places}
@@ -22,7 +22,7 @@ named-at places marks count m is within d =
     ap (λ xs. get_or xs m d) is ∙ get_or-map-range_with_len (is_named places) 0 count m m d within (omega arith)
 
 -- what is heard there
-pub heard-value : (x : Transmission) (erased bits : List Bool) (m : ℕ) (e f b : Bool) (heard : Heard) → heard ≡ arrived_bit e (f ⊕ b) → e ≡ bit erased m → f ≡ is_named x.flip m → b ≡ bit bits m → heard ≡ heard_at x erased bits m
+pub heard-value : (x : Transmission) (erased bits : List Bool) (m : ℕ) (e f b : Bool) (heard : Heard) → heard ≡ arrived_bit e (f ⊕ b) → e ≡ bit erased m → f ≡ is_named x.flip m → b ≡ bit bits m → heard ≡ arrives_at x erased bits m
 heard-value x erased bits m e f b heard is at_e at_f at_b =
     is ∙ ap (λ (k : Bool). arrived_bit k (f ⊕ b)) at_e ∙ ap (λ (k : Bool). arrived_bit (bit erased m) (k ⊕ b)) at_f
     ∙ ap (λ (k : Bool). arrived_bit (bit erased m) (is_named x.flip m ⊕ k)) at_b
@@ -33,11 +33,11 @@ heard-more f m old new value so_far pushed is =
     pushed ∙ ap (λ xs. xs ++ value ∷ []) so_far ∙ ap (λ v. map f (range_with_len 0 m) ++ v ∷ []) is ∙ sym (map-range_with_len_more f 0 m m (omega arith))
 
 -- all of them
-pub heard-all : (x : Transmission) (erased bits : List Bool) (count m : ℕ) (heard : List Heard) → heard ≡ map (heard_at x erased bits) (range_with_len 0 m) → erased ≡ erased_of x.erasure count → m ≡ count → count ≡ length bits → heard ≡ heard_through x bits
+pub heard-all : (x : Transmission) (erased bits : List Bool) (count m : ℕ) (heard : List Heard) → heard ≡ map (arrives_at x erased bits) (range_with_len 0 m) → erased ≡ erased_of x.erasure count → m ≡ count → count ≡ length bits → heard ≡ heard_through x bits
 unfolding heard_through
 heard-all x erased bits count m heard is marks whole long =
-    is ∙ ap (λ (n : ℕ). map (heard_at x erased bits) (range_with_len 0 n)) (whole ∙ long)
-    ∙ ap (λ (e : List Bool). map (heard_at x e bits) (range_with_len 0 (length bits))) (marks ∙ ap (erased_of x.erasure) long)
+    is ∙ ap (λ (n : ℕ). map (arrives_at x erased bits) (range_with_len 0 n)) (whole ∙ long)
+    ∙ ap (λ (e : List Bool). map (arrives_at x e bits) (range_with_len 0 (length bits))) (marks ∙ ap (erased_of x.erasure) long)
 
 -- as many places are marked as there are
 first-long : {S : Type 0} (step : S → ℕ × S) (k : ℕ) (s : S) → length (first_words step k s) ≡ k

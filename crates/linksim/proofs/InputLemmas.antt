@@ -6,7 +6,7 @@ use Rattle.nr_graphpick.specs.Refusal.{◌>>=◌, Gives, with_fault}
 use Rattle.nr_shifttable.specs.Accepted.{Entries, table_said}
 use Rattle.nr_shifttable.specs.declared.fault.TableFault.{TableFault}
 use Rattle.nr_shifttable.specs.declared.fault.TableFault.TheVariants as table_fault
-use Rattle.linksim.specs.Blocks.{blocks_of}
+use Rattle.linksim.specs.Blocks.{blocks_said}
 use Rattle.linksim.specs.Command.{IsOfBlock, Writes}
 use Rattle.linksim.specs.Faults.{blocks_refusal, schedule_refusal, settings_refusal, table_refusal}
 use Rattle.linksim.specs.Inputs.{Given, HasNoFault, IsFirst, LeavesLater, OfFour, files_said, inputs_said, sender_said, senders_from}
@@ -57,7 +57,7 @@ schedule_step table settings d blocks = with_fault faults.Schedule (schedule_sai
     Ok (record { table = table; settings = settings; blocks = blocks; schedule = schedule })
 
 abbrev blocks_step : Entries → List ℕ → List ℕ → Settings → Result Given RunFault
-blocks_step table b d settings = with_fault faults.Blocks (blocks_of b) >>= schedule_step table settings d
+blocks_step table b d settings = with_fault faults.Blocks (blocks_said b) >>= schedule_step table settings d
 
 abbrev settings_step : List ℕ → List ℕ → List ℕ → Entries → Result Given RunFault
 settings_step s b d table = with_fault faults.Settings (settings_said s) >>= blocks_step table b d
@@ -69,10 +69,10 @@ files_table t s b d said is = ap (λ r. with_fault faults.Table r >>= settings_s
 files_settings : (t s b d : List ℕ) (table : Entries) (said : Result Settings SettingsFault) → table_said t ≡ Ok table → settings_said s ≡ said → files_said t s b d ≡ (with_fault faults.Settings said >>= blocks_step table b d)
 files_settings t s b d table said first is = files_table t s b d (Ok table) first ∙ ap (λ r. with_fault faults.Settings r >>= blocks_step table b d) is
 
-files_blocks : (t s b d : List ℕ) (table : Entries) (settings : Settings) (said : Result (List (List ℕ)) BlocksFault) → table_said t ≡ Ok table → settings_said s ≡ Ok settings → blocks_of b ≡ said → files_said t s b d ≡ (with_fault faults.Blocks said >>= schedule_step table settings d)
+files_blocks : (t s b d : List ℕ) (table : Entries) (settings : Settings) (said : Result (List (List ℕ)) BlocksFault) → table_said t ≡ Ok table → settings_said s ≡ Ok settings → blocks_said b ≡ said → files_said t s b d ≡ (with_fault faults.Blocks said >>= schedule_step table settings d)
 files_blocks t s b d table settings said first second is = files_settings t s b d table (Ok settings) first second ∙ ap (λ r. with_fault faults.Blocks r >>= schedule_step table settings d) is
 
-files_schedule : (t s b d : List ℕ) (table : Entries) (settings : Settings) (blocks : List (List ℕ)) (said : Result Timetable ScheduleFault) → table_said t ≡ Ok table → settings_said s ≡ Ok settings → blocks_of b ≡ Ok blocks → schedule_said (length blocks) d ≡ said → files_said t s b d ≡ (with_fault faults.Schedule said >>= λ schedule. Ok (record { table = table; settings = settings; blocks = blocks; schedule = schedule }))
+files_schedule : (t s b d : List ℕ) (table : Entries) (settings : Settings) (blocks : List (List ℕ)) (said : Result Timetable ScheduleFault) → table_said t ≡ Ok table → settings_said s ≡ Ok settings → blocks_said b ≡ Ok blocks → schedule_said (length blocks) d ≡ said → files_said t s b d ≡ (with_fault faults.Schedule said >>= λ schedule. Ok (record { table = table; settings = settings; blocks = blocks; schedule = schedule }))
 files_schedule t s b d table settings blocks said first second third is = files_blocks t s b d table settings (Ok blocks) first second third ∙ ap (λ r. with_fault faults.Schedule r >>= λ schedule. Ok (record { table = table; settings = settings; blocks = blocks; schedule = schedule })) is
 
 -- a table of a Source that did not fail is what its file says, and so is a refusal
@@ -95,18 +95,18 @@ given-settings t s b d table e first (inl is) = inl (ap settings_refusal is)
 given-settings t s b d table settings_fault.Memory first (inr is) = inl refl
 given-settings t s b d table e first (inr is) = inr (files_settings t s b d table (Err e) first is)
 
-pub given-blocks : (t s b d : List ℕ) (table : Entries) (settings : Settings) (e : BlocksFault) → table_said t ≡ Ok table → settings_said s ≡ Ok settings → (e ≡ blocks_fault.Memory) ⊎ (blocks_of b ≡ Err e) → (blocks_refusal e ≡ faults.Memory) ⊎ (files_said t s b d ≡ Err (blocks_refusal e))
+pub given-blocks : (t s b d : List ℕ) (table : Entries) (settings : Settings) (e : BlocksFault) → table_said t ≡ Ok table → settings_said s ≡ Ok settings → (e ≡ blocks_fault.Memory) ⊎ (blocks_said b ≡ Err e) → (blocks_refusal e ≡ faults.Memory) ⊎ (files_said t s b d ≡ Err (blocks_refusal e))
 given-blocks t s b d table settings e first second (inl is) = inl (ap blocks_refusal is)
 given-blocks t s b d table settings blocks_fault.Memory first second (inr is) = inl refl
 given-blocks t s b d table settings e first second (inr is) = inr (files_blocks t s b d table settings (Err e) first second is)
 
-pub given-schedule : (t s b d : List ℕ) (table : Entries) (settings : Settings) (blocks : List (List ℕ)) (e : ScheduleFault) → table_said t ≡ Ok table → settings_said s ≡ Ok settings → blocks_of b ≡ Ok blocks → (e ≡ schedule_fault.Memory) ⊎ (schedule_said (length blocks) d ≡ Err e) → (schedule_refusal e ≡ faults.Memory) ⊎ (files_said t s b d ≡ Err (schedule_refusal e))
+pub given-schedule : (t s b d : List ℕ) (table : Entries) (settings : Settings) (blocks : List (List ℕ)) (e : ScheduleFault) → table_said t ≡ Ok table → settings_said s ≡ Ok settings → blocks_said b ≡ Ok blocks → (e ≡ schedule_fault.Memory) ⊎ (schedule_said (length blocks) d ≡ Err e) → (schedule_refusal e ≡ faults.Memory) ⊎ (files_said t s b d ≡ Err (schedule_refusal e))
 given-schedule t s b d table settings blocks e first second third (inl is) = inl (ap schedule_refusal is)
 given-schedule t s b d table settings blocks schedule_fault.Memory first second third (inr is) = inl refl
 given-schedule t s b d table settings blocks e first second third (inr is) = inr (files_schedule t s b d table settings blocks (Err e) first second third is)
 
 -- four files that are read
-pub given-all : (t s b d : List ℕ) (table : Entries) (settings : Settings) (blocks : List (List ℕ)) (schedule : Timetable) → table_said t ≡ Ok table → settings_said s ≡ Ok settings → blocks_of b ≡ Ok blocks → schedule_said (length blocks) d ≡ Ok schedule → files_said t s b d ≡ Ok (record { table = table; settings = settings; blocks = blocks; schedule = schedule })
+pub given-all : (t s b d : List ℕ) (table : Entries) (settings : Settings) (blocks : List (List ℕ)) (schedule : Timetable) → table_said t ≡ Ok table → settings_said s ≡ Ok settings → blocks_said b ≡ Ok blocks → schedule_said (length blocks) d ≡ Ok schedule → files_said t s b d ≡ Ok (record { table = table; settings = settings; blocks = blocks; schedule = schedule })
 given-all t s b d table settings blocks schedule first second third fourth = files_schedule t s b d table settings blocks (Ok schedule) first second third fourth
 
 -- a refusal before the four are read, as an answer
@@ -186,7 +186,7 @@ pub first_blocks : (e : BlocksFault) (t s b : Option (List ℕ)) → HasNoFault 
 first_blocks blocks_fault.Memory t s b table settings = tt
 first_blocks e t s b table settings = (table, settings)
 
-pub first_schedule : (e : ScheduleFault) (t s b : Option (List ℕ)) → HasNoFault table_said t → HasNoFault settings_said s → HasNoFault blocks_of b → IsFirst (schedule_refusal e) t s b
+pub first_schedule : (e : ScheduleFault) (t s b : Option (List ℕ)) → HasNoFault table_said t → HasNoFault settings_said s → HasNoFault blocks_said b → IsFirst (schedule_refusal e) t s b
 first_schedule schedule_fault.Memory t s b table settings blocks = tt
 first_schedule e t s b table settings blocks = (table, settings, blocks)
 

@@ -6,7 +6,7 @@ use Rattle.std.proofs.lemmas.List.{get_or_default}
 use Rattle.nr_blockdesk.specs.Sent.{Sending}
 use Rattle.linksim.specs.Ends.{HoldRounds, HoldsRound}
 use Rattle.linksim.specs.ProcessTexts.{round_counted, rounds_counted, run_words}
-use Rattle.linksim.specs.RoundTexts.{joined, round_lines}
+use Rattle.linksim.specs.RoundTexts.{pieces_joined, round_lines}
 use Rattle.linksim.specs.Rounds.{all_rounds, ended_rounds, round_of}
 use Rattle.linksim.specs.declared.received.End.{End}
 use Rattle.linksim.specs.declared.received.Totals.{Totals}
@@ -15,7 +15,7 @@ use Rattle.linksim.proofs.RoundTurns.{counted-append}
 
 -- the lines of the rounds of n processes from process p on
 abbrev pub last_from : ℕ → ℕ → List Sending → List Transmission → List ℕ
-last_from p n senders schedule = joined (map (λ q. (q, round_lines run_words senders q (round_of q schedule))) (range_with_len p n))
+last_from p n senders schedule = pieces_joined (map (λ q. (q, round_lines run_words senders q (round_of q schedule))) (range_with_len p n))
 
 pub last-turn : (p : ℕ) (senders : List Sending) (schedule : List Transmission) (rest : List ℕ) → p < 16
     → last_from p (16 - p) senders schedule ++ rest ≡ round_lines run_words senders p (round_of p schedule) ++ (last_from (p + 1) (16 - (p + 1)) senders schedule ++ rest)

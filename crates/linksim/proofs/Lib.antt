@@ -6,6 +6,7 @@ pub mod CheckLemmas
 pub mod CommandLemmas
 pub mod CutLemmas
 pub mod DrawnFacts
+pub mod FoundFaults
 pub mod FurthestFacts
 pub mod HearingFacts
 pub mod HexDigits
@@ -15,7 +16,9 @@ pub mod LastRounds
 pub mod MaskWords
 pub mod OctetDigits
 pub mod PlaceItems
+pub mod Receptions
 pub mod Refusals
+pub mod RoundCalls
 pub mod RoundEnds
 pub mod RoundFacts
 pub mod RoundLaws
@@ -25,6 +28,7 @@ pub mod RunInputs
 pub mod RunLines
 pub mod RunOutcomes
 pub mod RunTexts
+pub mod SafeRuns
 pub mod ScheduleProcesses
 pub mod ScheduleRecords
 pub mod SendLemmas

@@ -9,30 +9,30 @@ use Rattle.std.proofs.lemmas.List.{drop_all, drop_more, get_or_default, length-d
 use Rattle.std.proofs.lemmas.List.FromFn.{get_or-map-range_with_len, take-map-range_with_len}
 use Rattle.std.proofs.lemmas.Nat.Bits.{bit_at_lowest, bit_at-suc, bit_at-zero}
 use Rattle.linksim.specs.Erasures.{is_named}
-use Rattle.linksim.specs.Masks.{Schedules, word_from, word_of, words_of}
+use Rattle.linksim.specs.Masks.{Schedules, word_from, mask_word_of, mask_words_of}
 use Rattle.linksim.specs.declared.erasure.Places.{Places}
 use Rattle.nr_ratematch.specs.declared.mask.Mask.{Mask}
 use Rattle.nr_ratematch.specs.declared.mask.Mask.TheVariants as mask
 
 -- n bits write a number below 2 ^ n
-pub word_of-small : (bits : List Bool) → word_of bits < 2 ^ length bits
-unfolding word_of
+pub word_of-small : (bits : List Bool) → mask_word_of bits < 2 ^ length bits
+unfolding mask_word_of
 word_of-small [] = omega arith
 word_of-small (true ∷ bits) = omega (arith, word_of-small bits, pow-suc 2 (length bits))
 word_of-small (false ∷ bits) = omega (arith, word_of-small bits, pow-suc 2 (length bits))
 
 -- the number of the bits from place at on, by the bit there
-pub word_of-at : (bits : List Bool) (at : ℕ) (b : Bool) → at < length bits → b ≡ get_or bits at b → word_of (drop at bits) ≡ from_bool b + 2 * word_of (drop (at + 1) bits)
-unfolding word_of
-word_of-at bits at b h is = ap word_of (drop_more bits at b h ∙ ap (λ x. x ∷ drop (at + 1) bits) (sym is))
+pub word_of-at : (bits : List Bool) (at : ℕ) (b : Bool) → at < length bits → b ≡ get_or bits at b → mask_word_of (drop at bits) ≡ from_bool b + 2 * mask_word_of (drop (at + 1) bits)
+unfolding mask_word_of
+word_of-at bits at b h is = ap mask_word_of (drop_more bits at b h ∙ ap (λ x. x ∷ drop (at + 1) bits) (sym is))
 
 -- the bit at a place that one less than `at` has
-pub word_of-next : (bits : List Bool) (at word low : ℕ) → 0 < at → at ≤ length bits → word ≡ word_of (drop at bits) → low ≡ from_bool (get_or bits (at - 1) false) → 2 * word + low ≡ word_of (drop (at - 1) bits)
+pub word_of-next : (bits : List Bool) (at word low : ℕ) → 0 < at → at ≤ length bits → word ≡ mask_word_of (drop at bits) → low ≡ from_bool (get_or bits (at - 1) false) → 2 * word + low ≡ mask_word_of (drop (at - 1) bits)
 word_of-next bits at word low some inside so_far is =
     let back : at - 1 + 1 ≡ at = omega arith in
-    let first : word_of (drop (at - 1) bits) ≡ from_bool (get_or bits (at - 1) false) + 2 * word_of (drop (at - 1 + 1) bits) =
+    let first : mask_word_of (drop (at - 1) bits) ≡ from_bool (get_or bits (at - 1) false) + 2 * mask_word_of (drop (at - 1 + 1) bits) =
     word_of-at bits (at - 1) (get_or bits (at - 1) false) (omega arith) (get_or_default bits (at - 1) false (get_or bits (at - 1) false) (omega arith)) in
-    let rest : word_of (drop (at - 1 + 1) bits) ≡ word = ap (λ n. word_of (drop n bits)) back ∙ sym so_far in
+    let rest : mask_word_of (drop (at - 1 + 1) bits) ≡ word = ap (λ n. mask_word_of (drop n bits)) back ∙ sym so_far in
     omega (arith, first, rest, is)
 
 -- the number has at most one bit more
@@ -41,12 +41,12 @@ low_bit true = omega arith
 low_bit false = omega arith
 
 -- behind the last bit
-pub word_of-end : (bits : List Bool) → 0 ≡ word_of (drop (length bits) bits)
-unfolding word_of
-word_of-end bits = sym (ap word_of (drop_all (length bits) bits (omega arith)))
+pub word_of-end : (bits : List Bool) → 0 ≡ mask_word_of (drop (length bits) bits)
+unfolding mask_word_of
+word_of-end bits = sym (ap mask_word_of (drop_all (length bits) bits (omega arith)))
 
 -- while a bit of at most 64 is left, the number has room for it
-pub word_of-room : (bits : List Bool) (at word : ℕ) → 0 < at → at ≤ length bits → length bits ≤ 64 → word ≡ word_of (drop at bits) → word < 2 ^ 63
+pub word_of-room : (bits : List Bool) (at word : ℕ) → 0 < at → at ≤ length bits → length bits ≤ 64 → word ≡ mask_word_of (drop at bits) → word < 2 ^ 63
 word_of-room bits at word some inside few is =
     let short : length (drop at bits) ≤ 63 = omega (arith, length-drop at bits) in
     omega (arith, word_of-small (drop at bits), pow_mono short)
@@ -60,12 +60,12 @@ halved : (b : Bool) (n : ℕ) → (from_bool b + 2 * n) / 2 ≡ n
 halved true n = omega arith
 halved false n = omega arith
 
-pub word_of-bit : (bits : List Bool) (j : ℕ) → (bit_at (word_of bits) j == 1) ≡ get_or bits j false
-unfolding word_of
+pub word_of-bit : (bits : List Bool) (j : ℕ) → (bit_at (mask_word_of bits) j == 1) ≡ get_or bits j false
+unfolding mask_word_of
 word_of-bit [] j = rw (bit_at-zero j) refl
-word_of-bit (b ∷ bits) zero = first_bit b (word_of bits)
+word_of-bit (b ∷ bits) zero = first_bit b (mask_word_of bits)
 word_of-bit (b ∷ bits) (suc j) =
-    ap (λ n. n == 1) (bit_at-suc (from_bool b + 2 * word_of bits) j ∙ ap (λ n. bit_at n j) (halved b (word_of bits)))
+    ap (λ n. n == 1) (bit_at-suc (from_bool b + 2 * mask_word_of bits) j ∙ ap (λ n. bit_at n j) (halved b (mask_word_of bits)))
     ∙ word_of-bit bits j
 
 -- the numbers behind the first k
@@ -80,28 +80,28 @@ drop-range f a (suc k) n =
     rw (longer, sym later) (drop-range f (a + 1) k n)
 
 -- the word that 64 of the marks from `first` on write
-pub word_of-marks : (is_on : ℕ → Bool) (marks : List Bool) (first n : ℕ) → marks ≡ map is_on (range_with_len 0 (first + n)) → 64 ≤ n → word_of (take 64 (drop first marks)) ≡ word_from is_on first
+pub word_of-marks : (is_on : ℕ → Bool) (marks : List Bool) (first n : ℕ) → marks ≡ map is_on (range_with_len 0 (first + n)) → 64 ≤ n → mask_word_of (take 64 (drop first marks)) ≡ word_from is_on first
 unfolding word_from
 word_of-marks is_on marks first n is enough =
     let start : 0 + first ≡ first = omega arith in
-    ap (λ xs. word_of (take 64 (drop first xs))) is
-    ∙ ap (λ xs. word_of (take 64 xs)) (drop-range is_on 0 first n)
-    ∙ ap (λ a. word_of (take 64 (map is_on (range_with_len a n)))) start
-    ∙ ap word_of (take-map-range_with_len is_on first n 64 enough)
+    ap (λ xs. mask_word_of (take 64 (drop first xs))) is
+    ∙ ap (λ xs. mask_word_of (take 64 xs)) (drop-range is_on 0 first n)
+    ∙ ap (λ a. mask_word_of (take 64 (map is_on (range_with_len a n)))) start
+    ∙ ap mask_word_of (take-map-range_with_len is_on first n 64 enough)
 
 -- code block r has its bit in its word
 word_from-bit : (is_on : ℕ → Bool) (first j r : ℕ) → j < 64 → first + j ≡ r → (bit_at (word_from is_on first) j == 1) ≡ is_on r
 unfolding word_from
 word_from-bit is_on first j r h is = word_of-bit (map is_on (range_with_len first 64)) j ∙ get_or-map-range_with_len is_on first 64 j r false h is
 
-words_of-bit : (is_on : ℕ → Bool) (r : ℕ) → r < 384 → (bit_at (slice_index (words_of is_on) (r / 64)) (r % 64) == 1) ≡ is_on r
+words_of-bit : (is_on : ℕ → Bool) (r : ℕ) → r < 384 → (bit_at (slice_index (mask_words_of is_on) (r / 64)) (r % 64) == 1) ≡ is_on r
 words_of-bit is_on r h =
-    let word : slice_index (words_of is_on) (r / 64) ≡ word_from is_on (64 * (r / 64)) =
+    let word : slice_index (mask_words_of is_on) (r / 64) ≡ word_from is_on (64 * (r / 64)) =
     get_or-map-range_with_len (λ w. word_from is_on (64 * w)) 0 6 (r / 64) (r / 64) 0 (omega arith) (omega arith) in
     ap (λ n. bit_at n (r % 64) == 1) word ∙ word_from-bit is_on (64 * (r / 64)) (r % 64) r (omega arith) (omega arith)
 
 -- words that are those of the named places
-pub words-schedule : (named : Places) (words : List ℕ) → words ≡ words_of (is_named named) → Schedules named (mask.Only words)
+pub words-schedule : (named : Places) (words : List ℕ) → words ≡ mask_words_of (is_named named) → Schedules named (mask.Only words)
 words-schedule named words is = λ r h. ap (λ ws. bit_at (slice_index ws (r / 64)) (r % 64) == 1) is ∙ words_of-bit (is_named named) r h
 
 -- what holds of the places that were read

@@ -9,11 +9,12 @@ use Rattle.std.proofs.lemmas.Grind.{get_or-set_at}
 use Rattle.std.proofs.lemmas.List.{get_or-replicate, get_or-set_other, length-replicate, length-take-le}
 use Rattle.std.proofs.lemmas.List.Elements.{All-filter, All-head, All-tail}
 use Rattle.std.proofs.lemmas.Option.{slice_get-get_or}
+use Rattle.nr_blockdesk.specs.Explains.{Reception}
 use Rattle.nr_blockdesk.specs.Link.{Link}
 use Rattle.nr_blockdesk.specs.Sent.{Sending}
-use Rattle.linksim.specs.Ends.{AreOfRounds, HasReceived, HoldRounds, Holds, HoldsIf, HoldsRound, IsOfRound}
+use Rattle.linksim.specs.Ends.{AreOfRounds, HasReceived, HoldRounds, HoldsEnd, HoldsIf, HoldsRound, IsOfRound, IsOver}
 use Rattle.linksim.specs.ProcessTexts.{counted_if, process_words, round_counted, run_words}
-use Rattle.linksim.specs.RoundTexts.{ended_if, joined, round_lines, said_if, sender_of, turns}
+use Rattle.linksim.specs.RoundTexts.{ended_if, pieces_joined, round_lines, said_if, sender_of, turns}
 use Rattle.linksim.specs.Rounds.{continued, of_process, round_of, since_fresh}
 use Rattle.linksim.specs.RunText.{counted, lines_of, outcome_line, received, received_of}
 use Rattle.linksim.specs.Schedule.{HasBlock}
@@ -80,7 +81,7 @@ round-named n number p before is all =
     let named = block-named n number (round_of p before) is (round-all (HasBlock n) p before all) in
     (named.0, omega (arith, named.0, named.1))
 
-pub round-held : (senders : List Sending) (number : ℕ) (sender : Sending) (round : List Transmission) (end : Option End) → Some number ≡ option_map (λ x. x.block) (slice_get round 0) → number - 1 < length senders → sender ≡ get_or senders (number - 1) sender → HoldsRound senders round end → Holds sender.link (received sender round) end
+pub round-held : (senders : List Sending) (number : ℕ) (sender : Sending) (round : List Transmission) (end : Option End) → Some number ≡ option_map (λ x. x.block) (slice_get round 0) → number - 1 < length senders → sender ≡ get_or senders (number - 1) sender → HoldsRound senders round end → HoldsEnd sender.link (received sender round) end
 round-held senders number sender [] end is within at held = absurd (cc)
 round-held senders number sender (x ∷ more) end is within at held =
     let block : x.block ≡ number = cc in
@@ -124,29 +125,34 @@ of-continued before x goes = go x.fresh refl
     go false is = goes is
 
 -- what is received of the round that a transmission goes on with, by the sender of its block
-holds-by : (senders : List Sending) (round : List Transmission) (x : Transmission) (sender : Sending) (end : Option End) → sender_of senders x ≡ Some sender → IsOfRound round x → HoldsRound senders round end → Holds sender.link (received sender round) end
-holds-by senders [] x sender end there of held = subst (Holds sender.link []) (sym held) refl
+holds-by : (senders : List Sending) (round : List Transmission) (x : Transmission) (sender : Sending) (end : Option End) → sender_of senders x ≡ Some sender → IsOfRound round x → HoldsRound senders round end → HoldsEnd sender.link (received sender round) end
+holds-by senders [] x sender end there of held = subst (HoldsEnd sender.link []) (sym held) refl
 holds-by senders (y ∷ more) x sender end there of held =
     subst (λ (s : Option Sending). HoldsIf s (y ∷ more) end) (ap (λ n. slice_get senders (n - 1)) of ∙ there) held
 
-pub holds-continued : (senders : List Sending) (xs : List Transmission) (i : ℕ) (x : Transmission) (sender : Sending) (end : Option End) → i < length xs → x ≡ get_or xs i x → AreOfRounds xs → sender_of senders x ≡ Some sender → HoldsRound senders (continued (take i xs) x) end → Holds sender.link (received sender (continued (take i xs) x)) end
+pub holds-continued : (senders : List Sending) (xs : List Transmission) (i : ℕ) (x : Transmission) (sender : Sending) (end : Option End) → i < length xs → x ≡ get_or xs i x → AreOfRounds xs → sender_of senders x ≡ Some sender → HoldsRound senders (continued (take i xs) x) end → HoldsEnd sender.link (received sender (continued (take i xs) x)) end
 holds-continued senders xs i x sender end within is of there held =
     holds-by senders (continued (take i xs) x) x sender end there (of-continued (take i xs) x (of i x within is)) held
 
 -- it is no more than the transmissions before
-pub continued-room : (link : Link) (sender : Sending) (xs : List Transmission) (i n : ℕ) (x : Transmission) (end : Option End) → i ≤ length xs → i ≤ n → Holds link (received sender (continued (take i xs) x)) end → HasReceived n end
+pub continued-room : (link : Link) (sender : Sending) (xs : List Transmission) (i n : ℕ) (x : Transmission) (end : Option End) → i ≤ length xs → i ≤ n → HoldsEnd link (received sender (continued (take i xs) x)) end → HasReceived n end
 continued-room link sender xs i n x end within few held =
     has_received link (received sender (continued (take i xs) x)) n end held
     (omega (arith, few, received-few sender (continued (take i xs) x), continued-few (take i xs) x, length-take-le i xs within))
 
+-- and its receiver has the sender's link
+pub held-over : (link : Link) (list : List Reception) (end : Option End) → HoldsEnd link list end → IsOver link end
+held-over link list None held = tt
+held-over link list (Some end) held = held.same_link
+
 -- and with the transmission
-holds-more : (senders : List Sending) (round : List Transmission) (x : Transmission) (sender : Sending) (end : Option End) → sender_of senders x ≡ Some sender → IsOfRound round x → Holds sender.link (received sender round ++ received_of sender x) end → HoldsRound senders (round ++ x ∷ []) end
+holds-more : (senders : List Sending) (round : List Transmission) (x : Transmission) (sender : Sending) (end : Option End) → sender_of senders x ≡ Some sender → IsOfRound round x → HoldsEnd sender.link (received sender round ++ received_of sender x) end → HoldsRound senders (round ++ x ∷ []) end
 holds-more senders [] x sender end there of holds =
     subst (λ (s : Option Sending). HoldsIf s (x ∷ []) end) (sym there)
-    (subst (λ list. Holds sender.link list end) (sym (received-more sender [] x)) holds)
+    (subst (λ list. HoldsEnd sender.link list end) (sym (received-more sender [] x)) holds)
 holds-more senders (y ∷ more) x sender end there of holds =
     subst (λ (s : Option Sending). HoldsIf s (y ∷ more ++ x ∷ []) end) (sym (ap (λ n. slice_get senders (n - 1)) of ∙ there))
-    (subst (λ list. Holds sender.link list end) (sym (received-more sender (y ∷ more) x)) holds)
+    (subst (λ list. HoldsEnd sender.link list end) (sym (received-more sender (y ∷ more) x)) holds)
 
 -- before any transmission no place has received anything
 pub rounds-first : (senders : List Sending) (n : ℕ) → HoldRounds senders [] (replicate n None)
@@ -155,7 +161,7 @@ rounds-first senders n = λ p within. get_or-replicate n p None None (omega (ari
 
 -- after the transmission at index i
 pub rounds-turn : (senders : List Sending) (xs : List Transmission) (i : ℕ) (x : Transmission) (sender : Sending) (ends : List (Option End)) (after : Option End) → i < length xs → x ≡ get_or xs i x → AreOfRounds xs → sender_of senders x ≡ Some sender → x.process < length ends → HoldRounds senders (take i xs) ends
-    → Holds sender.link (received sender (continued (take i xs) x) ++ received_of sender x) after → HoldRounds senders (take (i + 1) xs) (set ends x.process after)
+    → HoldsEnd sender.link (received sender (continued (take i xs) x) ++ received_of sender x) after → HoldRounds senders (take (i + 1) xs) (set ends x.process after)
 rounds-turn senders xs i x sender ends after within is of there inside held holds = λ p low.
     ⊎_elim (same p) (other p low) (cases_eq p x.process)
   where
@@ -176,10 +182,10 @@ rounds-turn senders xs i x sender ends after within is of there inside held hold
 
 -- the lines of the transmission at index i: those of the round that it ends, its own, and those behind them
 pub turn-parts : (senders : List Sending) (xs : List Transmission) (i : ℕ) (x : Transmission) (sender : Sending) → i < length xs → x ≡ get_or xs i x → sender_of senders x ≡ Some sender
-    → joined (turns run_words senders (take i xs) (drop i xs)) ≡ cond x.fresh (round_lines run_words senders x.process (round_of x.process (take i xs))) [] ++ (lines_of sender (received sender (continued (take i xs) x)) x ++ joined (turns run_words senders (take (i + 1) xs) (drop (i + 1) xs)))
+    → pieces_joined (turns run_words senders (take i xs) (drop i xs)) ≡ cond x.fresh (round_lines run_words senders x.process (round_of x.process (take i xs))) [] ++ (lines_of sender (received sender (continued (take i xs) x)) x ++ pieces_joined (turns run_words senders (take (i + 1) xs) (drop (i + 1) xs)))
 turn-parts senders xs i x sender within is there =
     let first : List ℕ = cond x.fresh (round_lines run_words senders x.process (round_of x.process (take i xs))) [] in
-    let rest : List ℕ = joined (turns run_words senders (take (i + 1) xs) (drop (i + 1) xs)) in
+    let rest : List ℕ = pieces_joined (turns run_words senders (take (i + 1) xs) (drop (i + 1) xs)) in
     turns-turn run_words senders xs i x within is
     ∙ append_assoc first (said_if run_words (sender_of senders x) (continued (take i xs) x) x) rest
     ∙ ap (λ s. first ++ (said_if run_words s (continued (take i xs) x) x ++ rest)) there

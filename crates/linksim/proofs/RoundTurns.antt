@@ -6,7 +6,7 @@ use Rattle.std.proofs.lemmas.Grind.{flat_map-append}
 use Rattle.std.proofs.lemmas.List.{append-nil, drop_more, take_more}
 use Rattle.nr_blockdesk.specs.Sent.{Sending}
 use Rattle.linksim.specs.ProcessTexts.{round_counted, rounds_counted}
-use Rattle.linksim.specs.RoundTexts.{Words, joined, turn_lines, turns}
+use Rattle.linksim.specs.RoundTexts.{Words, pieces_joined, turn_lines, turns}
 use Rattle.linksim.specs.Rounds.{continued, ended_by, ended_rounds, round_of}
 use Rattle.linksim.specs.RunText.{received, received_of}
 use Rattle.linksim.specs.declared.received.Totals.{Totals}
@@ -19,15 +19,15 @@ taken-more xs i x within is = take_more xs i x within ∙ ap (λ y. take i xs ++
 
 -- the lines of the transmission at index i, and those behind them
 pub turns-turn : (words : Words) (senders : List Sending) (xs : List Transmission) (i : ℕ) (x : Transmission) → i < length xs → x ≡ get_or xs i x
-    → joined (turns words senders (take i xs) (drop i xs)) ≡ turn_lines words senders (take i xs) x ++ joined (turns words senders (take (i + 1) xs) (drop (i + 1) xs))
+    → pieces_joined (turns words senders (take i xs) (drop i xs)) ≡ turn_lines words senders (take i xs) x ++ pieces_joined (turns words senders (take (i + 1) xs) (drop (i + 1) xs))
 unfolding turns
 turns-turn words senders xs i x within is =
-    ap (λ ys. joined (turns words senders (take i xs) ys)) (drop_more xs i x within ∙ ap (λ y. y ∷ drop (i + 1) xs) (sym is))
-    ∙ ap (λ before. turn_lines words senders (take i xs) x ++ joined (turns words senders before (drop (i + 1) xs))) (sym (taken-more xs i x within is))
+    ap (λ ys. pieces_joined (turns words senders (take i xs) ys)) (drop_more xs i x within ∙ ap (λ y. y ∷ drop (i + 1) xs) (sym is))
+    ∙ ap (λ before. turn_lines words senders (take i xs) x ++ pieces_joined (turns words senders before (drop (i + 1) xs))) (sym (taken-more xs i x within is))
 
-pub turns-end : (words : Words) (senders : List Sending) (before xs : List Transmission) → xs ≡ [] → joined (turns words senders before xs) ≡ []
+pub turns-end : (words : Words) (senders : List Sending) (before xs : List Transmission) → xs ≡ [] → pieces_joined (turns words senders before xs) ≡ []
 unfolding turns
-turns-end words senders before xs is = ap (λ ys. joined (turns words senders before ys)) is
+turns-end words senders before xs is = ap (λ ys. pieces_joined (turns words senders before ys)) is
 
 -- the round of a transmission's process once it is made
 continued-more : (before : List Transmission) (x : Transmission) → round_of x.process (before ++ x ∷ []) ≡ continued before x ++ x ∷ []

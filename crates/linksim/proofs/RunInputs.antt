@@ -50,7 +50,7 @@ bind-ok (Ok x) f y e = (x, refl, e)
 bind-ok (Err d) f y e = cc e
 
 -- a link is for transport blocks of the size that it was said for
-link-sized : (table : Entries) (settings : Settings) (a : ℕ) (link : Link) → link_said table settings a ≡ Ok link → link.a ≡ a
+pub link-sized : (table : Entries) (settings : Settings) (a : ℕ) (link : Link) → link_said table settings a ≡ Ok link → link.a ≡ a
 unfolding link_said
 link-sized table settings a link said =
     let whole = bind-ok (demanded fault.Size (is_size a)) _ link said in

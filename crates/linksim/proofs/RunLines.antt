@@ -10,7 +10,7 @@ use Rattle.nr_blockdesk.specs.Link.{Link}
 use Rattle.nr_blockdesk.specs.Outcome.{left}
 use Rattle.nr_blockdesk.specs.Sent.{Sending, sent_said}
 use Rattle.nr_blockdesk.specs.declared.fault.DeskFault.{DeskFault}
-use Rattle.linksim.specs.Ends.{AllHold, HasReceived, Holds}
+use Rattle.linksim.specs.Ends.{AllHold, HasReceived, HoldsEnd}
 use Rattle.linksim.specs.Hearing.{heard_through}
 use Rattle.linksim.specs.RunText.{left_line, left_lines, lines_if, lines_of, own, received, received_if, received_of}
 use Rattle.linksim.specs.SendText.{refused_line, sent_line}
@@ -31,11 +31,11 @@ received-few sender (x ∷ xs) =
     omega (arith, one, received-few sender xs, length-append (received_of sender x) (received sender xs))
 
 -- an end's count, by what it has received
-pub has_received : (link : Link) (list : List Reception) (n : ℕ) (end : Option End) → Holds link list end → length list ≤ n → HasReceived n end
+pub has_received : (link : Link) (list : List Reception) (n : ℕ) (end : Option End) → HoldsEnd link list end → length list ≤ n → HasReceived n end
 has_received link list n None holds few = tt
 has_received link list n (Some end) holds few = omega (arith, holds.count, few)
 
-holds-same : (link : Link) (list more : List Reception) (end after : Option End) → more ≡ list → after ≡ end → Holds link list end → Holds link more after
+holds-same : (link : Link) (list more : List Reception) (end after : Option End) → more ≡ list → after ≡ end → HoldsEnd link list end → HoldsEnd link more after
 holds-same link list more end after same_list same_end holds = rw (same_list, same_end) holds
 
 -- the lines of a transmission, by what its sender says
@@ -86,6 +86,6 @@ on_ok-any (Ok x) p = p
 on_ok-any (Err e) p = tt
 
 -- what the end of a block has received
-pub holds-at : (senders : List Sending) (schedule : List Transmission) (ends : List (Option End)) (i : ℕ) (sender : Sending) (end : Option End) → i < length senders → sender ≡ get_or senders i sender → i < length ends → end ≡ get_or ends i end → AllHold senders schedule ends → Holds sender.link (received sender (own (i + 1) schedule)) end
+pub holds-at : (senders : List Sending) (schedule : List Transmission) (ends : List (Option End)) (i : ℕ) (sender : Sending) (end : Option End) → i < length senders → sender ≡ get_or senders i sender → i < length ends → end ≡ get_or ends i end → AllHold senders schedule ends → HoldsEnd sender.link (received sender (own (i + 1) schedule)) end
 holds-at senders schedule ends i sender end within at inside is held =
     holds-same sender.link _ _ (get_or ends i None) end refl (is ∙ get_or_default ends i end None inside) (held i sender within at)

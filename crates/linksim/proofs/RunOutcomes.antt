@@ -9,7 +9,7 @@ use Rattle.std.proofs.lemmas.List.FromFn.{get_or-map-range_with_len}
 use Rattle.std.proofs.lemmas.List.Sums.{sum_by-cons}
 use Rattle.std.proofs.lemmas.Bool.Decides.{nat_tests}
 use Rattle.nr_harqbuf.specs.Record.{Heardbits, record_of}
-use Rattle.nr_ldpcenc.specs.Rows.{word_size}
+use Rattle.nr_segment.specs.Plan.{word_size}
 use Rattle.nr_blockdesk.specs.Explains.{Reception, explains}
 use Rattle.nr_blockdesk.specs.Heard.{heard_of, heard_record, hearings}
 use Rattle.nr_blockdesk.specs.Link.{IsLink, Link}
@@ -20,7 +20,7 @@ use Rattle.linksim.specs.Ends.{IsWithin}
 use Rattle.linksim.specs.Lines.{hex}
 use Rattle.linksim.specs.RunText.{contradiction_line, counted, counted_by, delivered_line, left_line, no_totals, open_line, outcome_line, outcome_line_by, outcome_lines, open_counted, own, received, totals_from, unfixed_blocks}
 use Rattle.linksim.specs.ProcessTexts.{last_line, rounds_counted, run_ends, run_words, text_of_run}
-use Rattle.linksim.specs.RoundTexts.{joined, last_rounds, turns}
+use Rattle.linksim.specs.RoundTexts.{pieces_joined, last_rounds, turns}
 use Rattle.linksim.specs.Rounds.{all_rounds}
 use Rattle.linksim.specs.Schedule.{Timetable}
 use Rattle.linksim.specs.declared.received.Totals.{Totals}
@@ -40,7 +40,7 @@ count-all f a (suc n) each =
     let one : ◌≡◌ {A = ℕ} (cond (f a) 1 0) 1 = ap (λ b. cond b 1 0) first in
     omega (arith, sum_by-cons (λ r. cond (f r) 1 0) a (range_with_len (a + 1) n), one, more)
 
-all-all : (f : ℕ → Bool) (a n : ℕ) → ((r : ℕ) → a ≤ r → r < a + n → f r ≡ true) → list_all f (range_with_len a n) ≡ true
+pub all-all : (f : ℕ → Bool) (a n : ℕ) → ((r : ℕ) → a ≤ r → r < a + n → f r ≡ true) → list_all f (range_with_len a n) ≡ true
 all-all f a zero each = refl
 all-all f a (suc n) each =
     let first : f a ≡ true = each a (omega arith) (omega arith) in
@@ -146,7 +146,7 @@ run_ends-some : (b : Bool) (senders : List Sending) (schedule : List Transmissio
 run_ends-some true senders schedule =
     let last : List ℕ = last_line (codes "rounds") (rounds_counted no_totals senders (all_rounds schedule)) in
     let some : 0 < length last = last_line-some (codes "rounds") (rounds_counted no_totals senders (all_rounds schedule)) in
-    omega (arith, some, length-append (joined (last_rounds run_words senders schedule)) last)
+    omega (arith, some, length-append (pieces_joined (last_rounds run_words senders schedule)) last)
 run_ends-some false senders schedule =
     let last : List ℕ = last_line (codes "blocks") (totals_from no_totals 1 senders schedule) in
     let some : 0 < length last = last_line-some (codes "blocks") (totals_from no_totals 1 senders schedule) in
@@ -155,7 +155,7 @@ run_ends-some false senders schedule =
 pub text_of_run-some : (senders : List Sending) (schedule : Timetable) → 0 < length (text_of_run senders schedule)
 text_of_run-some senders schedule =
     let some : 0 < length (run_ends schedule.by_process senders schedule.transmissions) = run_ends-some schedule.by_process senders schedule.transmissions in
-    omega (arith, some, length-append (joined (turns run_words senders [] schedule.transmissions)) (run_ends schedule.by_process senders schedule.transmissions))
+    omega (arith, some, length-append (pieces_joined (turns run_words senders [] schedule.transmissions)) (run_ends schedule.by_process senders schedule.transmissions))
 
 -- what follows from what holds of an answer
 pub ok_then : {X E : Type 0} {P Q : X → Type 0} (r : Result X E) → IfOk r P → ((x : X) → P x → Q x) → IfOk r Q

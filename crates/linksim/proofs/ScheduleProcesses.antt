@@ -9,7 +9,7 @@ use Rattle.nr_shifttable.specs.Fields.{short_number}
 use Rattle.nr_shifttable.specs.Records.{Record, records_of}
 use Rattle.linksim.specs.PlaceLists.{below}
 use Rattle.linksim.specs.Rounds.{round_of}
-use Rattle.linksim.specs.Schedule.{EachGoesOn, GoesOn, IsPlaced, Timetable, block_in, erasure_at, field, flip_at, fresh_at, fresh_block, is_called, is_header, is_of_block, is_width, mask_at, number_at, process_at, schedule_of, schedule_said, transmission_of, transmissions_from}
+use Rattle.linksim.specs.Schedule.{EachGoesOn, GoesOn, IsPlaced, Timetable, block_in, erasure_at, field, flip_at, fresh_at, fresh_block, is_called, is_schedule_header, is_of_block, is_width, mask_at, number_at, process_at, schedule_of, schedule_said, transmission_of, transmissions_from}
 use Rattle.linksim.specs.declared.schedule.ScheduleFault.{ScheduleFault}
 use Rattle.linksim.specs.declared.schedule.ScheduleFault.TheVariants as fault
 use Rattle.linksim.specs.declared.schedule.Transmission.{Transmission}
@@ -142,8 +142,8 @@ transmissions_from-in blocks width k before (r ∷ rs) few =
       goes_on = each width before t more first others;
     }))
 
-header-narrow : (r : Record) → is_header r ≡ true → (length r == 10) ≡ false → length r ≤ 8
-unfolding is_header
+header-narrow : (r : Record) → is_schedule_header r ≡ true → (length r == 10) ≡ false → length r ≤ 8
+unfolding is_schedule_header
 header-narrow r header other =
     let one : is_width (length r) ≡ true = grind (arith) in
     grind (arith, nat_tests)
@@ -160,7 +160,7 @@ schedule_said-processes blocks text = holds_if _ (nat_lt 16777216 (length text))
     all : (rs : List Record) → IfOk (schedule_of blocks rs) AreOfProcesses
     all [] = tt
     all (r ∷ rs) =
-        holds_if _ (is_header r) _ _ (λ header.
+        holds_if _ (is_schedule_header r) _ _ (λ header.
         holds_then _ (transmissions_from blocks (length r) 2 [] rs) _ (λ ts is.
         let in_columns : AreIn (length r) [] ts = of_ok _ _ ts is (transmissions_from-in blocks (length r) 2 [] rs (header-narrow r header)) in
         record { placed = in_columns.placed; goes_on = in_columns.goes_on })) (λ other. tt)

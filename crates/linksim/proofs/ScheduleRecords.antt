@@ -8,7 +8,7 @@ use Rattle.std.proofs.lemmas.List.Elements.{All-nil, All-cons}
 use Rattle.nr_graphpick.specs.Refusal.{◌>>=◌}
 use Rattle.nr_shifttable.specs.Records.{Record, records_of}
 use Rattle.linksim.specs.Rounds.{round_of}
-use Rattle.linksim.specs.Schedule.{HasBlock, Timetable, block_in, erasure_at, flip_at, fresh_at, fresh_block, in_columns, is_called, is_header, is_of_block, mask_at, number_at, process_at, schedule_of, schedule_said, transmission_of, transmissions_from}
+use Rattle.linksim.specs.Schedule.{HasBlock, Timetable, block_in, erasure_at, flip_at, fresh_at, fresh_block, in_columns, is_called, is_schedule_header, is_of_block, mask_at, number_at, process_at, schedule_of, schedule_said, transmission_of, transmissions_from}
 use Rattle.linksim.specs.declared.schedule.ScheduleFault.{ScheduleFault}
 use Rattle.linksim.specs.declared.schedule.ScheduleFault.TheVariants as fault
 use Rattle.linksim.specs.declared.schedule.Transmission.{Transmission}
@@ -31,12 +31,12 @@ pub schedule_of-missing : (blocks : ℕ) (all : List Record) → all ≡ [] → 
 unfolding schedule_of
 schedule_of-missing blocks all none = ap (schedule_of blocks) none
 
-pub schedule_of-other : (blocks : ℕ) (all rest : List Record) (r : Record) → all ≡ r ∷ rest → is_header r ≡ false → schedule_of blocks all ≡ Err fault.Header
+pub schedule_of-other : (blocks : ℕ) (all rest : List Record) (r : Record) → all ≡ r ∷ rest → is_schedule_header r ≡ false → schedule_of blocks all ≡ Err fault.Header
 unfolding schedule_of
 schedule_of-other blocks all rest r some other =
     ap (schedule_of blocks) some ∙ ap (λ b. cond b (in_columns (length r) (transmissions_from blocks (length r) 2 [] rest)) (Err fault.Header)) other
 
-pub schedule_of-header : (blocks : ℕ) (all rest : List Record) (r : Record) → all ≡ r ∷ rest → is_header r ≡ true → in_columns (length r) (with_front [] (transmissions_from blocks (length r) 2 [] rest)) ≡ schedule_of blocks all
+pub schedule_of-header : (blocks : ℕ) (all rest : List Record) (r : Record) → all ≡ r ∷ rest → is_schedule_header r ≡ true → in_columns (length r) (with_front [] (transmissions_from blocks (length r) 2 [] rest)) ≡ schedule_of blocks all
 unfolding schedule_of
 schedule_of-header blocks all rest r some header =
     ap (in_columns (length r)) (with_front-none (transmissions_from blocks (length r) 2 [] rest))
@@ -133,7 +133,7 @@ schedule_said-records blocks text = holds_if _ (nat_lt 16777216 (length text)) _
   where
     all : (rs : List Record) → IfOk (schedule_of blocks rs) (λ said. AreRecords blocks 2 said.transmissions)
     all [] = tt
-    all (r ∷ rs) = holds_if _ (is_header r) _ _ (λ header.
+    all (r ∷ rs) = holds_if _ (is_schedule_header r) _ _ (λ header.
         holds_then _ (transmissions_from blocks (length r) 2 [] rs) _ (λ ts is. of_ok _ _ ts is (transmissions_from-records blocks (length r) 2 [] rs (omega arith) (omega arith)))) (λ other. tt)
 
 -- the text of a schedule is never unread
@@ -176,7 +176,7 @@ schedule_said-unread blocks text = never_if _ (nat_lt 16777216 (length text)) _ 
   where
     all : (rs : List Record) → schedule_of blocks rs ≢ Err fault.Read
     all [] = λ is. cc
-    all (r ∷ rs) = never_if _ (is_header r) _ _ (never_then _ (transmissions_from blocks (length r) 2 [] rs) _ (transmissions_from-unread blocks (length r) 2 [] rs) (λ ts is. cc)) (λ is. cc)
+    all (r ∷ rs) = never_if _ (is_schedule_header r) _ _ (never_then _ (transmissions_from blocks (length r) 2 [] rs) _ (transmissions_from-unread blocks (length r) 2 [] rs) (λ ts is. cc)) (λ is. cc)
 
 -- a file that is too long
 pub schedule_said-too_long : (blocks : ℕ) (text : List ℕ) → 16777216 < length text → schedule_said blocks text ≡ Err fault.TooLong

@@ -7,7 +7,7 @@ use Rattle.std.proofs.lemmas.Grind.{get_or_after_one}
 use Rattle.std.proofs.lemmas.List.Elements.{All-get_or, All-head, All-take, filter_passes}
 use Rattle.std.proofs.lemmas.Option.{slice_get-get_or}
 use Rattle.nr_blockdesk.specs.Sent.{Sending}
-use Rattle.linksim.specs.Ends.{AllHold, AreOfRounds, HoldRounds, Holds, HoldsIf, HoldsRound, IsOfRound}
+use Rattle.linksim.specs.Ends.{AllHold, AreOfRounds, HoldRounds, HoldsEnd, HoldsIf, HoldsRound, IsOfRound}
 use Rattle.linksim.specs.Rounds.{IsOfBlock, round_of}
 use Rattle.linksim.specs.RunText.{own, received}
 use Rattle.linksim.specs.Schedule.{EachGoesOn, IsPlaced, IsTimetable, Timetable, fresh_block}
@@ -46,8 +46,8 @@ pub timetable-of_rounds : (n : ℕ) (s : Timetable) → IsTimetable n s → AreO
 timetable-of_rounds n s is = of_rounds s.by_process s.transmissions is.placed is.rounds
 
 -- a place that holds a round of transmissions of one block
-round-holds : (senders : List Sending) (n : ℕ) (sender : Sending) (round : List Transmission) (end : Option End) → slice_get senders (n - 1) ≡ Some sender → All (λ (y : Transmission). (y.block == n) ≡ true) round → HoldsRound senders round end → Holds sender.link (received sender round) end
-round-holds senders n sender [] end there all holds = subst (Holds sender.link []) (sym holds) refl
+round-holds : (senders : List Sending) (n : ℕ) (sender : Sending) (round : List Transmission) (end : Option End) → slice_get senders (n - 1) ≡ Some sender → All (λ (y : Transmission). (y.block == n) ≡ true) round → HoldsRound senders round end → HoldsEnd sender.link (received sender round) end
+round-holds senders n sender [] end there all holds = subst (HoldsEnd sender.link []) (sym holds) refl
 round-holds senders n sender (y ∷ more) end there all holds =
     let first : (y.block == n) ≡ true = All-head (λ (z : Transmission). (z.block == n) ≡ true) y more all in
     let number : y.block ≡ n = grind (arith, nat_tests) in
@@ -67,5 +67,5 @@ blocks-hold senders schedule ends all long held = subst (AllHold senders schedul
         let place : get_or (drop 1 ends) i None ≡ get_or ends (i + 1) None = get_or_after_one ends i None ∙ ap (λ k. get_or ends k None) (omega arith) in
         let round : HoldsRound senders (own (i + 1) schedule) (get_or ends (i + 1) None) =
         subst (λ (xs : List Transmission). HoldsRound senders xs (get_or ends (i + 1) None)) (blocks_are_rounds schedule all (i + 1)) (held (i + 1) (omega (arith, long, within))) in
-        subst (Holds sender.link (received sender (own (i + 1) schedule))) (sym place)
+        subst (HoldsEnd sender.link (received sender (own (i + 1) schedule))) (sym place)
         (round-holds senders (i + 1) sender (own (i + 1) schedule) (get_or ends (i + 1) None) there (filter_passes (λ x. x.block == i + 1) schedule) round)

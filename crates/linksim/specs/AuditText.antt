@@ -5,7 +5,7 @@ use Rattle.std.specs.Fmt.{decimal}
 use Rattle.std.specs.List.{range_with_len}
 use Rattle.nr_bitvec.specs.Bit.{bit}
 use Rattle.nr_harqbuf.specs.Record.{Heardbits}
-use Rattle.nr_ldpcenc.specs.Rows.{word_size}
+use Rattle.nr_segment.specs.Plan.{word_size}
 use Rattle.nr_peel.specs.Peeling.{Peeling}
 use Rattle.nr_blockdesk.specs.Explains.{Reception}
 use Rattle.nr_blockdesk.specs.Heard.{IsRecordOf, heard_of, heard_record}

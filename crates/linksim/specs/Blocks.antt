@@ -25,8 +25,8 @@ abbrev pub IsBlockLength : ℕ → Type 0
 IsBlockLength n = (1 ≤ n) × (n ≤ 163840)
 
 -- the transport block that line `number` holds, or the line's first fault
-unfoldable pub block_at : ℕ → List ℕ → Result (List ℕ) BlocksFault
-block_at number line =
+unfoldable pub block_said : ℕ → List ℕ → Result (List ℕ) BlocksFault
+block_said number line =
     if length line == 0 then Err (fault.Blank number)
     else (if not (list_all is_ascii_hexdigit line) then Err (fault.Digit number)
     else (if length line % 2 == 1 then Err (fault.Odd number)
@@ -39,13 +39,13 @@ blocks_from number [] = Ok []
 blocks_from number (part ∷ parts) =
     if nat_lt 256 number then Err fault.TooMany
     else (do
-      block ← block_at number (without_last 13 part)
+      block ← block_said number (without_last 13 part)
       blocks ← blocks_from (number + 1) parts
       Ok (block ∷ blocks))
 
 -- the transport blocks of a blocks file, or its first fault
-unfoldable pub blocks_of : List ℕ → Result (List (List ℕ)) BlocksFault
-blocks_of text =
+unfoldable pub blocks_said : List ℕ → Result (List (List ℕ)) BlocksFault
+blocks_said text =
     if nat_lt 100000000 (length text) then Err fault.TooLong
     else (if length text == 0 then Err fault.Empty
     else blocks_from 1 (parts_of text))

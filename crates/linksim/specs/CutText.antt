@@ -8,7 +8,7 @@ use Rattle.nr_segment.specs.Plan.{Numbers, plan_of}
 use Rattle.nr_crcattach.specs.Attachment.{attached}
 use Rattle.nr_segment.specs.CodeBlock.{code_bits}
 use Rattle.nr_graphpick.specs.Refusal.{◌>>=◌, with_fault}
-use Rattle.linksim.specs.Blocks.{blocks_of}
+use Rattle.linksim.specs.Blocks.{blocks_said}
 use Rattle.linksim.specs.Lines.{block_line, attached_line, code_line}
 use Rattle.linksim.specs.declared.fault.RunFault.{RunFault}
 use Rattle.linksim.specs.declared.fault.RunFault.TheVariants.{Blocks, Desk}
@@ -39,5 +39,5 @@ lines_from rate number (octets ∷ blocks) = do
 -- what `cut` says of a blocks file: its text, or the first refusal
 unfoldable pub cut_said : ℕ → List ℕ → Result (List ℕ) RunFault
 cut_said rate file = do
-  blocks ← with_fault Blocks (blocks_of file)
+  blocks ← with_fault Blocks (blocks_said file)
   lines_from rate 1 blocks

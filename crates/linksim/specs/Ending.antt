@@ -1,5 +1,5 @@
 -- How the program ends.
-use Rattle.std.specs.Prelude.{◌≡◌, ℕ, suc, List, [], ◌++◌, Option, Result, Ok, Err, codes}
+use Rattle.std.specs.Prelude.{◌≡◌, ◌≢◌, ℕ, suc, List, [], ◌∷◌, ◌++◌, All, Option, Result, Ok, Err, codes}
 use Rattle.std.specs.String.{string_bytes}
 use Rattle.linksim.specs.Written.{with_text}
 use Rattle.linksim.specs.declared.ending.Ending.{Ending}
@@ -37,9 +37,13 @@ abbrev pub output_of : Ending → List ℕ
 output_of (Help text) = string_bytes text
 output_of _ = []
 
+-- no line end is among these
+abbrev pub IsOnOneLine : List ℕ → Type 0
+IsOnOneLine words = All (λ octet. octet ≢ 10) words
+
 -- the line of a refusal; which words stand for which fault is not said here
 abbrev pub IsRefusalLine : List ℕ → Type 0
-IsRefusalLine line = (words : List ℕ) × (line ≡ codes "linksim: refused: " ++ words)
+IsRefusalLine line = (words : List ℕ) × IsOnOneLine words × (line ≡ codes "linksim: refused: " ++ words ++ 10 ∷ [])
 
 -- what stands on standard error as it ends, and what stood there before: a refusal's line more, or the text that says
 -- how the program is used

@@ -28,25 +28,30 @@ pub record IsEnd (link : Link) (list : List Reception) (end : End) : Type 0 wher
   pub count : end.count ≡ length list
 
 -- the same where an end is only made once something is received
-abbrev pub Holds : Link → List Reception → Option End → Type 0
-Holds link list None = list ≡ []
-Holds link list (Some end) = IsEnd link list end
+abbrev pub HoldsEnd : Link → List Reception → Option End → Type 0
+HoldsEnd link list None = list ≡ []
+HoldsEnd link list (Some end) = IsEnd link list end
 
 -- an end's count is no more than this
 abbrev pub HasReceived : ℕ → Option End → Type 0
 HasReceived n None = Unit {0}
 HasReceived n (Some end) = end.count ≤ n
 
+-- an end's receiver has this link
+abbrev pub IsOver : Link → Option End → Type 0
+IsOver link None = Unit {0}
+IsOver link (Some end) = end.receiver.link ≡ link
+
 -- each transport block's end has received what its sender's transmissions among these gave
 abbrev pub AllHold : List Sending → List Transmission → List (Option End) → Type 0
 AllHold senders transmissions ends = (i : ℕ) (sender : Sending) → i < length senders
     → sender ≡ slice_index_or senders i sender
-    → Holds sender.link (received sender (own (i + 1) transmissions)) (slice_index_or ends i None)
+    → HoldsEnd sender.link (received sender (own (i + 1) transmissions)) (slice_index_or ends i None)
 
 -- a place has received what a round gave, by the sender of the round's block
 abbrev pub HoldsIf : Option Sending → List Transmission → Option End → Type 0
 HoldsIf None round end = Unit {0}
-HoldsIf (Some sender) round end = Holds sender.link (received sender round) end
+HoldsIf (Some sender) round end = HoldsEnd sender.link (received sender round) end
 
 -- the same by the block that the round's first transmission names; a place that is in no round has received nothing
 abbrev pub HoldsRound : List Sending → List Transmission → Option End → Type 0

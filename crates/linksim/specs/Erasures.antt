@@ -11,14 +11,14 @@ use Rattle.linksim.specs.declared.erasure.Erasure.{Erasure}
 use Rattle.linksim.specs.declared.erasure.Erasure.TheVariants as erasure
 
 -- the place stands in the range
-abbrev pub is_in : ℕ → PlaceRange → Bool
-is_in m range = nat_le range.first m && nat_le m range.last
+abbrev pub is_within : ℕ → PlaceRange → Bool
+is_within m range = nat_le range.first m && nat_le m range.last
 
 -- the place is meant
 abbrev pub is_named : Places → ℕ → Bool
 is_named places.Nothing m = false
 is_named places.All m = true
-is_named (places.Listed ranges) m = list_any (is_in m) ranges
+is_named (places.Listed ranges) m = list_any (is_within m) ranges
 
 -- the first words of PCG-XSH-RR 64/32 for a seed, on stream 54
 abbrev pub words_drawn : ℕ → ℕ → List ℕ

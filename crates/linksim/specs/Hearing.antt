@@ -9,10 +9,10 @@ use Rattle.linksim.specs.Erasures.{erased_of, is_named}
 use Rattle.linksim.specs.declared.schedule.Transmission.{Transmission}
 
 -- what is heard at place m, with the marks of the erased places
-abbrev pub heard_at : Transmission → List Bool → List Bool → ℕ → Heard
-heard_at x erased bits m = arrived_bit (bit erased m) (is_named x.flip m ⊕ bit bits m)
+abbrev pub arrives_at : Transmission → List Bool → List Bool → ℕ → Heard
+arrives_at x erased bits m = arrived_bit (bit erased m) (is_named x.flip m ⊕ bit bits m)
 
 -- what is heard of the bits of a transmission, place by place
 unfoldable pub heard_through : Transmission → List Bool → List Heard
 heard_through x bits =
-    map (heard_at x (erased_of x.erasure (length bits)) bits) (range_with_len 0 (length bits))
+    map (arrives_at x (erased_of x.erasure (length bits)) bits) (range_with_len 0 (length bits))

@@ -1,14 +1,18 @@
 -- What the four files of a command over a schedule say: `send`, and those that follow its schedule.
-use Rattle.std.specs.Prelude.{◌≡◌, ℕ, ◌+◌, List, [], ◌∷◌, length, map, Option, IfSome, IsOk, Result, Ok}
+use Rattle.std.specs.Prelude.{◌≡◌, ◌≢◌, ℕ, ◌+◌, List, [], ◌∷◌, length, map, Option, IfSome, IsOk, IfOk, Result, Ok, Err}
 use Rattle.nr_bitvec.specs.BitList.{bits_of}
 use Rattle.nr_graphpick.specs.Refusal.{◌>>=◌, with_fault}
 use Rattle.nr_shifttable.specs.Accepted.{Entries, table_said}
-use Rattle.linksim.specs.Blocks.{blocks_of}
+use Rattle.linksim.specs.Blocks.{blocks_said}
 use Rattle.linksim.specs.Schedule.{Timetable, schedule_said, timetable_by}
 use Rattle.linksim.specs.Settings.{settings_said}
 use Rattle.nr_blockdesk.specs.Sent.{Sending, sending_said}
 use Rattle.nr_blockdesk.specs.declared.settings.Settings.{Settings}
+use Rattle.linksim.specs.declared.blocks.BlocksFault.TheVariants as blocks_fault
 use Rattle.linksim.specs.declared.inputs.Inputs.{Inputs}
+use Rattle.linksim.specs.declared.schedule.ScheduleFault.TheVariants as schedule_fault
+use Rattle.linksim.specs.declared.settings.SettingsFault.TheVariants as settings_fault
+use Rattle.nr_shifttable.specs.declared.fault.TableFault.TheVariants as table_fault
 use Rattle.linksim.specs.declared.fault.RunFault.{RunFault}
 use Rattle.linksim.specs.declared.fault.RunFault.TheVariants as faults
 
@@ -34,7 +38,7 @@ unfoldable pub files_said : List ℕ → List ℕ → List ℕ → List ℕ → 
 files_said table_file settings_file blocks_file schedule_file = do
   table ← with_fault faults.Table (table_said table_file)
   settings ← with_fault faults.Settings (settings_said settings_file)
-  blocks ← with_fault faults.Blocks (blocks_of blocks_file)
+  blocks ← with_fault faults.Blocks (blocks_said blocks_file)
   schedule ← with_fault faults.Schedule (schedule_said (length blocks) schedule_file)
   Ok (record { table = table; settings = settings; blocks = blocks; schedule = schedule })
 
@@ -72,11 +76,49 @@ OfFour t s b d holds = IfSome t (λ table. IfSome s (λ settings. IfSome b (λ b
 abbrev pub HasNoFault : {X E : Type 0} → (List ℕ → Result X E) → Option (List ℕ) → Type 0
 HasNoFault said file = IfSome file (λ octets. IsOk (said octets))
 
+-- what is said of a file, where its octets are known
+abbrev pub Says : {X E : Type 0} → (List ℕ → Result X E) → Result X E → Option (List ℕ) → Type 0
+Says said answer file = IfSome file (λ octets. said octets ≡ answer)
+
+-- this holds of what a file says, where its octets are known and have no fault
+abbrev pub OfSaid : {X E : Type 0} → (List ℕ → Result X E) → Option (List ℕ) → (X → Type 0) → Type 0
+OfSaid said file holds = IfSome file (λ octets. IfOk (said octets) holds)
+
+-- Each of four files says this, where its octets are known: what one says does not hang on those after it, and a
+-- schedule is one for as many blocks as there are.
+pub record AreSaid (given : Given) (t s b d : Option (List ℕ)) : Type 0 where
+  pub table : Says table_said (Ok given.table) t
+  pub settings : Says settings_said (Ok given.settings) s
+  pub blocks : Says blocks_said (Ok given.blocks) b
+  pub schedule : Says (schedule_said (length given.blocks)) (Ok given.schedule) d
+
+-- none of four files has a fault, each where its octets are known; a schedule where those of the blocks are too
+pub record HaveNoFault (t s b d : Option (List ℕ)) : Type 0 where
+  pub table : HasNoFault table_said t
+  pub settings : HasNoFault settings_said s
+  pub blocks : HasNoFault blocks_said b
+  pub schedule : OfSaid blocks_said b (λ blocks. HasNoFault (schedule_said (length blocks)) d)
+
+-- A fault is the one that the octets say: that of the table, of the settings or of the blocks file by this file's alone,
+-- but for its Read, which no octets say; that of the schedule by those of the blocks and its own; that of a transport
+-- block by those of the first three files, and then no file has a fault. A Write comes behind all of these.
+abbrev pub IsFoundIn : RunFault → Option (List ℕ) → Option (List ℕ) → Option (List ℕ) → Option (List ℕ) → Type 0
+IsFoundIn (faults.Table e) t s b d = e ≢ table_fault.Read → Says table_said (Err e) t
+IsFoundIn (faults.Settings e) t s b d = e ≢ settings_fault.Read → Says settings_said (Err e) s
+IsFoundIn (faults.Blocks e) t s b d = e ≢ blocks_fault.Read → Says blocks_said (Err e) b
+IsFoundIn (faults.Schedule e) t s b d =
+    e ≢ schedule_fault.Read → OfSaid blocks_said b (λ blocks. Says (schedule_said (length blocks)) (Err e) d)
+IsFoundIn (faults.Desk n e) t s b d = (HaveNoFault t s b d)
+    × OfSaid table_said t (λ table. OfSaid settings_said s (λ settings. OfSaid blocks_said b (λ blocks.
+    senders_from table settings 1 blocks ≡ Err (faults.Desk n e))))
+IsFoundIn faults.Write t s b d = HaveNoFault t s b d
+IsFoundIn faults.Memory t s b d = Unit {0}
+
 -- A fault of one of the four files, its Read too, is the first: no file before it has a fault.
 abbrev pub IsFirst : RunFault → Option (List ℕ) → Option (List ℕ) → Option (List ℕ) → Type 0
 IsFirst (faults.Settings e) t s b = HasNoFault table_said t
 IsFirst (faults.Blocks e) t s b = (HasNoFault table_said t) × (HasNoFault settings_said s)
-IsFirst (faults.Schedule e) t s b = (HasNoFault table_said t) × (HasNoFault settings_said s) × (HasNoFault blocks_of b)
+IsFirst (faults.Schedule e) t s b = (HasNoFault table_said t) × (HasNoFault settings_said s) × (HasNoFault blocks_said b)
 IsFirst e t s b = Unit {0}
 
 -- No file after one that is refused is read: their Sources are as they were.

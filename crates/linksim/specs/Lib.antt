@@ -16,9 +16,11 @@ pub mod Lines
 pub mod Masks
 pub mod PlaceLists
 pub mod ProcessTexts
+pub mod RoundCalls
 pub mod RoundTexts
 pub mod Rounds
 pub mod RunText
+pub mod SafeRuns
 pub mod Schedule
 pub mod SendText
 pub mod Settings

@@ -6,7 +6,7 @@ use Rattle.nr_blockdesk.specs.Heard.{heard_record}
 use Rattle.nr_blockdesk.specs.Sent.{Sending}
 use Rattle.linksim.specs.AuditText.{audit_block, audit_lines}
 use Rattle.linksim.specs.Inputs.{inputs_said}
-use Rattle.linksim.specs.RoundTexts.{Words, joined, last_rounds, sender_of, turns, written}
+use Rattle.linksim.specs.RoundTexts.{Words, pieces_joined, last_rounds, sender_of, turns, written}
 use Rattle.linksim.specs.Rounds.{all_rounds}
 use Rattle.linksim.specs.RunText.{counted, lines_of, no_totals, outcome_line, outcome_lines, received, totals_from}
 use Rattle.linksim.specs.Schedule.{Timetable}
@@ -58,7 +58,7 @@ last_line name t =
 -- what `run` says after all transmissions: by processes, or by blocks
 abbrev pub run_ends : Bool → List Sending → List Transmission → List ℕ
 run_ends true senders schedule =
-    joined (last_rounds run_words senders schedule)
+    pieces_joined (last_rounds run_words senders schedule)
     ++ last_line (codes "rounds") (rounds_counted no_totals senders (all_rounds schedule))
 run_ends false senders schedule =
     outcome_lines 1 senders schedule ++ last_line (codes "blocks") (totals_from no_totals 1 senders schedule)
@@ -66,12 +66,12 @@ run_ends false senders schedule =
 -- the text of a run
 abbrev pub text_of_run : List Sending → Timetable → List ℕ
 text_of_run senders schedule =
-    joined (turns run_words senders [] schedule.transmissions)
+    pieces_joined (turns run_words senders [] schedule.transmissions)
     ++ run_ends schedule.by_process senders schedule.transmissions
 
 -- the text of an audit: by processes, or by blocks
 abbrev pub audit_by : Bool → List Sending → List Transmission → List ℕ
-audit_by true senders schedule = joined (written audit_words senders schedule)
+audit_by true senders schedule = pieces_joined (written audit_words senders schedule)
 audit_by false senders schedule = audit_lines schedule 1 senders
 
 abbrev pub text_of_audit : List Sending → Timetable → List ℕ

@@ -57,8 +57,8 @@ abbrev pub written : Words → List Sending → List Transmission → List Piece
 written words senders schedule = turns words senders [] schedule ++ last_rounds words senders schedule
 
 -- one after the other
-abbrev pub joined : List Piece → List ℕ
-joined pieces = flat_map (λ piece. piece.1) pieces
+abbrev pub pieces_joined : List Piece → List ℕ
+pieces_joined pieces = flat_map (λ piece. piece.1) pieces
 
 -- the lines are about process p
 abbrev pub is_about : ℕ → Piece → Bool

@@ -35,8 +35,8 @@ abbrev pub is_width : ℕ → Bool
 is_width n = (n == 6) || (n == 7) || (n == 8) || (n == 10)
 
 -- the record that names the columns
-unfoldable pub is_header : Record → Bool
-is_header r =
+unfoldable pub is_schedule_header : Record → Bool
+is_schedule_header r =
     is_width (length r) && is_called r 0 (codes "block") && is_called r 1 (codes "rv") && is_called r 2 (codes "g")
     && is_called r 3 (codes "qm") && is_called r 4 (codes "nl") && is_called r 5 (codes "erase")
     && is_there r 6 (codes "flip") && is_there r 7 (codes "mask")
@@ -140,7 +140,7 @@ in_columns width said = do
 unfoldable pub schedule_of : ℕ → List Record → Result Timetable ScheduleFault
 schedule_of blocks [] = Err fault.Header
 schedule_of blocks (r ∷ rs) =
-    if is_header r then in_columns (length r) (transmissions_from blocks (length r) 2 [] rs) else Err fault.Header
+    if is_schedule_header r then in_columns (length r) (transmissions_from blocks (length r) 2 [] rs) else Err fault.Header
 
 -- what a schedule file says for so many blocks, or the first fault
 unfoldable pub schedule_said : ℕ → List ℕ → Result Timetable ScheduleFault

@@ -4,13 +4,13 @@ ghost use Rattle.std.specs.Prelude.{◌≡◌, ◌≢◌, ◌+◌, ◌^◌, ◌<
 ghost use Rattle.std.specs.String.{string_bytes};
 ghost use Rattle.nr_bitvec.specs.Bit.{bit};
 ghost use Rattle.nr_blockdesk.specs.Explains.{Reception};
-ghost use Rattle.nr_blockdesk.specs.Sent.{Sending};
+ghost use Rattle.nr_blockdesk.specs.Sent.{sent_said};
 ghost use Rattle.linksim.specs.AuditText.{HasHeard, audit_block, audit_line, audit_lines, audit_of, gained, order_line, stuck_line};
 ghost use Rattle.linksim.specs.Command.{Delivers, FailsAs, Writes};
 ghost use Rattle.linksim.specs.Ends.{IsLinked};
-ghost use Rattle.linksim.specs.Inputs.{IsFirst, LeavesLater, OfFour};
+ghost use Rattle.linksim.specs.Inputs.{HaveNoFault, IsFirst, IsFoundIn, LeavesLater, OfFour};
 ghost use Rattle.linksim.specs.ProcessTexts.{audit_said, audit_words};
-ghost use Rattle.linksim.specs.RoundTexts.{joined, last_rounds, round_lines, turn_lines, turns, written};
+ghost use Rattle.linksim.specs.RoundTexts.{pieces_joined, last_rounds, round_lines, turn_lines, turns, written};
 ghost use Rattle.linksim.specs.Rounds.{IsOfBlock, of_process, round_of};
 ghost use Rattle.linksim.specs.RunText.{received, received_if, received_of};
 ghost use Rattle.linksim.specs.Schedule.{HasBlock};
@@ -20,14 +20,14 @@ use crate::deliver::deliver;
 use crate::fault::RunFault;
 use crate::hearing::heard_through;
 use crate::inputs::{Inputs, read, senders};
-use crate::received::{End, new_end};
+use crate::received::{End, new_end, take};
 use crate::rounds::{process_words, round_block, round_start};
 use crate::schedule::{PROCESSES, ScheduleFault, Transmission};
 use crate::send::said_of;
 use crate::settings::SettingsFault;
 use crate::sink::Sink;
 use nr_bitvec::Bits;
-use nr_blockdesk::{Receiver, Sender, links_are_sound};
+use nr_blockdesk::{Receiver, Sender, accepted_send_all, links_are_sound};
 use nr_peel::Peeler;
 use nr_segment::plans_are_sound;
 use nr_shifttable::{Source, TableFault};
@@ -79,6 +79,10 @@ pub fn audit<T: Source, S: Source, B: Source, D: Source, O: Sink>(
         (B.failures blocks.old) (B.failures blocks.new) }
     ensures schedule { FailsAs (RunFault.Schedule ScheduleFault.Read) result
         (D.failures schedule.old) (D.failures schedule.new) }
+    ensures sound { IfOk result (λ _. HaveNoFault (T.remaining table.old)
+        (S.remaining settings.old) (B.remaining blocks.old) (D.remaining schedule.old)) }
+    ensures found { IfErr result (λ e. IsFoundIn e (T.remaining table.old)
+        (S.remaining settings.old) (B.remaining blocks.old) (D.remaining schedule.old)) }
     ensures first { IfErr result (λ e. IsFirst e
         (T.remaining table.old) (S.remaining settings.old) (B.remaining blocks.old)) }
     ensures later { IfErr result (λ e. LeavesLater e settings.old settings.new
@@ -108,7 +112,7 @@ fn audit_rounds<O: Sink>(
         senders.now }
     requires named { All (HasBlock (length senders.now)) inputs.now.schedule.transmissions.items }
     ensures text { Writes (O.written out.old) (O.written out.new) result
-        (joined (written audit_words senders.now inputs.now.schedule.transmissions.items)) }
+        (pieces_joined (written audit_words senders.now inputs.now.schedule.transmissions.items)) }
     ensures put { FailsAs RunFault.Write result (O.failures out.old) (O.failures out.new) }
 {
     audit_ended(alloc, inputs, senders, out)?;
@@ -127,7 +131,7 @@ fn audit_ended<O: Sink>(
         senders.now }
     requires named { All (HasBlock (length senders.now)) inputs.now.schedule.transmissions.items }
     ensures text { Writes (O.written out.old) (O.written out.new) result
-        (joined (turns audit_words senders.now [] inputs.now.schedule.transmissions.items)) }
+        (pieces_joined (turns audit_words senders.now [] inputs.now.schedule.transmissions.items)) }
     ensures put { FailsAs RunFault.Write result (O.failures out.old) (O.failures out.new) }
 {
     let schedule = inputs.schedule.transmissions.as_slice();
@@ -173,7 +177,7 @@ fn audit_last<O: Sink>(
         senders.now }
     requires named { All (HasBlock (length senders.now)) inputs.now.schedule.transmissions.items }
     ensures text { Writes (O.written out.old) (O.written out.new) result
-        (joined (last_rounds audit_words senders.now inputs.now.schedule.transmissions.items)) }
+        (pieces_joined (last_rounds audit_words senders.now inputs.now.schedule.transmissions.items)) }
     ensures put { FailsAs RunFault.Write result (O.failures out.old) (O.failures out.new) }
 {
     let schedule = inputs.schedule.transmissions.as_slice();
@@ -408,6 +412,7 @@ fn receive(
     receiver: &mut Receiver,
     transmission: &Transmission,
 ) -> Result<(), AllocError>
+    requires { receiver.old.link ≡ sender.now.link }
     ensures { OnOk result ((list : List Reception) → HasHeard sender.now list receiver.old
         → HasHeard sender.now
         (list ++ received sender.now (of_process process (transmission.now ∷ []))) receiver.new) }
@@ -425,30 +430,33 @@ fn hear(
     receiver: &mut Receiver,
     transmission: &Transmission,
 ) -> Result<(), AllocError>
+    requires { receiver.old.link ≡ sender.now.link }
     ensures { OnOk result ((list : List Reception) → HasHeard sender.now list receiver.old
         → HasHeard sender.now (list ++ received_of sender.now transmission.now) receiver.new) }
 {
     match said_of(sender, &transmission.tx)? {
-        Ok(bits) => hear_bits(alloc, receiver, transmission, &bits),
+        Ok(bits) => hear_bits(alloc, sender, receiver, transmission, &bits),
         Err(_) => Ok(()),
     }
 }
 
-// Has the receiver hear what arrives of a transmission that sends these bits.
+// Has the receiver hear what arrives of a transmission, of which a sender sends these bits.
 fn hear_bits(
     alloc: Global,
+    sender: &Sender,
     receiver: &mut Receiver,
     transmission: &Transmission,
     bits: &Bits,
 ) -> Result<(), AllocError>
-    ensures { OnOk result ((sender : Sending) (list : List Reception)
-        → HasHeard sender list receiver.old
-        → HasHeard sender (list ++ received_if transmission.now (Ok bits.now.items))
+    requires same_link { receiver.old.link ≡ sender.now.link }
+    requires sent { sent_said sender.now.link transmission.now.tx sender.now.block
+        ≡ Ok bits.now.items }
+    ensures { OnOk result ((list : List Reception) → HasHeard sender.now list receiver.old
+        → HasHeard sender.now (list ++ received_if transmission.now (Ok bits.now.items))
         receiver.new) }
 {
+    accepted_send_all();
     let heard = heard_through(alloc, transmission, bits)?;
-    match receiver.take(&transmission.tx, &heard) {
-        Ok(_) => Ok(()),
-        Err(_) => Err(AllocError),
-    }
+    take(receiver, &transmission.tx, &heard)?;
+    Ok(())
 }

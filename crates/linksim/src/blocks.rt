@@ -3,7 +3,7 @@
 ghost use Rattle.std.specs.Prelude.{◌≡◌, ◌≤◌, ◌<◌, ◌+◌, ◌*◌, ◌/◌, IsTrue, IfOk, All, map, length};
 ghost use Rattle.std.specs.Char.{is_ascii_hexdigit, digit_value};
 ghost use Rattle.std.specs.List.{list_all};
-ghost use Rattle.linksim.specs.Blocks.{without_last, octets_of_digits, block_at, blocks_of, IsBlockLength};
+ghost use Rattle.linksim.specs.Blocks.{without_last, octets_of_digits, block_said, blocks_said, IsBlockLength};
 ghost use Rattle.nr_graphpick.specs.Refusal.{Gives};
 
 use std::alloc::{AllocError, Global};
@@ -109,10 +109,10 @@ fn all_digits(line: &[u8]) -> bool
 // The transport block that line `number` holds.
 //
 // Errors, in this order: `Blank`, `Digit`, `Odd`, `LongLine`, each with the line's number; `Memory`.
-#[tactic(auto, unfolding(crate::specs::Blocks::block_at))]
+#[tactic(auto, unfolding(crate::specs::Blocks::block_said))]
 fn block_of(alloc: Global, number: u32, line: &[u8]) -> Result<Vec<u8>, BlocksFault>
     ensures said { Gives BlocksFault.Memory (λ block. block.items) result
-        (block_at number line.now) }
+        (block_said number line.now) }
     ensures size { IfOk result (λ block. IsBlockLength (length block.items)) }
 {
     if line.is_empty() {
@@ -141,7 +141,7 @@ fn block_of(alloc: Global, number: u32, line: &[u8]) -> Result<Vec<u8>, BlocksFa
 /// `Memory` where a growth is refused.
 pub fn parse_blocks(alloc: Global, text: &[u8]) -> Result<Vec<Vec<u8>>, BlocksFault>
     ensures said { Gives BlocksFault.Memory (λ blocks. map (λ block. block.items) blocks.items)
-        result (blocks_of text.now) }
+        result (blocks_said text.now) }
     ensures few { IfOk result (λ blocks. length blocks.items ≤ 256) }
     ensures sizes { IfOk result
         (λ blocks. All (λ block. IsBlockLength (length block.items)) blocks.items) }

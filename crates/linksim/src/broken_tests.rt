@@ -5,7 +5,7 @@
 ghost use Rattle.std.specs.Prelude.{◌≡◌, ◌<◌, Some, IfOk};
 
 use crate::blocks::BlocksFault;
-use crate::commands::{Command, ROOM, SETTINGS, feed, perform};
+use crate::commands::{Command, SETTINGS, feed, perform};
 use crate::fault::RunFault;
 use crate::schedule::{ScheduleFault, read_schedule};
 use crate::settings::{Settings, SettingsFault, read_settings};
@@ -16,9 +16,12 @@ use std::alloc::{AllocError, Global};
 use std::process::Abort;
 use std::test::Fail;
 
-const BLOCKS: &[u8] = b"01\n";
+// More octets than these texts have.
+const ROOM: u32 = 4096;
 
-const SCHEDULE: &[u8] = b"block,rv,g,qm,nl,erase\n1,0,24,4,1,-\n";
+pub(crate) const BLOCKS: &[u8] = b"01\n";
+
+pub(crate) const SCHEDULE: &[u8] = b"block,rv,g,qm,nl,erase\n1,0,24,4,1,-\n";
 
 // Two rounds of one HARQ process.
 const ROUNDS: &[u8] = b"block,rv,g,qm,nl,erase,flip,mask,process,fresh\n\
@@ -239,14 +242,17 @@ fn breaks_at_each_put(
     Ok(())
 }
 
+// Block 01 with its CRC is 011021, with Zc 4: columns 2 to 7 behind the fillers, by four bits a symbol.
+pub(crate) const SENT: &[u8] = b"sent 1 1 000a51\n";
+
 // 24 bits leave column 1 of block 01's word, and with it columns 12 and 13 and the rotations of column 1, which are
 // columns 21, 31, 41 and 51.
-const RUN: &[u8] = b"sent 1 1 000a51\n\
+pub(crate) const RUN: &[u8] = b"sent 1 1 000a51\n\
     left 1 1 0 4\n\
     block 1 open tx 1 failed 1 of 1\n\
     total blocks 1 delivered 0 open 1 contradiction 0 codeblocks 1 failed 1\n";
 
-const AUDIT: &[u8] =
+pub(crate) const AUDIT: &[u8] =
     b"stuck 1 0 28 4 5 6 7 48 49 50 51 52 53 54 55 84 85 86 87 124 125 126 127 164 165 166 167 \
     204 205 206 207\n";
 
@@ -282,13 +288,7 @@ fn check_writes_until_the_sink_breaks(rt: HostRuntime) -> Result<(), Fail> {
 
 #[test]
 fn send_writes_until_the_sink_breaks(rt: HostRuntime) -> Result<(), Fail> {
-    breaks_at_each_put(
-        &rt,
-        rt.alloc(),
-        Command::Send,
-        SCHEDULE,
-        b"sent 1 1 000a51\n",
-    )
+    breaks_at_each_put(&rt, rt.alloc(), Command::Send, SCHEDULE, SENT)
 }
 
 #[test]

@@ -18,7 +18,7 @@ use std::test::Fail;
 pub(crate) const SETTINGS: &[u8] = b"rate2048 = 2048\n";
 
 // More octets than these commands write.
-pub(crate) const ROOM: u32 = 4096;
+const ROOM: u32 = 65_536;
 
 // A command of the program; `cut` at the highest code rate.
 #[derive(Clone, Copy, Debug, PartialEq, Eq)]

@@ -1,7 +1,7 @@
 //! The command `cut`.
 
 ghost use Rattle.std.specs.Prelude.{◌≡◌, ◌≢◌, ℕ, ◌^◌, ◌<◌, ◌≤◌, All, length, map, IfOk, IfSome, IsErr};
-ghost use Rattle.linksim.specs.Blocks.{blocks_of, IsBlockLength};
+ghost use Rattle.linksim.specs.Blocks.{blocks_said, IsBlockLength};
 ghost use Rattle.linksim.specs.Command.{Delivers, FailsAs};
 ghost use Rattle.linksim.specs.CutText.{cut_said};
 ghost use Rattle.nr_graphpick.specs.Refusal.{Gives};
@@ -54,7 +54,7 @@ pub fn read_blocks<B: Source>(alloc: Global, source: &mut B) -> Result<Vec<Vec<u
     requires { B.failures source.old < 2 ^ 32 }
     ensures said { B.failures source.new ≡ B.failures source.old → IfSome (B.remaining source.old)
         (λ octets. Gives BlocksFault.Memory (λ blocks. map (λ block. block.items) blocks.items)
-        result (blocks_of octets)) }
+        result (blocks_said octets)) }
     ensures few { IfOk result (λ blocks. length blocks.items ≤ 256) }
     ensures sizes { IfOk result
         (λ blocks. All (λ block. IsBlockLength (length block.items)) blocks.items) }

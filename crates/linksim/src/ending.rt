@@ -2,7 +2,7 @@
 
 ghost use Rattle.std.specs.Prelude.{◌≡◌, ◌-◌, ◌^◌, ◌<◌, IfOk};
 ghost use Rattle.std.specs.String.{string_bytes};
-ghost use Rattle.linksim.specs.Ending.{Complains, IsRefusalLine, ended_at, output_of, status_of};
+ghost use Rattle.linksim.specs.Ending.{Complains, IsOnOneLine, IsRefusalLine, ended_at, output_of, status_of};
 ghost use Rattle.linksim.specs.Written.{WritesPrefix, with_text};
 
 use crate::fault::RunFault;
@@ -122,9 +122,19 @@ fn refusal_line(alloc: Global, fault: RunFault) -> Result<String, AllocError>
 {
     let words = fault.to_string(alloc)?;
     let mut line = String::from_str(alloc, "linksim: refused: ")?;
-    line.push_str(&words)?;
+    line.push_str(first_line(&words))?;
     line.push_str("\n")?;
     Ok(line)
+}
+
+// The first line of words. A fault's words are no longer; but no contract says so, and a refusal is one line.
+fn first_line(words: &str) -> &str
+    ensures { IsOnOneLine result.now }
+{
+    match words.split_once('\n') {
+        Some((line, _)) => line,
+        None => words,
+    }
 }
 
 #[cfg(test)]

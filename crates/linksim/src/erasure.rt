@@ -2,7 +2,7 @@
 
 ghost use Rattle.std.specs.Prelude.{◌≡◌, ℕ, ◌<◌, nat_lt, length, map, slice_index, IfOk};
 ghost use Rattle.std.specs.List.{list_any, range_with_len};
-ghost use Rattle.linksim.specs.Erasures.{erased_of, is_in, is_named, words_drawn};
+ghost use Rattle.linksim.specs.Erasures.{erased_of, is_within, is_named, words_drawn};
 ghost use Rattle.linksim.specs.Furthest.{begins_at, furthest};
 
 use rand_core::utils::NextWord;
@@ -123,7 +123,7 @@ fn drawn(alloc: Global, seed: u64, threshold: u32, count: u32) -> Result<Vec<boo
 // before it ends behind it.
 fn listed(alloc: Global, ranges: &[PlaceRange], count: u32) -> Result<Vec<bool>, AllocError>
     ensures { IfOk result (λ marks. marks.items
-        ≡ map (λ m. list_any (is_in m) ranges.now) (range_with_len 0 count)) }
+        ≡ map (λ m. list_any (is_within m) ranges.now) (range_with_len 0 count)) }
 {
     let ends = ends_from(alloc, ranges, count)?;
     let mut marks = Vec::with_capacity(alloc, count as usize)?;

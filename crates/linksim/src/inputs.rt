@@ -6,7 +6,7 @@ ghost use Rattle.nr_graphpick.specs.Refusal.{Gives};
 ghost use Rattle.nr_shifttable.specs.Accepted.{IsTable};
 ghost use Rattle.linksim.specs.Blocks.{IsBlockLength};
 ghost use Rattle.linksim.specs.Command.{FailsAs, IsOfBlock};
-ghost use Rattle.linksim.specs.Inputs.{IsFirst, LeavesLater, OfFour, files_said, given_by, sender_said, senders_from};
+ghost use Rattle.linksim.specs.Inputs.{AreSaid, IsFirst, IsFoundIn, LeavesLater, OfFour, files_said, given_by, sender_said, senders_from};
 ghost use Rattle.linksim.specs.Schedule.{HasBlock, IsTimetable, timetable_by};
 
 use crate::blocks::BlocksFault;
@@ -72,6 +72,10 @@ pub fn read<T: Source, S: Source, B: Source, D: Source>(
         (B.failures blocks.old) (B.failures blocks.new) }
     ensures schedule { FailsAs (RunFault.Schedule ScheduleFault.Read) result
         (D.failures schedule.old) (D.failures schedule.new) }
+    ensures files { IfOk result (λ inputs. AreSaid (given_by inputs) (T.remaining table.old)
+        (S.remaining settings.old) (B.remaining blocks.old) (D.remaining schedule.old)) }
+    ensures found { IfErr result (λ e. IsFoundIn e (T.remaining table.old)
+        (S.remaining settings.old) (B.remaining blocks.old) (D.remaining schedule.old)) }
     ensures first { IfErr result (λ e. IsFirst e
         (T.remaining table.old) (S.remaining settings.old) (B.remaining blocks.old)) }
     ensures later { IfErr result (λ e. LeavesLater e settings.old settings.new

@@ -23,6 +23,8 @@ pub mod command_line;
 mod commands;
 pub mod cut;
 pub mod deliver;
+#[cfg(test)]
+mod delivery_tests;
 pub mod ending;
 pub mod erasure;
 pub mod fault;
@@ -32,13 +34,16 @@ pub mod job;
 pub mod places;
 #[cfg(test)]
 mod program_tests;
-pub mod received;
+mod received;
 #[cfg(test)]
 mod refusal_tests;
+#[cfg(test)]
+mod refused_tests;
 #[cfg(test)]
 mod round_tests;
 pub mod rounds;
 pub mod run;
+pub mod run_laws;
 #[cfg(test)]
 mod run_tests;
 pub mod schedule;
@@ -61,7 +66,7 @@ use crate::fault::RunFault;
 use crate::job::{Job, JobFault};
 use crate::send::send;
 use crate::sink::Sink;
-use crate::streams::{Outgoing, open};
+use crate::streams::{Outgoing, source_of};
 use std::alloc::{AllocError, Global};
 use std::env::Args;
 use std::process::ExitCode;
@@ -123,30 +128,30 @@ fn perform<R: Files + Input + AllocGlobal, O: Sink>(
     requires { O.failures out.old < 2 ^ 32 }
 {
     match job {
-        Job::Cut(rate2048, path) => cut(rt.alloc(), rate2048, &mut open(rt, &path), out),
-        Job::Check(path) => check(rt.alloc(), &mut open(rt, &path), out),
+        Job::Cut(rate2048, path) => cut(rt.alloc(), rate2048, &mut source_of(rt, &path), out),
+        Job::Check(path) => check(rt.alloc(), &mut source_of(rt, &path), out),
         Job::Send(files) => send(
             rt.alloc(),
-            &mut open(rt, &files.table),
-            &mut open(rt, &files.settings),
-            &mut open(rt, &files.blocks),
-            &mut open(rt, &files.schedule),
+            &mut source_of(rt, &files.table),
+            &mut source_of(rt, &files.settings),
+            &mut source_of(rt, &files.blocks),
+            &mut source_of(rt, &files.schedule),
             out,
         ),
         Job::Run(files) => run::run(
             rt.alloc(),
-            &mut open(rt, &files.table),
-            &mut open(rt, &files.settings),
-            &mut open(rt, &files.blocks),
-            &mut open(rt, &files.schedule),
+            &mut source_of(rt, &files.table),
+            &mut source_of(rt, &files.settings),
+            &mut source_of(rt, &files.blocks),
+            &mut source_of(rt, &files.schedule),
             out,
         ),
         Job::Audit(files) => audit(
             rt.alloc(),
-            &mut open(rt, &files.table),
-            &mut open(rt, &files.settings),
-            &mut open(rt, &files.blocks),
-            &mut open(rt, &files.schedule),
+            &mut source_of(rt, &files.table),
+            &mut source_of(rt, &files.settings),
+            &mut source_of(rt, &files.blocks),
+            &mut source_of(rt, &files.schedule),
             out,
         ),
     }

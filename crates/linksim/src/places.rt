@@ -4,7 +4,7 @@ ghost use Rattle.std.specs.Prelude.{◌≡◌, ◌==◌, ◌≤◌, IfOk, IfSome
 ghost use Rattle.std.specs.List.{position};
 ghost use Rattle.nr_shifttable.specs.Fields.{numeral, short_number};
 ghost use Rattle.linksim.specs.Erasures.{is_named};
-ghost use Rattle.linksim.specs.Masks.{Schedules, mask_of, word_of, words_of};
+ghost use Rattle.linksim.specs.Masks.{Schedules, mask_of, mask_word_of, mask_words_of};
 ghost use Rattle.linksim.specs.PlaceLists.{below, drawn_of_parts, erasure_of, parted, place_list, places_of, range_between, range_of};
 
 use crate::erasure::{Erasure, PlaceList, PlaceRange, Places, named};
@@ -167,7 +167,7 @@ pub fn mask_of(alloc: Global, text: &[u8]) -> Result<Option<Mask>, AllocError>
 
 // The words that schedule the code blocks that are named.
 fn words_of(alloc: Global, places: &Places) -> Result<[u64; 6], AllocError>
-    ensures { IfOk result (λ words. words ≡ words_of (is_named places.now)) }
+    ensures { IfOk result (λ words. words ≡ mask_words_of (is_named places.now)) }
 {
     let marks = named(alloc, places, MASK_BLOCKS)?;
     Ok([
@@ -183,7 +183,7 @@ fn words_of(alloc: Global, places: &Places) -> Result<[u64; 6], AllocError>
 // The number that at most 64 bits write, the first of them lowest.
 fn word_of(bits: &[bool]) -> u64
     requires { length bits.now ≤ 64 }
-    ensures { result ≡ word_of bits.now }
+    ensures { result ≡ mask_word_of bits.now }
 {
     let mut word = 0;
     let mut at = bits.len();

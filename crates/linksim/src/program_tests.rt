@@ -2,8 +2,10 @@
 
 use super::*;
 use crate::blocks::BlocksFault;
+use crate::broken_tests::{AUDIT, BLOCKS, RUN, SCHEDULE, SENT};
+use crate::commands::SETTINGS;
 use crate::sink::Tape;
-use crate::tests::practice_table;
+use crate::tests::{FIRST, practice_table};
 use nr_shifttable::TableFault;
 use std::path::PathBuf;
 use std::test::Fail;
@@ -23,6 +25,13 @@ fn job_of(alloc: Global, line: &str) -> Result<Job, JobFault> {
 fn own_path(rt: &HostRuntime, name: &str) -> Result<PathBuf, Fail> {
     let name = format!(in rt.alloc(); "linksim-{name}-{}", process::id(rt.process()))?;
     Ok(env::temp_dir(rt)?.join(rt.alloc(), name.as_str())?)
+}
+
+// Writes a file of this process's own, and gives its path.
+fn own_file(rt: &HostRuntime, name: &str, text: &[u8]) -> Result<PathBuf, Fail> {
+    let path = own_path(rt, name)?;
+    fs::write(rt, path.as_path(), text)?;
+    Ok(path)
 }
 
 // What the job of a command line answers, and the text that it writes.
@@ -57,8 +66,7 @@ const ATTACHED: &str =
 // graph 1, with Kb 22 and Zc 15.
 #[test]
 fn a_job_is_done_over_a_file_at_its_rate(rt: HostRuntime) -> Result<(), Fail> {
-    let path = own_path(&rt, "blocks")?;
-    fs::write(&rt, path.as_path(), BLOCK)?;
+    let path = own_file(&rt, "block", BLOCK.as_bytes())?;
     let file = path.as_path().to_string_lossy();
     for (rate, plan) in [
         (
@@ -85,32 +93,35 @@ fn a_job_is_done_over_a_file_at_its_rate(rt: HostRuntime) -> Result<(), Fail> {
     Ok(())
 }
 
-// Writes a file of this process's own, and gives its path.
-fn own_file(rt: &HostRuntime, name: &str, text: &str) -> Result<PathBuf, Fail> {
-    let path = own_path(rt, name)?;
-    fs::write(rt, path.as_path(), text)?;
-    Ok(path)
-}
-
+// Each command has a text of its own over the same files, and no file can stand for another one.
 #[test]
-fn a_job_is_done_over_four_files(rt: HostRuntime) -> Result<(), Fail> {
-    let table = own_file(&rt, "table", practice_table(rt.alloc())?.as_str())?;
-    let settings = own_file(&rt, "settings", "rate2048 = 2048\n")?;
-    let blocks = own_file(&rt, "send", "01\n")?;
-    let schedule = own_file(&rt, "schedule", "block,rv,g,qm,nl,erase\n1,0,24,4,1,-\n")?;
-    let line = format!(in rt.alloc();
-        "linksim send --table {} --settings {} --blocks {} --schedule {}",
-        table.as_path().to_string_lossy(),
+fn each_job_is_done_over_its_files(rt: HostRuntime) -> Result<(), Fail> {
+    let table = own_file(&rt, "table", practice_table(rt.alloc())?.as_bytes())?;
+    let settings = own_file(&rt, "settings", SETTINGS)?;
+    let blocks = own_file(&rt, "blocks", BLOCKS)?;
+    let schedule = own_file(&rt, "schedule", SCHEDULE)?;
+    let check = format!(in rt.alloc(); "--table {}", table.as_path().to_string_lossy())?;
+    let cut = format!(in rt.alloc(); "--blocks {}", blocks.as_path().to_string_lossy())?;
+    let four = format!(in rt.alloc();
+        "{check} --settings {} {cut} --schedule {}",
         settings.as_path().to_string_lossy(),
-        blocks.as_path().to_string_lossy(),
         schedule.as_path().to_string_lossy()
     )?;
-    let (answer, tape) = performed(&rt, &line)?;
+    for (command, words, want) in [
+        ("cut", &cut, FIRST),
+        ("check", &check, b"graph 2 entries 105\n"),
+        ("send", &four, SENT),
+        ("run", &four, RUN),
+        ("audit", &four, AUDIT),
+    ] {
+        let line = format!(in rt.alloc(); "linksim {command} {words}")?;
+        let (answer, tape) = performed(&rt, &line)?;
+        assert_eq!(rt; answer, Ok(()), "at {command}");
+        assert_eq!(rt; tape.bytes(), want, "at {command}");
+    }
     for path in [table, settings, blocks, schedule] {
         fs::remove_file(&rt, path.as_path())?;
     }
-    assert_eq!(rt; answer, Ok(()));
-    assert_eq!(rt; tape.bytes(), b"sent 1 1 000a51\n".as_slice());
     Ok(())
 }
 

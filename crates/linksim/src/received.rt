@@ -1,14 +1,17 @@
 //! The receiving ends of a run: what each has received, and how all of them end.
 
 ghost use Rattle.std.specs.Prelude.{◌≡◌, ℕ, ◌+◌, ◌-◌, ◌^◌, ◌<◌, ◌≤◌, ◌++◌, [], ◌∷◌, All, List, None, length, replicate, IfOk, OnOk};
-ghost use Rattle.nr_blockdesk.specs.Explains.{Reception, reception};
+ghost use Rattle.nr_blockdesk.specs.Explains.{IsAccepted, Reception, reception};
+ghost use Rattle.nr_blockdesk.specs.Heard.{IsRecordOf};
 ghost use Rattle.nr_blockdesk.specs.Link.{IsLink, Link, attached_length};
-ghost use Rattle.linksim.specs.Ends.{AllHold, HasReceived, Holds, IsEnd, IsLinked, IsWithin};
+ghost use Rattle.nr_blockdesk.specs.Outcome.{outcome_of};
+ghost use Rattle.nr_blockdesk.specs.Receiving.{verdict};
+ghost use Rattle.linksim.specs.Ends.{AllHold, HasReceived, HoldsEnd, IsEnd, IsLinked, IsOver, IsWithin};
 ghost use Rattle.linksim.specs.RunText.{counted, no_totals, totals_from, unfixed_blocks};
 ghost use Rattle.linksim.specs.declared.schedule.Transmission.{Transmission};
 
 use crate::inputs::Inputs;
-use nr_blockdesk::{Heard, Outcome, Receiver, Sender, Tx, nothing_is_open};
+use nr_blockdesk::{DeskFault, Heard, Outcome, Receiver, Sender, Tx, nothing_is_open};
 use std::alloc::{AllocError, Global};
 
 // The most bits of a transport block with a CRC of 16 bits, and not 24 (TS 38.212, 6.2.1 and 7.2.1).
@@ -70,7 +73,9 @@ pub fn receive<'t>(
 ) -> Result<End<'t>, AllocError>
     requires linked { IsLinked inputs.now.table inputs.now.settings sender.now.link }
     requires room { HasReceived (2 ^ 64 - 2) end }
-    ensures { IfOk result (λ after. (list : List Reception) → Holds sender.now.link list end.entry
+    requires same_link { IsOver sender.now.link end }
+    requires accepted { IsAccepted sender.now.link (reception tx.now heard.now) }
+    ensures { IfOk result (λ after. (list : List Reception) → HoldsEnd sender.now.link list end.entry
         → IsEnd sender.now.link (list ++ reception tx.now heard.now ∷ []) after) }
 {
     let mut end = end_of(alloc, inputs, sender, end)?;
@@ -87,8 +92,10 @@ fn end_of<'t>(
 ) -> Result<End<'t>, AllocError>
     requires linked { IsLinked inputs.now.table inputs.now.settings sender.now.link }
     requires room { HasReceived (2 ^ 64 - 2) end }
+    requires same_link { IsOver sender.now.link end }
+    ensures same_link { IfOk result (λ after. after.receiver.link ≡ sender.now.link) }
     ensures end { IfOk result (λ after. (list : List Reception)
-        → Holds sender.now.link list end.entry → IsEnd sender.now.link list after) }
+        → HoldsEnd sender.now.link list end.entry → IsEnd sender.now.link list after) }
     ensures room { IfOk result (λ after. after.count ≤ 2 ^ 64 - 2) }
 {
     match end {
@@ -115,7 +122,9 @@ pub(crate) fn new_end<'t>(
             outcome: Outcome::Open,
             count: 0,
         }),
-        Err(_) => Err(AllocError),
+        Err(DeskFault::Memory) => Err(AllocError),
+        // The sender has this link, so there is no other fault.
+        Err(_) => unreachable!(),
     }
 }
 
@@ -129,17 +138,35 @@ fn block_size(b: u32) -> u32
 
 // Hears a transmission.
 fn hear(end: &mut End, tx: &Tx, heard: &[Heard]) -> Result<(), AllocError>
-    requires { end.old.count ≤ 2 ^ 64 - 2 }
+    requires room { end.old.count ≤ 2 ^ 64 - 2 }
+    requires accepted { IsAccepted end.old.receiver.link (reception tx.now heard.now) }
     ensures { OnOk result ((link : Link) (list : List Reception) → IsEnd link list end.old
         → IsEnd link (list ++ reception tx.now heard.now ∷ []) end.new) }
 {
-    match end.receiver.take(tx, heard) {
-        Ok(outcome) => {
-            end.outcome = outcome;
-            end.count += 1;
-            Ok(())
-        }
-        Err(_) => Err(AllocError),
+    let outcome = take(&mut end.receiver, tx, heard)?;
+    end.outcome = outcome;
+    end.count += 1;
+    Ok(())
+}
+
+// Has a receiver hear a transmission that it accepts, and answers what may be handed up of all that was received.
+pub(crate) fn take(receiver: &mut Receiver, tx: &Tx, heard: &[Heard]) -> Result<Outcome, AllocError>
+    requires { IsAccepted receiver.old.link (reception tx.now heard.now) }
+    ensures link { receiver.new.link ≡ receiver.old.link }
+    ensures heard { OnOk result ((list : List Reception)
+        → IsRecordOf receiver.old.link list receiver.old.heard
+        → IsRecordOf receiver.old.link (list ++ reception tx.now heard.now ∷ [])
+        receiver.new.heard) }
+    ensures outcome { IfOk result (λ answer. (list : List Reception)
+        → IsRecordOf receiver.old.link list receiver.old.heard
+        → verdict answer ≡ outcome_of receiver.old.link
+        (list ++ reception tx.now heard.now ∷ [])) }
+{
+    match receiver.take(tx, heard) {
+        Ok(outcome) => Ok(outcome),
+        Err(DeskFault::Memory) => Err(AllocError),
+        // It accepts the transmission, so there is no other fault.
+        Err(_) => unreachable!(),
     }
 }
 
@@ -190,7 +217,7 @@ pub fn no_totals() -> Totals
 pub fn counted(totals: Totals, sender: &Sender, end: &Option<End>) -> Totals
     requires few { IsWithin 65535 totals }
     requires linked { IsLink sender.now.link }
-    ensures value { (list : List Reception) → Holds sender.now.link list end.now
+    ensures value { (list : List Reception) → HoldsEnd sender.now.link list end.now
         → result ≡ counted totals sender.now.link list }
     ensures grows { (n : ℕ) → IsWithin n totals → IsWithin (n + 1) result }
 {

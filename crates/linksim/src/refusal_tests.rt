@@ -6,7 +6,8 @@ use crate::commands::{Command, SETTINGS, Texts, outcome};
 use crate::fault::{DeskFault, RunFault};
 use crate::schedule::ScheduleFault;
 use crate::settings::SettingsFault;
-use crate::tests::least_table;
+use crate::tests::{least_table, practice_table};
+use nr_ratematch::RmFault;
 use std::alloc::Global;
 use std::process::Abort;
 use std::test::Fail;
@@ -81,6 +82,39 @@ fn refuses_schedules_of_processes(rt: HostRuntime) -> Result<(), Fail> {
     ];
     for command in [Command::Send, Command::Run, Command::Audit] {
         check(&rt, rt.alloc(), command, &cases)?;
+    }
+    Ok(())
+}
+
+// Under the practice table, which has no base graph 1: 37 octets take it at the highest code rate, and TBS_LBRM 0 leaves
+// no bit of the circular buffer (TS 38.212, 5.4.2.1). The schedule is the header alone.
+#[test]
+fn refuses_blocks_that_cannot_be_sent(rt: HostRuntime) -> Result<(), Fail> {
+    let table = practice_table(rt.alloc())?;
+    let cases: [(&[u8], &[u8], DeskFault); 2] = [
+        (
+            SETTINGS,
+            b"00000000000000000000000000000000000000000000000000000000000000000000000000",
+            DeskFault::Graph,
+        ),
+        (
+            b"rate2048 = 2048\nlbrm = 0\n",
+            b"01",
+            DeskFault::Rm(RmFault::NoBuffer),
+        ),
+    ];
+    for (settings, blocks, fault) in cases {
+        for command in [Command::Send, Command::Run, Command::Audit] {
+            let texts = Texts {
+                table: table.as_bytes(),
+                settings,
+                blocks,
+                schedule: b"block,rv,g,qm,nl,erase\n",
+            };
+            let (answer, written) = outcome(rt.alloc(), command, texts)?;
+            assert_eq!(rt; answer, Err(RunFault::Desk(1, fault)), "{command:?}");
+            assert_eq!(rt; written.len(), 0, "{command:?}");
+        }
     }
     Ok(())
 }

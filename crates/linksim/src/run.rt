@@ -3,10 +3,10 @@
 ghost use Rattle.std.specs.Prelude.{◌≡◌, ◌≢◌, ℕ, ◌+◌, ◌-◌, ◌^◌, ◌<◌, ◌≤◌, ◌++◌, if◌then◌else◌, true, false, [], All, List, Ok, Err, None, length, replicate, IfErr, IfOk, IsErr, OnOk};
 ghost use Rattle.std.specs.String.{string_bytes};
 ghost use Rattle.linksim.specs.Command.{Delivers, FailsAs, Writes};
-ghost use Rattle.linksim.specs.Ends.{AllHold, AreOfRounds, HasReceived, HoldRounds, Holds, HoldsRound, IsLinked, IsWithin};
-ghost use Rattle.linksim.specs.Inputs.{IsFirst, LeavesLater, OfFour};
+ghost use Rattle.linksim.specs.Ends.{AllHold, AreOfRounds, HasReceived, HoldRounds, HoldsEnd, HoldsRound, IsLinked, IsOver, IsWithin};
+ghost use Rattle.linksim.specs.Inputs.{HaveNoFault, IsFirst, IsFoundIn, LeavesLater, OfFour};
 ghost use Rattle.linksim.specs.ProcessTexts.{last_line, process_words, round_counted, rounds_counted, run_ends, run_said, run_words, text_of_run};
-ghost use Rattle.linksim.specs.RoundTexts.{joined, round_lines, turns};
+ghost use Rattle.linksim.specs.RoundTexts.{pieces_joined, round_lines, turns};
 ghost use Rattle.linksim.specs.Rounds.{continued, ended_rounds, round_of};
 ghost use Rattle.linksim.specs.RunText.{contradiction_line, delivered_line, left_line, left_lines, lines_of, no_totals, open_line, outcome_line, outcome_lines, received_of};
 ghost use Rattle.linksim.specs.Schedule.{HasBlock, IsTimetable, timetable_by};
@@ -29,7 +29,9 @@ use crate::settings::SettingsFault;
 use crate::sink::Sink;
 use crate::text::hex_line;
 use nr_bitvec::Bits;
-use nr_blockdesk::{Outcome, Receiver, Sender, links_are_sound, nothing_is_open};
+use nr_blockdesk::{
+    Outcome, Receiver, Sender, accepted_send_all, links_are_sound, nothing_is_open,
+};
 use nr_segment::plans_are_sound;
 use nr_shifttable::{Source, TableFault};
 use std::alloc::{AllocError, Global};
@@ -78,6 +80,10 @@ pub fn run<T: Source, S: Source, B: Source, D: Source, O: Sink>(
         (B.failures blocks.old) (B.failures blocks.new) }
     ensures schedule { FailsAs (RunFault.Schedule ScheduleFault.Read) result
         (D.failures schedule.old) (D.failures schedule.new) }
+    ensures sound { IfOk result (λ _. HaveNoFault (T.remaining table.old)
+        (S.remaining settings.old) (B.remaining blocks.old) (D.remaining schedule.old)) }
+    ensures found { IfErr result (λ e. IsFoundIn e (T.remaining table.old)
+        (S.remaining settings.old) (B.remaining blocks.old) (D.remaining schedule.old)) }
     ensures first { IfErr result (λ e. IsFirst e
         (T.remaining table.old) (S.remaining settings.old) (B.remaining blocks.old)) }
     ensures later { IfErr result (λ e. LeavesLater e settings.old settings.new
@@ -147,7 +153,7 @@ fn write_transmissions<'t, O: Sink>(
     requires rounds { AreOfRounds inputs.now.schedule.transmissions.items }
     requires nothing { ends.old ≡ replicate (length ends.old) None }
     ensures text { Writes (O.written out.old) (O.written out.new) result
-        (joined (turns run_words senders.now [] inputs.now.schedule.transmissions.items)) }
+        (pieces_joined (turns run_words senders.now [] inputs.now.schedule.transmissions.items)) }
     ensures long { OnOk result (length ends.new ≡ length ends.old) }
     ensures held { OnOk result
         (HoldRounds senders.now inputs.now.schedule.transmissions.items ends.new) }
@@ -247,7 +253,7 @@ fn round_line(
     end: &Option<End>,
 ) -> Result<Vec<u8>, AllocError>
     requires { IsLink sender.now.link }
-    ensures { IfOk result (λ line. (list : List Reception) → Holds sender.now.link list end.now
+    ensures { IfOk result (λ line. (list : List Reception) → HoldsEnd sender.now.link list end.now
         → line.items ≡ process_words process ++ outcome_line number sender.now.link list) }
 {
     let mut line = process_words(alloc, process)?.into_bytes();
@@ -315,11 +321,12 @@ fn carry<'t, O: Sink>(
     requires puts { O.failures out.old < 2 ^ 32 }
     requires linked { IsLinked inputs.now.table inputs.now.settings sender.now.link }
     requires room { HasReceived (2 ^ 64 - 2) end.old }
-    ensures text { (list : List Reception) → Holds sender.now.link list end.old
+    requires same_link { IsOver sender.now.link end.old }
+    ensures text { (list : List Reception) → HoldsEnd sender.now.link list end.old
         → Writes (O.written out.old) (O.written out.new) result
         (lines_of sender.now list transmission.now) }
-    ensures held { OnOk result ((list : List Reception) → Holds sender.now.link list end.old
-        → Holds sender.now.link (list ++ received_of sender.now transmission.now) end.new) }
+    ensures held { OnOk result ((list : List Reception) → HoldsEnd sender.now.link list end.old
+        → HoldsEnd sender.now.link (list ++ received_of sender.now transmission.now) end.new) }
     ensures put { FailsAs RunFault.Write result (O.failures out.old) (O.failures out.new) }
 {
     match said_of(sender, &transmission.tx)? {
@@ -341,16 +348,18 @@ fn carry_bits<'t, O: Sink>(
     requires puts { O.failures out.old < 2 ^ 32 }
     requires linked { IsLinked inputs.now.table inputs.now.settings sender.now.link }
     requires room { HasReceived (2 ^ 64 - 2) end.old }
+    requires same_link { IsOver sender.now.link end.old }
     requires sent { sent_said sender.now.link transmission.now.tx sender.now.block
         ≡ Ok bits.now.items }
-    ensures text { (list : List Reception) → Holds sender.now.link list end.old
+    ensures text { (list : List Reception) → HoldsEnd sender.now.link list end.old
         → Writes (O.written out.old) (O.written out.new) result
         (lines_of sender.now list transmission.now) }
-    ensures held { OnOk result ((list : List Reception) → Holds sender.now.link list end.old
-        → Holds sender.now.link (list ++ received_of sender.now transmission.now) end.new) }
+    ensures held { OnOk result ((list : List Reception) → HoldsEnd sender.now.link list end.old
+        → HoldsEnd sender.now.link (list ++ received_of sender.now transmission.now) end.new) }
     ensures put { FailsAs RunFault.Write result (O.failures out.old) (O.failures out.new) }
 {
     plans_are_sound();
+    accepted_send_all();
     write_sent(alloc, transmission, bits, out)?;
     let heard = heard_through(alloc, transmission, bits)?;
     let after = receive(alloc, inputs, sender, end.take(), &transmission.tx, &heard)?;
@@ -476,7 +485,7 @@ fn write_outcome<O: Sink>(
 ) -> Result<(), RunFault>
     requires puts { O.failures out.old < 2 ^ 32 }
     requires linked { IsLink sender.now.link }
-    ensures text { (list : List Reception) → Holds sender.now.link list end.now
+    ensures text { (list : List Reception) → HoldsEnd sender.now.link list end.now
         → Writes (O.written out.old) (O.written out.new) result
         (outcome_line number sender.now.link list) }
     ensures put { FailsAs RunFault.Write result (O.failures out.old) (O.failures out.new) }
@@ -493,7 +502,7 @@ fn outcome_line(
     end: &Option<End>,
 ) -> Result<Vec<u8>, AllocError>
     requires { IsLink sender.now.link }
-    ensures { IfOk result (λ line. (list : List Reception) → Holds sender.now.link list end.now
+    ensures { IfOk result (λ line. (list : List Reception) → HoldsEnd sender.now.link list end.now
         → line.items ≡ outcome_line number sender.now.link list) }
 {
     nothing_is_open();

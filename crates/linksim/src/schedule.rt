@@ -7,7 +7,7 @@ ghost use Rattle.nr_graphpick.specs.Refusal.{Gives};
 ghost use Rattle.nr_shifttable.specs.Records.{records_of};
 ghost use Rattle.linksim.specs.Command.{FailsAs};
 ghost use Rattle.linksim.specs.Rounds.{round_of};
-ghost use Rattle.linksim.specs.Schedule.{EachGoesOn, HasBlock, IsPlaced, block_in, erasure_at, field, flip_at, fresh_at, fresh_block, is_called, is_header, is_of_block, is_there, is_width, mask_at, number_at, process_at, schedule_of, schedule_said, timetable_by, transmission_of};
+ghost use Rattle.linksim.specs.Schedule.{EachGoesOn, HasBlock, IsPlaced, block_in, erasure_at, field, flip_at, fresh_at, fresh_block, is_called, is_schedule_header, is_of_block, is_there, is_width, mask_at, number_at, process_at, schedule_of, schedule_said, timetable_by, transmission_of};
 
 use crate::erasure::{Erasure, Places};
 use crate::places::{erasure_of, mask_of, places_of, short_word};
@@ -228,9 +228,9 @@ fn read_records(alloc: Global, blocks: u32, text: &[u8]) -> Result<Schedule, Sch
 }
 
 // Whether a record names the columns of a schedule.
-#[tactic(auto, unfolding(crate::specs::Schedule::is_header))]
+#[tactic(auto, unfolding(crate::specs::Schedule::is_schedule_header))]
 fn is_header(row: &ByteRecord) -> bool
-    ensures { result ≡ is_header (fields_of row.now) }
+    ensures { result ≡ is_schedule_header (fields_of row.now) }
 {
     is_width(row.len())
         && is_called(row, 0, b"block")

@@ -3,7 +3,7 @@
 ghost use Rattle.std.specs.Prelude.{◌≡◌, ◌≢◌, ℕ, ◌^◌, ◌<◌, All, length, IfErr, IfOk, IsErr, Err};
 ghost use Rattle.std.specs.String.{string_bytes};
 ghost use Rattle.linksim.specs.Command.{Delivers, FailsAs, Writes};
-ghost use Rattle.linksim.specs.Inputs.{IsFirst, LeavesLater, OfFour};
+ghost use Rattle.linksim.specs.Inputs.{HaveNoFault, IsFirst, IsFoundIn, LeavesLater, OfFour};
 ghost use Rattle.linksim.specs.SendText.{answer_line, rate_name, refusal_name, refused_line, send_said, sent_line, transmission_line, transmission_lines};
 ghost use Rattle.linksim.specs.Schedule.{HasBlock};
 ghost use Rattle.nr_blockdesk.specs.Sent.{sent_said};
@@ -65,6 +65,10 @@ pub fn send<T: Source, S: Source, B: Source, D: Source, O: Sink>(
         (B.failures blocks.old) (B.failures blocks.new) }
     ensures schedule { FailsAs (RunFault.Schedule ScheduleFault.Read) result
         (D.failures schedule.old) (D.failures schedule.new) }
+    ensures sound { IfOk result (λ _. HaveNoFault (T.remaining table.old)
+        (S.remaining settings.old) (B.remaining blocks.old) (D.remaining schedule.old)) }
+    ensures found { IfErr result (λ e. IsFoundIn e (T.remaining table.old)
+        (S.remaining settings.old) (B.remaining blocks.old) (D.remaining schedule.old)) }
     ensures first { IfErr result (λ e. IsFirst e
         (T.remaining table.old) (S.remaining settings.old) (B.remaining blocks.old)) }
     ensures later { IfErr result (λ e. LeavesLater e settings.old settings.new

@@ -14,38 +14,51 @@ use std::rt::Files;
 // Where the octets of an `Incoming` come from.
 #[derive(Drop)]
 enum Origin<F: Drop, S: Drop> {
+    // Nothing was pulled yet.
+    Unopened,
     File(F),
     Standard(S),
-    // A file that could not be opened: it fails at the first pull, so that faults keep their order.
-    Unopened,
+    // It was read to its end, and is closed.
+    Ended,
+    // It could not be opened or read.
+    Failed,
 }
 
-/// A Source over a file or standard input, whose octets are not known. A read that a signal interrupts is tried again.
+/// A Source over a file or standard input, whose octets are not known. It is opened at its first pull and closed at its
+/// end, so that opening takes its place in the order of reading, and no two are open at a time where one is read to
+/// its end after another. A read that a signal interrupts is tried again.
 #[derive(Drop)]
-pub struct Incoming<F: Drop, S: Drop> {
-    origin: Origin<F, S>,
+pub struct Incoming<'r, R: Files + Input> {
+    rt: &'r R,
+    path: &'r str,
+    origin: Origin<R::File, R::Reader>,
     failures: u64,
 }
 
-/// The Source of a path; `-` is standard input.
-pub fn open<R: Files + Input>(rt: &R, path: &str) -> Incoming<R::File, R::Reader>
-    ensures { ⟦<Incoming<R::File, R::Reader> as Source>⟧.failures result ≡ 0 }
+/// The Source of a path; `-` is standard input. One that cannot be opened is Broken at its first pull.
+pub fn source_of<'r, R: Files + Input>(rt: &'r R, path: &'r str) -> Incoming<'r, R>
+    ensures { ⟦<Incoming<'r, R> as Source>⟧.failures result ≡ 0 }
 {
-    let origin = if path == "-" {
-        Origin::Standard(rt.reader())
-    } else {
-        match fs::open(rt, path) {
-            Ok(file) => Origin::File(file),
-            Err(_) => Origin::Unopened,
-        }
-    };
     Incoming {
-        origin,
+        rt,
+        path,
+        origin: Origin::Unopened,
         failures: 0,
     }
 }
 
-impl<F: Read + Drop, S: Read + Drop> Source for Incoming<F, S> {
+// Opens a path; `-` is standard input.
+fn opened<R: Files + Input>(rt: &R, path: &str) -> Origin<R::File, R::Reader> {
+    if path == "-" {
+        return Origin::Standard(rt.reader());
+    }
+    match fs::open(rt, path) {
+        Ok(file) => Origin::File(file),
+        Err(_) => Origin::Failed,
+    }
+}
+
+impl<'r, R: Files + Input> Source for Incoming<'r, R> {
     ghost use Rattle.std.specs.Prelude.{None};
 
     ghost remaining = { λ _. None };
@@ -53,13 +66,22 @@ impl<F: Read + Drop, S: Read + Drop> Source for Incoming<F, S> {
     ghost failures = { λ incoming. incoming.failures };
 
     fn pull(&mut self, buf: &mut [u8]) -> Result<usize, Broken> {
+        if let Origin::Unopened = &self.origin {
+            self.origin = opened(self.rt, self.path);
+        }
         let answer = match &mut self.origin {
             Origin::File(file) => read_some(file, buf),
             Origin::Standard(input) => read_some(input, buf),
-            Origin::Unopened => Err(Broken),
+            Origin::Ended => Ok(0),
+            Origin::Unopened | Origin::Failed => Err(Broken),
         };
-        if answer.is_err() {
-            self.failures += 1;
+        match answer {
+            Ok(0) if !buf.is_empty() => self.origin = Origin::Ended,
+            Ok(_) => {}
+            Err(Broken) => {
+                self.origin = Origin::Failed;
+                self.failures += 1;
+            }
         }
         answer
     }
@@ -193,14 +215,11 @@ mod tests {
     #[test]
     fn an_interrupted_read_is_tried_again(rt: HostRuntime) -> Result<(), Fail> {
         for left in [0, 1, 3] {
-            let mut source: Incoming<Interrupted, Interrupted> = Incoming {
-                origin: Origin::Standard(Interrupted { left, end: false }),
-                failures: 0,
-            };
+            let mut input = Interrupted { left, end: false };
             let mut buf = [0; 4];
-            assert_eq!(rt; source.pull(&mut buf), Ok(1), "after {left}");
+            assert_eq!(rt; read_some(&mut input, &mut buf), Ok(1), "after {left}");
             assert_eq!(rt; buf[0], b'7', "after {left}");
-            assert_eq!(rt; source.pull(&mut buf), Ok(0), "after {left}");
+            assert_eq!(rt; read_some(&mut input, &mut buf), Ok(0), "after {left}");
         }
         Ok(())
     }

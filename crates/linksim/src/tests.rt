@@ -218,6 +218,26 @@ pub(crate) fn least_table(alloc: Global) -> Result<String, AllocError> {
     Ok(text)
 }
 
+// An accepted table of both base graphs: the practice table, and one of base graph 1 in its manner. Each core row has
+// every other information column, and each further row two entries.
+pub(crate) fn table_of_both(alloc: Global) -> Result<String, AllocError> {
+    let tails: [&[u32]; 4] = [&[22, 23], &[22, 23, 24], &[24, 25], &[22, 25]];
+    let mut text = practice_table(alloc)?;
+    for (row, tail) in (0..4).zip(tails) {
+        for pair in 0..11 {
+            push_record(&mut text, 1, row, 2 * pair + row % 2, 0)?;
+        }
+        for column in tail {
+            push_record(&mut text, 1, row, *column, 0)?;
+        }
+    }
+    for row in 4..46 {
+        push_record(&mut text, 1, row, row % 22, row)?;
+        push_record(&mut text, 1, row, 22 + row, 0)?;
+    }
+    Ok(text)
+}
+
 #[test]
 fn checks(rt: HostRuntime) -> Result<(), Fail> {
     let mut text = practice_table(rt.alloc())?;

@@ -1,3 +1,5 @@
+//! Lines of words: the job of each, or its help or usage fault, byte for byte.
+
 use super::*;
 
 // The job of a line's words.

@@ -1,3 +1,5 @@
+//! The line of each refusal, and the statuses and texts of all endings.
+
 use super::*;
 use crate::blocks::BlocksFault;
 use crate::fault::DeskFault;
@@ -61,10 +63,60 @@ fn refusals_have_a_line(rt: HostRuntime) -> Result<(), AllocError> {
             RunFault::Desk(1, DeskFault::Rm(RmFault::NoBuffer)),
             "block 1 NoBuffer",
         ),
+        (RunFault::Settings(SettingsFault::Read), "settings Read"),
+        (
+            RunFault::Settings(SettingsFault::TooLong),
+            "settings TooLong",
+        ),
+        (RunFault::Settings(SettingsFault::Toml), "settings Toml"),
+        (
+            RunFault::Settings(SettingsFault::Unknown),
+            "settings Unknown",
+        ),
+        (
+            RunFault::Settings(SettingsFault::Missing),
+            "settings Missing",
+        ),
         (RunFault::Settings(SettingsFault::Kind), "settings Kind"),
+        (RunFault::Settings(SettingsFault::Range), "settings Range"),
+        (RunFault::Schedule(ScheduleFault::Read), "schedule Read"),
+        (
+            RunFault::Schedule(ScheduleFault::TooLong),
+            "schedule TooLong",
+        ),
+        (RunFault::Schedule(ScheduleFault::Header), "schedule Header"),
+        (RunFault::Schedule(ScheduleFault::Csv(3)), "schedule Csv 3"),
+        (
+            RunFault::Schedule(ScheduleFault::TooMany),
+            "schedule TooMany",
+        ),
+        (
+            RunFault::Schedule(ScheduleFault::Number(4)),
+            "schedule Number 4",
+        ),
+        (
+            RunFault::Schedule(ScheduleFault::Block(5)),
+            "schedule Block 5",
+        ),
         (
             RunFault::Schedule(ScheduleFault::Erase(2)),
             "schedule Erase 2",
+        ),
+        (
+            RunFault::Schedule(ScheduleFault::Flip(4097)),
+            "schedule Flip 4097",
+        ),
+        (
+            RunFault::Schedule(ScheduleFault::Mask(6)),
+            "schedule Mask 6",
+        ),
+        (
+            RunFault::Schedule(ScheduleFault::Process(7)),
+            "schedule Process 7",
+        ),
+        (
+            RunFault::Schedule(ScheduleFault::Fresh(8)),
+            "schedule Fresh 8",
         ),
         (RunFault::Write, "output Write"),
         (RunFault::Memory, "memory"),

@@ -1,3 +1,5 @@
+//! Drawn erasures, by the generator's reference words, and place lists.
+
 use super::*;
 use std::test::Fail;
 

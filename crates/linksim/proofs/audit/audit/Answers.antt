@@ -3,9 +3,10 @@ use Rattle.std.proofs.lemmas.Result.{err_from_is_err_and}
 use Rattle.linksim.specs.Inputs.{given_by}
 use Rattle.linksim.specs.AuditText.{audit_lines}
 use Rattle.linksim.specs.ProcessTexts.{audit_said, audit_words}
-use Rattle.linksim.specs.RoundTexts.{joined, written}
+use Rattle.linksim.specs.RoundTexts.{pieces_joined, written}
 use Rattle.linksim.specs.declared.fault.RunFault.TheVariants.{Write}
 use Rattle.linksim.proofs.CommandLemmas.{delivers-refused, delivers-writes, writes_said}
+use Rattle.linksim.proofs.FoundFaults.{found_block, found_err, found_written, sound_ok}
 use Rattle.linksim.proofs.InputLemmas.{first_block, first_err, first_written, later_block, later_err, later_written, of_block_or_memory, of_four_then}
 use Rattle.linksim.proofs.AuditLemmas.{audit_said-ready, audit_said-refused, audit_said-unsent}
 use Rattle.linksim.proofs.RunInputs.{senders-linked}
@@ -46,7 +47,7 @@ returns-then-inputs-clause-text g c = λ same_t same_s same_b same_d.
     of_four_then (g.T.Source.remaining c.args.table.now) (g.S.Source.remaining c.args.settings.now) (g.B.Source.remaining c.args.blocks.now) (g.D.Source.remaining c.args.schedule.now)
     (c.in_ok-inputs.ensures.said same_t same_s same_b same_d)
     (λ t s b d given. delivers-writes _ _ c.audit_rounds.result (audit_said t s b d)
-    (writes_said _ _ c.audit_rounds.result (joined (written audit_words c.in_ok-senders.senders.items c.in_ok-inputs.inputs.schedule.transmissions.items)) (audit_said t s b d)
+    (writes_said _ _ c.audit_rounds.result (pieces_joined (written audit_words c.in_ok-senders.senders.items c.in_ok-inputs.inputs.schedule.transmissions.items)) (audit_said t s b d)
     (audit_said-ready t s b d (given_by c.in_ok-inputs.inputs) c.in_ok-senders.senders.items true given c.in_ok-senders.ensures.said by) text))
 
 pub returns-clause-text : goal.returns-clause-text
@@ -86,3 +87,26 @@ returns-clause-first g c = first_written c.audit_blocks.result _ _ _ _ _ _ c.aud
 
 pub returns-clause-later : goal.returns-clause-later
 returns-clause-later g c = later_written c.audit_blocks.result _ _ _ _ _ _ _ _ _ c.audit_blocks.ensures.text
+
+pub returns-in_err-inputs-clause-found : goal.returns-in_err-inputs-clause-found
+returns-in_err-inputs-clause-found g c =
+    let p = err_from_is_err_and c.from_residual.result c.from_residual.ensures.1 in
+    found_err c.from_residual.result p.0 _ (g.T.Source.remaining c.args.table.now) (g.S.Source.remaining c.args.settings.now) (g.B.Source.remaining c.args.blocks.now) (g.D.Source.remaining c.args.schedule.now) p.1 p.2 c.in_err-inputs.ensures.found
+
+pub returns-in_err-senders-clause-found : goal.returns-in_err-senders-clause-found
+returns-in_err-senders-clause-found g c =
+    let p = err_from_is_err_and c.from_residual-in_err-senders.result c.from_residual-in_err-senders.ensures.1 in
+    found_err c.from_residual-in_err-senders.result p.0 _ (g.T.Source.remaining c.args.table.now) (g.S.Source.remaining c.args.settings.now) (g.B.Source.remaining c.args.blocks.now) (g.D.Source.remaining c.args.schedule.now) p.1 p.2
+    (found_block (given_by c.in_ok-inputs.inputs) _ _ _ _ _ c.in_ok-inputs.ensures.files c.in_err-senders.ensures.of_block c.in_err-senders.ensures.said)
+
+pub returns-then-inputs-clause-found : goal.returns-then-inputs-clause-found
+returns-then-inputs-clause-found g c = found_written c.audit_rounds.result _ _ _ (given_by c.in_ok-inputs.inputs) (g.T.Source.remaining c.args.table.now) (g.S.Source.remaining c.args.settings.now) (g.B.Source.remaining c.args.blocks.now) (g.D.Source.remaining c.args.schedule.now) c.in_ok-inputs.ensures.files c.audit_rounds.ensures.text
+
+pub returns-then-inputs-clause-sound : goal.returns-then-inputs-clause-sound
+returns-then-inputs-clause-sound g c = sound_ok c.audit_rounds.result (given_by c.in_ok-inputs.inputs) (g.T.Source.remaining c.args.table.now) (g.S.Source.remaining c.args.settings.now) (g.B.Source.remaining c.args.blocks.now) (g.D.Source.remaining c.args.schedule.now) c.in_ok-inputs.ensures.files
+
+pub returns-clause-found : goal.returns-clause-found
+returns-clause-found g c = found_written c.audit_blocks.result _ _ _ (given_by c.in_ok-inputs.inputs) (g.T.Source.remaining c.args.table.now) (g.S.Source.remaining c.args.settings.now) (g.B.Source.remaining c.args.blocks.now) (g.D.Source.remaining c.args.schedule.now) c.in_ok-inputs.ensures.files c.audit_blocks.ensures.text
+
+pub returns-clause-sound : goal.returns-clause-sound
+returns-clause-sound g c = sound_ok c.audit_blocks.result (given_by c.in_ok-inputs.inputs) (g.T.Source.remaining c.args.table.now) (g.S.Source.remaining c.args.settings.now) (g.B.Source.remaining c.args.blocks.now) (g.D.Source.remaining c.args.schedule.now) c.in_ok-inputs.ensures.files

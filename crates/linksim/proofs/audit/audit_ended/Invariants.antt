@@ -1,6 +1,6 @@
 use Rattle.std.proofs.Common.{◌≡◌, [], take, drop}
 use Rattle.linksim.specs.ProcessTexts.{audit_words}
-use Rattle.linksim.specs.RoundTexts.{joined, turns}
+use Rattle.linksim.specs.RoundTexts.{pieces_joined, turns}
 use Rattle.linksim.proofs.RunTexts.{IsLeft}
 use Rattle.linksim.proofs.audit.audit_ended.Given as goal
 
@@ -8,7 +8,7 @@ use Rattle.linksim.proofs.audit.audit_ended.Given as goal
 abbrev pub invariant-loop-index : goal.invariant-loop-index
 invariant-loop-index g l = record {
   lines : IsLeft (g.O.Sink.written l.fn.out) (g.O.Sink.written l.out)
-      (joined (turns audit_words l.senders (take l.index l.inputs.schedule.transmissions.items) (drop l.index l.inputs.schedule.transmissions.items)))
-      (joined (turns audit_words l.senders [] l.inputs.schedule.transmissions.items));
+      (pieces_joined (turns audit_words l.senders (take l.index l.inputs.schedule.transmissions.items) (drop l.index l.inputs.schedule.transmissions.items)))
+      (pieces_joined (turns audit_words l.senders [] l.inputs.schedule.transmissions.items));
   sound : g.O.Sink.failures l.out ≡ g.O.Sink.failures l.fn.out;
 }

@@ -7,12 +7,15 @@ use Rattle.linksim.proofs.AuditLemmas.{heard_same}
 use Rattle.linksim.proofs.RunLines.{received_of-refused}
 use Rattle.linksim.proofs.audit.hear.Goals as goal
 
+pub hear_bits-requires-clause-sent : goal.hear_bits-requires-clause-sent
+hear_bits-requires-clause-sent c = sym (rw c.in-Ok.is at c.in_ok-bits.ensures)
+
 pub returns-in-Ok : goal.returns-in-Ok
 returns-in-Ok c =
     let sender = c.args.sender.now in
     let said = rw c.in-Ok.is at c.in_ok-bits.ensures in
     on_ok_weaker c.hear_bits.result
-    (λ heard list has. subst (λ (more : List Reception). HasHeard sender (list ++ more) c.hear_bits.new.receiver) (ap (received_if c.args.transmission.now) said) (heard sender list has)) c.hear_bits.ensures
+    (λ heard list has. subst (λ (more : List Reception). HasHeard sender (list ++ more) c.hear_bits.new.receiver) (ap (received_if c.args.transmission.now) said) (heard list has)) c.hear_bits.ensures
 
 pub returns-in-Err : goal.returns-in-Err
 returns-in-Err c = λ list has.

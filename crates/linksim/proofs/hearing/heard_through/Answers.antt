@@ -2,7 +2,7 @@ use Rattle.std.proofs.Common.{◌≡◌, ◌<◌, false, length, ap, ◌∙◌, 
 use Rattle.std.proofs.lemmas.List.{get_or_default}
 use Rattle.std.proofs.lemmas.List.FromFn.{length-map-range_with_len}
 use Rattle.linksim.specs.Erasures.{is_named}
-use Rattle.linksim.specs.Hearing.{heard_at}
+use Rattle.linksim.specs.Hearing.{arrives_at}
 use Rattle.linksim.proofs.HearingFacts.{erased-long, heard-all, heard-more, heard-value, named-at}
 use Rattle.linksim.proofs.hearing.heard_through.Goals as goal
 
@@ -25,7 +25,7 @@ loop-place-preserved c =
     let long : length erased ≡ c.len-count.result = ap length c.in_ok-erased.ensures ∙ erased-long x.erasure c.len-count.result in
     let within : m < length erased = omega (arith, long) in
     record {
-      so_far = heard-more (heard_at x erased bits) m c.loop-place.heard.items _ c.heard_as.result c.loop-place.invariant.so_far c.push_reserved.ensures.items
+      so_far = heard-more (arrives_at x erased bits) m c.loop-place.heard.items _ c.heard_as.result c.loop-place.invariant.so_far c.push_reserved.ensures.items
           (heard-value x erased bits m _ _ _ c.heard_as.result c.heard_as.ensures (c.index.ensures ∙ get_or_default erased m _ false within)
           (c.index-in-loop-place.ensures ∙ named-at x.flip c.in_ok-flipped.flipped.items c.len-count.result m c.in_ok-flipped.ensures (omega arith) _) c.get.ensures);
       room = omega arith;

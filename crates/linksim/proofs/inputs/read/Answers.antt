@@ -1,10 +1,12 @@
 use Rattle.std.proofs.Common.{◌≡◌, length, map, arith}
 use Rattle.std.proofs.lemmas.List.{length-map}
+use Rattle.std.proofs.lemmas.Option.{IfSome_then}
 use Rattle.std.proofs.lemmas.Result.{err_from_is_err_and}
-use Rattle.linksim.specs.Blocks.{blocks_of}
+use Rattle.linksim.specs.Blocks.{blocks_said}
 use Rattle.linksim.specs.Inputs.{files_said, given_by}
 use Rattle.linksim.specs.Schedule.{timetable_by}
 use Rattle.linksim.specs.Settings.{settings_said}
+use Rattle.linksim.proofs.FoundFaults.{found_blocks, found_err, found_schedule, found_settings, found_table}
 use Rattle.linksim.proofs.InputLemmas.{first_blocks, first_schedule, first_settings, first_table, first_err, later_err, later_blocks, later_schedule, later_settings, later_table, sound, sound_table, given-all, given-blocks, given-schedule, given-settings, given-table, gives-refused, of_all, of_first, of_three, of_two, table_read}
 use Rattle.linksim.proofs.inputs.read.Goals as goal
 
@@ -93,9 +95,49 @@ returns-in_err-schedule-clause-first g c =
     (first_schedule c.in_err-schedule.field-0.0 _ _ _
     (sound_table _ (g.T.Source.remaining c.args.table.now) c.in_ok-table.table c.in_ok-table.ensures.said (λ read. cc))
     (sound settings_said (g.S.Source.remaining c.args.settings.now) c.in_ok-settings.settings (c.in_ok-settings.ensures.said c.in_ok-settings.ensures.pulled))
-    (sound blocks_of (g.B.Source.remaining c.args.blocks.now) (map (λ block. block.items) c.in_ok-blocks.blocks.items) (c.in_ok-blocks.ensures.said c.in_ok-blocks.ensures.pulled)))
+    (sound blocks_said (g.B.Source.remaining c.args.blocks.now) (map (λ block. block.items) c.in_ok-blocks.blocks.items) (c.in_ok-blocks.ensures.said c.in_ok-blocks.ensures.pulled)))
 
 pub returns-in_err-schedule-clause-later : goal.returns-in_err-schedule-clause-later
 returns-in_err-schedule-clause-later g c =
     let p = err_from_is_err_and c.from_residual-in_err-schedule.result c.from_residual-in_err-schedule.ensures.1 in
     later_err c.from_residual-in_err-schedule.result p.0 _ _ _ _ _ _ _ p.1 p.2 (later_schedule c.in_err-schedule.field-0.0 _ _ _ _ _ _)
+
+pub returns-in_err-table-clause-found : goal.returns-in_err-table-clause-found
+returns-in_err-table-clause-found g c =
+    let p = err_from_is_err_and c.from_residual.result c.from_residual.ensures.1 in
+    found_err c.from_residual.result p.0 _ (g.T.Source.remaining c.args.table.now) (g.S.Source.remaining c.args.settings.now) (g.B.Source.remaining c.args.blocks.now) (g.D.Source.remaining c.args.schedule.now) p.1 p.2
+    (found_table c.in_err-table.field-0.0 _ _ _ _ c.in_err-table.ensures.said)
+
+pub returns-in_err-settings-clause-found : goal.returns-in_err-settings-clause-found
+returns-in_err-settings-clause-found g c =
+    let p = err_from_is_err_and c.from_residual-in_err-settings.result c.from_residual-in_err-settings.ensures.1 in
+    found_err c.from_residual-in_err-settings.result p.0 _ (g.T.Source.remaining c.args.table.now) (g.S.Source.remaining c.args.settings.now) (g.B.Source.remaining c.args.blocks.now) (g.D.Source.remaining c.args.schedule.now) p.1 p.2
+    (found_settings c.in_err-settings.field-0.0 _ _ _ _ _ _ c.in_err-settings.ensures.pulled c.in_err-settings.ensures.said)
+
+pub returns-in_err-blocks-clause-found : goal.returns-in_err-blocks-clause-found
+returns-in_err-blocks-clause-found g c =
+    let p = err_from_is_err_and c.from_residual-in_err-blocks.result c.from_residual-in_err-blocks.ensures.1 in
+    found_err c.from_residual-in_err-blocks.result p.0 _ (g.T.Source.remaining c.args.table.now) (g.S.Source.remaining c.args.settings.now) (g.B.Source.remaining c.args.blocks.now) (g.D.Source.remaining c.args.schedule.now) p.1 p.2
+    (found_blocks c.in_err-blocks.field-0.0 _ _ _ _ _ _ c.in_err-blocks.ensures.pulled c.in_err-blocks.ensures.said)
+
+pub returns-in_err-schedule-clause-found : goal.returns-in_err-schedule-clause-found
+returns-in_err-schedule-clause-found g c =
+    let p = err_from_is_err_and c.from_residual-in_err-schedule.result c.from_residual-in_err-schedule.ensures.1 in
+    let count : c.len.result ≡ length (map (λ block. block.items) c.in_ok-blocks.blocks.items) =
+    omega (arith, length-map c.in_ok-blocks.blocks.items (λ block. block.items)) in
+    let schedule = rw count at c.in_err-schedule.ensures.said in
+    found_err c.from_residual-in_err-schedule.result p.0 _ (g.T.Source.remaining c.args.table.now) (g.S.Source.remaining c.args.settings.now) (g.B.Source.remaining c.args.blocks.now) (g.D.Source.remaining c.args.schedule.now) p.1 p.2
+    (found_schedule (map (λ block. block.items) c.in_ok-blocks.blocks.items) c.in_err-schedule.field-0.0 _ _ _ _ _ _ c.in_err-schedule.ensures.pulled
+    (c.in_ok-blocks.ensures.said c.in_ok-blocks.ensures.pulled) schedule)
+
+pub returns-clause-files : goal.returns-clause-files
+returns-clause-files g c =
+    let count : c.len.result ≡ length (map (λ block. block.items) c.in_ok-blocks.blocks.items) =
+    omega (arith, length-map c.in_ok-blocks.blocks.items (λ block. block.items)) in
+    let schedule = rw count at c.in_ok-schedule.ensures.said in
+    record {
+      table = IfSome_then (g.T.Source.remaining c.args.table.now) c.in_ok-table.ensures.said (λ text is. table_read _ text c.in_ok-table.table (λ read. cc) is);
+      settings = c.in_ok-settings.ensures.said c.in_ok-settings.ensures.pulled;
+      blocks = c.in_ok-blocks.ensures.said c.in_ok-blocks.ensures.pulled;
+      schedule = schedule c.in_ok-schedule.ensures.pulled;
+    }

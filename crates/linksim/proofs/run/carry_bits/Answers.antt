@@ -1,16 +1,23 @@
-use Rattle.std.proofs.Common.{◌++◌, [], ◌∷◌, List, ℕ, ap, sym, ◌∙◌}
+use Rattle.std.proofs.Common.{◌++◌, [], ◌∷◌, List, ℕ, ap, sym, subst, ◌∙◌}
 use Rattle.std.proofs.lemmas.List.{append-nil}
 use Rattle.std.proofs.lemmas.Result.{err_from_is_err_and}
-use Rattle.nr_blockdesk.specs.Explains.{reception}
+use Rattle.nr_blockdesk.specs.Explains.{IsAccepted, reception}
 use Rattle.nr_blockdesk.specs.Heard.{heard_record}
+use Rattle.nr_blockdesk.specs.declared.heard.Heard.{Heard}
 use Rattle.linksim.specs.Hearing.{heard_through}
 use Rattle.linksim.specs.RunText.{left_lines}
 use Rattle.linksim.specs.SendText.{sent_line}
 use Rattle.linksim.specs.Written.{with_text}
+use Rattle.linksim.proofs.Receptions.{sent-accepted}
 use Rattle.linksim.proofs.RunLines.{left_lines-some, lines_of-sent, received_of-sent}
 use Rattle.linksim.proofs.RunTexts.{writes_so_far}
 use Rattle.linksim.proofs.WrittenLemmas.{with_text-append, with_text-nil, writes_behind}
 use Rattle.linksim.proofs.run.carry_bits.Goals as goal
+
+pub receive-requires-clause-accepted : goal.receive-requires-clause-accepted
+receive-requires-clause-accepted g c =
+    subst (λ (h : List Heard). IsAccepted c.args.sender.now.link (reception c.args.transmission.now.tx h)) (sym (c.deref.ensures.value ∙ c.in_ok-heard.ensures))
+    (sent-accepted c.accepted_send_all.ensures c.args.sender.now c.args.transmission.now c.args.bits.now.items c.requires.sent)
 
 pub returns-in_err-write_sent-clause-text : goal.returns-in_err-write_sent-clause-text
 returns-in_err-write_sent-clause-text g c = λ list holds.

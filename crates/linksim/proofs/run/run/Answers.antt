@@ -5,6 +5,7 @@ use Rattle.linksim.specs.ProcessTexts.{run_said, text_of_run}
 use Rattle.linksim.specs.Schedule.{IsTimetable, timetable_by}
 use Rattle.linksim.specs.declared.fault.RunFault.TheVariants.{Write}
 use Rattle.linksim.proofs.CommandLemmas.{delivers-refused, delivers-writes, writes_said}
+use Rattle.linksim.proofs.FoundFaults.{found_block, found_err, found_written, sound_ok}
 use Rattle.linksim.proofs.InputLemmas.{first_block, first_err, first_written, later_block, later_err, later_written, of_block_or_memory, of_four_then}
 use Rattle.linksim.proofs.RunInputs.{run_said-ready, run_said-refused, run_said-unsent, senders-linked}
 use Rattle.linksim.proofs.run.run.Goals as goal
@@ -73,3 +74,20 @@ returns-clause-first g c = first_written c.write_run.result _ _ _ _ _ _ c.write_
 
 pub returns-clause-later : goal.returns-clause-later
 returns-clause-later g c = later_written c.write_run.result _ _ _ _ _ _ _ _ _ c.write_run.ensures.text
+
+pub returns-in_err-inputs-clause-found : goal.returns-in_err-inputs-clause-found
+returns-in_err-inputs-clause-found g c =
+    let p = err_from_is_err_and c.from_residual.result c.from_residual.ensures.1 in
+    found_err c.from_residual.result p.0 _ (g.T.Source.remaining c.args.table.now) (g.S.Source.remaining c.args.settings.now) (g.B.Source.remaining c.args.blocks.now) (g.D.Source.remaining c.args.schedule.now) p.1 p.2 c.in_err-inputs.ensures.found
+
+pub returns-in_err-senders-clause-found : goal.returns-in_err-senders-clause-found
+returns-in_err-senders-clause-found g c =
+    let p = err_from_is_err_and c.from_residual-in_err-senders.result c.from_residual-in_err-senders.ensures.1 in
+    found_err c.from_residual-in_err-senders.result p.0 _ (g.T.Source.remaining c.args.table.now) (g.S.Source.remaining c.args.settings.now) (g.B.Source.remaining c.args.blocks.now) (g.D.Source.remaining c.args.schedule.now) p.1 p.2
+    (found_block (given_by c.in_ok-inputs.inputs) _ _ _ _ _ c.in_ok-inputs.ensures.files c.in_err-senders.ensures.of_block c.in_err-senders.ensures.said)
+
+pub returns-clause-found : goal.returns-clause-found
+returns-clause-found g c = found_written c.write_run.result _ _ _ (given_by c.in_ok-inputs.inputs) (g.T.Source.remaining c.args.table.now) (g.S.Source.remaining c.args.settings.now) (g.B.Source.remaining c.args.blocks.now) (g.D.Source.remaining c.args.schedule.now) c.in_ok-inputs.ensures.files c.write_run.ensures.text
+
+pub returns-clause-sound : goal.returns-clause-sound
+returns-clause-sound g c = sound_ok c.write_run.result (given_by c.in_ok-inputs.inputs) (g.T.Source.remaining c.args.table.now) (g.S.Source.remaining c.args.settings.now) (g.B.Source.remaining c.args.blocks.now) (g.D.Source.remaining c.args.schedule.now) c.in_ok-inputs.ensures.files

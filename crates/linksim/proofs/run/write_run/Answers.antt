@@ -5,7 +5,7 @@ use Rattle.std.proofs.lemmas.Result.{err_from_is_err_and}
 use Rattle.nr_blockdesk.specs.Sent.{Sending}
 use Rattle.linksim.specs.Ends.{HoldRounds}
 use Rattle.linksim.specs.ProcessTexts.{run_ends, run_words}
-use Rattle.linksim.specs.RoundTexts.{joined, turns}
+use Rattle.linksim.specs.RoundTexts.{pieces_joined, turns}
 use Rattle.linksim.specs.Rounds.{IsOfBlock}
 use Rattle.linksim.specs.Schedule.{timetable_by}
 use Rattle.linksim.specs.declared.received.End.{End}
@@ -28,7 +28,7 @@ returns-in_err-totals-clause-text g c =
     let senders = c.args.senders.now in
     let schedule = c.args.inputs.now.schedule in
     let p = err_from_is_err_and c.from_residual-in_err-totals.result c.from_residual-in_err-totals.ensures.1 in
-    writes_behind _ _ _ c.from_residual-in_err-totals.result p.0 _ _ [] (joined (turns run_words senders [] schedule.transmissions.items)) (run_ends schedule.by_process senders schedule.transmissions.items) p.1 p.2 refl
+    writes_behind _ _ _ c.from_residual-in_err-totals.result p.0 _ _ [] (pieces_joined (turns run_words senders [] schedule.transmissions.items)) (run_ends schedule.by_process senders schedule.transmissions.items) p.1 p.2 refl
     (sym (with_text-nil _)) c.in_err-totals.ensures.text
 
 -- all places are those that a call left in the whole of them
@@ -47,7 +47,7 @@ returns-then-by_process-clause-text g c =
     let senders = c.args.senders.now in
     let schedule = c.args.inputs.now.schedule.transmissions.items in
     let text = rw c.as_slice-schedule.ensures.value at c.write_rounds.ensures.text in
-    rw c.if-by_process.true (writes_last _ _ _ c.write_rounds.result (joined (turns run_words senders [] schedule)) (run_ends true senders schedule) c.in_ok-totals.ensures.text text)
+    rw c.if-by_process.true (writes_last _ _ _ c.write_rounds.result (pieces_joined (turns run_words senders [] schedule)) (run_ends true senders schedule) c.in_ok-totals.ensures.text text)
 
 pub returns-clause-text : goal.returns-clause-text
 returns-clause-text g c =
@@ -60,5 +60,5 @@ returns-clause-text g c =
     let blocks : c.places.result ≡ length senders + 1 = rw c.if-by_process.false at c.places.ensures in
     let long : length c.deref-else-by_process.result.now ≡ length senders + 1 =
     omega (arith, blocks, c.deref-else-by_process.ensures.len, ap length c.in_ok-ends.ensures, length-replicate {A = Option End}) in
-    rw c.if-by_process.false (writes_last _ _ _ c.write_blocks.result (joined (turns run_words senders [] schedule)) (run_ends false senders schedule) c.in_ok-totals.ensures.text
+    rw c.if-by_process.false (writes_last _ _ _ c.write_blocks.result (pieces_joined (turns run_words senders [] schedule)) (run_ends false senders schedule) c.in_ok-totals.ensures.text
     (c.write_blocks.ensures.text schedule (blocks-hold senders schedule c.deref-else-by_process.result.now all long held)))

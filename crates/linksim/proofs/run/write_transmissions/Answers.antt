@@ -7,7 +7,7 @@ use Rattle.linksim.specs.Rounds.{ended_rounds, round_of}
 use Rattle.linksim.specs.RunText.{no_totals}
 use Rattle.linksim.specs.Schedule.{HasBlock}
 use Rattle.linksim.specs.declared.schedule.Transmission.{Transmission}
-use Rattle.linksim.proofs.RoundEnds.{continued-room, holds-continued, rounds-first, rounds-turn, sender-there, turn-parts}
+use Rattle.linksim.proofs.RoundEnds.{continued-room, held-over, holds-continued, rounds-first, rounds-turn, sender-there, turn-parts}
 use Rattle.linksim.proofs.RoundTurns.{counted-turn, turns-end}
 use Rattle.linksim.proofs.RunLines.{all-at}
 use Rattle.linksim.proofs.RunTexts.{left-first, left-last, left-more, left-stopped}
@@ -38,6 +38,21 @@ carry-requires-clause-room g c =
     let begun = rw c.as_slice-schedule.ensures.value at c.in_ok-totals.ensures.held in
     let held = holds-continued senders xs i x sender c.begin_round.new.end within at c.requires.rounds there begun in
     continued-room sender.link sender xs i _ x c.begin_round.new.end (omega (arith, within)) (omega (arith, within, c.requires.few)) held
+
+pub carry-requires-clause-same_link : goal.carry-requires-clause-same_link
+carry-requires-clause-same_link g c =
+    let senders = c.args.senders.now in
+    let xs = c.args.inputs.now.schedule.transmissions.items in
+    let i = c.loop-index.index in
+    let x = c.index-schedule-index.result in
+    let sender = c.index-senders-transmission.result in
+    let within : i < length xs = rw c.as_slice-schedule.ensures.value at c.loop-index-test.true in
+    let at : x ≡ get_or xs i x = rw c.as_slice-schedule.ensures.value at c.index-schedule-index.is in
+    let named = all-at (HasBlock (length senders)) xs i x c.requires.named within at in
+    let there = sender-there senders x x.block sender refl (omega (arith, named.0, named.1)) c.index-senders-transmission.is in
+    let begun = rw c.as_slice-schedule.ensures.value at c.in_ok-totals.ensures.held in
+    let held = holds-continued senders xs i x sender c.begin_round.new.end within at c.requires.rounds there begun in
+    held-over sender.link _ c.begin_round.new.end held
 
 pub returns-in_err-totals-clause-text : goal.returns-in_err-totals-clause-text
 returns-in_err-totals-clause-text g c =

@@ -1,7 +1,7 @@
 use Rattle.std.proofs.Common.{◌≡◌, [], length, take, drop}
 use Rattle.linksim.specs.Ends.{HoldRounds, IsWithin}
 use Rattle.linksim.specs.ProcessTexts.{rounds_counted, run_words}
-use Rattle.linksim.specs.RoundTexts.{joined, turns}
+use Rattle.linksim.specs.RoundTexts.{pieces_joined, turns}
 use Rattle.linksim.specs.Rounds.{ended_rounds}
 use Rattle.linksim.specs.RunText.{no_totals}
 use Rattle.linksim.proofs.RunTexts.{IsLeft}
@@ -12,8 +12,8 @@ use Rattle.linksim.proofs.run.write_transmissions.Given as goal
 abbrev pub invariant-loop-index : goal.invariant-loop-index
 invariant-loop-index g l = record {
   lines : IsLeft (g.O.Sink.written l.fn.out) (g.O.Sink.written l.out)
-      (joined (turns run_words l.senders (take l.index l.inputs.schedule.transmissions.items) (drop l.index l.inputs.schedule.transmissions.items)))
-      (joined (turns run_words l.senders [] l.inputs.schedule.transmissions.items));
+      (pieces_joined (turns run_words l.senders (take l.index l.inputs.schedule.transmissions.items) (drop l.index l.inputs.schedule.transmissions.items)))
+      (pieces_joined (turns run_words l.senders [] l.inputs.schedule.transmissions.items));
   long : length l.ends ≡ length l.fn.ends;
   held : HoldRounds l.senders (take l.index l.inputs.schedule.transmissions.items) l.ends;
   counts : l.totals ≡ rounds_counted no_totals l.senders (ended_rounds [] (take l.index l.inputs.schedule.transmissions.items));

@@ -4,6 +4,7 @@ use Rattle.linksim.specs.Inputs.{given_by}
 use Rattle.linksim.specs.SendText.{send_said, transmission_lines}
 use Rattle.linksim.specs.declared.fault.RunFault.TheVariants.{Write}
 use Rattle.linksim.proofs.CommandLemmas.{delivers-refused, delivers-writes, writes_said}
+use Rattle.linksim.proofs.FoundFaults.{found_block, found_err, found_written, sound_ok}
 use Rattle.linksim.proofs.InputLemmas.{first_block, first_written, first_err, later_err, later_block, later_written, of_block_or_memory, of_four_then}
 use Rattle.linksim.proofs.SendLemmas.{send_said-ready, send_said-refused, send_said-unsent}
 use Rattle.linksim.proofs.send.send.Goals as goal
@@ -61,3 +62,20 @@ returns-clause-first g c = first_written c.send_lines.result _ _ _ _ _ _ c.send_
 
 pub returns-clause-later : goal.returns-clause-later
 returns-clause-later g c = later_written c.send_lines.result _ _ _ _ _ _ _ _ _ c.send_lines.ensures.text
+
+pub returns-in_err-inputs-clause-found : goal.returns-in_err-inputs-clause-found
+returns-in_err-inputs-clause-found g c =
+    let p = err_from_is_err_and c.from_residual.result c.from_residual.ensures.1 in
+    found_err c.from_residual.result p.0 _ (g.T.Source.remaining c.args.table.now) (g.S.Source.remaining c.args.settings.now) (g.B.Source.remaining c.args.blocks.now) (g.D.Source.remaining c.args.schedule.now) p.1 p.2 c.in_err-inputs.ensures.found
+
+pub returns-in_err-senders-clause-found : goal.returns-in_err-senders-clause-found
+returns-in_err-senders-clause-found g c =
+    let p = err_from_is_err_and c.from_residual-in_err-senders.result c.from_residual-in_err-senders.ensures.1 in
+    found_err c.from_residual-in_err-senders.result p.0 _ (g.T.Source.remaining c.args.table.now) (g.S.Source.remaining c.args.settings.now) (g.B.Source.remaining c.args.blocks.now) (g.D.Source.remaining c.args.schedule.now) p.1 p.2
+    (found_block (given_by c.in_ok-inputs.inputs) _ _ _ _ _ c.in_ok-inputs.ensures.files c.in_err-senders.ensures.of_block c.in_err-senders.ensures.said)
+
+pub returns-clause-found : goal.returns-clause-found
+returns-clause-found g c = found_written c.send_lines.result _ _ _ (given_by c.in_ok-inputs.inputs) (g.T.Source.remaining c.args.table.now) (g.S.Source.remaining c.args.settings.now) (g.B.Source.remaining c.args.blocks.now) (g.D.Source.remaining c.args.schedule.now) c.in_ok-inputs.ensures.files c.send_lines.ensures.text
+
+pub returns-clause-sound : goal.returns-clause-sound
+returns-clause-sound g c = sound_ok c.send_lines.result (given_by c.in_ok-inputs.inputs) (g.T.Source.remaining c.args.table.now) (g.S.Source.remaining c.args.settings.now) (g.B.Source.remaining c.args.blocks.now) (g.D.Source.remaining c.args.schedule.now) c.in_ok-inputs.ensures.files
