@@ -1,0 +1,53 @@
+"""The commands of a document, and what they answer: the blocks that begin with ```console. In such a block a line that
+begins with `$ ` is a command of bash, lines that begin with `> ` go on with it, and what follows is what it writes, on
+standard output and on standard error."""
+
+import os
+import shutil
+import subprocess
+
+import shared
+
+
+def commands(text):
+    """The commands of a document in their order, each with the lines that stand behind it."""
+    inside = False
+    found = []
+    for line in text.splitlines():
+        if line.startswith("```"):
+            inside = line == "```console"
+        elif inside and line.startswith("$ "):
+            found.append((line[2:], []))
+        elif inside and line.startswith("> ") and not found[-1][1]:
+            command, _ = found[-1]
+            found[-1] = (command + "\n" + line[2:], [])
+        elif inside:
+            found[-1][1].append(line)
+    return [(command, "".join(line + "\n" for line in lines)) for command, lines in found]
+
+
+def top(folder):
+    """A folder that looks like the repository's top, with the program of these tests as the built one."""
+    for name in ("docs", "examples", "tools", "tests", "bench", "share"):
+        if (shared.ROOT / name).exists():
+            shutil.copytree(shared.ROOT / name, folder / name, ignore=shutil.ignore_patterns("__pycache__"))
+    built = folder / "crates" / "linksim" / "out"
+    built.mkdir(parents=True)
+    (built / "linksim").symlink_to(shared.program())
+    return folder
+
+
+def answers(folder, lines):
+    """What each of these commands writes, one after the other in one shell in a folder."""
+    mark = "-- end of a command --"
+    script = "".join(f"{line}\nprintf '\\n{mark}\\n'\n" for line in lines)
+    ended = subprocess.run(
+        ["bash"], input=script.encode(), stdout=subprocess.PIPE, stderr=subprocess.STDOUT, cwd=folder, timeout=shared.SECONDS,
+        env={**os.environ, "LC_ALL": "C.UTF-8", "PYTHONDONTWRITEBYTECODE": "1"},
+    )
+    return ended.stdout.decode().split(f"\n{mark}\n")[:-1]
+
+
+def words_missing(line):
+    """The programs that a command names, of those that a machine may lack."""
+    return [name for name in ("xxd", "parallel", "awk", "man") if name in line.split() and not shutil.which(name)]

@@ -1,0 +1,113 @@
+"""What the tests of the tools share: the program, how it and the tools are run, and tables with drawn numbers."""
+
+import os
+import pathlib
+import random
+import shutil
+import subprocess
+import sys
+import tempfile
+import unittest
+
+ROOT = pathlib.Path(__file__).resolve().parent.parent.parent
+PROGRAM = ROOT / "crates" / "linksim" / "out" / "linksim"
+TOOLS = ROOT / "tools"
+EXAMPLES = ROOT / "examples"
+
+# The rows, the columns and the information columns of the base graphs, and how many entries the published tables have.
+GRAPHS = {1: (46, 68, 22, 316), 2: (42, 52, 10, 197)}
+
+# A program that hangs ends the test; a busy machine does not.
+SECONDS = 300
+
+_program = PROGRAM
+
+
+def use(path):
+    """Names the program that the tests run, or ends where there is none."""
+    global _program
+    _program = pathlib.Path(path).resolve()
+    if not os.access(_program, os.X_OK):
+        sys.exit(f"tools: no program at {_program}; this builds it: (cd crates/linksim && rt run -- --version)")
+
+
+def program():
+    """The path of the built program."""
+    return _program
+
+
+def run(words, stdin=b"", folder=None, environment=None):
+    """A command's status, standard output and standard error, in octets."""
+    ended = subprocess.run(
+        [os.fspath(word) if isinstance(word, os.PathLike) else str(word) for word in words],
+        input=stdin,
+        capture_output=True,
+        cwd=folder,
+        env=environment,
+        timeout=SECONDS,
+    )
+    return ended.returncode, ended.stdout, ended.stderr
+
+
+def linksim(*words, stdin=b"", folder=None):
+    """The program's standard output for these words, in text; a failure is a failed test."""
+    status, output, error = run([program(), *words], stdin, folder)
+    if status:
+        raise AssertionError(f"linksim {words}: status {status}, {error.decode()}")
+    return output.decode()
+
+
+def tool(name, *words, stdin=b"", folder=None, with_program=True):
+    """A tool's status, standard output and standard error in text, over the program of these tests."""
+    option = ["--program", program()] if with_program else []
+    status, output, error = run([sys.executable, TOOLS / name, *words, *option], stdin, folder)
+    return status, output.decode(), error.decode()
+
+
+def drawn_entries(graph, seed=0):
+    """The entries of a table with drawn numbers: as many as the published one of the base graph has, at other places,
+    and with the shape that an accepted table has. By (row, column) the eight values of the sets 0 to 7."""
+    numbers = random.Random(f"{graph} {seed}")
+    rows, _, first, count = GRAPHS[graph]
+    sizes = [256, 384, 320, 224, 288, 352, 208, 240]
+    nothing, ones = [0] * 8, [1] * 8
+    entries = {(0, first): ones, (1, first): nothing, (3, first): ones}
+    entries |= {(row, first + k): nothing for k in (1, 2, 3) for row in (k - 1, k)}
+    entries |= {(row, first + row): nothing for row in range(4, rows)}
+    while len(entries) < count:
+        row = numbers.randrange(rows)
+        place = (row, numbers.randrange(first if row < 4 else first + 4))
+        if row >= 4 or numbers.random() < 0.9:
+            entries.setdefault(place, [numbers.randrange(size) for size in sizes])
+    return dict(sorted(entries.items()))
+
+
+def table_text(entries_by_graph):
+    """The text of a table file, from the entries of each of its base graphs."""
+    lines = [
+        ",".join(str(number) for number in (graph, row, column, *values))
+        for graph, entries in sorted(entries_by_graph.items())
+        for (row, column), values in sorted(entries.items())
+    ]
+    return "".join(line + "\n" for line in lines)
+
+
+def drawn_table(folder, graphs=(1, 2), seed=0):
+    """The path of a table file with drawn numbers for these base graphs."""
+    path = pathlib.Path(folder) / f"table-{'-'.join(map(str, graphs))}-{seed}.csv"
+    path.write_text(table_text({graph: drawn_entries(graph, seed) for graph in graphs}))
+    return path
+
+
+class InFolder(unittest.TestCase):
+    """A test with a folder of its own, `self.folder`, which goes away with it."""
+
+    def setUp(self):
+        self.folder = pathlib.Path(tempfile.mkdtemp(prefix="linksim-tools-"))
+        self.addCleanup(shutil.rmtree, self.folder)
+
+    def file(self, name, text):
+        """The path of a file of the folder with this text, or these octets."""
+        path = self.folder / name
+        path.write_bytes(text if isinstance(text, bytes) else text.encode())
+        return path

@@ -1,0 +1,84 @@
+"""The man page and the completion name every command and every option that the program's help does, and no other."""
+
+import re
+import shutil
+import subprocess
+import unittest
+
+import shared
+
+MANUAL = shared.ROOT / "share" / "man" / "man1" / "linksim.1"
+COMPLETION = shared.ROOT / "share" / "bash-completion" / "completions" / "linksim"
+OPTION = r"(?<![\w-])--?[A-Za-z][a-z]*"
+
+
+def options(text):
+    """The options of a help text, in the section Options."""
+    section = text.partition("\nOptions:\n")[2].partition("\n\n")[0]
+    return {option for line in section.splitlines() for option in re.findall(OPTION, line.strip().partition("  ")[0])}
+
+
+def commands():
+    """The commands of the program's help."""
+    section = shared.linksim("--help").partition("\nCommands:\n")[2].partition("\n\n")[0]
+    return [line.split()[0] for line in section.splitlines()]
+
+
+def helps():
+    """Each command's options, that of no command under the empty word."""
+    return {"": options(shared.linksim("--help"))} | {
+        it: options(shared.linksim(it, "--help")) for it in commands() if it != "help"
+    }
+
+
+class Tools(unittest.TestCase):
+    """What all tools have."""
+
+    def test_help_has_an_example(self):
+        tools = [path for path in sorted(shared.TOOLS.iterdir()) if path.is_file() and not path.suffix]
+        self.assertLessEqual({"table", "vectors"}, {path.name for path in tools})
+        for path in tools:
+            with self.subTest(path.name):
+                status, output, error = shared.run([path, "--help"])
+                self.assertEqual((status, error), (0, b""))
+                self.assertRegex(output.decode(), rf"(?is)example.*tools/{path.name} ")
+
+
+class Help(unittest.TestCase):
+    """Against the help texts of the program."""
+
+    def test_help_is_understood(self):
+        self.assertEqual(helps()["cut"], {"--blocks", "--rate", "-h", "--help"})
+        self.assertEqual(helps()[""], {"-h", "--help", "-V", "--version"})
+        self.assertLess({"cut", "check", "send", "run", "audit"}, set(commands()))
+
+    def test_manual(self):
+        text = MANUAL.read_text().replace("\\-", "-")
+        section = text.partition("\n.SH OPTIONS\n")[2].partition("\n.SH ")[0]
+        self.assertEqual(set(re.findall(OPTION, section)), set.union(*helps().values()))
+        section = text.partition("\n.SH COMMANDS\n")[2].partition("\n.SH ")[0]
+        parts = {part.partition("\n")[0].removeprefix(".B "): part for part in section.split(".TP\n")[1:]}
+        self.assertEqual(list(parts), commands())
+        for command, wanted in helps().items():
+            if command:
+                self.assertEqual(set(re.findall(OPTION, parts[command])), wanted - {"-h", "--help"}, command)
+
+    def completions(self, *words):
+        """What the completion offers for the last one of these words."""
+        script = '. "$0"; COMP_WORDS=("$@"); COMP_CWORD=$(($# - 1)); _linksim; printf "%s\\n" "${COMPREPLY[@]}"'
+        ended = subprocess.run(
+            ["bash", "-c", script, COMPLETION, "linksim", *words], capture_output=True, check=True, cwd=shared.EXAMPLES
+        )
+        return set(ended.stdout.decode().split())
+
+    @unittest.skipUnless(shutil.which("bash"), "bash is not there")
+    def test_completion(self):
+        self.assertEqual(self.completions(""), set(commands()) | helps()[""])
+        self.assertEqual(self.completions("help", ""), set(commands()))
+        for command, wanted in helps().items():
+            if command:
+                self.assertEqual(self.completions(command, ""), wanted, command)
+        self.assertEqual(self.completions("send", "--s"), {"--settings", "--schedule"})
+        self.assertEqual(self.completions("a"), {"audit"})
+        self.assertEqual(self.completions("send", "--table", "pr"), {"practice.csv", "processes.csv"})
+        self.assertEqual(self.completions("cut", "--rate", ""), set())

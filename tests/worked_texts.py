@@ -1,0 +1,290 @@
+"""Inputs of the program's runs, and the texts that it is to write of them: those of the README's worked examples, and others
+that follow from TS 38.212 by hand, as the practice tables' parity columns are sums and rotations of columns."""
+
+import pathlib
+
+ROOT = pathlib.Path(__file__).resolve().parent.parent
+
+
+def both_graphs():
+    """The practice table, and one of base graph 1 in its manner: each core row has every other information column, and
+    each further row two entries."""
+    records = []
+    for row, tail in enumerate([[22, 23], [22, 23, 24], [24, 25], [22, 25]]):
+        records += [(row, column, 0) for column in [*range(row % 2, 22, 2), *tail]]
+    for row in range(4, 46):
+        records += [(row, row % 22, row), (row, 22 + row, 0)]
+    lines = [f"1,{row},{column}" + f",{value}" * 8 + "\n" for row, column, value in records]
+    return (ROOT / "examples" / "practice.csv").read_text() + "".join(lines)
+
+
+# The octets 1, 2, .. 250, 0, 1, ..; of 37 and of 479 of them is a transport block.
+COUNTING = bytes((place + 1) % 251 for place in range(479))
+
+# The files beside the examples. At the rate 0.25 both long blocks take base graph 2, and have two code blocks; at the
+# highest rate 37 octets take base graph 1.
+INPUTS = {
+    "one.txt": "01\n",
+    "zeros.txt": "00" * 480 + "\n",
+    "counting.txt": f"{COUNTING.hex()}\n" * 2,
+    "short.txt": f"{COUNTING[:37].hex()}\n",
+    "low.toml": "rate2048 = 512\n",
+    "both.csv": both_graphs(),
+    "short.csv": "block,rv,g,qm,nl,erase\n1,0,1056,4,1,-\n",
+    # The bits behind the two punctured columns of both code blocks, and then all; and of the same block all, and then all
+    # with a flipped place of the second code block.
+    "long.csv": "block,rv,g,qm,nl,erase,flip\n1,0,3072,1,1,-,-\n1,2,20544,8,4,-,-\n"
+    "2,3,20544,6,2,-,-\n2,1,20544,4,1,-,10300\n",
+    "fields.csv": "block,rv,g,qm,nl,erase,flip,mask\n1,0,8,1,1,pcg:42:7,0-3 5,all\n1,0,8,1,1,4 6-7,-,0\n",
+    "rounds.csv": "block,rv,g,qm,nl,erase,flip,mask,process,fresh\n1,0,24,1,1,-,-,all,0,1\n1,0,24,1,1,-,-,all,15,1\n"
+    "1,0,28,1,1,0-23,-,all,0,0\n1,0,32,1,1,-,-,all,0,1\n",
+}
+
+
+def bits_of(octets):
+    return [octet >> (7 - place) & 1 for octet in octets for place in range(8)]
+
+
+def remainder(bits, generator, length):
+    """The parity bits of TS 38.212, 5.1."""
+    register = 0
+    for bit in bits:
+        top = register >> (length - 1) & 1 ^ bit
+        register = (register << 1) % (1 << length) ^ (generator if top else 0)
+    return [register >> (length - 1 - place) & 1 for place in range(length)]
+
+
+def added(*columns):
+    return [sum(bits) % 2 for bits in zip(*columns)]
+
+
+def word(bits, z, information, rows):
+    """The codeword of a code block under the practice tables (5.3.2), which has so many information columns of Zc bits.
+    The core rows add up to the first parity column alone."""
+    filled = bits + [0] * (information * z - len(bits))
+    columns = [filled[at : at + z] for at in range(0, len(filled), z)]
+    even, odd = added(*columns[0::2]), added(*columns[1::2])
+    columns += [[0] * z, even, added(even, odd), odd]
+    for row in range(4, rows):
+        source = columns[row % information]
+        columns.append([source[(at + row) % z] for at in range(z)])
+    return [bit for column in columns for bit in column]
+
+
+def sent(bits, z, graph, start, count, qm):
+    """The bits sent of a code block (5.4.2): so many from this column of the circular buffer on, without fillers, which
+    interleaving then spreads."""
+    information, rows = {1: (22, 46), 2: (10, 42)}[graph]
+    whole = word(bits, z, information, rows)
+    fillers = range(len(bits), information * z)
+    buffer = [position for position in range(2 * z, len(whole))]
+    turned = buffer[start * z :] + buffer[: start * z]
+    kept = [position for position in turned if position not in fillers]
+    chosen = [whole[kept[at % len(kept)]] for at in range(count)]
+    columns = count // qm
+    return [chosen[row * columns + column] for column in range(columns) for row in range(qm)]
+
+
+def hex_of(bits):
+    return "".join(f"{int(''.join(map(str, bits[at:at + 4])), 2):x}" for at in range(0, len(bits), 4))
+
+
+def code_blocks(octets, graph):
+    """The transport block with its CRC, whole or in two code blocks with theirs (6.2.1 and 5.2.2)."""
+    bits = bits_of(octets)
+    if graph == 1:
+        return [bits + remainder(bits, 0x1021, 16)]
+    attached = bits + remainder(bits, 0x864CFB, 24)
+    halves = [attached[: len(attached) // 2], attached[len(attached) // 2 :]]
+    return [half + remainder(half, 0x800063, 24) for half in halves]
+
+
+def sent_line(transmission, block, octets, graph, z, start, g, qm):
+    blocks = code_blocks(octets, graph)
+    parts = [sent(bits, z, graph, start, g // len(blocks), qm) for bits in blocks]
+    return f"sent {transmission} {block} {hex_of([bit for part in parts for bit in part])}\n"
+
+
+def stuck(columns):
+    """Columns 0 to 51 of block 01's codeword on which peeling is stuck, by position."""
+    positions = [4 * column + at for column in columns for at in range(4)]
+    return f"stuck 1 0 {len(positions)} {' '.join(map(str, positions))}\n"
+
+
+CUT_ONE = """block 1 a 8 b 24 graph 2 c 1 l 0 kdash 24 kb 6 z 4 set 0 k 40 n 200
+attached 1 011021
+code 1 0 011021
+"""
+
+CUT_EXAMPLES = f"""{CUT_ONE}block 2 a 8 b 24 graph 2 c 1 l 0 kdash 24 kb 6 z 4 set 0 k 40 n 200
+attached 2 809188
+code 2 0 809188
+block 3 a 72 b 88 graph 2 c 1 l 0 kdash 88 kb 6 z 15 set 7 k 150 n 750
+attached 3 31323334353637383931c3
+code 3 0 31323334353637383931c3
+"""
+
+CUT_ZEROS = f"""block 1 a 3840 b 3864 graph 2 c 2 l 24 kdash 1956 kb 10 z 208 set 6 k 2080 n 10400
+attached 1 {"0" * 966}
+code 1 0 {"0" * 489}
+code 1 1 {"0" * 489}
+"""
+
+SENT_EXAMPLES = """sent 1 1 1021033022000008108800000240220000081088000002
+sent 2 1 000a51
+sent 3 1 8000002102
+sent 4 2 91880909
+refused 5 1 Rv
+"""
+
+RUN_EXAMPLES = """sent 1 1 102103
+left 1 1 0 4
+sent 2 1 1021033
+left 2 1 0 0
+sent 3 2 9188090981000020
+left 3 2 0 3
+refused 4 2 Rv
+sent 5 3 0d4d8dce0e4c70c0005ff6ee88
+left 5 3 0 0
+block 1 delivered tx 2 failed 0 of 1 01
+block 2 open tx 1 failed 1 of 1
+block 3 contradiction tx 1 failed 0 of 1
+total blocks 3 delivered 1 open 1 contradiction 1 codeblocks 3 failed 1
+"""
+
+AUDIT_EXAMPLES = """order 1 0 164
+stuck 2 0 14 6 14 22 61 87 93 103 125 135 141 167 173 183 205
+order 3 0 614
+"""
+
+# Columns 2 and 3 are heard, with both bits where the link flips them, and 6 to 9 are fillers.
+HEARD = [2, 3, 6, 7, 8, 9]
+FIELDS = {
+    "send": "sent 1 1 10\nsent 2 1 10\n",
+    "run": "sent 1 1 10\nleft 1 1 0 16\nsent 2 1 10\nleft 2 1 0 16\nblock 1 open tx 2 failed 1 of 1\n"
+    "total blocks 1 delivered 0 open 1 contradiction 0 codeblocks 1 failed 1\n",
+    "audit": stuck([at for at in range(52) if at in range(10, 14) or at % 10 not in HEARD]),
+}
+
+# 24 bits leave column 1, which the last four of 28 bits give, and 32 bits leave nothing.
+ROUNDS = {
+    "send": "sent 1 1 102103\nsent 2 1 102103\nsent 3 1 1021033\nsent 4 1 10210330\n",
+    "run": """sent 1 1 102103
+left 1 1 0 4
+sent 2 1 102103
+left 2 1 0 4
+sent 3 1 1021033
+left 3 1 0 0
+process 0 block 1 delivered tx 2 failed 0 of 1 01
+sent 4 1 10210330
+left 4 1 0 0
+process 0 block 1 delivered tx 1 failed 0 of 1 01
+process 15 block 1 open tx 1 failed 1 of 1
+total rounds 3 delivered 2 open 1 contradiction 0 codeblocks 3 failed 1
+""",
+    "audit": "process 0 order 1 0 164\nprocess 0 order 1 0 160\n"
+    + "process 15 " + stuck([1, 12, 13, 21, 31, 41, 51]),
+}
+
+
+def short_texts():
+    """What is written of 37 octets: K' 312, Zc 15, and 972 bits to send, of which 1,056 are 84 twice. All but the two
+    punctured columns arrives."""
+    octets = COUNTING[:37]
+    line = sent_line(1, 1, octets, 1, 15, 0, 1056, 4)
+    return {
+        "send": line,
+        "run": f"{line}left 1 1 0 0\nblock 1 delivered tx 1 failed 0 of 1 {octets.hex()}\n"
+        "total blocks 1 delivered 1 open 0 contradiction 0 codeblocks 1 failed 0\n",
+        "audit": "order 1 0 30\n",
+    }
+
+
+def long_texts():
+    """What is written of 479 octets twice: K' 1952 and Zc 208, so that 3,072 bits leave the two punctured columns, and
+    20,544 bits are all."""
+    asked = [(1, 1, 0, 3072, 1), (2, 1, 25, 20544, 8), (3, 2, 43, 20544, 6), (4, 2, 13, 20544, 4)]
+    lines = [sent_line(t, n, COUNTING, 2, 208, start, g, qm) for t, n, start, g, qm in asked]
+    left = [[416, 416], [0, 0], [0, 0], [0, 0]]
+    run = ""
+    for (t, n, _, _, _), line, counts in zip(asked, lines, left):
+        run += line + "".join(f"left {t} {n} {r} {count}\n" for r, count in enumerate(counts))
+    return {
+        "send": "".join(lines),
+        "run": f"{run}block 1 delivered tx 2 failed 0 of 2 {COUNTING.hex()}\n"
+        "block 2 contradiction tx 2 failed 0 of 2\n"
+        "total blocks 2 delivered 1 open 0 contradiction 1 codeblocks 4 failed 0\n",
+        "audit": "order 1 0 416\norder 1 1 416\norder 2 0 416\norder 2 1 416\n",
+    }
+
+
+STATUSES = "Exit status: 0 done, 1 refused, 2 wrong usage\n"
+ABOUT = {
+    "cut": "Attaches the CRC to each transport block and cuts it into code blocks",
+    "check": "Checks a table of shift values",
+    "send": "Encodes each transport block and writes the bits of each transmission of a schedule",
+    "run": "Sends and receives the transmissions of a schedule over a link that loses bits, and says what is delivered",
+    "audit": "Says of each code block after a schedule in how many steps it is fixed, or why it is stuck",
+}
+OPTIONS = {
+    "table": "The shift table, as comma-separated values",
+    "settings": "The code rate and the limit of the buffer, as TOML",
+    "blocks": "The transport blocks, one a line in hexadecimal",
+    "schedule": "The transmissions, as comma-separated values",
+}
+
+
+def command_help(command, usage, options, example):
+    """A command's help: its options in two columns, and an example."""
+    width = max(len(option) for option, _ in options)
+    lines = "".join(f"  {option:<{width}}  {text}\n" for option, text in options)
+    return (
+        f"{ABOUT[command]}\n\nUsage: linksim {command} {usage}\n\nOptions:\n{lines}\n"
+        f"Example:\n  {example}\n\n{STATUSES}"
+    )
+
+
+def file_options(names):
+    return [(f"    --{name} <FILE>", f"{OPTIONS[name]} (-: standard input)") for name in names]
+
+
+def files_help(command, schedule):
+    """The help of a command over four files."""
+    names = ["table", "settings", "blocks", "schedule"]
+    paths = ["practice.csv", "settings.toml", "blocks.txt", schedule]
+    return command_help(
+        command,
+        " ".join(f"--{name} <FILE>" for name in names),
+        file_options(names) + [("-h, --help", "Print help")],
+        f"linksim {command} " + " ".join(f"--{name} examples/{path}" for name, path in zip(names, paths)),
+    )
+
+
+HELP = {
+    "cut": command_help(
+        "cut",
+        "[OPTIONS] --blocks <FILE>",
+        file_options(["blocks"])
+        + [
+            ("    --rate <N>", "Twice the target code rate x 1024 of the MCS tables; 0.5 is 1024 [default: 2048]"),
+            ("-h, --help", "Print help"),
+        ],
+        "echo 01 | linksim cut --rate 1024 --blocks -",
+    ),
+    "check": command_help(
+        "check",
+        "--table <FILE>",
+        file_options(["table"]) + [("-h, --help", "Print help")],
+        "linksim check --table examples/practice.csv",
+    ),
+    "send": files_help("send", "schedule.csv"),
+    "run": files_help("run", "losses.csv"),
+    "audit": files_help("audit", "losses.csv"),
+}
+PROGRAM_HELP = (
+    "The data coding chain of 5G NR (3GPP TS 38.212)\n\nUsage: linksim <COMMAND>\n\nCommands:\n"
+    + "".join(f"  {command:<5}  {about}\n" for command, about in ABOUT.items())
+    + "  help   Print this message or the help of the given subcommand(s)\n\n"
+    "Options:\n  -h, --help     Print help\n  -V, --version  Print version\n\n"
+    "No words at all ask for 'linksim cut --rate 2048 --blocks -'.\n\n" + STATUSES
+)

@@ -1,0 +1,230 @@
+"""The picture of a curve: what was measured, and what theory says of it."""
+
+import math
+import os
+import pathlib
+import shlex
+import sys
+
+from linksim_tools import curve_theory
+from linksim_tools.curve_results import wilson
+from linksim_tools.curve_sets import short_path
+from linksim_tools.program import Failed
+
+# Debian's own Python, which has Debian's packages, also where another python3 stands before it.
+DEBIAN_PYTHON = "/usr/bin/python3"
+PACKAGES = "plot needs matplotlib and numpy: apt-get install python3-matplotlib python3-numpy (Debian, Ubuntu)"
+
+# Colours that are told apart also by those who do not see all of them (Okabe and Ito), and marks in their turn.
+COLOURS = ["#0072B2", "#D55E00", "#009E73", "#CC79A7", "#E69F00", "#56B4E9", "#000000"]
+MARKS = ["o", "s", "^", "D", "v", "P", "X"]
+
+# How far a panel looks to both sides of what it shows, and the least width of it.
+MARGIN = 0.012
+LEAST_WIDTH = 0.06
+
+# A curve is drawn no lower than this.
+LOWEST = 1e-7
+
+
+def libraries():
+    """matplotlib and numpy; where this Python lacks them and Debian's has them, that one goes on with the same words."""
+    try:
+        import matplotlib
+        import numpy
+    except ImportError:
+        other = os.path.realpath(DEBIAN_PYTHON)
+        if "LINKSIM_CURVE_PYTHON" not in os.environ and os.access(other, os.X_OK) and other != os.path.realpath(sys.executable):
+            os.execve(other, [other, *sys.argv], {**os.environ, "LINKSIM_CURVE_PYTHON": other})
+        raise Failed(PACKAGES) from None
+    matplotlib.use("svg")
+    matplotlib.rcParams.update({
+        "svg.hashsalt": "linksim", "font.size": 9, "axes.spines.top": False, "axes.spines.right": False,
+        "axes.grid": True, "grid.color": "#e6e6e6", "grid.linewidth": 0.6, "axes.axisbelow": True,
+    })
+    from matplotlib import pyplot
+
+    return pyplot, numpy
+
+
+def theory_of(setting, code, after, numpy):
+    """For a number of transmissions the erasure limit, the density evolution threshold and the counting bound; over flips
+    there is neither, and the bound is how often some bit is flipped."""
+    if code is None:
+        return None, None, lambda p: -math.expm1(after * setting.g * math.log1p(-p)) if p < 1 else 1.0
+    limit = curve_theory.erasure_limit(setting, after)
+    threshold = curve_theory.threshold_after(setting, code, after)
+    return limit, threshold, curve_theory.counting_bound(setting, code, after, numpy)
+
+
+def draw_measured(axis, points, after, colour, mark):
+    """The measured shares of failed blocks, with their intervals; where none failed, the interval's upper end."""
+    seen = [(point.p, point.failed[after - 1], point.rounds) for point in points]
+    failed = [(p, count / rounds, *wilson(count, rounds)) for p, count, rounds in seen if count]
+    ps, shares = [one[0] for one in failed], [one[1] for one in failed]
+    below = [share - low for _, share, low, _ in failed]
+    above = [max(0.0, high - share) for _, share, _, high in failed]
+    axis.errorbar(ps, shares, [below, above], color=colour, marker=mark, markersize=3.5, linewidth=1.2, elinewidth=0.9, capsize=1.8)
+    for p, count, rounds in seen:
+        if not count:
+            high = wilson(0, rounds)[1]
+            axis.annotate("", (p, high / 2.2), (p, high), arrowprops={"arrowstyle": "-|>", "color": colour, "linewidth": 0.8})
+            axis.plot([p], [high], color=colour, marker="_", markersize=7, linestyle="none")
+
+
+def draw_theory(axis, theory, low, high, colour, numpy):
+    """The counting bound between two probabilities, the density evolution threshold, and the erasure limit."""
+    limit, threshold, bound = theory
+    ps = numpy.linspace(max(low, 0.0), min(high, 1.0), 160)
+    shares = [bound(float(p)) for p in ps]
+    seen = [(p, share) for p, share in zip(ps, shares) if share >= LOWEST]
+    axis.plot([p for p, _ in seen], [share for _, share in seen], color=colour, linestyle=(0, (5, 2)), linewidth=1.0)
+    if threshold is not None:
+        axis.axvline(threshold, color=colour, linestyle=":", linewidth=1.4)
+        axis.axvline(limit, color=colour, linestyle="-", linewidth=3.5, alpha=0.22)
+
+
+def range_of(points, after, theory):
+    """The probabilities between which a panel shows the fall after so many transmissions."""
+    between = [point.p for point in points if 0 < point.failed[after - 1] < point.rounds]
+    if theory[0] is None:
+        return 0.0, 1.1 * max(point.p for point in points)
+    zero = [point.p for point in points if not point.failed[after - 1]]
+    seen = [*between, *theory[:2]] + ([max(zero)] if zero else [])
+    low, high = min(seen) - MARGIN, max(seen) + MARGIN
+    more = max(0.0, LEAST_WIDTH - (high - low)) / 2
+    return low - more, high + more
+
+
+def floor_of(points):
+    """The lowest share that the picture shows: below the least that was measured, and the least upper limit."""
+    lowest = min(wilson(count, point.rounds)[0 if count else 1] for point in points for count in point.failed)
+    return max(LOWEST, lowest / 4)
+
+
+def draw(setting, code, points, out):
+    """Draws the picture: all falls in one panel, and each in a panel of its own below."""
+    pyplot, numpy = libraries()
+    from matplotlib.ticker import MaxNLocator
+
+    count = len(setting.rvs)
+    shown = min(count, 4)
+    rows = -(-count // shown)
+    figure = pyplot.figure(figsize=(9.4, 3.6 + 2.7 * rows), layout="constrained")
+    grid = figure.add_gridspec(1 + rows, shown, height_ratios=[1.25] + [1] * rows)
+    whole = figure.add_subplot(grid[0, :])
+    theories = [theory_of(setting, code, after, numpy) for after in range(1, count + 1)]
+    floor = floor_of(points)
+    for after, theory in enumerate(theories, 1):
+        colour, mark = COLOURS[(after - 1) % len(COLOURS)], MARKS[(after - 1) % len(MARKS)]
+        low, high = range_of(points, after, theory)
+        panel = figure.add_subplot(grid[1 + (after - 1) // shown, (after - 1) % shown], sharey=whole)
+        lost = min((point.p for point in points if point.failed[after - 1] == point.rounds), default=1.0)
+        near = [point for point in points if low <= point.p <= min(high, lost)]
+        for axis, some in ((panel, near), (whole, near)):
+            draw_theory(axis, theory, low, high, colour, numpy)
+            draw_measured(axis, some, after, colour, mark)
+        panel.set_xlim(low, high)
+        panel.set_title(f"after {after} transmission{'s' * (after > 1)}", fontsize=9, color=colour)
+        panel.set_xlabel(axis_name(setting))
+        panel.xaxis.set_major_locator(MaxNLocator(4))
+        if (after - 1) % shown == 0:
+            panel.set_ylabel("block error rate")
+        else:
+            panel.tick_params(labelleft=False)
+    dress(whole, setting, code, floor)
+    metadata = {"Date": None} if pathlib.Path(out).suffix == ".svg" else None
+    figure.savefig(out, metadata=metadata)
+    return theories
+
+
+def axis_name(setting):
+    """What the probability is of."""
+    return {"erase": "erasure probability", "flip": "flip probability"}[setting.link]
+
+
+def title_of(setting, code):
+    """The numbers of the curve in one line."""
+    versions = ", ".join(map(str, setting.rvs))
+    plan = ""
+    if code is not None:
+        numbers = code.plan
+        blocks = "1 code block" if numbers["c"] == 1 else f"{numbers['c']} code blocks"
+        plan = f" in {blocks}, base graph {numbers['graph']}, Zc = {numbers['z']}"
+    return f"A = {setting.a} bits{plan}; G = {setting.g} bits a transmission, rv {versions}"
+
+
+def dress(whole, setting, code, floor):
+    """The scales, the title and the legend."""
+    from matplotlib.lines import Line2D
+
+    whole.set_yscale("log")
+    whole.set_ylim(floor, 1.6)
+    whole.set_ylabel("block error rate")
+    whole.set_xlabel(axis_name(setting))
+    whole.set_title(title_of(setting, code), fontsize=10, loc="left")
+    handles = [
+        Line2D([], [], color=COLOURS[k % len(COLOURS)], marker=MARKS[k % len(MARKS)], markersize=4, label=f"after {k + 1}")
+        for k in range(len(setting.rvs))
+    ]
+    grey = "#555555"
+    bound = "counting bound: no decoder is below" if code is not None else "some bit is flipped"
+    handles += [
+        Line2D([], [], color=grey, marker="o", markersize=4, linestyle="none", label="measured, 95 % Wilson interval"),
+        Line2D([], [], color=grey, marker=r"$\downarrow$", markersize=8, linestyle="none", label="no error: upper limit"),
+        Line2D([], [], color=grey, linestyle=(0, (5, 2)), linewidth=1.0, label=bound),
+    ]
+    if code is not None:
+        handles += [
+            Line2D([], [], color=grey, linestyle=":", linewidth=1.4, label="density evolution of peeling"),
+            Line2D([], [], color=grey, linewidth=3.5, alpha=0.3, label="erasure limit 1 - R"),
+        ]
+    whole.legend(handles=handles, fontsize=7.5, ncol=3, loc="lower center", bbox_to_anchor=(0.5, -0.48), frameon=False)
+
+
+def half_way(points, after):
+    """The probability at which half of the blocks fail, between the two measured points around it; or nothing."""
+    shares = [(point.p, point.failed[after - 1] / point.rounds) for point in points]
+    for (low, one), (high, other) in zip(shares, shares[1:]):
+        if one < 0.5 <= other:
+            return low + (high - low) * (0.5 - one) / (other - one)
+    return None
+
+
+def say_theory(points, theories):
+    """Prints for each number of transmissions what theory and the measured points say of the fall."""
+    print("transmissions,erasure_limit,density_evolution,half_of_blocks_fail")
+    for after, (limit, threshold, _) in enumerate(theories, 1):
+        half = half_way(points, after)
+        print(f"{after},{limit:.4f},{threshold:.4f},{'-' if half is None else f'{half:.4f}'}")
+
+
+def say_audits(setting, program, lines):
+    """Prints for each number of transmissions how to see on which stopping sets failed rounds are stuck, at the lowest
+    probability at which some failed."""
+    for after in range(1, len(setting.rvs) + 1):
+        line = next((line for line in lines if line.failed[after - 1]), None)
+        if line is None:
+            continue
+        folder = f"failed-{line.p}-{line.chunk}-{after}"
+        words = [str(setting.path), repr(line.p), str(line.chunk)]
+        files = ["--table", str(setting.table), "--settings", f"{folder}/settings.toml", "--blocks", f"{folder}/blocks.txt"]
+        print(f"\nAfter {after}: at p {line.p} {line.failed[after - 1]} of the {line.rounds} rounds of chunk {line.chunk} failed.")
+        print("The files of these rounds, and what they are stuck on; or the stopping sets of the chunk by size:")
+        print("  " + shlex.join(["tools/curve", "failed", *words, folder, "--after", str(after)]))
+        print("  " + shlex.join([short_path(program), "audit", *files, "--schedule", f"{folder}/schedule.csv"]))
+        print("  " + shlex.join(["tools/curve", "sets", *words, "--after", str(after)]))
+
+
+def plot(setting, program, out, lines, points):
+    """Draws the picture, and prints what theory says beside what was measured, and how to look at what failed."""
+    libraries()
+    if not lines:
+        raise Failed("there is no line in these files")
+    if len(lines[0].failed) != len(setting.rvs):
+        raise Failed(f"the results are of {len(lines[0].failed)} transmissions, and {setting.path} has {len(setting.rvs)}")
+    code = curve_theory.code_of(setting, program) if setting.link == "erase" else None
+    theories = draw(setting, code, points, out)
+    if code is not None:
+        say_theory(points, theories)
+        say_audits(setting, program, lines)

@@ -1,0 +1,57 @@
+"""The fingerprint of a shift table: for each base graph and each set index a digest of a block that is sent with it."""
+
+import hashlib
+import pathlib
+import tempfile
+
+from linksim_tools.graphs import LARGEST, SETS
+from linksim_tools.program import output_of
+
+# The code rates in 2048ths by which a block of the sizes below takes each base graph (TS 38.212, 6.2.2 and 7.2.2).
+RATES = {1: 2048, 2: 512}
+
+# How many information columns fill a code block of the largest size of each set (5.2.2).
+COLUMNS = {1: 22, 2: 10}
+
+# How many columns of a codeword are sent (5.3.2).
+SENT = {1: 66, 2: 50}
+
+DIGITS = 12
+
+
+def block_bits(graph, size):
+    """A: the bits of the block that fills one code block of a lifting size together with its CRC."""
+    filled = COLUMNS[graph] * size
+    return filled - 24 if filled - 24 > 3824 else filled - 16
+
+
+def block(graph, index):
+    """The block of a base graph and a set index, in octets."""
+    count = block_bits(graph, LARGEST[index]) // 8
+    octets = b""
+    counter = 0
+    while len(octets) < count:
+        octets += hashlib.sha256(f"linksim table bg{graph} set{index} {counter}".encode()).digest()
+        counter += 1
+    return octets[:count]
+
+
+def sent(program, table, graph):
+    """What the program sends of each of the eight blocks of a base graph, in hexadecimal, by set index."""
+    with tempfile.TemporaryDirectory() as name:
+        folder = pathlib.Path(name)
+        settings, blocks, schedule = folder / "settings.toml", folder / "blocks.txt", folder / "schedule.csv"
+        settings.write_text(f"rate2048 = {RATES[graph]}\n")
+        blocks.write_text("".join(block(graph, index).hex() + "\n" for index in SETS))
+        lines = [f"{index + 1},0,{SENT[graph] * LARGEST[index]},1,1,-" for index in SETS]
+        schedule.write_text("\n".join(["block,rv,g,qm,nl,erase", *lines, ""]))
+        words = ["send", "--table", table, "--settings", settings, "--blocks", blocks, "--schedule", schedule]
+        return [line.split()[3] for line in output_of(program, words).splitlines()]
+
+
+def fingerprint(program, table):
+    """The lines `graph G set S DIGEST` of each base graph that the table file has."""
+    counts = output_of(program, ["check", "--table", table]).splitlines()
+    for graph in (int(line.split()[1]) for line in counts):
+        for index, digits in enumerate(sent(program, table, graph)):
+            yield f"graph {graph} set {index} {hashlib.sha256(digits.encode()).hexdigest()[:DIGITS]}"

@@ -1,0 +1,34 @@
+"""The numbers of the base graphs and lifting sizes that the tools need (TS 38.212, 5.3.2 and Table 5.3.2-1)."""
+
+import dataclasses
+
+# The largest lifting size of each set index, 0 to 7.
+LARGEST = (256, 384, 320, 224, 288, 352, 208, 240)
+SETS = range(len(LARGEST))
+
+
+@dataclasses.dataclass(frozen=True)
+class Graph:
+    """A base graph: its number, its rows and columns, how many of these carry information bits, and how many entries its
+    published table has."""
+
+    number: int
+    rows: int
+    columns: int
+    information: int
+    entries: int
+    table: str
+
+    def last_column(self, row):
+        """The column of the last entry of a row, in every table of the published shape."""
+        return self.information + (row if row >= 4 else min(row + 1, 3))
+
+    def has_column(self, row, column):
+        """Whether a row may have an entry at a column: up to the core parity columns, or its own one."""
+        return column <= self.information + 3 or column == self.last_column(row)
+
+
+GRAPHS = {
+    1: Graph(1, 46, 68, 22, 316, "Table 5.3.2-2"),
+    2: Graph(2, 42, 52, 10, 197, "Table 5.3.2-3"),
+}
