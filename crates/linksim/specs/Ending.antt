@@ -1,11 +1,11 @@
 -- How the program ends.
 use Rattle.std.specs.Prelude.{◌≡◌, ◌≢◌, ℕ, suc, List, [], ◌∷◌, ◌++◌, All, Option, Result, Ok, Err, codes}
 use Rattle.std.specs.String.{string_bytes}
-use Rattle.linksim.specs.Written.{with_text}
+use Rattle.nr_commands.specs.Written.{with_text}
 use Rattle.linksim.specs.declared.ending.Ending.{Ending}
 use Rattle.linksim.specs.declared.ending.Ending.TheVariants.{Done, Help, Refused, Usage}
-use Rattle.linksim.specs.declared.fault.RunFault.{RunFault}
-use Rattle.linksim.specs.declared.fault.RunFault.TheVariants as faults
+use Rattle.nr_commands.specs.declared.fault.RunFault.{RunFault}
+use Rattle.nr_commands.specs.declared.fault.RunFault.TheVariants as faults
 use Rattle.linksim.specs.declared.job.JobFault.{JobFault}
 use Rattle.linksim.specs.declared.job.JobFault.TheVariants as job_faults
 

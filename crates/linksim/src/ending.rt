@@ -3,11 +3,10 @@
 ghost use Rattle.std.specs.Prelude.{◌≡◌, ◌-◌, ◌^◌, ◌<◌, IfOk};
 ghost use Rattle.std.specs.String.{string_bytes};
 ghost use Rattle.linksim.specs.Ending.{Complains, IsOnOneLine, IsRefusalLine, ended_at, output_of, status_of};
-ghost use Rattle.linksim.specs.Written.{WritesPrefix, with_text};
+ghost use Rattle.nr_commands.specs.Written.{WritesPrefix, with_text};
 
-use crate::fault::RunFault;
 use crate::job::JobFault;
-use crate::sink::{Sink, put_all};
+use nr_commands::{RunFault, Sink, put_all};
 use std::alloc::{AllocError, Global};
 
 /// How a run of the program ends.

@@ -11,62 +11,23 @@
 ghost use Rattle.std.specs.Prelude.{◌≡◌, ◌^◌, ◌<◌, drop, IfOk};
 ghost use Rattle.std.specs.Vec.Iter.{into_iter_items};
 
-pub mod audit;
-#[cfg(test)]
-mod audit_tests;
-pub mod blocks;
-#[cfg(test)]
-mod broken_tests;
-pub mod check;
 pub mod command_line;
-#[cfg(test)]
-mod commands;
-pub mod cut;
-pub mod deliver;
-#[cfg(test)]
-mod delivery_tests;
 pub mod ending;
-pub mod erasure;
-pub mod fault;
-pub mod hearing;
-pub mod inputs;
 pub mod job;
-pub mod places;
+#[cfg(test)]
+mod practice;
 #[cfg(test)]
 mod program_tests;
-mod received;
-#[cfg(test)]
-mod refusal_tests;
 #[cfg(test)]
 mod refused_tests;
-#[cfg(test)]
-mod round_tests;
-pub mod rounds;
-pub mod run;
-pub mod run_laws;
-#[cfg(test)]
-mod run_tests;
-pub mod schedule;
-pub mod send;
-#[cfg(test)]
-mod send_tests;
-pub mod settings;
-pub mod sink;
 pub mod streams;
-#[cfg(test)]
-mod tests;
-pub mod text;
 
-use crate::audit::audit;
-use crate::check::check;
 use crate::command_line::job;
-use crate::cut::cut;
 use crate::ending::{Ending, tell};
-use crate::fault::RunFault;
 use crate::job::{Job, JobFault};
-use crate::send::send;
-use crate::sink::Sink;
 use crate::streams::{Outgoing, source_of};
+pub use nr_commands::{RunFault, Sink, Tape, check, cut};
+pub use nr_linkcommands::{audit, run, send};
 use std::alloc::{AllocError, Global};
 use std::env::Args;
 use std::process::ExitCode;
@@ -138,7 +99,7 @@ fn perform<R: Files + Input + AllocGlobal, O: Sink>(
             &mut source_of(rt, &files.schedule),
             out,
         ),
-        Job::Run(files) => run::run(
+        Job::Run(files) => run(
             rt.alloc(),
             &mut source_of(rt, &files.table),
             &mut source_of(rt, &files.settings),

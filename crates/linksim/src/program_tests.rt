@@ -1,11 +1,9 @@
 //! The program's edge: the words of the command line, and a job over a file's path.
 
 use super::*;
-use crate::blocks::BlocksFault;
-use crate::broken_tests::{AUDIT, BLOCKS, RUN, SCHEDULE, SENT};
-use crate::commands::SETTINGS;
-use crate::sink::Tape;
-use crate::tests::{FIRST, practice_table};
+use crate::practice::{AUDIT, BLOCKS, FIRST, RUN, SCHEDULE, SENT, SETTINGS, practice_table};
+use nr_commands::Tape;
+use nr_files::BlocksFault;
 use nr_shifttable::TableFault;
 use std::path::PathBuf;
 use std::test::Fail;

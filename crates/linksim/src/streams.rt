@@ -5,7 +5,7 @@
 ghost use Rattle.std.specs.Prelude.{◌≡◌};
 ghost use Rattle.std.specs.Io.{ReadsAtMost};
 
-use crate::sink::Sink;
+use nr_commands::Sink;
 use nr_shifttable::{Broken, Source};
 use std::fs;
 use std::io::{ErrorKind, Read};

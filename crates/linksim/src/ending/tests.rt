@@ -1,11 +1,9 @@
 //! The line of each refusal, and the statuses and texts of all endings.
 
 use super::*;
-use crate::blocks::BlocksFault;
-use crate::fault::DeskFault;
-use crate::schedule::ScheduleFault;
-use crate::settings::SettingsFault;
-use crate::sink::Tape;
+use nr_blockdesk::DeskFault;
+use nr_commands::Tape;
+use nr_files::{BlocksFault, ScheduleFault, SettingsFault};
 use nr_graphpick::Graph;
 use nr_ratematch::RmFault;
 use nr_segment::SegFault;

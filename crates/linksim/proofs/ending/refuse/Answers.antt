@@ -3,7 +3,7 @@ use Rattle.std.proofs.lemmas.Bool.{eqb-false}
 use Rattle.std.proofs.lemmas.List.Elements.{All-from_recursion}
 use Rattle.std.specs.String.{string_bytes}
 use Rattle.linksim.specs.Ending.{IsOnOneLine, IsRefusalLine}
-use Rattle.linksim.specs.Written.{with_text}
+use Rattle.nr_commands.specs.Written.{with_text}
 use Rattle.linksim.proofs.ending.refuse.Goals as goal
 use Rattle.linksim.proofs.ending.refuse.Goals.{in-Ok, in-Err}
 

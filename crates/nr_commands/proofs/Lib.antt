@@ -1,0 +1,6 @@
+pub mod BlockTexts
+mod CheckLemmas
+pub mod CommandLemmas
+mod CutLemmas
+mod HexDigits
+pub mod WrittenLemmas

@@ -1,0 +1,84 @@
+-- A text that is written part after part.
+use Rattle.std.proofs.Common.{◌≡◌, ◌≢◌, ℕ, ◌+◌, ◌-◌, ◌<◌, ◌≤◌, List, [], ◌∷◌, ◌++◌, Option, None, Some, Result, Ok, Err, IfOk, IsErr, Vec, Global, length, take, drop, sym, ◌∙◌, ap, refl, arith, append_assoc, length-append, length-drop, take_all}
+use Rattle.std.proofs.Math.Seq.{take-add, take-append-add, take-append_seam}
+use Rattle.std.proofs.lemmas.List.{append-nil, take-append-le}
+use Rattle.nr_commands.specs.Command.{Stops, Writes}
+use Rattle.nr_commands.specs.Written.{with_text, WritesPrefix}
+use Rattle.nr_commands.specs.declared.fault.RunFault.{RunFault}
+use Rattle.nr_commands.specs.declared.fault.RunFault.TheVariants.{Memory, Write}
+
+-- the first `at` octets of a text, then n octets of the rest, are its first `at + n`
+pub with_text-rest : (old : Option (List ℕ)) (text : List ℕ) (at n : ℕ) → at ≤ length text
+    → with_text (with_text old (take at text)) (take n (take (length text - at) (drop at text)))
+    ≡ with_text old (take (at + n) text)
+with_text-rest None text at n within = refl
+with_text-rest (Some octets) text at n within =
+    let rest : take (length text - at) (drop at text) ≡ drop at text =
+    take_all (length text - at) (drop at text) (omega (arith, length-drop at text)) in
+    ap Some (append_assoc octets (take at text) (take n (take (length text - at) (drop at text)))
+    ∙ ap (λ part. octets ++ (take at text ++ take n part)) rest
+    ∙ ap (λ part. octets ++ part) (sym (take-add at n text)))
+
+-- a text without an octet
+pub with_text-nil : (old : Option (List ℕ)) → with_text old [] ≡ old
+with_text-nil None = refl
+with_text-nil (Some octets) = ap Some (append-nil octets)
+
+-- a text, and another behind it
+pub with_text-append : (old : Option (List ℕ)) (front text : List ℕ) → with_text (with_text old front) text ≡ with_text old (front ++ text)
+with_text-append None front text = refl
+with_text-append (Some octets) front text = ap Some (append_assoc octets front text)
+
+-- a strict first part of a text, where some of it is left
+pub prefix_so_far : (old new : Option (List ℕ)) (whole front rest : List ℕ) → whole ≡ front ++ rest → 0 < length rest → new ≡ with_text old front → WritesPrefix old new whole
+prefix_so_far old new whole front rest is some written = (
+  length front,
+  omega (arith, ap length is, length-append front rest),
+  written ∙ ap (with_text old) (sym (ap (take (length front)) is ∙ take-append_seam front rest)),
+)
+
+-- a strict first part of a line behind others is one of the whole text
+prefix_behind : (old mid new : Option (List ℕ)) (whole front line rest : List ℕ) → whole ≡ (front ++ line) ++ rest → mid ≡ with_text old front → WritesPrefix mid new line → WritesPrefix old new whole
+prefix_behind old mid new whole front line rest is before (n, short, written) =
+    let same : whole ≡ front ++ (line ++ rest) = is ∙ append_assoc front line rest in
+    let first : take (length front + n) whole ≡ front ++ take n line =
+    ap (take (length front + n)) same ∙ take-append-add front (line ++ rest) n
+    ∙ ap (λ part. front ++ part) (take-append-le n line rest (omega (arith, short))) in (
+      length front + n,
+      omega (arith, short, ap length is, length-append (front ++ line) rest, length-append front line),
+      written ∙ ap (λ w. with_text w (take n line)) before ∙ with_text-append old front (take n line) ∙ ap (with_text old) (sym first),
+    )
+
+-- what a refused line leaves, behind others of a text
+stops_behind : (old mid new : Option (List ℕ)) (e : RunFault) (whole front line rest : List ℕ) → whole ≡ (front ++ line) ++ rest → mid ≡ with_text old front → Stops mid new e line → Stops old new e whole
+stops_behind old mid new Write whole front line rest is before left = prefix_behind old mid new whole front line rest is before left
+stops_behind old mid new Memory whole front line rest is before left = prefix_behind old mid new whole front line rest is before left
+stops_behind old mid new e whole front line rest is before left = absurd left
+
+pub writes_behind : {X : Type 0} (old mid new : Option (List ℕ)) (r : Result X RunFault) (exit e : RunFault) (whole front line rest : List ℕ) → r ≡ Err exit → exit ≡ e → whole ≡ (front ++ line) ++ rest → mid ≡ with_text old front → Stops mid new e line → Writes old new r whole
+writes_behind old mid new r exit e whole front line rest at same is before left = rw (at, same) (stops_behind old mid new e whole front line rest is before left)
+
+-- what the last line leaves, behind others
+pub writes_last : {X : Type 0} (old mid new : Option (List ℕ)) (r : Result X RunFault) (front line : List ℕ) → mid ≡ with_text old front → Writes mid new r line → Writes old new r (front ++ line)
+writes_last old mid new (Ok x) front line before left = left ∙ ap (λ w. with_text w line) before ∙ with_text-append old front line
+writes_last old mid new (Err e) front line before left = stops_behind old mid new e (front ++ line) front line [] (sym (append-nil (front ++ line))) before left
+
+-- where memory runs out before a line, nothing of it is written
+pub writes_none : {X : Type 0} (old : Option (List ℕ)) (r : Result X RunFault) (exit : RunFault) (line : List ℕ) → r ≡ Err exit → exit ≡ Memory → 0 < length line → Writes old old r line
+writes_none old r exit line at is some = rw (at, is) (prefix_so_far old old line [] line refl some (sym (with_text-nil old)))
+
+-- a call that writes has no other fault than Write and Memory
+pub writes_refused : {X : Type 0} (old new : Option (List ℕ)) (r : Result X RunFault) (text : List ℕ) → Writes old new r text → IsErr r → r ≢ Err Write → r ≢ Err Memory → new ≡ old
+writes_refused old new (Ok x) text left refused no_write no_memory = absurd (cc)
+writes_refused old new (Err Write) text left refused no_write no_memory = absurd (no_write refl)
+writes_refused old new (Err Memory) text left refused no_write no_memory = absurd (no_memory refl)
+writes_refused old new (Err e) text left refused no_write no_memory = absurd left
+
+-- a line is not empty
+pub some_at_end : (front : List ℕ) → 0 < length (front ++ 10 ∷ [])
+some_at_end front = omega (arith, length-append {A = ℕ} front (10 ∷ []))
+
+-- a line that is made of the same octets
+pub if_ok-items : {E : Type 0} (r : Result (Vec ℕ Global) E) (made line : List ℕ) → made ≡ line → IfOk r (λ v. v.items ≡ made) → IfOk r (λ v. v.items ≡ line)
+if_ok-items (Ok v) made line same is = is ∙ same
+if_ok-items (Err e) made line same is = tt

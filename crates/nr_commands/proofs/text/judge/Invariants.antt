@@ -1,0 +1,10 @@
+use Rattle.std.proofs.Common.{◌+◌, map, drop}
+use Rattle.nr_commands.specs.CutText.{lines_from}
+use Rattle.nr_commands.proofs.BlockTexts.{Leads}
+use Rattle.nr_commands.proofs.text.judge.Given as goal
+
+-- what the blocks that are left say is the rest of what all blocks say
+abbrev pub invariant-loop-index : goal.invariant-loop-index
+invariant-loop-index l = Leads
+    (lines_from l.rate2048 (l.index + 1) (drop l.index (map (λ block. block.items) l.blocks)))
+    (lines_from l.rate2048 1 (map (λ block. block.items) l.blocks))

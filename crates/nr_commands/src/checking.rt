@@ -1,0 +1,80 @@
+//! The command `check`.
+
+ghost use Rattle.std.specs.Prelude.{◌≡◌, ◌≢◌, ℕ, ◌^◌, ◌<◌, IfOk, IfSome, IsErr};
+ghost use Rattle.std.specs.String.{string_bytes};
+ghost use Rattle.nr_commands.specs.Command.{Delivers, Writes};
+ghost use Rattle.nr_files.specs.Reading.{FailsAs};
+ghost use Rattle.nr_commands.specs.CheckText.{check_said, graph_line, graph_lines, table_lines};
+
+use crate::delivering::deliver;
+use crate::fault::RunFault;
+use crate::sink::Sink;
+use nr_graphpick::Graph;
+use nr_shifttable::{Source, Table, TableFault};
+use std::alloc::{AllocError, Global};
+use std::fmt::Write;
+
+/// Judges a shift table file (TS 38.212, 5.3.2), and writes a line for each base graph that the table has,
+/// graph 1 first: how many entries it has.
+///
+/// The file is read to its end and judged whole before the first put. Then each line is written as soon as it is
+/// made.
+///
+/// # Errors
+/// In this order: `Table`, the first fault of the file, which leaves the Sink as it was. `Write` where a put failed,
+/// and then a first part of the text is written; `Memory` where a growth is refused, and then nothing or a first part
+/// of the text is written.
+pub fn check<T: Source, O: Sink>(alloc: Global, table: &mut T, out: &mut O) -> Result<(), RunFault>
+    requires pulls { T.failures table.old < 2 ^ 32 }
+    requires puts { O.failures out.old < 2 ^ 32 }
+    ensures text { T.failures table.new ≡ T.failures table.old → IfSome (T.remaining table.old)
+        (λ octets. Delivers (O.written out.old) (O.written out.new) result (check_said octets)) }
+    ensures untouched { IsErr result → result ≢ Err RunFault.Write → result ≢ Err RunFault.Memory
+        → O.written out.new ≡ O.written out.old }
+    ensures pulled { FailsAs (RunFault.Table TableFault.Read) result
+        (T.failures table.old) (T.failures table.new) }
+    ensures put { FailsAs RunFault.Write result (O.failures out.old) (O.failures out.new) }
+{
+    let table = Table::read(alloc, table)?;
+    write_table(alloc, &table, out)
+}
+
+// Writes a line for each base graph that the table has.
+fn write_table<O: Sink>(alloc: Global, table: &Table, out: &mut O) -> Result<(), RunFault>
+    requires { O.failures out.old < 2 ^ 32 }
+    ensures text { Writes (O.written out.old) (O.written out.new) result (table_lines table.now) }
+    ensures put { FailsAs RunFault.Write result (O.failures out.old) (O.failures out.new) }
+{
+    write_graph(alloc, table, Graph::One, out)?;
+    write_graph(alloc, table, Graph::Two, out)
+}
+
+// Writes the line of a base graph, where the table has it.
+fn write_graph<O: Sink>(
+    alloc: Global,
+    table: &Table,
+    graph: Graph,
+    out: &mut O,
+) -> Result<(), RunFault>
+    requires { O.failures out.old < 2 ^ 32 }
+    ensures text { Writes (O.written out.old) (O.written out.new) result
+        (graph_lines table.now graph) }
+    ensures put { FailsAs RunFault.Write result (O.failures out.old) (O.failures out.new) }
+{
+    if !table.has(graph) {
+        return Ok(());
+    }
+    let line = graph_line(alloc, table, graph)?;
+    deliver(out, line.as_bytes())
+}
+
+// The line of a base graph that the table has.
+#[tactic(auto, unfolding(crate::specs::CheckText::graph_line))]
+fn graph_line(alloc: Global, table: &Table, graph: Graph) -> Result<String, AllocError>
+    ensures { IfOk result (λ line. string_bytes line ≡ graph_line table.now graph) }
+{
+    let mut line = String::new(alloc);
+    let count = table.entries(graph);
+    writeln!(line, "graph {graph} entries {count}")?;
+    Ok(line)
+}

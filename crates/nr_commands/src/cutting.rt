@@ -1,0 +1,48 @@
+//! The command `cut`.
+
+ghost use Rattle.std.specs.Prelude.{◌≡◌, ◌≢◌, ℕ, ◌^◌, ◌<◌, ◌≤◌, All, length, map, IfOk, IfSome, IsErr};
+ghost use Rattle.nr_files.specs.Blocks.{blocks_said, IsBlockLength};
+ghost use Rattle.nr_commands.specs.Command.{Delivers};
+ghost use Rattle.nr_files.specs.Reading.{FailsAs};
+ghost use Rattle.nr_commands.specs.CutText.{cut_said};
+ghost use Rattle.nr_graphpick.specs.Refusal.{Gives};
+
+use crate::fault::RunFault;
+use crate::sink::Sink;
+use crate::text::{judge, write_blocks};
+use nr_files::{BlocksFault, read_blocks};
+use nr_shifttable::Source;
+use std::alloc::Global;
+
+/// Shows what TS 38.212 makes of each transport block of a blocks file, up to its code blocks (6.2.1 to 6.2.3,
+/// 7.2.1 to 7.2.3). `rate2048` is the code rate in 2048ths.
+///
+/// The blocks file is read to its end, and every block is judged, before the first put. Then each line is written
+/// as soon as it is made.
+///
+/// # Errors
+/// In this order: `Blocks`, the first fault of the blocks file; `Desk`, the first transport block that cannot be
+/// cut, and where the rate is not in 1..=2048 the first block by `Pick(RateRange)`. These leave the Sink as it was.
+/// `Write` where a put failed, and then a first part of the text is written; `Memory` where a growth is refused, and
+/// then nothing or a first part of the text is written.
+pub fn cut<B: Source, O: Sink>(
+    alloc: Global,
+    rate2048: u32,
+    blocks: &mut B,
+    out: &mut O,
+) -> Result<(), RunFault>
+    requires pulls { B.failures blocks.old < 2 ^ 32 }
+    requires puts { O.failures out.old < 2 ^ 32 }
+    ensures text { B.failures blocks.new ≡ B.failures blocks.old → IfSome (B.remaining blocks.old)
+        (λ octets. Delivers (O.written out.old) (O.written out.new) result
+        (cut_said rate2048 octets)) }
+    ensures untouched { IsErr result → result ≢ Err RunFault.Write → result ≢ Err RunFault.Memory
+        → O.written out.new ≡ O.written out.old }
+    ensures pulled { FailsAs (RunFault.Blocks BlocksFault.Read) result
+        (B.failures blocks.old) (B.failures blocks.new) }
+    ensures put { FailsAs RunFault.Write result (O.failures out.old) (O.failures out.new) }
+{
+    let blocks = read_blocks(alloc, blocks)?;
+    judge(rate2048, &blocks)?;
+    write_blocks(alloc, rate2048, &blocks, out)
+}

@@ -1,0 +1,25 @@
+//! Where the text of a command goes, the lines of blocks, and the two commands over one file: `cut` shows what TS 38.212
+//! makes of each transport block up to its code blocks (6.2.1 to 6.2.3, 7.2.1 to 7.2.3), `check` judges a shift table.
+//! Their contract: at `Ok` the text that `cut_said` or `check_said` gives of the file's octets was written; a refusal
+//! writes nothing, and the fault is theirs; a failing `Sink` has a first part of the text (specs/Command.antt).
+//! Stands on nr_files for what is read, nr_blockdesk and the layers below it for the standard, `thiserror` for faults.
+#![tactic(auto)]
+
+mod checking;
+mod cutting;
+mod delivering;
+mod fault;
+mod sink;
+mod text;
+
+pub use checking::check;
+pub use cutting::cut;
+pub use delivering::deliver;
+pub use fault::RunFault;
+pub use sink::{Sink, Tape, put_all};
+pub use text::{hex_line, judge, write_blocks};
+
+#[cfg(test)]
+mod refused_tests;
+#[cfg(test)]
+mod tests;

@@ -1,0 +1,15 @@
+mod BlockLines
+pub mod BlockRounds
+mod BlocksUnread
+mod DrawnFacts
+mod FurthestFacts
+mod MaskWords
+mod OctetDigits
+mod PlaceItems
+mod Reading
+pub mod Refusals
+pub mod RoundFacts
+mod RoundStarts
+mod ScheduleProcesses
+mod ScheduleRecords
+mod SettingsFacts

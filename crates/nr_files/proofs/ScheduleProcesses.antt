@@ -1,0 +1,166 @@
+-- The processes of a schedule's transmissions.
+use Rattle.std.proofs.Common.{◌≡◌, ℕ, zero, suc, ◌+◌, ◌-◌, ◌<◌, ◌≤◌, Bool, true, false, cond, Option, None, Some, Ok, Err, IfOk, List, [], ◌∷◌, ◌++◌, All, length, take, get_or, ap, sym, subst, refl, ◌∙◌, arith, append_assoc, nat_lt}
+use Rattle.std.specs.Prelude.{◌==◌, ◌&&◌, codes, nat_le, not}
+use Rattle.std.proofs.lemmas.Bool.Decides.{nat_tests}
+use Rattle.std.proofs.lemmas.List.{append-nil}
+use Rattle.std.proofs.lemmas.List.Elements.{All-nil, All-cons}
+use Rattle.nr_graphpick.specs.Refusal.{or_fault}
+use Rattle.nr_shifttable.specs.Fields.{short_number}
+use Rattle.nr_shifttable.specs.Records.{Record, records_of}
+use Rattle.nr_files.specs.PlaceLists.{below}
+use Rattle.nr_files.specs.Rounds.{round_of}
+use Rattle.nr_files.specs.Schedule.{EachGoesOn, GoesOn, IsPlaced, Timetable, block_in, erasure_at, field, flip_at, fresh_at, fresh_block, is_called, is_schedule_header, is_of_block, is_width, mask_at, number_at, process_at, schedule_of, schedule_said, transmission_of, transmissions_from}
+use Rattle.nr_files.specs.declared.schedule.ScheduleFault.{ScheduleFault}
+use Rattle.nr_files.specs.declared.schedule.ScheduleFault.TheVariants as fault
+use Rattle.nr_files.specs.declared.schedule.Transmission.{Transmission}
+use Rattle.nr_files.proofs.Refusals.{holds_if, holds_then, of_ok}
+
+-- a number that is below a limit
+below-inside : (limit : ℕ) (e : ScheduleFault) (o : Option ℕ) (n : ℕ) → or_fault e (below limit o) ≡ Ok n → n < limit
+below-inside limit e None n is = absurd (cc)
+below-inside limit e (Some m) n is = go (nat_lt m limit) refl is
+  where
+    go : (b : Bool) → nat_lt m limit ≡ b → or_fault e (cond b (Some m) None) ≡ Ok n → n < limit
+    go true less is =
+        let same : m ≡ n = cc in
+        let inside : m < limit = grind (arith, nat_tests) in
+        omega arith
+    go false less is = absurd (cc)
+
+-- a field that says that a transmission is not fresh
+begun-of : (block : ℕ) (begun : Option ℕ) → is_of_block block begun ≡ true → begun ≡ Some block
+begun-of block None is = absurd (cc)
+begun-of block (Some n) is =
+    let same : n ≡ block = grind (arith, nat_tests) in
+    ap Some same
+
+stale-of : (k block : ℕ) (begun : Option ℕ) (one nought : Bool) → cond one (Ok true) (cond (nought && is_of_block block begun) (Ok false) (Err (fault.Fresh k))) ≡ Ok false → begun ≡ Some block
+stale-of k block begun true nought is = absurd (cc)
+stale-of k block begun false true is = go (is_of_block block begun) refl is
+  where
+    go : (b : Bool) → is_of_block block begun ≡ b → cond b (Ok false) (Err (fault.Fresh k)) ≡ Ok false → begun ≡ Some block
+    go true same is = begun-of block begun same
+    go false other is = absurd (cc)
+stale-of k block begun false false is = absurd (cc)
+
+-- what is so of a transmission by the width of its record
+record IsIn (width : ℕ) (before : List Transmission) (x : Transmission) : Type 0 where
+  pub placed : IsPlaced (width == 10) x
+  pub goes_on : (width == 10) ≡ true → GoesOn before x
+
+-- a record of ten columns
+wide : (k : ℕ) (r : Record) (block process : ℕ) → length r ≡ 10 → process_at k r 8 block ≡ Ok process → process < 16
+wide k r block process long is =
+    let far : nat_le (length r) 8 ≡ false = grind (arith, nat_tests) in
+    below-inside 16 (fault.Process k) (short_number (field r 8)) process (rw far at is)
+
+wide-stale : (k : ℕ) (r : Record) (block : ℕ) (begun : Option ℕ) → length r ≡ 10 → fresh_at k r 9 block begun ≡ Ok false → begun ≡ Some block
+wide-stale k r block begun long is =
+    let far : nat_le (length r) 9 ≡ false = grind (arith, nat_tests) in
+    stale-of k block begun (is_called r 9 (codes "1")) (is_called r 9 (codes "0")) (rw far at is)
+
+-- a record of fewer
+narrow : (k : ℕ) (r : Record) (block process : ℕ) → length r ≤ 8 → process_at k r 8 block ≡ Ok process → process ≡ block
+narrow k r block process few is =
+    let near : nat_le (length r) 8 ≡ true = grind (arith, nat_tests) in
+    let same : Ok block ≡ Ok process = rw near at is in
+    cc
+
+narrow-stale : (k : ℕ) (r : Record) (block : ℕ) (begun : Option ℕ) (fresh : Bool) → length r ≤ 8 → fresh_at k r 9 block begun ≡ Ok fresh → fresh ≡ false
+narrow-stale k r block begun fresh few is =
+    let near : nat_le (length r) 9 ≡ true = grind (arith, nat_tests) in
+    let same : Ok false ≡ Ok fresh = rw near at is in
+    cc
+
+in-columns : (k width block : ℕ) (before : List Transmission) (r : Record) (x : Transmission) (b : Bool) → (width == 10) ≡ b → (b ≡ false → width ≤ 8) → length r ≡ width → x.block ≡ block → process_at k r 8 block ≡ Ok x.process → fresh_at k r 9 block (fresh_block (round_of x.process before)) ≡ Ok x.fresh → IsPlaced b x × (b ≡ true → GoesOn before x)
+in-columns k width block before r x true ten few long named process_is fresh_is =
+    let all : length r ≡ 10 = grind (arith, nat_tests) in (
+      wide k r block x.process all process_is,
+      λ ten stale. wide-stale k r block (fresh_block (round_of x.process before)) all (fresh_is ∙ ap Ok stale) ∙ ap Some (sym named),
+    )
+in-columns k width block before r x false other few long named process_is fresh_is =
+    let short : length r ≤ 8 = omega (arith, few refl) in (
+      record {
+        process = narrow k r block x.process short process_is ∙ sym named;
+        stale = narrow-stale k r block (fresh_block (round_of x.process before)) x.fresh short fresh_is;
+      },
+      λ ten. absurd (cc),
+    )
+
+transmission_of-in : (blocks width k : ℕ) (before : List Transmission) (r : Record) → ((width == 10) ≡ false → width ≤ 8) → IfOk (transmission_of blocks width k before r) (IsIn width before)
+unfolding transmission_of
+transmission_of-in blocks width k before r few =
+    holds_if _ (not (length r == width)) _ _ (λ other. tt) (λ same.
+    holds_if _ (nat_lt 4097 k) _ _ (λ many. tt) (λ last.
+    let long : length r ≡ width = grind (arith, nat_tests) in
+    holds_then _ (number_at k r 0) _ (λ number number_is.
+    holds_then _ (number_at k r 1) _ (λ rv rv_is.
+    holds_then _ (number_at k r 2) _ (λ g g_is.
+    holds_then _ (number_at k r 3) _ (λ qm qm_is.
+    holds_then _ (number_at k r 4) _ (λ nl nl_is.
+    holds_then _ (block_in k blocks number) _ (λ block block_is.
+    holds_then _ (erasure_at k r 5) _ (λ erasure erasure_is.
+    holds_then _ (flip_at k r 6) _ (λ flip flip_is.
+    holds_then _ (mask_at k r 7) _ (λ mask mask_is.
+    holds_then _ (process_at k r 8 block) _ (λ process process_is.
+    holds_then _ (fresh_at k r 9 block (fresh_block (round_of process before))) _ (λ fresh fresh_is.
+    let x : Transmission = record {
+      number = k - 1;
+      block = block;
+      tx = record { rv = rv; g = g; qm = qm; nl = nl; mask = mask };
+      erasure = erasure;
+      flip = flip;
+      process = process;
+      fresh = fresh;
+    } in
+    let both = in-columns k width block before r x (width == 10) refl few long refl process_is fresh_is in
+    record { placed = both.0; goes_on = both.1 })))))))))))))
+
+-- what is so of transmissions by the width of their records
+record AreIn (width : ℕ) (before ts : List Transmission) : Type 0 where
+  pub placed : All (IsPlaced (width == 10)) ts
+  pub goes_on : (width == 10) ≡ true → (i : ℕ) (x : Transmission) → i < length ts → x ≡ get_or ts i x → GoesOn (before ++ take i ts) x
+
+each : (width : ℕ) (before : List Transmission) (t : Transmission) (more : List Transmission) → IsIn width before t → AreIn width (before ++ t ∷ []) more
+    → (width == 10) ≡ true → (i : ℕ) (x : Transmission) → i < length (t ∷ more) → x ≡ get_or (t ∷ more) i x → GoesOn (before ++ take i (t ∷ more)) x
+each width before t more first others ten zero x within is =
+    subst (λ (b : List Transmission). GoesOn b x) (sym (append-nil before)) (subst (GoesOn before) (sym is) (first.goes_on ten))
+each width before t more first others ten (suc i) x within is =
+    subst (λ (b : List Transmission). GoesOn b x) (append_assoc before (t ∷ []) (take i more)) (others.goes_on ten i x (omega (arith, within)) is)
+
+transmissions_from-in : (blocks width k : ℕ) (before : List Transmission) (rs : List Record) → ((width == 10) ≡ false → width ≤ 8) → IfOk (transmissions_from blocks width k before rs) (AreIn width before)
+unfolding transmissions_from
+transmissions_from-in blocks width k before [] few =
+    record { placed = All-nil (IsPlaced (width == 10)); goes_on = λ ten i x within is. absurd (omega (arith, within)) }
+transmissions_from-in blocks width k before (r ∷ rs) few =
+    holds_then _ (transmission_of blocks width k before r) _ (λ t t_is.
+    let first : IsIn width before t = of_ok _ _ t t_is (transmission_of-in blocks width k before r few) in
+    holds_then _ (transmissions_from blocks width (k + 1) (before ++ t ∷ []) rs) _ (λ more more_is.
+    let others : AreIn width (before ++ t ∷ []) more = of_ok _ _ more more_is (transmissions_from-in blocks width (k + 1) (before ++ t ∷ []) rs few) in
+    record {
+      placed = All-cons (IsPlaced (width == 10)) t more first.placed others.placed;
+      goes_on = each width before t more first others;
+    }))
+
+header-narrow : (r : Record) → is_schedule_header r ≡ true → (length r == 10) ≡ false → length r ≤ 8
+unfolding is_schedule_header
+header-narrow r header other =
+    let one : is_width (length r) ≡ true = grind (arith) in
+    grind (arith, nat_tests)
+
+-- what is so of the transmissions of a schedule
+pub record AreOfProcesses (said : Timetable) : Type 0 where
+  pub placed : All (IsPlaced said.by_process) said.transmissions
+  pub goes_on : said.by_process ≡ true → EachGoesOn said.transmissions
+
+pub schedule_said-processes : (blocks : ℕ) (text : List ℕ) → IfOk (schedule_said blocks text) AreOfProcesses
+unfolding schedule_said schedule_of
+schedule_said-processes blocks text = holds_if _ (nat_lt 16777216 (length text)) _ _ (λ long. tt) (λ short. all (records_of text))
+  where
+    all : (rs : List Record) → IfOk (schedule_of blocks rs) AreOfProcesses
+    all [] = tt
+    all (r ∷ rs) =
+        holds_if _ (is_schedule_header r) _ _ (λ header.
+        holds_then _ (transmissions_from blocks (length r) 2 [] rs) _ (λ ts is.
+        let in_columns : AreIn (length r) [] ts = of_ok _ _ ts is (transmissions_from-in blocks (length r) 2 [] rs (header-narrow r header)) in
+        record { placed = in_columns.placed; goes_on = in_columns.goes_on })) (λ other. tt)

@@ -1,0 +1,49 @@
+-- Each record adds its transmission, or its fault is the file's.
+use Rattle.std.proofs.Common.{inr, ap, sym, ◌+◌, ◌∙◌, arith, length}
+use Rattle.std.proofs.lemmas.Bool.Decides.{when_false, when_true}
+use Rattle.std.proofs.lemmas.Result.{err_from_is_err_and}
+use Rattle.csv.specs.Records.{fields_of}
+use Rattle.nr_files.proofs.ScheduleRecords.{schedule_of-header, schedule_of-missing, schedule_of-other, turn-end, turn-ok, turn-refused}
+use Rattle.nr_files.proofs.schedule.read_records.Goals as goal
+
+pub returns-then-not-branch : goal.returns-then-not-branch
+returns-then-not-branch c =
+    let end = when_false _ _ c.if-not-branch.true c.in_ok-next.ensures.next in
+    inr (schedule_of-missing _ _ (sym c.new-records.ensures.records ∙ end.0))
+
+pub returns-then-not-is_header : goal.returns-then-not-is_header
+returns-then-not-is_header c =
+    let some = when_true _ _ c.if-not-branch.false c.in_ok-next.ensures.next in
+    inr (schedule_of-other _ _ c.next.new.self (fields_of c.next.new.row) (sym c.new-records.ensures.records ∙ some) (sym c.is_header.ensures ∙ c.if-not-is_header.true))
+
+pub loop-transmissions-init : goal.loop-transmissions-init
+loop-transmissions-init c =
+    let some = when_true _ _ c.if-not-branch.false c.in_ok-next.ensures.next in
+    record {
+      said = rw (c.new-transmissions.ensures.items, c.len-width.ensures)
+          (schedule_of-header _ _ c.next.new.self (fields_of c.next.new.row) (sym c.new-records.ensures.records ∙ some) (sym c.is_header.ensures ∙ c.if-not-is_header.false));
+      few = omega (arith, ap length some, c.new-records.ensures.few);
+    }
+
+pub returns-in_err-transmission : goal.returns-in_err-transmission
+returns-in_err-transmission c =
+    let some = when_true _ _ c.if-branch.true c.in_ok-next-2.ensures.next in
+    let p = err_from_is_err_and c.from_residual-in_err-transmission.result c.from_residual-in_err-transmission.ensures.1 in
+    rw (p.1, p.2)
+    (turn-refused _ _ (c.loop-transmissions.number + 1) _ c.loop-transmissions.records c.next-in-loop-transmissions.new.self (fields_of c.next-in-loop-transmissions.new.row) _ _ some
+    (rw c.deref.ensures.value at c.in_err-transmission.ensures) c.loop-transmissions.invariant.said)
+
+pub loop-transmissions-preserved : goal.loop-transmissions-preserved
+loop-transmissions-preserved c =
+    let some = when_true _ _ c.if-branch.true c.in_ok-next-2.ensures.next in
+    record {
+      said = rw c.in_ok-push.ensures.items
+          (turn-ok _ _ (c.loop-transmissions.number + 1) _ c.loop-transmissions.records c.next-in-loop-transmissions.new.self (fields_of c.next-in-loop-transmissions.new.row) _ _ some
+          (rw c.deref.ensures.value at c.in_ok-transmission.ensures) c.loop-transmissions.invariant.said);
+      few = omega (arith, ap length some);
+    }
+
+pub returns : goal.returns
+returns c =
+    let end = when_false _ _ c.if-branch.false c.in_ok-next-2.ensures.next in
+    turn-end _ _ (c.loop-transmissions.number + 1) _ c.loop-transmissions.records _ end.0 c.loop-transmissions.invariant.said

@@ -1,0 +1,9 @@
+pub mod Blocks
+pub mod Erasures
+pub mod Furthest
+pub mod Masks
+pub mod PlaceLists
+pub mod Reading
+pub mod Rounds
+pub mod Schedule
+pub mod Settings

@@ -1,0 +1,268 @@
+//! The blocks file: one transport block a line, written in hexadecimal digits.
+
+ghost use Rattle.std.specs.Prelude.{◌≡◌, ◌≤◌, ◌<◌, ◌+◌, ◌*◌, ◌/◌, ◌^◌, IsTrue, IfOk, IfSome, All, map, length};
+ghost use Rattle.std.specs.Char.{is_ascii_hexdigit, digit_value};
+ghost use Rattle.std.specs.List.{list_all};
+ghost use Rattle.nr_files.specs.Blocks.{without_last, octets_of_digits, block_said, blocks_said, IsBlockLength};
+ghost use Rattle.nr_files.specs.Reading.{FailsAs};
+ghost use Rattle.nr_graphpick.specs.Refusal.{Gives};
+
+use nr_shifttable::{ReadFault, Source, read_to_end};
+use std::alloc::{AllocError, Global};
+use thiserror::Error;
+
+/// The most octets of a blocks file.
+pub const MOST_OCTETS: usize = 100_000_000;
+
+// The most transport blocks of a blocks file.
+const MOST_BLOCKS: usize = 256;
+
+// The most digits of a line: those of a transport block of 1,310,720 bits.
+const MOST_DIGITS: usize = 327_680;
+
+/// Why a blocks file is refused. Lines count from 1.
+#[derive(Clone, Copy, Debug, PartialEq, Eq, Error)]
+pub enum BlocksFault {
+    /// The file could not be read.
+    #[error("Read")]
+    Read,
+    /// The file has more than 100,000,000 octets.
+    #[error("TooLong")]
+    TooLong,
+    /// The file has no line.
+    #[error("Empty")]
+    Empty,
+    /// The file has more than 256 lines.
+    #[error("TooMany")]
+    TooMany,
+    /// The line has no character.
+    #[error("Blank {0}")]
+    Blank(u32),
+    /// The line has a character that is no hexadecimal digit.
+    #[error("Digit {0}")]
+    Digit(u32),
+    /// The line has an odd number of digits.
+    #[error("Odd {0}")]
+    Odd(u32),
+    /// The line has more than 327,680 digits.
+    #[error("LongLine {0}")]
+    LongLine(u32),
+    /// Memory ran out.
+    #[error("Memory")]
+    Memory,
+}
+
+// `text` without one character `last` at its end, where it has one there.
+fn strip_last(text: &[u8], last: u8) -> &[u8]
+    ensures { result.now ≡ without_last last text.now }
+{
+    if !text.is_empty() && text[text.len() - 1] == last {
+        &text[..text.len() - 1]
+    } else {
+        text
+    }
+}
+
+// The value of a hexadecimal digit, without a branch: letters of both cases have bit 64, and 1 to 6 in the bits below
+// 16.
+fn digit(character: u8) -> u8
+    requires { IsTrue (is_ascii_hexdigit character) }
+    ensures value { result ≡ digit_value character }
+    ensures small { result < 16 }
+{
+    character % 16 + character / 64 * 9
+}
+
+// Fills octets with those that a line's pairs of digits write. A plain loop from slice to slice, as in `all_digits`,
+// which the compiler turns into one that takes many octets at a time.
+fn read_digits(line: &[u8], octets: &mut [u8])
+    requires digits { IsTrue (list_all is_ascii_hexdigit line.now) }
+    requires half { length octets.old ≡ length line.now / 2 }
+    ensures { octets.new ≡ octets_of_digits line.now }
+{
+    for i in 0..octets.len() {
+        octets[i] = 16 * digit(line[2 * i]) + digit(line[2 * i + 1]);
+    }
+}
+
+// The octets that a line's pairs of digits write.
+fn octets(alloc: Global, line: &[u8]) -> Result<Vec<u8>, AllocError>
+    requires { IsTrue (list_all is_ascii_hexdigit line.now) }
+    ensures octets { IfOk result (λ block. block.items ≡ octets_of_digits line.now) }
+    ensures half { IfOk result (λ block. length block.items ≡ length line.now / 2) }
+{
+    let mut block = vec![in alloc; 0; line.len() / 2]?;
+    read_digits(line, &mut block);
+    Ok(block)
+}
+
+// Whether a line has hexadecimal digits alone. It looks at every character, since to stop at the first that is none
+// would take a jump for each.
+fn all_digits(line: &[u8]) -> bool
+    ensures { result ≡ list_all is_ascii_hexdigit line.now }
+{
+    let mut all = true;
+    for character in line {
+        all &= character.is_ascii_hexdigit();
+    }
+    all
+}
+
+// The transport block that line `number` holds.
+//
+// Errors, in this order: `Blank`, `Digit`, `Odd`, `LongLine`, each with the line's number; `Memory`.
+#[tactic(auto, unfolding(crate::specs::Blocks::block_said))]
+fn block_of(alloc: Global, number: u32, line: &[u8]) -> Result<Vec<u8>, BlocksFault>
+    ensures said { Gives BlocksFault.Memory (λ block. block.items) result
+        (block_said number line.now) }
+    ensures size { IfOk result (λ block. IsBlockLength (length block.items)) }
+{
+    if line.is_empty() {
+        return Err(BlocksFault::Blank(number));
+    }
+    if !all_digits(line) {
+        return Err(BlocksFault::Digit(number));
+    }
+    if line.len() % 2 == 1 {
+        return Err(BlocksFault::Odd(number));
+    }
+    if line.len() > MOST_DIGITS {
+        return Err(BlocksFault::LongLine(number));
+    }
+    octets(alloc, line).map_err(|_| BlocksFault::Memory)
+}
+
+/// Reads the text of a blocks file: one transport block a line, two hexadecimal digits of either case for each
+/// octet.
+///
+/// Lines end with LF, and the last LF may be missing; one CR at a line's end is no part of it. Nothing after the
+/// last LF is no line. There are at most 256 blocks, each of 1..=163,840 octets.
+///
+/// # Errors
+/// In this order: `TooLong`; `Empty`; then line by line `TooMany` (line 257), `Blank`, `Digit`, `Odd`, `LongLine`.
+/// `Memory` where a growth is refused.
+pub fn parse_blocks(alloc: Global, text: &[u8]) -> Result<Vec<Vec<u8>>, BlocksFault>
+    ensures said { Gives BlocksFault.Memory (λ blocks. map (λ block. block.items) blocks.items)
+        result (blocks_said text.now) }
+    ensures few { IfOk result (λ blocks. length blocks.items ≤ 256) }
+    ensures sizes { IfOk result
+        (λ blocks. All (λ block. IsBlockLength (length block.items)) blocks.items) }
+{
+    if text.len() > MOST_OCTETS {
+        return Err(BlocksFault::TooLong);
+    }
+    if text.is_empty() {
+        return Err(BlocksFault::Empty);
+    }
+    let mut blocks = Vec::new(alloc);
+    for part in strip_last(text, b'\n').split(|character| *character == b'\n') {
+        if blocks.len() == MOST_BLOCKS {
+            return Err(BlocksFault::TooMany);
+        }
+        let number = blocks.len() as u32 + 1;
+        let block = block_of(alloc, number, strip_last(part, b'\r'))?;
+        blocks.push(block).map_err(|_| BlocksFault::Memory)?;
+    }
+    Ok(blocks)
+}
+
+/// Reads a blocks file to its end, and judges it.
+///
+/// # Errors
+/// `Read` where a pull failed and `TooLong`, whichever is met first; then as [`parse_blocks`].
+pub fn read_blocks<B: Source>(alloc: Global, source: &mut B) -> Result<Vec<Vec<u8>>, BlocksFault>
+    requires { B.failures source.old < 2 ^ 32 }
+    ensures said { B.failures source.new ≡ B.failures source.old → IfSome (B.remaining source.old)
+        (λ octets. Gives BlocksFault.Memory (λ blocks. map (λ block. block.items) blocks.items)
+        result (blocks_said octets)) }
+    ensures few { IfOk result (λ blocks. length blocks.items ≤ 256) }
+    ensures sizes { IfOk result
+        (λ blocks. All (λ block. IsBlockLength (length block.items)) blocks.items) }
+    ensures pulled { FailsAs BlocksFault.Read result
+        (B.failures source.old) (B.failures source.new) }
+{
+    let octets = match read_to_end(alloc, source, MOST_OCTETS) {
+        Ok(octets) => octets,
+        Err(ReadFault::Broken) => return Err(BlocksFault::Read),
+        Err(ReadFault::TooLong) => return Err(BlocksFault::TooLong),
+        Err(ReadFault::Memory) => return Err(BlocksFault::Memory),
+    };
+    parse_blocks(alloc, &octets)
+}
+
+#[cfg(test)]
+mod tests {
+    use super::*;
+    use std::test::Fail;
+
+    #[test]
+    fn reads_each_line_as_a_block(rt: HostRuntime) -> Result<(), Fail> {
+        for text in [
+            b"01\naF3c" as &[u8],
+            b"01\naF3c\n",
+            b"01\r\nAf3C\r\n",
+            b"01\r\naf3c\r",
+        ] {
+            let blocks = parse_blocks(rt.alloc(), text)?;
+            assert_eq!(rt; blocks.len(), 2);
+            assert_eq!(rt; blocks[0].as_slice(), b"\x01" as &[u8]);
+            assert_eq!(rt; blocks[1].as_slice(), b"\xaf\x3c" as &[u8]);
+        }
+        Ok(())
+    }
+
+    #[test]
+    fn refuses_the_first_fault(rt: HostRuntime) {
+        for (text, fault) in [
+            (b"" as &[u8], BlocksFault::Empty),
+            (b"\n", BlocksFault::Blank(1)),
+            (b"\r\n", BlocksFault::Blank(1)),
+            (b"\r", BlocksFault::Blank(1)),
+            (b"01\n\n", BlocksFault::Blank(2)),
+            (b"0g", BlocksFault::Digit(1)),
+            (b"0g0", BlocksFault::Digit(1)),
+            (b"01\r\r\n", BlocksFault::Digit(1)),
+            (b"01 \n", BlocksFault::Digit(1)),
+            (b"01\n0x\n\n", BlocksFault::Digit(2)),
+            (b"012", BlocksFault::Odd(1)),
+            (b"012\n\n", BlocksFault::Odd(1)),
+            (b"01\n2", BlocksFault::Odd(2)),
+        ] {
+            assert_eq!(rt; parse_blocks(rt.alloc(), text).err(), Some(fault));
+        }
+    }
+
+    #[test]
+    fn takes_256_blocks(rt: HostRuntime) -> Result<(), Fail> {
+        let mut text = Vec::new(rt.alloc());
+        for _ in 0..256 {
+            text.extend_from_slice(b"01\n")?;
+        }
+        assert_eq!(rt; parse_blocks(rt.alloc(), &text)?.len(), 256);
+        text.push(b'\n')?;
+        assert_eq!(rt;
+            parse_blocks(rt.alloc(), &text).err(),
+            Some(BlocksFault::TooMany)
+        );
+        Ok(())
+    }
+
+    #[test]
+    fn takes_the_longest_block(rt: HostRuntime) -> Result<(), Fail> {
+        let mut text = vec![in rt.alloc(); b'f'; 327_680]?;
+        let blocks = parse_blocks(rt.alloc(), &text)?;
+        assert_eq!(rt; blocks.len(), 1);
+        assert_eq!(rt; blocks[0].len(), 163_840);
+        text.push(b'f')?;
+        assert_eq!(rt;
+            parse_blocks(rt.alloc(), &text).err(),
+            Some(BlocksFault::Odd(1))
+        );
+        text.push(b'f')?;
+        assert_eq!(rt;
+            parse_blocks(rt.alloc(), &text).err(),
+            Some(BlocksFault::LongLine(1))
+        );
+        Ok(())
+    }
+}

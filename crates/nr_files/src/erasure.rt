@@ -1,0 +1,157 @@
+//! The places of a transmission that the receiver does not hear: as a schedule names them, or as they are drawn.
+
+ghost use Rattle.std.specs.Prelude.{◌≡◌, ℕ, ◌<◌, nat_lt, length, map, slice_index, IfOk};
+ghost use Rattle.std.specs.List.{list_any, range_with_len};
+ghost use Rattle.nr_files.specs.Erasures.{erased_of, is_within, is_named, words_drawn};
+ghost use Rattle.nr_files.specs.Furthest.{begins_at, furthest};
+
+use rand_core::utils::NextWord;
+use rand_pcg::Pcg32;
+use std::alloc::{AllocError, Global};
+use std::marker::Model;
+
+// The stream of a generator that draws erasures.
+const STREAM: u64 = 54;
+
+/// The places from `first` to `last`, both of them too. Places are counted from 0.
+#[derive(Clone, Copy, Debug, PartialEq, Eq)]
+pub struct PlaceRange {
+    /// The first place.
+    pub first: u64,
+    /// The last place. A range whose last place is less than its first has none.
+    pub last: u64,
+}
+
+/// Ranges of places, in any order. They may overlap.
+#[derive(Drop)]
+pub struct PlaceList {
+    ranges: Vec<PlaceRange>,
+}
+
+impl Model for PlaceList {
+    ghost use Rattle.std.specs.Prelude.{List};
+    ghost use Rattle.nr_files.specs.declared.erasure.PlaceRange.{PlaceRange};
+
+    ghost Value = { List PlaceRange };
+
+    ghost view = { λ list. list.ranges.items };
+}
+
+impl PlaceList {
+    /// These ranges.
+    pub fn new(ranges: Vec<PlaceRange>) -> PlaceList
+        ensures { result ≡ ranges.items }
+    {
+        PlaceList { ranges }
+    }
+
+    /// The ranges.
+    pub fn ranges(&self) -> &[PlaceRange]
+        ensures { result.now ≡ self.now }
+    {
+        &self.ranges
+    }
+}
+
+/// Which places of a transmission are meant.
+#[derive(Drop)]
+pub enum Places {
+    /// None.
+    Nothing,
+    /// Every place.
+    All,
+    /// The places that stand in a range of the list.
+    Listed(PlaceList),
+}
+
+/// Which places of a transmission are erased.
+#[derive(Drop)]
+pub enum Erasure {
+    /// Those that are named.
+    Named(Places),
+    /// Those that are drawn: place m where the generator's word m, from 0, is below the threshold.
+    Drawn {
+        /// What the generator starts from.
+        seed: u64,
+        /// The least word that erases nothing.
+        threshold: u32,
+    },
+}
+
+/// For each of the first `count` places whether it is erased.
+///
+/// # Errors
+/// `AllocError` where memory is refused.
+pub fn erased(alloc: Global, erasure: &Erasure, count: u32) -> Result<Vec<bool>, AllocError>
+    ensures { IfOk result (λ marks. marks.items ≡ erased_of erasure.now count) }
+{
+    match erasure {
+        Erasure::Named(places) => named(alloc, places, count),
+        Erasure::Drawn { seed, threshold } => drawn(alloc, *seed, *threshold, count),
+    }
+}
+
+/// For each of the first `count` places whether it is meant.
+///
+/// # Errors
+/// `AllocError` where memory is refused.
+pub fn named(alloc: Global, places: &Places, count: u32) -> Result<Vec<bool>, AllocError>
+    ensures { IfOk result
+        (λ marks. marks.items ≡ map (is_named places.now) (range_with_len 0 count)) }
+{
+    match places {
+        Places::Nothing => vec![in alloc; false; count as usize],
+        Places::All => vec![in alloc; true; count as usize],
+        Places::Listed(list) => listed(alloc, list.ranges(), count),
+    }
+}
+
+// For each of the generator's first `count` words whether it is below the threshold.
+fn drawn(alloc: Global, seed: u64, threshold: u32, count: u32) -> Result<Vec<bool>, AllocError>
+    ensures { IfOk result
+        (λ marks. marks.items ≡ map (λ word. nat_lt word threshold) (words_drawn seed count)) }
+{
+    let mut generator = Pcg32::new(seed, STREAM);
+    let mut marks = Vec::with_capacity(alloc, count as usize)?;
+    for _ in 0..count {
+        marks.push_reserved(generator.next_word() < threshold);
+    }
+    Ok(marks)
+}
+
+// For each of the first `count` places whether it stands in a range. A place does where a range that begins at it or
+// before it ends behind it.
+fn listed(alloc: Global, ranges: &[PlaceRange], count: u32) -> Result<Vec<bool>, AllocError>
+    ensures { IfOk result (λ marks. marks.items
+        ≡ map (λ m. list_any (is_within m) ranges.now) (range_with_len 0 count)) }
+{
+    let ends = ends_from(alloc, ranges, count)?;
+    let mut marks = Vec::with_capacity(alloc, count as usize)?;
+    let mut end = 0;
+    for place in 0..count {
+        end = end.max(ends[place as usize]);
+        marks.push_reserved(place < end);
+    }
+    Ok(marks)
+}
+
+// For each of the first `count` places how far the ranges reach that begin there: the place behind the last one, but
+// no more than `count`, or 0 where no range begins.
+fn ends_from(alloc: Global, ranges: &[PlaceRange], count: u32) -> Result<Vec<u32>, AllocError>
+    ensures len { IfOk result (λ ends. length ends.items ≡ count) }
+    ensures ends { IfOk result (λ ends. (m : ℕ) → m < count
+        → slice_index ends.items m ≡ furthest (begins_at m) count ranges.now) }
+{
+    let mut ends = vec![in alloc; 0; count as usize]?;
+    for range in ranges {
+        if range.first < u64::from(count) {
+            let first = range.first as usize;
+            let end = range.last.min(u64::from(count) - 1) as u32 + 1;
+            ends[first] = ends[first].max(end);
+        }
+    }
+    Ok(ends)
+}
+
+#[cfg(test)]
+mod tests;

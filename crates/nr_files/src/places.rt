@@ -1,0 +1,195 @@
+//! What a field of the schedule says of places: place lists, erasures, and the code blocks that are scheduled.
+
+ghost use Rattle.std.specs.Prelude.{◌≡◌, ◌==◌, ◌≤◌, IfOk, IfSome, length, option_map};
+ghost use Rattle.std.specs.List.{position};
+ghost use Rattle.nr_shifttable.specs.Fields.{numeral, short_number};
+ghost use Rattle.nr_files.specs.Erasures.{is_named};
+ghost use Rattle.nr_files.specs.Masks.{Schedules, mask_of, mask_word_of, mask_words_of};
+ghost use Rattle.nr_files.specs.PlaceLists.{below, drawn_of_parts, erasure_of, parted, place_list, places_of, range_between, range_of};
+
+use crate::erasure::{Erasure, PlaceList, PlaceRange, Places, named};
+use nr_ratematch::Mask;
+use nr_shifttable::{numeral, short_number};
+use std::alloc::{AllocError, Global};
+
+// How many code blocks a mask has room for.
+const MASK_BLOCKS: u32 = 384;
+
+// What stands before the first `separator` of a text, and what stands behind it; `None` where the text has none.
+fn parted(text: &[u8], separator: u8) -> Option<(&[u8], &[u8])>
+    ensures { option_map (λ parts. (parts.0.now, parts.1.now)) result ≡ parted separator text.now }
+{
+    let at = first_place(text, separator)?;
+    Some((&text[..at], &text[at + 1..]))
+}
+
+// The place of the first separator.
+fn first_place(text: &[u8], separator: u8) -> Option<usize>
+    ensures { result ≡ position (λ c. c == separator) text.now }
+{
+    text.iter().position(|octet| *octet == separator)
+}
+
+/// The number of at most 32 bits that 1 to 10 decimal digits write, leading zeros included; `None` at any other text.
+pub(crate) fn short_word(text: &[u8]) -> Option<u32>
+    ensures { result ≡ below 4294967296 (short_number text.now) }
+{
+    let number = short_number(text)?;
+    if number <= u64::from(u32::MAX) {
+        Some(number as u32)
+    } else {
+        None
+    }
+}
+
+// The number of at most 64 bits that 1 to 20 decimal digits write, leading zeros included; `None` at any other text.
+fn long_word(text: &[u8]) -> Option<u64>
+    ensures { result ≡ below 18446744073709551616 (numeral 20 text.now) }
+{
+    let number = numeral(20, text)?;
+    if number <= u128::from(u64::MAX) {
+        Some(number as u64)
+    } else {
+        None
+    }
+}
+
+// The places from one to another that is no less.
+fn range_between(first: u64, last: u64) -> Option<PlaceRange>
+    ensures { result ≡ range_between first last }
+{
+    if first <= last {
+        Some(PlaceRange { first, last })
+    } else {
+        None
+    }
+}
+
+// The places of an item of a place list: a place `m`, or a range `m-n` with m at most n, each number in 1 to 10
+// decimal digits. Of any other text there are none.
+#[tactic(auto, unfolding(crate::specs::PlaceLists::range_of))]
+fn range_of(item: &[u8]) -> Option<PlaceRange>
+    ensures { result ≡ range_of item.now }
+{
+    match parted(item, b'-') {
+        Some((first, last)) => range_between(short_number(first)?, short_number(last)?),
+        None => {
+            let place = short_number(item)?;
+            Some(PlaceRange {
+                first: place,
+                last: place,
+            })
+        }
+    }
+}
+
+// The ranges of a place list: one or more items with one space between them. Of any other text there is no list.
+fn place_list(alloc: Global, text: &[u8]) -> Result<Option<PlaceList>, AllocError>
+    ensures { IfOk result (λ list. list ≡ place_list text.now) }
+{
+    let mut ranges = Vec::new(alloc);
+    for item in text.split(|octet| *octet == b' ') {
+        match range_of(item) {
+            Some(range) => ranges.push(range)?,
+            None => return Ok(None),
+        }
+    }
+    Ok(Some(PlaceList::new(ranges)))
+}
+
+/// The places that a field names: none by `-`, all by `all`, or those of a place list, which is one or more items with
+/// one space between them. An item is a place `m`, or a range `m-n` with m at most n; places count from 0, and each
+/// number has 1 to 10 decimal digits. `None` at any other text.
+///
+/// # Errors
+/// `AllocError` where a growth is refused.
+#[tactic(auto, unfolding(crate::specs::PlaceLists::places_of))]
+pub fn places_of(alloc: Global, text: &[u8]) -> Result<Option<Places>, AllocError>
+    ensures { IfOk result (λ places. places ≡ places_of text.now) }
+{
+    if text == b"-".as_slice() {
+        return Ok(Some(Places::Nothing));
+    }
+    if text == b"all".as_slice() {
+        return Ok(Some(Places::All));
+    }
+    match place_list(alloc, text)? {
+        Some(list) => Ok(Some(Places::Listed(list))),
+        None => Ok(None),
+    }
+}
+
+/// The erasure that a field says: `pcg:seed:threshold`, the seed of 64 bits in 1 to 20 decimal digits and the threshold
+/// of 32 bits in 1 to 10, or the places that it names, as `places_of` reads them. `None` at any other text.
+///
+/// # Errors
+/// `AllocError` where a growth is refused.
+#[tactic(auto, unfolding(crate::specs::PlaceLists::erasure_of))]
+pub fn erasure_of(alloc: Global, text: &[u8]) -> Result<Option<Erasure>, AllocError>
+    ensures { IfOk result (λ erasure. erasure ≡ erasure_of text.now) }
+{
+    if text.starts_with(b"pcg:") {
+        return Ok(drawn_of(&text[4..]));
+    }
+    match places_of(alloc, text)? {
+        Some(places) => Ok(Some(Erasure::Named(places))),
+        None => Ok(None),
+    }
+}
+
+// The drawn erasure of `seed:threshold`.
+fn drawn_of(text: &[u8]) -> Option<Erasure>
+    ensures { result ≡ drawn_of_parts (parted 58 text.now) }
+{
+    let (seed, threshold) = parted(text, b':')?;
+    let seed = long_word(seed)?;
+    let threshold = short_word(threshold)?;
+    Some(Erasure::Drawn { seed, threshold })
+}
+
+/// The code blocks that a field schedules (TS 38.212, 5.4.2.1): all by `all`, or those of a place list as `places_of`
+/// reads it, counted from 0, of which those from 384 on name none. `None` at any other text, `-` too.
+///
+/// # Errors
+/// `AllocError` where a growth is refused.
+#[tactic(auto, unfolding(crate::specs::Masks::mask_of))]
+pub fn mask_of(alloc: Global, text: &[u8]) -> Result<Option<Mask>, AllocError>
+    ensures said { IfOk result (λ mask. mask ≡ mask_of text.now) }
+    ensures schedules { IfOk result (λ mask. IfSome mask
+        (λ mask. IfSome (places_of text.now) (λ places. Schedules places mask))) }
+{
+    match places_of(alloc, text)? {
+        Some(Places::All) => Ok(Some(Mask::All)),
+        Some(places @ Places::Listed(_)) => Ok(Some(Mask::Only(words_of(alloc, &places)?))),
+        Some(Places::Nothing) | None => Ok(None),
+    }
+}
+
+// The words that schedule the code blocks that are named.
+fn words_of(alloc: Global, places: &Places) -> Result<[u64; 6], AllocError>
+    ensures { IfOk result (λ words. words ≡ mask_words_of (is_named places.now)) }
+{
+    let marks = named(alloc, places, MASK_BLOCKS)?;
+    Ok([
+        word_of(&marks[..64]),
+        word_of(&marks[64..128]),
+        word_of(&marks[128..192]),
+        word_of(&marks[192..256]),
+        word_of(&marks[256..320]),
+        word_of(&marks[320..384]),
+    ])
+}
+
+// The number that at most 64 bits write, the first of them lowest.
+fn word_of(bits: &[bool]) -> u64
+    requires { length bits.now ≤ 64 }
+    ensures { result ≡ mask_word_of bits.now }
+{
+    let mut word = 0;
+    let mut at = bits.len();
+    while at > 0 {
+        at -= 1;
+        word = 2 * word + u64::from(bits[at]);
+    }
+    word
+}

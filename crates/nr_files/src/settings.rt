@@ -1,0 +1,213 @@
+//! The settings file: the code rate and the limit of the buffer, as TOML text.
+
+ghost use Rattle.std.specs.Prelude.{◌≡◌, ◌^◌, ◌<◌, option_map, IfSome};
+ghost use Rattle.std.specs.List.{list_all};
+ghost use Rattle.std.specs.Map.{keys_of};
+ghost use Rattle.std.specs.String.{string_bytes};
+ghost use Rattle.toml.specs.Data.{get_member};
+ghost use Rattle.toml.specs.View.{view, table_view};
+ghost use Rattle.nr_graphpick.specs.Refusal.{Gives};
+ghost use Rattle.nr_files.specs.Reading.{FailsAs};
+ghost use Rattle.nr_files.specs.Settings.{is_known, limit_of, number_in, settings_of, settings_said};
+
+use nr_blockdesk::Settings;
+use nr_shifttable::{ReadFault, Source, read_to_end};
+use std::alloc::Global;
+use thiserror::Error;
+use toml::{Table, Value};
+
+/// The most octets of a settings file.
+pub const MOST_OCTETS: usize = 65_536;
+
+/// Why a settings file is refused.
+#[derive(Clone, Copy, Debug, PartialEq, Eq, Error)]
+pub enum SettingsFault {
+    /// The file could not be read.
+    #[error("Read")]
+    Read,
+    /// The file has more than 65,536 octets.
+    #[error("TooLong")]
+    TooLong,
+    /// The text is not TOML.
+    #[error("Toml")]
+    Toml,
+    /// There is another key than `rate2048` and `lbrm`.
+    #[error("Unknown")]
+    Unknown,
+    /// There is no `rate2048`.
+    #[error("Missing")]
+    Missing,
+    /// A value is not an integer.
+    #[error("Kind")]
+    Kind,
+    /// An integer is out of its range.
+    #[error("Range")]
+    Range,
+    /// Memory ran out.
+    #[error("Memory")]
+    Memory,
+}
+
+// Whether a key is that of a setting.
+fn is_known(key: &String) -> bool
+    ensures { result ≡ is_known (string_bytes key.now) }
+{
+    key.as_str() == "rate2048" || key.as_str() == "lbrm"
+}
+
+// Whether each key of a table is that of a setting.
+fn all_known(table: &Table) -> bool
+    ensures { result ≡ list_all (λ key. is_known (string_bytes key)) (keys_of table.now.entries) }
+{
+    table.keys().all(is_known)
+}
+
+// The value at a key.
+fn value_at<'a>(table: &'a Table, key: &str) -> Option<&'a Value>
+    ensures { option_map (λ v. view v.now) result ≡ get_member key.now (table_view table.now) }
+{
+    table.get(key)
+}
+
+// The integer of a value, from `low` to `high`.
+fn number_in(value: &Value, low: u32, high: u32) -> Result<u32, SettingsFault>
+    ensures { result ≡ number_in low high (view value.now) }
+{
+    let Value::Integer(number) = value else {
+        return Err(SettingsFault::Kind);
+    };
+    match u32::try_from(*number) {
+        Ok(number) if low <= number && number <= high => Ok(number),
+        _ => Err(SettingsFault::Range),
+    }
+}
+
+// The limit of the buffer, where there is a value.
+fn limit_of(value: Option<&Value>) -> Result<Option<u32>, SettingsFault>
+    ensures { result ≡ limit_of (option_map (λ v. view v.now) value.entry) }
+{
+    match value {
+        Some(value) => Ok(Some(number_in(value, 0, u32::MAX)?)),
+        None => Ok(None),
+    }
+}
+
+// The settings of a table.
+#[tactic(auto, using(crate::proofs::SettingsFacts::known_keys), unfolding(crate::specs::Settings::settings_of))]
+fn settings_of(table: &Table) -> Result<Settings, SettingsFault>
+    ensures { result ≡ settings_of (table_view table.now) }
+{
+    if !all_known(table) {
+        return Err(SettingsFault::Unknown);
+    }
+    let Some(rate) = value_at(table, "rate2048") else {
+        return Err(SettingsFault::Missing);
+    };
+    let rate2048 = number_in(rate, 1, 2048)?;
+    let lbrm = limit_of(value_at(table, "lbrm"))?;
+    Ok(Settings { rate2048, lbrm })
+}
+
+/// Reads the text of a settings file: TOML with the integer `rate2048`, the target code rate times 2048, 1..=2048,
+/// and, where the buffer is limited, the integer `lbrm`, TBS_LBRM in bits (TS 38.212, 5.4.2.1), 0..=4,294,967,295.
+///
+/// # Errors
+/// In this order: `TooLong`; `Toml`; `Unknown`; `Missing`; `Kind` and `Range` of `rate2048`; `Kind` and `Range` of
+/// `lbrm`. `Memory` where a growth is refused.
+pub fn parse_settings(alloc: Global, text: &[u8]) -> Result<Settings, SettingsFault>
+    ensures { Gives SettingsFault.Memory (λ settings. settings) result (settings_said text.now) }
+{
+    if text.len() > MOST_OCTETS {
+        return Err(SettingsFault::TooLong);
+    }
+    match toml::table_from_slice(alloc, text) {
+        Ok(table) => settings_of(&table),
+        Err(error) if error.is_memory() => Err(SettingsFault::Memory),
+        Err(_) => Err(SettingsFault::Toml),
+    }
+}
+
+/// Reads a settings file to its end, and judges it.
+///
+/// # Errors
+/// Where they are met: `Read`, where a pull failed; `TooLong`. Then as [`parse_settings`].
+pub fn read_settings<S: Source>(alloc: Global, source: &mut S) -> Result<Settings, SettingsFault>
+    requires { S.failures source.old < 2 ^ 32 }
+    ensures said { S.failures source.new ≡ S.failures source.old → IfSome (S.remaining source.old)
+        (λ octets. Gives SettingsFault.Memory (λ settings. settings) result
+        (settings_said octets)) }
+    ensures pulled { FailsAs SettingsFault.Read result
+        (S.failures source.old) (S.failures source.new) }
+{
+    let octets = match read_to_end(alloc, source, MOST_OCTETS) {
+        Ok(octets) => octets,
+        Err(ReadFault::Broken) => return Err(SettingsFault::Read),
+        Err(ReadFault::TooLong) => return Err(SettingsFault::TooLong),
+        Err(ReadFault::Memory) => return Err(SettingsFault::Memory),
+    };
+    parse_settings(alloc, &octets)
+}
+
+#[cfg(test)]
+mod tests {
+    use super::*;
+    use nr_shifttable::Feed;
+    use std::test::Fail;
+
+    #[test]
+    fn reads_settings(rt: HostRuntime) -> Result<(), Fail> {
+        for (text, rate2048, lbrm) in [
+            ("rate2048 = 1", 1, None),
+            ("rate2048 = 2048\nlbrm = 0\n", 2048, Some(0)),
+            (
+                "lbrm = 4_294_967_295\nrate2048 = 0x400 # half",
+                1024,
+                Some(u32::MAX),
+            ),
+        ] {
+            let settings = parse_settings(rt.alloc(), text.as_bytes())?;
+            assert_eq!(rt; settings, Settings { rate2048, lbrm });
+        }
+        Ok(())
+    }
+
+    #[test]
+    fn refuses_the_first_fault(rt: HostRuntime) {
+        for (text, fault) in [
+            ("", SettingsFault::Missing),
+            ("lbrm = -1", SettingsFault::Missing),
+            ("rate2048 =", SettingsFault::Toml),
+            ("q = 1", SettingsFault::Unknown),
+            ("q = 1\nrate2048 = 0", SettingsFault::Unknown),
+            ("rate2048 = \"x\"", SettingsFault::Kind),
+            ("rate2048 = 0", SettingsFault::Range),
+            ("rate2048 = 2049\nlbrm = \"x\"", SettingsFault::Range),
+            ("rate2048 = 1\nlbrm = 1.0", SettingsFault::Kind),
+            ("rate2048 = 1\nlbrm = 4294967296", SettingsFault::Range),
+        ] {
+            assert_eq!(rt;
+                parse_settings(rt.alloc(), text.as_bytes()).err(),
+                Some(fault)
+            );
+        }
+    }
+
+    #[test]
+    fn a_broken_source_is_read(rt: HostRuntime) -> Result<(), Fail> {
+        for (fail, answer) in [
+            (
+                0,
+                Ok(Settings {
+                    rate2048: 2,
+                    lbrm: None,
+                }),
+            ),
+            (2, Err(SettingsFault::Read)),
+        ] {
+            let octets = Vec::from_slice(rt.alloc(), b"rate2048=2")?;
+            let mut source = Feed::new(octets, 5, fail);
+            assert_eq!(rt; read_settings(rt.alloc(), &mut source), answer);
+        }
+        Ok(())
+    }
+}

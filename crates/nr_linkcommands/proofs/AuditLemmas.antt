@@ -1,0 +1,244 @@
+-- The text of `audit`, line by line.
+use Rattle.std.proofs.Common.{◌≡◌, ℕ, zero, suc, ◌+◌, ◌<◌, ◌≤◌, ◌==◌, ◌&&◌, ◌⊎◌, inl, inr, Bool, true, false, not, if◌then◌else◌, Result, Ok, Err, None, Some, List, [], ◌∷◌, ◌++◌, All, length, take, drop, flat_map, get_or, codes, ap, sym, subst, ◌∙◌, refl, arith, append_assoc, length-append, cond}
+use Rattle.std.proofs.lemmas.Grind.{flat_map-append}
+use Rattle.std.proofs.lemmas.List.{append-nil, map-id, take_more}
+use Rattle.std.proofs.lemmas.List.Elements.{filter-append}
+use Rattle.std.proofs.lemmas.List.FromFn.{sum_by-map-range_with_len_more}
+use mir.Val.{bool_byte}
+use Rattle.std.specs.Fmt.{decimal}
+use Rattle.std.specs.List.{count_by, filter, range_with_len}
+use Rattle.std.specs.Option.{is_some}
+use Rattle.nr_bitvec.specs.Bit.{bit}
+use Rattle.nr_graphpick.specs.declared.Graph.{Graph}
+use Rattle.nr_graphpick.specs.Refusal.{◌>>=◌}
+use Rattle.nr_harqbuf.specs.Record.{Heardbits}
+use Rattle.nr_ldpcenc.specs.Rows.{Checks, block_checks}
+use Rattle.nr_segment.specs.Plan.{word_size, Numbers, PlansAreSound}
+use Rattle.nr_peel.specs.Closure.{closure}
+use Rattle.nr_peel.specs.Peeling.{IsPeeled, Peeling, checks_for, known_at, unknown_in}
+use Rattle.nr_shifttable.specs.Accepted.{Entries}
+use Rattle.nr_blockdesk.specs.Explains.{Reception}
+use Rattle.nr_blockdesk.specs.Heard.{heard_of, heard_record}
+use Rattle.nr_blockdesk.specs.Link.{IsLink, Link, attached_length}
+use Rattle.nr_blockdesk.specs.Outcome.{fixed, given, left}
+use Rattle.nr_blockdesk.specs.Receiving.{Receiving}
+use Rattle.nr_blockdesk.specs.Sent.{Sending}
+use Rattle.nr_linkcommands.specs.AuditText.{HasHeard, audit_block, audit_line, audit_lines, audit_of, gained, order_line, position_word, steps_of, stuck_line, unfixed}
+use Rattle.nr_linkcommands.specs.ProcessTexts.{audit_by, audit_said, text_of_audit}
+use Rattle.nr_files.specs.Rounds.{IsOfBlock, of_process}
+use Rattle.nr_linkcommands.specs.RunText.{received, received_of}
+use Rattle.nr_linkcommands.specs.Inputs.{Given, Ready, files_said, inputs_said, senders_from}
+use Rattle.nr_commands.specs.declared.fault.RunFault.{RunFault}
+use Rattle.nr_commands.specs.declared.fault.RunFault.TheVariants as faults
+use Rattle.nr_files.specs.declared.schedule.Transmission.{Transmission}
+use Rattle.nr_linkcommands.proofs.InputLemmas.{inputs_said-ready, inputs_said-refused, inputs_said-unsent}
+use Rattle.nr_files.proofs.BlockRounds.{own-block}
+use Rattle.nr_linkcommands.proofs.RunLines.{some-lines}
+use Rattle.nr_commands.proofs.WrittenLemmas.{some_at_end}
+
+-- the line of a code block that is fixed, and of one that is not
+pub audit_line-order : (n : ℕ) (link : Link) (records : List Heardbits) (r : ℕ) → left link records r ≡ 0
+    → audit_line n link records r ≡ order_line n r (steps_of link (heard_of records r))
+unfolding audit_line
+audit_line-order n link records r none =
+    ap (λ (k : ℕ). if k == 0 then order_line n r (steps_of link (heard_of records r)) else stuck_line n r (unfixed link (heard_of records r))) none
+
+pub audit_line-stuck : (n : ℕ) (link : Link) (records : List Heardbits) (r : ℕ) → (left link records r == 0) ≡ false
+    → audit_line n link records r ≡ stuck_line n r (unfixed link (heard_of records r))
+unfolding audit_line
+audit_line-stuck n link records r some =
+    ap (λ (b : Bool). if b then order_line n r (steps_of link (heard_of records r)) else stuck_line n r (unfixed link (heard_of records r))) some
+
+-- a line is not empty
+order_line-some : (n r steps : ℕ) → 0 < length (order_line n r steps)
+unfolding order_line
+order_line-some n r steps = some_at_end (codes "order " ++ decimal n ++ codes " " ++ decimal r ++ codes " " ++ decimal steps)
+
+stuck_line-some : (n r : ℕ) (positions : List ℕ) → 0 < length (stuck_line n r positions)
+unfolding stuck_line
+stuck_line-some n r positions =
+    some_at_end (codes "stuck " ++ decimal n ++ codes " " ++ decimal r ++ codes " " ++ decimal (length positions) ++ flat_map position_word positions)
+
+audit_line-some : (n : ℕ) (link : Link) (records : List Heardbits) (r : ℕ) → 0 < length (audit_line n link records r)
+unfolding audit_line
+audit_line-some n link records r = go (left link records r == 0)
+  where
+    go : (b : Bool) → 0 < length (if b then order_line n r (steps_of link (heard_of records r)) else stuck_line n r (unfixed link (heard_of records r)))
+    go true = order_line-some n r (steps_of link (heard_of records r))
+    go false = stuck_line-some n r (unfixed link (heard_of records r))
+
+-- the peeler of a code block: its positions are given by the record of what was heard
+pub record IsPeelerOf (link : Link) (s : Heardbits) (p : Peeling) : Type 0 where
+  pub table : p.table ≡ link.table
+  pub graph : p.graph ≡ link.graph
+  pub numbers : p.numbers ≡ link.plan
+  pub positions : (k : ℕ) → bit p.given k ≡ given link s k
+  pub peeled : IsPeeled p
+
+same_checks : (link : Link) (s : Heardbits) (p : Peeling) → IsPeelerOf link s p → checks_for p ≡ block_checks link.table link.graph link.plan
+same_checks link s p of =
+    ap (λ (t : Entries). block_checks t p.graph p.numbers) of.table
+    ∙ ap (λ (g : Graph). block_checks link.table g p.numbers) of.graph
+    ∙ ap (λ (n : Numbers). block_checks link.table link.graph n) of.numbers
+
+same_given : (link : Link) (s : Heardbits) (p : Peeling) → IsPeelerOf link s p → bit p.given ≡ given link s
+same_given link s p of = λ i k. of.positions k i
+
+-- what it knows is what is fixed
+known_fixed : (link : Link) (s : Heardbits) (p : Peeling) → IsPeelerOf link s p → (k : ℕ) → bit p.known k ≡ fixed link s k
+known_fixed link s p of k =
+    of.peeled.closed k
+    ∙ ap (λ (c : Checks). closure c (bit p.given) k) (same_checks link s p of)
+    ∙ ap (λ (g : ℕ → Bool). closure (block_checks link.table link.graph link.plan) g k) (same_given link s p of)
+
+same_known : (link : Link) (s : Heardbits) (p : Peeling) → IsPeelerOf link s p → bit p.known ≡ fixed link s
+same_known link s p of = λ i k. known_fixed link s p of k i
+
+same_size : (link : Link) (s : Heardbits) (p : Peeling) → IsPeelerOf link s p → (checks_for p).size ≡ word_size link.graph link.plan
+same_size link s p of = ap (λ (c : Checks). c.size) (same_checks link s p of)
+
+-- what it gained are the steps, and what it does not know is not fixed
+pub gained-steps : (link : Link) (s : Heardbits) (p : Peeling) → IsPeelerOf link s p → gained p ≡ steps_of link s
+gained-steps link s p of =
+    ap (λ (f : ℕ → Bool). count_by (λ k. f k && not (bit p.given k)) (range_with_len 0 (length p.given))) (same_known link s p of)
+    ∙ ap (λ (g : ℕ → Bool). count_by (λ k. fixed link s k && not (g k)) (range_with_len 0 (length p.given))) (same_given link s p of)
+    ∙ ap (λ (n : ℕ). count_by (λ k. fixed link s k && not (given link s k)) (range_with_len 0 n)) (of.peeled.given_long ∙ same_size link s p of)
+
+pub unknown-unfixed : (link : Link) (s : Heardbits) (p : Peeling) → IsPeelerOf link s p → unknown_in p.known ≡ unfixed link s
+unknown-unfixed link s p of =
+    ap (λ (f : ℕ → Bool). filter (λ k. not (f k)) (range_with_len 0 (length p.known))) (same_known link s p of)
+    ∙ ap (λ (n : ℕ). filter (λ k. not (fixed link s k)) (range_with_len 0 n)) (of.peeled.known_long ∙ same_size link s p of)
+
+-- a bit is known where the mark says so
+pub known_at_some : (p : Peeling) (k : ℕ) → is_some (known_at p k) ≡ bit p.known k
+known_at_some p k = go (bit p.known k)
+  where
+    go : (b : Bool) → is_some (if b then Some (bit p.bits k) else None) ≡ b
+    go true = refl
+    go false = refl
+
+-- one number more is counted, or is not
+count-more : (test : ℕ → Bool) (n : ℕ) → count_by test (range_with_len 0 (n + 1)) ≡ count_by test (range_with_len 0 n) + cond (test n) 1 0
+count-more test n =
+    ap (count_by test) (sym (map-id (range_with_len 0 (n + 1))))
+    ∙ sum_by-map-range_with_len_more (λ k. cond (test k) 1 0) (λ (x : ℕ). x) 0 n n (omega arith)
+    ∙ ap (λ (xs : List ℕ). count_by test xs + cond (test n) 1 0) (map-id (range_with_len 0 n))
+
+pub count-next : (test : ℕ → Bool) (n count step : ℕ) → count ≡ count_by test (range_with_len 0 n) → step ≡ cond (test n) 1 0 → count + step ≡ count_by test (range_with_len 0 (n + 1))
+count-next test n count step is more = omega (arith, is, more, count-more test n)
+
+-- a truth value as a number
+pub byte-step : (b t : Bool) (step : ℕ) → step ≡ bool_byte b → b ≡ t → step ≡ cond t 1 0
+byte-step b t step is same = is ∙ ap bool_byte same ∙ go t
+  where
+    go : (t : Bool) → bool_byte t ≡ cond t 1 0
+    go true = refl
+    go false = refl
+
+pub step-few : (b : Bool) (step : ℕ) → step ≡ cond b 1 0 → step ≤ 1
+step-few true step is = omega (arith, is)
+step-few false step is = omega (arith, is)
+
+-- the lines of the blocks before the one at index i, its own, and those behind it
+pub audit_lines-parts : (schedule : List Transmission) (n : ℕ) (senders : List Sending) (i : ℕ) (sender none : Sending) → i < length senders → sender ≡ get_or senders i none
+    → audit_lines schedule n senders ≡ (audit_lines schedule n (take i senders) ++ audit_of schedule (i + n) sender) ++ audit_lines schedule (i + n + 1) (drop (i + 1) senders)
+unfolding audit_lines
+audit_lines-parts schedule n [] i sender none within is = absurd (omega (arith, within))
+audit_lines-parts schedule n (x ∷ xs) zero sender none within is =
+    let same : n ≡ 0 + n = omega arith in
+    ap (λ (s : Sending). audit_of schedule n s ++ audit_lines schedule (n + 1) xs) (sym is)
+    ∙ ap (λ (k : ℕ). audit_of schedule k sender ++ audit_lines schedule (k + 1) xs) same
+audit_lines-parts schedule n (x ∷ xs) (suc i) sender none within is =
+    let next : i + (n + 1) ≡ suc i + n = omega arith in
+    let step : suc i + 1 ≡ suc (i + 1) = omega arith in
+    let first : List ℕ = audit_of schedule n x in
+    let front : List ℕ = audit_lines schedule (n + 1) (take i xs) in
+    let own : List ℕ = audit_of schedule (suc i + n) sender in
+    let rest : List ℕ = audit_lines schedule (suc i + n + 1) (drop (i + 1) xs) in
+    ap (λ (lines : List ℕ). first ++ lines) (audit_lines-parts schedule (n + 1) xs i sender none (omega (arith, within)) is
+    ∙ ap (λ k. (front ++ audit_of schedule k sender) ++ audit_lines schedule (k + 1) (drop (i + 1) xs)) next)
+    ∙ sym (append_assoc first (front ++ own) rest)
+    ∙ ap (λ (lines : List ℕ). lines ++ rest) (sym (append_assoc first front own))
+    ∙ ap (λ (k : ℕ). (first ++ front ++ own) ++ audit_lines schedule (suc i + n + 1) (drop k (x ∷ xs))) (sym step)
+
+pub audit_lines-more : (schedule : List Transmission) (n : ℕ) (senders : List Sending) (i : ℕ) (sender none : Sending) → i < length senders → sender ≡ get_or senders i none
+    → audit_lines schedule n (take (i + 1) senders) ≡ audit_lines schedule n (take i senders) ++ audit_of schedule (i + n) sender
+unfolding audit_lines
+audit_lines-more schedule n [] i sender none within is = absurd (omega (arith, within))
+audit_lines-more schedule n (x ∷ xs) zero sender none within is =
+    let same : n ≡ 0 + n = omega arith in
+    append-nil (audit_of schedule n x) ∙ ap (audit_of schedule n) (sym is) ∙ ap (λ (k : ℕ). audit_of schedule k sender) same
+audit_lines-more schedule n (x ∷ xs) (suc i) sender none within is =
+    let next : i + (n + 1) ≡ suc i + n = omega arith in
+    let step : suc i + 1 ≡ suc (i + 1) = omega arith in
+    let first : List ℕ = audit_of schedule n x in
+    let front : List ℕ = audit_lines schedule (n + 1) (take i xs) in
+    ap (λ (k : ℕ). audit_lines schedule n (take k (x ∷ xs))) step
+    ∙ ap (λ (lines : List ℕ). first ++ lines) (audit_lines-more schedule (n + 1) xs i sender none (omega (arith, within)) is
+    ∙ ap (λ k. front ++ audit_of schedule k sender) next)
+    ∙ sym (append_assoc first front (audit_of schedule (suc i + n) sender))
+
+-- what is received of a process with one transmission more: its own, and that of another process
+pub received-next : (p : ℕ) (sender : Sending) (xs : List Transmission) (i : ℕ) (x none : Transmission) → i < length xs → x ≡ get_or xs i none
+    → received sender (of_process p (take (i + 1) xs)) ≡ received sender (of_process p (take i xs)) ++ received sender (of_process p (x ∷ []))
+received-next p sender xs i x none within is =
+    ap (λ (l : List Transmission). received sender (of_process p l)) (take_more xs i none within ∙ ap (λ (y : Transmission). take i xs ++ y ∷ []) (sym is))
+    ∙ ap (received sender) (filter-append (λ y. y.process == p) (take i xs) (x ∷ []))
+    ∙ flat_map-append (received_of sender) (of_process p (take i xs)) (of_process p (x ∷ []))
+
+-- one transmission is the process's own, or is not
+pub received-own : (p : ℕ) (sender : Sending) (x : Transmission) → (x.process == p) ≡ true → received sender (of_process p (x ∷ [])) ≡ received_of sender x
+received-own p sender x mine =
+    ap (λ (b : Bool). received sender (cond b (x ∷ []) [])) mine ∙ append-nil (received_of sender x)
+
+pub received-other : (p : ℕ) (sender : Sending) (x : Transmission) → (x.process == p) ≡ false → received sender (of_process p (x ∷ [])) ≡ []
+received-other p sender x other = ap (λ (b : Bool). received sender (cond b (x ∷ []) [])) other
+
+-- a receiver that hears nothing more
+pub heard_same : (sender : Sending) (list more : List Reception) (receiver : Receiving) → more ≡ [] → HasHeard sender list receiver → HasHeard sender (list ++ more) receiver
+heard_same sender list more receiver none has =
+    subst (λ (l : List Reception). HasHeard sender l receiver) (sym (ap (λ (l : List Reception). list ++ l) none ∙ append-nil list)) has
+
+-- a block's lines by the receiver that heard this list
+pub audit_block-heard : (head : List ℕ) (n : ℕ) (sender : Sending) (list : List Reception) (receiver : Receiving) → HasHeard sender list receiver
+    → audit_block head n receiver.link receiver.heard ≡ audit_block head n sender.link (heard_record sender.link list)
+audit_block-heard head n sender list receiver has =
+    ap (λ (l : Link). audit_block head n l receiver.heard) has.link ∙ ap (audit_block head n sender.link) has.heard.same
+
+-- the same where each block has a process of its number
+pub audit_of-heard : (schedule : List Transmission) (n : ℕ) (sender : Sending) (receiver : Receiving) → All IsOfBlock schedule → HasHeard sender (received sender (of_process n schedule)) receiver
+    → audit_block [] n receiver.link receiver.heard ≡ audit_of schedule n sender
+audit_of-heard schedule n sender receiver placed has =
+    audit_block-heard [] n sender (received sender (of_process n schedule)) receiver has
+    ∙ ap (λ (xs : List Transmission). audit_block [] n sender.link (heard_record sender.link (received sender xs))) (own-block n schedule placed)
+
+-- a line behind its first words is not empty
+pub behind-some : (head : List ℕ) (n : ℕ) (link : Link) (records : List Heardbits) (r : ℕ) → 0 < length (head ++ audit_line n link records r)
+behind-some head n link records r =
+    omega (arith, audit_line-some n link records r, length-append head (audit_line n link records r))
+
+-- a block's lines are not empty, since there is a code block
+pub audit_block-some : PlansAreSound → (head : List ℕ) (n : ℕ) (link : Link) (records : List Heardbits) → IsLink link → 0 < length (audit_block head n link records)
+audit_block-some sound head n link records is =
+    let plan = sound link.graph (attached_length link.a) link.plan is.planned in
+    some-lines (λ r. head ++ audit_line n link records r) link.plan.c (behind-some head n link records) plan.some
+
+-- what `audit` says by what it works from
+audit_said-inputs : (t s b d : List ℕ) (said : Result Ready RunFault) → inputs_said t s b d ≡ said → audit_said t s b d ≡ (said >>= λ inputs. Ok (text_of_audit inputs.senders inputs.schedule))
+unfolding audit_said
+audit_said-inputs t s b d said is = ap (λ r. r >>= λ inputs. Ok (text_of_audit inputs.senders inputs.schedule)) is
+
+-- a refusal of the files, and of a transport block
+pub audit_said-refused : (t s b d : List ℕ) (e : RunFault) → (e ≡ faults.Memory) ⊎ (files_said t s b d ≡ Err e) → (e ≡ faults.Memory) ⊎ (audit_said t s b d ≡ Err e)
+audit_said-refused t s b d e (inl is) = inl is
+audit_said-refused t s b d e (inr is) = inr (audit_said-inputs t s b d (Err e) (inputs_said-refused t s b d e is))
+
+pub audit_said-unsent : (t s b d : List ℕ) (files : Given) (e : RunFault) → files_said t s b d ≡ Ok files → (e ≡ faults.Memory) ⊎ (senders_from files.table files.settings 1 files.blocks ≡ Err e) → (e ≡ faults.Memory) ⊎ (audit_said t s b d ≡ Err e)
+audit_said-unsent t s b d files e first (inl is) = inl is
+audit_said-unsent t s b d files e first (inr is) = inr (audit_said-inputs t s b d (Err e) (inputs_said-unsent t s b d files e first is))
+
+-- the text, by processes or by blocks
+pub audit_said-ready : (t s b d : List ℕ) (files : Given) (senders : List Sending) (by_process : Bool) → files_said t s b d ≡ Ok files → senders_from files.table files.settings 1 files.blocks ≡ Ok senders → files.schedule.by_process ≡ by_process → audit_said t s b d ≡ Ok (audit_by by_process senders files.schedule.transmissions)
+audit_said-ready t s b d files senders by_process first is by =
+    audit_said-inputs t s b d (Ok (record { senders = senders; schedule = files.schedule })) (inputs_said-ready t s b d files senders first is)
+    ∙ ap (λ p. Ok (audit_by p senders files.schedule.transmissions)) by

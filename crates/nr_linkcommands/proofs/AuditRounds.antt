@@ -1,0 +1,91 @@
+-- The text of `audit` over the rounds of processes.
+use Rattle.std.proofs.Common.{◌≡◌, ℕ, ◌-◌, ◌<◌, ◌≤◌, Bool, true, false, cond, Option, None, Some, List, [], ◌∷◌, ◌++◌, All, length, flat_map, map, slice_get, get_or, ap, sym, refl, ◌∙◌, arith}
+use Rattle.std.specs.List.{list_any, range_with_len}
+use Rattle.std.specs.Prelude.{◌==◌}
+use Rattle.std.specs.Option.{option_map}
+use Rattle.std.proofs.lemmas.List.{append-nil}
+use Rattle.std.proofs.lemmas.List.Elements.{All-filter, All-head, All-tail}
+use Rattle.std.proofs.lemmas.Option.{slice_get-get_or}
+use Rattle.nr_segment.specs.Plan.{PlansAreSound}
+use Rattle.nr_blockdesk.specs.Heard.{heard_record}
+use Rattle.nr_blockdesk.specs.Link.{IsLink}
+use Rattle.nr_blockdesk.specs.Sent.{Sending}
+use Rattle.nr_linkcommands.specs.AuditText.{audit_block}
+use Rattle.nr_linkcommands.specs.ProcessTexts.{audit_words, process_words}
+use Rattle.nr_linkcommands.specs.RoundTexts.{ended_if, pieces_joined, last_rounds, round_lines, said_if, sender_of, turn_lines}
+use Rattle.nr_files.specs.Rounds.{continued, of_process, round_of, since_fresh}
+use Rattle.nr_linkcommands.specs.RunText.{received}
+use Rattle.nr_files.specs.Schedule.{HasBlock}
+use Rattle.nr_files.specs.declared.schedule.Transmission.{Transmission}
+use Rattle.nr_linkcommands.proofs.AuditLemmas.{audit_block-some}
+
+-- what holds of each transmission holds of each one of a round
+All-since : (P : Transmission → Type 0) (xs : List Transmission) → All P xs → All P (since_fresh xs)
+unfolding since_fresh
+All-since P [] all = all
+All-since P (x ∷ xs) all = go (list_any (λ y. y.fresh) xs) (All-since P xs (All-tail P x xs all))
+  where
+    go : (b : Bool) → All P (since_fresh xs) → All P (cond b (since_fresh xs) (x ∷ xs))
+    go true later = later
+    go false later = all
+
+All-round : (P : Transmission → Type 0) (p : ℕ) (xs : List Transmission) → All P xs → All P (round_of p xs)
+All-round P p xs all = All-since P (of_process p xs) (All-filter (λ x. x.process == p) P xs all)
+
+-- the block that a round's first transmission names
+abbrev block_of : List Transmission → Option ℕ
+block_of round = option_map (λ x. x.block) (slice_get round 0)
+
+-- the block of a round is one of so many
+first-named : (blocks number : ℕ) (round : List Transmission) → All (HasBlock blocks) round → Some number ≡ block_of round → (1 ≤ number) × (number ≤ blocks)
+first-named blocks number [] all is = absurd (cc)
+first-named blocks number (x ∷ more) all is =
+    let same : number ≡ x.block = cc in
+    let named = All-head (HasBlock blocks) x more all in
+    (omega (arith, same, named.0), omega (arith, same, named.1))
+
+pub round-named : (blocks number p : ℕ) (before : List Transmission) → All (HasBlock blocks) before → Some number ≡ block_of (round_of p before) → (1 ≤ number) × (number ≤ blocks)
+round-named blocks number p before all is = first-named blocks number (round_of p before) (All-round (HasBlock blocks) p before all) is
+
+-- the lines of a round, by its block and that block's sender
+pub lines-some : (senders : List Sending) (p number : ℕ) (round : List Transmission) (sender : Sending) → Some number ≡ block_of round → number - 1 < length senders → sender ≡ get_or senders (number - 1) sender
+    → round_lines audit_words senders p round ≡ audit_block (process_words p) number sender.link (heard_record sender.link (received sender round))
+lines-some senders p number [] sender is within at = absurd (cc)
+lines-some senders p number (x ∷ more) sender is within at =
+    let same : x.block ≡ number = cc in
+    let there : slice_get senders (number - 1) ≡ Some sender = slice_get-get_or senders (number - 1) sender within ∙ ap Some (sym at) in
+    ap (λ n. ended_if audit_words p n (slice_get senders (n - 1)) (x ∷ more)) same
+    ∙ ap (λ o. ended_if audit_words p number o (x ∷ more)) there
+
+-- they are not empty
+pub lines-there : PlansAreSound → (senders : List Sending) (p number : ℕ) (round : List Transmission) (sender : Sending) → Some number ≡ block_of round → number - 1 < length senders → sender ≡ get_or senders (number - 1) sender → IsLink sender.link
+    → 0 < length (round_lines audit_words senders p round)
+lines-there sound senders p number round sender is within at linked =
+    rw (lines-some senders p number round sender is within at)
+    (audit_block-some sound (process_words p) number sender.link (heard_record sender.link (received sender round)) linked)
+
+-- nothing is said of a transmission
+unsaid : (o : Option Sending) (round : List Transmission) (x : Transmission) → said_if audit_words o round x ≡ []
+unsaid None round x = refl
+unsaid (Some sender) round x = refl
+
+-- so the lines of a transmission are those of the round that it ends
+turn-by : (senders : List Sending) (before : List Transmission) (x : Transmission) (b : Bool) → x.fresh ≡ b → turn_lines audit_words senders before x ≡ cond b (round_lines audit_words senders x.process (round_of x.process before)) []
+turn-by senders before x b is =
+    ap (λ ys. cond x.fresh (round_lines audit_words senders x.process (round_of x.process before)) [] ++ ys) (unsaid (sender_of senders x) (continued before x) x)
+    ∙ append-nil (cond x.fresh (round_lines audit_words senders x.process (round_of x.process before)) [])
+    ∙ ap (λ t. cond t (round_lines audit_words senders x.process (round_of x.process before)) []) is
+
+pub turn-fresh : (senders : List Sending) (before : List Transmission) (x : Transmission) → x.fresh ≡ true → turn_lines audit_words senders before x ≡ round_lines audit_words senders x.process (round_of x.process before)
+turn-fresh senders before x is = turn-by senders before x true is
+
+pub turn-stale : (senders : List Sending) (before : List Transmission) (x : Transmission) → x.fresh ≡ false → turn_lines audit_words senders before x ≡ []
+turn-stale senders before x is = turn-by senders before x false is
+
+-- the lines of the rounds that no transmission ends, process after process
+joined-map : (f : ℕ → List ℕ) (ps : List ℕ) → pieces_joined (map (λ p. (p, f p)) ps) ≡ flat_map f ps
+joined-map f [] = refl
+joined-map f (p ∷ ps) = ap (λ lines. f p ++ lines) (joined-map f ps)
+
+pub last-lines : (senders : List Sending) (schedule : List Transmission) → pieces_joined (last_rounds audit_words senders schedule) ≡ flat_map (λ p. round_lines audit_words senders p (round_of p schedule)) (range_with_len 0 16)
+last-lines senders schedule = joined-map (λ p. round_lines audit_words senders p (round_of p schedule)) (range_with_len 0 16)

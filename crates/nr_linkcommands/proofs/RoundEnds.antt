@@ -1,0 +1,191 @@
+-- What each place has received of the round that its process is in, one transmission after the other.
+use Rattle.std.proofs.Common.{◌≡◌, ℕ, suc, ◌+◌, ◌-◌, ◌<◌, ◌≤◌, ◌==◌, All, Bool, true, false, cond, Option, None, Some, List, [], ◌∷◌, ◌++◌, length, take, drop, set, replicate, slice_get, get_or, ap, sym, subst, refl, ◌∙◌, ⊎_elim, arith, append_assoc, length-append}
+use Rattle.std.specs.List.{list_any}
+use Rattle.std.specs.Option.{option_map}
+use Rattle.std.proofs.Math.ListN.{length-set}
+use Rattle.std.proofs.lemmas.Bool.{cases_eq}
+use Rattle.std.proofs.lemmas.Bool.Decides.{nat_tests}
+use Rattle.std.proofs.lemmas.Grind.{get_or-set_at}
+use Rattle.std.proofs.lemmas.List.{get_or-replicate, get_or-set_other, length-replicate, length-take-le}
+use Rattle.std.proofs.lemmas.List.Elements.{All-filter, All-head, All-tail}
+use Rattle.std.proofs.lemmas.Option.{slice_get-get_or}
+use Rattle.nr_blockdesk.specs.Explains.{Reception}
+use Rattle.nr_blockdesk.specs.Link.{Link}
+use Rattle.nr_blockdesk.specs.Sent.{Sending}
+use Rattle.nr_linkcommands.specs.Ends.{AreOfRounds, HasReceived, HoldRounds, HoldsEnd, HoldsIf, HoldsRound, IsOfRound, IsOver}
+use Rattle.nr_linkcommands.specs.ProcessTexts.{counted_if, process_words, round_counted, run_words}
+use Rattle.nr_linkcommands.specs.RoundTexts.{ended_if, pieces_joined, round_lines, said_if, sender_of, turns}
+use Rattle.nr_files.specs.Rounds.{continued, of_process, round_of, since_fresh}
+use Rattle.nr_linkcommands.specs.RunText.{counted, lines_of, outcome_line, received, received_of}
+use Rattle.nr_files.specs.Schedule.{HasBlock}
+use Rattle.nr_linkcommands.specs.declared.received.End.{End}
+use Rattle.nr_linkcommands.specs.declared.received.Totals.{Totals}
+use Rattle.nr_files.specs.declared.schedule.Transmission.{Transmission}
+use Rattle.nr_linkcommands.proofs.RoundTurns.{continued-turn, other-turn, received-more, turns-turn}
+use Rattle.nr_linkcommands.proofs.RunLines.{has_received, received-few}
+use Rattle.nr_linkcommands.proofs.RunOutcomes.{outcome_line-some}
+
+-- the sender of a block that there is
+pub sender-there : (senders : List Sending) (x : Transmission) (number : ℕ) (sender : Sending) → x.block ≡ number → number - 1 < length senders → sender ≡ get_or senders (number - 1) sender → sender_of senders x ≡ Some sender
+sender-there senders x number sender is within at =
+    ap (λ n. slice_get senders (n - 1)) is ∙ slice_get-get_or senders (number - 1) sender within ∙ ap Some (sym at)
+
+-- what is so of all transmissions is so of those of a round
+since_fresh-all : (P : Transmission → Type 0) (xs : List Transmission) → All P xs → All P (since_fresh xs)
+unfolding since_fresh
+since_fresh-all P [] all = all
+since_fresh-all P (x ∷ xs) all = go (list_any (λ y. y.fresh) xs) (since_fresh-all P xs (All-tail P x xs all))
+  where
+    go : (b : Bool) → All P (since_fresh xs) → All P (cond b (since_fresh xs) (x ∷ xs))
+    go true later = later
+    go false later = all
+
+round-all : (P : Transmission → Type 0) (p : ℕ) (before : List Transmission) → All P before → All P (round_of p before)
+round-all P p before all = since_fresh-all P (of_process p before) (All-filter (λ x. x.process == p) P before all)
+
+-- a round is no longer than the transmissions
+since_fresh-few : (xs : List Transmission) → length (since_fresh xs) ≤ length xs
+unfolding since_fresh
+since_fresh-few [] = omega arith
+since_fresh-few (x ∷ xs) = go (list_any (λ y. y.fresh) xs) (since_fresh-few xs)
+  where
+    go : (b : Bool) → length (since_fresh xs) ≤ length xs → length (cond b (since_fresh xs) (x ∷ xs)) ≤ suc (length xs)
+    go true few = omega (arith, few)
+    go false few = omega arith
+
+of_process-few : (p : ℕ) (xs : List Transmission) → length (of_process p xs) ≤ length xs
+of_process-few p [] = omega arith
+of_process-few p (x ∷ xs) = go (x.process == p) (of_process-few p xs)
+  where
+    go : (b : Bool) → length (of_process p xs) ≤ length xs → length (cond b (x ∷ of_process p xs) (of_process p xs)) ≤ suc (length xs)
+    go true few = omega (arith, few)
+    go false few = omega (arith, few)
+
+continued-few : (before : List Transmission) (x : Transmission) → length (continued before x) ≤ length before
+continued-few before x = go x.fresh
+  where
+    go : (b : Bool) → length (cond b [] (round_of x.process before)) ≤ length before
+    go true = omega arith
+    go false = omega (arith, since_fresh-few (of_process x.process before), of_process-few x.process before)
+
+-- a round that has a block: its lines, and what counts it
+block-named : (n number : ℕ) (round : List Transmission) → Some number ≡ option_map (λ x. x.block) (slice_get round 0) → All (HasBlock n) round → (1 ≤ number) × (number ≤ n)
+block-named n number [] is all = absurd (cc)
+block-named n number (x ∷ more) is all =
+    let named = All-head (HasBlock n) x more all in
+    let block : x.block ≡ number = cc in
+    (omega (arith, named.0, block), omega (arith, named.1, block))
+
+pub round-named : (n number p : ℕ) (before : List Transmission) → Some number ≡ option_map (λ x. x.block) (slice_get (round_of p before) 0) → All (HasBlock n) before → (1 ≤ number) × (number - 1 < n)
+round-named n number p before is all =
+    let named = block-named n number (round_of p before) is (round-all (HasBlock n) p before all) in
+    (named.0, omega (arith, named.0, named.1))
+
+pub round-held : (senders : List Sending) (number : ℕ) (sender : Sending) (round : List Transmission) (end : Option End) → Some number ≡ option_map (λ x. x.block) (slice_get round 0) → number - 1 < length senders → sender ≡ get_or senders (number - 1) sender → HoldsRound senders round end → HoldsEnd sender.link (received sender round) end
+round-held senders number sender [] end is within at held = absurd (cc)
+round-held senders number sender (x ∷ more) end is within at held =
+    let block : x.block ≡ number = cc in
+    subst (λ (s : Option Sending). HoldsIf s (x ∷ more) end) (sender-there senders x number sender block within at) held
+
+pub round_lines-some : (senders : List Sending) (p number : ℕ) (sender : Sending) (round : List Transmission) → Some number ≡ option_map (λ x. x.block) (slice_get round 0) → number - 1 < length senders → sender ≡ get_or senders (number - 1) sender → round_lines run_words senders p round ≡ process_words p ++ outcome_line number sender.link (received sender round)
+round_lines-some senders p number sender [] is within at = absurd (cc)
+round_lines-some senders p number sender (x ∷ more) is within at =
+    let block : x.block ≡ number = cc in
+    ap (λ (s : Option Sending). ended_if run_words p x.block s (x ∷ more)) (sender-there senders x number sender block within at)
+    ∙ ap (λ n. process_words p ++ outcome_line n sender.link (received sender (x ∷ more))) block
+
+pub round_lines-long : (senders : List Sending) (p number : ℕ) (sender : Sending) (round : List Transmission) → Some number ≡ option_map (λ x. x.block) (slice_get round 0) → number - 1 < length senders → sender ≡ get_or senders (number - 1) sender → 0 < length (round_lines run_words senders p round)
+round_lines-long senders p number sender round is within at =
+    let line : List ℕ = outcome_line number sender.link (received sender round) in
+    omega (arith, ap length (round_lines-some senders p number sender round is within at), length-append (process_words p) line, outcome_line-some number sender.link (received sender round))
+
+pub round_counted-some : (t : Totals) (senders : List Sending) (number : ℕ) (sender : Sending) (round : List Transmission) → Some number ≡ option_map (λ x. x.block) (slice_get round 0) → number - 1 < length senders → sender ≡ get_or senders (number - 1) sender → round_counted t senders round ≡ counted t sender.link (received sender round)
+round_counted-some t senders number sender [] is within at = absurd (cc)
+round_counted-some t senders number sender (x ∷ more) is within at =
+    let block : x.block ≡ number = cc in
+    ap (λ (s : Option Sending). counted_if t s (x ∷ more)) (sender-there senders x number sender block within at)
+
+-- one that has none is empty
+round-none : (round : List Transmission) → None ≡ option_map (λ x. x.block) (slice_get round 0) → round ≡ []
+round-none [] is = refl
+round-none (x ∷ more) is = absurd (cc)
+
+pub round_lines-none : (senders : List Sending) (p : ℕ) (round : List Transmission) → None ≡ option_map (λ x. x.block) (slice_get round 0) → round_lines run_words senders p round ≡ []
+round_lines-none senders p round is = ap (round_lines run_words senders p) (round-none round is)
+
+pub round_counted-none : (t : Totals) (senders : List Sending) (round : List Transmission) → None ≡ option_map (λ x. x.block) (slice_get round 0) → round_counted t senders round ≡ t
+round_counted-none t senders round is = ap (round_counted t senders) (round-none round is)
+
+-- a transmission is of the block of the round that it goes on with
+of-continued : (before : List Transmission) (x : Transmission) → (x.fresh ≡ false → IsOfRound (round_of x.process before) x) → IsOfRound (continued before x) x
+of-continued before x goes = go x.fresh refl
+  where
+    go : (b : Bool) → x.fresh ≡ b → IsOfRound (cond b [] (round_of x.process before)) x
+    go true is = tt
+    go false is = goes is
+
+-- what is received of the round that a transmission goes on with, by the sender of its block
+holds-by : (senders : List Sending) (round : List Transmission) (x : Transmission) (sender : Sending) (end : Option End) → sender_of senders x ≡ Some sender → IsOfRound round x → HoldsRound senders round end → HoldsEnd sender.link (received sender round) end
+holds-by senders [] x sender end there of held = subst (HoldsEnd sender.link []) (sym held) refl
+holds-by senders (y ∷ more) x sender end there of held =
+    subst (λ (s : Option Sending). HoldsIf s (y ∷ more) end) (ap (λ n. slice_get senders (n - 1)) of ∙ there) held
+
+pub holds-continued : (senders : List Sending) (xs : List Transmission) (i : ℕ) (x : Transmission) (sender : Sending) (end : Option End) → i < length xs → x ≡ get_or xs i x → AreOfRounds xs → sender_of senders x ≡ Some sender → HoldsRound senders (continued (take i xs) x) end → HoldsEnd sender.link (received sender (continued (take i xs) x)) end
+holds-continued senders xs i x sender end within is of there held =
+    holds-by senders (continued (take i xs) x) x sender end there (of-continued (take i xs) x (of i x within is)) held
+
+-- it is no more than the transmissions before
+pub continued-room : (link : Link) (sender : Sending) (xs : List Transmission) (i n : ℕ) (x : Transmission) (end : Option End) → i ≤ length xs → i ≤ n → HoldsEnd link (received sender (continued (take i xs) x)) end → HasReceived n end
+continued-room link sender xs i n x end within few held =
+    has_received link (received sender (continued (take i xs) x)) n end held
+    (omega (arith, few, received-few sender (continued (take i xs) x), continued-few (take i xs) x, length-take-le i xs within))
+
+-- and its receiver has the sender's link
+pub held-over : (link : Link) (list : List Reception) (end : Option End) → HoldsEnd link list end → IsOver link end
+held-over link list None held = tt
+held-over link list (Some end) held = held.same_link
+
+-- and with the transmission
+holds-more : (senders : List Sending) (round : List Transmission) (x : Transmission) (sender : Sending) (end : Option End) → sender_of senders x ≡ Some sender → IsOfRound round x → HoldsEnd sender.link (received sender round ++ received_of sender x) end → HoldsRound senders (round ++ x ∷ []) end
+holds-more senders [] x sender end there of holds =
+    subst (λ (s : Option Sending). HoldsIf s (x ∷ []) end) (sym there)
+    (subst (λ list. HoldsEnd sender.link list end) (sym (received-more sender [] x)) holds)
+holds-more senders (y ∷ more) x sender end there of holds =
+    subst (λ (s : Option Sending). HoldsIf s (y ∷ more ++ x ∷ []) end) (sym (ap (λ n. slice_get senders (n - 1)) of ∙ there))
+    (subst (λ list. HoldsEnd sender.link list end) (sym (received-more sender (y ∷ more) x)) holds)
+
+-- before any transmission no place has received anything
+pub rounds-first : (senders : List Sending) (n : ℕ) → HoldRounds senders [] (replicate n None)
+unfolding since_fresh
+rounds-first senders n = λ p within. get_or-replicate n p None None (omega (arith, within, length-replicate {A = Option End} n None))
+
+-- after the transmission at index i
+pub rounds-turn : (senders : List Sending) (xs : List Transmission) (i : ℕ) (x : Transmission) (sender : Sending) (ends : List (Option End)) (after : Option End) → i < length xs → x ≡ get_or xs i x → AreOfRounds xs → sender_of senders x ≡ Some sender → x.process < length ends → HoldRounds senders (take i xs) ends
+    → HoldsEnd sender.link (received sender (continued (take i xs) x) ++ received_of sender x) after → HoldRounds senders (take (i + 1) xs) (set ends x.process after)
+rounds-turn senders xs i x sender ends after within is of there inside held holds = λ p low.
+    ⊎_elim (same p) (other p low) (cases_eq p x.process)
+  where
+    more : HoldsRound senders (continued (take i xs) x ++ x ∷ []) after
+    more = holds-more senders (continued (take i xs) x) x sender after there (of-continued (take i xs) x (of i x within is)) holds
+
+    same : (p : ℕ) → p ≡ x.process → HoldsRound senders (round_of p (take (i + 1) xs)) (get_or (set ends x.process after) p None)
+    same p equal =
+        subst (λ round. HoldsRound senders round (get_or (set ends x.process after) p None)) (sym (ap (λ q. round_of q (take (i + 1) xs)) equal ∙ continued-turn xs i x within is))
+        (subst (HoldsRound senders (continued (take i xs) x ++ x ∷ [])) (sym (get_or-set_at ends x.process p after None equal inside)) more)
+
+    other : (p : ℕ) → p < length (set ends x.process after) → (p ≡ x.process → ⊥) → HoldsRound senders (round_of p (take (i + 1) xs)) (get_or (set ends x.process after) p None)
+    other p low differ =
+        let apart : (x.process == p) ≡ false = grind (arith, nat_tests) in
+        let there_too : p < length ends = omega (arith, low, length-set ends x.process after) in
+        subst (λ round. HoldsRound senders round (get_or (set ends x.process after) p None)) (sym (other-turn p xs i x within is apart))
+        (subst (HoldsRound senders (round_of p (take i xs))) (sym (get_or-set_other ends x.process p after None differ)) (held p there_too))
+
+-- the lines of the transmission at index i: those of the round that it ends, its own, and those behind them
+pub turn-parts : (senders : List Sending) (xs : List Transmission) (i : ℕ) (x : Transmission) (sender : Sending) → i < length xs → x ≡ get_or xs i x → sender_of senders x ≡ Some sender
+    → pieces_joined (turns run_words senders (take i xs) (drop i xs)) ≡ cond x.fresh (round_lines run_words senders x.process (round_of x.process (take i xs))) [] ++ (lines_of sender (received sender (continued (take i xs) x)) x ++ pieces_joined (turns run_words senders (take (i + 1) xs) (drop (i + 1) xs)))
+turn-parts senders xs i x sender within is there =
+    let first : List ℕ = cond x.fresh (round_lines run_words senders x.process (round_of x.process (take i xs))) [] in
+    let rest : List ℕ = pieces_joined (turns run_words senders (take (i + 1) xs) (drop (i + 1) xs)) in
+    turns-turn run_words senders xs i x within is
+    ∙ append_assoc first (said_if run_words (sender_of senders x) (continued (take i xs) x) x) rest
+    ∙ ap (λ s. first ++ (said_if run_words s (continued (take i xs) x) x ++ rest)) there

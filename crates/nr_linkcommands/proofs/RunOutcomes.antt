@@ -1,0 +1,177 @@
+-- How transport blocks end: their lines, and their totals.
+use Rattle.std.proofs.Common.{◌≡◌, ◌≢◌, ℕ, zero, suc, ◌+◌, ◌<◌, ◌≤◌, ◌==◌, Bool, true, false, not, cond, ltb, Option, None, Some, Result, Ok, Err, IfOk, List, [], ◌∷◌, ◌++◌, length, drop, get_or, codes, ap, sym, refl, ◌∙◌, arith, length-append}
+use Rattle.std.specs.Prelude.{count_by}
+use Rattle.std.specs.Fmt.{decimal}
+use Rattle.std.specs.List.{find, list_all, range_with_len}
+use Rattle.std.proofs.lemmas.Bool.{true≢false}
+use Rattle.std.proofs.lemmas.List.{drop_all, drop_more}
+use Rattle.std.proofs.lemmas.List.FromFn.{get_or-map-range_with_len}
+use Rattle.std.proofs.lemmas.List.Sums.{sum_by-cons}
+use Rattle.std.proofs.lemmas.Bool.Decides.{nat_tests}
+use Rattle.nr_harqbuf.specs.Record.{Heardbits, record_of}
+use Rattle.nr_segment.specs.Plan.{word_size}
+use Rattle.nr_blockdesk.specs.Explains.{Reception, explains}
+use Rattle.nr_blockdesk.specs.Heard.{heard_of, heard_record, hearings}
+use Rattle.nr_blockdesk.specs.Link.{IsLink, Link}
+use Rattle.nr_blockdesk.specs.Outcome.{Verdict, all_fixed, blocks_of, contradiction, delivered, fixed, left, open_still, outcome_of, verdict_on}
+use Rattle.nr_blockdesk.specs.ReceiverLaws.{NothingIsOpen}
+use Rattle.nr_blockdesk.specs.Sent.{Sending}
+use Rattle.nr_linkcommands.specs.Ends.{IsWithin}
+use Rattle.nr_commands.specs.Lines.{hex}
+use Rattle.nr_linkcommands.specs.RunText.{contradiction_line, counted, counted_by, delivered_line, left_line, no_totals, open_line, outcome_line, outcome_line_by, outcome_lines, open_counted, own, received, totals_from, unfixed_blocks}
+use Rattle.nr_linkcommands.specs.ProcessTexts.{last_line, rounds_counted, run_ends, run_words, text_of_run}
+use Rattle.nr_linkcommands.specs.RoundTexts.{pieces_joined, last_rounds, turns}
+use Rattle.nr_files.specs.Rounds.{all_rounds}
+use Rattle.nr_files.specs.Schedule.{Timetable}
+use Rattle.nr_linkcommands.specs.declared.received.Totals.{Totals}
+use Rattle.nr_files.specs.declared.schedule.Transmission.{Transmission}
+use Rattle.nr_commands.proofs.WrittenLemmas.{some_at_end}
+
+-- a number that isn't zero is greater than zero
+pub some-tested : (n m : ℕ) → n ≡ m → ltb 0 n ≡ not (m == 0)
+some-tested n m same = grind (arith, nat_tests)
+
+-- how many pass where all do
+count-all : (f : ℕ → Bool) (a n : ℕ) → ((r : ℕ) → a ≤ r → r < a + n → f r ≡ true) → count_by f (range_with_len a n) ≡ n
+count-all f a zero each = refl
+count-all f a (suc n) each =
+    let first : f a ≡ true = each a (omega arith) (omega arith) in
+    let more : count_by f (range_with_len (a + 1) n) ≡ n = count-all f (a + 1) n (λ r low high. each r (omega (arith, low)) (omega (arith, high))) in
+    let one : ◌≡◌ {A = ℕ} (cond (f a) 1 0) 1 = ap (λ b. cond b 1 0) first in
+    omega (arith, sum_by-cons (λ r. cond (f r) 1 0) a (range_with_len (a + 1) n), one, more)
+
+pub all-all : (f : ℕ → Bool) (a n : ℕ) → ((r : ℕ) → a ≤ r → r < a + n → f r ≡ true) → list_all f (range_with_len a n) ≡ true
+all-all f a zero each = refl
+all-all f a (suc n) each =
+    let first : f a ≡ true = each a (omega arith) (omega arith) in
+    let more : list_all f (range_with_len (a + 1) n) ≡ true = all-all f (a + 1) n (λ r low high. each r (omega (arith, low)) (omega (arith, high))) in
+    rw (first, more) refl
+
+-- an open outcome is one where not all is fixed
+verdict-closed : (o : Option (List Bool)) → verdict_on o ≢ open_still
+verdict-closed (Some block) = λ is. cc
+verdict-closed None = λ is. cc
+
+open-if : (b : Bool) (o : Option (List Bool)) → cond b (verdict_on o) open_still ≡ open_still → b ≡ false
+open-if true o is = absurd (verdict-closed o is)
+open-if false o is = refl
+
+open-unfixed : (link : Link) (list : List Reception) → outcome_of link list ≡ open_still → all_fixed link (heard_record link list) ≡ false
+unfolding outcome_of
+open-unfixed link list is = open-if (all_fixed link (heard_record link list)) (find (explains link list) (blocks_of link.a)) is
+
+-- how many positions of a code block are left, by its record alone
+abbrev left_by : Link → Heardbits → ℕ
+left_by link s = count_by (λ p. not (fixed link s p)) (range_with_len 0 link.plan.kdash)
+
+-- with nothing received every code block has the same record
+record-nothing : (link : Link) (r : ℕ) → r < link.plan.c → heard_of (heard_record link []) r ≡ record_of (word_size link.graph link.plan) []
+unfolding heard_record hearings
+record-nothing link r within =
+    get_or-map-range_with_len (λ r. record_of (word_size link.graph link.plan) []) 0 link.plan.c r r (record { first = []; clash = false }) within (omega arith)
+
+left-nothing : (link : Link) (r : ℕ) → r < link.plan.c → left link (heard_record link []) r ≡ left_by link (record_of (word_size link.graph link.plan) [])
+left-nothing link r within = ap (left_by link) (record-nothing link r within)
+
+-- so each one has a position left
+unfixed-if : (link : Link) (b : Bool) → (left_by link (record_of (word_size link.graph link.plan) []) == 0) ≡ b → all_fixed link (heard_record link []) ≡ false → unfixed_blocks link (heard_record link []) ≡ link.plan.c
+unfolding unfixed_blocks
+unfixed-if link true is unfixed =
+    absurd (true≢false (sym (all-all (λ r. left link (heard_record link []) r == 0) 0 link.plan.c
+    (λ r low high. ap (λ n. n == 0) (left-nothing link r (omega (arith, high))) ∙ is)) ∙ unfixed))
+unfixed-if link false is unfixed =
+    count-all (λ r. not (left link (heard_record link []) r == 0)) 0 link.plan.c
+    (λ r low high. ap (λ n. not (n == 0)) (left-nothing link r (omega (arith, high))) ∙ ap not is)
+
+pub unfixed-nothing : NothingIsOpen → (link : Link) → IsLink link → unfixed_blocks link (heard_record link []) ≡ link.plan.c
+unfixed-nothing nothing link is =
+    unfixed-if link (left_by link (record_of (word_size link.graph link.plan) []) == 0) refl (open-unfixed link [] (nothing link is))
+
+-- the lines of the blocks from index i on: that of the block there, and those behind it
+pub outcome_lines-turn : (senders : List Sending) (schedule : List Transmission) (i : ℕ) (sender : Sending) → i < length senders → sender ≡ get_or senders i sender → outcome_lines (i + 1) (drop i senders) schedule ≡ outcome_line (i + 1) sender.link (received sender (own (i + 1) schedule)) ++ outcome_lines (i + 1 + 1) (drop (i + 1) senders) schedule
+unfolding outcome_lines
+outcome_lines-turn senders schedule i sender h is =
+    ap (λ xs. outcome_lines (i + 1) xs schedule) (drop_more senders i sender h ∙ ap (λ s. s ∷ drop (i + 1) senders) (sym is))
+
+pub outcome_lines-end : (senders : List Sending) (schedule : List Transmission) (i : ℕ) → length senders ≤ i → outcome_lines (i + 1) (drop i senders) schedule ≡ []
+unfolding outcome_lines
+outcome_lines-end senders schedule i h = ap (λ xs. outcome_lines (i + 1) xs schedule) (drop_all i senders h)
+
+-- the totals likewise
+pub totals-turn : (t : Totals) (senders : List Sending) (schedule : List Transmission) (i : ℕ) (sender : Sending) → i < length senders → sender ≡ get_or senders i sender → totals_from t (i + 1) (drop i senders) schedule ≡ totals_from (counted t sender.link (received sender (own (i + 1) schedule))) (i + 1 + 1) (drop (i + 1) senders) schedule
+unfolding totals_from
+totals-turn t senders schedule i sender h is =
+    ap (λ xs. totals_from t (i + 1) xs schedule) (drop_more senders i sender h ∙ ap (λ s. s ∷ drop (i + 1) senders) (sym is))
+
+pub totals-end : (t : Totals) (senders : List Sending) (schedule : List Transmission) (i : ℕ) → length senders ≤ i → totals_from t (i + 1) (drop i senders) schedule ≡ t
+unfolding totals_from
+totals-end t senders schedule i h = ap (λ xs. totals_from t (i + 1) xs schedule) (drop_all i senders h)
+
+-- a line is not empty
+pub left_line-some : (t n r count : ℕ) → 0 < length (left_line t n r count)
+unfolding left_line
+left_line-some t n r count = some_at_end (codes "left " ++ decimal t ++ codes " " ++ decimal n ++ codes " " ++ decimal r ++ codes " " ++ decimal count)
+
+outcome_line_by-some : (n : ℕ) (link : Link) (list : List Reception) (v : Verdict) → 0 < length (outcome_line_by n link list v)
+unfolding delivered_line open_line contradiction_line
+outcome_line_by-some n link list (delivered bits) =
+    some_at_end (codes "block " ++ decimal n ++ codes " delivered tx " ++ decimal (length list) ++ codes " failed 0 of " ++ decimal link.plan.c ++ codes " " ++ hex bits)
+outcome_line_by-some n link list open_still =
+    some_at_end (codes "block " ++ decimal n ++ codes " open tx " ++ decimal (length list) ++ codes " failed " ++ decimal (unfixed_blocks link (heard_record link list)) ++ codes " of " ++ decimal link.plan.c)
+outcome_line_by-some n link list contradiction =
+    some_at_end (codes "block " ++ decimal n ++ codes " contradiction tx " ++ decimal (length list) ++ codes " failed 0 of " ++ decimal link.plan.c)
+
+pub outcome_line-some : (n : ℕ) (link : Link) (list : List Reception) → 0 < length (outcome_line n link list)
+outcome_line-some n link list = outcome_line_by-some n link list (outcome_of link list)
+
+pub last_line-some : (name : List ℕ) (t : Totals) → 0 < length (last_line name t)
+unfolding last_line
+last_line-some name t = some_at_end (codes "total " ++ name ++ codes " " ++ decimal t.blocks ++ codes " delivered " ++ decimal t.delivered
+    ++ codes " open " ++ decimal t.open_still ++ codes " contradiction " ++ decimal t.contradiction
+    ++ codes " codeblocks " ++ decimal t.code_blocks ++ codes " failed " ++ decimal t.failed)
+
+-- a bound of the totals, and a greater one
+pub within-more : (n m : ℕ) (t : Totals) → n ≤ m → IsWithin n t → IsWithin m t
+within-more n m t more is = record {
+  blocks = omega (arith, more, is.blocks);
+  delivered = omega (arith, more, is.delivered);
+  open_still = omega (arith, more, is.open_still);
+  contradiction = omega (arith, more, is.contradiction);
+  code_blocks = omega (arith, more, is.code_blocks);
+  failed = omega (arith, more, is.failed);
+}
+
+-- what a run says after all transmissions is not empty, and so its text is not
+run_ends-some : (b : Bool) (senders : List Sending) (schedule : List Transmission) → 0 < length (run_ends b senders schedule)
+run_ends-some true senders schedule =
+    let last : List ℕ = last_line (codes "rounds") (rounds_counted no_totals senders (all_rounds schedule)) in
+    let some : 0 < length last = last_line-some (codes "rounds") (rounds_counted no_totals senders (all_rounds schedule)) in
+    omega (arith, some, length-append (pieces_joined (last_rounds run_words senders schedule)) last)
+run_ends-some false senders schedule =
+    let last : List ℕ = last_line (codes "blocks") (totals_from no_totals 1 senders schedule) in
+    let some : 0 < length last = last_line-some (codes "blocks") (totals_from no_totals 1 senders schedule) in
+    omega (arith, some, length-append (outcome_lines 1 senders schedule) last)
+
+pub text_of_run-some : (senders : List Sending) (schedule : Timetable) → 0 < length (text_of_run senders schedule)
+text_of_run-some senders schedule =
+    let some : 0 < length (run_ends schedule.by_process senders schedule.transmissions) = run_ends-some schedule.by_process senders schedule.transmissions in
+    omega (arith, some, length-append (pieces_joined (turns run_words senders [] schedule.transmissions)) (run_ends schedule.by_process senders schedule.transmissions))
+
+-- what follows from what holds of an answer
+pub ok_then : {X E : Type 0} {P Q : X → Type 0} (r : Result X E) → IfOk r P → ((x : X) → P x → Q x) → IfOk r Q
+ok_then (Ok x) holds next = next x holds
+ok_then (Err e) holds next = tt
+
+-- the line of a block of c code blocks: nothing was received
+pub line-none : NothingIsOpen → (n c : ℕ) (link : Link) (list : List Reception) → IsLink link → c ≡ link.plan.c → list ≡ [] → open_line n 0 c c ≡ outcome_line n link list
+line-none nothing n c link list is count none =
+    sym (ap (outcome_line n link) none ∙ ap (outcome_line_by n link []) (nothing link is)
+    ∙ ap (λ k. open_line n 0 k link.plan.c) (unfixed-nothing nothing link is)
+    ∙ ap (λ k. open_line n 0 k k) (sym count))
+
+-- the totals with it
+pub counted-none : NothingIsOpen → (t : Totals) (c : ℕ) (link : Link) (list : List Reception) → IsLink link → c ≡ link.plan.c → list ≡ [] → open_counted t c c ≡ counted t link list
+counted-none nothing t c link list is count none =
+    sym (ap (counted t link) none ∙ ap (counted_by t link []) (nothing link is)
+    ∙ ap (λ k. open_counted t link.plan.c k) (unfixed-nothing nothing link is)
+    ∙ ap (λ k. open_counted t k k) (sym count))

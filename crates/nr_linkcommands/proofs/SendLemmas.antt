@@ -1,0 +1,67 @@
+-- The text of `send`, line by line.
+use Rattle.std.proofs.Common.{◌≡◌, ℕ, ◌+◌, ◌-◌, ◌<◌, ◌⊎◌, inl, inr, Bool, Some, Result, Ok, Err, List, ◌∷◌, ◌++◌, length, take, drop, flat_map, slice_get, get_or, codes, ap, sym, ◌∙◌, arith, append_assoc}
+use Rattle.std.proofs.lemmas.List.{take-append-drop, drop_more}
+use Rattle.std.proofs.lemmas.Grind.{flat_map-append}
+use Rattle.std.proofs.lemmas.Option.{slice_get-get_or}
+use Rattle.std.specs.Fmt.{decimal}
+use Rattle.nr_commands.specs.Lines.{hex}
+use Rattle.nr_graphpick.specs.Refusal.{◌>>=◌}
+use Rattle.nr_linkcommands.specs.Inputs.{Given, Ready, files_said, inputs_said, senders_from}
+use Rattle.nr_linkcommands.specs.SendText.{answer_line, line_by, refusal_name, refused_line, send_said, sent_line, transmission_line, transmission_lines}
+use Rattle.nr_commands.specs.declared.fault.RunFault.{RunFault}
+use Rattle.nr_commands.specs.declared.fault.RunFault.TheVariants.{Memory}
+use Rattle.nr_files.specs.Schedule.{HasBlock}
+use Rattle.nr_blockdesk.specs.Sent.{Sending, sent_said}
+use Rattle.nr_blockdesk.specs.declared.fault.DeskFault.{DeskFault}
+use Rattle.nr_files.specs.declared.schedule.Transmission.{Transmission}
+use Rattle.nr_linkcommands.proofs.InputLemmas.{inputs_said-ready, inputs_said-refused, inputs_said-unsent}
+use Rattle.nr_commands.proofs.WrittenLemmas.{some_at_end}
+
+-- the lines before the element at index i, its own, and those behind it
+pub lines-parts : {X : Type 0} (line : X → List ℕ) (xs : List X) (i : ℕ) (x none : X) → i < length xs → x ≡ get_or xs i none → flat_map line xs ≡ (flat_map line (take i xs) ++ line x) ++ flat_map line (drop (i + 1) xs)
+lines-parts line xs i x none within is =
+    let rest : drop i xs ≡ x ∷ drop (i + 1) xs = drop_more xs i none within ∙ ap (λ y. y ∷ drop (i + 1) xs) (sym is) in
+    ap (flat_map line) (sym (take-append-drop i xs))
+    ∙ flat_map-append line (take i xs) (drop i xs)
+    ∙ ap (λ ys. flat_map line (take i xs) ++ flat_map line ys) rest
+    ∙ sym (append_assoc (flat_map line (take i xs)) (line x) (flat_map line (drop (i + 1) xs)))
+
+-- the line of a transmission by the sender of its block
+pub transmission_line-by : (senders : List Sending) (x : Transmission) (sender : Sending) → HasBlock (length senders) x → sender ≡ get_or senders (x.block - 1) sender → transmission_line senders x ≡ answer_line x.number x.block (sent_said sender.link x.tx sender.block)
+unfolding transmission_line
+transmission_line-by senders x sender named is =
+    let within : x.block - 1 < length senders = omega (arith, named.0, named.1) in
+    let at : slice_get senders (x.block - 1) ≡ Some sender = slice_get-get_or senders (x.block - 1) sender within ∙ ap Some (sym is) in
+    ap (λ o. line_by o x) at
+
+-- a line is not empty
+sent_line-some : (t n : ℕ) (bits : List Bool) → 0 < length (sent_line t n bits)
+unfolding sent_line
+sent_line-some t n bits = some_at_end (codes "sent " ++ decimal t ++ codes " " ++ decimal n ++ codes " " ++ hex bits)
+
+refused_line-some : (t n : ℕ) (e : DeskFault) → 0 < length (refused_line t n e)
+unfolding refused_line
+refused_line-some t n e = some_at_end (codes "refused " ++ decimal t ++ codes " " ++ decimal n ++ codes " " ++ refusal_name e)
+
+pub answer_line-some : (t n : ℕ) (said : Result (List Bool) DeskFault) → 0 < length (answer_line t n said)
+answer_line-some t n (Ok bits) = sent_line-some t n bits
+answer_line-some t n (Err e) = refused_line-some t n e
+
+-- what `send` says by what it works from
+send_said-inputs : (t s b d : List ℕ) (said : Result Ready RunFault) → inputs_said t s b d ≡ said → send_said t s b d ≡ (said >>= λ inputs. Ok (transmission_lines inputs.senders inputs.schedule.transmissions))
+unfolding send_said
+send_said-inputs t s b d said is = ap (λ r. r >>= λ inputs. Ok (transmission_lines inputs.senders inputs.schedule.transmissions)) is
+
+-- a refusal of the files, and of a transport block
+pub send_said-refused : (t s b d : List ℕ) (e : RunFault) → (e ≡ Memory) ⊎ (files_said t s b d ≡ Err e) → (e ≡ Memory) ⊎ (send_said t s b d ≡ Err e)
+send_said-refused t s b d e (inl is) = inl is
+send_said-refused t s b d e (inr is) = inr (send_said-inputs t s b d (Err e) (inputs_said-refused t s b d e is))
+
+pub send_said-unsent : (t s b d : List ℕ) (given : Given) (e : RunFault) → files_said t s b d ≡ Ok given → (e ≡ Memory) ⊎ (senders_from given.table given.settings 1 given.blocks ≡ Err e) → (e ≡ Memory) ⊎ (send_said t s b d ≡ Err e)
+send_said-unsent t s b d given e first (inl is) = inl is
+send_said-unsent t s b d given e first (inr is) = inr (send_said-inputs t s b d (Err e) (inputs_said-unsent t s b d given e first is))
+
+-- the text
+pub send_said-ready : (t s b d : List ℕ) (given : Given) (senders : List Sending) → files_said t s b d ≡ Ok given → senders_from given.table given.settings 1 given.blocks ≡ Ok senders → send_said t s b d ≡ Ok (transmission_lines senders given.schedule.transmissions)
+send_said-ready t s b d given senders first is =
+    send_said-inputs t s b d (Ok (record { senders = senders; schedule = given.schedule })) (inputs_said-ready t s b d given senders first is)

@@ -1,0 +1,23 @@
+use Rattle.std.proofs.Common.{[], sym}
+use Rattle.std.proofs.lemmas.Grind.{flat_map-append}
+use Rattle.std.proofs.lemmas.Result.{err_from_is_err_and}
+use Rattle.nr_linkcommands.specs.ProcessTexts.{audit_words}
+use Rattle.nr_linkcommands.specs.RoundTexts.{Piece, pieces_joined, last_rounds, turns}
+use Rattle.nr_commands.proofs.WrittenLemmas.{with_text-nil, writes_behind, writes_last}
+use Rattle.nr_linkcommands.proofs.auditing.audit_rounds.Goals as goal
+
+pub returns-in_err-audit_ended-clause-text : goal.returns-in_err-audit_ended-clause-text
+returns-in_err-audit_ended-clause-text g c =
+    let p = err_from_is_err_and c.from_residual.result c.from_residual.ensures.1 in
+    let senders = c.args.senders.now in
+    let schedule = c.args.inputs.now.schedule.transmissions.items in
+    writes_behind _ _ _ c.from_residual.result p.0 _ _ [] (pieces_joined (turns audit_words senders [] schedule)) (pieces_joined (last_rounds audit_words senders schedule)) p.1 p.2
+    (flat_map-append (λ (piece : Piece). piece.1) (turns audit_words senders [] schedule) (last_rounds audit_words senders schedule))
+    (sym (with_text-nil _)) c.in_err-audit_ended.ensures.text
+
+pub returns-clause-text : goal.returns-clause-text
+returns-clause-text g c =
+    let senders = c.args.senders.now in
+    let schedule = c.args.inputs.now.schedule.transmissions.items in
+    rw (flat_map-append (λ (piece : Piece). piece.1) (turns audit_words senders [] schedule) (last_rounds audit_words senders schedule))
+    (writes_last _ _ _ c.audit_last.result (pieces_joined (turns audit_words senders [] schedule)) (pieces_joined (last_rounds audit_words senders schedule)) c.in_ok-audit_ended.ensures.text c.audit_last.ensures.text)

@@ -1,0 +1,33 @@
+use Rattle.std.proofs.Common.{◌≤◌, length, refl, ◌∙◌, arith}
+use Rattle.std.proofs.lemmas.Result.{err_from_is_err_and}
+use Rattle.nr_linkcommands.proofs.RunLines.{holds-at}
+use Rattle.nr_linkcommands.proofs.RunOutcomes.{outcome_lines-end, outcome_lines-turn}
+use Rattle.nr_linkcommands.proofs.RunTexts.{left-first, left-last, left-more, left-stopped}
+use Rattle.nr_linkcommands.proofs.running.write_outcomes.Goals as goal
+
+pub returns-in_err-write_outcome-clause-text : goal.returns-in_err-write_outcome-clause-text
+returns-in_err-write_outcome-clause-text g c = λ schedule held.
+    let i = c.loop-index.index in
+    let p = err_from_is_err_and c.from_residual.result c.from_residual.ensures.1 in
+    let holds = holds-at c.args.senders.now schedule c.args.ends.now i c.index-senders-index.result c.index-ends-index.result c.loop-index-test.true c.index-senders-index.is (omega (arith, c.requires.long)) c.index-ends-index.is held in
+    let turn = outcome_lines-turn c.args.senders.now schedule i c.index-senders-index.result c.loop-index-test.true c.index-senders-index.is in
+    left-stopped _ _ _ c.from_residual.result p.0 _ _ _ _ p.1 p.2 (rw turn at (c.loop-index.invariant.lines schedule held)) (c.in_err-write_outcome.ensures.text _ holds)
+
+pub loop-index-init : goal.loop-index-init
+loop-index-init g c = record { lines = λ schedule held. left-first _ _; sound = refl }
+
+pub loop-index-preserved : goal.loop-index-preserved
+loop-index-preserved g c =
+    let i = c.loop-index.index in
+    record {
+      lines = λ schedule held.
+          let holds = holds-at c.args.senders.now schedule c.args.ends.now i c.index-senders-index.result c.index-ends-index.result c.loop-index-test.true c.index-senders-index.is (omega (arith, c.requires.long)) c.index-ends-index.is held in
+          let turn = outcome_lines-turn c.args.senders.now schedule i c.index-senders-index.result c.loop-index-test.true c.index-senders-index.is in
+          left-more _ _ _ _ _ _ (rw turn at (c.loop-index.invariant.lines schedule held)) (c.in_ok-write_outcome.ensures.text _ holds);
+      sound = c.in_ok-write_outcome.ensures.put ∙ c.loop-index.invariant.sound;
+    }
+
+pub returns-clause-text : goal.returns-clause-text
+returns-clause-text g c = λ schedule held.
+    let none : length c.args.senders.now ≤ c.loop-index.index = omega arith in
+    left-last _ _ _ (rw (outcome_lines-end c.args.senders.now schedule c.loop-index.index none) at (c.loop-index.invariant.lines schedule held))

@@ -1,0 +1,14 @@
+use Rattle.std.proofs.Common.{take, drop, flat_map, ◌+◌}
+use Rattle.std.proofs.lemmas.Result.{err_from_is_err_and}
+use Rattle.nr_linkcommands.specs.SendText.{transmission_line, transmission_lines}
+use Rattle.nr_linkcommands.proofs.SendLemmas.{lines-parts}
+use Rattle.nr_commands.proofs.WrittenLemmas.{writes_behind}
+use Rattle.nr_linkcommands.proofs.sending.send_lines.Goals as goal
+
+pub returns-in_err-write_transmission-clause-text : goal.returns-in_err-write_transmission-clause-text
+returns-in_err-write_transmission-clause-text g c =
+    let p = err_from_is_err_and c.from_residual.result c.from_residual.ensures.1 in
+    let line = transmission_line c.args.senders.now in
+    let i = c.loop-transmission.transmission-index in
+    writes_behind _ _ _ c.from_residual.result p.0 _ _ (transmission_lines c.args.senders.now (take i c.args.schedule.now)) (line c.transmission-item.result) (flat_map line (drop (i + 1) c.args.schedule.now)) p.1 p.2
+    (lines-parts line c.args.schedule.now i c.transmission-item.result c.transmission-item.result c.loop-transmission-test.true c.transmission-item.is) c.loop-transmission.invariant.written c.in_err-write_transmission.ensures.text

@@ -1,0 +1,10 @@
+pub mod AuditText
+pub mod Ends
+pub mod Hearing
+pub mod Inputs
+pub mod ProcessTexts
+pub mod RoundCalls
+pub mod RoundTexts
+pub mod RunText
+pub mod SafeRuns
+pub mod SendText

@@ -1,0 +1,145 @@
+//! What a command over a schedule works from: its four files, read and judged whole, and a sender for each
+//! transport block.
+
+ghost use Rattle.std.specs.Prelude.{◌≡◌, ◌≢◌, ◌^◌, ◌<◌, ◌≤◌, All, length, map, IfOk, IfErr, IsErr, Err};
+ghost use Rattle.nr_graphpick.specs.Refusal.{Gives};
+ghost use Rattle.nr_shifttable.specs.Accepted.{IsTable};
+ghost use Rattle.nr_files.specs.Blocks.{IsBlockLength};
+ghost use Rattle.nr_files.specs.Reading.{FailsAs};
+ghost use Rattle.nr_commands.specs.Command.{IsOfBlock};
+ghost use Rattle.nr_linkcommands.specs.Inputs.{AreSaid, IsFirst, IsFoundIn, LeavesLater, OfFour, files_said, given_by, sender_said, senders_from};
+ghost use Rattle.nr_files.specs.Schedule.{HasBlock, IsTimetable, timetable_by};
+
+use nr_bitvec::Bits;
+use nr_blockdesk::{DeskFault, Sender, Settings};
+use nr_commands::RunFault;
+use nr_files::{
+    BlocksFault, Schedule, ScheduleFault, SettingsFault, read_blocks, read_schedule, read_settings,
+};
+use nr_shifttable::{Source, Table, TableFault};
+use std::alloc::Global;
+
+/// What the four files of a command over a schedule say.
+#[derive(Drop)]
+pub struct Inputs {
+    /// The accepted shift table.
+    pub table: Table,
+    /// The code rate and the limit of the buffer.
+    pub settings: Settings,
+    /// The transport blocks as octets, in their order.
+    pub blocks: Vec<Vec<u8>>,
+    /// The transmissions, in their order, and whether they name HARQ processes.
+    pub schedule: Schedule,
+}
+
+/// Reads the four files of a command over a schedule, each to its end, and judges them, in the order of the
+/// parameters.
+///
+/// # Errors
+/// In this order: `Table`, `Settings`, `Blocks`, `Schedule`, each with the first fault of its file. A file after one
+/// that is refused is not read. `Memory` where a growth is refused.
+pub fn read<T: Source, S: Source, B: Source, D: Source>(
+    alloc: Global,
+    table: &mut T,
+    settings: &mut S,
+    blocks: &mut B,
+    schedule: &mut D,
+) -> Result<Inputs, RunFault>
+    requires table { T.failures table.old < 2 ^ 32 }
+    requires settings { S.failures settings.old < 2 ^ 32 }
+    requires blocks { B.failures blocks.old < 2 ^ 32 }
+    requires schedule { D.failures schedule.old < 2 ^ 32 }
+    ensures said { T.failures table.new ≡ T.failures table.old
+        → S.failures settings.new ≡ S.failures settings.old
+        → B.failures blocks.new ≡ B.failures blocks.old
+        → D.failures schedule.new ≡ D.failures schedule.old
+        → OfFour (T.remaining table.old) (S.remaining settings.old)
+        (B.remaining blocks.old) (D.remaining schedule.old)
+        (λ t s b d. Gives RunFault.Memory given_by result (files_said t s b d)) }
+    ensures accepted { IfOk result (λ inputs. IsTable inputs.table) }
+    ensures few { IfOk result (λ inputs. length inputs.blocks.items ≤ 256) }
+    ensures sizes { IfOk result
+        (λ inputs. All (λ block. IsBlockLength (length block.items)) inputs.blocks.items) }
+    ensures named { IfOk result
+        (λ inputs. All (HasBlock (length inputs.blocks.items)) inputs.schedule.transmissions.items) }
+    ensures timetable { IfOk result
+        (λ inputs. IsTimetable (length inputs.blocks.items) (timetable_by inputs.schedule)) }
+    ensures table { FailsAs (RunFault.Table TableFault.Read) result
+        (T.failures table.old) (T.failures table.new) }
+    ensures settings { FailsAs (RunFault.Settings SettingsFault.Read) result
+        (S.failures settings.old) (S.failures settings.new) }
+    ensures blocks { FailsAs (RunFault.Blocks BlocksFault.Read) result
+        (B.failures blocks.old) (B.failures blocks.new) }
+    ensures schedule { FailsAs (RunFault.Schedule ScheduleFault.Read) result
+        (D.failures schedule.old) (D.failures schedule.new) }
+    ensures files { IfOk result (λ inputs. AreSaid (given_by inputs) (T.remaining table.old)
+        (S.remaining settings.old) (B.remaining blocks.old) (D.remaining schedule.old)) }
+    ensures found { IfErr result (λ e. IsFoundIn e (T.remaining table.old)
+        (S.remaining settings.old) (B.remaining blocks.old) (D.remaining schedule.old)) }
+    ensures first { IfErr result (λ e. IsFirst e
+        (T.remaining table.old) (S.remaining settings.old) (B.remaining blocks.old)) }
+    ensures later { IfErr result (λ e. LeavesLater e settings.old settings.new
+        blocks.old blocks.new schedule.old schedule.new) }
+    ensures unput { result ≢ Err RunFault.Write }
+{
+    let table = Table::read(alloc, table)?;
+    let settings = read_settings(alloc, settings)?;
+    let blocks = read_blocks(alloc, blocks)?;
+    let schedule = read_schedule(alloc, blocks.len() as u32, schedule)?;
+    Ok(Inputs {
+        table,
+        settings,
+        blocks,
+        schedule,
+    })
+}
+
+/// A sender for each transport block of files that were read, which encodes it (TS 38.212, 6.2.1 to 6.2.4 and 7.2.1
+/// to 7.2.4).
+///
+/// # Errors
+/// `Desk`, the first transport block that is refused, counted from 1, and why. `Memory` where a growth is refused.
+pub fn senders(alloc: Global, inputs: &Inputs) -> Result<Vec<Sender>, RunFault>
+    requires few { length inputs.now.blocks.items ≤ 256 }
+    requires sizes { All (λ block. IsBlockLength (length block.items)) inputs.now.blocks.items }
+    ensures said { Gives RunFault.Memory (λ senders. senders.items) result
+        (senders_from inputs.now.table inputs.now.settings 1
+        (map (λ block. block.items) inputs.now.blocks.items)) }
+    ensures each { IfOk result
+        (λ senders. length senders.items ≡ length inputs.now.blocks.items) }
+    ensures of_block { IfErr result (λ e. e ≢ RunFault.Memory → IsOfBlock e) }
+{
+    let mut senders = Vec::new(alloc);
+    for (index, block) in inputs.blocks.iter().enumerate() {
+        let sender = sender(
+            alloc,
+            &inputs.table,
+            inputs.settings,
+            index as u32 + 1,
+            block,
+        )?;
+        senders.push(sender)?;
+    }
+    Ok(senders)
+}
+
+// The sender of transport block `number`, whose octets are given.
+fn sender<'t>(
+    alloc: Global,
+    table: &'t Table,
+    settings: Settings,
+    number: u32,
+    octets: &[u8],
+) -> Result<Sender<'t>, RunFault>
+    requires { IsBlockLength (length octets.now) }
+    ensures said { Gives RunFault.Memory (λ sender. sender) result
+        (sender_said table.entry.now settings number octets.now) }
+    ensures of_block { IfErr result (λ e. e ≢ RunFault.Memory → IsOfBlock e) }
+{
+    let bits = Bits::from_bytes(alloc, octets)?;
+    match Sender::new(alloc, table, settings, &bits) {
+        Ok(sender) => Ok(sender),
+        Err(DeskFault::Memory) => Err(RunFault::Memory),
+        Err(fault) => Err(RunFault::Desk(number, fault)),
+    }
+}

@@ -1,0 +1,45 @@
+//! The three commands over a schedule of transmissions: `send` writes the bits sent, `run` what a receiver makes of them
+//! over a link that erases and flips bits, and `audit` why (TS 38.212, 6.2 and 7.2).
+//! Their contract: at `Ok` the text that `send_said`, `run_said` or `audit_said` gives of the four files' octets was
+//! written; a refusal writes nothing, and the fault is theirs; a failing `Sink` has a first part of the text. Laws say
+//! that what is delivered over erasures alone is the block sent, and that the lines of a process are its own.
+//! Stands on nr_files and nr_commands, and on nr_blockdesk and the layers below it for the standard.
+#![tactic(auto)]
+
+mod auditing;
+mod hearing;
+mod inputs;
+mod processes;
+mod received;
+mod run_laws;
+mod running;
+mod sending;
+
+pub use auditing::audit;
+pub use hearing::heard_through;
+pub use inputs::{Inputs, read, senders};
+pub use processes::{lines_are_own, process_words};
+pub use run_laws::{erasures_alone_are_safe, rounds_are_calls, runs_are_safe};
+pub use running::run;
+pub use sending::send;
+
+#[cfg(test)]
+mod audit_tests;
+#[cfg(test)]
+mod broken_tests;
+#[cfg(test)]
+mod commands;
+#[cfg(test)]
+mod delivery_tests;
+#[cfg(test)]
+mod refusal_tests;
+#[cfg(test)]
+mod refused_tests;
+#[cfg(test)]
+mod round_tests;
+#[cfg(test)]
+mod run_tests;
+#[cfg(test)]
+mod send_tests;
+#[cfg(test)]
+mod tests;

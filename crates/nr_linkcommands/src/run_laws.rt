@@ -1,0 +1,36 @@
+//! Laws of runs, each the contract of a function that does nothing.
+
+ghost use Rattle.nr_linkcommands.specs.RoundCalls.{RoundsAreCalls};
+ghost use Rattle.nr_linkcommands.specs.SafeRuns.{ErasuresAloneAreSafe, RunsAreSafe};
+
+use nr_blockdesk::{
+    accepted_send_all, delivered_is_only, explained_is_delivered, explained_never_contradicts,
+    links_are_sound,
+};
+
+/// Law: of transmissions of a sender's transport block that only erase, the outcome is no contradiction, what is
+/// delivered is that block, and it is delivered once every position below K' is fixed.
+pub fn erasures_alone_are_safe()
+    ensures { ErasuresAloneAreSafe }
+{
+    links_are_sound();
+    accepted_send_all();
+    delivered_is_only();
+    explained_is_delivered();
+    explained_never_contradicts();
+}
+
+/// Law: where no transmission of a schedule flips, the same holds of each transport block and of each round.
+pub fn runs_are_safe()
+    ensures { RunsAreSafe }
+{
+    erasures_alone_are_safe();
+}
+
+/// Law: the calls on HARQ processes that the transmissions of a schedule stand for leave each process in the round
+/// that the schedule says.
+pub fn rounds_are_calls()
+    ensures { RoundsAreCalls }
+{
+    accepted_send_all();
+}

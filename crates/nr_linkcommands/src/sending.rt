@@ -1,0 +1,209 @@
+//! The command `send`.
+
+ghost use Rattle.std.specs.Prelude.{◌≡◌, ◌≢◌, ℕ, ◌^◌, ◌<◌, All, length, IfErr, IfOk, IsErr, Err};
+ghost use Rattle.std.specs.String.{string_bytes};
+ghost use Rattle.nr_commands.specs.Command.{Delivers, Writes};
+ghost use Rattle.nr_files.specs.Reading.{FailsAs};
+ghost use Rattle.nr_linkcommands.specs.Inputs.{HaveNoFault, IsFirst, IsFoundIn, LeavesLater, OfFour};
+ghost use Rattle.nr_linkcommands.specs.SendText.{answer_line, rate_name, refusal_name, refused_line, send_said, sent_line, transmission_line, transmission_lines};
+ghost use Rattle.nr_files.specs.Schedule.{HasBlock};
+ghost use Rattle.nr_blockdesk.specs.Sent.{sent_said};
+ghost use Rattle.std.specs.Result.{result_map_both};
+
+use crate::inputs::{read, senders};
+use nr_bitvec::Bits;
+use nr_blockdesk::{DeskFault, Sender, Tx};
+use nr_commands::{RunFault, Sink, deliver, hex_line};
+use nr_files::{BlocksFault, ScheduleFault, SettingsFault, Transmission};
+use nr_ratematch::RmFault;
+use nr_shifttable::{Source, TableFault};
+use std::alloc::{AllocError, Global};
+use std::fmt::Write;
+
+/// Encodes each transport block of a blocks file once (TS 38.212, 6.2.1 to 6.2.4 and 7.2.1 to 7.2.4), and writes a
+/// line for each transmission of a schedule: the bits that are sent (6.2.5, 6.2.6, 7.2.5 and 7.2.6), or the name of
+/// what refuses it.
+///
+/// The four files are read to their ends and judged whole, in the order of the parameters, and then every transport
+/// block, before the first put. Then each line is written as soon as it is made.
+///
+/// # Errors
+/// In this order: `Table`, `Settings`, `Blocks`, `Schedule`, the first fault of a file; `Desk`, the first transport
+/// block that cannot be sent. These leave the Sink as it was. `Write` where a put failed, and then a first part of the
+/// text is written; `Memory` where a growth is refused, and then nothing or a first part of the text is written.
+pub fn send<T: Source, S: Source, B: Source, D: Source, O: Sink>(
+    alloc: Global,
+    table: &mut T,
+    settings: &mut S,
+    blocks: &mut B,
+    schedule: &mut D,
+    out: &mut O,
+) -> Result<(), RunFault>
+    requires table { T.failures table.old < 2 ^ 32 }
+    requires settings { S.failures settings.old < 2 ^ 32 }
+    requires blocks { B.failures blocks.old < 2 ^ 32 }
+    requires schedule { D.failures schedule.old < 2 ^ 32 }
+    requires puts { O.failures out.old < 2 ^ 32 }
+    ensures text { T.failures table.new ≡ T.failures table.old
+        → S.failures settings.new ≡ S.failures settings.old
+        → B.failures blocks.new ≡ B.failures blocks.old
+        → D.failures schedule.new ≡ D.failures schedule.old
+        → OfFour (T.remaining table.old) (S.remaining settings.old)
+        (B.remaining blocks.old) (D.remaining schedule.old)
+        (λ t s b d. Delivers (O.written out.old) (O.written out.new) result (send_said t s b d)) }
+    ensures untouched { IsErr result → result ≢ Err RunFault.Write → result ≢ Err RunFault.Memory
+        → O.written out.new ≡ O.written out.old }
+    ensures table { FailsAs (RunFault.Table TableFault.Read) result
+        (T.failures table.old) (T.failures table.new) }
+    ensures settings { FailsAs (RunFault.Settings SettingsFault.Read) result
+        (S.failures settings.old) (S.failures settings.new) }
+    ensures blocks { FailsAs (RunFault.Blocks BlocksFault.Read) result
+        (B.failures blocks.old) (B.failures blocks.new) }
+    ensures schedule { FailsAs (RunFault.Schedule ScheduleFault.Read) result
+        (D.failures schedule.old) (D.failures schedule.new) }
+    ensures sound { IfOk result (λ _. HaveNoFault (T.remaining table.old)
+        (S.remaining settings.old) (B.remaining blocks.old) (D.remaining schedule.old)) }
+    ensures found { IfErr result (λ e. IsFoundIn e (T.remaining table.old)
+        (S.remaining settings.old) (B.remaining blocks.old) (D.remaining schedule.old)) }
+    ensures first { IfErr result (λ e. IsFirst e
+        (T.remaining table.old) (S.remaining settings.old) (B.remaining blocks.old)) }
+    ensures later { IfErr result (λ e. LeavesLater e settings.old settings.new
+        blocks.old blocks.new schedule.old schedule.new) }
+    ensures put { FailsAs RunFault.Write result (O.failures out.old) (O.failures out.new) }
+{
+    let inputs = read(alloc, table, settings, blocks, schedule)?;
+    let senders = senders(alloc, &inputs)?;
+    send_lines(alloc, &senders, &inputs.schedule.transmissions, out)
+}
+
+// Writes the line of each transmission.
+fn send_lines<O: Sink>(
+    alloc: Global,
+    senders: &[Sender],
+    schedule: &[Transmission],
+    out: &mut O,
+) -> Result<(), RunFault>
+    requires puts { O.failures out.old < 2 ^ 32 }
+    requires named { All (HasBlock (length senders.now)) schedule.now }
+    ensures text { Writes (O.written out.old) (O.written out.new) result
+        (transmission_lines senders.now schedule.now) }
+    ensures put { FailsAs RunFault.Write result (O.failures out.old) (O.failures out.new) }
+{
+    for transmission in schedule {
+        write_transmission(alloc, senders, transmission, out)?;
+    }
+    Ok(())
+}
+
+// Writes the line of a transmission.
+fn write_transmission<O: Sink>(
+    alloc: Global,
+    senders: &[Sender],
+    transmission: &Transmission,
+    out: &mut O,
+) -> Result<(), RunFault>
+    requires puts { O.failures out.old < 2 ^ 32 }
+    requires named { HasBlock (length senders.now) transmission.now }
+    ensures text { Writes (O.written out.old) (O.written out.new) result
+        (transmission_line senders.now transmission.now) }
+    ensures put { FailsAs RunFault.Write result (O.failures out.old) (O.failures out.new) }
+{
+    let line = line_of(
+        alloc,
+        &senders[transmission.block as usize - 1],
+        transmission,
+    )?;
+    deliver(out, &line)
+}
+
+// The line of a transmission by the sender of its block.
+fn line_of(
+    alloc: Global,
+    sender: &Sender,
+    transmission: &Transmission,
+) -> Result<Vec<u8>, AllocError>
+    ensures { IfOk result (λ line. line.items
+        ≡ answer_line transmission.now.number transmission.now.block
+        (sent_said sender.now.link transmission.now.tx sender.now.block)) }
+{
+    let (number, block) = (transmission.number, transmission.block);
+    match said_of(sender, &transmission.tx)? {
+        Ok(bits) => sent_line(alloc, number, block, &bits),
+        Err(fault) => Ok(refused_line(alloc, number, block, fault)?.into_bytes()),
+    }
+}
+
+/// What a sender says of a transmission: the bits, or why it is refused.
+///
+/// # Errors
+/// `AllocError` where memory is refused.
+pub(crate) fn said_of(sender: &Sender, tx: &Tx) -> Result<Result<Bits, DeskFault>, AllocError>
+    ensures { IfOk result (λ said. result_map_both (λ bits. bits.items) (λ fault. fault) said
+        ≡ sent_said sender.now.link tx.now sender.now.block) }
+{
+    match sender.send(tx) {
+        Ok(bits) => Ok(Ok(bits)),
+        Err(DeskFault::Memory) => Err(AllocError),
+        Err(fault) => Ok(Err(fault)),
+    }
+}
+
+// The line of transmission `number` of block `block`: the bits that it sends.
+pub(crate) fn sent_line(
+    alloc: Global,
+    number: u32,
+    block: u32,
+    bits: &Bits,
+) -> Result<Vec<u8>, AllocError>
+    ensures { IfOk result (λ line. line.items ≡ sent_line number block bits.now.items) }
+{
+    let mut head = String::new(alloc);
+    write!(head, "sent {number} {block} ")?;
+    hex_line(head, bits)
+}
+
+// The line of transmission `number` of block `block`, which is refused.
+#[tactic(auto, unfolding(crate::specs::SendText::refused_line))]
+pub(crate) fn refused_line(
+    alloc: Global,
+    number: u32,
+    block: u32,
+    fault: DeskFault,
+) -> Result<String, AllocError>
+    ensures { IfOk result (λ line. string_bytes line ≡ refused_line number block fault) }
+{
+    let mut line = String::new(alloc);
+    let name = refusal_name(fault);
+    writeln!(line, "refused {number} {block} {name}")?;
+    Ok(line)
+}
+
+// The name of a refusal.
+fn refusal_name(fault: DeskFault) -> &'static str
+    ensures { result.now ≡ refusal_name fault }
+{
+    match fault {
+        DeskFault::Size => "Size",
+        DeskFault::Pick(_) => "Pick",
+        DeskFault::Seg(_) => "Seg",
+        DeskFault::Graph => "Graph",
+        DeskFault::Rv => "Rv",
+        DeskFault::Rm(fault) => rate_name(fault),
+        DeskFault::Length => "Length",
+        DeskFault::Memory => "Memory",
+    }
+}
+
+// The name of a refusal of rate matching.
+fn rate_name(fault: RmFault) -> &'static str
+    ensures { result.now ≡ rate_name fault }
+{
+    match fault {
+        RmFault::NoBuffer => "NoBuffer",
+        RmFault::Order => "Order",
+        RmFault::Layers => "Layers",
+        RmFault::Total => "Total",
+        RmFault::Ragged => "Ragged",
+        RmFault::NoneScheduled => "NoneScheduled",
+    }
+}
