@@ -17,8 +17,6 @@ pub(crate) type Places<'a> = &'a [(usize, usize)];
 
 const NONE: Places<'static> = &[];
 
-const FOUR: Places<'static> = &[(0, 3)];
-
 /// A transmission, the places that are heard, and those that are flipped.
 #[derive(Clone, Copy)]
 pub(crate) struct Arrival<'a> {
@@ -69,22 +67,6 @@ pub(crate) fn hear(
     Ok(receiver.take(&arrival.tx, &places)?)
 }
 
-/// The receiver of a transport block after these transmissions.
-fn receiver_after<'t>(
-    alloc: Global,
-    table: &'t Table,
-    settings: Settings,
-    block: &Bits,
-    arrivals: &[Arrival<'_>],
-) -> Result<Receiver<'t>, Fail> {
-    let sender = Sender::new(alloc, table, settings, block)?;
-    let mut receiver = Receiver::new(alloc, table, settings, block.len() as u32)?;
-    for arrival in arrivals {
-        hear(alloc, &sender, &mut receiver, arrival)?;
-    }
-    Ok(receiver)
-}
-
 /// How many positions a word of a plan has.
 fn size_of(plan: &Plan) -> usize {
     plan.graph.cols() as usize * plan.z as usize
@@ -118,151 +100,222 @@ fn are_accepted(table: &Table, receiver: &Receiver<'_>) -> Result<bool, Fail> {
     Ok(true)
 }
 
-/// The same after these transmissions of a transport block.
+/// The first bits of redundancy version 0: how many there are, and the places that are heard and that are flipped.
+type First = (u32, Places<'static>, Places<'static>);
+
+/// Sends these of a transport block to a receiver.
+fn send_all(
+    alloc: Global,
+    sender: &Sender<'_>,
+    receiver: &mut Receiver<'_>,
+    arrivals: &[First],
+) -> Result<(), Fail> {
+    for (g, heard, flipped) in arrivals.iter().copied() {
+        hear(alloc, sender, receiver, &first(g, heard, flipped))?;
+    }
+    Ok(())
+}
+
+/// Whether the checkers accept what is shown after these transmissions of a sender's transport block.
+fn shows_of(
+    alloc: Global,
+    table: &Table,
+    sender: &Sender<'_>,
+    mut receiver: Receiver<'_>,
+    arrivals: &[First],
+) -> Result<bool, Fail> {
+    send_all(alloc, sender, &mut receiver, arrivals)?;
+    are_accepted(table, &receiver)
+}
+
+/// The same of a new sender and a new receiver.
 fn shows(
     alloc: Global,
     table: &Table,
     settings: Settings,
     block: &Bits,
-    arrivals: &[Arrival<'_>],
+    arrivals: &[First],
 ) -> Result<bool, Fail> {
-    let receiver = receiver_after(alloc, table, settings, block, arrivals)?;
-    are_accepted(table, &receiver)
+    let sender = Sender::new(alloc, table, settings, block)?;
+    let receiver = Receiver::new(alloc, table, settings, block.len() as u32)?;
+    shows_of(alloc, table, &sender, receiver, arrivals)
 }
+
+/// The same of 24 zeros.
+fn zeros_show_over(alloc: Global, table: &Table, arrivals: &[First]) -> Result<bool, Fail> {
+    let block = zeros(alloc, 24)?;
+    shows(alloc, table, PLAIN, &block, arrivals)
+}
+
+/// The same over the practice table.
+fn zeros_show(alloc: Global, arrivals: &[First]) -> Result<bool, Fail> {
+    let table = practice(alloc, 0, 1, false)?;
+    zeros_show_over(alloc, &table, arrivals)
+}
+
+/// The same of an octet.
+fn an_octet_shows_over(
+    alloc: Global,
+    table: &Table,
+    settings: Settings,
+    octet: u8,
+    arrivals: &[First],
+) -> Result<bool, Fail> {
+    let block = Bits::from_bytes(alloc, &[octet])?;
+    shows(alloc, table, settings, &block, arrivals)
+}
+
+/// The same over the practice table.
+fn an_octet_shows(
+    alloc: Global,
+    settings: Settings,
+    octet: u8,
+    arrivals: &[First],
+) -> Result<bool, Fail> {
+    let table = practice(alloc, 0, 1, false)?;
+    an_octet_shows_over(alloc, &table, settings, octet, arrivals)
+}
+
+const ALL: Places<'static> = &[(0, 319)];
+
+const MOST: Places<'static> = &[
+    (0, 32),
+    (47, 95),
+    (103, 165),
+    (173, 235),
+    (243, 305),
+    (313, 319),
+];
+
+const OF_ZEROS: &[&[First]] = &[
+    &[(320, NONE, NONE), (320, ALL, NONE)],
+    &[(1, ALL, NONE), (1, ALL, ALL)],
+    &[(320, ALL, NONE), (1, ALL, ALL)],
+    &[(320, ALL, &[(110, 110)])],
+    &[(320, MOST, NONE)],
+    &[(320, MOST, NONE), (320, &[(96, 96)], NONE)],
+];
 
 // 24 zeros: erased, and then sent whole; one position with both bits; sent whole, and then one more as the other bit; a
 // flipped parity bit; six columns erased, and then one position of them.
 #[test]
 fn zeros_are_certified(rt: HostRuntime) -> Result<(), Fail> {
-    let alloc = rt.alloc();
-    let table = practice(alloc, 0, 1, false)?;
-    let block = zeros(alloc, 24)?;
-    let all: Places<'_> = &[(0, 319)];
-    let most: Places<'_> = &[
-        (0, 32),
-        (47, 95),
-        (103, 165),
-        (173, 235),
-        (243, 305),
-        (313, 319),
-    ];
-    let cases: [&[Arrival<'_>]; 6] = [
-        &[first(320, &[], &[]), first(320, all, &[])],
-        &[first(1, all, &[]), first(1, all, all)],
-        &[first(320, all, &[]), first(1, all, all)],
-        &[first(320, all, &[(110, 110)])],
-        &[first(320, most, &[])],
-        &[first(320, most, &[]), first(320, &[(96, 96)], &[])],
-    ];
-    for (case, arrivals) in cases.iter().enumerate() {
-        assert!(rt;
-            shows(alloc, &table, PLAIN, &block, arrivals)?,
-            "case {case}"
-        );
+    for (case, arrivals) in OF_ZEROS.iter().enumerate() {
+        assert!(rt; zeros_show(rt.alloc(), arrivals)?, "case {case}");
     }
     Ok(())
 }
+
+// The places where the words of two octets differ.
+const FLIPS: Places<'static> = &[
+    (3, 3),
+    (10, 10),
+    (15, 15),
+    (22, 23),
+    (26, 27),
+    (34, 34),
+    (38, 38),
+    (60, 60),
+    (67, 67),
+    (72, 72),
+    (76, 76),
+    (102, 102),
+    (105, 105),
+    (114, 114),
+    (118, 118),
+    (140, 140),
+    (147, 147),
+    (152, 152),
+    (156, 156),
+    (182, 182),
+];
+
+const OF_AN_OCTET: &[&[First]] = &[
+    &[],
+    &[(184, ALL, NONE)],
+    &[(24, ALL, NONE)],
+    &[(24, ALL, NONE), (28, &[(24, 27)], NONE)],
+    &[(6, &[(0, 0), (2, 2), (4, 5)], NONE)],
+    &[(184, ALL, FLIPS)],
+    &[(184, NONE, ALL)],
+];
 
 // Octet 01: nothing; all of the buffer; four positions left, and then told; two places of six erased; 22 flips to the
 // word of another block; every place erased.
 #[test]
 fn an_octet_is_certified(rt: HostRuntime) -> Result<(), Fail> {
-    let alloc = rt.alloc();
-    let table = practice(alloc, 0, 1, false)?;
-    let block = Bits::from_bytes(alloc, &[0x01])?;
-    let all: Places<'_> = &[(0, 183)];
-    let cases: [&[Arrival<'_>]; 7] = [
-        &[],
-        &[first(184, all, &[])],
-        &[first(24, all, &[])],
-        &[first(24, all, &[]), first(28, &[(24, 27)], &[])],
-        &[first(6, &[(0, 0), (2, 2), (4, 5)], &[])],
-        &[first(
-            184,
-            all,
-            &[
-                (3, 3),
-                (10, 10),
-                (15, 15),
-                (22, 23),
-                (26, 27),
-                (34, 34),
-                (38, 38),
-                (60, 60),
-                (67, 67),
-                (72, 72),
-                (76, 76),
-                (102, 102),
-                (105, 105),
-                (114, 114),
-                (118, 118),
-                (140, 140),
-                (147, 147),
-                (152, 152),
-                (156, 156),
-                (182, 182),
-            ],
-        )],
-        &[first(184, &[], all)],
-    ];
-    for (case, arrivals) in cases.iter().enumerate() {
+    for (case, arrivals) in OF_AN_OCTET.iter().enumerate() {
         assert!(rt;
-            shows(alloc, &table, PLAIN, &block, arrivals)?,
+            an_octet_shows(rt.alloc(), PLAIN, 0x01, arrivals)?,
             "case {case}"
         );
     }
     Ok(())
 }
 
+const ONE_BIT: Settings = Settings {
+    rate2048: 2048,
+    lbrm: Some(1),
+};
+
 // A buffer of one bit, and a block whose first bit alone is a one.
 #[test]
 fn few_bits_are_certified(rt: HostRuntime) -> Result<(), Fail> {
-    let alloc = rt.alloc();
-    let table = practice(alloc, 0, 1, false)?;
-    let one_bit = Settings {
-        rate2048: 2048,
-        lbrm: Some(1),
-    };
-    for (settings, octet, g) in [(one_bit, 0x01, 4), (PLAIN, 0x80, 32)] {
-        let block = Bits::from_bytes(alloc, &[octet])?;
-        let arrivals = [first(g, &[(0, 31)], &[])];
-        assert!(rt;
-            shows(alloc, &table, settings, &block, &arrivals)?,
-            "{g} bits"
-        );
-    }
+    assert!(rt; an_octet_shows(rt.alloc(), ONE_BIT, 0x01, &[(4, ALL, NONE)])?);
+    assert!(rt; an_octet_shows(rt.alloc(), PLAIN, 0x80, &[(32, ALL, NONE)])?);
     Ok(())
+}
+
+/// Whether the checkers accept what is shown after one transmission of 3832 zeros at the rate 0.25.
+fn shows_after(alloc: Global, table: &Table, arrival: &Arrival<'_>) -> Result<bool, Fail> {
+    let quarter = Settings {
+        rate2048: 512,
+        lbrm: None,
+    };
+    let mut receiver = Receiver::new(alloc, table, quarter, 3832)?;
+    hear_zeros(alloc, table, quarter, &mut receiver, arrival)?;
+    are_accepted(table, &receiver)
+}
+
+/// Sends a transmission of 3832 zeros.
+fn hear_zeros(
+    alloc: Global,
+    table: &Table,
+    settings: Settings,
+    receiver: &mut Receiver<'_>,
+    arrival: &Arrival<'_>,
+) -> Result<(), Fail> {
+    let block = zeros(alloc, 3832)?;
+    let sender = Sender::new(alloc, table, settings, &block)?;
+    hear(alloc, &sender, receiver, arrival)?;
+    Ok(())
+}
+
+/// The same of four bits of these code blocks.
+fn two_code_blocks_show(alloc: Global, mask: Mask, heard: Places<'_>) -> Result<bool, Fail> {
+    let table = practice(alloc, 0, 1, false)?;
+    let tx = Tx {
+        rv: 0,
+        g: 4,
+        qm: 4,
+        nl: 1,
+        mask,
+    };
+    let arrival = Arrival {
+        tx,
+        heard,
+        flipped: NONE,
+    };
+    shows_after(alloc, &table, &arrival)
 }
 
 // 479 octets at the rate 0.25 are two code blocks. Nothing is heard of them; then four bits of the second, which alone is
 // scheduled.
 #[test]
 fn two_code_blocks_are_certified(rt: HostRuntime) -> Result<(), Fail> {
-    let alloc = rt.alloc();
-    let table = practice(alloc, 0, 1, false)?;
-    let quarter = Settings {
-        rate2048: 512,
-        lbrm: None,
-    };
-    let block = zeros(alloc, 3832)?;
-    for (mask, heard) in [(Mask::All, NONE), (Mask::Only([2, 0, 0, 0, 0, 0]), FOUR)] {
-        let tx = Tx {
-            rv: 0,
-            g: 4,
-            qm: 4,
-            nl: 1,
-            mask,
-        };
-        let arrivals = [Arrival {
-            tx,
-            heard,
-            flipped: &[],
-        }];
-        assert!(rt;
-            shows(alloc, &table, quarter, &block, &arrivals)?,
-            "{mask:?}"
-        );
-    }
+    assert!(rt; two_code_blocks_show(rt.alloc(), Mask::All, NONE)?);
+    let second = Mask::Only([2, 0, 0, 0, 0, 0]);
+    assert!(rt; two_code_blocks_show(rt.alloc(), second, &[(0, 3)])?);
     Ok(())
 }
 
@@ -288,17 +341,27 @@ fn hears_place_by_place(
     Ok(last)
 }
 
+/// The same of octet 01 and a new receiver; how often its peeler visited a pair, and whether the checkers accept it.
+fn place_by_place(alloc: Global, table: &Table) -> Result<((u32, u8), u64, bool), Fail> {
+    let sender = sender_of(alloc, table, 0x01)?;
+    let mut receiver = receiver_of(alloc, table)?;
+    let last = hears_place_by_place(alloc, &sender, &mut receiver)?;
+    let accepted = are_accepted(table, &receiver)?;
+    Ok((last, touches_of(&receiver), accepted))
+}
+
+/// The same over the practice table.
+fn all_place_by_place(alloc: Global) -> Result<((u32, u8), u64, bool), Fail> {
+    let table = practice(alloc, 0, 1, false)?;
+    place_by_place(alloc, &table)
+}
+
 // The table has 105 entries, so with four lanes 420 pairs.
 #[test]
 fn place_by_place_is_certified(rt: HostRuntime) -> Result<(), Fail> {
-    let alloc = rt.alloc();
-    let table = practice(alloc, 0, 1, false)?;
-    let sender = sender_of(alloc, &table, 0x01)?;
-    let mut receiver = receiver_of(alloc, &table)?;
-    let last = hears_place_by_place(alloc, &sender, &mut receiver)?;
+    let (last, touches, accepted) = all_place_by_place(rt.alloc())?;
     assert_eq!(rt; last, (1, 0x01));
-    let touches = touches_of(&receiver);
     assert!(rt; 420 <= touches && touches <= 840, "{touches}");
-    assert!(rt; are_accepted(&table, &receiver)?);
+    assert!(rt; accepted);
     Ok(())
 }

@@ -12,9 +12,11 @@ use nr_shifttable::Table;
 use std::alloc::Global;
 use std::test::Fail;
 
-/// Transport blocks: the octets, the code rate in 2048ths, the base graph, and C, K', Zc and its set index, by hand
-/// from TS 38.212, 5.2.2, 5.3.2 and 6.2.2.
-const BLOCKS: [(u32, u32, Graph, [u32; 4]); 21] = [
+/// A transport block: the octets, the code rate in 2048ths, the base graph, and C, K', Zc and its set index.
+type Kind = (u32, u32, Graph, [u32; 4]);
+
+// By hand from TS 38.212, 5.2.2, 5.3.2 and 6.2.2.
+const BLOCKS: &[Kind] = &[
     (1, 2048, Graph::Two, [1, 24, 4, 0]),
     (7, 2048, Graph::Two, [1, 72, 12, 1]),
     (5, 2048, Graph::Two, [1, 56, 10, 2]),
@@ -147,44 +149,88 @@ fn is_contradicted(
 /// way, whether it is delivered again in all ways, and whether one flip contradicts at last.
 fn answers(
     alloc: Global,
+    sent: (&Bits, &Sender<'_>),
+    receiver: &mut Receiver<'_>,
+    way: Way,
+) -> Result<[bool; 4], Fail> {
+    let whole = sent.1.plan().n;
+    let open = stays_open(alloc, sent.1, receiver)?;
+    let delivered = is_delivered(alloc, sent, receiver, way, whole)?;
+    let again = is_delivered_again(alloc, sent, receiver)?;
+    let contradicted = is_contradicted(alloc, sent.1, receiver)?;
+    Ok([open, delivered, again, contradicted])
+}
+
+/// The base graph of a receiver's plan, and its C, K', Zc and set index.
+fn numbers_of(receiver: &Receiver<'_>) -> (Graph, [u32; 4]) {
+    let plan = receiver.plan();
+    (plan.graph, [plan.c, plan.kdash, plan.z, plan.set])
+}
+
+/// The base graph and the numbers of a new receiver's plan, and what comes of a block that is sent to it.
+type Answers = ((Graph, [u32; 4]), [bool; 4]);
+
+/// The answers of a new receiver.
+fn answers_of(
+    alloc: Global,
+    table: &Table,
+    settings: Settings,
+    sent: (&Bits, &Sender<'_>),
+    way: Way,
+) -> Result<Answers, Fail> {
+    let mut receiver = Receiver::new(alloc, table, settings, sent.0.len() as u32)?;
+    let numbers = numbers_of(&receiver);
+    let answers = answers(alloc, sent, &mut receiver, way)?;
+    Ok((numbers, answers))
+}
+
+/// The answers of a new sender and a new receiver of a block.
+fn answers_to(
+    alloc: Global,
     table: &Table,
     settings: Settings,
     block: &Bits,
     way: Way,
-) -> Result<[bool; 4], Fail> {
+) -> Result<Answers, Fail> {
     let sender = Sender::new(alloc, table, settings, block)?;
-    let mut receiver = Receiver::new(alloc, table, settings, block.len() as u32)?;
-    let sent = (block, &sender);
-    let whole = sender.plan().n;
-    let open = stays_open(alloc, &sender, &mut receiver)?;
-    let delivered = is_delivered(alloc, sent, &mut receiver, way, whole)?;
-    let again = is_delivered_again(alloc, sent, &mut receiver)?;
-    let contradicted = is_contradicted(alloc, &sender, &mut receiver)?;
-    Ok([open, delivered, again, contradicted])
+    answers_of(alloc, table, settings, (block, &sender), way)
+}
+
+/// The answers to a block of so many octets at a code rate.
+fn answers_over(
+    alloc: Global,
+    table: &Table,
+    octets: u32,
+    rate2048: u32,
+    way: Way,
+) -> Result<Answers, Fail> {
+    let block = counting(alloc, octets)?;
+    let settings = Settings {
+        rate2048,
+        lbrm: None,
+    };
+    answers_to(alloc, table, settings, &block, way)
+}
+
+/// The same over the practice table of both base graphs.
+fn all_answers(alloc: Global, octets: u32, rate2048: u32, way: Way) -> Result<Answers, Fail> {
+    let table = practice_of_both(alloc)?;
+    answers_over(alloc, &table, octets, rate2048, way)
+}
+
+/// A way to send, and after the last one the first one again.
+fn way_of(i: usize) -> Way {
+    WAYS[i % 8]
 }
 
 // One bit of each code block is less than its K' bits. All bits of the buffer fix the columns that are never sent, since
 // some row from 4 on has each of them and its own parity column.
 #[test]
 fn delivers_blocks_of_each_kind(rt: HostRuntime) -> Result<(), Fail> {
-    let alloc = rt.alloc();
-    let table = practice_of_both(alloc)?;
-    for (i, (octets, rate2048, graph, numbers)) in BLOCKS.into_iter().enumerate() {
-        let block = counting(alloc, octets)?;
-        let settings = Settings {
-            rate2048,
-            lbrm: None,
-        };
-        let receiver = Receiver::new(alloc, &table, settings, block.len() as u32)?;
-        let plan = receiver.plan();
+    for (i, (octets, rate2048, graph, numbers)) in BLOCKS.iter().copied().enumerate() {
         assert_eq!(rt;
-            (plan.graph, [plan.c, plan.kdash, plan.z, plan.set]),
-            (graph, numbers),
-            "{octets} octets"
-        );
-        assert_eq!(rt;
-            answers(alloc, &table, settings, &block, WAYS[i % 8])?,
-            [true; 4],
+            all_answers(rt.alloc(), octets, rate2048, way_of(i))?,
+            ((graph, numbers), [true; 4]),
             "{octets} octets"
         );
     }

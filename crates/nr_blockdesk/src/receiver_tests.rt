@@ -109,32 +109,60 @@ fn answers(
 }
 
 /// The same of a new receiver.
-fn all_answers(alloc: Global, table: &Table) -> Result<[(Option<(u32, u32)>, (u32, u8)); 3], Fail> {
+fn answers_of(alloc: Global, table: &Table) -> Result<[(Option<(u32, u32)>, (u32, u8)); 3], Fail> {
     let sender = sender_of(alloc, table, 0x01)?;
     let mut receiver = receiver_of(alloc, table)?;
     answers(alloc, &sender, &mut receiver)
+}
+
+/// The same over the practice table.
+fn all_answers(alloc: Global) -> Result<[(Option<(u32, u32)>, (u32, u8)); 3], Fail> {
+    let table = practice(alloc, 0, 1, false)?;
+    answers_of(alloc, &table)
 }
 
 // By hand from the practice table's rows: the first 24 bits are columns 2 to 5, 10 and 11. Row 0 then fixes column 0, and
 // column 1 is left, as rows 1 to 3 have two unknown columns each. Column 12 fixes it by row 1.
 #[test]
 fn receives_by_hand(rt: HostRuntime) -> Result<(), Fail> {
-    let table = practice(rt.alloc(), 0, 1, false)?;
-    let [first, second, third] = all_answers(rt.alloc(), &table)?;
+    let [first, second, third] = all_answers(rt.alloc())?;
     assert_eq!(rt; first, (Some((24, 24)), (0, 0)));
     assert_eq!(rt; second, (Some((4, 4)), (1, 1)));
     assert_eq!(rt; third, (Some((0, 0)), (2, 0)));
     Ok(())
 }
 
+/// The causes against redundancy version 4, and against one place for 28 bits.
+fn refusals(alloc: Global, table: &Table) -> Result<[Option<DeskFault>; 2], Fail> {
+    let mut receiver = receiver_of(alloc, table)?;
+    let version = refuses(&mut receiver, 4, 28);
+    let length = refuses(&mut receiver, 0, 28);
+    Ok([version, length])
+}
+
+/// The cause against a receiver of transport blocks of 12 bits.
+fn refuses_12_bits(alloc: Global, table: &Table) -> Option<DeskFault> {
+    Receiver::new(alloc, table, PLAIN, 12).err()
+}
+
+/// All three causes.
+fn all_refusals(alloc: Global, table: &Table) -> Result<[Option<DeskFault>; 3], Fail> {
+    let [version, length] = refusals(alloc, table)?;
+    Ok([version, length, refuses_12_bits(alloc, table)])
+}
+
+/// The same over the practice table.
+fn refusals_of_practice(alloc: Global) -> Result<[Option<DeskFault>; 3], Fail> {
+    let table = practice(alloc, 0, 1, false)?;
+    all_refusals(alloc, &table)
+}
+
 #[test]
 fn refuses_to_receive(rt: HostRuntime) -> Result<(), Fail> {
-    let table = practice(rt.alloc(), 0, 1, false)?;
-    let mut receiver = receiver_of(rt.alloc(), &table)?;
-    assert_eq!(rt; refuses(&mut receiver, 4, 28), Some(DeskFault::Rv));
-    assert_eq!(rt; refuses(&mut receiver, 0, 28), Some(DeskFault::Length));
-    let odd = Receiver::new(rt.alloc(), &table, PLAIN, 12);
-    assert_eq!(rt; odd.err(), Some(DeskFault::Size));
+    let [version, length, odd] = refusals_of_practice(rt.alloc())?;
+    assert_eq!(rt; version, Some(DeskFault::Rv));
+    assert_eq!(rt; length, Some(DeskFault::Length));
+    assert_eq!(rt; odd, Some(DeskFault::Size));
     Ok(())
 }
 
@@ -178,19 +206,33 @@ fn hears_refused(alloc: Global, receiver: &mut Receiver<'_>) -> Result<(u32, u8)
     hears_nothing(alloc, receiver)
 }
 
-/// What a receiver answers in turn: to all of the buffer as zeros; after two refusals, to all of it erased.
-fn hears_all_then_nothing(
-    alloc: Global,
-    receiver: &mut Receiver<'_>,
-) -> Result<[(u32, u8); 2], Fail> {
-    let first = hears_all(alloc, receiver, 320)?;
-    let second = hears_refused(alloc, receiver)?;
-    Ok([first, second])
-}
-
 /// What a receiver answers to a transmission of one bit.
 fn hears_one(receiver: &mut Receiver<'_>, place: Heard) -> Result<(u32, u8), DeskFault> {
     takes(receiver, &[place])
+}
+
+/// What a receiver answers in turn: to all of the buffer as zeros; after two refusals, to all of it erased; to its first
+/// place heard as a one.
+fn hears_all_then_nothing(
+    alloc: Global,
+    receiver: &mut Receiver<'_>,
+) -> Result<[(u32, u8); 3], Fail> {
+    let first = hears_all(alloc, receiver, 320)?;
+    let second = hears_refused(alloc, receiver)?;
+    let third = hears_one(receiver, Heard::One)?;
+    Ok([first, second, third])
+}
+
+/// The same of a new receiver.
+fn all_then_nothing_over(alloc: Global, table: &Table) -> Result<[(u32, u8); 3], Fail> {
+    let mut receiver = wide_receiver_of(alloc, table)?;
+    hears_all_then_nothing(alloc, &mut receiver)
+}
+
+/// The same over the practice table.
+fn all_then_nothing(alloc: Global) -> Result<[(u32, u8); 3], Fail> {
+    let table = practice(alloc, 0, 1, false)?;
+    all_then_nothing_over(alloc, &table)
 }
 
 /// What a receiver answers to its first place heard as a zero, and then as a one.
@@ -200,12 +242,34 @@ fn clashes(receiver: &mut Receiver<'_>) -> Result<[(u32, u8); 2], DeskFault> {
     Ok([first, second])
 }
 
+/// The same of a new receiver.
+fn clash_over(alloc: Global, table: &Table) -> Result<[(u32, u8); 2], Fail> {
+    let mut receiver = wide_receiver_of(alloc, table)?;
+    Ok(clashes(&mut receiver)?)
+}
+
+/// The same over the practice table.
+fn clash(alloc: Global) -> Result<[(u32, u8); 2], Fail> {
+    let table = practice(alloc, 0, 1, false)?;
+    clash_over(alloc, &table)
+}
+
+/// What a new receiver answers to all of the buffer as zeros, but a one at place `one`.
+fn flip_over(alloc: Global, table: &Table, one: usize) -> Result<(u32, u8), Fail> {
+    let mut receiver = wide_receiver_of(alloc, table)?;
+    hears_all(alloc, &mut receiver, one)
+}
+
+/// The same over the practice table.
+fn flip(alloc: Global, one: usize) -> Result<(u32, u8), Fail> {
+    let table = practice(alloc, 0, 1, false)?;
+    flip_over(alloc, &table, one)
+}
+
 // A clash is no contradiction while positions are left.
 #[test]
 fn stays_open_with_a_clash(rt: HostRuntime) -> Result<(), Fail> {
-    let table = practice(rt.alloc(), 0, 1, false)?;
-    let mut receiver = wide_receiver_of(rt.alloc(), &table)?;
-    assert_eq!(rt; clashes(&mut receiver)?, [(0, 0), (0, 0)]);
+    assert_eq!(rt; clash(rt.alloc())?, [(0, 0), (0, 0)]);
     Ok(())
 }
 
@@ -213,20 +277,14 @@ fn stays_open_with_a_clash(rt: HostRuntime) -> Result<(), Fail> {
 // contradicts.
 #[test]
 fn answers_by_all_that_was_heard(rt: HostRuntime) -> Result<(), Fail> {
-    let table = practice(rt.alloc(), 0, 1, false)?;
-    let mut receiver = wide_receiver_of(rt.alloc(), &table)?;
-    let answers = hears_all_then_nothing(rt.alloc(), &mut receiver)?;
-    assert_eq!(rt; answers, [(1, 0), (1, 0)]);
-    assert_eq!(rt; hears_one(&mut receiver, Heard::One)?, (2, 0));
+    assert_eq!(rt; all_then_nothing(rt.alloc())?, [(1, 0), (1, 0), (2, 0)]);
     Ok(())
 }
 
 // Place 110 is a parity bit: all positions below K' are as in the block of zeros.
 #[test]
 fn a_flipped_parity_bit_contradicts(rt: HostRuntime) -> Result<(), Fail> {
-    let table = practice(rt.alloc(), 0, 1, false)?;
-    let mut receiver = wide_receiver_of(rt.alloc(), &table)?;
-    assert_eq!(rt; hears_all(rt.alloc(), &mut receiver, 110)?, (2, 0));
+    assert_eq!(rt; flip(rt.alloc(), 110)?, (2, 0));
     Ok(())
 }
 
@@ -242,27 +300,54 @@ fn hears_zeros_but(
     Ok(takes(receiver, &places)?)
 }
 
+/// Zeros from a place on and before a place, but a one at a place, and the answer.
+type Turn = (usize, usize, usize, (u32, u8));
+
+const TURNS: &[Turn] = &[
+    (0, 24, 24, (0, 0)),
+    (24, 110, 110, (1, 0)),
+    (111, 120, 120, (1, 0)),
+    (0, 110, 110, (1, 0)),
+    (110, 111, 110, (2, 0)),
+    (0, 110, 110, (2, 0)),
+    (111, 130, 130, (2, 0)),
+];
+
+/// The first of these turns, by its first place and the place behind its last, that a receiver answers otherwise, and how.
+fn first_other(
+    alloc: Global,
+    receiver: &mut Receiver<'_>,
+    turns: &[Turn],
+) -> Result<Option<(usize, usize, (u32, u8))>, Fail> {
+    for (from, to, one, answer) in turns.iter().copied() {
+        let told = hears_zeros_but(alloc, receiver, from, to, one)?;
+        if told != answer {
+            return Ok(Some((from, to, told)));
+        }
+    }
+    Ok(None)
+}
+
+/// The same of a new receiver.
+fn first_other_turn_over(
+    alloc: Global,
+    table: &Table,
+) -> Result<Option<(usize, usize, (u32, u8))>, Fail> {
+    let mut receiver = wide_receiver_of(alloc, table)?;
+    first_other(alloc, &mut receiver, TURNS)
+}
+
+/// The same over the practice table.
+fn first_other_turn(alloc: Global) -> Result<Option<(usize, usize, (u32, u8))>, Fail> {
+    let table = practice(alloc, 0, 1, false)?;
+    first_other_turn_over(alloc, &table)
+}
+
 // The first 26 places are columns 2 to 5, and each 7 more are a parity column. Columns 20 and 21, places 96 to 109, are
 // columns 0 and 1 turned, and so the first 110 places fix all: the block of zeros. What comes after is heard for the
 // first time: zeros agree with the codeword of zeros, a one at place 110 doesn't, and no zeros make it good.
 #[test]
 fn a_contradiction_stays(rt: HostRuntime) -> Result<(), Fail> {
-    let table = practice(rt.alloc(), 0, 1, false)?;
-    let mut receiver = wide_receiver_of(rt.alloc(), &table)?;
-    for (from, to, one, answer) in [
-        (0, 24, 24, (0, 0)),
-        (24, 110, 110, (1, 0)),
-        (111, 120, 120, (1, 0)),
-        (0, 110, 110, (1, 0)),
-        (110, 111, 110, (2, 0)),
-        (0, 110, 110, (2, 0)),
-        (111, 130, 130, (2, 0)),
-    ] {
-        assert_eq!(rt;
-            hears_zeros_but(rt.alloc(), &mut receiver, from, to, one)?,
-            answer,
-            "{from} to {to}"
-        );
-    }
+    assert_eq!(rt; first_other_turn(rt.alloc())?, None);
     Ok(())
 }

@@ -13,7 +13,7 @@ mod processes;
 
 /// Octets of transport blocks, and the code rate in 2048ths: one code block and two, of base graph 2 and of base graph
 /// 1.
-const BLOCKS: [(u32, u32); 4] = [(1, 2048), (479, 512), (37, 2048), (1054, 2048)];
+const BLOCKS: &[(u32, u32)] = &[(1, 2048), (479, 512), (37, 2048), (1054, 2048)];
 
 /// A code rate, and no limit of the buffer.
 fn at_rate(rate2048: u32) -> Settings {
@@ -29,52 +29,114 @@ pub(crate) fn has_memory(alloc: Global) -> Result<(), AllocError> {
     Ok(())
 }
 
+/// Ends by the cause against a call, if there is one.
+pub(crate) fn end(cause: Option<DeskFault>) -> Result<(), DeskFault> {
+    match cause {
+        Some(fault) => Err(fault),
+        None => Ok(()),
+    }
+}
+
+/// The cause against a call, and, where there is one, the cause against the same call made again.
+type Causes = [Option<DeskFault>; 2];
+
+/// The causes against a sender.
+fn against_a_sender(
+    alloc: Global,
+    table: &Table,
+    settings: Settings,
+    block: &Bits,
+) -> Result<Causes, Fail> {
+    let cause = Sender::new(alloc, table, settings, block).err();
+    if cause.is_none() {
+        return Ok([None; 2]);
+    }
+    has_memory(alloc)?;
+    Ok([cause, Sender::new(alloc, table, settings, block).err()])
+}
+
+/// The causes against a sender of so many octets.
+fn against_a_sender_of(
+    alloc: Global,
+    table: &Table,
+    octets: u32,
+    rate2048: u32,
+) -> Result<Causes, Fail> {
+    let block = counting(alloc, octets)?;
+    against_a_sender(alloc, table, at_rate(rate2048), &block)
+}
+
 #[test]
 fn makes_a_sender(rt: HostRuntime) -> Result<(), Fail> {
     let table = practice_of_both(rt.alloc())?;
-    for (octets, rate2048) in BLOCKS {
-        let block = counting(rt.alloc(), octets)?;
-        let made = Sender::new(rt.alloc(), &table, at_rate(rate2048), &block);
-        if made.is_err() {
-            has_memory(rt.alloc())?;
-            let again = Sender::new(rt.alloc(), &table, at_rate(rate2048), &block);
-            assert_eq!(rt; again.err(), None, "{octets} octets");
-        }
-        made?;
+    for (octets, rate2048) in BLOCKS.iter().copied() {
+        let [cause, again] = against_a_sender_of(rt.alloc(), &table, octets, rate2048)?;
+        assert_eq!(rt; again, None, "{octets} octets");
+        end(cause)?;
     }
     Ok(())
 }
 
-// Both code blocks have a part of 4 bits.
+/// The causes against the bits that a sender sends: both code blocks have a part of 4 bits.
+fn against_bits(alloc: Global, sender: &Sender<'_>) -> Result<Causes, Fail> {
+    let tx = on_one_layer(0, 8, 4);
+    let cause = sender.send(&tx).err();
+    if cause.is_none() {
+        return Ok([None; 2]);
+    }
+    has_memory(alloc)?;
+    Ok([cause, sender.send(&tx).err()])
+}
+
+/// The causes against the bits of so many octets.
+fn against_bits_of(
+    alloc: Global,
+    table: &Table,
+    octets: u32,
+    rate2048: u32,
+) -> Result<Causes, Fail> {
+    let block = counting(alloc, octets)?;
+    let sender = Sender::new(alloc, table, at_rate(rate2048), &block)?;
+    against_bits(alloc, &sender)
+}
+
 #[test]
 fn sends(rt: HostRuntime) -> Result<(), Fail> {
     let table = practice_of_both(rt.alloc())?;
-    for (octets, rate2048) in BLOCKS {
-        let block = counting(rt.alloc(), octets)?;
-        let sender = Sender::new(rt.alloc(), &table, at_rate(rate2048), &block)?;
-        let tx = on_one_layer(0, 8, 4);
-        let sent = sender.send(&tx);
-        if sent.is_err() {
-            has_memory(rt.alloc())?;
-            assert_eq!(rt; sender.send(&tx).err(), None, "{octets} octets");
-        }
-        sent?;
+    for (octets, rate2048) in BLOCKS.iter().copied() {
+        let [cause, again] = against_bits_of(rt.alloc(), &table, octets, rate2048)?;
+        assert_eq!(rt; again, None, "{octets} octets");
+        end(cause)?;
     }
     Ok(())
+}
+
+/// The causes against a receiver of so many octets.
+fn against_a_receiver_of(
+    alloc: Global,
+    table: &Table,
+    octets: u32,
+    rate2048: u32,
+) -> Result<Causes, Fail> {
+    let a = octets.saturating_mul(8);
+    let cause = Receiver::new(alloc, table, at_rate(rate2048), a).err();
+    if cause.is_none() {
+        return Ok([None; 2]);
+    }
+    has_memory(alloc)?;
+    Ok([
+        cause,
+        Receiver::new(alloc, table, at_rate(rate2048), a).err(),
+    ])
 }
 
 #[test]
 fn makes_a_receiver(rt: HostRuntime) -> Result<(), Fail> {
     let table = practice_of_both(rt.alloc())?;
-    for (octets, rate2048) in BLOCKS {
-        let a = octets.saturating_mul(8);
-        let made = Receiver::new(rt.alloc(), &table, at_rate(rate2048), a);
-        if made.is_err() {
-            has_memory(rt.alloc())?;
-            let again = Receiver::new(rt.alloc(), &table, at_rate(rate2048), a);
-            assert_eq!(rt; again.err(), None, "{octets} octets");
-        }
-        made?;
+    for (octets, rate2048) in BLOCKS.iter().copied() {
+        let [cause, again] = against_a_receiver_of(rt.alloc(), &table, octets, rate2048)?;
+        assert_eq!(rt; again, None, "{octets} octets");
+        end(cause)?;
     }
     Ok(())
 }
@@ -94,23 +156,45 @@ fn hears_ones(receiver: &mut Receiver<'_>) -> Option<DeskFault> {
     answer.err()
 }
 
+/// Whether what a receiver's first peeler was given is as before the ones, where they are refused; and whether it is
+/// another then, once they were heard.
+type Given = (bool, bool);
+
+/// The causes against the ones that a receiver hears, and what its first peeler is given.
+fn hears_anew(alloc: Global, receiver: &mut Receiver<'_>) -> Result<(Causes, Given), Fail> {
+    let before = given(alloc, receiver)?;
+    let cause = hears_ones(receiver);
+    if cause.is_none() {
+        let heard = given(alloc, receiver)? != before;
+        return Ok(([None; 2], (true, heard)));
+    }
+    let kept = given(alloc, receiver)? == before;
+    let again = hears_ones(receiver);
+    let heard = given(alloc, receiver)? != before;
+    Ok(([cause, again], (kept, heard)))
+}
+
+/// The same of a new receiver of so many octets.
+fn hears_anew_of(
+    alloc: Global,
+    table: &Table,
+    octets: u32,
+    rate2048: u32,
+) -> Result<(Causes, Given), Fail> {
+    let a = octets.saturating_mul(8);
+    let mut receiver = Receiver::new(alloc, table, at_rate(rate2048), a)?;
+    hears_anew(alloc, &mut receiver)
+}
+
 // The ones are heard at 24 positions; none of them is a filler.
 #[test]
 fn takes(rt: HostRuntime) -> Result<(), Fail> {
     let table = practice_of_both(rt.alloc())?;
-    for (octets, rate2048) in BLOCKS {
-        let a = octets.saturating_mul(8);
-        let mut receiver = Receiver::new(rt.alloc(), &table, at_rate(rate2048), a)?;
-        let before = given(rt.alloc(), &receiver)?;
-        let fault = hears_ones(&mut receiver);
-        if fault.is_some() {
-            assert_eq!(rt; given(rt.alloc(), &receiver)?, before, "{octets} octets");
-            assert_eq!(rt; hears_ones(&mut receiver), None, "{octets} octets");
-        }
-        assert!(rt; given(rt.alloc(), &receiver)? != before, "{octets} octets");
-        if let Some(fault) = fault {
-            return Err(fault.into());
-        }
+    for (octets, rate2048) in BLOCKS.iter().copied() {
+        let ([cause, again], given) = hears_anew_of(rt.alloc(), &table, octets, rate2048)?;
+        assert_eq!(rt; again, None, "{octets} octets");
+        assert_eq!(rt; given, (true, true), "{octets} octets");
+        end(cause)?;
     }
     Ok(())
 }

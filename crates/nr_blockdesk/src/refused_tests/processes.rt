@@ -1,7 +1,7 @@
 //! Each call of processes that takes memory: where a growth is refused, all processes are as before, and where that
 //! growth alone was refused, the call is made again, and is not refused.
 
-use super::has_memory;
+use super::{end, has_memory};
 use crate::practice::{PLAIN, practice_of_both};
 use crate::processes_tests::{left, takes};
 use crate::{DeskFault, Heard, Processes};
@@ -31,49 +31,101 @@ fn left_of_two(processes: &Processes<'_>) -> [Option<u32>; 2] {
     [left(processes, 0), left(processes, 1)]
 }
 
+/// The cause against a call, and, where there is one, the cause against the same call made again; and how many positions
+/// are left where it was refused, if it was, and at last.
+type Answers = (
+    [Option<DeskFault>; 2],
+    Option<[Option<u32>; 2]>,
+    [Option<u32>; 2],
+);
+
+/// The answers where process 0 begins with a transport block of `a` bits.
+fn begins_anew(alloc: Global, processes: &mut Processes<'_>, a: u32) -> Result<Answers, Fail> {
+    let cause = processes.begin(0, a).err();
+    if cause.is_none() {
+        return Ok(([None; 2], None, left_of_two(processes)));
+    }
+    let kept = left_of_two(processes);
+    has_memory(alloc)?;
+    let again = processes.begin(0, a).err();
+    Ok(([cause, again], Some(kept), left_of_two(processes)))
+}
+
+/// The same of two processes that have begun.
+fn begins_anew_of(alloc: Global, table: &Table, a: u32) -> Result<Answers, Fail> {
+    let mut processes = two(alloc, table)?;
+    begins_anew(alloc, &mut processes, a)
+}
+
+/// The bits of a transport block, and its K'.
+const BLOCKS: &[(u32, u32)] = &[(8, 24), (296, 312), (8432, 4252)];
+
 // All K' positions are left: of one code block of base graph 2 and of base graph 1, and of the first of two.
 #[test]
 fn begins(rt: HostRuntime) -> Result<(), Fail> {
     let table = practice_of_both(rt.alloc())?;
-    for (a, all) in [(8, 24), (296, 312), (8432, 4252)] {
-        let mut processes = two(rt.alloc(), &table)?;
-        let answer = processes.begin(0, a);
-        if answer.is_err() {
-            assert_eq!(rt; left_of_two(&processes), [Some(4); 2], "{a} bits");
-            has_memory(rt.alloc())?;
-            assert_eq!(rt; processes.begin(0, a), Ok(()), "{a} bits");
-        }
-        assert_eq!(rt; left_of_two(&processes), [Some(all), Some(4)], "{a} bits");
-        answer?;
+    for (a, all) in BLOCKS.iter().copied() {
+        let ([cause, again], kept, left) = begins_anew_of(rt.alloc(), &table, a)?;
+        assert_eq!(rt; kept.unwrap_or([Some(4); 2]), [Some(4); 2], "{a} bits");
+        assert_eq!(rt; again, None, "{a} bits");
+        assert_eq!(rt; left, [Some(all), Some(4)], "{a} bits");
+        end(cause)?;
     }
     Ok(())
 }
+
+/// What process 1 answers to places, and, where it is refused, what it answers to them once more; the cause then; and
+/// how many positions are left where it was refused, if it was, and at last.
+type Taken = (
+    Result<Option<(u32, u8)>, DeskFault>,
+    Option<DeskFault>,
+    Option<[Option<u32>; 2]>,
+    [Option<u32>; 2],
+);
+
+/// The same of processes of which 1 has begun.
+fn takes_anew(
+    alloc: Global,
+    processes: &mut Processes<'_>,
+    places: &[Heard],
+) -> Result<Taken, Fail> {
+    let tx = (0, places.len().min(9) as u32);
+    let answer = takes(processes, 1, tx, places);
+    let cause = answer.err();
+    if cause.is_none() {
+        return Ok((answer, None, None, left_of_two(processes)));
+    }
+    let kept = left_of_two(processes);
+    has_memory(alloc)?;
+    let again = takes(processes, 1, tx, places);
+    Ok((again, cause, Some(kept), left_of_two(processes)))
+}
+
+/// The same of two processes that have begun, and process 1 then with a transport block of `a` bits.
+fn takes_anew_of(alloc: Global, table: &Table, a: u32, places: &[Heard]) -> Result<Taken, Fail> {
+    let mut processes = two(alloc, table)?;
+    processes.begin(1, a)?;
+    takes_anew(alloc, &mut processes, places)
+}
+
+/// The bits of a transport block, its K', and what is heard of it.
+const ARRIVALS: &[(u32, u32, &[Heard])] = &[
+    (8, 24, &[Heard::One]),
+    (296, 312, &[Heard::One]),
+    (8432, 4252, &[Heard::One; 2]),
+];
 
 // One bit of each code block is heard, and one position less than K' is left.
 #[test]
 fn takes_at_one(rt: HostRuntime) -> Result<(), Fail> {
     let table = practice_of_both(rt.alloc())?;
-    let cases: [(u32, Option<u32>, Option<u32>, &[Heard]); 3] = [
-        (8, Some(24), Some(23), &[Heard::One]),
-        (296, Some(312), Some(311), &[Heard::One]),
-        (8432, Some(4252), Some(4251), &[Heard::One; 2]),
-    ];
-    for (a, all, less, places) in cases {
-        let mut processes = two(rt.alloc(), &table)?;
-        processes.begin(1, a)?;
-        let tx = (0, places.len().min(9) as u32);
-        let answer = takes(&mut processes, 1, tx, places);
-        if answer.is_err() {
-            assert_eq!(rt; left_of_two(&processes), [Some(4), all], "{a} bits");
-            has_memory(rt.alloc())?;
-            assert_eq!(rt;
-                takes(&mut processes, 1, tx, places),
-                Ok(Some((0, 0))),
-                "{a} bits"
-            );
-        }
-        assert_eq!(rt; left_of_two(&processes), [Some(4), less], "{a} bits");
-        answer?;
+    for (a, all, places) in ARRIVALS.iter().copied() {
+        let (told, cause, kept, left) = takes_anew_of(rt.alloc(), &table, a, places)?;
+        let before = [Some(4), Some(all)];
+        assert_eq!(rt; kept.unwrap_or(before), before, "{a} bits");
+        assert_eq!(rt; told, Ok(Some((0, 0))), "{a} bits");
+        assert_eq!(rt; left, [Some(4), Some(all.wrapping_sub(1))], "{a} bits");
+        end(cause)?;
     }
     Ok(())
 }
