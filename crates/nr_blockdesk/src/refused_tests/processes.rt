@@ -108,23 +108,23 @@ fn takes_anew_of(alloc: Global, table: &Table, a: u32, places: &[Heard]) -> Resu
     takes_anew(alloc, &mut processes, places)
 }
 
-/// The bits of a transport block, its K', and what is heard of it.
-const ARRIVALS: &[(u32, u32, &[Heard])] = &[
-    (8, 24, &[Heard::One]),
-    (296, 312, &[Heard::One]),
-    (8432, 4252, &[Heard::One; 2]),
+/// The bits of a transport block, its K', what is heard of it, and how many positions are left then.
+const ARRIVALS: &[(u32, u32, &[Heard], u32)] = &[
+    (8, 24, &[Heard::One], 23),
+    (296, 312, &[Heard::One], 311),
+    (8432, 4252, &[Heard::One; 2], 4251),
 ];
 
 // One bit of each code block is heard, and one position less than K' is left.
 #[test]
 fn takes_at_one(rt: HostRuntime) -> Result<(), Fail> {
     let table = practice_of_both(rt.alloc())?;
-    for (a, all, places) in ARRIVALS.iter().copied() {
+    for (a, all, places, less) in ARRIVALS.iter().copied() {
         let (told, cause, kept, left) = takes_anew_of(rt.alloc(), &table, a, places)?;
         let before = [Some(4), Some(all)];
         assert_eq!(rt; kept.unwrap_or(before), before, "{a} bits");
         assert_eq!(rt; told, Ok(Some((0, 0))), "{a} bits");
-        assert_eq!(rt; left, [Some(4), Some(all.wrapping_sub(1))], "{a} bits");
+        assert_eq!(rt; left, [Some(4), Some(less)], "{a} bits");
         end(cause)?;
     }
     Ok(())
