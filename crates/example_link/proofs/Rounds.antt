@@ -1,0 +1,235 @@
+-- What a round of a HARQ process has heard, and what follows from it.
+use Rattle.std.proofs.Common.{◌≡◌, ◌≢◌, ℕ, zero, suc, ◌+◌, ◌<◌, ◌≤◌, nat_eq, ◌⊎◌, inl, inr, Bool, Option, Some, None, Result, Ok, Err, IsOk, IsTrue, List, [], ◌∷◌, ◌++◌, All, length, map, take, get_or, refl, ap, sym, subst, ◌∙◌, arith}
+use Rattle.std.specs.Prelude.{is_some}
+use Rattle.std.proofs.lemmas.List.{get_or-set_same, length-set, map-append, take_all, take_more}
+use Rattle.std.proofs.lemmas.List.Elements.{All-cons, All-head, All-nil, All-tail}
+use Rattle.std.proofs.lemmas.List.FromFn.{length-map-range_with_len}
+use Rattle.nr_graphpick.specs.Refusal.{◌>>=◌, Gives}
+use Rattle.nr_shifttable.specs.Accepted.{Entries, IsTable}
+use Rattle.nr_blockdesk.specs.Explains.{IsAccepted, Reception, reception, reception_said}
+use Rattle.nr_blockdesk.specs.Heard.{IsRecordOf}
+use Rattle.nr_blockdesk.specs.Link.{Link, demanded, link_said}
+use Rattle.nr_blockdesk.specs.Outcome.{Verdict, contradiction, delivered, outcome_of}
+use Rattle.nr_blockdesk.specs.Processing.{BeginsAt, Processing, TakesAt, process}
+use Rattle.nr_blockdesk.specs.ReceiverLaws.{EndsAreSafe, IsMarked, IsSafeOverErasures, arrived}
+use Rattle.nr_blockdesk.specs.Receiving.{Receiving, verdict}
+use Rattle.nr_blockdesk.specs.Sent.{AcceptedSendAll, Sending, sending_said, sent, sent_said, tx_said}
+use Rattle.nr_blockdesk.specs.declared.fault.DeskFault.{DeskFault}
+use Rattle.nr_blockdesk.specs.declared.fault.DeskFault.TheVariants as fault
+use Rattle.nr_blockdesk.specs.declared.heard.Heard.{Heard}
+use Rattle.nr_blockdesk.specs.declared.outcome.Outcome.{Outcome}
+use Rattle.nr_blockdesk.specs.declared.settings.Settings.{Settings}
+use Rattle.nr_blockdesk.specs.declared.tx.Tx.{Tx}
+use Rattle.example_link.specs.Delivery.{arrivals, heard_of, is_lost, marked, round_said, taken_said}
+use Rattle.example_link.specs.declared.delivery.Attempt.{Attempt}
+
+-- process p has heard a list of receptions over a link since it began, and this is their outcome
+pub record HasHeard (link : Link) (list : List Reception) (s : Processing) (p : ℕ) (answer : Outcome) : Type 0 where
+  pub receiver : Receiving
+  pub has : process s p ≡ Some receiver
+  pub linked : receiver.link ≡ link
+  pub heard : IsRecordOf link list receiver.heard
+  pub outcome : verdict answer ≡ outcome_of link list
+  pub many : length s.places ≡ 16
+
+-- what a chain of steps that answers says of each step
+bind-ok : {X Y : Type 0} (r : Result X DeskFault) (f : X → Result Y DeskFault) (y : Y) → (r >>= f) ≡ Ok y → (x : X) × (r ≡ Ok x) × (f x ≡ Ok y)
+bind-ok (Ok x) f y e = (x, refl, e)
+bind-ok (Err d) f y e = cc e
+
+pub same-ok : {X : Type 0} (x y : X) → ◌≡◌ {A = Result X DeskFault} (Ok x) (Ok y) → x ≡ y
+same-ok x y is = cc
+
+-- a refusal, as a call gives it
+pub given-err : (e : DeskFault) (result : Result Outcome DeskFault) (said : Result Verdict DeskFault) → result ≡ Err e → (e ≡ fault.Memory) ⊎ (said ≡ Err e) → Gives fault.Memory verdict result said
+given-err e result said is why = subst (λ r. Gives fault.Memory verdict r said) (sym is) why
+
+-- what a sender says of the link and of its block, and the fault of one that is refused
+made-of : (sender : Sending) (block : List Bool) (r : Result Link DeskFault) → (r >>= λ link. Ok (record { link = link; block = block })) ≡ Ok sender → (r ≡ Ok sender.link) × (sender.block ≡ block)
+made-of sender block (Ok link) is =
+    let same : record { link = link; block = block } ≡ sender = cc in
+    (ap (λ (s : Sending). Ok s.link) same, ap (λ (s : Sending). s.block) (sym same))
+made-of sender block (Err e) is = absurd (cc)
+
+pub sender-made : (table : Entries) (settings : Settings) (block : List Bool) (sender : Sending) → sending_said table settings block ≡ Ok sender → (link_said table settings (length block) ≡ Ok sender.link) × (sender.block ≡ block)
+sender-made table settings block sender said = made-of sender block (link_said table settings (length block)) said
+
+unmade-of : (block : List Bool) (e : DeskFault) (r : Result Link DeskFault) → ◌≡◌ {A = Result Sending DeskFault} (r >>= λ link. Ok (record { link = link; block = block })) (Err e) → r ≡ Err e
+unmade-of block e (Ok link) is = absurd (cc)
+unmade-of block e (Err d) is = let same : d ≡ e = cc in ap Err same
+
+-- what a round says where its block is refused, where a reception is, and where none is
+pub said-unlinked : (table : Entries) (settings : Settings) (block : List Bool) (attempts : List Attempt) (e : DeskFault) → link_said table settings (length block) ≡ Err e → round_said table settings block attempts ≡ Err e
+unfolding round_said
+said-unlinked table settings block attempts e is =
+    ap (λ (r : Result Link DeskFault). r >>= λ link. (taken_said link (arrivals link block attempts) >>= λ all. Ok (outcome_of link (arrivals link block attempts)))) is
+
+pub said-unmade : (table : Entries) (settings : Settings) (block : List Bool) (attempts : List Attempt) (e : DeskFault) → (e ≡ fault.Memory) ⊎ (sending_said table settings block ≡ Err e) → (e ≡ fault.Memory) ⊎ (round_said table settings block attempts ≡ Err e)
+said-unmade table settings block attempts e (inl is) = inl is
+said-unmade table settings block attempts e (inr is) = inr (said-unlinked table settings block attempts e (unmade-of block e (link_said table settings (length block)) is))
+
+pub said-unbegun : (table : Entries) (settings : Settings) (block : List Bool) (attempts : List Attempt) (a : ℕ) (e : DeskFault) → a ≡ length block → (e ≡ fault.Memory) ⊎ (link_said table settings a ≡ Err e) → (e ≡ fault.Memory) ⊎ (round_said table settings block attempts ≡ Err e)
+said-unbegun table settings block attempts a e whole (inl is) = inl is
+said-unbegun table settings block attempts a e whole (inr is) = inr (said-unlinked table settings block attempts e (ap (link_said table settings) (sym whole) ∙ is))
+
+said-linked : (table : Entries) (settings : Settings) (block : List Bool) (attempts : List Attempt) (link : Link) (taken : Result (Unit {0}) DeskFault) → link_said table settings (length block) ≡ Ok link → taken_said link (arrivals link block attempts) ≡ taken
+    → round_said table settings block attempts ≡ (taken >>= λ all. Ok (outcome_of link (arrivals link block attempts)))
+unfolding round_said
+said-linked table settings block attempts link taken is all =
+    ap (λ (r : Result Link DeskFault). r >>= λ link. (taken_said link (arrivals link block attempts) >>= λ all. Ok (outcome_of link (arrivals link block attempts)))) is
+    ∙ ap (λ (r : Result (Unit {0}) DeskFault). r >>= λ all. Ok (outcome_of link (arrivals link block attempts))) all
+
+-- a receiver takes all of an accepted list, and stops at the first reception that is refused
+taken-all : (link : Link) (xs : List Reception) → All (IsAccepted link) xs → taken_said link xs ≡ Ok tt
+unfolding taken_said
+taken-all link [] all = refl
+taken-all link (x ∷ xs) all =
+    ap (λ (r : Result (List ℕ) DeskFault). r >>= λ _. taken_said link xs) (All-head (IsAccepted link) x xs all).1
+    ∙ taken-all link xs (All-tail (IsAccepted link) x xs all)
+
+taken-stops : (link : Link) (xs ys : List Reception) (x : Reception) (e : DeskFault) → All (IsAccepted link) xs → reception_said link x ≡ Err e → taken_said link (xs ++ x ∷ ys) ≡ Err e
+unfolding taken_said
+taken-stops link [] ys x e all is = ap (λ (r : Result (List ℕ) DeskFault). r >>= λ _. taken_said link ys) is
+taken-stops link (y ∷ xs) ys x e all is =
+    ap (λ (r : Result (List ℕ) DeskFault). r >>= λ _. taken_said link (xs ++ x ∷ ys)) (All-head (IsAccepted link) y xs all).1
+    ∙ taken-stops link xs ys x e (All-tail (IsAccepted link) y xs all) is
+
+-- what arrives in one attempt
+abbrev pub arrival : Link → List Bool → Attempt → Reception
+arrival link block x = reception x.tx (heard_of x (sent link x.tx block))
+
+-- what arrives in the attempts so far, and in one more, and in those that are left
+pub arrivals-more : (link : Link) (block : List Bool) (xs : List Attempt) (i : ℕ) (d : Attempt) → i < length xs → arrivals link block (take (i + 1) xs) ≡ arrivals link block (take i xs) ++ arrival link block (get_or xs i d) ∷ []
+arrivals-more link block xs i d inside =
+    ap (arrivals link block) (take_more xs i d inside)
+    ∙ ap (arrived link block) (map-append marked (take i xs) (get_or xs i d ∷ []))
+    ∙ map-append _ (map marked (take i xs)) (marked (get_or xs i d) ∷ [])
+
+arrivals-split : (link : Link) (block : List Bool) (xs : List Attempt) (i : ℕ) (d : Attempt) → i < length xs → (ys : List Reception) × (arrivals link block xs ≡ arrivals link block (take i xs) ++ arrival link block (get_or xs i d) ∷ ys)
+arrivals-split link block [] i d inside = absurd (omega (arith, inside))
+arrivals-split link block (x ∷ xs) zero d inside = (arrivals link block xs, refl)
+arrivals-split link block (x ∷ xs) (suc i) d inside =
+    let rest = arrivals-split link block xs i d (omega (arith, inside)) in
+    (rest.0, ap (λ ys. arrival link block x ∷ ys) rest.1)
+
+-- a process that has just begun
+pub heard-none : (s t : Processing) (p a : ℕ) (link : Link) (answer : Outcome) → p < 16 → length s.places ≡ 16 → BeginsAt s t p a → link_said s.table s.settings a ≡ Ok link → verdict answer ≡ outcome_of link [] → HasHeard link [] t p answer
+heard-none s t p a link answer low many begins said is =
+    let same : begins.receiver.link ≡ link = same-ok begins.receiver.link link (sym begins.said ∙ said) in
+    record {
+      receiver = begins.receiver;
+      has = ap (λ (v : Processing). process v p) begins.has ∙ get_or-set_same s.places p (Some begins.receiver) None (omega (arith, low, many));
+      linked = same;
+      heard = subst (λ (l : Link). IsRecordOf l [] begins.receiver.heard) same begins.empty;
+      outcome = is;
+      many = ap (λ (v : Processing). length v.places) begins.has ∙ length-set s.places p (Some begins.receiver) ∙ many;
+    }
+
+same-some : {X : Type 0} (x y : X) → Some x ≡ Some y → x ≡ y
+same-some x y is = cc
+
+-- a process that has heard one reception more
+pub heard-more : (s t : Processing) (p : ℕ) (link : Link) (list : List Reception) (x y : Reception) (before answer : Outcome) → p < 16 → x ≡ y → HasHeard link list s p before → TakesAt s t p x (Ok answer) → HasHeard link (list ++ y ∷ []) t p answer
+heard-more s t p link list x y before answer low is had takes =
+    let one : takes.before ≡ had.receiver = same-some takes.before had.receiver (sym takes.had ∙ had.has) in
+    let same : takes.before.link ≡ link = ap (λ (r : Receiving). r.link) one ∙ had.linked in
+    let record_before : IsRecordOf takes.before.link list takes.before.heard =
+    subst (λ (l : Link). IsRecordOf l list takes.before.heard) (sym same)
+    (subst (λ (r : Receiving). IsRecordOf link list r.heard) (sym one) had.heard) in
+    subst (λ v. HasHeard link (list ++ v ∷ []) t p answer) is
+    (record {
+      receiver = takes.after;
+      has = ap (λ (v : Processing). process v p) takes.has ∙ get_or-set_same s.places p (Some takes.after) None (omega (arith, low, had.many));
+      linked = takes.takes.link ∙ same;
+      heard = subst (λ (l : Link). IsRecordOf l (list ++ x ∷ []) takes.after.heard) same (takes.takes.heard list record_before);
+      outcome = takes.takes.outcome list record_before ∙ ap (λ (l : Link). outcome_of l (list ++ x ∷ [])) same;
+      many = ap (λ (v : Processing). length v.places) takes.has ∙ length-set s.places p (Some takes.after) ∙ had.many;
+    })
+
+-- a process that has heard what arrived in all attempts
+pub heard-all : (link : Link) (block : List Bool) (attempts : List Attempt) (i : ℕ) (s : Processing) (p : ℕ) (answer : Outcome) → length attempts ≤ i → HasHeard link (arrivals link block (take i attempts)) s p answer → HasHeard link (arrivals link block attempts) s p answer
+heard-all link block attempts i s p answer done had =
+    subst (λ xs. HasHeard link (arrivals link block xs) s p answer) (take_all i attempts done) had
+
+-- it has begun
+pub heard-begun : (s : Processing) (p : ℕ) (link : Link) (list : List Reception) (answer : Outcome) → HasHeard link list s p answer → IsTrue (is_some (process s p))
+heard-begun s p link list answer had = subst (λ (o : Option Receiving). IsTrue (is_some o)) (sym had.has) refl
+
+-- the fault of a reception that it refuses
+pub refused-take : (s t : Processing) (p : ℕ) (link : Link) (list : List Reception) (x y : Reception) (before : Outcome) (e : DeskFault) → x ≡ y → HasHeard link list s p before → TakesAt s t p x (Err e) → (e ≡ fault.Memory) ⊎ (reception_said link y ≡ Err e)
+refused-take s t p link list x y before e is had takes =
+    let one : takes.before ≡ had.receiver = same-some takes.before had.receiver (sym takes.had ∙ had.has) in
+    let same : takes.before.link ≡ link = ap (λ (r : Receiving). r.link) one ∙ had.linked in
+    subst (λ v. (e ≡ fault.Memory) ⊎ (reception_said link v ≡ Err e)) is
+    (subst (λ (l : Link). (e ≡ fault.Memory) ⊎ (reception_said l x ≡ Err e)) same takes.takes.refused)
+
+-- the bits that a sender sends, and the fault of a transmission that it refuses
+sent-of : (r : Result (List ℕ) DeskFault) (bits sent : List Bool) → (r >>= λ lengths. Ok sent) ≡ Ok bits → IsOk r × (bits ≡ sent)
+sent-of (Ok lengths) bits sent is = let same : sent ≡ bits = cc in (refl, sym same)
+sent-of (Err e) bits sent is = absurd (cc)
+
+pub sent-bits : AcceptedSendAll → (link : Link) (tx : Tx) (own block bits : List Bool) → own ≡ block → sent_said link tx own ≡ Ok bits → (length bits ≡ tx.g) × (bits ≡ sent link tx block)
+sent-bits all link tx own block bits same said =
+    let both = sent-of (tx_said link tx) bits (sent link tx own) said in
+    (ap length both.1 ∙ all link tx own both.0, both.1 ∙ ap (sent link tx) same)
+
+-- what a process takes up is what arrives
+pub taken-up : AcceptedSendAll → (link : Link) (x : Attempt) (own block bits : List Bool) (heard places : List Heard) → own ≡ block → sent_said link x.tx own ≡ Ok bits → heard ≡ heard_of x bits → places ≡ heard → reception x.tx places ≡ arrival link block x
+taken-up all link x own block bits heard places same said is read =
+    ap (reception x.tx) (read ∙ is ∙ ap (heard_of x) (sent-bits all link x.tx own block bits same said).1)
+
+unsent-of : (r : Result (List ℕ) DeskFault) (bits : List Bool) (e : DeskFault) → ◌≡◌ {A = Result (List Bool) DeskFault} (r >>= λ lengths. Ok bits) (Err e) → r ≡ Err e
+unsent-of (Ok lengths) bits e is = absurd (cc)
+unsent-of (Err d) bits e is = let same : d ≡ e = cc in ap Err same
+
+unsent : (link : Link) (x : Reception) (own : List Bool) (e : DeskFault) → sent_said link x.tx own ≡ Err e → reception_said link x ≡ Err e
+unsent link x own e said =
+    ap (λ (r : Result (List ℕ) DeskFault). r >>= λ lengths. (demanded fault.Length (nat_eq (length x.heard) x.tx.g) >>= λ whole. Ok lengths)) (unsent-of (tx_said link x.tx) (sent link x.tx own) e said)
+
+-- what a round says where a reception is refused
+module _ (table : Entries) (settings : Settings) (block : List Bool) (attempts : List Attempt) (i : ℕ) (d : Attempt) (link : Link) (s : Processing) (p : ℕ) (answer : Outcome) where
+  pub said-untaken : (e : DeskFault) → link_said table settings (length block) ≡ Ok link → i < length attempts → HasHeard link (arrivals link block (take i attempts)) s p answer
+      → (e ≡ fault.Memory) ⊎ (reception_said link (arrival link block (get_or attempts i d)) ≡ Err e) → (e ≡ fault.Memory) ⊎ (round_said table settings block attempts ≡ Err e)
+  said-untaken e is inside had (inl wanted) = inl wanted
+  said-untaken e is inside had (inr refused) =
+      let parts = arrivals-split link block attempts i d inside in
+      inr (said-linked table settings block attempts link (Err e) is
+      (ap (taken_said link) parts.1 ∙ taken-stops link (arrivals link block (take i attempts)) parts.0 (arrival link block (get_or attempts i d)) e had.heard.accepted refused))
+
+  pub said-unsent : (own : List Bool) (e : DeskFault) → link_said table settings (length block) ≡ Ok link → i < length attempts → HasHeard link (arrivals link block (take i attempts)) s p answer
+      → (e ≡ fault.Memory) ⊎ (sent_said link (get_or attempts i d).tx own ≡ Err e) → (e ≡ fault.Memory) ⊎ (round_said table settings block attempts ≡ Err e)
+  said-unsent own e is inside had (inl wanted) = inl wanted
+  said-unsent own e is inside had (inr refused) =
+      said-untaken e is inside had (inr (unsent link (arrival link block (get_or attempts i d)) own e refused))
+
+-- accepted attempts are marked transmissions that both ends accept
+marked-one : (link : Link) (x : Reception) → IsAccepted link x → IsOk (tx_said link x.tx)
+marked-one link x accepted =
+    let said = bind-ok (tx_said link x.tx) _ accepted.0 accepted.1 in
+    subst IsOk (sym said.1) refl
+
+marked-all : (link : Link) (block : List Bool) (xs : List Attempt) → All (IsAccepted link) (arrivals link block xs) → All (IsMarked link) (map marked xs)
+marked-all link block [] all = All-nil (IsMarked link)
+marked-all link block (x ∷ xs) all =
+    All-cons (IsMarked link) (marked x) (map marked xs)
+    (marked-one link (arrival link block x) (All-head (IsAccepted link) (arrival link block x) (arrivals link block xs) all), length-map-range_with_len (is_lost x) 0 x.tx.g)
+    (marked-all link block xs (All-tail (IsAccepted link) (arrival link block x) (arrivals link block xs) all))
+
+-- what a round says at its end, and that over erasures the block that was sent is delivered
+module _ (table : Entries) (settings : Settings) (block : List Bool) (attempts : List Attempt) (sender : Sending) (s : Processing) (p : ℕ) (answer : Outcome) (made : sending_said table settings block ≡ Ok sender) (had : HasHeard sender.link (arrivals sender.link block attempts) s p answer) where
+  pub said-all : round_said table settings block attempts ≡ Ok (verdict answer)
+  said-all =
+      said-linked table settings block attempts sender.link (Ok tt) (sender-made table settings block sender made).0 (taken-all sender.link (arrivals sender.link block attempts) had.heard.accepted)
+      ∙ ap Ok (sym had.outcome)
+
+  safe-all : EndsAreSafe → IsTable table → IsSafeOverErasures sender.link block (map marked attempts)
+  safe-all ends accepted =
+      let both = sender-made table settings block sender made in
+      subst (λ own. IsSafeOverErasures sender.link own (map marked attempts)) both.1
+      (ends table settings block sender sender.link (map marked attempts) accepted made both.0 (marked-all sender.link block attempts had.heard.accepted)).safe
+
+  pub sent-one : EndsAreSafe → IsTable table → (x : List Bool) → verdict answer ≡ delivered x → x ≡ block
+  sent-one ends accepted x told = (safe-all ends accepted).sent_one x (sym had.outcome ∙ told)
+
+  pub no-contradiction : EndsAreSafe → IsTable table → verdict answer ≢ contradiction
+  no-contradiction ends accepted told = (safe-all ends accepted).no_contradiction (sym had.outcome ∙ told)
