@@ -3,7 +3,7 @@
 import documents
 import shared
 
-PAGES = ["docs/tables.md", "docs/vectors.md", "docs/mistakes.md"]
+PAGES = ["docs/tables.md", "docs/vectors.md", "docs/mistakes.md", "docs/curves.md"]
 
 
 class Documents(shared.InFolder):
