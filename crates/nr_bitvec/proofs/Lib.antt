@@ -2,9 +2,11 @@ pub mod BitFacts
 pub mod Places
 pub mod Flips
 pub mod Lists
+pub mod RangeWords
 pub mod Turns
 pub mod Loads
 pub mod Joins
+pub mod PutWords
 pub mod OctetLists
 pub mod RoundTrip
 pub mod SameBits

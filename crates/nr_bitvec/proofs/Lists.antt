@@ -1,13 +1,14 @@
 -- Lists of bits over packed words: what each change of the words makes of the list, and that the words stay packed.
-use Rattle.std.proofs.Common.{◌≡◌, ℕ, ◌+◌, ◌-◌, ◌*◌, ◌/◌, ◌%◌, ◌^◌, ◌<◌, ◌≤◌, ◌==◌, ◌≢◌, inl, inr, Bool, true, false, List, [], ◌∷◌, ◌++◌, length, get_or, set, refl, ap, sym, ◌∙◌, arith, length-set, get_or-set_same, get_or-set_other}
+use Rattle.std.proofs.Common.{◌≡◌, ℕ, ◌+◌, ◌-◌, ◌*◌, ◌/◌, ◌%◌, ◌^◌, ◌<◌, ◌≤◌, ◌==◌, inl, inr, Bool, true, false, List, [], ◌∷◌, ◌++◌, length, get_or, set, refl, ap, sym, ◌∙◌, arith, length-append, length-set, get_or-set_same, get_or-set_other}
 use Rattle.std.proofs.lemmas.Bool.{cases_lt, cases_eq}
-use Rattle.std.proofs.lemmas.List.{get_or_push, get_or_append_left, length_push}
-use Rattle.std.proofs.lemmas.List.FromFn.{get_or-map-range_with_len}
-use Rattle.std.proofs.lemmas.Nat.Bits.{bit_at-lt, bit_at-zero, bit_at_above, bit_at_xor, shr_and_one}
+use Rattle.std.proofs.lemmas.List.{get_or_append_left, get_or-append_right, length_push}
+use Rattle.std.proofs.lemmas.List.FromFn.{length-map-range_with_len, get_or-map-range_with_len}
+use Rattle.std.proofs.lemmas.Nat.Bits.{bit_at-lt, bit_at-zero, bit_at_xor, shr_and_one}
 use Rattle.std.specs.Int.{bit_at, from_bool}
 use Rattle.std.specs.Int.RustNames.{bit_and, bit_xor}
 use Rattle.nr_bitvec.specs.Bit.{bit}
-use Rattle.nr_bitvec.specs.Packed.{place, moved, IsClear, IsPacked, HasPlace, Changes, unpacked}
+use Rattle.nr_bitvec.specs.BitList.{low_first}
+use Rattle.nr_bitvec.specs.Packed.{place, moved, IsClear, IsPacked, HasPlaces, Changes, unpacked}
 use Rattle.nr_bitvec.proofs.BitFacts.{place_past}
 use Rattle.nr_bitvec.proofs.Places.{place-push_old, place-push_new, length-unpacked, bit-place, same_from_bits}
 use Rattle.nr_bitvec.proofs.Flips.{moved_below, moved_from, kept}
@@ -17,6 +18,21 @@ pub unpacked-is : (n : ℕ) (ws : List ℕ) (items : List Bool) → length items
 unpacked-is n ws items e same =
     same_from_bits (unpacked n ws) items (length-unpacked n ws ∙ sym e)
     (λ t h. let b : t < n = omega (arith, h, length-unpacked n ws) in get_or-map-range_with_len (λ u. place ws u == 1) 0 n t t false b (omega arith) ∙ same t b)
+
+-- the first bits of a word
+pub length-low_first : (n word : ℕ) → length (low_first n word) ≡ n
+unfolding low_first
+length-low_first n word = length-map-range_with_len (λ j. bit_at word j == 1) 0 n
+
+pub bit-low_first : (n word j : ℕ) → j < n → bit (low_first n word) j ≡ (bit_at word j == 1)
+unfolding low_first
+bit-low_first n word j h = get_or-map-range_with_len (λ k. bit_at word k == 1) 0 n j j false h (omega arith)
+
+-- one bit is the first of its number
+pub low_first-bool : (b : Bool) → low_first 1 (from_bool b) ≡ b ∷ []
+unfolding low_first
+low_first-bool true = refl
+low_first-bool false = refl
 
 -- a bit below the length
 pub bit-within : (n : ℕ) (ws : List ℕ) (t : ℕ) → t < n → bit (unpacked n ws) t ≡ (place ws t == 1)
@@ -33,7 +49,7 @@ window-place n ws at r j packed e =
     let i : 64 * (at / 64) + at % 64 + j ≡ at + j = omega arith in
     ap (λ k. k == 1) (e ∙ ap (place ws) i) ∙ sym (bit-place n ws (at + j) packed.clear)
 
--- ---- one bit more
+-- ---- a word's bits more
 
 -- a zero word more
 pub place-push_zero : (ws : List ℕ) (t : ℕ) → place (ws ++ 0 ∷ []) t ≡ place ws t
@@ -46,58 +62,52 @@ place-push_zero ws t =
       ]
     ]
 
-pub place_made : (n : ℕ) (ws mid : List ℕ) → IsPacked n ws → n % 64 ≡ 0 → mid ≡ ws ++ 0 ∷ [] → HasPlace n mid ws
-place_made n ws mid packed e m = record {
+pub places_made : (n count : ℕ) (ws mid : List ℕ) → IsPacked n ws → count ≤ 64 → 64 * length ws < n + count → mid ≡ ws ++ 0 ∷ [] → HasPlaces n count mid ws
+places_made n count ws mid packed few short m = record {
   same = λ t. ap (λ vs. place vs t) m ∙ place-push_zero ws t;
-  above = omega (arith, e, packed.above, packed.below, ap length m, length_push ws 0);
-  below = omega (arith, e, packed.above, packed.below, ap length m, length_push ws 0);
+  above = omega (arith, short, ap length m, length_push ws 0);
+  below = omega (arith, few, packed.below, ap length m, length_push ws 0);
 }
 
-pub place_there : (n : ℕ) (ws mid : List ℕ) → IsPacked n ws → n % 64 ≢ 0 → mid ≡ ws → HasPlace n mid ws
-place_there n ws mid packed e m = record {
+pub places_there : (n count : ℕ) (ws mid : List ℕ) → IsPacked n ws → n + count ≤ 64 * length ws → mid ≡ ws → HasPlaces n count mid ws
+places_there n count ws mid packed enough m = record {
   same = λ t. ap (λ vs. place vs t) m;
   above = omega (arith, packed.above, ap length m);
-  below = omega (arith, e, packed.below, ap length m);
+  below = omega (arith, enough, ap length m);
 }
 
--- a truth value, as a number
-bit_at-bool : (b : Bool) (j : ℕ) → 0 < j → bit_at (from_bool b) j ≡ 0
-bit_at-bool true j h = bit_at_above 1 1 j (omega arith) h
-bit_at-bool false j h = bit_at-zero j
-
-added-bool : (b : Bool) → ((0 + bit_at (from_bool b) 0) % 2 == 1) ≡ b
-added-bool true = refl
-added-bool false = refl
-
--- no bit goes past the end
-pub pushed-none : (n : ℕ) (mid ws : List ℕ) (b : Bool) (j : ℕ) → HasPlace n mid ws → 64 * length mid ≤ n + j → bit_at (from_bool b) j ≡ 0
-pushed-none n mid ws b j has h = bit_at-bool b j (omega (arith, has.below, h))
+-- `low` has the first bits of a word and none after them: no bit goes past the end
+pub word-none : (n count : ℕ) (mid ws : List ℕ) (low j : ℕ) → HasPlaces n count mid ws → ((k : ℕ) → count ≤ k → bit_at low k ≡ 0) → 64 * length mid ≤ n + j → bit_at low j ≡ 0
+word-none n count mid ws low j has high h = high j (omega (arith, has.below, h))
 
 -- the places of the new words, below place n and from it on
-pushed-below : (n : ℕ) (mid ws new : List ℕ) (b : Bool) (t : ℕ) → HasPlace n mid ws → place new t ≡ (place mid t + moved n (from_bool b) t) % 2 → t < n → place new t ≡ place ws t
-pushed-below n mid ws new b t has e h = e ∙ sym (kept mid n (from_bool b) t (moved_below n (from_bool b) t h)) ∙ has.same t
+word-below : (n count : ℕ) (mid ws new : List ℕ) (low t : ℕ) → HasPlaces n count mid ws → place new t ≡ (place mid t + moved n low t) % 2 → t < n → place new t ≡ place ws t
+word-below n count mid ws new low t has e h = e ∙ sym (kept mid n low t (moved_below n low t h)) ∙ has.same t
 
-pushed-from : (n : ℕ) (mid ws new : List ℕ) (b : Bool) (t : ℕ) → IsClear ws n → HasPlace n mid ws → place new t ≡ (place mid t + moved n (from_bool b) t) % 2 → n ≤ t → place new t ≡ (0 + bit_at (from_bool b) (t - n)) % 2
-pushed-from n mid ws new b t clear has e h =
-    e ∙ ap (λ k. (k + moved n (from_bool b) t) % 2) (has.same t ∙ clear t h) ∙ ap (λ k. (0 + k) % 2) (moved_from n (from_bool b) t h)
+word-from : (n count : ℕ) (mid ws new : List ℕ) (low t : ℕ) → IsClear ws n → HasPlaces n count mid ws → place new t ≡ (place mid t + moved n low t) % 2 → n ≤ t → place new t ≡ bit_at low (t - n)
+word-from n count mid ws new low t clear has e h =
+    let added : place new t ≡ (0 + bit_at low (t - n)) % 2 = e ∙ ap (λ k. (k + moved n low t) % 2) (has.same t ∙ clear t h) ∙ ap (λ k. (0 + k) % 2) (moved_from n low t h) in
+    omega (arith, added, bit_at-lt low (t - n))
 
-pub pushed-items : (n : ℕ) (mid ws new : List ℕ) (b : Bool) → IsPacked n ws → HasPlace n mid ws → ((t : ℕ) → place new t ≡ (place mid t + moved n (from_bool b) t) % 2) → unpacked (n + 1) new ≡ unpacked n ws ++ b ∷ []
-pushed-items n mid ws new b packed has flips =
-    unpacked-is (n + 1) new (unpacked n ws ++ b ∷ []) (length_push (unpacked n ws) b ∙ omega (arith, length-unpacked n ws))
+pub word-items : (n count : ℕ) (mid ws new : List ℕ) (word low : ℕ) → IsPacked n ws → HasPlaces n count mid ws → ((j : ℕ) → j < count → bit_at low j ≡ bit_at word j)
+    → ((t : ℕ) → place new t ≡ (place mid t + moved n low t) % 2) → unpacked (n + count) new ≡ unpacked n ws ++ low_first count word
+word-items n count mid ws new word low packed has same flips =
+    unpacked-is (n + count) new (unpacked n ws ++ low_first count word) (length-append (unpacked n ws) (low_first count word) ∙ omega (arith, length-unpacked n ws, length-low_first count word))
     (λ t h. elim (cases_lt t n) [
-      | inl old ↦ ap (λ k. k == 1) (pushed-below n mid ws new b t has (flips t) old) ∙ sym (bit-within n ws t old) ∙ sym (get_or_append_left (unpacked n ws) (b ∷ []) false t (omega (arith, old, length-unpacked n ws)))
+      | inl old ↦ ap (λ k. k == 1) (word-below n count mid ws new low t has (flips t) old) ∙ sym (bit-within n ws t old) ∙ sym (get_or_append_left (unpacked n ws) (low_first count word) false t (omega (arith, old, length-unpacked n ws)))
       | inr here ↦
-          let i : t - n ≡ 0 = omega (arith, h) in
-          let last : length (unpacked n ws) ≡ t = omega (arith, here, h, length-unpacked n ws) in
-          ap (λ k. k == 1) (pushed-from n mid ws new b t packed.clear has (flips t) here) ∙ ap (λ k. (0 + bit_at (from_bool b) k) % 2 == 1) i ∙ added-bool b ∙ sym (get_or_push (unpacked n ws) b false t last)
+          let within : t - n < count = omega (arith, h, here) in
+          ap (λ k. k == 1) (word-from n count mid ws new low t packed.clear has (flips t) here ∙ same (t - n) within) ∙ sym (bit-low_first count word (t - n) within)
+          ∙ sym (get_or-append_right (unpacked n ws) (low_first count word) n t false (length-unpacked n ws) here)
     ])
 
-pub pushed-packed : (n : ℕ) (mid ws new : List ℕ) (b : Bool) → n < 2 ^ 24 → IsPacked n ws → HasPlace n mid ws → length new ≡ length mid → ((t : ℕ) → place new t ≡ (place mid t + moved n (from_bool b) t) % 2) → IsPacked (n + 1) new
-pushed-packed n mid ws new b short packed has long flips = record {
-  short = omega (arith, short);
+pub word-packed : (n count : ℕ) (mid ws new : List ℕ) (low : ℕ) → n + count ≤ 2 ^ 24 → IsPacked n ws → HasPlaces n count mid ws → ((j : ℕ) → count ≤ j → bit_at low j ≡ 0) → length new ≡ length mid
+    → ((t : ℕ) → place new t ≡ (place mid t + moved n low t) % 2) → IsPacked (n + count) new
+word-packed n count mid ws new low short packed has high long flips = record {
+  short = short;
   above = omega (arith, has.above, long);
   below = omega (arith, has.below, long);
-  clear = λ t h. pushed-from n mid ws new b t packed.clear has (flips t) (omega (arith, h)) ∙ ap (λ k. (0 + k) % 2) (bit_at-bool b (t - n) (omega (arith, h)));
+  clear = λ t h. word-from n count mid ws new low t packed.clear has (flips t) (omega (arith, h)) ∙ high (t - n) (omega (arith, h));
 }
 
 -- ---- bits put in their places

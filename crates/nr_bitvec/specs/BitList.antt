@@ -1,14 +1,19 @@
 -- A list of bits, and the octets that stand for one. The first bit is the most significant (TS 38.212, 6.2.1 and 7.2.1: a_0).
-use Rattle.std.specs.Prelude.{◌≡◌, ℕ, ◌+◌, ◌^◌, ◌<◌, suc, zero, ◌==◌, Bool, List, [], ◌∷◌, if◌then◌else◌, flat_map, All}
+use Rattle.std.specs.Prelude.{◌≡◌, ℕ, ◌+◌, ◌^◌, ◌<◌, suc, zero, ◌==◌, Bool, List, [], ◌∷◌, if◌then◌else◌, map, flat_map, All}
 use Rattle.std.specs.Bool.{beq}
 use Rattle.std.specs.Cmp.Lexicographic.{pointwise}
 use Rattle.std.specs.Int.{bit_at}
+use Rattle.std.specs.List.{range_with_len}
 use Rattle.std.specs.Ordering.{on}
 
 -- what contracts see of a `Bits`: its bits, and how many more it has memory for, up to 2 ^ 24 bits in all
 pub record BitList : Type 0 where
   pub items : List Bool
   pub room : ℕ
+
+-- the first n bits of a word, the lowest first
+unfoldable pub low_first : ℕ → ℕ → List Bool
+low_first n word = map (λ j. bit_at word j == 1) (range_with_len 0 n)
 
 -- the eight bits of an octet, the most significant first
 unfoldable pub octet_bits : ℕ → List Bool

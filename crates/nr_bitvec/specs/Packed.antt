@@ -49,11 +49,11 @@ pub record IsPacked (n : ℕ) (ws : List ℕ) : Type 0 where
   pub below : n ≤ 64 * length ws
   pub clear : IsClear ws n
 
--- words with a place for bit n, and the same places
-pub record HasPlace (n : ℕ) (mid ws : List ℕ) : Type 0 where
+-- words with places for `count` bits from bit n on, and the same places
+pub record HasPlaces (n count : ℕ) (mid ws : List ℕ) : Type 0 where
   pub same : (t : ℕ) → place mid t ≡ place ws t
-  pub above : 64 * length mid < n + 65
-  pub below : n < 64 * length mid
+  pub above : 64 * length mid < n + count + 64
+  pub below : n + count ≤ 64 * length mid
 
 -- what is added at place `at` to put the `count` lowest bits of n there
 pub record Changes (ws : List ℕ) (at count n change : ℕ) : Type 0 where

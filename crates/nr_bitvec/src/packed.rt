@@ -5,10 +5,13 @@ ghost use Rattle.std.specs.Int.{bit_at};
 ghost use Rattle.std.specs.Cmp.{on_equiv, on_per, partial_equiv_from_equiv, bool_eq_equiv};
 ghost use Rattle.std.specs.Cmp.Lexicographic.{lists_equiv, lists_per};
 ghost use Rattle.nr_bitvec.specs.Bit.{bit};
-ghost use Rattle.nr_bitvec.specs.BitList.{bits_of, number_of, octets_of, same_bits};
+ghost use Rattle.nr_bitvec.specs.BitList.{bits_of, low_first, number_of, octets_of, same_bits};
+ghost use Rattle.nr_bitvec.specs.Packed.{place};
+
+mod ranges;
 
 use super::octets::{turned, word_of_octets};
-use super::words::{change, flip, join, lengthen, low_bits, make_place, same_words, window};
+use super::words::{change, flip, join, lengthen, low_bits, make_places, same_words, window};
 use std::alloc::{AllocError, Global};
 use std::marker::Model;
 
@@ -161,9 +164,29 @@ impl Bits {
         ensures items { self.new.items ≡ self.old.items ++ bit ∷ [] }
         ensures room { self.new.room + 1 ≡ self.old.room }
     {
-        make_place(&mut self.words, self.len);
-        flip(&mut self.words, self.len, bit as u64);
-        self.len += 1;
+        self.push_word(1, bit as u64);
+    }
+
+    /// Puts the `count` lowest bits of `word`, at most 64, at the end of a list that has room for
+    /// them, the lowest first. Takes no memory.
+    pub fn push_word(&mut self, count: usize, word: u64)
+        requires count { count ≤ 64 }
+        requires room { count ≤ self.old.room }
+        ensures items { self.new.items ≡ self.old.items ++ low_first count word }
+        ensures room { self.new.room + count ≡ self.old.room }
+    {
+        make_places(&mut self.words, self.len, count);
+        flip(&mut self.words, self.len, low_bits(word, count));
+        self.len += count;
+    }
+
+    /// Puts zero in the place of every bit. Takes no memory.
+    pub fn zero(&mut self)
+        ensures items { self.new.items ≡ replicate (length self.old.items) false }
+        ensures long { length self.new.items ≡ length self.old.items }
+        ensures room { self.new.room ≡ self.old.room }
+    {
+        self.words.fill(0);
     }
 
     /// Takes all bits away, and keeps their memory. Takes no memory.
@@ -246,6 +269,22 @@ impl Bits {
     {
         let added = change(&self.words, at, count, word);
         flip(&mut self.words, at, added);
+    }
+
+    /// Puts the places of `words`, at most 64 of them, in the places of the bits from bit `at` on, from where on the
+    /// list has zeros alone. No place is set that the list has no bit for. Takes no memory.
+    pub fn put_words(&mut self, at: usize, words: &[u64])
+        requires at { at ≤ length self.old.items }
+        requires few { length words.now ≤ 64 }
+        requires zeros { (t : ℕ) → at ≤ t → bit self.old.items t ≡ false }
+        requires inside { (t : ℕ) → length self.old.items ≤ at + t → place words.now t ≡ 0 }
+        ensures before { (t : ℕ) → t < at → bit self.new.items t ≡ bit self.old.items t }
+        ensures within { (t : ℕ) → t < 64 * length words.now
+            → bit self.new.items (at + t) ≡ (place words.now t == 1) }
+        ensures after { (t : ℕ) → at + 64 * length words.now ≤ t → bit self.new.items t ≡ false }
+        ensures long { length self.new.items ≡ length self.old.items }
+    {
+        join(&mut self.words, at, words);
     }
 
     /// The `len` bits from bit `from` on, which the list has.

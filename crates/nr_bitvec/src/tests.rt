@@ -140,6 +140,40 @@ fn words_of_a_list(rt: HostRuntime) -> Result<(), Fail> {
     Ok(())
 }
 
+// The places that are set become bits 30, 93, 94 and 96.
+#[test]
+fn words_put_at_once(rt: HostRuntime) -> Result<(), Fail> {
+    let mut bits = Bits::zeros(rt.alloc(), 160)?;
+    bits.put_words(30, [1 | 1 << 63, 0b101].as_slice());
+    assert_eq!(rt;
+        bits.to_bytes()?.as_slice(),
+        [
+            0, 0, 0, 2, 0, 0, 0, 0, 0, 0, 0, 6, 0x80, 0, 0, 0, 0, 0, 0, 0
+        ]
+        .as_slice()
+    );
+    Ok(())
+}
+
+#[test]
+fn words_at_the_end(rt: HostRuntime) -> Result<(), Fail> {
+    let alloc = rt.alloc();
+    let octets = [0x31, 0x32, 0x33, 0x34, 0x35, 0x36, 0x37, 0x38, 0x39].as_slice();
+    let from = Bits::from_bytes(alloc, octets)?;
+    assert_eq!(rt; from.len(), 72);
+    let mut bits = Bits::with_room(alloc, 72)?;
+    bits.push_word(4, 0b1111_1100);
+    bits.extend_range(&from, 4, 68);
+    assert_eq!(rt;
+        bits,
+        from,
+        "the first octet's 3, lowest bit first, and all after it"
+    );
+    bits.zero();
+    assert_eq!(rt; bits, Bits::zeros(alloc, 72)?);
+    Ok(())
+}
+
 #[test]
 fn words_alone(rt: HostRuntime) -> Result<(), Fail> {
     for (count, want) in [(0, 0), (4, 0xf), (64, u64::MAX), (99, u64::MAX)] {

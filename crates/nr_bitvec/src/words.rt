@@ -3,7 +3,7 @@
 
 ghost use Rattle.std.specs.Prelude.{◌≡◌, ℕ, ◌+◌, ◌-◌, ◌*◌, ◌^◌, ◌<◌, ◌≤◌, ◌++◌, length, replicate, vec_len, vec_capacity, IsTrue, OnOk, OnErr};
 ghost use Rattle.std.specs.Int.{bit_at};
-ghost use Rattle.nr_bitvec.specs.Packed.{place, Adds, Changes, HasPlace, IsClear, IsPacked, Joins, SamePlaces};
+ghost use Rattle.nr_bitvec.specs.Packed.{place, Adds, Changes, HasPlaces, IsClear, IsPacked, Joins, SamePlaces};
 
 use std::alloc::AllocError;
 
@@ -61,14 +61,15 @@ pub(crate) fn change(words: &[u64], at: usize, count: usize, word: u64) -> u64
     low_bits(window(words, at / 64, at % 64) ^ word, count)
 }
 
-// Makes a place for one bit more after the first `len`, where the words have memory for it.
-pub(crate) fn make_place(words: &mut Vec<u64>, len: usize)
+// Makes places for `count` bits more after the first `len`, where the words have memory for them.
+pub(crate) fn make_places(words: &mut Vec<u64>, len: usize, count: usize)
     requires packed { IsPacked len words.old.items }
-    requires room { len < 64 * vec_capacity words.old }
-    ensures place { HasPlace len words.new.items words.old.items }
+    requires count { count ≤ 64 }
+    requires room { len + count ≤ 64 * vec_capacity words.old }
+    ensures places { HasPlaces len count words.new.items words.old.items }
     ensures capacity { vec_capacity words.new ≡ vec_capacity words.old }
 {
-    if len % 64 == 0 {
+    if 64 * words.len() < len + count {
         words.push_reserved(0);
     }
 }

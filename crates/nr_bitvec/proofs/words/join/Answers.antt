@@ -11,4 +11,4 @@ flip-requires c = λ j.
 
 pub loop-i-preserved : goal.loop-i-preserved
 loop-i-preserved c =
-    joins_more c.args.len c.args.words.now.items c.args.more.now c.loop-i.words.items c.flip.new.words.items c.loop-i.i _ c.loop-i.invariant refl ((c.type_inv.more c.loop-i.i).fits) (omega (arith, c.flip.ensures.len, c.flip.new.words.ok.0, c.loop-i.words.ok.0)) c.flip.ensures.places
+    joins_more c.args.len c.args.words.now.items c.args.more.now c.loop-i.words.items c.flip.new.words.items c.loop-i.i _ c.loop-i.invariant refl ((c.type_inv.more c.loop-i.i).fits) (omega (arith, c.flip.ensures.len)) c.flip.ensures.places

@@ -5,4 +5,4 @@ use Rattle.nr_bitvec.proofs.packed.Bits.clear.Goals as goal
 
 pub returns-clause-room : goal.returns-clause-room
 returns-clause-room c =
-    omega (arith, c.clear.ensures.capacity, c.self.invariant.below, c.self.invariant.short, c.self.inside.words.ok.0, c.self.inside.words.ok.1, length-unpacked c.self.inside.len c.self.inside.words.items, ap (λ (b : BitList). length b.items) c.self.view_is, ap (λ (b : BitList). b.room) c.self.view_is)
+    omega (arith, c.clear.ensures.capacity, c.self.invariant.below, c.self.invariant.short, length-unpacked c.self.inside.len c.self.inside.words.items, ap (λ (b : BitList). length b.items) c.self.view_is, ap (λ (b : BitList). b.room) c.self.view_is)

@@ -20,26 +20,26 @@ refused (Ok x) p = tt
 refused (Err e) p = p
 
 pub lengthen-requires : goal.lengthen-requires
-lengthen-requires c = omega (arith, c.self.invariant.above, c.self.inside.words.ok.0, c.div_ceil.ensures)
+lengthen-requires c = omega (arith, c.self.invariant.above, c.div_ceil.ensures)
 
 pub returns-in_err-lengthen-clause-full : goal.returns-in_err-lengthen-clause-full
 returns-in_err-lengthen-clause-full c =
     refused c.from_residual.result
-    (omega (arith, lacks c.self.inside.len c.more.inside.len _ _ c.div_ceil.result c.self.invariant.below (omega (arith, c.self.inside.words.ok)) c.div_ceil.ensures c.in_err-lengthen.ensures.full, length-unpacked c.more.inside.len c.more.inside.words.items, ap (λ (b : BitList). b.room) c.self.view_is, ap (λ (b : BitList). length b.items) c.more.view_is))
+    (omega (arith, lacks c.self.inside.len c.more.inside.len _ _ c.div_ceil.result c.self.invariant.below (omega arith) c.div_ceil.ensures c.in_err-lengthen.ensures.full, length-unpacked c.more.inside.len c.more.inside.words.items, ap (λ (b : BitList). b.room) c.self.view_is, ap (λ (b : BitList). length b.items) c.more.view_is))
 
 pub join-requires-clause-clear : goal.join-requires-clause-clear
 join-requires-clause-clear c = λ t h.
-    (resizes c.self.inside.len c.more.inside.len c.div_ceil.result _ c.self.inside.words.items c.lengthen.new.words.items c.self.invariant (omega (arith, c.self.inside.words.ok.0)) c.div_ceil.ensures c.in_ok-lengthen.ensures.items).same t ∙ c.self.invariant.clear t h
+    (resizes c.self.inside.len c.more.inside.len c.div_ceil.result _ c.self.inside.words.items c.lengthen.new.words.items c.self.invariant (omega arith) c.div_ceil.ensures c.in_ok-lengthen.ensures.items).same t ∙ c.self.invariant.clear t h
 
 pub invariant_of-self-2 : goal.invariant_of-self-2
 invariant_of-self-2 c =
     joined-packed c.self.inside.len c.more.inside.len c.div_ceil.result c.self.inside.words.items c.more.inside.words.items c.lengthen.new.words.items c.join.new.words.items c.self.invariant c.more.invariant
     (short c.self.inside.len c.more.inside.len _ _ c.self.inside.words.items c.more.inside.words.items c.args.self.now c.args.more.now c.self.view_is c.more.view_is c.requires) c.div_ceil.ensures
-    (resizes c.self.inside.len c.more.inside.len c.div_ceil.result _ c.self.inside.words.items c.lengthen.new.words.items c.self.invariant (omega (arith, c.self.inside.words.ok.0)) c.div_ceil.ensures c.in_ok-lengthen.ensures.items).long
+    (resizes c.self.inside.len c.more.inside.len c.div_ceil.result _ c.self.inside.words.items c.lengthen.new.words.items c.self.invariant (omega arith) c.div_ceil.ensures c.in_ok-lengthen.ensures.items).long
     (rw c.deref.ensures.value at c.join.ensures.places)
 
 pub returns-clause-ok : goal.returns-clause-ok
 returns-clause-ok c =
     rw (← c.self.view_is, ← c.more.view_is) (joined-items c.self.inside.len c.more.inside.len c.self.inside.words.items c.more.inside.words.items c.lengthen.new.words.items c.join.new.words.items c.more.invariant
-    (resizes c.self.inside.len c.more.inside.len c.div_ceil.result _ c.self.inside.words.items c.lengthen.new.words.items c.self.invariant (omega (arith, c.self.inside.words.ok.0)) c.div_ceil.ensures c.in_ok-lengthen.ensures.items).same
+    (resizes c.self.inside.len c.more.inside.len c.div_ceil.result _ c.self.inside.words.items c.lengthen.new.words.items c.self.invariant (omega arith) c.div_ceil.ensures c.in_ok-lengthen.ensures.items).same
     (rw c.deref.ensures.value at c.join.ensures.places))

@@ -8,7 +8,7 @@ use Rattle.nr_bitvec.proofs.packed.Bits.get.Goals as goal
 -- the bit has a word
 pub index-requires : goal.index-requires
 index-requires c =
-    omega (arith, c.requires, c.self.invariant.below, c.self.inside.words.ok.0, length-unpacked c.self.inside.len c.self.inside.words.items, ap (λ (b : BitList). length b.items) c.self.view_is)
+    omega (arith, c.requires, c.self.invariant.below, length-unpacked c.self.inside.len c.self.inside.words.items, ap (λ (b : BitList). length b.items) c.self.view_is)
 
 pub returns : goal.returns
 returns c =

@@ -5,4 +5,4 @@ use Rattle.nr_bitvec.proofs.packed.Bits.make_room.Goals as goal
 
 pub returns-in_ok-reserve-clause-room : goal.returns-in_ok-reserve-clause-room
 returns-in_ok-reserve-clause-room c =
-    omega (arith, c.in_ok-reserve.ensures.ok, c.in_ok-reserve.ensures.len, c.if-self-eq0.true, c.requires, c.self.invariant.below, c.self.inside.words.ok.0, length-unpacked c.self.inside.len c.self.inside.words.items, ap (λ (b : BitList). length b.items) c.self.view_is)
+    omega (arith, c.in_ok-reserve.ensures.ok, c.in_ok-reserve.ensures.len, c.if-self-eq0.true, c.requires, c.self.invariant.below, length-unpacked c.self.inside.len c.self.inside.words.items, ap (λ (b : BitList). length b.items) c.self.view_is)

@@ -15,16 +15,16 @@ flip-requires c =
 
 pub invariant_of-self : goal.invariant_of-self
 invariant_of-self c =
-    (puts c.self.inside.len c.self.inside.words.items c.flip.new.words.items c.args.at c.args.count c.args.word c.change-added.result c.self.invariant (within c.args.at c.args.count c.self.inside.len _ c.self.inside.words.items c.args.self.now c.self.view_is c.requires.inside) (rw c.deref.ensures.value at c.change-added.ensures) (omega (arith, c.flip.ensures.len, c.flip.new.words.ok.0, c.self.inside.words.ok.0)) c.flip.ensures.places).packed
+    (puts c.self.inside.len c.self.inside.words.items c.flip.new.words.items c.args.at c.args.count c.args.word c.change-added.result c.self.invariant (within c.args.at c.args.count c.self.inside.len _ c.self.inside.words.items c.args.self.now c.self.view_is c.requires.inside) (rw c.deref.ensures.value at c.change-added.ensures) (omega (arith, c.flip.ensures.len)) c.flip.ensures.places).packed
 
 pub returns-clause-within : goal.returns-clause-within
 returns-clause-within c =
-    (puts c.self.inside.len c.self.inside.words.items c.flip.new.words.items c.args.at c.args.count c.args.word c.change-added.result c.self.invariant (within c.args.at c.args.count c.self.inside.len _ c.self.inside.words.items c.args.self.now c.self.view_is c.requires.inside) (rw c.deref.ensures.value at c.change-added.ensures) (omega (arith, c.flip.ensures.len, c.flip.new.words.ok.0, c.self.inside.words.ok.0)) c.flip.ensures.places).within
+    (puts c.self.inside.len c.self.inside.words.items c.flip.new.words.items c.args.at c.args.count c.args.word c.change-added.result c.self.invariant (within c.args.at c.args.count c.self.inside.len _ c.self.inside.words.items c.args.self.now c.self.view_is c.requires.inside) (rw c.deref.ensures.value at c.change-added.ensures) (omega (arith, c.flip.ensures.len)) c.flip.ensures.places).within
 
 pub returns-clause-before : goal.returns-clause-before
 returns-clause-before c =
-    rw (← c.self.view_is) ((puts c.self.inside.len c.self.inside.words.items c.flip.new.words.items c.args.at c.args.count c.args.word c.change-added.result c.self.invariant (within c.args.at c.args.count c.self.inside.len _ c.self.inside.words.items c.args.self.now c.self.view_is c.requires.inside) (rw c.deref.ensures.value at c.change-added.ensures) (omega (arith, c.flip.ensures.len, c.flip.new.words.ok.0, c.self.inside.words.ok.0)) c.flip.ensures.places).before)
+    rw (← c.self.view_is) ((puts c.self.inside.len c.self.inside.words.items c.flip.new.words.items c.args.at c.args.count c.args.word c.change-added.result c.self.invariant (within c.args.at c.args.count c.self.inside.len _ c.self.inside.words.items c.args.self.now c.self.view_is c.requires.inside) (rw c.deref.ensures.value at c.change-added.ensures) (omega (arith, c.flip.ensures.len)) c.flip.ensures.places).before)
 
 pub returns-clause-after : goal.returns-clause-after
 returns-clause-after c =
-    rw (← c.self.view_is) ((puts c.self.inside.len c.self.inside.words.items c.flip.new.words.items c.args.at c.args.count c.args.word c.change-added.result c.self.invariant (within c.args.at c.args.count c.self.inside.len _ c.self.inside.words.items c.args.self.now c.self.view_is c.requires.inside) (rw c.deref.ensures.value at c.change-added.ensures) (omega (arith, c.flip.ensures.len, c.flip.new.words.ok.0, c.self.inside.words.ok.0)) c.flip.ensures.places).after)
+    rw (← c.self.view_is) ((puts c.self.inside.len c.self.inside.words.items c.flip.new.words.items c.args.at c.args.count c.args.word c.change-added.result c.self.invariant (within c.args.at c.args.count c.self.inside.len _ c.self.inside.words.items c.args.self.now c.self.view_is c.requires.inside) (rw c.deref.ensures.value at c.change-added.ensures) (omega (arith, c.flip.ensures.len)) c.flip.ensures.places).after)

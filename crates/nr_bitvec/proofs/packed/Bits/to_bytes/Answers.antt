@@ -15,4 +15,4 @@ loop-word-preserved c =
 pub returns : goal.returns
 returns c =
     rw (← c.self.view_is) (c.truncate.ensures.items ∙ writes_all c.self.inside.len c.self.inside.words.items c.loop-word.octets.items c.loop-word.word-index c.div_ceil.result c.self.invariant
-    (rw c.deref-word-items.ensures.value at c.loop-word.invariant) (omega (arith, c.loop-word-test.false, c.deref-word-items.ensures.len, c.self.inside.words.ok.0)) c.div_ceil.ensures)
+    (rw c.deref-word-items.ensures.value at c.loop-word.invariant) (omega (arith, c.loop-word-test.false, c.deref-word-items.ensures.len)) c.div_ceil.ensures)
