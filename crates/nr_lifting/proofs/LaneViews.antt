@@ -41,7 +41,7 @@ min_bits a (suc (suc b)) h k = absurd (omega (arith, k))
 -- ---- the calls
 
 -- no place of words of zeros is set
-place-zeros : (w t : ℕ) → place (replicate w 0) t ≡ 0
+pub place-zeros : (w t : ℕ) → place (replicate w 0) t ≡ 0
 place-zeros w t = ap (λ n. bit_at n (t % 64)) word ∙ bit_at-zero (t % 64)
   where
     word : get_or {A = ℕ} (replicate w 0) (t / 64) 0 ≡ 0

@@ -93,3 +93,16 @@ module _ (z i p now turned : ℕ) (ws src : List ℕ) (kept : now ≡ get_or ws 
 
     pub twice_high : z ≤ 64 * i + j → bit_at (bit_or word (bit_and now turned)) j ≡ 0
     twice_high past = omega (arith, bits, at_more, free (64 * i + j) past, none j past)
+
+-- ---- one word of a ring
+
+-- a word of a list, of which the places below place z gain those of another word
+module _ (z k now : ℕ) (old : List ℕ) (more j : ℕ) (short : j < 64) (kept : now ≡ get_or old k 0) where
+  ring_at : bit_at now j ≡ place old (64 * k + j)
+  ring_at = ap (λ n. bit_at n j) kept ∙ sym (place_of old (64 * k + j) k j refl short)
+
+  pub ring_low : {gained : ℕ} → bit_at more j ≡ gained → bit_at (bit_or now more) j ≡ max (place old (64 * k + j)) gained
+  ring_low is = bit_at_or now more j ∙ ap (λ n. max n (bit_at more j)) ring_at ∙ ap (max (place old (64 * k + j))) is
+
+  pub ring_high : IsClear old z → z ≤ 64 * k + j → bit_at more j ≡ 0 → bit_at (bit_or now more) j ≡ 0
+  ring_high clear past none = omega (arith, bit_at_or now more j, ring_at, clear (64 * k + j) past, none)

@@ -3,4 +3,5 @@ pub mod LaneWords
 pub mod Listed
 pub mod Moves
 pub mod Places
+pub mod PlaneCounts
 pub mod Turns

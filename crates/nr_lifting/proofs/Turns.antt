@@ -1,15 +1,16 @@
 -- Which bit comes to a place when a block is rotated.
-use Rattle.std.proofs.Common.{◌≡◌, ℕ, ◌+◌, ◌-◌, ◌%◌, ◌<◌, ◌≤◌, max, List, sym, ap, ◌∙◌, inl, inr, arith}
+use Rattle.std.proofs.Common.{◌≡◌, ℕ, ◌+◌, ◌-◌, ◌*◌, ◌%◌, ◌<◌, ◌≤◌, max, List, sym, ap, ◌∙◌, inl, inr, arith}
 use Rattle.std.proofs.Math.Nat.{mod-eq_of_lt, mod-eq-sub-mod}
 use Rattle.std.proofs.lemmas.Bool.{cases_lt}
 use Rattle.nr_bitvec.specs.Packed.{place, IsClear}
+use Rattle.nr_lifting.specs.Rings.{IsRing, GainsTwice}
 
 -- before the end
-mod_small : (n z : ℕ) → n < z → n % z ≡ n
+pub mod_small : (n z : ℕ) → n < z → n % z ≡ n
 mod_small n z h = mod-eq_of_lt h
 
 -- once past the end
-mod_once : (n z : ℕ) → z ≤ n → n < z + z → n % z ≡ n - z
+pub mod_once : (n z : ℕ) → z ≤ n → n < z + z → n % z ≡ n - z
 mod_once n z h k = mod-eq-sub-mod h ∙ mod_small (n - z) z (omega (arith, h, k))
 
 -- The word from the place on and the word of the wrapped places make up the rotated word: where one has a bit, the
@@ -29,3 +30,35 @@ turned ws z t p first wrapped below turn clear straight low high = elim (cases_l
       let all : max first wrapped ≡ wrapped = omega (arith, none) in
       all ∙ high (omega (arith, h)) ∙ sym (ap (place ws) e)
 ]
+
+-- in a ring a rotated block stands in one piece
+pub ring-turned : (ring : List ℕ) (z t p : ℕ) → t < z → p < z → IsRing z ring → place ring (t + p) ≡ place ring ((t + p) % z)
+ring-turned ring z t p below turn twice = elim (cases_lt (t + p) z) [
+  | inl h ↦ sym (ap (place ring) (mod_small (t + p) z h))
+  | inr h ↦
+      let split : z + (t + p - z) ≡ t + p = omega (arith, h) in
+      sym (ap (place ring) split) ∙ twice (t + p - z) (omega (arith, h, below, turn)) ∙ sym (ap (place ring) (mod_once (t + p) z h (omega (arith, below, turn))))
+]
+
+-- the places of a block and those moved up by its size make up its ring
+pub twice : (ws : List ℕ) (z t first wrapped : ℕ) → t < 2 * z → IsClear ws z
+    → first ≡ place ws t → (t < z → wrapped ≡ 0) → (z ≤ t → wrapped ≡ place ws (t - z)) → max first wrapped ≡ place ws (t % z)
+twice ws z t first wrapped below clear straight low high = elim (cases_lt t z) [
+  | inl h ↦
+      let none : wrapped ≡ 0 = low h in
+      let all : max first wrapped ≡ first = omega (arith, none) in
+      all ∙ straight ∙ sym (ap (place ws) (mod_small t z h))
+  | inr h ↦
+      let none : first ≡ 0 = straight ∙ clear t h in
+      let all : max first wrapped ≡ wrapped = omega (arith, none) in
+      all ∙ high h ∙ sym (ap (place ws) (mod_once t z h (omega (arith, below))))
+]
+
+-- a ring that gains a block twice over is one
+pub ring-gains : (z : ℕ) (new old words : List ℕ) → IsRing z old → GainsTwice z new old words → IsRing z new
+ring-gains z new old words twice gains t below =
+    let wraps : (z + t) % z ≡ t = mod_once (z + t) z (omega arith) (omega (arith, below)) ∙ omega arith in
+    gains (z + t) (omega (arith, below))
+    ∙ ap (λ n. max n (place words ((z + t) % z))) (twice t below)
+    ∙ ap (λ u. max (place old t) (place words u)) (wraps ∙ sym (mod_small t z below))
+    ∙ sym (gains t (omega (arith, below)))

@@ -96,7 +96,7 @@ impl<const Z: usize, const W: usize> Lane<Z, W> {
 }
 
 // Word `i` of a block of `size` bits that is rotated by `p`.
-fn turned_word(words: &[u64], size: usize, i: usize, p: usize) -> u64
+pub(crate) fn turned_word(words: &[u64], size: usize, i: usize, p: usize) -> u64
     requires start { 64 * i < size }
     requires turn { p < size }
     requires clear { IsClear words.now size }
@@ -112,7 +112,7 @@ fn turned_word(words: &[u64], size: usize, i: usize, p: usize) -> u64
 }
 
 // The 64 places from place `start` on, after all places have moved up by `up`; zeros come in below.
-fn wrapped_word(words: &[u64], start: usize, up: usize) -> u64
+pub(crate) fn wrapped_word(words: &[u64], start: usize, up: usize) -> u64
     ensures low { (j : ℕ) → start + j < up → bit_at result j ≡ 0 }
     ensures high { IsMovedWord words.now start up result }
 {

@@ -10,12 +10,16 @@ mod blocks;
 mod lane;
 #[cfg(test)]
 mod plain;
+mod planes;
+mod rings;
 mod sizes;
 mod tally;
 mod with_size;
 
 pub use blocks::{add_block, tally_block};
 pub use lane::Lane;
+pub use planes::{lower_block, lower_word, ones_word};
+pub use rings::{join_ring, ring_word, turn_lane};
 pub use sizes::{SIZES, set_of, size_table, smallest};
 
 #[cfg(test)]

@@ -104,6 +104,17 @@ fn tallies_twice(rt: HostRuntime) -> Result<(), Fail> {
     Ok(())
 }
 
+// By hand: of the counts 3, 1, 2 and 1, the first lowest, those of one come down to none.
+#[test]
+fn lowers_counts_of_one(rt: HostRuntime) {
+    let mut planes: [u64; 2] = [0b1011, 0b0101];
+    let ones = ones_word(&planes);
+    assert_eq!(rt; ones, 0b1010);
+    lower_word(&mut planes, ones);
+    assert_eq!(rt; ones_word(&planes), 0);
+    assert!(rt; planes[0] == 0b0001 && planes[1] == 0b0101);
+}
+
 // The sums of a size, against those of single bits.
 fn compare_sums(rt: &impl Abort, alloc: Global, z: usize, p: usize) -> Result<(), AllocError>
     requires size { IsSize z }

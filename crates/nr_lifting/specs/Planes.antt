@@ -1,0 +1,27 @@
+-- Counts that are kept as bit planes: word b of a group has bit b of each of 64 counts.
+use Rattle.std.specs.Prelude.{◌≡◌, ℕ, zero, suc, ◌+◌, ◌*◌, ◌/◌, ◌%◌, ◌^◌, ◌<◌, List, [], length, slice_index_or}
+use Rattle.std.specs.Int.{bit_at}
+use Rattle.nr_bitvec.specs.Packed.{place}
+
+-- the number that the first n planes of a group write at place j
+abbrev pub number_below : ℕ → List ℕ → ℕ → ℕ
+number_below zero group j = 0
+number_below (suc n) group j = number_below n group j + 2 ^ n * bit_at (slice_index_or group n 0) j
+
+-- count j of a group
+abbrev pub number : List ℕ → ℕ → ℕ
+number group j = number_below (length group) group j
+
+-- count t of groups of 64 counts
+abbrev pub number_at : List (List ℕ) → ℕ → ℕ
+number_at groups t = number (slice_index_or groups (t / 64) []) (t % 64)
+
+-- the 64 counts that a word marks fall by one, and no other
+pub record Falls (new old : List ℕ) (bits : ℕ) : Type 0 where
+  pub numbers : (j : ℕ) → j < 64 → number new j + bit_at bits j ≡ number old j
+  pub long : length new ≡ length old
+
+-- of z counts those fall by one to which a rotation by p brings a set place, bit (t + p) mod z to count t
+pub record FallsTurned (z : ℕ) (new old : List (List ℕ)) (places : List ℕ) (p : ℕ) : Type 0 where
+  pub numbers : (t : ℕ) → t < z → number_at new t + place places ((t + p) % z) ≡ number_at old t
+  pub long : length new ≡ length old
