@@ -1,3 +1,4 @@
+pub mod Between
 pub mod Columns
 pub mod Feeds
 pub mod FieldFacts
@@ -6,6 +7,7 @@ pub mod ItemLaws
 pub mod NeverRead
 pub mod Order
 pub mod Parity
+pub mod Places
 pub mod RecordFacts
 pub mod Shape
 pub mod Slices

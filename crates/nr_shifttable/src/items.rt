@@ -4,6 +4,7 @@ ghost use Rattle.std.specs.Prelude.{◌≡◌, ◌^◌, ◌<◌, [], length, dro
 ghost use Rattle.std.specs.List.{list_all};
 ghost use Rattle.csv.specs.Records.{fields_of};
 ghost use Rattle.nr_shifttable.specs.Items.{Apart, IsInside, has_place, is_header, item_of, item_of_numbers, items_said, short_numbers, short_values, same_place, with_item};
+ghost use Rattle.nr_shifttable.specs.Orders.{AreBefore, key_of};
 ghost use Rattle.nr_shifttable.specs.Records.{records_of};
 ghost use Rattle.nr_graphpick.specs.Refusal.{Gives};
 
@@ -42,30 +43,53 @@ fn read_records(alloc: Global, text: &[u8]) -> Result<Vec<Item>, TableFault>
     let mut records = Records::new(alloc, text);
     let mut row = ByteRecord::new(alloc);
     let mut items = Vec::new(alloc);
+    let mut past = 0;
     let mut number = 0;
     while records.next(&mut row)? {
         number += 1;
-        let found = item_of(number, &items, &row)?;
-        add(&mut items, found)?;
+        let found = item_of(number, &items, past, &row)?;
+        past = add(&mut items, past, found)?;
     }
     Ok(items)
 }
 
-// Adds an item to the others, if there is one.
-fn add(items: &mut Vec<Item>, found: Option<Item>) -> Result<(), AllocError>
+// Adds an item to the others, if there is one, and answers a number past all their keys.
+fn add(items: &mut Vec<Item>, past: u32, found: Option<Item>) -> Result<u32, AllocError>
+    requires { AreBefore past items.old.items }
     ensures ok { OnOk result (items.new.items ≡ with_item items.old.items found) }
+    ensures past { IfOk result (λ more. AreBefore more items.new.items) }
     ensures err { OnErr result (items.new.items ≡ items.old.items) }
 {
-    if let Some(item) = found {
-        items.push(item)?;
-    }
-    Ok(())
+    let Some(item) = found else {
+        return Ok(past);
+    };
+    let next = place_key(item.graph, item.entry.row, item.entry.col) + 1;
+    items.push(item)?;
+    Ok(past.max(next))
 }
 
-// What a record says, given its number from 1 and the items of the records before it. A header
-// gives none.
+// The key of a place: base graph 1 comes before base graph 2, and each goes row by row.
+fn place_key(graph: Graph, row: u16, col: u16) -> u32
+    ensures key { result ≡ key_of graph row col }
+    ensures few { result < 2 ^ 24 }
+{
+    let first = match graph {
+        Graph::One => 0,
+        Graph::Two => 4096,
+    };
+    first + 68 * u32::from(row) + u32::from(col)
+}
+
+// What a record says, given its number from 1, the items of the records before it and a number past
+// their keys. A header gives none.
 #[tactic(auto, unfolding(crate::specs::Items::item_of))]
-fn item_of(number: u32, earlier: &[Item], row: &ByteRecord) -> Result<Option<Item>, TableFault>
+fn item_of(
+    number: u32,
+    earlier: &[Item],
+    past: u32,
+    row: &ByteRecord,
+) -> Result<Option<Item>, TableFault>
+    requires { AreBefore past earlier.now }
     ensures { result ≡ item_of number earlier.now (fields_of row.now) }
 {
     if row.len() != FIELDS {
@@ -84,7 +108,7 @@ fn item_of(number: u32, earlier: &[Item], row: &ByteRecord) -> Result<Option<Ite
     let Some(item) = item_of_numbers(&numbers) else {
         return Err(TableFault::Range(number));
     };
-    if has_place(earlier, &item) {
+    if has_place(earlier, past, &item) {
         return Err(TableFault::Twice(number));
     }
     Ok(Some(item))
@@ -145,14 +169,18 @@ fn values_of(numbers: &[u64; FIELDS]) -> Option<[u16; 8]>
     Some(values)
 }
 
-// Whether one of the items stands at the place of this one.
+// Whether one of the items, whose keys are all below `past`, stands at the place of this one.
 //
-// This goes over all of them for each record, which stays small: a base graph has at most 46 rows
-// and 68 columns, so that no more than 5,312 records pass before one is out of range or at the
-// place of another.
-fn has_place(items: &[Item], item: &Item) -> bool
+// Where the records ascend no item is looked at. Else this goes over all of them for each record,
+// which stays small: a base graph has at most 46 rows and 68 columns, so that no more than 5,312
+// records pass before one is out of range or at the place of another.
+fn has_place(items: &[Item], past: u32, item: &Item) -> bool
+    requires { AreBefore past items.now }
     ensures { result ≡ has_place items.now item.now }
 {
+    if past <= place_key(item.graph, item.entry.row, item.entry.col) {
+        return false;
+    }
     items.iter().any(|other| same_place(other, item))
 }
 

@@ -19,6 +19,7 @@ mod records;
 mod refused_tests;
 mod sorted;
 mod source;
+mod starts;
 mod table;
 #[cfg(test)]
 mod table_tests;

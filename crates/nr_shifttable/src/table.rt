@@ -10,7 +10,7 @@ use crate::accept::check;
 use crate::entry::{Entry, Item};
 use crate::fault::TableFault;
 use crate::items::read_items;
-use crate::sorted::{Sorted, values_at};
+use crate::sorted::{Sorted, values_in};
 use crate::source::{ReadFault, Source, read_to_end};
 use nr_graphpick::Graph;
 use std::alloc::Global;
@@ -21,7 +21,7 @@ const LIMIT: usize = 4_194_304;
 
 /// A table of shift values that was accepted: the entries of base graph 1, of base graph 2, or of
 /// both (TS 38.212 clause 5.3.2). What is asked of it takes no memory, and a row or a column is
-/// found by halving.
+/// found by an index.
 #[derive(Drop)]
 pub struct Table {
     one: Sorted,
@@ -66,17 +66,25 @@ impl Table {
             Err(ReadFault::TooLong) => return Err(TableFault::TooLong),
             Err(ReadFault::Memory) => return Err(TableFault::Memory),
         };
-        Table::judge(alloc, &text)
+        Table::of_text(alloc, &text)
     }
 
-    // The table of a whole text, judged.
+    /// The table of a whole text in memory, judged: what `read` makes of a source that gives these
+    /// octets and then ends.
+    ///
+    /// # Errors
+    ///
+    /// `TooLong`, where the text has more than 4,194,304 octets; then as `read` from `Csv` on. It is
+    /// never `Read`.
     #[tactic(auto, unfolding(crate::specs::Accepted::table_said))]
-    fn judge(alloc: Global, text: &[u8]) -> Result<Table, TableFault>
-        requires { length text.now ≤ 4194304 }
+    pub fn of_text(alloc: Global, text: &[u8]) -> Result<Table, TableFault>
         ensures table { IfOk result IsTable }
         ensures judged { IsErrOf result TableFault.Read → ⊥ }
         ensures said { Gives TableFault.Memory (λ t. t) result (table_said text.now) }
     {
+        if text.len() > LIMIT {
+            return Err(TableFault::TooLong);
+        }
         let items = read_items(alloc, text)?;
         Table::from_items(alloc, items)
     }
@@ -133,10 +141,11 @@ impl Table {
     /// there.
     pub fn shift(&self, graph: Graph, row: u32, col: u32, set: u32) -> Option<u16>
         requires { set < 8 }
-        ensures { result ≡ value_at graph row col set self.now }
+        ensures table { IsTable self.now }
+        ensures value { result ≡ value_at graph row col set self.now }
     {
-        let entries = self.sorted(graph).entries();
-        match values_at(entries, row, col) {
+        let sorted = self.sorted(graph);
+        match values_in(sorted.row(row), col) {
             Some(values) => Some(values[set as usize]),
             None => None,
         }
@@ -144,6 +153,7 @@ impl Table {
 
     /// The entries of a row of a base graph, in ascending order of their columns.
     pub fn row_entries(&self, graph: Graph, row: u32) -> &[Entry]
+        ensures table { IsTable self.now }
         ensures entries { result.now ≡ row_of (entries_in graph self.now) row }
         ensures order { ColumnsAscend result.now }
         ensures in_range { All (IsInRange graph) result.now }
@@ -153,6 +163,7 @@ impl Table {
 
     /// The entries of a column of a base graph, in ascending order of their rows.
     pub fn col_entries(&self, graph: Graph, col: u32) -> &[Entry]
+        ensures table { IsTable self.now }
         ensures entries { result.now ≡ column_of (entries_in graph self.now) col }
         ensures order { RowsAscend result.now }
         ensures in_range { All (IsInRange graph) result.now }
@@ -162,7 +173,8 @@ impl Table {
 
     /// How many entries the table has of a base graph.
     pub fn entries(&self, graph: Graph) -> u32
-        ensures { result ≡ length (entries_in graph self.now) }
+        ensures table { IsTable self.now }
+        ensures value { result ≡ length (entries_in graph self.now) }
     {
         self.sorted(graph).len()
     }

@@ -23,7 +23,8 @@ loop-items-preserved c =
     let judged = ap (λ (items : List Item). item_of (c.loop-items.number + 1) items (fields_of c.next.new.row)) (sym c.deref.ensures.value) ∙ sym c.item_of.ensures in
     record {
       said = items-more (c.loop-items.number + 1) c.loop-items.items.items c.add.new.items.items c.loop-items.records c.next.new.self (fields_of c.next.new.row)
-          c.in_ok-found.found _ before (judged ∙ c.in_ok-found.was) c.in_ok-add.ensures.ok c.loop-items.invariant.said;
+          c.in_ok-found.found _ before (judged ∙ c.in_ok-found.was) c.in_ok-past.ensures.ok c.loop-items.invariant.said;
+      before = c.in_ok-past.ensures.past;
       few = omega (arith, ap length before);
     }
 

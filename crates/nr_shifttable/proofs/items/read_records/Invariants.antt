@@ -1,12 +1,15 @@
 use Rattle.std.proofs.Common.{◌≡◌, ◌+◌, ◌≤◌, [], length}
 use Rattle.nr_shifttable.specs.Items.{items_from}
+use Rattle.nr_shifttable.specs.Orders.{AreBefore}
 use Rattle.nr_shifttable.specs.Records.{records_of}
 use Rattle.nr_shifttable.proofs.items.read_records.Given as goal
 
--- what the records left say after the items so far is what all say, and there are no more records than octets
+-- what the records left say after the items so far is what all say, the items' keys are below `past`, and there are no
+-- more records than octets
 abbrev pub invariant-loop-items : goal.invariant-loop-items
 invariant-loop-items l = record {
   said : items_from (l.number + 1) l.items.items l.records ≡ items_from 1 [] (records_of l.text);
+  before : AreBefore l.past l.items.items;
   few : l.number + length l.records ≤ length l.text;
 }
 

@@ -4,7 +4,7 @@ use Rattle.nr_shifttable.specs.Accepted.{Entries, table_of, accepted}
 use Rattle.nr_shifttable.specs.Items.{items_from}
 use Rattle.nr_shifttable.specs.Records.{records_of}
 use Rattle.nr_shifttable.proofs.NeverRead.{items-of_text, accepted-of_text, fault-not_read, gives-not_read}
-use Rattle.nr_shifttable.proofs.table.Table.judge.Goals as goal
+use Rattle.nr_shifttable.proofs.table.Table.of_text.Goals as goal
 
 pub returns-in_err-items-clause-judged : goal.returns-in_err-items-clause-judged
 returns-in_err-items-clause-judged c =

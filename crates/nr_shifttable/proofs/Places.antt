@@ -1,0 +1,31 @@
+-- An item whose key is past those of others stands at the place of none.
+use Rattle.std.proofs.Common.{◌≡◌, ℕ, ◌+◌, ◌*◌, ◌<◌, ◌≤◌, ◌==◌, ◌&&◌, ◌||◌, false, List, [], ◌∷◌, refl, ap, ◌∙◌, arith}
+use Rattle.std.proofs.lemmas.Bool.Decides.{nat_tests}
+use Rattle.std.proofs.lemmas.List.Elements.{All-head, All-tail}
+use Rattle.nr_graphpick.specs.declared.Graph.{Graph}
+use Rattle.nr_graphpick.specs.declared.Graph.TheVariants.{One, Two}
+use Rattle.nr_shifttable.specs.declared.entry.Item.{Item}
+use Rattle.nr_shifttable.specs.Items.{graph_eq, has_place}
+use Rattle.nr_shifttable.specs.Orders.{AreBefore, key_of}
+
+-- in one base graph
+rows-apart : (n r s c d : ℕ) → n + 68 * r + c < n + 68 * s + d → ((r == s) && (c == d)) ≡ false
+rows-apart n r s c d lt = grind (arith, nat_tests)
+
+-- items at one place have one key
+keys-apart : (g h : Graph) (r s c d : ℕ) → key_of g r c < key_of h s d → (graph_eq g h && (r == s) && (c == d)) ≡ false
+keys-apart One One r s c d lt = rows-apart 0 r s c d lt
+keys-apart One Two r s c d lt = refl
+keys-apart Two One r s c d lt = refl
+keys-apart Two Two r s c d lt = rows-apart 4096 r s c d lt
+
+abbrev pub item_key : Item → ℕ
+item_key item = key_of item.graph item.entry.row item.entry.col
+
+pub past-no_place : (items : List Item) (past : ℕ) (item : Item) → AreBefore past items → past ≤ item_key item → has_place items item ≡ false
+past-no_place [] past item before le = refl
+past-no_place (x ∷ xs) past item before le =
+    let first : item_key x < past = All-head (λ y. item_key y < past) x xs before in
+    let lt : item_key x < item_key item = omega arith in
+    ap (λ b. b || has_place xs item) (keys-apart x.graph item.graph x.entry.row item.entry.row x.entry.col item.entry.col lt)
+    ∙ past-no_place xs past item (All-tail (λ y. item_key y < past) x xs before) le
