@@ -1,13 +1,16 @@
 //! The bit interleaver of TS 38.212, 5.4.2.2.
-//! `spread` puts the selected bits of a code block in the order in which they are sent, and `seat` says which of them
-//! stands at a place. Their contracts cite specs/Interleaving.antt, which has the standard's index and the whole list.
+//! `spread` and `spread_onto` put the selected bits of a code block in the order in which they are sent, and `seat` says
+//! which of them stands at a place. Their contracts cite specs/Interleaving.antt, which has the standard's index and the whole list.
 //! Law: where the number of bits is a multiple of Qm, each bit is taken once.
 //! Stands on nr_bitvec; `seat` takes no memory.
 #![tactic(auto)]
 
-ghost use Rattle.std.specs.Prelude.{◌≡◌, ◌%◌, ◌<◌, length, IfOk};
+ghost use Rattle.std.specs.Prelude.{◌≡◌, ◌+◌, ◌%◌, ◌<◌, ◌≤◌, ◌++◌, length, IfOk};
 ghost use Rattle.nr_interleave.specs.Interleaving.{seat_of, interleaved, SeatsAreSeating};
 
+mod columns;
+
+use columns::{BY_2, BY_4, BY_6, BY_8, by_columns};
 use nr_bitvec::Bits;
 use std::alloc::{AllocError, Global};
 
@@ -35,12 +38,42 @@ pub fn spread(alloc: Global, qm: u32, bits: &Bits) -> Result<Bits, AllocError>
     requires whole { length bits.now.items % qm ≡ 0 }
     ensures { IfOk result (λ spread. spread.items ≡ interleaved qm bits.now.items) }
 {
+    let mut spread = Bits::with_room(alloc, bits.len() as u32)?;
+    spread_onto(qm, bits, &mut spread);
+    Ok(spread)
+}
+
+/// Puts the bits that `spread` answers at the end of a list that has room for them (TS 38.212, 5.4.2.2). Takes no
+/// memory.
+pub fn spread_onto(qm: u32, bits: &Bits, spread: &mut Bits)
+    requires some { 0 < qm }
+    requires whole { length bits.now.items % qm ≡ 0 }
+    requires room { length bits.now.items ≤ spread.old.room }
+    ensures items { spread.new.items ≡ spread.old.items ++ interleaved qm bits.now.items }
+    ensures room { spread.new.room + length bits.now.items ≡ spread.old.room }
+{
+    match qm {
+        1 => spread.extend_range(bits, 0, bits.len()),
+        2 => by_columns(2, &BY_2, bits, spread),
+        4 => by_columns(4, &BY_4, bits, spread),
+        6 => by_columns(6, &BY_6, bits, spread),
+        8 => by_columns(8, &BY_8, bits, spread),
+        _ => by_places(qm, bits, spread),
+    }
+}
+
+// The same by single places, for an order that no modulation has.
+fn by_places(qm: u32, bits: &Bits, spread: &mut Bits)
+    requires some { 0 < qm }
+    requires whole { length bits.now.items % qm ≡ 0 }
+    requires room { length bits.now.items ≤ spread.old.room }
+    ensures items { spread.new.items ≡ spread.old.items ++ interleaved qm bits.now.items }
+    ensures room { spread.new.room + length bits.now.items ≡ spread.old.room }
+{
     let e = bits.len() as u32;
-    let mut spread = Bits::with_room(alloc, e)?;
     for m in 0..e {
         spread.push_in_room(bits.get(seat(qm, e, m) as usize));
     }
-    Ok(spread)
 }
 
 /// Law: where the number of bits is a multiple of Qm, `seat` gives each index below it once.

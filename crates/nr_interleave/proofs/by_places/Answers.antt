@@ -1,9 +1,10 @@
-use Rattle.std.proofs.Common.{◌≡◌, ℕ, ◌+◌, Bool, [], ◌∷◌, ◌++◌, length, map, sym, ◌∙◌, ap, arith}
+use Rattle.std.proofs.Common.{◌≡◌, ℕ, Bool, [], ◌∷◌, ◌++◌, length, map, sym, ◌∙◌, ap, arith}
 use Rattle.std.specs.List.{range_with_len}
+use Rattle.std.proofs.lemmas.List.{append_assoc}
 use Rattle.std.proofs.lemmas.List.FromFn.{map-range_with_len_more}
 use Rattle.nr_bitvec.specs.Bit.{bit}
 use Rattle.nr_interleave.specs.Interleaving.{seat_of, interleaved}
-use Rattle.nr_interleave.proofs.spread.Goals as goal
+use Rattle.nr_interleave.proofs.by_places.Goals as goal
 
 pub loop-m-preserved : goal.loop-m-preserved
 loop-m-preserved c =
@@ -16,17 +17,18 @@ loop-m-preserved c =
       placed =
           c.push_in_room.ensures.items
           ∙ ap (λ xs. xs ++ c.get.result ∷ []) c.loop-m.invariant.placed
-          ∙ ap (λ b. map placed (range_with_len 0 c.loop-m.m) ++ b ∷ []) here
-          ∙ sym (map-range_with_len_more placed 0 c.loop-m.m c.loop-m.m (omega arith));
+          ∙ append_assoc c.args.spread.now.items (map placed (range_with_len 0 c.loop-m.m)) (c.get.result ∷ [])
+          ∙ ap (λ b. c.args.spread.now.items ++ (map placed (range_with_len 0 c.loop-m.m) ++ b ∷ [])) here
+          ∙ ap (λ xs. c.args.spread.now.items ++ xs) (sym (map-range_with_len_more placed 0 c.loop-m.m c.loop-m.m (omega arith)));
       room = let before = c.loop-m.invariant.room in let one = c.push_in_room.ensures.room in omega arith;
     }
 
-pub returns : goal.returns
+pub returns-clause-items : goal.returns-clause-items
 unfolding interleaved
-returns c =
+returns-clause-items c =
     let bits = c.args.bits.now.items in
     let placed : ℕ → Bool = λ m. bit bits (seat_of c.args.qm (length bits) m) in
     let last = c.loop-m-test.false in
     let most = c.loop-m.auto.m-end in
     let all : c.loop-m.m ≡ length bits = let e = c.len-e.ensures.value in omega arith in
-    c.loop-m.invariant.placed ∙ ap (λ n. map placed (range_with_len 0 n)) all
+    c.loop-m.invariant.placed ∙ ap (λ n. c.args.spread.now.items ++ map placed (range_with_len 0 n)) all

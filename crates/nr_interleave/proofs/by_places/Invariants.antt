@@ -1,0 +1,12 @@
+-- The places so far stand in the list, which has room for the rest.
+use Rattle.std.proofs.Common.{◌≡◌, ◌+◌, ◌++◌, length, map}
+use Rattle.std.specs.List.{range_with_len}
+use Rattle.nr_bitvec.specs.Bit.{bit}
+use Rattle.nr_interleave.specs.Interleaving.{seat_of}
+use Rattle.nr_interleave.proofs.by_places.Given as goal
+
+abbrev pub invariant-loop-m : goal.invariant-loop-m
+invariant-loop-m l = record {
+  placed : l.spread.items ≡ l.initial.spread.items ++ map (λ m. bit l.bits.items (seat_of l.qm (length l.bits.items) m)) (range_with_len 0 l.m);
+  room : l.spread.room + l.m ≡ l.initial.spread.room;
+}
