@@ -2,3 +2,4 @@ mod Buffers
 mod LengthLemmas
 mod Ranges
 mod Rounding
+mod Runs

@@ -1,7 +1,8 @@
 //! Rate matching for the LDPC code of NR (TS 38.212, 5.4.2): how many bits of each code block are sent, and which.
 //! `lengths` shares the bits out to the scheduled code blocks, a `Buffer` says which position of the codeword each
-//! selected bit has, from the redundancy version's start on, and `select` takes the bits. Their contracts cite
-//! specs/Lengths.antt and specs/Selection.antt: the whole circular buffer once round, without its fillers.
+//! selected bit has, from the redundancy version's start on, and `select` and `select_onto` take the bits, a run of the
+//! buffer at a time. Their contracts cite specs/Lengths.antt and specs/Selection.antt: the whole circular buffer once
+//! round, without its fillers.
 //! Laws: a selected position is never punctured and no filler. Only `select` takes memory.
 //! Stands on nr_bitvec, nr_graphpick, nr_segment and nr_ldpcenc, with `arrayvec` for the lengths and `thiserror` for
 //! the fault.
@@ -19,7 +20,7 @@ pub use buffer::Buffer;
 pub use fault::RmFault;
 pub use laws::{buffers_are_circular, places_are_sent, selection_ends};
 pub use mask::Mask;
-pub use selection::select;
+pub use selection::{select, select_onto};
 pub use sharing::{MOST_BLOCKS, lengths, lengths_are_shared};
 
 #[cfg(test)]

@@ -1,7 +1,7 @@
 //! Once round the buffer, in numbers.
 
-ghost use Rattle.std.specs.Prelude.{◌≡◌, ◌+◌, ◌^◌, ◌<◌, ◌≤◌};
-ghost use Rattle.nr_ratematch.specs.Rounds.{index_from};
+ghost use Rattle.std.specs.Prelude.{◌≡◌, ℕ, ◌+◌, ◌%◌, ◌^◌, ◌<◌, ◌≤◌};
+ghost use Rattle.nr_ratematch.specs.Rounds.{index_of, index_from};
 
 // The places of a buffer that are no fillers, from the start of a redundancy version on.
 #[derive(Clone, Copy)]
@@ -34,5 +34,34 @@ impl Round {
             place + self.skip
         };
         index + self.punctured
+    }
+
+    // The places from place `at` of those that have no filler on, up to the fillers or to the end of the round: the
+    // position in the codeword of the first of them, and how many there are.
+    pub(crate) fn run(self, at: u32) -> (u32, u32)
+        requires { at < self.count }
+        ensures some { 0 < result.1 }
+        ensures inside { at + result.1 ≤ self.count }
+        ensures places { (j : ℕ) → j < result.1
+            → index_of self.front self.skip (at + j) + self.punctured ≡ result.0 + j }
+    {
+        if at < self.front {
+            (at + self.punctured, self.front.min(self.count) - at)
+        } else {
+            (at + self.skip + self.punctured, self.count - at)
+        }
+    }
+
+    // The place after the `count` places from place `at` on, which do not go past the end of the round.
+    pub(crate) fn after(self, at: u32, count: u32) -> u32
+        requires { at + count ≤ self.count }
+        ensures value { result ≡ (at + count) % self.count }
+        ensures inside { result < self.count }
+    {
+        if at + count == self.count {
+            0
+        } else {
+            at + count
+        }
     }
 }

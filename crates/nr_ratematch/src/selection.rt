@@ -1,6 +1,6 @@
 //! The bits of a code block that are sent.
 
-ghost use Rattle.std.specs.Prelude.{◌≡◌, ◌*◌, ◌^◌, ◌<◌, ◌≤◌, length, IfOk};
+ghost use Rattle.std.specs.Prelude.{◌≡◌, ◌+◌, ◌*◌, ◌^◌, ◌<◌, ◌≤◌, ◌++◌, length, IfOk};
 ghost use Rattle.nr_graphpick.specs.Graph.{cols_of};
 ghost use Rattle.nr_ratematch.specs.Selection.{selected};
 
@@ -15,7 +15,6 @@ use std::alloc::{AllocError, Global};
 /// # Errors
 ///
 /// `AllocError` is want of memory, which is asked for once.
-#[tactic(auto, unfolding(crate::specs::Selection::selected))]
 pub fn select(
     alloc: Global,
     buffer: &Buffer,
@@ -28,10 +27,28 @@ pub fn select(
     requires short { e ≤ 2 ^ 24 }
     ensures { IfOk result (λ bits. bits.items ≡ selected buffer.now word.now rv e) }
 {
-    let round = buffer.round(rv);
     let mut bits = Bits::with_room(alloc, e)?;
-    for k in 0..e {
-        bits.push_in_room(word.get(round.place(k) as usize));
-    }
+    select_onto(buffer, word, rv, e, &mut bits);
     Ok(bits)
+}
+
+/// Puts the bits that `select` answers at the end of a list that has room for them (TS 38.212, 5.4.2.1). Takes no
+/// memory.
+pub fn select_onto(buffer: &Buffer, word: &Word, rv: u32, e: u32, bits: &mut Bits)
+    requires version { rv < 4 }
+    requires long { length word.now ≡ cols_of buffer.now.graph * buffer.now.z }
+    requires room { e ≤ bits.old.room }
+    ensures items { bits.new.items ≡ bits.old.items ++ selected buffer.now word.now rv e }
+    ensures room { bits.new.room + e ≡ bits.old.room }
+{
+    let round = buffer.round(rv);
+    let mut k = 0;
+    let mut at = round.first % round.count;
+    while k < e {
+        let (position, most) = round.run(at);
+        let count = most.min(e - k);
+        bits.extend_range(word.bits(), position as usize, count as usize);
+        k += count;
+        at = round.after(at, count);
+    }
 }
