@@ -132,6 +132,7 @@ fn a_word_by_hand(rt: HostRuntime) -> Result<(), Fail> {
         0, 2, 4, 0, 2, 2, 0, 0, 0, 0, 0, 8, 1, 0, 8, 8, 0, 0, 0, 0, 0, 2,
     ];
     assert_eq!(rt; word.len(), 208);
+    assert_eq!(rt; word.bits().octet(8), 0x10, "columns 2 and 3");
     for (column, want) in digits.iter().enumerate() {
         assert_eq!(rt; digit(&word, column), *want, "column {column}");
     }

@@ -60,6 +60,13 @@ impl Word {
         self.bits.len()
     }
 
+    /// The bits, as a list to take ranges of.
+    pub fn bits(&self) -> &Bits
+        ensures { result.now.items ≡ self.now }
+    {
+        &self.bits
+    }
+
     /// Bit `i`, counted from 0 and below the length.
     pub fn get(&self, i: usize) -> bool
         requires { i < length self.now }

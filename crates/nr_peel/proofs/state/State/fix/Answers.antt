@@ -55,7 +55,7 @@ push_reserved-requires c =
     let old = c.args.self.now in
     let w = c.requires.working in
     let room = count-room old.known.items c.search-pos.result.0 c.search-pos.ensures.inside c.search-pos.ensures.found.missing in
-    rw c.search-pos.ensures.visited.order (omega (arith, room, w.order_few, w.order_room, w.known_long, old.order.ok.0))
+    rw c.search-pos.ensures.visited.order (omega (arith, room, w.order_few, w.order_room, w.known_long))
 
 pub mark-requires-clause-tied : goal.mark-requires-clause-tied
 mark-requires-clause-tied c =
