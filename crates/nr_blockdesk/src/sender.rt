@@ -1,6 +1,6 @@
 //! The sender of one transport block.
 
-ghost use Rattle.std.specs.Prelude.{◌≡◌, ℕ, ◌<◌, ◌*◌, length, All, IfOk, IfErr, IsErrOf, IsOk, MatchResult, Ok, Err, [], slice_index_or};
+ghost use Rattle.std.specs.Prelude.{◌≡◌, ℕ, ◌<◌, ◌≤◌, ◌*◌, length, sum, All, IfOk, IfErr, IsErrOf, IsOk, MatchResult, Ok, Err, [], slice_index, slice_index_or};
 ghost use Rattle.nr_graphpick.specs.Graph.{cols_of};
 ghost use Rattle.nr_graphpick.specs.Refusal.{Gives};
 ghost use Rattle.nr_ldpcenc.specs.Codeword.{IsCodeword};
@@ -17,11 +17,10 @@ use crate::settings::Settings;
 use crate::tx::Tx;
 use arrayvec::ArrayVec;
 use nr_bitvec::Bits;
-use nr_cbconcat::append;
 use nr_crcattach::{attach, attachment_lengthens};
-use nr_interleave::spread;
+use nr_interleave::spread_onto;
 use nr_ldpcenc::{Word, encode};
-use nr_ratematch::{Buffer, lengths, select};
+use nr_ratematch::{Buffer, lengths, select_onto};
 use nr_segment::{Plan, code_blocks_are_long, cut, plans_are_sound};
 use nr_shifttable::Table;
 use std::alloc::{AllocError, Global};
@@ -170,6 +169,18 @@ pub(crate) fn judge(plan: &Plan, tx: &Tx) -> Result<ArrayVec<u32, 344>, DeskFaul
     }
 }
 
+// The longest of some lengths.
+fn longest(lengths: &[u32]) -> u32
+    ensures all { (r : ℕ) → r < length lengths.now → slice_index lengths.now r ≤ result }
+    ensures together { result ≤ sum lengths.now }
+{
+    let mut longest = 0;
+    for e in lengths {
+        longest = longest.max(*e);
+    }
+    longest
+}
+
 // The bits that a transmission sends of codewords, so many of each as `lengths` says.
 fn send_words(
     alloc: Global,
@@ -185,9 +196,12 @@ fn send_words(
         (λ r. slice_index_or words.now r [])) }
 {
     let mut sent = Bits::with_room(alloc, tx.g)?;
+    let most = longest(lengths);
+    let mut selected = Bits::with_room(alloc, most)?;
     for r in 0..lengths.len() {
-        let selected = select(alloc, buffer, &words[r], tx.rv, lengths[r])?;
-        append(&mut sent, &spread(alloc, tx.qm, &selected)?)?;
+        selected.clear();
+        select_onto(buffer, &words[r], tx.rv, lengths[r], &mut selected);
+        spread_onto(tx.qm, &selected, &mut sent);
     }
     Ok(sent)
 }

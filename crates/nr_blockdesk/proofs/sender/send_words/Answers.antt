@@ -1,30 +1,37 @@
-use Rattle.std.proofs.Common.{◌≡◌, ℕ, ◌%◌, ◌<◌, Bool, List, [], ◌++◌, length, slice_index, slice_index_or, subst, sym, ap, ◌∙◌, arith}
+use Rattle.std.proofs.Common.{◌≡◌, ℕ, ◌+◌, ◌%◌, ◌<◌, Bool, List, [], ◌++◌, length, slice_index, slice_index_or, length-append, subst, sym, ap, ◌∙◌, arith}
 use Rattle.std.proofs.lemmas.List.{get_or_default}
 use Rattle.nr_interleave.specs.Interleaving.{interleaved}
 use Rattle.nr_ratematch.specs.Selection.{selected}
 use Rattle.nr_blockdesk.specs.Sent.{block_sent, matching_of, sent_of}
-use Rattle.nr_blockdesk.proofs.Places.{front-inside, front-more, front_sent, length-selected}
+use Rattle.nr_blockdesk.proofs.Places.{front-inside, front-more, front_sent, length-selected, length-block_sent}
 use Rattle.nr_blockdesk.proofs.sender.send_words.Goals as goal
 
-pub spread-requires-clause-whole : goal.spread-requires-clause-whole
-spread-requires-clause-whole c =
+-- what is selected into the list that was cleared
+pub spread_onto-requires-clause-whole : goal.spread_onto-requires-clause-whole
+spread_onto-requires-clause-whole c =
     let e = slice_index c.args.lengths.now c.loop-r.r in
+    let chosen = selected c.args.buffer.now c.index-words-r.result c.args.tx.now.rv e in
     subst (λ n. n % c.args.tx.now.qm ≡ 0)
-    (sym (ap length c.in_ok-selected.ensures ∙ length-selected c.args.buffer.now c.index-words-r.result c.args.tx.now.rv e))
+    (sym (ap length (c.select_onto.ensures.items ∙ ap (λ xs. xs ++ chosen) c.clear.ensures.items) ∙ length-selected c.args.buffer.now c.index-words-r.result c.args.tx.now.rv e))
     (c.requires.shared.whole c.loop-r.r 0 c.loop-r-test.true)
 
-pub append-requires : goal.append-requires
-append-requires c =
+pub spread_onto-requires-clause-room : goal.spread_onto-requires-clause-room
+spread_onto-requires-clause-room c =
     let t = matching_of c.args.buffer.now c.args.tx.now c.args.lengths.now in
     let words : ℕ → List Bool = λ r. slice_index_or c.args.words.now r [] in
     let r = c.loop-r.r in
     let e = slice_index c.args.lengths.now r in
-    let there : r < length c.args.words.now = subst (λ n. r < n) c.requires.shared.counted c.loop-r-test.true in
-    let here : c.index-words-r.result ≡ words r = c.index-words-r.is ∙ get_or_default c.args.words.now r c.index-words-r.result [] there in
-    let part : c.in_ok-spread.field-0.items ≡ block_sent t (words r) e =
-    c.in_ok-spread.ensures
-    ∙ ap (interleaved c.args.tx.now.qm) (c.in_ok-selected.ensures ∙ ap (λ w. selected c.args.buffer.now w c.args.tx.now.rv e) here) in
-    omega (arith, ap length part, ap length c.loop-r.invariant, front-inside t words r c.loop-r-test.true, c.requires.shared.together, c.requires.shared.few)
+    let chosen = selected c.args.buffer.now c.index-words-r.result c.args.tx.now.rv e in
+    omega (
+      arith,
+      ap length (c.select_onto.ensures.items ∙ ap (λ xs. xs ++ chosen) c.clear.ensures.items),
+      length-selected c.args.buffer.now c.index-words-r.result c.args.tx.now.rv e,
+      length-block_sent t (words r) e,
+      front-inside t words r c.loop-r-test.true,
+      ap length c.loop-r.invariant.joined,
+      c.loop-r.invariant.room,
+      c.requires.shared.together,
+    )
 
 pub loop-r-preserved : goal.loop-r-preserved
 loop-r-preserved c =
@@ -32,15 +39,24 @@ loop-r-preserved c =
     let words : ℕ → List Bool = λ r. slice_index_or c.args.words.now r [] in
     let r = c.loop-r.r in
     let e = slice_index c.args.lengths.now r in
+    let chosen = selected c.args.buffer.now c.index-words-r.result c.args.tx.now.rv e in
+    let is : c.select_onto.new.bits.items ≡ chosen = c.select_onto.ensures.items ∙ ap (λ xs. xs ++ chosen) c.clear.ensures.items in
     let there : r < length c.args.words.now = subst (λ n. r < n) c.requires.shared.counted c.loop-r-test.true in
     let here : c.index-words-r.result ≡ words r = c.index-words-r.is ∙ get_or_default c.args.words.now r c.index-words-r.result [] there in
-    let part : c.in_ok-spread.field-0.items ≡ block_sent t (words r) e =
-    c.in_ok-spread.ensures
-    ∙ ap (interleaved c.args.tx.now.qm) (c.in_ok-selected.ensures ∙ ap (λ w. selected c.args.buffer.now w c.args.tx.now.rv e) here) in
-    c.in_ok-append.ensures.ok
-    ∙ ap (λ bits. bits ++ c.in_ok-spread.field-0.items) c.loop-r.invariant
+    let part : interleaved c.args.tx.now.qm c.select_onto.new.bits.items ≡ block_sent t (words r) e =
+    ap (interleaved c.args.tx.now.qm) (is ∙ ap (λ w. selected c.args.buffer.now w c.args.tx.now.rv e) here) in
+    let long : length c.select_onto.new.bits.items ≡ e = ap length is ∙ length-selected c.args.buffer.now c.index-words-r.result c.args.tx.now.rv e in
+    let joined : c.spread_onto.new.spread.items ≡ front_sent t words (r + 1) =
+    c.spread_onto.ensures.items
+    ∙ ap (λ bits. bits ++ interleaved c.args.tx.now.qm c.select_onto.new.bits.items) c.loop-r.invariant.joined
     ∙ ap (λ bits. front_sent t words r ++ bits) part
-    ∙ front-more t words r
+    ∙ front-more t words r in
+    record {
+      joined = joined;
+      room =
+          omega (arith, c.spread_onto.ensures.room, c.loop-r.invariant.room, long, length-block_sent t (words r) e, ap length joined, ap length (sym (front-more t words r)), ap length c.loop-r.invariant.joined, length-append (front_sent t words r) (block_sent t (words r) e));
+      enough = omega (arith, c.select_onto.ensures.room, c.clear.ensures.room, c.loop-r.invariant.enough, long);
+    }
 
 pub returns : goal.returns
 unfolding sent_of
@@ -48,4 +64,4 @@ returns c =
     let t = matching_of c.args.buffer.now c.args.tx.now c.args.lengths.now in
     let words : ℕ → List Bool = λ r. slice_index_or c.args.words.now r [] in
     let all : c.loop-r.r ≡ length c.args.lengths.now = omega arith in
-    c.loop-r.invariant ∙ ap (front_sent t words) all
+    c.loop-r.invariant.joined ∙ ap (front_sent t words) all

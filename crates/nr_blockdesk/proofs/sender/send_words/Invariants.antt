@@ -1,8 +1,12 @@
--- The bits of the code blocks so far have been joined.
-use Rattle.std.proofs.Common.{◌≡◌, [], slice_index_or}
+-- The bits of the code blocks so far have been joined, and there is room for those of each one more.
+use Rattle.std.proofs.Common.{◌≡◌, ◌+◌, ◌≤◌, [], length, slice_index_or}
 use Rattle.nr_blockdesk.specs.Sent.{matching_of}
 use Rattle.nr_blockdesk.proofs.Places.{front_sent}
 use Rattle.nr_blockdesk.proofs.sender.send_words.Given as goal
 
 abbrev pub invariant-loop-r : goal.invariant-loop-r
-invariant-loop-r l = l.sent.items ≡ front_sent (matching_of l.buffer l.tx l.lengths) (λ r. slice_index_or l.words r []) l.r
+invariant-loop-r l = record {
+  joined : l.sent.items ≡ front_sent (matching_of l.buffer l.tx l.lengths) (λ r. slice_index_or l.words r []) l.r;
+  room : l.tx.g ≤ l.sent.room + length l.sent.items;
+  enough : l.most ≤ l.selected.room + length l.selected.items;
+}

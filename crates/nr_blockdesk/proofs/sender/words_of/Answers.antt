@@ -30,7 +30,7 @@ push_reserved-requires c =
     let plan = c.args.plan.now in
     let f : ℕ → List Bool = λ r. codeword c.args.table.now plan.graph (numbers plan) (code_bits (numbers plan) (attached c.args.block.now.items) r) in
     let many = ap length c.loop-r.invariant.encoded ∙ length-map-range_with_len f 0 c.loop-r.r in
-    omega (arith, many, c.loop-r.invariant.room, c.loop-r-test.true, c.loop-r.words.ok.0)
+    omega (arith, many, c.loop-r.invariant.room, c.loop-r-test.true)
 
 pub loop-r-preserved : goal.loop-r-preserved
 loop-r-preserved c =

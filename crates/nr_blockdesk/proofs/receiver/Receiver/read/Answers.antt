@@ -1,4 +1,5 @@
 use Rattle.std.proofs.Common.{◌≡◌, ◌<◌, ◌≤◌, Bool, true, ◌++◌, List, length, get_or, drop, take, subst, sym, ap, ◌∙◌, arith}
+use Rattle.std.specs.Vec.{vec_len}
 use Rattle.nr_segment.specs.Plan.{word_size}
 use Rattle.nr_peel.specs.Peeling.{Peeling, checks_for}
 use Rattle.nr_blockdesk.specs.Link.{IsBlock, attached_length, link_of}
@@ -53,8 +54,8 @@ invariant_of-self c =
     let by : ExplainedBy link s.stores.items bits =
     explained-by link s.stores.items c.deref-2.result.now c.attach_in_room.new.list.items bits c.deref-2.ensures.value c.attach_in_room.ensures.items
     (c.explains.ensures.fits c.if-explains.true) in
-    let long : length W ≡ s.words.len = omega (arith, c.explains.ensures.words.many, inv.sized.many, s.words.ok.0) in
-    let kept : take s.words.len (W ++ drop (length W) s.words.items) ≡ W = written s.words.len W (drop (length W) s.words.items) long in
+    let long : length W ≡ vec_len s.words = omega (arith, c.explains.ensures.words.many, inv.sized.many) in
+    let kept : take (vec_len s.words) (W ++ drop (length W) s.words.items) ≡ W = written (vec_len s.words) W (drop (length W) s.words.items) long in
     record {
       is_link = inv.is_link;
       whole = inv.whole;
@@ -80,8 +81,8 @@ invariant_of-self-else-explains c =
     c.code_blocks_are_long.ensures.bits link s.stores.items s.peelers.items bits inv.is_link inv.desk all whole
     (λ i low. subst (λ (ps : List Peeling). IsRead link.plan ps bits i) c.deref.ensures.value
     (c.candidate-block.ensures.read i (subst (λ n. i < n) (sym (sym c.candidate-block.ensures.long ∙ whole)) low))) in
-    let long : length W ≡ s.words.len = omega (arith, c.explains.ensures.words.many, inv.sized.many, s.words.ok.0) in
-    let kept : take s.words.len (W ++ drop (length W) s.words.items) ≡ W = written s.words.len W (drop (length W) s.words.items) long in
+    let long : length W ≡ vec_len s.words = omega (arith, c.explains.ensures.words.many, inv.sized.many) in
+    let kept : take (vec_len s.words) (W ++ drop (length W) s.words.items) ≡ W = written (vec_len s.words) W (drop (length W) s.words.items) long in
     record {
       is_link = inv.is_link;
       whole = inv.whole;

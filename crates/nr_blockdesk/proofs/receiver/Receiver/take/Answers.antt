@@ -1,5 +1,6 @@
 use Rattle.std.proofs.Common.{◌≡◌, ◌*◌, ◌<◌, [], ◌∷◌, ◌++◌, Err, List, length, get_or, drop, take, subst, sym, ap, ◌∙◌, arith}
 use Rattle.std.proofs.lemmas.Result.{err_from_is_err_and}
+use Rattle.std.specs.Vec.{vec_len}
 use Rattle.nr_graphpick.specs.Graph.{cols_of}
 use Rattle.nr_harqbuf.specs.Record.{Heardbits}
 use Rattle.nr_peel.specs.Peeling.{Peeling}
@@ -50,17 +51,17 @@ invariant_of-self c =
     c.deref.ensures.0 c.deref_mut.ensures.value c.deref_mut-2.ensures.value inv.desk.stores c.hear-agreed.ensures.parts in
     let many : length S' ≡ length S = c.hear-agreed.ensures.stores ∙ ap length c.deref_mut.ensures.value in
     let peeled : length P' ≡ length P = c.hear-agreed.ensures.peelers ∙ ap length c.deref_mut-2.ensures.value in
-    let stores-whole : length S' ≡ s.stores.len = omega (arith, many, s.stores.ok.0) in
-    let peelers-whole : length P' ≡ s.peelers.len = omega (arith, peeled, s.peelers.ok.0) in
-    let kept : take s.stores.len (S' ++ drop (length S') S) ≡ S' = written s.stores.len S' (drop (length S') S) stores-whole in
+    let stores-whole : length S' ≡ vec_len s.stores = omega (arith, many) in
+    let peelers-whole : length P' ≡ vec_len s.peelers = omega (arith, peeled) in
+    let kept : take (vec_len s.stores) (S' ++ drop (length S') S) ≡ S' = written (vec_len s.stores) S' (drop (length S') S) stores-whole in
     let told : AllTell c.hear-agreed.result s.plan.c s.words.items S S' =
     told-of c.hear-agreed.result s.plan.c s.words.items c.deref-2.result.now S c.deref_mut.result.now S' c.deref-2.ensures.value c.deref_mut.ensures.value
     inv.desk.stores c.hear-agreed.ensures.agreed in
-    let kept-too : take s.peelers.len (P' ++ drop (length P') P) ≡ P' = written s.peelers.len P' (drop (length P') P) peelers-whole in
+    let kept-too : take (vec_len s.peelers) (P' ++ drop (length P') P) ≡ P' = written (vec_len s.peelers) P' (drop (length P') P) peelers-whole in
     record {
       is_link = inv.is_link;
       whole = inv.whole;
-      desk = subst (λ (l : List Heardbits). IsDesk link l (take s.peelers.len (P' ++ drop (length P') P))) (sym kept)
+      desk = subst (λ (l : List Heardbits). IsDesk link l (take (vec_len s.peelers) (P' ++ drop (length P') P))) (sym kept)
           (subst (λ (l : List Peeling). IsDesk link S' l) (sym kept-too)
           (desk-taken link tx es places S S' P P' inv.desk (many ∙ inv.desk.stores) (peeled ∙ inv.desk.peelings) are));
       room = inv.room;
@@ -88,9 +89,9 @@ returns-clause-heard c =
     c.deref.ensures.0 c.deref_mut.ensures.value c.deref_mut-2.ensures.value inv.desk.stores c.hear-agreed.ensures.parts in
     let many : length S' ≡ length S = c.hear-agreed.ensures.stores ∙ ap length c.deref_mut.ensures.value in
     let peeled : length P' ≡ length P = c.hear-agreed.ensures.peelers ∙ ap length c.deref_mut-2.ensures.value in
-    let stores-whole : length S' ≡ s.stores.len = omega (arith, many, s.stores.ok.0) in
-    let peelers-whole : length P' ≡ s.peelers.len = omega (arith, peeled, s.peelers.ok.0) in
-    let kept : take s.stores.len (S' ++ drop (length S') S) ≡ S' = written s.stores.len S' (drop (length S') S) stores-whole in
+    let stores-whole : length S' ≡ vec_len s.stores = omega (arith, many) in
+    let peelers-whole : length P' ≡ vec_len s.peelers = omega (arith, peeled) in
+    let kept : take (vec_len s.stores) (S' ++ drop (length S') S) ≡ S' = written (vec_len s.stores) S' (drop (length S') S) stores-whole in
     let x = reception tx places in
     let told = λ (list : List Reception) (of : IsRecordOf link list S).
     all-taken c.parts_are_at.ensures c.places_have_one_owner.ensures c.accepted_are_matched.ensures link tx es places S S' P P'
@@ -116,16 +117,16 @@ returns-clause-outcome c =
     c.deref.ensures.0 c.deref_mut.ensures.value c.deref_mut-2.ensures.value inv.desk.stores c.hear-agreed.ensures.parts in
     let many : length S' ≡ length S = c.hear-agreed.ensures.stores ∙ ap length c.deref_mut.ensures.value in
     let peeled : length P' ≡ length P = c.hear-agreed.ensures.peelers ∙ ap length c.deref_mut-2.ensures.value in
-    let stores-whole : length S' ≡ s.stores.len = omega (arith, many, s.stores.ok.0) in
-    let peelers-whole : length P' ≡ s.peelers.len = omega (arith, peeled, s.peelers.ok.0) in
-    let kept : take s.stores.len (S' ++ drop (length S') S) ≡ S' = written s.stores.len S' (drop (length S') S) stores-whole in
+    let stores-whole : length S' ≡ vec_len s.stores = omega (arith, many) in
+    let peelers-whole : length P' ≡ vec_len s.peelers = omega (arith, peeled) in
+    let kept : take (vec_len s.stores) (S' ++ drop (length S') S) ≡ S' = written (vec_len s.stores) S' (drop (length S') S) stores-whole in
     let x = reception tx places in
     let told = λ (list : List Reception) (of : IsRecordOf link list S).
     all-taken c.parts_are_at.ensures c.places_have_one_owner.ensures c.accepted_are_matched.ensures link tx es places S S' P P'
     inv.is_link inv.desk c.in_ok-lengths.ensures.said c.in_ok-lengths.ensures.whole many are list of in
     let outcome = λ (list : List Reception) (of : IsRecordOf link list S).
     outcome-of_record c.explains_by_record.ensures c.explained_is_delivered.ensures c.delivered_is_only.ensures link (list ++ x ∷ [])
-    (take s.stores.len (S' ++ drop (length S') S)) c.answer.result inv.is_link
+    (take (vec_len s.stores) (S' ++ drop (length S') S)) c.answer.result inv.is_link
     (subst (λ (l : List Heardbits). IsRecordOf link (list ++ x ∷ []) l) (sym kept) (told list of)) c.answer.ensures.decided in
     rw (← c.self.view_is) (λ list of. outcome list of)
 
@@ -146,16 +147,16 @@ returns-clause-only_one c =
     c.deref.ensures.0 c.deref_mut.ensures.value c.deref_mut-2.ensures.value inv.desk.stores c.hear-agreed.ensures.parts in
     let many : length S' ≡ length S = c.hear-agreed.ensures.stores ∙ ap length c.deref_mut.ensures.value in
     let peeled : length P' ≡ length P = c.hear-agreed.ensures.peelers ∙ ap length c.deref_mut-2.ensures.value in
-    let stores-whole : length S' ≡ s.stores.len = omega (arith, many, s.stores.ok.0) in
-    let peelers-whole : length P' ≡ s.peelers.len = omega (arith, peeled, s.peelers.ok.0) in
-    let kept : take s.stores.len (S' ++ drop (length S') S) ≡ S' = written s.stores.len S' (drop (length S') S) stores-whole in
+    let stores-whole : length S' ≡ vec_len s.stores = omega (arith, many) in
+    let peelers-whole : length P' ≡ vec_len s.peelers = omega (arith, peeled) in
+    let kept : take (vec_len s.stores) (S' ++ drop (length S') S) ≡ S' = written (vec_len s.stores) S' (drop (length S') S) stores-whole in
     let x = reception tx places in
     let told = λ (list : List Reception) (of : IsRecordOf link list S).
     all-taken c.parts_are_at.ensures c.places_have_one_owner.ensures c.accepted_are_matched.ensures link tx es places S S' P P'
     inv.is_link inv.desk c.in_ok-lengths.ensures.said c.in_ok-lengths.ensures.whole many are list of in
     let outcome = λ (list : List Reception) (of : IsRecordOf link list S).
     outcome-of_record c.explains_by_record.ensures c.explained_is_delivered.ensures c.delivered_is_only.ensures link (list ++ x ∷ [])
-    (take s.stores.len (S' ++ drop (length S') S)) c.answer.result inv.is_link
+    (take (vec_len s.stores) (S' ++ drop (length S') S)) c.answer.result inv.is_link
     (subst (λ (l : List Heardbits). IsRecordOf link (list ++ x ∷ []) l) (sym kept) (told list of)) c.answer.ensures.decided in
     rw (← c.self.view_is)
     (λ list y z of e whole explained.
@@ -178,16 +179,16 @@ returns-clause-no_contradiction c =
     c.deref.ensures.0 c.deref_mut.ensures.value c.deref_mut-2.ensures.value inv.desk.stores c.hear-agreed.ensures.parts in
     let many : length S' ≡ length S = c.hear-agreed.ensures.stores ∙ ap length c.deref_mut.ensures.value in
     let peeled : length P' ≡ length P = c.hear-agreed.ensures.peelers ∙ ap length c.deref_mut-2.ensures.value in
-    let stores-whole : length S' ≡ s.stores.len = omega (arith, many, s.stores.ok.0) in
-    let peelers-whole : length P' ≡ s.peelers.len = omega (arith, peeled, s.peelers.ok.0) in
-    let kept : take s.stores.len (S' ++ drop (length S') S) ≡ S' = written s.stores.len S' (drop (length S') S) stores-whole in
+    let stores-whole : length S' ≡ vec_len s.stores = omega (arith, many) in
+    let peelers-whole : length P' ≡ vec_len s.peelers = omega (arith, peeled) in
+    let kept : take (vec_len s.stores) (S' ++ drop (length S') S) ≡ S' = written (vec_len s.stores) S' (drop (length S') S) stores-whole in
     let x = reception tx places in
     let told = λ (list : List Reception) (of : IsRecordOf link list S).
     all-taken c.parts_are_at.ensures c.places_have_one_owner.ensures c.accepted_are_matched.ensures link tx es places S S' P P'
     inv.is_link inv.desk c.in_ok-lengths.ensures.said c.in_ok-lengths.ensures.whole many are list of in
     let outcome = λ (list : List Reception) (of : IsRecordOf link list S).
     outcome-of_record c.explains_by_record.ensures c.explained_is_delivered.ensures c.delivered_is_only.ensures link (list ++ x ∷ [])
-    (take s.stores.len (S' ++ drop (length S') S)) c.answer.result inv.is_link
+    (take (vec_len s.stores) (S' ++ drop (length S') S)) c.answer.result inv.is_link
     (subst (λ (l : List Heardbits). IsRecordOf link (list ++ x ∷ []) l) (sym kept) (told list of)) c.answer.ensures.decided in
     rw (← c.self.view_is)
     (λ list y of whole explained e.

@@ -12,7 +12,7 @@ index-requires c =
     let link = link_of s.table.now s.plan (length s.block.items) s.buffer in
     let count = ap (λ (v : Sending). v.link.plan.c) c.self.view_is in
     let many = ap length c.self.invariant.encoded ∙ length-words link s.block.items in
-    omega (arith, count, many, c.requires, s.words.ok.0)
+    omega (arith, count, many, c.requires)
 
 pub returns-clause-value : goal.returns-clause-value
 returns-clause-value c =
