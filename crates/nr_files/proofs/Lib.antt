@@ -1,6 +1,7 @@
 mod BlockLines
 pub mod BlockRounds
 mod BlocksUnread
+mod ColumnNames
 mod DrawnFacts
 mod FurthestFacts
 mod MaskWords

@@ -57,7 +57,7 @@ fresh_block-more p before x = ap fresh_block (round-more p before x) ∙ go (x.p
     go true false off = fresh_block-longer (round_of p before) x off
     go false b is = refl
 
--- the same after the transmission at index i
+-- that block after the transmission at index i
 pub fresh_block-turn : (p : ℕ) (xs : List Transmission) (i : ℕ) (x : Transmission) → i < length xs → x ≡ get_or xs i x → fresh_block (round_of p (take (i + 1) xs)) ≡ cond ((x.process == p) && x.fresh) (Some x.block) (fresh_block (round_of p (take i xs)))
 fresh_block-turn p xs i x within is =
     ap (λ ys. fresh_block (round_of p ys)) (take_more xs i x within ∙ ap (λ y. take i xs ++ y ∷ []) (sym is)) ∙ fresh_block-more p (take i xs) x

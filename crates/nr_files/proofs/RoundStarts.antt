@@ -8,7 +8,7 @@ use Rattle.nr_files.specs.Rounds.{of_process, round_of}
 use Rattle.nr_files.specs.declared.schedule.Transmission.{Transmission}
 use Rattle.nr_files.proofs.RoundFacts.{of_process-more, round-more}
 
--- the same with one transmission more
+-- one transmission more
 start-more : (p : ℕ) (before : List Transmission) (x : Transmission) (start next : ℕ) → start ≤ length before → next ≡ cond ((x.process == p) && x.fresh) (length before) start → of_process p (drop start before) ≡ round_of p before → of_process p (drop next (before ++ x ∷ [])) ≡ round_of p (before ++ x ∷ [])
 start-more p before x start next low is so_far = go (x.process == p) x.fresh refl refl is ∙ sym (round-more p before x)
   where

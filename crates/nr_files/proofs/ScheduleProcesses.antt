@@ -1,18 +1,21 @@
 -- The processes of a schedule's transmissions.
 use Rattle.std.proofs.Common.{◌≡◌, ℕ, zero, suc, ◌+◌, ◌-◌, ◌<◌, ◌≤◌, Bool, true, false, cond, Option, None, Some, Ok, Err, IfOk, List, [], ◌∷◌, ◌++◌, All, length, take, get_or, ap, sym, subst, refl, ◌∙◌, arith, append_assoc, nat_lt}
-use Rattle.std.specs.Prelude.{◌==◌, ◌&&◌, codes, nat_le, not}
+use Rattle.std.specs.Prelude.{◌==◌, ◌&&◌, bytes_eq, codes, not}
 use Rattle.std.proofs.lemmas.Bool.Decides.{nat_tests}
 use Rattle.std.proofs.lemmas.List.{append-nil}
 use Rattle.std.proofs.lemmas.List.Elements.{All-nil, All-cons}
 use Rattle.nr_graphpick.specs.Refusal.{or_fault}
-use Rattle.nr_shifttable.specs.Fields.{short_number}
+use Rattle.csv.specs.Records.{field_at}
+use Rattle.nr_shifttable.specs.Fields.{short_number, stripped}
 use Rattle.nr_shifttable.specs.Records.{Record, records_of}
 use Rattle.nr_files.specs.PlaceLists.{below}
+use Rattle.nr_files.specs.Columns.{has_column, is_schedule_header, is_width}
 use Rattle.nr_files.specs.Rounds.{round_of}
-use Rattle.nr_files.specs.Schedule.{EachGoesOn, GoesOn, IsPlaced, Timetable, block_in, erasure_at, field, flip_at, fresh_at, fresh_block, is_called, is_schedule_header, is_of_block, is_width, mask_at, number_at, process_at, schedule_of, schedule_said, transmission_of, transmissions_from}
+use Rattle.nr_files.specs.Schedule.{EachGoesOn, GoesOn, IsPlaced, Timetable, block_in, erasure_at, flip_at, fresh_at, fresh_block, is_of_block, mask_at, number_at, process_at, schedule_of, schedule_said, transmission_of, transmissions_from}
 use Rattle.nr_files.specs.declared.schedule.ScheduleFault.{ScheduleFault}
 use Rattle.nr_files.specs.declared.schedule.ScheduleFault.TheVariants as fault
 use Rattle.nr_files.specs.declared.schedule.Transmission.{Transmission}
+use Rattle.nr_files.proofs.ColumnNames.{field_at-none, field_at-some}
 use Rattle.nr_files.proofs.Refusals.{holds_if, holds_then, of_ok}
 
 -- a number that is below a limit
@@ -49,30 +52,31 @@ record IsIn (width : ℕ) (before : List Transmission) (x : Transmission) : Type
   pub goes_on : (width == 10) ≡ true → GoesOn before x
 
 -- a record of ten columns
-wide : (k : ℕ) (r : Record) (block process : ℕ) → length r ≡ 10 → process_at k r 8 block ≡ Ok process → process < 16
+wide : (k : ℕ) (r : Record) (block process : ℕ) → length r ≡ 10 → process_at k r block ≡ Ok process → process < 16
 wide k r block process long is =
-    let far : nat_le (length r) 8 ≡ false = grind (arith, nat_tests) in
-    below-inside 16 (fault.Process k) (short_number (field r 8)) process (rw far at is)
+    let there : field_at r 8 ≡ Some (get_or r 8 []) = field_at-some r 8 (omega (arith, long)) in
+    below-inside 16 (fault.Process k) (short_number (stripped (get_or r 8 []))) process (rw there at is)
 
-wide-stale : (k : ℕ) (r : Record) (block : ℕ) (begun : Option ℕ) → length r ≡ 10 → fresh_at k r 9 block begun ≡ Ok false → begun ≡ Some block
+wide-stale : (k : ℕ) (r : Record) (block : ℕ) (begun : Option ℕ) → length r ≡ 10 → fresh_at k r block begun ≡ Ok false → begun ≡ Some block
 wide-stale k r block begun long is =
-    let far : nat_le (length r) 9 ≡ false = grind (arith, nat_tests) in
-    stale-of k block begun (is_called r 9 (codes "1")) (is_called r 9 (codes "0")) (rw far at is)
+    let there : field_at r 9 ≡ Some (get_or r 9 []) = field_at-some r 9 (omega (arith, long)) in
+    let text : List ℕ = stripped (get_or r 9 []) in
+    stale-of k block begun (bytes_eq text (codes "1")) (bytes_eq text (codes "0")) (rw there at is)
 
 -- a record of fewer
-narrow : (k : ℕ) (r : Record) (block process : ℕ) → length r ≤ 8 → process_at k r 8 block ≡ Ok process → process ≡ block
+narrow : (k : ℕ) (r : Record) (block process : ℕ) → length r ≤ 8 → process_at k r block ≡ Ok process → process ≡ block
 narrow k r block process few is =
-    let near : nat_le (length r) 8 ≡ true = grind (arith, nat_tests) in
-    let same : Ok block ≡ Ok process = rw near at is in
+    let none : field_at r 8 ≡ None = field_at-none r 8 few in
+    let same : Ok block ≡ Ok process = rw none at is in
     cc
 
-narrow-stale : (k : ℕ) (r : Record) (block : ℕ) (begun : Option ℕ) (fresh : Bool) → length r ≤ 8 → fresh_at k r 9 block begun ≡ Ok fresh → fresh ≡ false
+narrow-stale : (k : ℕ) (r : Record) (block : ℕ) (begun : Option ℕ) (fresh : Bool) → length r ≤ 8 → fresh_at k r block begun ≡ Ok fresh → fresh ≡ false
 narrow-stale k r block begun fresh few is =
-    let near : nat_le (length r) 9 ≡ true = grind (arith, nat_tests) in
-    let same : Ok false ≡ Ok fresh = rw near at is in
+    let none : field_at r 9 ≡ None = field_at-none r 9 (omega (arith, few)) in
+    let same : Ok false ≡ Ok fresh = rw none at is in
     cc
 
-in-columns : (k width block : ℕ) (before : List Transmission) (r : Record) (x : Transmission) (b : Bool) → (width == 10) ≡ b → (b ≡ false → width ≤ 8) → length r ≡ width → x.block ≡ block → process_at k r 8 block ≡ Ok x.process → fresh_at k r 9 block (fresh_block (round_of x.process before)) ≡ Ok x.fresh → IsPlaced b x × (b ≡ true → GoesOn before x)
+in-columns : (k width block : ℕ) (before : List Transmission) (r : Record) (x : Transmission) (b : Bool) → (width == 10) ≡ b → (b ≡ false → width ≤ 8) → length r ≡ width → x.block ≡ block → process_at k r block ≡ Ok x.process → fresh_at k r block (fresh_block (round_of x.process before)) ≡ Ok x.fresh → IsPlaced b x × (b ≡ true → GoesOn before x)
 in-columns k width block before r x true ten few long named process_is fresh_is =
     let all : length r ≡ 10 = grind (arith, nat_tests) in (
       wide k r block x.process all process_is,
@@ -93,17 +97,17 @@ transmission_of-in blocks width k before r few =
     holds_if _ (not (length r == width)) _ _ (λ other. tt) (λ same.
     holds_if _ (nat_lt 4097 k) _ _ (λ many. tt) (λ last.
     let long : length r ≡ width = grind (arith, nat_tests) in
-    holds_then _ (number_at k r 0) _ (λ number number_is.
-    holds_then _ (number_at k r 1) _ (λ rv rv_is.
-    holds_then _ (number_at k r 2) _ (λ g g_is.
-    holds_then _ (number_at k r 3) _ (λ qm qm_is.
-    holds_then _ (number_at k r 4) _ (λ nl nl_is.
+    holds_then _ (number_at k r (codes "block")) _ (λ number number_is.
+    holds_then _ (number_at k r (codes "rv")) _ (λ rv rv_is.
+    holds_then _ (number_at k r (codes "g")) _ (λ g g_is.
+    holds_then _ (number_at k r (codes "qm")) _ (λ qm qm_is.
+    holds_then _ (number_at k r (codes "nl")) _ (λ nl nl_is.
     holds_then _ (block_in k blocks number) _ (λ block block_is.
-    holds_then _ (erasure_at k r 5) _ (λ erasure erasure_is.
-    holds_then _ (flip_at k r 6) _ (λ flip flip_is.
-    holds_then _ (mask_at k r 7) _ (λ mask mask_is.
-    holds_then _ (process_at k r 8 block) _ (λ process process_is.
-    holds_then _ (fresh_at k r 9 block (fresh_block (round_of process before))) _ (λ fresh fresh_is.
+    holds_then _ (erasure_at k r) _ (λ erasure erasure_is.
+    holds_then _ (flip_at k r) _ (λ flip flip_is.
+    holds_then _ (mask_at k r) _ (λ mask mask_is.
+    holds_then _ (process_at k r block) _ (λ process process_is.
+    holds_then _ (fresh_at k r block (fresh_block (round_of process before))) _ (λ fresh fresh_is.
     let x : Transmission = record {
       number = k - 1;
       block = block;
@@ -142,11 +146,29 @@ transmissions_from-in blocks width k before (r ∷ rs) few =
       goes_on = each width before t more first others;
     }))
 
+-- a header of ten columns names processes, and one of fewer does not
+header-wide : (r : Record) → length r ≡ 10 → has_column r (codes "process") ≡ true
+header-wide r long =
+    let there : field_at r 8 ≡ Some (get_or r 8 []) = field_at-some r 8 (omega (arith, long)) in
+    rw there refl
+
+header-few : (r : Record) → length r ≤ 8 → has_column r (codes "process") ≡ false
+header-few r few =
+    let none : field_at r 8 ≡ None = field_at-none r 8 few in
+    rw none refl
+
 header-narrow : (r : Record) → is_schedule_header r ≡ true → (length r == 10) ≡ false → length r ≤ 8
 unfolding is_schedule_header
 header-narrow r header other =
     let one : is_width (length r) ≡ true = grind (arith) in
     grind (arith, nat_tests)
+
+header-processes : (r : Record) → is_schedule_header r ≡ true → has_column r (codes "process") ≡ (length r == 10)
+header-processes r header = go (length r == 10) refl
+  where
+    go : (b : Bool) → (length r == 10) ≡ b → has_column r (codes "process") ≡ b
+    go true ten = header-wide r (grind (arith, nat_tests))
+    go false other = header-few r (header-narrow r header other)
 
 -- what is so of the transmissions of a schedule
 pub record AreOfProcesses (said : Timetable) : Type 0 where
@@ -162,5 +184,5 @@ schedule_said-processes blocks text = holds_if _ (nat_lt 16777216 (length text))
     all (r ∷ rs) =
         holds_if _ (is_schedule_header r) _ _ (λ header.
         holds_then _ (transmissions_from blocks (length r) 2 [] rs) _ (λ ts is.
-        let in_columns : AreIn (length r) [] ts = of_ok _ _ ts is (transmissions_from-in blocks (length r) 2 [] rs (header-narrow r header)) in
-        record { placed = in_columns.placed; goes_on = in_columns.goes_on })) (λ other. tt)
+        let by_width : AreIn (length r) [] ts = of_ok _ _ ts is (transmissions_from-in blocks (length r) 2 [] rs (header-narrow r header)) in
+        rw (header-processes r header) record { placed = by_width.placed; goes_on = by_width.goes_on })) (λ other. tt)

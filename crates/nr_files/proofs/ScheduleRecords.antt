@@ -1,14 +1,20 @@
 -- The records of a schedule, one by one.
-use Rattle.std.proofs.Common.{◌≡◌, ◌≢◌, ℕ, ◌+◌, ◌-◌, ◌<◌, ◌≤◌, ◌⊎◌, inl, inr, Bool, true, false, cond, Option, Result, Ok, Err, IfOk, List, [], ◌∷◌, ◌++◌, length, map, ap, sym, ◌∙◌, refl, arith, append_assoc, nat_lt}
-use Rattle.std.specs.Prelude.{All, ◌==◌, ◌&&◌, codes, nat_le, not}
+use Rattle.std.proofs.Common.{◌≡◌, ◌≢◌, ℕ, ◌+◌, ◌-◌, ◌<◌, ◌≤◌, ◌⊎◌, inl, inr, Bool, true, false, cond, Option, None, Some, Result, Ok, Err, IfOk, List, [], ◌∷◌, ◌++◌, length, map, ap, sym, ◌∙◌, refl, arith, append_assoc, nat_lt}
+use Rattle.std.specs.Prelude.{All, ◌==◌, ◌&&◌, bytes_eq, codes, nat_le, not}
 use Rattle.std.specs.List.{range_with_len}
 use Rattle.std.proofs.lemmas.Bool.Decides.{nat_tests}
 use Rattle.std.proofs.lemmas.List.{append-nil}
 use Rattle.std.proofs.lemmas.List.Elements.{All-nil, All-cons}
 use Rattle.nr_graphpick.specs.Refusal.{◌>>=◌}
+use Rattle.nr_shifttable.specs.Fields.{short_number}
 use Rattle.nr_shifttable.specs.Records.{Record, records_of}
+use Rattle.nr_files.specs.Columns.{field, has_column, is_schedule_header}
+use Rattle.nr_files.specs.Masks.{mask_of}
+use Rattle.nr_files.specs.PlaceLists.{below, places_of}
 use Rattle.nr_files.specs.Rounds.{round_of}
-use Rattle.nr_files.specs.Schedule.{HasBlock, Timetable, block_in, erasure_at, flip_at, fresh_at, fresh_block, in_columns, is_called, is_schedule_header, is_of_block, mask_at, number_at, process_at, schedule_of, schedule_said, transmission_of, transmissions_from}
+use Rattle.nr_files.specs.Schedule.{HasBlock, Timetable, block_in, erasure_at, flip_at, fresh_at, fresh_block, fresh_of, is_of_block, mask_at, number_at, process_at, said_or, schedule_of, schedule_said, timetable_of, transmission_of, transmissions_from}
+use Rattle.nr_files.specs.declared.erasure.Places.TheVariants.{Nothing}
+use Rattle.nr_ratematch.specs.declared.mask.Mask.TheVariants as mask
 use Rattle.nr_files.specs.declared.schedule.ScheduleFault.{ScheduleFault}
 use Rattle.nr_files.specs.declared.schedule.ScheduleFault.TheVariants as fault
 use Rattle.nr_files.specs.declared.schedule.Transmission.{Transmission}
@@ -34,13 +40,15 @@ schedule_of-missing blocks all none = ap (schedule_of blocks) none
 pub schedule_of-other : (blocks : ℕ) (all rest : List Record) (r : Record) → all ≡ r ∷ rest → is_schedule_header r ≡ false → schedule_of blocks all ≡ Err fault.Header
 unfolding schedule_of
 schedule_of-other blocks all rest r some other =
-    ap (schedule_of blocks) some ∙ ap (λ b. cond b (in_columns (length r) (transmissions_from blocks (length r) 2 [] rest)) (Err fault.Header)) other
+    ap (schedule_of blocks) some
+    ∙ ap (λ b. cond b (timetable_of (has_column r (codes "process")) (transmissions_from blocks (length r) 2 [] rest)) (Err fault.Header)) other
 
-pub schedule_of-header : (blocks : ℕ) (all rest : List Record) (r : Record) → all ≡ r ∷ rest → is_schedule_header r ≡ true → in_columns (length r) (with_front [] (transmissions_from blocks (length r) 2 [] rest)) ≡ schedule_of blocks all
+pub schedule_of-header : (blocks : ℕ) (all rest : List Record) (r : Record) → all ≡ r ∷ rest → is_schedule_header r ≡ true → timetable_of (has_column r (codes "process")) (with_front [] (transmissions_from blocks (length r) 2 [] rest)) ≡ schedule_of blocks all
 unfolding schedule_of
 schedule_of-header blocks all rest r some header =
-    ap (in_columns (length r)) (with_front-none (transmissions_from blocks (length r) 2 [] rest))
-    ∙ sym (ap (schedule_of blocks) some ∙ ap (λ b. cond b (in_columns (length r) (transmissions_from blocks (length r) 2 [] rest)) (Err fault.Header)) header)
+    let by_process = has_column r (codes "process") in
+    ap (timetable_of by_process) (with_front-none (transmissions_from blocks (length r) 2 [] rest))
+    ∙ sym (ap (schedule_of blocks) some ∙ ap (λ b. cond b (timetable_of by_process (transmissions_from blocks (length r) 2 [] rest)) (Err fault.Header)) header)
 
 -- a turn of the loop over the other records, behind the transmissions of those before record k
 turn : (blocks width k : ℕ) (front : List Transmission) (before rest : List Record) (r : Record) (said : Result Transmission ScheduleFault) → before ≡ r ∷ rest → transmission_of blocks width k front r ≡ said
@@ -50,23 +58,23 @@ turn blocks width k front before rest r said some is =
     ap (λ rs. with_front front (transmissions_from blocks width k front rs)) some
     ∙ ap (λ o. with_front front (o >>= λ t. transmissions_from blocks width (k + 1) (front ++ t ∷ []) rest >>= λ more. Ok (t ∷ more))) is
 
-pub turn-ok : (blocks width k : ℕ) (front : List Transmission) (before rest : List Record) (r : Record) (t : Transmission) (all : Result Timetable ScheduleFault) → before ≡ r ∷ rest
-    → transmission_of blocks width k front r ≡ Ok t → in_columns width (with_front front (transmissions_from blocks width k front before)) ≡ all → in_columns width (with_front (front ++ t ∷ []) (transmissions_from blocks width (k + 1) (front ++ t ∷ []) rest)) ≡ all
-turn-ok blocks width k front before rest r t all some is so_far =
-    sym (ap (in_columns width) (turn blocks width k front before rest r (Ok t) some is ∙ with_front-more front t (transmissions_from blocks width (k + 1) (front ++ t ∷ []) rest))) ∙ so_far
+pub turn-ok : (by_process : Bool) (blocks width k : ℕ) (front : List Transmission) (before rest : List Record) (r : Record) (t : Transmission) (all : Result Timetable ScheduleFault) → before ≡ r ∷ rest
+    → transmission_of blocks width k front r ≡ Ok t → timetable_of by_process (with_front front (transmissions_from blocks width k front before)) ≡ all → timetable_of by_process (with_front (front ++ t ∷ []) (transmissions_from blocks width (k + 1) (front ++ t ∷ []) rest)) ≡ all
+turn-ok by_process blocks width k front before rest r t all some is so_far =
+    sym (ap (timetable_of by_process) (turn blocks width k front before rest r (Ok t) some is ∙ with_front-more front t (transmissions_from blocks width (k + 1) (front ++ t ∷ []) rest))) ∙ so_far
 
 -- the first fault of record k is the schedule's, unless memory ran out
-pub turn-refused : (blocks width k : ℕ) (front : List Transmission) (before rest : List Record) (r : Record) (e : ScheduleFault) (all : Result Timetable ScheduleFault) → before ≡ r ∷ rest
-    → (e ≡ fault.Memory) ⊎ (transmission_of blocks width k front r ≡ Err e) → in_columns width (with_front front (transmissions_from blocks width k front before)) ≡ all → (e ≡ fault.Memory) ⊎ (all ≡ Err e)
-turn-refused blocks width k front before rest r e all some (inl memory) so_far = inl memory
-turn-refused blocks width k front before rest r e all some (inr is) so_far = inr (sym so_far ∙ ap (in_columns width) (turn blocks width k front before rest r (Err e) some is))
+pub turn-refused : (by_process : Bool) (blocks width k : ℕ) (front : List Transmission) (before rest : List Record) (r : Record) (e : ScheduleFault) (all : Result Timetable ScheduleFault) → before ≡ r ∷ rest
+    → (e ≡ fault.Memory) ⊎ (transmission_of blocks width k front r ≡ Err e) → timetable_of by_process (with_front front (transmissions_from blocks width k front before)) ≡ all → (e ≡ fault.Memory) ⊎ (all ≡ Err e)
+turn-refused by_process blocks width k front before rest r e all some (inl memory) so_far = inl memory
+turn-refused by_process blocks width k front before rest r e all some (inr is) so_far = inr (sym so_far ∙ ap (timetable_of by_process) (turn blocks width k front before rest r (Err e) some is))
 
-pub turn-end : (blocks width k : ℕ) (front : List Transmission) (before : List Record) (all : Result Timetable ScheduleFault) → before ≡ []
-    → in_columns width (with_front front (transmissions_from blocks width k front before)) ≡ all → all ≡ Ok (record { by_process = width == 10; transmissions = front })
+pub turn-end : (by_process : Bool) (blocks width k : ℕ) (front : List Transmission) (before : List Record) (all : Result Timetable ScheduleFault) → before ≡ []
+    → timetable_of by_process (with_front front (transmissions_from blocks width k front before)) ≡ all → all ≡ Ok (record { by_process = by_process; transmissions = front })
 unfolding transmissions_from
-turn-end blocks width k front before all none so_far =
-    sym so_far ∙ ap (λ rs. in_columns width (with_front front (transmissions_from blocks width k front rs))) none
-    ∙ ap (λ ts. Ok (record { by_process = width == 10; transmissions = ts })) (append-nil front)
+turn-end by_process blocks width k front before all none so_far =
+    sym so_far ∙ ap (λ rs. timetable_of by_process (with_front front (transmissions_from blocks width k front rs))) none
+    ∙ ap (λ ts. Ok (record { by_process = by_process; transmissions = ts })) (append-nil front)
 
 -- what is so of the transmission of record k
 pub record IsRecord (blocks k : ℕ) (t : Transmission) : Type 0 where
@@ -88,17 +96,17 @@ transmission_of-record blocks width k before r =
     holds_if _ (not (length r == width)) _ _ (λ other. tt) (λ same.
     holds_if _ (nat_lt 4097 k) _ _ (λ many. tt) (λ few.
     let below : k ≤ 4097 = grind (arith, nat_tests) in
-    holds_then _ (number_at k r 0) _ (λ number number_is.
-    holds_then _ (number_at k r 1) _ (λ rv rv_is.
-    holds_then _ (number_at k r 2) _ (λ g g_is.
-    holds_then _ (number_at k r 3) _ (λ qm qm_is.
-    holds_then _ (number_at k r 4) _ (λ nl nl_is.
+    holds_then _ (number_at k r (codes "block")) _ (λ number number_is.
+    holds_then _ (number_at k r (codes "rv")) _ (λ rv rv_is.
+    holds_then _ (number_at k r (codes "g")) _ (λ g g_is.
+    holds_then _ (number_at k r (codes "qm")) _ (λ qm qm_is.
+    holds_then _ (number_at k r (codes "nl")) _ (λ nl nl_is.
     holds_then _ (block_in k blocks number) _ (λ block block_is.
-    holds_then _ (erasure_at k r 5) _ (λ erasure erasure_is.
-    holds_then _ (flip_at k r 6) _ (λ flip flip_is.
-    holds_then _ (mask_at k r 7) _ (λ mask mask_is.
-    holds_then _ (process_at k r 8 block) _ (λ process process_is.
-    holds_then _ (fresh_at k r 9 block (fresh_block (round_of process before))) _ (λ fresh fresh_is.
+    holds_then _ (erasure_at k r) _ (λ erasure erasure_is.
+    holds_then _ (flip_at k r) _ (λ flip flip_is.
+    holds_then _ (mask_at k r) _ (λ mask mask_is.
+    holds_then _ (process_at k r block) _ (λ process process_is.
+    holds_then _ (fresh_at k r block (fresh_block (round_of process before))) _ (λ fresh fresh_is.
     record {
       block = block_in-inside k blocks number block _ refl block_is;
       number = refl;
@@ -136,32 +144,37 @@ schedule_said-records blocks text = holds_if _ (nat_lt 16777216 (length text)) _
     all (r ∷ rs) = holds_if _ (is_schedule_header r) _ _ (λ header.
         holds_then _ (transmissions_from blocks (length r) 2 [] rs) _ (λ ts is. of_ok _ _ ts is (transmissions_from-records blocks (length r) 2 [] rs (omega arith) (omega arith)))) (λ other. tt)
 
+-- what a field says, or what is so where there is no such column, is never this fault
+never_said : {X : Type 0} (told : ScheduleFault) (without : X) (read : List ℕ → Result X ScheduleFault) (o : Option (List ℕ)) → ((text : List ℕ) → read text ≢ Err told) → said_or without read o ≢ Err told
+never_said told without read None never = λ is. cc
+never_said told without read (Some text) never = never text
+
 -- the text of a schedule is never unread
 transmission_of-unread : (blocks width k : ℕ) (before : List Transmission) (r : Record) → transmission_of blocks width k before r ≢ Err fault.Read
 unfolding transmission_of
 transmission_of-unread blocks width k before r =
     never_if _ (not (length r == width)) _ _ (λ is. cc)
     (never_if _ (nat_lt 4097 k) _ _ (λ is. cc)
-    (never_then _ (number_at k r 0) _ (number 0) (λ number_of.
-    never_then _ (number_at k r 1) _ (number 1) (λ rv.
-    never_then _ (number_at k r 2) _ (number 2) (λ g.
-    never_then _ (number_at k r 3) _ (number 3) (λ qm.
-    never_then _ (number_at k r 4) _ (number 4) (λ nl.
+    (never_then _ (number_at k r (codes "block")) _ (number (codes "block")) (λ number_of.
+    never_then _ (number_at k r (codes "rv")) _ (number (codes "rv")) (λ rv.
+    never_then _ (number_at k r (codes "g")) _ (number (codes "g")) (λ g.
+    never_then _ (number_at k r (codes "qm")) _ (number (codes "qm")) (λ qm.
+    never_then _ (number_at k r (codes "nl")) _ (number (codes "nl")) (λ nl.
     never_then _ (block_in k blocks number_of) _ (never_if _ (nat_le 1 number_of && nat_le number_of blocks) _ _ (λ is. cc) (λ is. cc)) (λ block.
-    never_then _ (erasure_at k r 5) _ (never_or _ (fault.Erase k) _ (λ is. cc)) (λ erasure.
-    never_then _ (flip_at k r 6) _ (never_if _ (nat_le (length r) 6) _ _ (λ is. cc) (never_or _ (fault.Flip k) _ (λ is. cc))) (λ flip.
-    never_then _ (mask_at k r 7) _ (never_if _ (nat_le (length r) 7) _ _ (λ is. cc) (never_or _ (fault.Mask k) _ (λ is. cc))) (λ mask.
-    never_then _ (process_at k r 8 block) _ (never_if _ (nat_le (length r) 8) _ _ (λ is. cc) (never_or _ (fault.Process k) _ (λ is. cc))) (λ process.
-    never_then _ (fresh_at k r 9 block (fresh_block (round_of process before))) _ (fresh block (fresh_block (round_of process before))) (λ fresh_is is. cc)))))))))))))
+    never_then _ (erasure_at k r) _ (never_or _ (fault.Erase k) _ (λ is. cc)) (λ erasure.
+    never_then _ (flip_at k r) _ (never_said _ Nothing _ (field r (codes "flip")) (λ text. never_or _ (fault.Flip k) (places_of text) (λ is. cc))) (λ flip.
+    never_then _ (mask_at k r) _ (never_said _ mask.All _ (field r (codes "mask")) (λ text. never_or _ (fault.Mask k) (mask_of text) (λ is. cc))) (λ mask.
+    never_then _ (process_at k r block) _ (never_said _ block _ (field r (codes "process")) (λ text. never_or _ (fault.Process k) (below 16 (short_number text)) (λ is. cc))) (λ process.
+    never_then _ (fresh_at k r block (fresh_block (round_of process before))) _ (fresh block (fresh_block (round_of process before))) (λ fresh_is is. cc)))))))))))))
   where
-    number : (i : ℕ) → number_at k r i ≢ Err fault.Read
-    number i = never_or _ (fault.Number k) _ (λ is. cc)
+    number : (name : List ℕ) → number_at k r name ≢ Err fault.Read
+    number name = never_or _ (fault.Number k) _ (λ is. cc)
 
-    fresh : (block : ℕ) (begun : Option ℕ) → fresh_at k r 9 block begun ≢ Err fault.Read
+    fresh : (block : ℕ) (begun : Option ℕ) → fresh_at k r block begun ≢ Err fault.Read
     fresh block begun =
-        never_if _ (nat_le (length r) 9) _ _ (λ is. cc)
-        (never_if _ (is_called r 9 (codes "1")) _ _ (λ is. cc)
-        (never_if _ (is_called r 9 (codes "0") && is_of_block block begun) _ _ (λ is. cc) (λ is. cc)))
+        never_said _ false (fresh_of k block begun) (field r (codes "fresh")) (λ text.
+        never_if _ (bytes_eq text (codes "1")) _ _ (λ is. cc)
+        (never_if _ (bytes_eq text (codes "0") && is_of_block block begun) _ _ (λ is. cc) (λ is. cc)))
 
 transmissions_from-unread : (blocks width k : ℕ) (before : List Transmission) (rs : List Record) → transmissions_from blocks width k before rs ≢ Err fault.Read
 unfolding transmissions_from

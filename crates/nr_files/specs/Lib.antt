@@ -1,4 +1,5 @@
 pub mod Blocks
+pub mod Columns
 pub mod Erasures
 pub mod Furthest
 pub mod Masks

@@ -21,3 +21,6 @@ pub use schedule::{
     PROCESSES, Schedule, ScheduleFault, Transmission, parse_schedule, read_schedule,
 };
 pub use settings::{SettingsFault, parse_settings, read_settings};
+
+#[cfg(test)]
+mod refused_tests;

@@ -17,7 +17,7 @@ pub fn round_start(process: u32, before: &[Transmission]) -> usize
     start
 }
 
-// The same after the transmission at this index.
+// That place after the transmission at this index.
 fn next_start(process: u32, transmission: &Transmission, index: usize, start: usize) -> usize
     ensures { result ≡ (if (transmission.now.process == process) && transmission.now.fresh
         then index else start) }

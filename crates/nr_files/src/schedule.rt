@@ -1,31 +1,26 @@
-//! The schedule file: its transmissions, one a record.
+//! The schedule file: what it says, and why it is refused; its transmissions stand one a record.
 
-ghost use Rattle.std.specs.Prelude.{◌≡◌, ◌^◌, ◌<◌, ◌≤◌, ◌==◌, ◌&&◌, true, if◌then◌else◌, All, Some, IfOk, IfSome, length, map};
+ghost use Rattle.std.specs.Prelude.{◌≡◌, ◌^◌, ◌<◌, ◌≤◌, true, All, IfOk, IfSome, length, map};
 ghost use Rattle.std.specs.List.{range_with_len};
-ghost use Rattle.csv.specs.Records.{fields_of};
 ghost use Rattle.nr_graphpick.specs.Refusal.{Gives};
 ghost use Rattle.nr_shifttable.specs.Records.{records_of};
 ghost use Rattle.nr_files.specs.Reading.{FailsAs};
-ghost use Rattle.nr_files.specs.Rounds.{round_of};
-ghost use Rattle.nr_files.specs.Schedule.{EachGoesOn, HasBlock, IsPlaced, block_in, erasure_at, field, flip_at, fresh_at, fresh_block, is_called, is_schedule_header, is_of_block, is_there, is_width, mask_at, number_at, process_at, schedule_of, schedule_said, timetable_by, transmission_of};
+ghost use Rattle.nr_files.specs.Schedule.{EachGoesOn, HasBlock, IsPlaced, schedule_of, schedule_said, timetable_by};
+
+mod columns;
+mod record;
 
 use crate::erasure::{Erasure, Places};
-use crate::places::{erasure_of, mask_of, places_of, short_word};
+use columns::{has_column, is_header};
 use csv::ByteRecord;
 use nr_blockdesk::Tx;
-use nr_ratematch::Mask;
-use nr_shifttable::{ReadFault, Records, Source, read_to_end, stripped};
+use nr_shifttable::{ReadFault, Records, Source, read_to_end};
+use record::transmission_of;
 use std::alloc::{AllocError, AllocFailed, Global};
 use thiserror::Error;
 
 // The most octets of a schedule file.
 const MOST_OCTETS: usize = 16_777_216;
-
-// The last record that may be a transmission: a header and 4,096 transmissions.
-const LAST_RECORD: u32 = 4097;
-
-// How many columns a schedule has that names HARQ processes.
-const WIDTH_BY_PROCESS: usize = 10;
 
 /// How many HARQ processes a receiving end has (TS 38.214, 5.1).
 pub const PROCESSES: u32 = 16;
@@ -214,6 +209,7 @@ fn read_records(alloc: Global, blocks: u32, text: &[u8]) -> Result<Schedule, Sch
         return Err(ScheduleFault::Header);
     }
     let width = row.len();
+    let by_process = has_column(&row, b"process");
     let mut transmissions = Vec::new(alloc);
     let mut number = 1;
     while records.next(&mut row)? {
@@ -222,254 +218,9 @@ fn read_records(alloc: Global, blocks: u32, text: &[u8]) -> Result<Schedule, Sch
         transmissions.push(transmission)?;
     }
     Ok(Schedule {
-        by_process: width == WIDTH_BY_PROCESS,
+        by_process,
         transmissions,
     })
-}
-
-// Whether a record names the columns of a schedule.
-#[tactic(auto, unfolding(crate::specs::Schedule::is_schedule_header))]
-fn is_header(row: &ByteRecord) -> bool
-    ensures { result ≡ is_schedule_header (fields_of row.now) }
-{
-    is_width(row.len())
-        && is_called(row, 0, b"block")
-        && is_called(row, 1, b"rv")
-        && is_called(row, 2, b"g")
-        && is_called(row, 3, b"qm")
-        && is_called(row, 4, b"nl")
-        && is_called(row, 5, b"erase")
-        && is_there(row, 6, b"flip")
-        && is_there(row, 7, b"mask")
-        && is_there(row, 8, b"process")
-        && is_there(row, 9, b"fresh")
-}
-
-// Whether a schedule may have so many columns.
-fn is_width(width: usize) -> bool
-    ensures { result ≡ is_width width }
-{
-    width == 6 || width == 7 || width == 8 || width == WIDTH_BY_PROCESS
-}
-
-// Whether a field is this word.
-fn is_called(row: &ByteRecord, index: usize, name: &[u8]) -> bool
-    ensures { result ≡ is_called (fields_of row.now) index name.now }
-{
-    field(row, index) == name
-}
-
-// Whether a field is this word, where the record has it.
-fn is_there(row: &ByteRecord, index: usize, name: &[u8]) -> bool
-    ensures { result ≡ is_there (fields_of row.now) index name.now }
-{
-    row.len() <= index || is_called(row, index, name)
-}
-
-// A field without the blanks at both its ends; one that is not there is empty.
-fn field(row: &ByteRecord, index: usize) -> &[u8]
-    ensures { result.now ≡ field (fields_of row.now) index }
-{
-    match row.get(index) {
-        Some(field) => stripped(field),
-        None => stripped(b""),
-    }
-}
-
-// What the record of this number says, in a schedule of so many columns, behind the transmissions before it.
-//
-// Errors, in this order: `Csv`, `TooMany`, `Number`, `Block`, `Erase`, `Flip`, `Mask`, `Process`, `Fresh`; `Memory`.
-#[tactic(auto, unfolding(crate::specs::Schedule::transmission_of))]
-fn transmission_of(
-    alloc: Global,
-    blocks: u32,
-    width: usize,
-    number: u32,
-    before: &[Transmission],
-    row: &ByteRecord,
-) -> Result<Transmission, ScheduleFault>
-    requires { 1 ≤ number }
-    ensures { Gives ScheduleFault.Memory (λ t. t) result
-        (transmission_of blocks width number before.now (fields_of row.now)) }
-{
-    if row.len() != width {
-        return Err(ScheduleFault::Csv(number));
-    }
-    if number > LAST_RECORD {
-        return Err(ScheduleFault::TooMany);
-    }
-    let block = number_at(number, row, 0)?;
-    let rv = number_at(number, row, 1)?;
-    let g = number_at(number, row, 2)?;
-    let qm = number_at(number, row, 3)?;
-    let nl = number_at(number, row, 4)?;
-    let block = block_in(number, blocks, block)?;
-    let erasure = erasure_at(alloc, number, row, 5)?;
-    let flip = flip_at(alloc, number, row, 6)?;
-    let mask = mask_at(alloc, number, row, 7)?;
-    let process = process_at(number, row, 8, block)?;
-    let fresh = fresh_at(number, row, 9, block, fresh_block(process, before))?;
-    let number = number - 1;
-    let tx = Tx {
-        rv,
-        g,
-        qm,
-        nl,
-        mask,
-    };
-    Ok(Transmission {
-        number,
-        block,
-        tx,
-        erasure,
-        flip,
-        process,
-        fresh,
-    })
-}
-
-// The number that a field of the record says.
-fn number_at(number: u32, row: &ByteRecord, index: usize) -> Result<u32, ScheduleFault>
-    ensures { result ≡ number_at number (fields_of row.now) index }
-{
-    match short_word(field(row, index)) {
-        Some(value) => Ok(value),
-        None => Err(ScheduleFault::Number(number)),
-    }
-}
-
-// The number of a block, if there are so many.
-fn block_in(number: u32, blocks: u32, block: u32) -> Result<u32, ScheduleFault>
-    ensures { result ≡ block_in number blocks block }
-{
-    if 1 <= block && block <= blocks {
-        Ok(block)
-    } else {
-        Err(ScheduleFault::Block(number))
-    }
-}
-
-// The erasure that a field of the record says.
-fn erasure_at(
-    alloc: Global,
-    number: u32,
-    row: &ByteRecord,
-    index: usize,
-) -> Result<Erasure, ScheduleFault>
-    ensures { Gives ScheduleFault.Memory (λ erasure. erasure) result
-        (erasure_at number (fields_of row.now) index) }
-{
-    match erasure_of(alloc, field(row, index))? {
-        Some(erasure) => Ok(erasure),
-        None => Err(ScheduleFault::Erase(number)),
-    }
-}
-
-// The flipped places that a field of the record names, none where it has no such field.
-fn flip_at(
-    alloc: Global,
-    number: u32,
-    row: &ByteRecord,
-    index: usize,
-) -> Result<Places, ScheduleFault>
-    ensures { Gives ScheduleFault.Memory (λ places. places) result
-        (flip_at number (fields_of row.now) index) }
-{
-    if row.len() <= index {
-        return Ok(Places::Nothing);
-    }
-    match places_of(alloc, field(row, index))? {
-        Some(places) => Ok(places),
-        None => Err(ScheduleFault::Flip(number)),
-    }
-}
-
-// The code blocks that a field of the record schedules, all where it has no such field.
-fn mask_at(
-    alloc: Global,
-    number: u32,
-    row: &ByteRecord,
-    index: usize,
-) -> Result<Mask, ScheduleFault>
-    ensures { Gives ScheduleFault.Memory (λ mask. mask) result
-        (mask_at number (fields_of row.now) index) }
-{
-    if row.len() <= index {
-        return Ok(Mask::All);
-    }
-    match mask_of(alloc, field(row, index))? {
-        Some(mask) => Ok(mask),
-        None => Err(ScheduleFault::Mask(number)),
-    }
-}
-
-// The HARQ process that a field of the record names, or where it has no such field the number of its block.
-fn process_at(number: u32, row: &ByteRecord, index: usize, block: u32) -> Result<u32, ScheduleFault>
-    ensures { result ≡ process_at number (fields_of row.now) index block }
-{
-    if row.len() <= index {
-        return Ok(block);
-    }
-    match short_word(field(row, index)) {
-        Some(process) if process < PROCESSES => Ok(process),
-        _ => Err(ScheduleFault::Process(number)),
-    }
-}
-
-// The block of the last fresh transmission of a process, if there is one.
-fn fresh_block(process: u32, before: &[Transmission]) -> Option<u32>
-    ensures { result ≡ fresh_block (round_of process before.now) }
-{
-    let mut block = None;
-    for transmission in before {
-        block = next_block(process, transmission, block);
-    }
-    block
-}
-
-// The same after one transmission more.
-fn next_block(process: u32, transmission: &Transmission, block: Option<u32>) -> Option<u32>
-    ensures { result ≡ (if (transmission.now.process == process) && transmission.now.fresh
-        then Some transmission.now.block else block) }
-{
-    if transmission.process == process && transmission.fresh {
-        Some(transmission.block)
-    } else {
-        block
-    }
-}
-
-// Whether a field of the record says that it is fresh, by the block of the round that its process is in. No record is
-// where it has no such field.
-fn fresh_at(
-    number: u32,
-    row: &ByteRecord,
-    index: usize,
-    block: u32,
-    begun: Option<u32>,
-) -> Result<bool, ScheduleFault>
-    ensures { result ≡ fresh_at number (fields_of row.now) index block begun }
-{
-    if row.len() <= index {
-        return Ok(false);
-    }
-    if is_called(row, index, b"1") {
-        return Ok(true);
-    }
-    if is_called(row, index, b"0") && is_of_block(block, begun) {
-        return Ok(false);
-    }
-    Err(ScheduleFault::Fresh(number))
-}
-
-// Whether a round was begun by a transmission of this block.
-fn is_of_block(block: u32, begun: Option<u32>) -> bool
-    ensures { result ≡ is_of_block block begun }
-{
-    match begun {
-        Some(begun) => begun == block,
-        None => false,
-    }
 }
 
 #[cfg(test)]

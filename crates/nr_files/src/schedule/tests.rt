@@ -2,6 +2,7 @@
 
 use super::*;
 use crate::erasure::PlaceRange;
+use nr_ratematch::Mask;
 use nr_shifttable::Feed;
 use std::test::Fail;
 
@@ -18,6 +19,22 @@ fn text_of(alloc: Global, header: &[u8], records: &[u8]) -> Result<Vec<u8>, Allo
     let mut text = Vec::from_slice(alloc, header)?;
     text.extend_from_slice(records)?;
     Ok(text)
+}
+
+// The fault by which a schedule for so many blocks is refused.
+fn fault_of(
+    alloc: Global,
+    blocks: u32,
+    header: &[u8],
+    records: &[u8],
+) -> Result<Option<ScheduleFault>, AllocError> {
+    let text = text_of(alloc, header, records)?;
+    Ok(parse_schedule(alloc, blocks, &text).err())
+}
+
+// How many transmissions a schedule for one block has.
+fn count_of(alloc: Global, text: &[u8]) -> Result<usize, ScheduleFault> {
+    Ok(parse_schedule(alloc, 1, text)?.transmissions.len())
 }
 
 #[test]
@@ -77,10 +94,7 @@ fn reads_a_schedule(rt: HostRuntime) -> Result<(), Fail> {
 #[test]
 fn reads_a_header_alone(rt: HostRuntime) -> Result<(), Fail> {
     for header in [SIX, SEVEN, EIGHT, TEN] {
-        assert_eq!(rt;
-            parse_schedule(rt.alloc(), 1, header)?.transmissions.len(),
-            0
-        );
+        assert_eq!(rt; count_of(rt.alloc(), header)?, 0);
     }
     Ok(())
 }
@@ -117,8 +131,7 @@ fn refuses_the_first_fault(rt: HostRuntime) -> Result<(), Fail> {
         (SEVEN, b"1,0,1,1,1,-,pcg:1:1\n", ScheduleFault::Flip(2)),
         (EIGHT, b"1,0,1,1,1,-,-,-\n", ScheduleFault::Mask(2)),
     ] {
-        let text = text_of(rt.alloc(), header, records)?;
-        assert_eq!(rt; parse_schedule(rt.alloc(), 1, &text).err(), Some(fault));
+        assert_eq!(rt; fault_of(rt.alloc(), 1, header, records)?, Some(fault));
     }
     Ok(())
 }
@@ -160,7 +173,7 @@ fn names_processes_by_blocks(rt: HostRuntime) -> Result<(), Fail> {
 
 // The two columns stand behind all others, and together.
 #[test]
-fn refuses_headers_of_processes(rt: HostRuntime) {
+fn refuses_headers_of_processes(rt: HostRuntime) -> Result<(), Fail> {
     let headers: [&[u8]; 6] = [
         b"block,rv,g,qm,nl,erase,process,fresh\n",
         b"block,rv,g,qm,nl,erase,flip,process,fresh\n",
@@ -171,10 +184,11 @@ fn refuses_headers_of_processes(rt: HostRuntime) {
     ];
     for header in headers {
         assert_eq!(rt;
-            parse_schedule(rt.alloc(), 1, header).err(),
+            fault_of(rt.alloc(), 1, header, b"")?,
             Some(ScheduleFault::Header)
         );
     }
+    Ok(())
 }
 
 // A record's faults go from the left to the right, and those of a record before those of the next one.
@@ -199,8 +213,7 @@ fn refuses_processes(rt: HostRuntime) -> Result<(), Fail> {
         (b"1,0,24,1,1,-,-,all,0,\n", ScheduleFault::Fresh(2)),
         (b"1,0,24,1,1,-,-,all,0,01\n", ScheduleFault::Fresh(2)),
     ] {
-        let text = text_of(rt.alloc(), TEN, records)?;
-        assert_eq!(rt; parse_schedule(rt.alloc(), 2, &text).err(), Some(fault));
+        assert_eq!(rt; fault_of(rt.alloc(), 2, TEN, records)?, Some(fault));
     }
     Ok(())
 }
@@ -227,8 +240,7 @@ fn refuses_records_without_a_round(rt: HostRuntime) -> Result<(), Fail> {
             ScheduleFault::Fresh(4),
         ),
     ] {
-        let text = text_of(rt.alloc(), TEN, records)?;
-        assert_eq!(rt; parse_schedule(rt.alloc(), 2, &text).err(), Some(fault));
+        assert_eq!(rt; fault_of(rt.alloc(), 2, TEN, records)?, Some(fault));
     }
     Ok(())
 }
@@ -239,19 +251,10 @@ fn takes_4096_transmissions(rt: HostRuntime) -> Result<(), Fail> {
     for _ in 0..4096 {
         text.extend_from_slice(b"1,0,1,1,1,-\n")?;
     }
-    assert_eq!(rt;
-        parse_schedule(rt.alloc(), 1, &text)?.transmissions.len(),
-        4096
-    );
+    assert_eq!(rt; count_of(rt.alloc(), &text), Ok(4096));
     text.extend_from_slice(b"1,0,1,1,1,-")?;
-    assert_eq!(rt;
-        parse_schedule(rt.alloc(), 1, &text).err(),
-        Some(ScheduleFault::TooMany)
-    );
+    assert_eq!(rt; count_of(rt.alloc(), &text), Err(ScheduleFault::TooMany));
     text.extend_from_slice(b",-")?;
-    assert_eq!(rt;
-        parse_schedule(rt.alloc(), 1, &text).err(),
-        Some(ScheduleFault::Csv(4098))
-    );
+    assert_eq!(rt; count_of(rt.alloc(), &text), Err(ScheduleFault::Csv(4098)));
     Ok(())
 }

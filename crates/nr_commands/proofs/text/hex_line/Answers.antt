@@ -6,7 +6,7 @@ pub returns : goal.returns
 returns c =
     let head : c.into_bytes-line.result.items ≡ string_bytes c.args.head = ap (λ v. v.items) c.into_bytes-line.ensures.value in
     let pushed = rw head at c.in_ok-push_digits.ensures in
-    let end : c.len.result + c.div_ceil.result ≡ length (string_bytes c.args.head) + (length c.args.bits.now.items + 3) / 4 = omega (arith, ap length head, c.into_bytes-line.result.ok.0) in
+    let end : c.len.result + c.div_ceil.result ≡ length (string_bytes c.args.head) + (length c.args.bits.now.items + 3) / 4 = omega (arith, ap length head) in
     c.in_ok-push.ensures.items ∙ ap (λ line. line ++ 10 ∷ []) (c.truncate.ensures.items
     ∙ hex_cut (string_bytes c.args.head) _ c.deref.result.now c.args.bits.now.items _
     pushed (c.deref.ensures.value ∙ c.in_ok-to_bytes.ensures) end)

@@ -5,7 +5,7 @@ use Rattle.nr_commands.proofs.text.push_digits.Goals as goal
 pub returns : goal.returns
 returns c =
     let made = rw (c.in_ok-reserve.ensures.items) at c.in_ok-resize.ensures.items in
-    let start : c.len-start.result ≡ length c.args.line.now.items = omega (arith, c.args.line.now.ok.0) in
+    let start : c.len-start.result ≡ length c.args.line.now.items = omega arith in
     let within : c.len-start.result ≤ c.len-start.result + 2 * length c.args.octets.now = omega arith in
     let end : c.resize.new.self.len ≡ length c.args.line.now.items + length c.write_digits.new.digits = omega (arith, start, c.write_digits.auto.digits, c.in_ok-resize.ensures.len) in
     room_filled c.args.line.now.items _ c.write_digits.new.digits _ _ c.resize.new.self.len

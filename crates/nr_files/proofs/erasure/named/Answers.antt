@@ -4,7 +4,7 @@ use Rattle.std.specs.List.{range_with_len}
 use Rattle.nr_files.specs.Erasures.{is_named}
 use Rattle.nr_files.proofs.erasure.named.Goals as goal
 
--- the same value for each of some numbers
+-- one value for each of some numbers
 all-same : {X : Type 0} (x : X) (from count : ℕ) → replicate count x ≡ map (λ (m : ℕ). x) (range_with_len from count)
 all-same x from zero = refl
 all-same x from (suc count) = ap (λ xs. x ∷ xs) (all-same x (from + 1) count)

@@ -1,13 +1,13 @@
 use Rattle.std.proofs.Common.{◌≡◌, ◌+◌, ◌≤◌, length}
 use Rattle.nr_shifttable.specs.Records.{records_of}
-use Rattle.nr_files.specs.Schedule.{in_columns, schedule_of, transmissions_from}
+use Rattle.nr_files.specs.Schedule.{schedule_of, timetable_of, transmissions_from}
 use Rattle.nr_files.proofs.ScheduleRecords.{with_front}
 use Rattle.nr_files.proofs.schedule.read_records.Given as goal
 
 -- the transmissions so far, and those of the records left, are those of all, and there are no more records than octets
 abbrev pub invariant-loop-transmissions : goal.invariant-loop-transmissions
 invariant-loop-transmissions l = record {
-  said : in_columns l.width (with_front l.transmissions.items (transmissions_from l.blocks l.width (l.number + 1) l.transmissions.items l.records))
+  said : timetable_of l.by_process (with_front l.transmissions.items (transmissions_from l.blocks l.width (l.number + 1) l.transmissions.items l.records))
       ≡ schedule_of l.blocks (records_of l.text);
   few : l.number + length l.records ≤ length l.text;
 }

@@ -1,7 +1,7 @@
 use Rattle.std.proofs.Common.{◌&&◌, ◌==◌, cond, Some, ap, sym, refl, ◌∙◌}
 use Rattle.nr_files.specs.Rounds.{since_fresh}
 use Rattle.nr_files.proofs.RoundFacts.{fresh_block-turn}
-use Rattle.nr_files.proofs.schedule.fresh_block.Goals as goal
+use Rattle.nr_files.proofs.schedule.record.fresh_block.Goals as goal
 
 pub loop-transmission-init : goal.loop-transmission-init
 unfolding since_fresh

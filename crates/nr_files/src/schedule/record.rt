@@ -1,0 +1,200 @@
+//! A record of a schedule: what its field in each column says, and the transmission of them.
+
+ghost use Rattle.std.specs.Prelude.{◌≡◌, ◌≤◌, ◌==◌, ◌&&◌, if◌then◌else◌, Some};
+ghost use Rattle.csv.specs.Records.{fields_of};
+ghost use Rattle.nr_graphpick.specs.Refusal.{Gives};
+ghost use Rattle.nr_files.specs.Rounds.{round_of};
+ghost use Rattle.nr_files.specs.Schedule.{block_in, erasure_at, flip_at, fresh_at, fresh_block, is_of_block, mask_at, number_at, process_at, transmission_of};
+
+use super::columns::field;
+use super::{PROCESSES, ScheduleFault, Transmission};
+use crate::erasure::{Erasure, Places};
+use crate::places::{erasure_of, mask_of, places_of, short_word};
+use csv::ByteRecord;
+use nr_blockdesk::Tx;
+use nr_ratematch::Mask;
+use std::alloc::Global;
+
+// The last record that may be a transmission: a header and 4,096 transmissions.
+const LAST_RECORD: u32 = 4097;
+
+/// What the record of this number says, in a schedule of so many columns, behind the transmissions before it.
+///
+/// # Errors
+/// In this order: `Csv`, `TooMany`, `Number`, `Block`, `Erase`, `Flip`, `Mask`, `Process`, `Fresh`. `Memory` where a growth
+/// is refused.
+#[tactic(auto, unfolding(crate::specs::Schedule::transmission_of))]
+pub(crate) fn transmission_of(
+    alloc: Global,
+    blocks: u32,
+    width: usize,
+    number: u32,
+    before: &[Transmission],
+    row: &ByteRecord,
+) -> Result<Transmission, ScheduleFault>
+    requires { 1 ≤ number }
+    ensures { Gives ScheduleFault.Memory (λ t. t) result
+        (transmission_of blocks width number before.now (fields_of row.now)) }
+{
+    if row.len() != width {
+        return Err(ScheduleFault::Csv(number));
+    }
+    if number > LAST_RECORD {
+        return Err(ScheduleFault::TooMany);
+    }
+    let block = number_at(number, row, b"block")?;
+    let rv = number_at(number, row, b"rv")?;
+    let g = number_at(number, row, b"g")?;
+    let qm = number_at(number, row, b"qm")?;
+    let nl = number_at(number, row, b"nl")?;
+    let block = block_in(number, blocks, block)?;
+    let erasure = erasure_at(alloc, number, row)?;
+    let flip = flip_at(alloc, number, row)?;
+    let mask = mask_at(alloc, number, row)?;
+    let process = process_at(number, row, block)?;
+    let fresh = fresh_at(number, row, block, fresh_block(process, before))?;
+    let number = number - 1;
+    let tx = Tx {
+        rv,
+        g,
+        qm,
+        nl,
+        mask,
+    };
+    Ok(Transmission {
+        number,
+        block,
+        tx,
+        erasure,
+        flip,
+        process,
+        fresh,
+    })
+}
+
+// The number that a record's field says in the column of this name.
+fn number_at(number: u32, row: &ByteRecord, name: &[u8]) -> Result<u32, ScheduleFault>
+    ensures { result ≡ number_at number (fields_of row.now) name.now }
+{
+    match field(row, name).and_then(short_word) {
+        Some(value) => Ok(value),
+        None => Err(ScheduleFault::Number(number)),
+    }
+}
+
+// The number of a block, if there are so many.
+fn block_in(number: u32, blocks: u32, block: u32) -> Result<u32, ScheduleFault>
+    ensures { result ≡ block_in number blocks block }
+{
+    if 1 <= block && block <= blocks {
+        Ok(block)
+    } else {
+        Err(ScheduleFault::Block(number))
+    }
+}
+
+// The erasure that a record says.
+fn erasure_at(alloc: Global, number: u32, row: &ByteRecord) -> Result<Erasure, ScheduleFault>
+    ensures { Gives ScheduleFault.Memory (λ erasure. erasure) result
+        (erasure_at number (fields_of row.now)) }
+{
+    let Some(text) = field(row, b"erase") else {
+        return Err(ScheduleFault::Erase(number));
+    };
+    match erasure_of(alloc, text)? {
+        Some(erasure) => Ok(erasure),
+        None => Err(ScheduleFault::Erase(number)),
+    }
+}
+
+// The flipped places that a record names, none where there is no such column.
+fn flip_at(alloc: Global, number: u32, row: &ByteRecord) -> Result<Places, ScheduleFault>
+    ensures { Gives ScheduleFault.Memory (λ places. places) result
+        (flip_at number (fields_of row.now)) }
+{
+    let Some(text) = field(row, b"flip") else {
+        return Ok(Places::Nothing);
+    };
+    match places_of(alloc, text)? {
+        Some(places) => Ok(places),
+        None => Err(ScheduleFault::Flip(number)),
+    }
+}
+
+// The code blocks that a record schedules, all where there is no such column.
+fn mask_at(alloc: Global, number: u32, row: &ByteRecord) -> Result<Mask, ScheduleFault>
+    ensures { Gives ScheduleFault.Memory (λ mask. mask) result
+        (mask_at number (fields_of row.now)) }
+{
+    let Some(text) = field(row, b"mask") else {
+        return Ok(Mask::All);
+    };
+    match mask_of(alloc, text)? {
+        Some(mask) => Ok(mask),
+        None => Err(ScheduleFault::Mask(number)),
+    }
+}
+
+// The HARQ process that a record names, or the number of its block where there is no such column.
+fn process_at(number: u32, row: &ByteRecord, block: u32) -> Result<u32, ScheduleFault>
+    ensures { result ≡ process_at number (fields_of row.now) block }
+{
+    let Some(text) = field(row, b"process") else {
+        return Ok(block);
+    };
+    match short_word(text) {
+        Some(process) if process < PROCESSES => Ok(process),
+        _ => Err(ScheduleFault::Process(number)),
+    }
+}
+
+// The block of the last fresh transmission of a process, if there is one.
+fn fresh_block(process: u32, before: &[Transmission]) -> Option<u32>
+    ensures { result ≡ fresh_block (round_of process before.now) }
+{
+    let mut block = None;
+    for transmission in before {
+        block = next_block(process, transmission, block);
+    }
+    block
+}
+
+// That block after one transmission more.
+fn next_block(process: u32, transmission: &Transmission, block: Option<u32>) -> Option<u32>
+    ensures { result ≡ (if (transmission.now.process == process) && transmission.now.fresh
+        then Some transmission.now.block else block) }
+{
+    if transmission.process == process && transmission.fresh {
+        Some(transmission.block)
+    } else {
+        block
+    }
+}
+
+// Whether a record says that it is fresh, by the block of the round that its process is in. No record is where there is
+// no such column.
+fn fresh_at(
+    number: u32,
+    row: &ByteRecord,
+    block: u32,
+    begun: Option<u32>,
+) -> Result<bool, ScheduleFault>
+    ensures { result ≡ fresh_at number (fields_of row.now) block begun }
+{
+    match field(row, b"fresh") {
+        None => Ok(false),
+        Some(b"1") => Ok(true),
+        Some(b"0") if is_of_block(block, begun) => Ok(false),
+        Some(_) => Err(ScheduleFault::Fresh(number)),
+    }
+}
+
+// Whether a round was begun by a transmission of this block.
+fn is_of_block(block: u32, begun: Option<u32>) -> bool
+    ensures { result ≡ is_of_block block begun }
+{
+    match begun {
+        Some(begun) => begun == block,
+        None => false,
+    }
+}
