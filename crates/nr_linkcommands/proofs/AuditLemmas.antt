@@ -222,23 +222,3 @@ pub audit_block-some : PlansAreSound → (head : List ℕ) (n : ℕ) (link : Lin
 audit_block-some sound head n link records is =
     let plan = sound link.graph (attached_length link.a) link.plan is.planned in
     some-lines (λ r. head ++ audit_line n link records r) link.plan.c (behind-some head n link records) plan.some
-
--- what `audit` says by what it works from
-audit_said-inputs : (t s b d : List ℕ) (said : Result Ready RunFault) → inputs_said t s b d ≡ said → audit_said t s b d ≡ (said >>= λ inputs. Ok (text_of_audit inputs.senders inputs.schedule))
-unfolding audit_said
-audit_said-inputs t s b d said is = ap (λ r. r >>= λ inputs. Ok (text_of_audit inputs.senders inputs.schedule)) is
-
--- a refusal of the files, and of a transport block
-pub audit_said-refused : (t s b d : List ℕ) (e : RunFault) → (e ≡ faults.Memory) ⊎ (files_said t s b d ≡ Err e) → (e ≡ faults.Memory) ⊎ (audit_said t s b d ≡ Err e)
-audit_said-refused t s b d e (inl is) = inl is
-audit_said-refused t s b d e (inr is) = inr (audit_said-inputs t s b d (Err e) (inputs_said-refused t s b d e is))
-
-pub audit_said-unsent : (t s b d : List ℕ) (files : Given) (e : RunFault) → files_said t s b d ≡ Ok files → (e ≡ faults.Memory) ⊎ (senders_from files.table files.settings 1 files.blocks ≡ Err e) → (e ≡ faults.Memory) ⊎ (audit_said t s b d ≡ Err e)
-audit_said-unsent t s b d files e first (inl is) = inl is
-audit_said-unsent t s b d files e first (inr is) = inr (audit_said-inputs t s b d (Err e) (inputs_said-unsent t s b d files e first is))
-
--- the text, by processes or by blocks
-pub audit_said-ready : (t s b d : List ℕ) (files : Given) (senders : List Sending) (by_process : Bool) → files_said t s b d ≡ Ok files → senders_from files.table files.settings 1 files.blocks ≡ Ok senders → files.schedule.by_process ≡ by_process → audit_said t s b d ≡ Ok (audit_by by_process senders files.schedule.transmissions)
-audit_said-ready t s b d files senders by_process first is by =
-    audit_said-inputs t s b d (Ok (record { senders = senders; schedule = files.schedule })) (inputs_said-ready t s b d files senders first is)
-    ∙ ap (λ p. Ok (audit_by p senders files.schedule.transmissions)) by

@@ -1,6 +1,7 @@
 mod AuditLemmas
 mod AuditRounds
 mod FoundFaults
+mod FourFiles
 mod HearingFacts
 mod InputLemmas
 mod LastRounds

@@ -21,25 +21,6 @@ use Rattle.nr_commands.specs.declared.fault.RunFault.TheVariants.{Desk, Memory}
 use Rattle.nr_linkcommands.proofs.InputLemmas.{inputs_said-ready, inputs_said-refused, inputs_said-unsent}
 use Rattle.nr_files.proofs.Refusals.{holds_then, of_ok}
 
--- what `run` says by what it works from
-run_said-inputs : (t s b d : List ℕ) (said : Result Ready RunFault) → inputs_said t s b d ≡ said → run_said t s b d ≡ (said >>= λ inputs. Ok (text_of_run inputs.senders inputs.schedule))
-unfolding run_said
-run_said-inputs t s b d said is = ap (λ r. r >>= λ inputs. Ok (text_of_run inputs.senders inputs.schedule)) is
-
--- a refusal of the files, and of a transport block
-pub run_said-refused : (t s b d : List ℕ) (e : RunFault) → (e ≡ Memory) ⊎ (files_said t s b d ≡ Err e) → (e ≡ Memory) ⊎ (run_said t s b d ≡ Err e)
-run_said-refused t s b d e (inl is) = inl is
-run_said-refused t s b d e (inr is) = inr (run_said-inputs t s b d (Err e) (inputs_said-refused t s b d e is))
-
-pub run_said-unsent : (t s b d : List ℕ) (given : Given) (e : RunFault) → files_said t s b d ≡ Ok given → (e ≡ Memory) ⊎ (senders_from given.table given.settings 1 given.blocks ≡ Err e) → (e ≡ Memory) ⊎ (run_said t s b d ≡ Err e)
-run_said-unsent t s b d given e first (inl is) = inl is
-run_said-unsent t s b d given e first (inr is) = inr (run_said-inputs t s b d (Err e) (inputs_said-unsent t s b d given e first is))
-
--- the text
-pub run_said-ready : (t s b d : List ℕ) (given : Given) (senders : List Sending) → files_said t s b d ≡ Ok given → senders_from given.table given.settings 1 given.blocks ≡ Ok senders → run_said t s b d ≡ Ok (text_of_run senders given.schedule)
-run_said-ready t s b d given senders first is =
-    run_said-inputs t s b d (Ok (record { senders = senders; schedule = given.schedule })) (inputs_said-ready t s b d given senders first is)
-
 -- two links that a call answers are one
 pub same-ok : (x y : Link) → ◌≡◌ {A = Result Link DeskFault} (Ok x) (Ok y) → x ≡ y
 same-ok x y is = cc

@@ -46,22 +46,3 @@ refused_line-some t n e = some_at_end (codes "refused " ++ decimal t ++ codes " 
 pub answer_line-some : (t n : ℕ) (said : Result (List Bool) DeskFault) → 0 < length (answer_line t n said)
 answer_line-some t n (Ok bits) = sent_line-some t n bits
 answer_line-some t n (Err e) = refused_line-some t n e
-
--- what `send` says by what it works from
-send_said-inputs : (t s b d : List ℕ) (said : Result Ready RunFault) → inputs_said t s b d ≡ said → send_said t s b d ≡ (said >>= λ inputs. Ok (transmission_lines inputs.senders inputs.schedule.transmissions))
-unfolding send_said
-send_said-inputs t s b d said is = ap (λ r. r >>= λ inputs. Ok (transmission_lines inputs.senders inputs.schedule.transmissions)) is
-
--- a refusal of the files, and of a transport block
-pub send_said-refused : (t s b d : List ℕ) (e : RunFault) → (e ≡ Memory) ⊎ (files_said t s b d ≡ Err e) → (e ≡ Memory) ⊎ (send_said t s b d ≡ Err e)
-send_said-refused t s b d e (inl is) = inl is
-send_said-refused t s b d e (inr is) = inr (send_said-inputs t s b d (Err e) (inputs_said-refused t s b d e is))
-
-pub send_said-unsent : (t s b d : List ℕ) (given : Given) (e : RunFault) → files_said t s b d ≡ Ok given → (e ≡ Memory) ⊎ (senders_from given.table given.settings 1 given.blocks ≡ Err e) → (e ≡ Memory) ⊎ (send_said t s b d ≡ Err e)
-send_said-unsent t s b d given e first (inl is) = inl is
-send_said-unsent t s b d given e first (inr is) = inr (send_said-inputs t s b d (Err e) (inputs_said-unsent t s b d given e first is))
-
--- the text
-pub send_said-ready : (t s b d : List ℕ) (given : Given) (senders : List Sending) → files_said t s b d ≡ Ok given → senders_from given.table given.settings 1 given.blocks ≡ Ok senders → send_said t s b d ≡ Ok (transmission_lines senders given.schedule.transmissions)
-send_said-ready t s b d given senders first is =
-    send_said-inputs t s b d (Ok (record { senders = senders; schedule = given.schedule })) (inputs_said-ready t s b d given senders first is)

@@ -1,5 +1,6 @@
 pub mod AuditText
 pub mod Ends
+pub mod FourFiles
 pub mod Hearing
 pub mod Inputs
 pub mod ProcessTexts

@@ -1,11 +1,10 @@
 -- The texts of `run` and `audit` over the rounds of a schedule's processes, or over its blocks where it names none.
-use Rattle.std.specs.Prelude.{ℕ, Bool, true, false, List, [], ◌∷◌, ◌++◌, Option, Some, None, codes, Result, Ok}
+use Rattle.std.specs.Prelude.{ℕ, Bool, true, false, List, [], ◌∷◌, ◌++◌, Option, Some, None, codes, Result}
 use Rattle.std.specs.Fmt.{decimal}
-use Rattle.nr_graphpick.specs.Refusal.{◌>>=◌}
 use Rattle.nr_blockdesk.specs.Heard.{heard_record}
 use Rattle.nr_blockdesk.specs.Sent.{Sending}
 use Rattle.nr_linkcommands.specs.AuditText.{audit_block, audit_lines}
-use Rattle.nr_linkcommands.specs.Inputs.{inputs_said}
+use Rattle.nr_linkcommands.specs.FourFiles.{said_over}
 use Rattle.nr_linkcommands.specs.RoundTexts.{Words, pieces_joined, last_rounds, sender_of, turns, written}
 use Rattle.nr_files.specs.Rounds.{all_rounds}
 use Rattle.nr_linkcommands.specs.RunText.{counted, lines_of, no_totals, outcome_line, outcome_lines, received, totals_from}
@@ -78,13 +77,9 @@ abbrev pub text_of_audit : List Sending → Timetable → List ℕ
 text_of_audit senders schedule = audit_by schedule.by_process senders schedule.transmissions
 
 -- what `run` says of its four files: its text, or the first refusal
-unfoldable pub run_said : List ℕ → List ℕ → List ℕ → List ℕ → Result (List ℕ) RunFault
-run_said table settings blocks schedule = do
-  inputs ← inputs_said table settings blocks schedule
-  Ok (text_of_run inputs.senders inputs.schedule)
+abbrev pub run_said : List ℕ → List ℕ → List ℕ → List ℕ → Result (List ℕ) RunFault
+run_said = said_over text_of_run
 
 -- what `audit` says of its four files: its text, or the first refusal
-unfoldable pub audit_said : List ℕ → List ℕ → List ℕ → List ℕ → Result (List ℕ) RunFault
-audit_said table settings blocks schedule = do
-  inputs ← inputs_said table settings blocks schedule
-  Ok (text_of_audit inputs.senders inputs.schedule)
+abbrev pub audit_said : List ℕ → List ℕ → List ℕ → List ℕ → Result (List ℕ) RunFault
+audit_said = said_over text_of_audit

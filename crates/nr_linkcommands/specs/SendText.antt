@@ -1,14 +1,14 @@
 -- The text of `send`.
 use Rattle.std.specs.Prelude.{ℕ, ◌-◌, Bool, List, [], ◌∷◌, ◌++◌, Option, Some, None, slice_get, flat_map, codes, Result, Ok, Err}
 use Rattle.std.specs.Fmt.{decimal}
-use Rattle.nr_graphpick.specs.Refusal.{◌>>=◌}
-use Rattle.nr_linkcommands.specs.Inputs.{inputs_said}
+use Rattle.nr_linkcommands.specs.FourFiles.{said_over}
 use Rattle.nr_commands.specs.Lines.{hex}
 use Rattle.nr_blockdesk.specs.Sent.{Sending, sent_said}
 use Rattle.nr_blockdesk.specs.declared.fault.DeskFault.{DeskFault}
 use Rattle.nr_blockdesk.specs.declared.fault.DeskFault.TheVariants as desk
 use Rattle.nr_ratematch.specs.declared.fault.RmFault.{RmFault}
 use Rattle.nr_ratematch.specs.declared.fault.RmFault.TheVariants as rate
+use Rattle.nr_files.specs.Schedule.{Timetable}
 use Rattle.nr_files.specs.declared.schedule.Transmission.{Transmission}
 use Rattle.nr_commands.specs.declared.fault.RunFault.{RunFault}
 
@@ -58,8 +58,10 @@ transmission_line senders x = line_by (slice_get senders (x.block - 1)) x
 abbrev pub transmission_lines : List Sending → List Transmission → List ℕ
 transmission_lines senders schedule = flat_map (transmission_line senders) schedule
 
+-- the text of `send`
+abbrev pub text_of_send : List Sending → Timetable → List ℕ
+text_of_send senders schedule = transmission_lines senders schedule.transmissions
+
 -- what `send` says of its four files: its text, or the first refusal
-unfoldable pub send_said : List ℕ → List ℕ → List ℕ → List ℕ → Result (List ℕ) RunFault
-send_said table settings blocks schedule = do
-  inputs ← inputs_said table settings blocks schedule
-  Ok (transmission_lines inputs.senders inputs.schedule.transmissions)
+abbrev pub send_said : List ℕ → List ℕ → List ℕ → List ℕ → Result (List ℕ) RunFault
+send_said = said_over text_of_send

@@ -6,30 +6,29 @@ ghost use Rattle.nr_bitvec.specs.Bit.{bit};
 ghost use Rattle.nr_blockdesk.specs.Explains.{Reception};
 ghost use Rattle.nr_blockdesk.specs.Sent.{sent_said};
 ghost use Rattle.nr_linkcommands.specs.AuditText.{HasHeard, audit_block, audit_line, audit_lines, audit_of, gained, order_line, stuck_line};
-ghost use Rattle.nr_commands.specs.Command.{Delivers, Writes};
+ghost use Rattle.nr_commands.specs.Command.{Writes};
 ghost use Rattle.nr_files.specs.Reading.{FailsAs};
 ghost use Rattle.nr_linkcommands.specs.Ends.{IsLinked};
-ghost use Rattle.nr_linkcommands.specs.Inputs.{HaveNoFault, IsFirst, IsFoundIn, LeavesLater, OfFour};
-ghost use Rattle.nr_linkcommands.specs.ProcessTexts.{audit_said, audit_words};
+ghost use Rattle.nr_linkcommands.specs.FourFiles.{IsOverFourFiles, used};
+ghost use Rattle.nr_linkcommands.specs.ProcessTexts.{audit_said, audit_words, text_of_audit};
 ghost use Rattle.nr_linkcommands.specs.RoundTexts.{pieces_joined, last_rounds, round_lines, turn_lines, turns, written};
 ghost use Rattle.nr_files.specs.Rounds.{IsOfBlock, of_process, round_of};
 ghost use Rattle.nr_linkcommands.specs.RunText.{received, received_if, received_of};
 ghost use Rattle.nr_files.specs.Schedule.{HasBlock};
 
 use crate::hearing::heard_through;
-use crate::inputs::{Inputs, read, senders};
+use crate::inputs::Inputs;
+use crate::over_files::{Text, over_files};
 use crate::processes::process_words;
 use crate::received::{End, new_end, take};
 use crate::sending::said_of;
 use nr_bitvec::Bits;
-use nr_blockdesk::{Receiver, Sender, accepted_send_all, links_are_sound};
+use nr_blockdesk::{Receiver, Sender, accepted_send_all};
 use nr_commands::{RunFault, Sink, deliver};
-use nr_files::{
-    BlocksFault, PROCESSES, ScheduleFault, SettingsFault, Transmission, round_block, round_start,
-};
+use nr_files::{PROCESSES, Transmission, round_block, round_start};
 use nr_peel::Peeler;
 use nr_segment::plans_are_sound;
-use nr_shifttable::{Source, TableFault};
+use nr_shifttable::Source;
 use std::alloc::{AllocError, Global};
 use std::fmt::Write;
 
@@ -61,40 +60,33 @@ pub fn audit<T: Source, S: Source, B: Source, D: Source, O: Sink>(
     requires blocks { B.failures blocks.old < 2 ^ 32 }
     requires schedule { D.failures schedule.old < 2 ^ 32 }
     requires puts { O.failures out.old < 2 ^ 32 }
-    ensures text { T.failures table.new ≡ T.failures table.old
-        → S.failures settings.new ≡ S.failures settings.old
-        → B.failures blocks.new ≡ B.failures blocks.old
-        → D.failures schedule.new ≡ D.failures schedule.old
-        → OfFour (T.remaining table.old) (S.remaining settings.old)
-        (B.remaining blocks.old) (D.remaining schedule.old)
-        (λ t s b d. Delivers (O.written out.old) (O.written out.new) result (audit_said t s b d)) }
-    ensures untouched { IsErr result → result ≢ Err RunFault.Write → result ≢ Err RunFault.Memory
-        → O.written out.new ≡ O.written out.old }
-    ensures table { FailsAs (RunFault.Table TableFault.Read) result
-        (T.failures table.old) (T.failures table.new) }
-    ensures settings { FailsAs (RunFault.Settings SettingsFault.Read) result
-        (S.failures settings.old) (S.failures settings.new) }
-    ensures blocks { FailsAs (RunFault.Blocks BlocksFault.Read) result
-        (B.failures blocks.old) (B.failures blocks.new) }
-    ensures schedule { FailsAs (RunFault.Schedule ScheduleFault.Read) result
-        (D.failures schedule.old) (D.failures schedule.new) }
-    ensures sound { IfOk result (λ _. HaveNoFault (T.remaining table.old)
-        (S.remaining settings.old) (B.remaining blocks.old) (D.remaining schedule.old)) }
-    ensures found { IfErr result (λ e. IsFoundIn e (T.remaining table.old)
-        (S.remaining settings.old) (B.remaining blocks.old) (D.remaining schedule.old)) }
-    ensures first { IfErr result (λ e. IsFirst e
-        (T.remaining table.old) (S.remaining settings.old) (B.remaining blocks.old)) }
-    ensures later { IfErr result (λ e. LeavesLater e settings.old settings.new
-        blocks.old blocks.new schedule.old schedule.new) }
-    ensures put { FailsAs RunFault.Write result (O.failures out.old) (O.failures out.new) }
+    ensures { IsOverFourFiles audit_said result
+        (used T.remaining T.failures table.old table.new)
+        (used S.remaining S.failures settings.old settings.new)
+        (used B.remaining B.failures blocks.old blocks.new)
+        (used D.remaining D.failures schedule.old schedule.new)
+        (used O.written O.failures out.old out.new) }
 {
-    links_are_sound();
-    let inputs = read(alloc, table, settings, blocks, schedule)?;
-    let senders = senders(alloc, &inputs)?;
-    if inputs.schedule.by_process {
-        audit_rounds(alloc, &inputs, &senders, out)
-    } else {
-        audit_blocks(alloc, &inputs, &senders, out)
+    over_files::<AuditCommand, _, _, _, _, _>(alloc, table, settings, blocks, schedule, out)
+}
+
+// The text of `audit`.
+struct AuditCommand;
+
+impl Text for AuditCommand {
+    ghost text = { text_of_audit };
+
+    fn write<O: Sink>(
+        alloc: Global,
+        inputs: &Inputs,
+        senders: &[Sender],
+        out: &mut O,
+    ) -> Result<(), RunFault> {
+        if inputs.schedule.by_process {
+            audit_rounds(alloc, inputs, senders, out)
+        } else {
+            audit_blocks(alloc, inputs, senders, out)
+        }
     }
 }
 

@@ -9,6 +9,7 @@
 mod auditing;
 mod hearing;
 mod inputs;
+mod over_files;
 mod processes;
 mod received;
 mod run_laws;

@@ -2,15 +2,15 @@
 
 ghost use Rattle.std.specs.Prelude.{◌≡◌, ◌≢◌, ℕ, ◌+◌, ◌-◌, ◌^◌, ◌<◌, ◌≤◌, ◌++◌, if◌then◌else◌, true, false, [], All, List, Ok, Err, None, length, replicate, IfErr, IfOk, IsErr, OnOk};
 ghost use Rattle.std.specs.String.{string_bytes};
-ghost use Rattle.nr_commands.specs.Command.{Delivers, Writes};
+ghost use Rattle.nr_commands.specs.Command.{Writes};
 ghost use Rattle.nr_files.specs.Reading.{FailsAs};
 ghost use Rattle.nr_linkcommands.specs.Ends.{AllHold, AreOfRounds, HasReceived, HoldRounds, HoldsEnd, HoldsRound, IsLinked, IsOver, IsWithin};
-ghost use Rattle.nr_linkcommands.specs.Inputs.{HaveNoFault, IsFirst, IsFoundIn, LeavesLater, OfFour};
+ghost use Rattle.nr_linkcommands.specs.FourFiles.{IsOverFourFiles, used};
 ghost use Rattle.nr_linkcommands.specs.ProcessTexts.{last_line, process_words, round_counted, rounds_counted, run_ends, run_said, run_words, text_of_run};
 ghost use Rattle.nr_linkcommands.specs.RoundTexts.{pieces_joined, round_lines, turns};
 ghost use Rattle.nr_files.specs.Rounds.{continued, ended_rounds, round_of};
 ghost use Rattle.nr_linkcommands.specs.RunText.{contradiction_line, delivered_line, left_line, left_lines, lines_of, no_totals, open_line, outcome_line, outcome_lines, received_of};
-ghost use Rattle.nr_files.specs.Schedule.{HasBlock, IsTimetable, timetable_by};
+ghost use Rattle.nr_files.specs.Schedule.{HasBlock};
 ghost use Rattle.nr_linkcommands.specs.SendText.{refused_line, sent_line};
 ghost use Rattle.nr_files.specs.declared.schedule.Transmission.{Transmission};
 ghost use Rattle.nr_blockdesk.specs.Explains.{Reception};
@@ -18,18 +18,19 @@ ghost use Rattle.nr_blockdesk.specs.Link.{IsLink};
 ghost use Rattle.nr_blockdesk.specs.Sent.{sent_said};
 
 use crate::hearing::heard_through;
-use crate::inputs::{Inputs, read, senders};
+use crate::inputs::Inputs;
+use crate::over_files::{Text, over_files};
 use crate::processes::process_words;
 use crate::received::{End, Totals, counted, no_ends, no_totals, receive, sum_up, unfixed};
 use crate::sending::{refused_line, said_of, sent_line};
 use nr_bitvec::Bits;
 use nr_blockdesk::{
-    DeskFault, Outcome, Receiver, Sender, accepted_send_all, links_are_sound, nothing_is_open,
+    DeskFault, Outcome, Receiver, Sender, accepted_send_all, nothing_is_open,
 };
 use nr_commands::{RunFault, Sink, deliver, hex_line};
-use nr_files::{BlocksFault, PROCESSES, ScheduleFault, SettingsFault, Transmission, round_block};
+use nr_files::{PROCESSES, Transmission, round_block};
 use nr_segment::plans_are_sound;
-use nr_shifttable::{Source, TableFault};
+use nr_shifttable::Source;
 use std::alloc::{AllocError, Global};
 use std::fmt::Write;
 
@@ -59,63 +60,37 @@ pub fn run<T: Source, S: Source, B: Source, D: Source, O: Sink>(
     requires blocks { B.failures blocks.old < 2 ^ 32 }
     requires schedule { D.failures schedule.old < 2 ^ 32 }
     requires puts { O.failures out.old < 2 ^ 32 }
-    ensures text { T.failures table.new ≡ T.failures table.old
-        → S.failures settings.new ≡ S.failures settings.old
-        → B.failures blocks.new ≡ B.failures blocks.old
-        → D.failures schedule.new ≡ D.failures schedule.old
-        → OfFour (T.remaining table.old) (S.remaining settings.old)
-        (B.remaining blocks.old) (D.remaining schedule.old)
-        (λ t s b d. Delivers (O.written out.old) (O.written out.new) result (run_said t s b d)) }
-    ensures untouched { IsErr result → result ≢ Err RunFault.Write → result ≢ Err RunFault.Memory
-        → O.written out.new ≡ O.written out.old }
-    ensures table { FailsAs (RunFault.Table TableFault.Read) result
-        (T.failures table.old) (T.failures table.new) }
-    ensures settings { FailsAs (RunFault.Settings SettingsFault.Read) result
-        (S.failures settings.old) (S.failures settings.new) }
-    ensures blocks { FailsAs (RunFault.Blocks BlocksFault.Read) result
-        (B.failures blocks.old) (B.failures blocks.new) }
-    ensures schedule { FailsAs (RunFault.Schedule ScheduleFault.Read) result
-        (D.failures schedule.old) (D.failures schedule.new) }
-    ensures sound { IfOk result (λ _. HaveNoFault (T.remaining table.old)
-        (S.remaining settings.old) (B.remaining blocks.old) (D.remaining schedule.old)) }
-    ensures found { IfErr result (λ e. IsFoundIn e (T.remaining table.old)
-        (S.remaining settings.old) (B.remaining blocks.old) (D.remaining schedule.old)) }
-    ensures first { IfErr result (λ e. IsFirst e
-        (T.remaining table.old) (S.remaining settings.old) (B.remaining blocks.old)) }
-    ensures later { IfErr result (λ e. LeavesLater e settings.old settings.new
-        blocks.old blocks.new schedule.old schedule.new) }
-    ensures put { FailsAs RunFault.Write result (O.failures out.old) (O.failures out.new) }
+    ensures { IsOverFourFiles run_said result
+        (used T.remaining T.failures table.old table.new)
+        (used S.remaining S.failures settings.old settings.new)
+        (used B.remaining B.failures blocks.old blocks.new)
+        (used D.remaining D.failures schedule.old schedule.new)
+        (used O.written O.failures out.old out.new) }
 {
-    links_are_sound();
-    let inputs = read(alloc, table, settings, blocks, schedule)?;
-    let senders = senders(alloc, &inputs)?;
-    write_run(alloc, &inputs, &senders, out)
+    over_files::<RunCommand, _, _, _, _, _>(alloc, table, settings, blocks, schedule, out)
 }
 
-// Writes the text of a run.
-fn write_run<O: Sink>(
-    alloc: Global,
-    inputs: &Inputs,
-    senders: &[Sender],
-    out: &mut O,
-) -> Result<(), RunFault>
-    requires puts { O.failures out.old < 2 ^ 32 }
-    requires few { length senders.now ≤ 256 }
-    requires linked { All (λ sender. IsLinked inputs.now.table inputs.now.settings sender.link)
-        senders.now }
-    requires timetable { IsTimetable (length senders.now) (timetable_by inputs.now.schedule) }
-    ensures text { Writes (O.written out.old) (O.written out.new) result
-        (text_of_run senders.now (timetable_by inputs.now.schedule)) }
-    ensures put { FailsAs RunFault.Write result (O.failures out.old) (O.failures out.new) }
-{
-    let by_process = inputs.schedule.by_process;
-    let schedule = inputs.schedule.transmissions.as_slice();
-    let mut ends = no_ends(alloc, places(by_process, senders.len()))?;
-    let totals = write_transmissions(alloc, inputs, senders, &mut ends, out)?;
-    if by_process {
-        write_rounds(alloc, senders, schedule, &ends, totals, out)
-    } else {
-        write_blocks(alloc, senders, &ends[1..], out)
+// The text of `run`.
+struct RunCommand;
+
+impl Text for RunCommand {
+    ghost text = { text_of_run };
+
+    fn write<O: Sink>(
+        alloc: Global,
+        inputs: &Inputs,
+        senders: &[Sender],
+        out: &mut O,
+    ) -> Result<(), RunFault> {
+        let by_process = inputs.schedule.by_process;
+        let schedule = inputs.schedule.transmissions.as_slice();
+        let mut ends = no_ends(alloc, places(by_process, senders.len()))?;
+        let totals = write_transmissions(alloc, inputs, senders, &mut ends, out)?;
+        if by_process {
+            write_rounds(alloc, senders, schedule, &ends, totals, out)
+        } else {
+            write_blocks(alloc, senders, &ends[1..], out)
+        }
     }
 }
 

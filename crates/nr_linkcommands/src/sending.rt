@@ -1,22 +1,23 @@
 //! The command `send`.
 
-ghost use Rattle.std.specs.Prelude.{◌≡◌, ◌≢◌, ℕ, ◌^◌, ◌<◌, All, length, IfErr, IfOk, IsErr, Err};
+ghost use Rattle.std.specs.Prelude.{◌≡◌, ◌^◌, ◌<◌, All, length, IfOk};
 ghost use Rattle.std.specs.String.{string_bytes};
-ghost use Rattle.nr_commands.specs.Command.{Delivers, Writes};
+ghost use Rattle.nr_commands.specs.Command.{Writes};
 ghost use Rattle.nr_files.specs.Reading.{FailsAs};
-ghost use Rattle.nr_linkcommands.specs.Inputs.{HaveNoFault, IsFirst, IsFoundIn, LeavesLater, OfFour};
-ghost use Rattle.nr_linkcommands.specs.SendText.{answer_line, rate_name, refusal_name, refused_line, send_said, sent_line, transmission_line, transmission_lines};
+ghost use Rattle.nr_linkcommands.specs.FourFiles.{IsOverFourFiles, used};
+ghost use Rattle.nr_linkcommands.specs.SendText.{answer_line, rate_name, refusal_name, refused_line, send_said, sent_line, text_of_send, transmission_line, transmission_lines};
 ghost use Rattle.nr_files.specs.Schedule.{HasBlock};
 ghost use Rattle.nr_blockdesk.specs.Sent.{sent_said};
 ghost use Rattle.std.specs.Result.{result_map_both};
 
-use crate::inputs::{read, senders};
+use crate::inputs::Inputs;
+use crate::over_files::{Text, over_files};
 use nr_bitvec::Bits;
 use nr_blockdesk::{DeskFault, Sender, Tx};
 use nr_commands::{RunFault, Sink, deliver, hex_line};
-use nr_files::{BlocksFault, ScheduleFault, SettingsFault, Transmission};
+use nr_files::Transmission;
 use nr_ratematch::RmFault;
-use nr_shifttable::{Source, TableFault};
+use nr_shifttable::Source;
 use std::alloc::{AllocError, Global};
 use std::fmt::Write;
 
@@ -44,36 +45,30 @@ pub fn send<T: Source, S: Source, B: Source, D: Source, O: Sink>(
     requires blocks { B.failures blocks.old < 2 ^ 32 }
     requires schedule { D.failures schedule.old < 2 ^ 32 }
     requires puts { O.failures out.old < 2 ^ 32 }
-    ensures text { T.failures table.new ≡ T.failures table.old
-        → S.failures settings.new ≡ S.failures settings.old
-        → B.failures blocks.new ≡ B.failures blocks.old
-        → D.failures schedule.new ≡ D.failures schedule.old
-        → OfFour (T.remaining table.old) (S.remaining settings.old)
-        (B.remaining blocks.old) (D.remaining schedule.old)
-        (λ t s b d. Delivers (O.written out.old) (O.written out.new) result (send_said t s b d)) }
-    ensures untouched { IsErr result → result ≢ Err RunFault.Write → result ≢ Err RunFault.Memory
-        → O.written out.new ≡ O.written out.old }
-    ensures table { FailsAs (RunFault.Table TableFault.Read) result
-        (T.failures table.old) (T.failures table.new) }
-    ensures settings { FailsAs (RunFault.Settings SettingsFault.Read) result
-        (S.failures settings.old) (S.failures settings.new) }
-    ensures blocks { FailsAs (RunFault.Blocks BlocksFault.Read) result
-        (B.failures blocks.old) (B.failures blocks.new) }
-    ensures schedule { FailsAs (RunFault.Schedule ScheduleFault.Read) result
-        (D.failures schedule.old) (D.failures schedule.new) }
-    ensures sound { IfOk result (λ _. HaveNoFault (T.remaining table.old)
-        (S.remaining settings.old) (B.remaining blocks.old) (D.remaining schedule.old)) }
-    ensures found { IfErr result (λ e. IsFoundIn e (T.remaining table.old)
-        (S.remaining settings.old) (B.remaining blocks.old) (D.remaining schedule.old)) }
-    ensures first { IfErr result (λ e. IsFirst e
-        (T.remaining table.old) (S.remaining settings.old) (B.remaining blocks.old)) }
-    ensures later { IfErr result (λ e. LeavesLater e settings.old settings.new
-        blocks.old blocks.new schedule.old schedule.new) }
-    ensures put { FailsAs RunFault.Write result (O.failures out.old) (O.failures out.new) }
+    ensures { IsOverFourFiles send_said result
+        (used T.remaining T.failures table.old table.new)
+        (used S.remaining S.failures settings.old settings.new)
+        (used B.remaining B.failures blocks.old blocks.new)
+        (used D.remaining D.failures schedule.old schedule.new)
+        (used O.written O.failures out.old out.new) }
 {
-    let inputs = read(alloc, table, settings, blocks, schedule)?;
-    let senders = senders(alloc, &inputs)?;
-    send_lines(alloc, &senders, &inputs.schedule.transmissions, out)
+    over_files::<SendCommand, _, _, _, _, _>(alloc, table, settings, blocks, schedule, out)
+}
+
+// The text of `send`.
+struct SendCommand;
+
+impl Text for SendCommand {
+    ghost text = { text_of_send };
+
+    fn write<O: Sink>(
+        alloc: Global,
+        inputs: &Inputs,
+        senders: &[Sender],
+        out: &mut O,
+    ) -> Result<(), RunFault> {
+        send_lines(alloc, senders, &inputs.schedule.transmissions, out)
+    }
 }
 
 // Writes the line of each transmission.

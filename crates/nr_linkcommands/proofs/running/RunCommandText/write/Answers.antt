@@ -13,7 +13,7 @@ use Rattle.nr_files.specs.declared.schedule.Transmission.{Transmission}
 use Rattle.nr_linkcommands.proofs.RunOutcomes.{text_of_run-some}
 use Rattle.nr_linkcommands.proofs.Timetables.{blocks-hold, timetable-of_rounds}
 use Rattle.nr_commands.proofs.WrittenLemmas.{with_text-nil, writes_behind, writes_last, writes_none}
-use Rattle.nr_linkcommands.proofs.running.write_run.Goals as goal
+use Rattle.nr_linkcommands.proofs.running.RunCommandText.write.Goals as goal
 
 pub returns-in_err-ends-clause-text : goal.returns-in_err-ends-clause-text
 returns-in_err-ends-clause-text g c =

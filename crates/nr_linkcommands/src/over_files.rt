@@ -1,0 +1,73 @@
+//! What the commands over a schedule have in common: four files, read and judged whole, and a sender for each block.
+
+ghost use Rattle.std.specs.Prelude.{◌≡◌, ℕ, ◌^◌, ◌<◌, ◌≤◌, List, All, length};
+ghost use Rattle.nr_blockdesk.specs.Sent.{Sending};
+ghost use Rattle.nr_commands.specs.Command.{Writes};
+ghost use Rattle.nr_files.specs.Reading.{FailsAs};
+ghost use Rattle.nr_files.specs.Schedule.{IsTimetable, Timetable, timetable_by};
+ghost use Rattle.nr_linkcommands.specs.Ends.{IsLinked};
+ghost use Rattle.nr_linkcommands.specs.FourFiles.{IsOverFourFiles, said_over, used};
+
+use crate::inputs::{Inputs, read, senders};
+use nr_blockdesk::{Sender, links_are_sound};
+use nr_commands::{RunFault, Sink};
+use nr_shifttable::Source;
+use std::alloc::Global;
+
+/// What a command says of its files once nothing in them is refused.
+pub(crate) trait Text {
+    /// The text of a sender for each transport block, and of the schedule.
+    ghost text: { List Sending → Timetable → List ℕ };
+
+    /// Writes the text, each line as soon as it is made.
+    ///
+    /// # Errors
+    /// `Write` where a put failed, and `Memory` where a growth is refused: then a first part of the text is written.
+    fn write<O: Sink>(
+        alloc: Global,
+        inputs: &Inputs,
+        senders: &[Sender],
+        out: &mut O,
+    ) -> Result<(), RunFault>
+        requires puts { O.failures out.old < 2 ^ 32 }
+        requires few { length senders.now ≤ 256 }
+        requires linked { All (λ sender. IsLinked inputs.now.table inputs.now.settings sender.link)
+            senders.now }
+        requires timetable { IsTimetable (length senders.now) (timetable_by inputs.now.schedule) }
+        ensures text { Writes (O.written out.old) (O.written out.new) result
+            (text senders.now (timetable_by inputs.now.schedule)) }
+        ensures put { FailsAs RunFault.Write result (O.failures out.old) (O.failures out.new) };
+}
+
+/// Reads the four files to their ends and judges them whole, in the order of the parameters, and then every transport
+/// block; then writes the text of the command `C`.
+///
+/// # Errors
+/// In this order: `Table`, `Settings`, `Blocks`, `Schedule`, the first fault of a file; `Desk`, the first transport
+/// block that cannot be sent. These leave the Sink as it was. `Write` where a put failed, and then a first part of the
+/// text is written; `Memory` where a growth is refused, and then nothing or a first part of the text is written.
+pub(crate) fn over_files<C: Text, T: Source, S: Source, B: Source, D: Source, O: Sink>(
+    alloc: Global,
+    table: &mut T,
+    settings: &mut S,
+    blocks: &mut B,
+    schedule: &mut D,
+    out: &mut O,
+) -> Result<(), RunFault>
+    requires table { T.failures table.old < 2 ^ 32 }
+    requires settings { S.failures settings.old < 2 ^ 32 }
+    requires blocks { B.failures blocks.old < 2 ^ 32 }
+    requires schedule { D.failures schedule.old < 2 ^ 32 }
+    requires puts { O.failures out.old < 2 ^ 32 }
+    ensures { IsOverFourFiles (said_over C.text) result
+        (used T.remaining T.failures table.old table.new)
+        (used S.remaining S.failures settings.old settings.new)
+        (used B.remaining B.failures blocks.old blocks.new)
+        (used D.remaining D.failures schedule.old schedule.new)
+        (used O.written O.failures out.old out.new) }
+{
+    links_are_sound();
+    let inputs = read(alloc, table, settings, blocks, schedule)?;
+    let senders = senders(alloc, &inputs)?;
+    C::write(alloc, &inputs, &senders, out)
+}
