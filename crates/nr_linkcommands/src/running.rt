@@ -24,9 +24,7 @@ use crate::processes::process_words;
 use crate::received::{End, Totals, counted, no_ends, no_totals, receive, sum_up, unfixed};
 use crate::sending::{refused_line, said_of, sent_line};
 use nr_bitvec::Bits;
-use nr_blockdesk::{
-    DeskFault, Outcome, Receiver, Sender, accepted_send_all, nothing_is_open,
-};
+use nr_blockdesk::{DeskFault, Outcome, Receiver, Sender, accepted_send_all, nothing_is_open};
 use nr_commands::{RunFault, Sink, deliver, hex_line};
 use nr_files::{PROCESSES, Transmission, round_block};
 use nr_segment::plans_are_sound;
