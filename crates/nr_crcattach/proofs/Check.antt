@@ -1,5 +1,5 @@
 -- A list followed by its parity bits leaves remainder 0.
-use Rattle.std.proofs.Common.{◌≡◌, ℕ, ◌+◌, ◌*◌, ◌/◌, ◌%◌, ◌^◌, ◌<◌, ◌≤◌, ◌==◌, if◌then◌else◌, zero, suc, Bool, List, [], ◌∷◌, ◌++◌, length, refl, sym, ◌∙◌, ap, arith, bit_xor, length-append, append_assoc}
+use Rattle.std.proofs.Common.{◌≡◌, ℕ, ◌+◌, ◌*◌, ◌/◌, ◌%◌, ◌^◌, ◌<◌, ◌≤◌, ◌==◌, if◌then◌else◌, cond, nat_lt, true, false, zero, suc, Bool, List, [], ◌∷◌, ◌++◌, length, refl, sym, ◌∙◌, ap, arith, bit_xor, length-append, append_assoc}
 use Rattle.std.specs.Int.{bit_at}
 use Rattle.std.proofs.lemmas.Bool.{cond_below, cond_above}
 use Rattle.std.proofs.lemmas.Nat.{mod-pow-add, mod_below, pow-add, pow_pos, shl_below}
@@ -9,7 +9,7 @@ use lib.Bits.{xor_self, xor_shifted}
 use Rattle.nr_crcattach.specs.declared.Poly.{Poly}
 use Rattle.nr_crcattach.specs.declared.Poly.TheVariants.{A24, C16}
 use Rattle.nr_crcattach.specs.Crc.{degree, times_d, rho, residue, high_first, crc_of, IsDivided}
-use Rattle.nr_crcattach.specs.Attachment.{attached, block_poly, with_check}
+use Rattle.nr_crcattach.specs.Attachment.{attached, attached_length, block_poly, length_poly, with_check}
 use Rattle.nr_crcattach.proofs.Residues.{times_d-zero, times_d-zero_only, residue-lt, residue-append, residue-suc, rho-pow}
 
 -- n bits
@@ -45,6 +45,20 @@ length-attached_long block long =
 pub length-attached_short : (block : List Bool) → length block ≤ 3824 → length (attached block) ≡ length block + 16
 length-attached_short block short =
     length-with_check (block_poly block) block ∙ ap (λ p. length block + degree p) (block_poly-short block short)
+
+-- a generator's degree added to a length, by the test that chooses the generator
+added-degree : (a : ℕ) (long : Bool) → a + degree (cond long A24 C16) ≡ cond long (a + 24) (a + 16)
+added-degree a true = refl
+added-degree a false = refl
+
+-- the degree of the generator for a bits, added to them
+pub attached_length-degree : (a : ℕ) → a + degree (length_poly a) ≡ attached_length a
+attached_length-degree a = added-degree a (nat_lt 3824 a)
+
+-- a transport block has as many bits with its parity bits as attached_length says
+pub length-attached : (block : List Bool) → length (attached block) ≡ attached_length (length block)
+length-attached block =
+    length-with_check (block_poly block) block ∙ attached_length-degree (length block)
 
 -- a bit above n lower bits
 top_bit : (bit n low : ℕ) → bit < 2 → low < 2 ^ n → bit_xor (if bit == 1 then 2 ^ n else 0) low ≡ bit * 2 ^ n + low

@@ -1,5 +1,5 @@
 -- Attachment of parity bits, TS 38.212 clauses 5.1, 6.2.1 and 7.2.1.
-use Rattle.std.specs.Prelude.{◌≡◌, ◌+◌, ◌<◌, ◌≤◌, Bool, List, ◌++◌, length, nat_lt, if◌then◌else◌}
+use Rattle.std.specs.Prelude.{◌≡◌, ◌+◌, ◌<◌, ◌≤◌, ℕ, Bool, List, ◌++◌, length, nat_lt, if◌then◌else◌}
 use Rattle.nr_crcattach.specs.declared.Poly.{Poly}
 use Rattle.nr_crcattach.specs.declared.Poly.TheVariants.{A24, C16}
 use Rattle.nr_crcattach.specs.Crc.{IsDivided, crc_of, degree, high_first}
@@ -8,9 +8,17 @@ use Rattle.nr_crcattach.specs.Crc.{IsDivided, crc_of, degree, high_first}
 abbrev pub with_check : Poly → List Bool → List Bool
 with_check p bits = bits ++ high_first (degree p) (crc_of p bits)
 
--- the generator for a transport block: CRC24A above 3824 bits, else CRC16 (clauses 6.2.1 and 7.2.1)
+-- the generator for transport blocks of a bits: CRC24A above 3824 bits, else CRC16 (clauses 6.2.1 and 7.2.1)
+abbrev pub length_poly : ℕ → Poly
+length_poly a = if nat_lt 3824 a then A24 else C16
+
+-- how many bits a transport block of a bits has with its parity bits (clauses 6.2.1 and 7.2.1)
+abbrev pub attached_length : ℕ → ℕ
+attached_length a = if nat_lt 3824 a then a + 24 else a + 16
+
+-- the generator for a transport block
 abbrev pub block_poly : List Bool → Poly
-block_poly block = if nat_lt 3824 (length block) then A24 else C16
+block_poly block = length_poly (length block)
 
 -- a transport block followed by its parity bits (clauses 6.2.1 and 7.2.1)
 abbrev pub attached : List Bool → List Bool
@@ -27,6 +35,10 @@ AttachedBlocksDivide = (block : List Bool) → IsDivided (block_poly block) (att
 -- parity bits lengthen a list by their number
 abbrev pub CheckedListsLengthen : Type 0
 CheckedListsLengthen = (p : Poly) (bits : List Bool) → length (with_check p bits) ≡ length bits + degree p
+
+-- a transport block has with its parity bits as many bits as attached_length says
+abbrev pub BlocksLengthen : Type 0
+BlocksLengthen = (block : List Bool) → length (attached block) ≡ attached_length (length block)
 
 -- a transport block of more than 3824 bits is lengthened by 24 bits
 abbrev pub LongBlocksLengthen : Type 0

@@ -5,7 +5,7 @@
 //! `attachment_divides` is the law that what was attached leaves 0. Stands on `nr_bitvec`.
 #![tactic(auto)]
 
-ghost use Rattle.nr_crcattach.specs.Attachment.{AttachedBlocksDivide, CheckedListsDivide, CheckedListsLengthen, LongBlocksLengthen, ShortBlocksLengthen, attached, with_check};
+ghost use Rattle.nr_crcattach.specs.Attachment.{AttachedBlocksDivide, CheckedListsDivide, BlocksLengthen, CheckedListsLengthen, LongBlocksLengthen, ShortBlocksLengthen, attached, attached_length, length_poly, with_check};
 ghost use Rattle.nr_crcattach.specs.Crc.{IsDivided, JoinedListsAdd, PowersMultiply, TimesDIsAdditive, crc_of, degree, generator, times_d};
 ghost use Rattle.std.specs.Prelude.{◌≡◌, ◌+◌, ◌*◌, ◌<◌, ◌≤◌, ◌^◌, ◌↔◌, IfOk, IsTrue, drop, length, take};
 ghost use Rattle.nr_crcattach.specs.declared.Poly.{Poly};
@@ -15,7 +15,7 @@ mod octets;
 use nr_bitvec::Bits;
 use std::alloc::{AllocError, Global};
 
-// A transport block of more bits than this has 24 parity bits, any other 16 (TS 38.212, 6.2.1 and
+// The most bits of a transport block that has 16 parity bits, and not 24 (TS 38.212, 6.2.1 and
 // 7.2.1).
 const MOST_FOR_C16: usize = 3824;
 
@@ -31,8 +31,20 @@ pub enum Poly {
 }
 
 impl Poly {
-    // The number of parity bits.
-    fn degree(self) -> u32
+    /// The generator for transport blocks of `a` bits: CRC24A where `a` is above 3824, else CRC16
+    /// (TS 38.212, 6.2.1 and 7.2.1).
+    pub fn of_block(a: usize) -> Poly
+        ensures { result ≡ length_poly a }
+    {
+        if a > MOST_FOR_C16 {
+            Poly::A24
+        } else {
+            Poly::C16
+        }
+    }
+
+    /// The number of parity bits: 24, 24 or 16.
+    pub fn degree(self) -> u32
         ensures { result ≡ degree self }
     {
         match self {
@@ -129,12 +141,16 @@ pub fn attach(alloc: Global, block: &Bits) -> Result<Bits, AllocError>
     requires { length block.now.items + 24 ≤ 2 ^ 24 }
     ensures { IfOk result (λ b. b.items ≡ attached block.now.items) }
 {
-    let poly = if block.len() > MOST_FOR_C16 {
-        Poly::A24
-    } else {
-        Poly::C16
-    };
-    followed_by_check(alloc, poly, block)
+    followed_by_check(alloc, Poly::of_block(block.len()), block)
+}
+
+/// The number of bits that a transport block of `a` bits has with its parity bits, which is B: `a`
+/// and 24 above 3824, else `a` and 16 (TS 38.212, 6.2.1 and 7.2.1).
+pub fn attached_len(a: u32) -> u32
+    requires { a < 2 ^ 24 }
+    ensures { result ≡ attached_length a }
+{
+    a + Poly::of_block(a as usize).degree()
 }
 
 /// The bits of a code block, at most 2^24 - 24, followed by their 24 parity bits by CRC24B (TS
@@ -173,9 +189,10 @@ pub fn attachment_divides()
 {}
 
 /// The law of lengths: parity bits lengthen a list by their number, and a transport block by 24
-/// bits exactly where it has more than 3824, else by 16.
+/// bits exactly where it has more than 3824, else by 16, which is what `attached_len` gives.
 pub fn attachment_lengthens()
     ensures check { CheckedListsLengthen }
+    ensures block { BlocksLengthen }
     ensures long { LongBlocksLengthen }
     ensures short { ShortBlocksLengthen }
 {}

@@ -154,6 +154,8 @@ fn lengths(rt: HostRuntime) -> Result<(), Fail> {
         let block = zeros.copy_range(0, length)?;
         assert_eq!(rt; block.len(), length);
         assert_eq!(rt; attach(rt.alloc(), &block)?.len(), attached);
+        assert_eq!(rt; attached_len(length as u32) as usize, attached);
+        assert_eq!(rt; Poly::of_block(length).degree() as usize, attached - length);
     }
     Ok(())
 }
