@@ -11,7 +11,7 @@ use Rattle.std.proofs.lemmas.List.Sums.{sum_by-cons}
 use Rattle.std.proofs.lemmas.Nat.{mod_below}
 use Rattle.std.proofs.Math.Nat.{div-lt_iff_lt-mul, mod-add-div, mul_comm}
 use Rattle.nr_bitvec.specs.Bit.{bit}
-use Rattle.nr_crcattach.specs.Attachment.{LongBlocksLengthen, ShortBlocksLengthen, attached, block_poly}
+use Rattle.nr_crcattach.specs.Attachment.{BlocksLengthen, attached, block_poly, attached_length}
 use Rattle.nr_crcattach.specs.Crc.{crc_of, degree, high_first}
 use Rattle.nr_graphpick.specs.Graph.{cols_of}
 use Rattle.nr_harqbuf.specs.Record.{Heardbits, first_at, first_heard, is_heard, record_of}
@@ -26,7 +26,7 @@ use Rattle.nr_peel.specs.Peeling.{AgreesWith, IsStarted, Peeling, checks_for, le
 use Rattle.nr_segment.specs.CodeBlock.{CodeBlocksAreLong, code_bits, part_of, share}
 use Rattle.nr_blockdesk.specs.Explains.{Explains, Reception, explains}
 use Rattle.nr_blockdesk.specs.Heard.{IsRecordOf, heard_of, heard_record, hearings}
-use Rattle.nr_blockdesk.specs.Link.{IsBlock, IsLink, Link, WordsArePlain, attached_length, word}
+use Rattle.nr_blockdesk.specs.Link.{IsBlock, IsLink, Link, WordsArePlain, word}
 use Rattle.nr_blockdesk.specs.Outcome.{ExplainedBy, all_fixed, blocks_of, contradiction, fixed, given, left, open_still, outcome_of, verdict_on}
 use Rattle.nr_blockdesk.specs.ReceiverLaws.{DeliveredIsOnly, ExplainedIsDelivered, ExplainsByRecord}
 use Rattle.nr_blockdesk.specs.Receiving.{Fits, IsDecided, IsDesk, IsRead, IsSized, IsTied, peeling_of, verdict}
@@ -35,7 +35,6 @@ use Rattle.nr_blockdesk.specs.declared.outcome.Outcome.TheVariants as outcome
 use Rattle.nr_blockdesk.proofs.Deciding.{every_fixed}
 use Rattle.nr_blockdesk.proofs.Encoding.{code-shared, k-fits, part-inside}
 use Rattle.nr_blockdesk.proofs.Hears.{same-checks}
-use Rattle.nr_blockdesk.proofs.Links.{length-attached}
 use Rattle.nr_blockdesk.proofs.Recorded.{none_heard}
 use Rattle.nr_blockdesk.proofs.Taking.{one-all}
 
@@ -152,12 +151,12 @@ known-value true b e = refl
 known-value false b e = cc e
 
 -- where all is fixed, a transport block that explains a record is the one that the peelers know
-pub candidate-only : PlansAreSound → WordsArePlain → LongBlocksLengthen → ShortBlocksLengthen → CodeBlocksAreLong → (link : Link)
+pub candidate-only : PlansAreSound → WordsArePlain → BlocksLengthen → CodeBlocksAreLong → (link : Link)
     (records : List Heardbits) (peelers : List Peeling) (bits : List Bool) → IsLink link → IsDesk link records peelers
     → all_fixed link records ≡ true → length bits ≡ link.a
     → ((i : ℕ) → i < link.a → IsRead link.plan peelers bits i)
     → (y : List Bool) → IsBlock link y → ExplainedBy link records y → y ≡ bits
-candidate-only sound plain long short codes link records peelers bits is desk all many read y whole by = same_lists y bits (whole ∙ sym many) at
+candidate-only sound plain blocks codes link records peelers bits is desk all many read y whole by = same_lists y bits (whole ∙ sym many) at
   where
     sane : IsSound link.graph (attached_length link.a) link.plan
     sane = sound-of sound link is
@@ -166,7 +165,7 @@ candidate-only sound plain long short codes link records peelers bits is desk al
     s = share link.plan
 
     b-long : length (attached y) ≡ attached_length link.a
-    b-long = length-attached long short y ∙ ap attached_length whole
+    b-long = blocks y ∙ ap attached_length whole
 
     check-long : length y ≤ length (attached y)
     check-long = omega (arith, length-append y (high_first (degree (block_poly y)) (crc_of (block_poly y) y)))

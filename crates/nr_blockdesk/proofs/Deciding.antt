@@ -7,7 +7,7 @@ use Rattle.std.proofs.lemmas.List.{get_or_default, same_lists}
 use Rattle.std.proofs.lemmas.List.Sums.{sum_by-cons}
 use Rattle.std.proofs.Math.Seq.{take-append_seam}
 use Rattle.nr_bitvec.specs.Bit.{bit}
-use Rattle.nr_crcattach.specs.Attachment.{LongBlocksLengthen, ShortBlocksLengthen, attached, block_poly}
+use Rattle.nr_crcattach.specs.Attachment.{BlocksLengthen, attached, block_poly, attached_length}
 use Rattle.nr_crcattach.specs.Crc.{crc_of, degree, high_first}
 use Rattle.nr_harqbuf.specs.Record.{Heardbits, HasFirsts, first_at, is_heard}
 use Rattle.nr_ldpcenc.specs.Codeword.{IsPlain, filler}
@@ -16,10 +16,9 @@ use Rattle.nr_peel.specs.Closure.{AgreeOn}
 use Rattle.nr_peel.specs.Laws.{ChecksAreSound, WordsAgreeOnClosure}
 use Rattle.nr_segment.specs.CodeBlock.{CodeBlocksAreLong, JoinUndoesCut, all_code_bits, code_bits, joined}
 use Rattle.nr_blockdesk.specs.Heard.{heard_of, heard_record}
-use Rattle.nr_blockdesk.specs.Link.{IsBlock, IsLink, Link, WordsArePlain, attached_length, code_bits_of, word}
+use Rattle.nr_blockdesk.specs.Link.{IsBlock, IsLink, Link, WordsArePlain, code_bits_of, word}
 use Rattle.nr_blockdesk.specs.Outcome.{all_fixed, fixed, given, left}
 use Rattle.nr_blockdesk.specs.ReceiverLaws.{ExplainersAgree, ExplainsByRecord, OneExplains}
-use Rattle.nr_blockdesk.proofs.Links.{length-attached}
 use Rattle.nr_blockdesk.proofs.Tested.{range_each}
 
 -- two words with the first bits of a record, and with zeros for the fillers, agree where something is given
@@ -83,11 +82,11 @@ map-same f g a (suc n) each =
     ap (λ x. x ∷ map f (range_with_len (a + 1) n)) first ∙ ap (λ xs. g a ∷ xs) rest
 
 -- transport blocks whose code blocks are the same are the same
-pub blocks_make : LongBlocksLengthen → ShortBlocksLengthen → JoinUndoesCut → (link : Link) (x y : List Bool) → IsLink link
+pub blocks_make : BlocksLengthen → JoinUndoesCut → (link : Link) (x y : List Bool) → IsLink link
     → IsBlock link x → IsBlock link y → ((r : ℕ) → r < link.plan.c → code_bits_of link x r ≡ code_bits_of link y r) → x ≡ y
-blocks_make long short joins link x y is whole-x whole-y each =
-    let long-x : length (attached x) ≡ attached_length link.a = length-attached long short x ∙ ap attached_length whole-x in
-    let long-y : length (attached y) ≡ attached_length link.a = length-attached long short y ∙ ap attached_length whole-y in
+blocks_make blocks joins link x y is whole-x whole-y each =
+    let long-x : length (attached x) ≡ attached_length link.a = blocks x ∙ ap attached_length whole-x in
+    let long-y : length (attached y) ≡ attached_length link.a = blocks y ∙ ap attached_length whole-y in
     let blocks : all_code_bits link.plan (attached x) ≡ all_code_bits link.plan (attached y) =
     map-same (code_bits link.plan (attached x)) (code_bits link.plan (attached y)) 0 link.plan.c (λ r low high. each r (omega arith)) in
     let all : attached x ≡ attached y =
@@ -100,15 +99,15 @@ blocks_make long short joins link x y is whole-x whole-y each =
     begins block = take-append_seam block (high_first (degree (block_poly block)) (crc_of (block_poly block) block))
 
 -- transport blocks whose words agree below K' are the same
-pub words_make : LongBlocksLengthen → ShortBlocksLengthen → JoinUndoesCut → CodeBlocksAreLong → WordsArePlain → (link : Link)
+pub words_make : BlocksLengthen → JoinUndoesCut → CodeBlocksAreLong → WordsArePlain → (link : Link)
     (x y : List Bool) → IsLink link → IsBlock link x → IsBlock link y
     → ((r p : ℕ) → r < link.plan.c → p < link.plan.kdash → bit (word link x r) p ≡ bit (word link y r) p) → x ≡ y
-words_make long short joins codes plain link x y is whole-x whole-y same = blocks_make long short joins link x y is whole-x whole-y each
+words_make blocks joins codes plain link x y is whole-x whole-y same = blocks_make blocks joins link x y is whole-x whole-y each
   where
     kept : (block : List Bool) (r : ℕ) → IsBlock link block → r < link.plan.c → length (code_bits_of link block r) ≡ link.plan.kdash
     kept block r whole inside =
         codes link.graph (attached_length link.a) link.plan (attached block) r is.planned
-        (length-attached long short block ∙ ap attached_length whole) inside
+        (blocks block ∙ ap attached_length whole) inside
 
     each : (r : ℕ) → r < link.plan.c → code_bits_of link x r ≡ code_bits_of link y r
     each r inside = same_lists (code_bits_of link x r) (code_bits_of link y r) (kept x r whole-x inside ∙ sym (kept y r whole-y inside)) at
@@ -123,9 +122,9 @@ words_make long short joins codes plain link x y is whole-x whole-y same = block
             ∙ (plain link y r is whole-y inside).begins k below
             ∙ get_or_default (code_bits_of link y r) k false d low-y
 
-pub one-explains : LongBlocksLengthen → ShortBlocksLengthen → JoinUndoesCut → CodeBlocksAreLong → WordsArePlain
+pub one-explains : BlocksLengthen → JoinUndoesCut → CodeBlocksAreLong → WordsArePlain
     → ExplainersAgree → OneExplains
-one-explains long short joins codes plain agree link list x y is accepted whole-x whole-y ex ey all =
-    words_make long short joins codes plain link x y is whole-x whole-y
+one-explains blocks joins codes plain agree link list x y is accepted whole-x whole-y ex ey all =
+    words_make blocks joins codes plain link x y is whole-x whole-y
     (λ r p inside low. agree link list x y r is accepted whole-x whole-y ex ey inside p
     (every_fixed link (heard_record link list) all r inside p low))

@@ -2,7 +2,7 @@
 use Rattle.std.proofs.Common.{◌≡◌, ℕ, ◌+◌, ◌<◌, ◌≤◌, ◌==◌, ◌⊎◌, inl, inr, nat_lt, Bool, true, false, cond, Option, Some, None, Result, Ok, Err, List, length, subst, refl, sym, ap, ◌∙◌, arith}
 use Rattle.std.proofs.lemmas.Bool.{cases_lt}
 use Rattle.std.proofs.lemmas.Bool.Decides.{nat_tests}
-use Rattle.nr_crcattach.specs.Attachment.{LongBlocksLengthen, ShortBlocksLengthen, attached}
+use Rattle.nr_crcattach.specs.Attachment.{BlocksLengthen, attached, attached_length}
 use Rattle.nr_graphpick.specs.declared.Graph.{Graph}
 use Rattle.nr_graphpick.specs.declared.PickFault.{PickFault}
 use Rattle.nr_graphpick.specs.Graph.{picked}
@@ -16,7 +16,7 @@ use Rattle.nr_segment.specs.declared.numbers.Plan.{Plan}
 use Rattle.nr_segment.specs.Plan.{Numbers, plan_of}
 use Rattle.nr_segment.specs.declared.numbers.SegFault.{SegFault}
 use Rattle.nr_shifttable.specs.Accepted.{Entries, has_graph}
-use Rattle.nr_blockdesk.specs.Link.{IsLink, Link, LinksAreSound, WordsArePlain, attached_length, demanded, is_size, link_of, link_said, word}
+use Rattle.nr_blockdesk.specs.Link.{IsLink, Link, LinksAreSound, WordsArePlain, demanded, is_size, link_of, link_said, word}
 use Rattle.nr_blockdesk.specs.declared.settings.Settings.{Settings}
 use Rattle.nr_blockdesk.specs.declared.fault.DeskFault.{DeskFault}
 use Rattle.nr_blockdesk.specs.declared.fault.DeskFault.TheVariants as fault
@@ -86,19 +86,6 @@ link-blocks table settings a link said =
     let keeps = bind-ok (with_fault fault.Rm (buffer_said picks.0 plans.0 settings.lbrm)) _ link there.2 in
     ap (λ (l : Link). l.a) (ok-same keeps.2)
 
--- how many bits a transport block has with its CRC
-pub length-attached : LongBlocksLengthen → ShortBlocksLengthen → (block : List Bool)
-    → length (attached block) ≡ attached_length (length block)
-length-attached long short block = go (cases_lt 3824 (length block))
-  where
-    go : (3824 < length block) ⊎ (length block ≤ 3824) → length (attached block) ≡ attached_length (length block)
-    go (inl more) =
-        let is : nat_lt 3824 (length block) ≡ true = grind (arith, nat_tests) in
-        long block more ∙ ap (λ b. cond b (length block + 24) (length block + 16)) (sym is)
-    go (inr less) =
-        let is : nat_lt 3824 (length block) ≡ false = grind (arith, nat_tests) in
-        short block less ∙ ap (λ b. cond b (length block + 24) (length block + 16)) (sym is)
-
 pub attached-over : (a : ℕ) → a + 16 ≤ attached_length a
 attached-over a = go (nat_lt 3824 a)
   where
@@ -106,10 +93,10 @@ attached-over a = go (nat_lt 3824 a)
     go true = omega arith
     go false = omega arith
 
-pub words-plain : LongBlocksLengthen → ShortBlocksLengthen → CodeBlocksAreLong → CodewordsArePlain → WordsArePlain
+pub words-plain : BlocksLengthen → CodeBlocksAreLong → CodewordsArePlain → WordsArePlain
 unfolding word
-words-plain long short codes plain link block r is whole inside =
-    let b : length (attached block) ≡ attached_length link.a = length-attached long short block ∙ ap attached_length whole in
+words-plain blocks codes plain link block r is whole inside =
+    let b : length (attached block) ≡ attached_length link.a = blocks block ∙ ap attached_length whole in
     plain link.table link.graph (attached_length link.a) link.plan _ is.table is.there is.planned
     (codes link.graph (attached_length link.a) link.plan (attached block) r is.planned b inside)
 

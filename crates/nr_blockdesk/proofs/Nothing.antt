@@ -4,6 +4,7 @@ use Rattle.std.specs.Prelude.{count_by}
 use Rattle.std.specs.List.{find, range_with_len}
 use Rattle.std.proofs.lemmas.Bool.{false_from_ne_true, true≢false}
 use Rattle.std.proofs.lemmas.List.Sums.{sum_by-cons}
+use Rattle.nr_crcattach.specs.Attachment.{attached_length}
 use Rattle.nr_harqbuf.specs.Record.{Heardbits, first_at, is_heard, record_of}
 use Rattle.nr_ldpcenc.specs.Codeword.{filler}
 use Rattle.nr_ldpcenc.specs.Rows.{block_checks}
@@ -13,7 +14,7 @@ use Rattle.nr_peel.specs.Laws.{NothingHeardFixesNothing}
 use Rattle.nr_shifttable.specs.Accepted.{entries_in}
 use Rattle.nr_blockdesk.specs.Explains.{explains}
 use Rattle.nr_blockdesk.specs.Heard.{heard_of, heard_record, hearings}
-use Rattle.nr_blockdesk.specs.Link.{IsLink, Link, attached_length}
+use Rattle.nr_blockdesk.specs.Link.{IsLink, Link}
 use Rattle.nr_blockdesk.specs.Outcome.{all_fixed, blocks_of, fixed, given, left, open_still, outcome_of, verdict_on}
 use Rattle.nr_blockdesk.specs.ReceiverLaws.{NothingIsOpen, NothingLeavesAll}
 use Rattle.nr_blockdesk.proofs.Deciding.{every_fixed}

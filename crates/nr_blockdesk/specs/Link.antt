@@ -1,7 +1,7 @@
 -- What both ends of a link agree on, and the words of a transport block (TS 38.212, 6.2.1 to 6.2.4 and 7.2.1 to 7.2.4).
 use Rattle.std.specs.Prelude.{◌≡◌, ℕ, ◌+◌, ◌%◌, ◌<◌, ◌==◌, Bool, true, false, nat_lt, nat_le, ◌&&◌, if◌then◌else◌, Result, Ok, Err, List, length, map}
 use Rattle.std.specs.List.{range_with_len}
-use Rattle.nr_crcattach.specs.Attachment.{attached}
+use Rattle.nr_crcattach.specs.Attachment.{attached, attached_length}
 use Rattle.nr_graphpick.specs.declared.Graph.{Graph}
 use Rattle.nr_graphpick.specs.Graph.{picked}
 use Rattle.nr_graphpick.specs.Refusal.{◌>>=◌, with_fault}
@@ -18,10 +18,6 @@ use Rattle.nr_blockdesk.specs.declared.settings.Settings.{Settings}
 -- a transport block has whole octets, 8 to 1,310,720 bits of them
 abbrev pub is_size : ℕ → Bool
 is_size a = (a % 8 == 0) && (nat_le 8 a && nat_le a 1310720)
-
--- how many bits a transport block of a bits has with its CRC (6.2.1 and 7.2.1)
-abbrev pub attached_length : ℕ → ℕ
-attached_length a = if nat_lt 3824 a then a + 24 else a + 16
 
 -- a test, and this fault where it fails
 abbrev pub demanded : {E : Type 0} → E → Bool → Result (Unit {0}) E

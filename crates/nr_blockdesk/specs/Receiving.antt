@@ -1,6 +1,7 @@
 -- What a receiver keeps, and what its steps make of it.
 use Rattle.std.specs.Prelude.{◌≡◌, ◌⊎◌, ℕ, ◌+◌, ◌/◌, ◌%◌, ◌<◌, ◌≤◌, Bool, true, false, Option, option_map, unwrap_or, Result, Ok, Err, IsOk, List, [], ◌++◌, length, take, drop, sum, slice_index, slice_index_or, All}
 use Rattle.std.specs.List.{filter_map, range_with_len}
+use Rattle.nr_crcattach.specs.Attachment.{attached_length}
 use Rattle.nr_bitvec.specs.Bit.{bit}
 use Rattle.nr_bitvec.specs.BitList.{BitList}
 use Rattle.nr_harqbuf.specs.Record.{Hearing, Heardbits, HasFirsts, record_of}
@@ -13,7 +14,7 @@ use Rattle.nr_segment.specs.CodeBlock.{share}
 use Rattle.nr_blockdesk.specs.Explains.{heard_at}
 use Rattle.nr_blockdesk.specs.Heard.{heard_of}
 use Rattle.nr_blockdesk.specs.Hearing.{heard_bit}
-use Rattle.nr_blockdesk.specs.Link.{IsBlock, IsLink, Link, attached_length, word}
+use Rattle.nr_blockdesk.specs.Link.{IsBlock, IsLink, Link, word}
 use Rattle.nr_blockdesk.specs.Outcome.{ExplainedBy, Verdict, all_fixed, contradiction, delivered, given, open_still}
 use Rattle.nr_blockdesk.specs.declared.candidate.Standing.{Standing}
 use Rattle.nr_blockdesk.specs.declared.candidate.Standing.TheVariants as standing

@@ -19,9 +19,6 @@ use nr_ldpcenc::{Word, fill};
 use nr_segment::{Plan, code_blocks_are_long, part};
 use nr_shifttable::Table;
 
-// The most bits of a transport block whose CRC has 16 bits, and not 24 (TS 38.212, 6.2.1 and 7.2.1).
-const MOST_WITH_CRC16: usize = 3824;
-
 // Puts a transport block with its CRC into a list that has the room.
 pub(crate) fn attach_in_room(block: &Bits, list: &mut Bits)
     requires room { length (attached block.now.items) ≤ length list.old.items + list.old.room }
@@ -30,17 +27,13 @@ pub(crate) fn attach_in_room(block: &Bits, list: &mut Bits)
         ≤ length list.new.items + list.new.room }
 {
     attachment_lengthens();
-    let (poly, count) = if block.len() > MOST_WITH_CRC16 {
-        (Poly::A24, 24_u32)
-    } else {
-        (Poly::C16, 16_u32)
-    };
+    let poly = Poly::of_block(block.len());
     let check = crc(poly, block);
     list.clear();
     for i in 0..block.len() {
         list.push_in_room(block.get(i));
     }
-    for place in (0..count).rev() {
+    for place in (0..poly.degree()).rev() {
         list.push_in_room(check >> place & 1 == 1);
     }
 }

@@ -26,7 +26,7 @@ pub(crate) struct Arrival<'a> {
 }
 
 /// The first `g` bits of redundancy version 0.
-fn first<'a>(g: u32, heard: Places<'a>, flipped: Places<'a>) -> Arrival<'a> {
+pub(crate) fn first<'a>(g: u32, heard: Places<'a>, flipped: Places<'a>) -> Arrival<'a> {
     Arrival {
         tx: on_one_layer(0, g, 1),
         heard,
@@ -91,7 +91,7 @@ fn is_accepted(table: &Table, receiver: &Receiver<'_>, r: u32) -> Result<bool, F
 }
 
 /// The same of every code block.
-fn are_accepted(table: &Table, receiver: &Receiver<'_>) -> Result<bool, Fail> {
+pub(crate) fn are_accepted(table: &Table, receiver: &Receiver<'_>) -> Result<bool, Fail> {
     for r in 0..receiver.plan().c {
         if !is_accepted(table, receiver, r)? {
             return Ok(false);
@@ -316,52 +316,5 @@ fn two_code_blocks_are_certified(rt: HostRuntime) -> Result<(), Fail> {
     assert!(rt; two_code_blocks_show(rt.alloc(), Mask::All, NONE)?);
     let second = Mask::Only([2, 0, 0, 0, 0, 0]);
     assert!(rt; two_code_blocks_show(rt.alloc(), second, &[(0, 3)])?);
-    Ok(())
-}
-
-/// How often the peeler of the first code block visited a pair of a row and a position of it.
-fn touches_of(receiver: &Receiver<'_>) -> u64 {
-    if receiver.plan().c > 0 {
-        receiver.peeler(0).touches()
-    } else {
-        0
-    }
-}
-
-/// What a receiver answers to each place of the buffer in a transmission of its own, the last time.
-fn hears_place_by_place(
-    alloc: Global,
-    sender: &Sender<'_>,
-    receiver: &mut Receiver<'_>,
-) -> Result<(u32, u8), Fail> {
-    let mut last = (0, 0);
-    for m in 0..184 {
-        last = told(&hear(alloc, sender, receiver, &first(184, &[(m, m)], &[]))?);
-    }
-    Ok(last)
-}
-
-/// The same of octet 01 and a new receiver; how often its peeler visited a pair, and whether the checkers accept it.
-fn place_by_place(alloc: Global, table: &Table) -> Result<((u32, u8), u64, bool), Fail> {
-    let sender = sender_of(alloc, table, 0x01)?;
-    let mut receiver = receiver_of(alloc, table)?;
-    let last = hears_place_by_place(alloc, &sender, &mut receiver)?;
-    let accepted = are_accepted(table, &receiver)?;
-    Ok((last, touches_of(&receiver), accepted))
-}
-
-/// The same over the practice table.
-fn all_place_by_place(alloc: Global) -> Result<((u32, u8), u64, bool), Fail> {
-    let table = practice(alloc, 0, 1, false)?;
-    place_by_place(alloc, &table)
-}
-
-// The table has 105 entries, so with four lanes 420 pairs.
-#[test]
-fn place_by_place_is_certified(rt: HostRuntime) -> Result<(), Fail> {
-    let (last, touches, accepted) = all_place_by_place(rt.alloc())?;
-    assert_eq!(rt; last, (1, 0x01));
-    assert!(rt; 420 <= touches && touches <= 840, "{touches}");
-    assert!(rt; accepted);
     Ok(())
 }

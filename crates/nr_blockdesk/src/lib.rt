@@ -41,6 +41,8 @@ pub use tx::Tx;
 #[cfg(test)]
 mod certificate_tests;
 #[cfg(test)]
+mod contradiction_tests;
+#[cfg(test)]
 mod delivery_tests;
 #[cfg(test)]
 mod practice;
@@ -52,3 +54,5 @@ mod receiver_tests;
 mod refused_tests;
 #[cfg(test)]
 mod tests;
+#[cfg(test)]
+mod touches_tests;

@@ -1,11 +1,13 @@
 //! What both ends of a link agree on before a bit is sent.
 
 ghost use Rattle.std.specs.Prelude.{◌≡◌, ◌^◌, ◌<◌, IfOk, MatchResult, Ok, Err};
-ghost use Rattle.nr_blockdesk.specs.Link.{IsLink, attached_length, is_size, link_of, link_said};
+ghost use Rattle.nr_crcattach.specs.Attachment.{attached_length};
+ghost use Rattle.nr_blockdesk.specs.Link.{IsLink, is_size, link_of, link_said};
 
 use crate::fault::DeskFault;
 use crate::laws::links_are_sound;
 use crate::settings::Settings;
+use nr_crcattach::attached_len;
 use nr_graphpick::pick;
 use nr_ratematch::Buffer;
 use nr_segment::{Plan, plan};
@@ -14,22 +16,11 @@ use nr_shifttable::Table;
 // The most bits of a transport block.
 const MOST_BITS: u32 = 1_310_720;
 
-// The most bits of a transport block whose CRC has 16 bits, and not 24 (TS 38.212, 6.2.1 and 7.2.1).
-const MOST_WITH_CRC16: u32 = 3824;
-
 // Whether a transport block may have `a` bits.
 fn is_whole(a: u32) -> bool
     ensures { result ≡ is_size a }
 {
     a % 8 == 0 && (8..=MOST_BITS).contains(&a)
-}
-
-// How many bits a transport block of `a` bits has with its CRC.
-pub(crate) fn attached_len(a: u32) -> u32
-    requires { a < 2 ^ 24 }
-    ensures { result ≡ attached_length a }
-{
-    if a > MOST_WITH_CRC16 { a + 24 } else { a + 16 }
 }
 
 // The plan and the buffer for transport blocks of `a` bits, or the first cause against them. Takes no memory.

@@ -1,6 +1,7 @@
 //! The receiver of one transport block.
 
 ghost use Rattle.std.specs.Prelude.{◌≡◌, ◌≢◌, ℕ, ◌<◌, ◌++◌, [], ◌∷◌, Bool, true, List, length, All, IfOk, IfErr, IsErrOf, IsOk, OnErr, OnOk};
+ghost use Rattle.nr_crcattach.specs.Attachment.{attached_length};
 ghost use Rattle.nr_bitvec.specs.Bit.{bit};
 ghost use Rattle.nr_graphpick.specs.Refusal.{Gives};
 ghost use Rattle.nr_segment.specs.CodeBlock.{positions_of, numbers};
@@ -9,7 +10,7 @@ ghost use Rattle.nr_peel.specs.Peeling.{AgreesWith, IsPeeled, IsStarted};
 ghost use Rattle.nr_shifttable.specs.Accepted.{has_graph};
 ghost use Rattle.nr_blockdesk.specs.Explains.{Explains, Reception, reception, reception_said};
 ghost use Rattle.nr_blockdesk.specs.Heard.{IsRecordOf, heard_of};
-ghost use Rattle.nr_blockdesk.specs.Link.{IsBlock, attached_length, link_said, word};
+ghost use Rattle.nr_blockdesk.specs.Link.{IsBlock, link_said, word};
 ghost use Rattle.nr_blockdesk.specs.Outcome.{all_fixed, contradiction, delivered, given, left, outcome_of};
 ghost use Rattle.nr_blockdesk.specs.Receiving.{AreWords, IsDecided, RefusesAs, peeling_of, verdict};
 

@@ -58,7 +58,7 @@ pub(crate) fn receiver_of<'t>(alloc: Global, table: &'t Table) -> Result<Receive
 }
 
 /// What a receiver answers to places of redundancy version 0.
-fn takes(receiver: &mut Receiver<'_>, places: &[Heard]) -> Result<(u32, u8), DeskFault> {
+pub(crate) fn takes(receiver: &mut Receiver<'_>, places: &[Heard]) -> Result<(u32, u8), DeskFault> {
     let g = places.len().min(999) as u32;
     Ok(told(&receiver.take(&on_one_layer(0, g, 1), places)?))
 }
@@ -167,12 +167,17 @@ fn refuses_to_receive(rt: HostRuntime) -> Result<(), Fail> {
 }
 
 /// The receiver of transport blocks of 24 bits.
-fn wide_receiver_of<'t>(alloc: Global, table: &'t Table) -> Result<Receiver<'t>, Fail> {
+pub(crate) fn wide_receiver_of<'t>(alloc: Global, table: &'t Table) -> Result<Receiver<'t>, Fail> {
     Ok(Receiver::new(alloc, table, PLAIN, 24)?)
 }
 
 /// So many places: nothing is heard before place `from`, and then zeros, and a one at place `one`.
-fn zeros_but(alloc: Global, from: usize, count: usize, one: usize) -> Result<Vec<Heard>, Fail> {
+pub(crate) fn zeros_but(
+    alloc: Global,
+    from: usize,
+    count: usize,
+    one: usize,
+) -> Result<Vec<Heard>, Fail> {
     let mut places = Vec::new(alloc);
     for m in 0..count {
         let place = if m < from {
@@ -285,69 +290,5 @@ fn answers_by_all_that_was_heard(rt: HostRuntime) -> Result<(), Fail> {
 #[test]
 fn a_flipped_parity_bit_contradicts(rt: HostRuntime) -> Result<(), Fail> {
     assert_eq!(rt; flip(rt.alloc(), 110)?, (2, 0));
-    Ok(())
-}
-
-/// What a receiver answers to zeros from place `from` on and before place `to`, but a one at place `one`.
-fn hears_zeros_but(
-    alloc: Global,
-    receiver: &mut Receiver<'_>,
-    from: usize,
-    to: usize,
-    one: usize,
-) -> Result<(u32, u8), Fail> {
-    let places = zeros_but(alloc, from, to, one)?;
-    Ok(takes(receiver, &places)?)
-}
-
-/// Zeros from a place on and before a place, but a one at a place, and the answer.
-type Turn = (usize, usize, usize, (u32, u8));
-
-const TURNS: &[Turn] = &[
-    (0, 24, 24, (0, 0)),
-    (24, 110, 110, (1, 0)),
-    (111, 120, 120, (1, 0)),
-    (0, 110, 110, (1, 0)),
-    (110, 111, 110, (2, 0)),
-    (0, 110, 110, (2, 0)),
-    (111, 130, 130, (2, 0)),
-];
-
-/// The first of these turns, by its first place and the place behind its last, that a receiver answers otherwise, and how.
-fn first_other(
-    alloc: Global,
-    receiver: &mut Receiver<'_>,
-    turns: &[Turn],
-) -> Result<Option<(usize, usize, (u32, u8))>, Fail> {
-    for (from, to, one, answer) in turns.iter().copied() {
-        let told = hears_zeros_but(alloc, receiver, from, to, one)?;
-        if told != answer {
-            return Ok(Some((from, to, told)));
-        }
-    }
-    Ok(None)
-}
-
-/// The same of a new receiver.
-fn first_other_turn_over(
-    alloc: Global,
-    table: &Table,
-) -> Result<Option<(usize, usize, (u32, u8))>, Fail> {
-    let mut receiver = wide_receiver_of(alloc, table)?;
-    first_other(alloc, &mut receiver, TURNS)
-}
-
-/// The same over the practice table.
-fn first_other_turn(alloc: Global) -> Result<Option<(usize, usize, (u32, u8))>, Fail> {
-    let table = practice(alloc, 0, 1, false)?;
-    first_other_turn_over(alloc, &table)
-}
-
-// The first 26 places are columns 2 to 5, and each 7 more are a parity column. Columns 20 and 21, places 96 to 109, are
-// columns 0 and 1 turned, and so the first 110 places fix all: the block of zeros. What comes after is heard for the
-// first time: zeros agree with the codeword of zeros, a one at place 110 doesn't, and no zeros make it good.
-#[test]
-fn a_contradiction_stays(rt: HostRuntime) -> Result<(), Fail> {
-    assert_eq!(rt; first_other_turn(rt.alloc())?, None);
     Ok(())
 }

@@ -1,13 +1,14 @@
 //! The sender of one transport block.
 
 ghost use Rattle.std.specs.Prelude.{◌≡◌, ℕ, ◌<◌, ◌≤◌, ◌*◌, length, sum, All, IfOk, IfErr, IsErrOf, IsOk, MatchResult, Ok, Err, [], slice_index, slice_index_or};
+ghost use Rattle.nr_crcattach.specs.Attachment.{attached_length};
 ghost use Rattle.nr_graphpick.specs.Graph.{cols_of};
 ghost use Rattle.nr_graphpick.specs.Refusal.{Gives};
 ghost use Rattle.nr_ldpcenc.specs.Codeword.{IsCodeword};
 ghost use Rattle.nr_ratematch.specs.Lengths.{IsShared};
 ghost use Rattle.nr_ratematch.specs.Selection.{Circular};
 ghost use Rattle.nr_segment.specs.CodeBlock.{numbers};
-ghost use Rattle.nr_blockdesk.specs.Link.{attached_length, code_bits_of, link_of, link_said, word, words_of};
+ghost use Rattle.nr_blockdesk.specs.Link.{code_bits_of, link_of, link_said, word, words_of};
 ghost use Rattle.nr_blockdesk.specs.Sent.{matching_of, sending_said, sent_of, sent_said, tx_said, tx_said_of};
 
 use crate::fault::DeskFault;
@@ -117,6 +118,13 @@ impl<'t> Sender<'t> {
     {
         words_are_plain();
         &self.words[r as usize]
+    }
+
+    /// A, the number of bits of the transport block (TS 38.212, 6.2.1 and 7.2.1).
+    pub fn a(&self) -> u32
+        ensures { result ≡ self.now.link.a }
+    {
+        self.block.len() as u32
     }
 
     /// The numbers by which the transport block with its CRC is cut (TS 38.212, 5.2.2).

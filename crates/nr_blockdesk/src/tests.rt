@@ -183,13 +183,13 @@ fn sends_by_hand(rt: HostRuntime) -> Result<(), Fail> {
     Ok(())
 }
 
-/// C, K' and Zc of a sender's plan, the length of its first word, and the bits of six of its columns.
-type Word01 = ([u32; 3], usize, [u32; 6]);
+/// A, and C, K' and Zc of a sender's plan, the length of its first word, and the bits of six of its columns.
+type Word01 = ([u32; 4], usize, [u32; 6]);
 
 /// The same of a sender.
 fn word_of(sender: &Sender<'_>) -> Word01 {
     let plan = sender.plan();
-    let numbers = [plan.c, plan.kdash, plan.z];
+    let numbers = [sender.a(), plan.c, plan.kdash, plan.z];
     if plan.c == 0 {
         return (numbers, 0, [0; 6]);
     }
@@ -222,7 +222,7 @@ fn word_of_01(alloc: Global) -> Result<Word01, Fail> {
 #[test]
 fn keeps_the_word(rt: HostRuntime) -> Result<(), Fail> {
     let (numbers, length, digits) = word_of_01(rt.alloc())?;
-    assert_eq!(rt; numbers, [1, 24, 4]);
+    assert_eq!(rt; numbers, [8, 1, 24, 4]);
     assert_eq!(rt; length, 208);
     assert_eq!(rt; digits, [1, 2, 0, 3, 8, 2]);
     Ok(())

@@ -19,14 +19,11 @@ use crate::fault::RunFault;
 use crate::sink::Sink;
 use nr_bitvec::Bits;
 use nr_blockdesk::DeskFault;
-use nr_crcattach::{attach, attachment_lengthens};
+use nr_crcattach::{attach, attached_len, attachment_lengthens};
 use nr_graphpick::{Graph, pick};
 use nr_segment::{Plan, cut, plan};
 use std::alloc::{AllocError, Global};
 use std::fmt::Write;
-
-// The most bits of a transport block whose CRC has 16 bits, and not 24 (TS 38.212, 6.2.1 and 7.2.1).
-const MOST_WITH_CRC16: u32 = 3824;
 
 // The character of a hexadecimal digit.
 fn hex_digit(value: u8) -> u8
@@ -214,21 +211,13 @@ fn plan_for(number: u32, graph: Graph, b: u32) -> Result<Plan, RunFault>
     plan(graph, b).map_err(|fault| RunFault::Desk(number, DeskFault::Seg(fault)))
 }
 
-// How many bits a transport block of `a` bits has with its CRC.
-fn attached_len(a: u32) -> u32
-    requires { a < 2 ^ 24 }
-    ensures { (bits : List Bool) → length bits ≡ a → result ≡ length (attached bits) }
-{
-    attachment_lengthens();
-    if a > MOST_WITH_CRC16 { a + 24 } else { a + 16 }
-}
-
 // Whether block `number`, whose octets are given, has lines at the code rate `rate2048` / 2048, or its refusal.
 fn judge_block(rate2048: u32, number: u32, octets: &[u8]) -> Result<(), RunFault>
     requires { IsBlockLength (length octets.now) }
     ensures said { Judges result (block_lines rate2048 number octets.now) }
     ensures of_block { IfErr result IsOfBlock }
 {
+    attachment_lengthens();
     let a = 8 * octets.len() as u32;
     let graph = graph_of(number, a, rate2048)?;
     plan_for(number, graph, attached_len(a))?;

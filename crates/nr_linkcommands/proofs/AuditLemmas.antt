@@ -8,6 +8,7 @@ use mir.Val.{bool_byte}
 use Rattle.std.specs.Fmt.{decimal}
 use Rattle.std.specs.List.{count_by, filter, range_with_len}
 use Rattle.std.specs.Option.{is_some}
+use Rattle.nr_crcattach.specs.Attachment.{attached_length}
 use Rattle.nr_bitvec.specs.Bit.{bit}
 use Rattle.nr_graphpick.specs.declared.Graph.{Graph}
 use Rattle.nr_graphpick.specs.Refusal.{◌>>=◌}
@@ -19,7 +20,7 @@ use Rattle.nr_peel.specs.Peeling.{IsPeeled, Peeling, checks_for, known_at, unkno
 use Rattle.nr_shifttable.specs.Accepted.{Entries}
 use Rattle.nr_blockdesk.specs.Explains.{Reception}
 use Rattle.nr_blockdesk.specs.Heard.{heard_of, heard_record}
-use Rattle.nr_blockdesk.specs.Link.{IsLink, Link, attached_length}
+use Rattle.nr_blockdesk.specs.Link.{IsLink, Link}
 use Rattle.nr_blockdesk.specs.Outcome.{fixed, given, left}
 use Rattle.nr_blockdesk.specs.Receiving.{Receiving}
 use Rattle.nr_blockdesk.specs.Sent.{Sending}

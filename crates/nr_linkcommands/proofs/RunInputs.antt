@@ -2,13 +2,14 @@
 use Rattle.std.proofs.Common.{◌≡◌, ℕ, ◌+◌, ◌≤◌, ◌⊎◌, inl, inr, Bool, Result, Ok, Err, IfOk, List, [], ◌∷◌, length, All, ap, refl, sym, subst, ◌∙◌, arith}
 use Rattle.std.proofs.lemmas.Bool.Decides.{nat_tests}
 use Rattle.std.proofs.lemmas.List.Elements.{All-cons}
+use Rattle.nr_crcattach.specs.Attachment.{attached_length}
 use Rattle.nr_bitvec.specs.BitList.{bits_of}
 use Rattle.nr_graphpick.specs.Graph.{picked}
 use Rattle.nr_graphpick.specs.Refusal.{◌>>=◌, with_fault}
 use Rattle.nr_shifttable.specs.Accepted.{Entries, IsTable, has_graph}
 use Rattle.nr_ratematch.specs.Selection.{buffer_said}
 use Rattle.nr_segment.specs.Plan.{plan_of}
-use Rattle.nr_blockdesk.specs.Link.{Link, LinksAreSound, attached_length, demanded, is_size, link_said}
+use Rattle.nr_blockdesk.specs.Link.{Link, LinksAreSound, demanded, is_size, link_said}
 use Rattle.nr_blockdesk.specs.Sent.{Sending}
 use Rattle.nr_blockdesk.specs.declared.fault.DeskFault.{DeskFault}
 use Rattle.nr_blockdesk.specs.declared.fault.DeskFault.TheVariants as fault
@@ -67,7 +68,3 @@ linked-all sound table settings is_table n (octets ∷ blocks) =
 pub senders-linked : LinksAreSound → (table : Entries) (settings : Settings) (blocks : List (List ℕ)) (senders : List Sending) → IsTable table → senders_from table settings 1 blocks ≡ Ok senders → All (λ (sender : Sending). IsLinked table settings sender.link) senders
 senders-linked sound table settings blocks senders is_table said =
     of_ok (All (λ (sender : Sending). IsLinked table settings sender.link)) (senders_from table settings 1 blocks) senders said (linked-all sound table settings is_table 1 blocks)
-
--- a transport block with its CRC has 16 bits or more
-pub attached-some : (a : ℕ) → 16 ≤ attached_length a
-attached-some a = grind (arith, nat_tests)

@@ -3,7 +3,7 @@
 ghost use Rattle.std.specs.Prelude.{◌≡◌, ℕ, ◌+◌, ◌-◌, ◌^◌, ◌<◌, ◌≤◌, ◌++◌, [], ◌∷◌, All, List, None, length, replicate, IfOk, OnOk};
 ghost use Rattle.nr_blockdesk.specs.Explains.{IsAccepted, Reception, reception};
 ghost use Rattle.nr_blockdesk.specs.Heard.{IsRecordOf};
-ghost use Rattle.nr_blockdesk.specs.Link.{IsLink, Link, attached_length};
+ghost use Rattle.nr_blockdesk.specs.Link.{IsLink, Link};
 ghost use Rattle.nr_blockdesk.specs.Outcome.{outcome_of};
 ghost use Rattle.nr_blockdesk.specs.Receiving.{verdict};
 ghost use Rattle.nr_linkcommands.specs.Ends.{AllHold, HasReceived, HoldsEnd, IsEnd, IsLinked, IsOver, IsWithin};
@@ -13,9 +13,6 @@ ghost use Rattle.nr_files.specs.declared.schedule.Transmission.{Transmission};
 use crate::inputs::Inputs;
 use nr_blockdesk::{DeskFault, Heard, Outcome, Receiver, Sender, Tx, nothing_is_open};
 use std::alloc::{AllocError, Global};
-
-// The most bits of a transport block with a CRC of 16 bits, and not 24 (TS 38.212, 6.2.1 and 7.2.1).
-const MOST_WITH_CRC16: u32 = 3840;
 
 /// The receiving end of a transport block. It is made once something is received.
 #[derive(Drop)]
@@ -115,8 +112,7 @@ pub(crate) fn new_end<'t>(
     ensures room { IfOk result (λ end. end.count ≤ 2 ^ 64 - 2) }
 {
     nothing_is_open();
-    let a = block_size(sender.plan().b);
-    match Receiver::new(alloc, &inputs.table, inputs.settings, a) {
+    match Receiver::new(alloc, &inputs.table, inputs.settings, sender.a()) {
         Ok(receiver) => Ok(End {
             receiver,
             outcome: Outcome::Open,
@@ -126,14 +122,6 @@ pub(crate) fn new_end<'t>(
         // The sender has this link, so there is no other fault.
         Err(_) => unreachable!(),
     }
-}
-
-// How many bits a transport block has that has `b` with its CRC.
-fn block_size(b: u32) -> u32
-    requires { 16 ≤ b }
-    ensures { (a : ℕ) → b ≡ attached_length a → result ≡ a }
-{
-    if b > MOST_WITH_CRC16 { b - 24 } else { b - 16 }
 }
 
 // Hears a transmission.

@@ -3,5 +3,5 @@ use Rattle.nr_blockdesk.proofs.laws.words_are_plain.Goals as goal
 
 pub returns : goal.returns
 returns c =
-    words-plain c.attachment_lengthens.ensures.long c.attachment_lengthens.ensures.short c.code_blocks_are_long.ensures.bits
+    words-plain c.attachment_lengthens.ensures.block c.code_blocks_are_long.ensures.bits
     c.codewords_are_plain.ensures

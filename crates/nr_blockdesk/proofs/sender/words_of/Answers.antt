@@ -5,13 +5,12 @@ use Rattle.nr_crcattach.specs.Attachment.{attached}
 use Rattle.nr_ldpcenc.specs.Codeword.{codeword}
 use Rattle.nr_segment.specs.CodeBlock.{code_bits, numbers}
 use Rattle.nr_blockdesk.specs.Link.{word}
-use Rattle.nr_blockdesk.proofs.Links.{length-attached}
 use Rattle.nr_blockdesk.proofs.sender.words_of.Goals as goal
 
 pub cut-requires-clause-whole : goal.cut-requires-clause-whole
 cut-requires-clause-whole c =
     ap length c.in_ok-bits.ensures
-    ∙ length-attached c.attachment_lengthens.ensures.long c.attachment_lengthens.ensures.short c.args.block.now.items
+    ∙ c.attachment_lengthens.ensures.block c.args.block.now.items
     ∙ sym c.requires.whole
 
 pub encode-requires : goal.encode-requires
@@ -19,7 +18,7 @@ encode-requires c =
     let plan = c.args.plan.now in
     let whole : length c.in_ok-bits.bits.items ≡ plan.b =
     ap length c.in_ok-bits.ensures
-    ∙ length-attached c.attachment_lengthens.ensures.long c.attachment_lengthens.ensures.short c.args.block.now.items
+    ∙ c.attachment_lengthens.ensures.block c.args.block.now.items
     ∙ sym c.requires.whole in
     ap length c.in_ok-code.ensures
     ∙ c.code_blocks_are_long.ensures.bits plan.graph plan.b (numbers plan) c.in_ok-bits.bits.items c.loop-r.r plan.planned whole

@@ -1,14 +1,14 @@
 use Rattle.std.proofs.Common.{◌≡◌, ◌<◌, ◌≤◌, Bool, true, ◌++◌, List, length, get_or, drop, take, subst, sym, ap, ◌∙◌, arith}
 use Rattle.std.specs.Vec.{vec_len}
+use Rattle.nr_crcattach.specs.Attachment.{attached_length}
 use Rattle.nr_segment.specs.Plan.{word_size}
 use Rattle.nr_peel.specs.Peeling.{Peeling, checks_for}
-use Rattle.nr_blockdesk.specs.Link.{IsBlock, attached_length, link_of}
+use Rattle.nr_blockdesk.specs.Link.{IsBlock, link_of}
 use Rattle.nr_blockdesk.specs.Outcome.{ExplainedBy, all_fixed}
 use Rattle.nr_blockdesk.specs.Receiving.{AreWords, IsExplained, IsRead, Receiving}
 use Rattle.nr_blockdesk.proofs.Decided.{candidate-only, explained-by, explained-to, wide-peelers}
 use Rattle.nr_blockdesk.proofs.Hears.{written}
 use Rattle.nr_blockdesk.proofs.Kept.{kept-read}
-use Rattle.nr_blockdesk.proofs.Links.{length-attached}
 use Rattle.nr_blockdesk.proofs.receiver.Receiver.read.Goals as goal
 
 pub candidate-block-requires-clause-sized : goal.candidate-block-requires-clause-sized
@@ -24,7 +24,7 @@ attach_in_room-requires c =
     let inv = c.self.invariant in
     let whole : length c.candidate-block.result.items ≡ c.self.inside.a =
     c.candidate-block.ensures.long ∙ c.requires.long ∙ sym (ap (λ (v : Receiving). v.link.a) c.self.view_is) in
-    let long = length-attached c.attachment_lengthens.ensures.long c.attachment_lengthens.ensures.short c.candidate-block.result.items
+    let long = c.attachment_lengthens.ensures.block c.candidate-block.result.items
     ∙ ap attached_length whole in
     record { room = omega (arith, long, inv.whole, inv.room) }
 
@@ -33,7 +33,7 @@ explains-requires-clause-whole c =
     let whole : length c.candidate-block.result.items ≡ c.self.inside.a =
     c.candidate-block.ensures.long ∙ c.requires.long ∙ sym (ap (λ (v : Receiving). v.link.a) c.self.view_is) in
     ap length c.attach_in_room.ensures.items
-    ∙ length-attached c.attachment_lengthens.ensures.long c.attachment_lengthens.ensures.short c.candidate-block.result.items
+    ∙ c.attachment_lengthens.ensures.block c.candidate-block.result.items
     ∙ ap attached_length whole
     ∙ sym c.self.invariant.whole
 
@@ -47,7 +47,7 @@ invariant_of-self c =
     let all : all_fixed link s.stores.items ≡ true = ap (λ (v : Receiving). all_fixed v.link v.heard) c.self.view_is ∙ c.requires.all in
     let whole : IsBlock link bits = c.candidate-block.ensures.long ∙ c.requires.long ∙ sym (ap (λ (v : Receiving). v.link.a) c.self.view_is) in
     let only : (y : List Bool) → IsBlock link y → ExplainedBy link s.stores.items y → y ≡ bits =
-    candidate-only c.plans_are_sound.ensures c.words_are_plain.ensures c.attachment_lengthens.ensures.long c.attachment_lengthens.ensures.short
+    candidate-only c.plans_are_sound.ensures c.words_are_plain.ensures c.attachment_lengthens.ensures.block
     c.code_blocks_are_long.ensures.bits link s.stores.items s.peelers.items bits inv.is_link inv.desk all whole
     (λ i low. subst (λ (ps : List Peeling). IsRead link.plan ps bits i) c.deref.ensures.value
     (c.candidate-block.ensures.read i (subst (λ n. i < n) (sym (sym c.candidate-block.ensures.long ∙ whole)) low))) in
@@ -77,7 +77,7 @@ invariant_of-self-else-explains c =
     let all : all_fixed link s.stores.items ≡ true = ap (λ (v : Receiving). all_fixed v.link v.heard) c.self.view_is ∙ c.requires.all in
     let whole : IsBlock link bits = c.candidate-block.ensures.long ∙ c.requires.long ∙ sym (ap (λ (v : Receiving). v.link.a) c.self.view_is) in
     let only : (y : List Bool) → IsBlock link y → ExplainedBy link s.stores.items y → y ≡ bits =
-    candidate-only c.plans_are_sound.ensures c.words_are_plain.ensures c.attachment_lengthens.ensures.long c.attachment_lengthens.ensures.short
+    candidate-only c.plans_are_sound.ensures c.words_are_plain.ensures c.attachment_lengthens.ensures.block
     c.code_blocks_are_long.ensures.bits link s.stores.items s.peelers.items bits inv.is_link inv.desk all whole
     (λ i low. subst (λ (ps : List Peeling). IsRead link.plan ps bits i) c.deref.ensures.value
     (c.candidate-block.ensures.read i (subst (λ n. i < n) (sym (sym c.candidate-block.ensures.long ∙ whole)) low))) in
@@ -115,7 +115,7 @@ returns-else-explains-clause-decided c =
     let all : all_fixed link s.stores.items ≡ true = ap (λ (v : Receiving). all_fixed v.link v.heard) c.self.view_is ∙ c.requires.all in
     let whole : IsBlock link bits = c.candidate-block.ensures.long ∙ c.requires.long ∙ sym (ap (λ (v : Receiving). v.link.a) c.self.view_is) in
     let only : (y : List Bool) → IsBlock link y → ExplainedBy link s.stores.items y → y ≡ bits =
-    candidate-only c.plans_are_sound.ensures c.words_are_plain.ensures c.attachment_lengthens.ensures.long c.attachment_lengthens.ensures.short
+    candidate-only c.plans_are_sound.ensures c.words_are_plain.ensures c.attachment_lengthens.ensures.block
     c.code_blocks_are_long.ensures.bits link s.stores.items s.peelers.items bits inv.is_link inv.desk all whole
     (λ i low. subst (λ (ps : List Peeling). IsRead link.plan ps bits i) c.deref.ensures.value
     (c.candidate-block.ensures.read i (subst (λ n. i < n) (sym (sym c.candidate-block.ensures.long ∙ whole)) low))) in

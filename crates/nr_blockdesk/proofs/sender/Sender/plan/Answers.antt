@@ -1,6 +1,6 @@
 use Rattle.std.proofs.Common.{length, sym, ◌∙◌}
+use Rattle.nr_crcattach.specs.Attachment.{attached_length}
 use Rattle.nr_segment.specs.CodeBlock.{numbers}
-use Rattle.nr_blockdesk.specs.Link.{attached_length}
 use Rattle.nr_blockdesk.proofs.sender.Sender.plan.Goals as goal
 
 pub returns-clause-whole : goal.returns-clause-whole
