@@ -4,7 +4,7 @@ mod BlocksUnread
 mod ColumnNames
 mod DrawnFacts
 mod FurthestFacts
-mod MaskWords
+mod MaskMarks
 mod OctetDigits
 mod PlaceItems
 mod Reading

@@ -1,27 +1,18 @@
 -- The code blocks that a field of the schedule schedules.
-use Rattle.std.specs.Prelude.{◌≡◌, ℕ, ◌+◌, ◌*◌, ◌<◌, Bool, List, [], ◌∷◌, map, Option, Some, None, option_and_then}
-use Rattle.std.specs.Int.{from_bool}
+use Rattle.std.specs.Prelude.{◌≡◌, ℕ, ◌<◌, Bool, List, map, Option, Some, None, option_and_then}
 use Rattle.std.specs.List.{list_any, range_with_len}
 use Rattle.nr_files.specs.Erasures.{is_within, is_named}
 use Rattle.nr_files.specs.PlaceLists.{places_of}
 use Rattle.nr_ratematch.specs.Lengths.{scheduled}
+use Rattle.nr_ratematch.specs.Marks.{mask_words}
 use Rattle.nr_files.specs.declared.erasure.Places.{Places}
 use Rattle.nr_files.specs.declared.erasure.Places.TheVariants as places
 use Rattle.nr_ratematch.specs.declared.mask.Mask.{Mask}
 use Rattle.nr_ratematch.specs.declared.mask.Mask.TheVariants as mask
 
--- the number that bits write, the first of them lowest
-unfoldable pub mask_word_of : List Bool → ℕ
-mask_word_of [] = 0
-mask_word_of (b ∷ bits) = from_bool b + 2 * mask_word_of bits
-
--- the word of 64 bits of which bit j says whether code block first + j is scheduled
-unfoldable pub word_from : (ℕ → Bool) → ℕ → ℕ
-word_from is_on first = mask_word_of (map is_on (range_with_len first 64))
-
 -- the words for code blocks 0 to 383: code block r has bit r mod 64 of word r div 64
 abbrev pub mask_words_of : (ℕ → Bool) → List ℕ
-mask_words_of is_on = map (λ w. word_from is_on (64 * w)) (range_with_len 0 6)
+mask_words_of is_on = mask_words (map is_on (range_with_len 0 384))
 
 -- the code blocks of these places; that none is scheduled cannot be said
 abbrev pub mask_of_places : Places → Option Mask
@@ -34,5 +25,5 @@ unfoldable pub mask_of : List ℕ → Option Mask
 mask_of text = option_and_then mask_of_places (places_of text)
 
 -- the code blocks that are scheduled are those that these places name
-abbrev pub Schedules : Places → Mask → Type 0
-Schedules places mask = (r : ℕ) → r < 384 → scheduled mask r ≡ is_named places r
+abbrev pub IsMaskOf : Places → Mask → Type 0
+IsMaskOf places mask = (r : ℕ) → r < 384 → scheduled mask r ≡ is_named places r

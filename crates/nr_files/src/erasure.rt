@@ -121,7 +121,11 @@ fn drawn(alloc: Global, seed: u64, threshold: u32, count: u32) -> Result<Vec<boo
 
 // For each of the first `count` places whether it stands in a range. A place does where a range that begins at it or
 // before it ends behind it.
-fn listed(alloc: Global, ranges: &[PlaceRange], count: u32) -> Result<Vec<bool>, AllocError>
+pub(crate) fn listed(
+    alloc: Global,
+    ranges: &[PlaceRange],
+    count: u32,
+) -> Result<Vec<bool>, AllocError>
     ensures { IfOk result (λ marks. marks.items
         ≡ map (λ m. list_any (is_within m) ranges.now) (range_with_len 0 count)) }
 {

@@ -3,11 +3,10 @@
 ghost use Rattle.std.specs.Prelude.{◌≡◌, ◌==◌, ◌≤◌, IfOk, IfSome, length, option_map};
 ghost use Rattle.std.specs.List.{position};
 ghost use Rattle.nr_shifttable.specs.Fields.{numeral, short_number};
-ghost use Rattle.nr_files.specs.Erasures.{is_named};
-ghost use Rattle.nr_files.specs.Masks.{Schedules, mask_of, mask_word_of, mask_words_of};
+ghost use Rattle.nr_files.specs.Masks.{IsMaskOf, mask_of};
 ghost use Rattle.nr_files.specs.PlaceLists.{below, drawn_of_parts, erasure_of, parted, place_list, places_of, range_between, range_of};
 
-use crate::erasure::{Erasure, PlaceList, PlaceRange, Places, named};
+use crate::erasure::{Erasure, PlaceList, PlaceRange, Places, listed};
 use nr_ratematch::Mask;
 use nr_shifttable::{numeral, short_number};
 use std::alloc::{AllocError, Global};
@@ -156,40 +155,14 @@ fn drawn_of(text: &[u8]) -> Option<Erasure>
 pub fn mask_of(alloc: Global, text: &[u8]) -> Result<Option<Mask>, AllocError>
     ensures said { IfOk result (λ mask. mask ≡ mask_of text.now) }
     ensures schedules { IfOk result (λ mask. IfSome mask
-        (λ mask. IfSome (places_of text.now) (λ places. Schedules places mask))) }
+        (λ mask. IfSome (places_of text.now) (λ places. IsMaskOf places mask))) }
 {
     match places_of(alloc, text)? {
         Some(Places::All) => Ok(Some(Mask::All)),
-        Some(places @ Places::Listed(_)) => Ok(Some(Mask::Only(words_of(alloc, &places)?))),
+        Some(Places::Listed(list)) => {
+            let marks = listed(alloc, list.ranges(), MASK_BLOCKS)?;
+            Ok(Some(Mask::of_marks(&marks)))
+        }
         Some(Places::Nothing) | None => Ok(None),
     }
-}
-
-// The words that schedule the code blocks that are named.
-fn words_of(alloc: Global, places: &Places) -> Result<[u64; 6], AllocError>
-    ensures { IfOk result (λ words. words ≡ mask_words_of (is_named places.now)) }
-{
-    let marks = named(alloc, places, MASK_BLOCKS)?;
-    Ok([
-        word_of(&marks[..64]),
-        word_of(&marks[64..128]),
-        word_of(&marks[128..192]),
-        word_of(&marks[192..256]),
-        word_of(&marks[256..320]),
-        word_of(&marks[320..384]),
-    ])
-}
-
-// The number that at most 64 bits write, the first of them lowest.
-fn word_of(bits: &[bool]) -> u64
-    requires { length bits.now ≤ 64 }
-    ensures { result ≡ mask_word_of bits.now }
-{
-    let mut word = 0;
-    let mut at = bits.len();
-    while at > 0 {
-        at -= 1;
-        word = 2 * word + u64::from(bits[at]);
-    }
-    word
 }

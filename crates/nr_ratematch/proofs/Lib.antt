@@ -1,5 +1,6 @@
 mod Buffers
 mod LengthLemmas
+mod MarkWords
 mod Ranges
 mod Rounding
 mod Runs

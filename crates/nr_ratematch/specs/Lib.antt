@@ -1,4 +1,5 @@
 pub mod Lengths
+pub mod Marks
 pub mod Places
 pub mod Rounds
 pub mod Selection

@@ -1,7 +1,9 @@
 //! Which code blocks of a transmission are scheduled.
 
-ghost use Rattle.std.specs.Prelude.{◌≡◌, ◌<◌};
+ghost use Rattle.std.specs.Prelude.{◌≡◌, ℕ, ◌<◌, ◌≤◌, false, get_or, length};
 ghost use Rattle.nr_ratematch.specs.Lengths.{scheduled};
+ghost use Rattle.nr_ratematch.specs.Marks.{mask_word_of, mask_words};
+ghost use Rattle.nr_ratematch.specs.declared.mask.Mask.TheVariants.{Only};
 
 /// Which code blocks are scheduled for a transmission (TS 38.212, 5.4.2.1).
 #[derive(Clone, Copy, Debug, PartialEq, Eq)]
@@ -14,6 +16,23 @@ pub enum Mask {
 }
 
 impl Mask {
+    /// The mask that schedules the code blocks that are marked: one mark for each of 384, counted from 0 (TS 38.212,
+    /// 5.4.2.1). Takes no memory.
+    pub fn of_marks(marks: &[bool]) -> Mask
+        requires { length marks.now ≡ 384 }
+        ensures words { result ≡ Only (mask_words marks.now) }
+        ensures marked { (r : ℕ) → r < 384 → scheduled result r ≡ get_or marks.now r false }
+    {
+        Mask::Only([
+            word_of(&marks[..64]),
+            word_of(&marks[64..128]),
+            word_of(&marks[128..192]),
+            word_of(&marks[192..256]),
+            word_of(&marks[256..320]),
+            word_of(&marks[320..384]),
+        ])
+    }
+
     /// Whether code block `r`, below 384, is scheduled (TS 38.212, 5.4.2.1). Takes no memory.
     pub fn has(&self, r: u32) -> bool
         requires { r < 384 }
@@ -24,4 +43,18 @@ impl Mask {
             Mask::Only(words) => words[(r / 64) as usize] >> (r % 64) & 1 == 1,
         }
     }
+}
+
+// The number that at most 64 marks write, the first of them lowest.
+fn word_of(bits: &[bool]) -> u64
+    requires { length bits.now ≤ 64 }
+    ensures { result ≡ mask_word_of bits.now }
+{
+    let mut word = 0;
+    let mut at = bits.len();
+    while at > 0 {
+        at -= 1;
+        word = 2 * word + u64::from(bits[at]);
+    }
+    word
 }

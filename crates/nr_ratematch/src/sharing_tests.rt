@@ -65,4 +65,8 @@ fn masks(rt: HostRuntime) {
     assert!(rt; !ends.has(64));
     assert!(rt; ends.has(191));
     assert!(rt; !ends.has(190));
+    let mut marks = [false; 384];
+    marks[0] = true;
+    marks[191] = true;
+    assert_eq!(rt; Mask::of_marks(&marks), ends);
 }

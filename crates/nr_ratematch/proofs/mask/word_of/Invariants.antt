@@ -1,6 +1,6 @@
 use Rattle.std.proofs.Common.{◌≡◌, ◌≤◌, length, drop}
-use Rattle.nr_files.specs.Masks.{mask_word_of}
-use Rattle.nr_files.proofs.places.word_of.Given as goal
+use Rattle.nr_ratematch.specs.Marks.{mask_word_of}
+use Rattle.nr_ratematch.proofs.mask.word_of.Given as goal
 
 -- the number is that of the bits from place `at` on
 abbrev pub invariant-loop-at : goal.invariant-loop-at

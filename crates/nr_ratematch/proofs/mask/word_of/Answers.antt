@@ -1,7 +1,7 @@
 -- The bits are read from the last one to the first.
 use Rattle.std.proofs.Common.{◌<◌, ◌-◌, ◌^◌, false, get_or, arith}
-use Rattle.nr_files.proofs.MaskWords.{low_bit, word_of-end, word_of-next, word_of-room}
-use Rattle.nr_files.proofs.places.word_of.Goals as goal
+use Rattle.nr_ratematch.proofs.MarkWords.{low_bit, word_of-end, word_of-next, word_of-room}
+use Rattle.nr_ratematch.proofs.mask.word_of.Goals as goal
 
 pub loop-at-init : goal.loop-at-init
 loop-at-init c = record { inside = omega arith; so_far = word_of-end c.args.bits.now }

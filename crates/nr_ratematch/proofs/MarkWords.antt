@@ -1,18 +1,13 @@
--- The words of a mask: their bits are the named code blocks.
-use Rattle.std.proofs.Common.{◌≡◌, ℕ, zero, suc, ◌+◌, ◌-◌, ◌*◌, ◌/◌, ◌%◌, ◌^◌, ◌<◌, ◌≤◌, ◌==◌, Bool, true, false, List, [], ◌∷◌, length, map, take, drop, get_or, Option, Some, refl, ap, sym, ◌∙◌, subst, arith}
-use Rattle.std.specs.Prelude.{IfSome, slice_index}
+-- The words of a mask: their bits are its marks.
+use Rattle.std.proofs.Common.{◌≡◌, ℕ, zero, suc, ◌+◌, ◌-◌, ◌*◌, ◌/◌, ◌%◌, ◌^◌, ◌<◌, ◌≤◌, ◌==◌, Bool, true, false, List, [], ◌∷◌, length, take, drop, get_or, refl, ap, sym, ◌∙◌, arith}
+use Rattle.std.specs.Prelude.{slice_index}
 use Rattle.std.specs.Int.{bit_at, from_bool}
-use Rattle.std.specs.List.{range_with_len}
 use Rattle.std.proofs.Math.Nat.{pow-suc}
 use Rattle.std.proofs.Math.Pow.{pow_mono}
-use Rattle.std.proofs.lemmas.List.{drop_all, drop_more, get_or_default, length-drop}
-use Rattle.std.proofs.lemmas.List.FromFn.{get_or-map-range_with_len, take-map-range_with_len}
+use Rattle.std.proofs.lemmas.List.{drop_all, drop_more, get_or-drop, get_or-take, get_or_default, length-drop}
+use Rattle.std.proofs.lemmas.List.FromFn.{get_or-map-range_with_len}
 use Rattle.std.proofs.lemmas.Nat.Bits.{bit_at_lowest, bit_at-suc, bit_at-zero}
-use Rattle.nr_files.specs.Erasures.{is_named}
-use Rattle.nr_files.specs.Masks.{Schedules, word_from, mask_word_of, mask_words_of}
-use Rattle.nr_files.specs.declared.erasure.Places.{Places}
-use Rattle.nr_ratematch.specs.declared.mask.Mask.{Mask}
-use Rattle.nr_ratematch.specs.declared.mask.Mask.TheVariants as mask
+use Rattle.nr_ratematch.specs.Marks.{mask_word_of, mask_words}
 
 -- n bits write a number below 2 ^ n
 pub word_of-small : (bits : List Bool) → mask_word_of bits < 2 ^ length bits
@@ -68,46 +63,19 @@ word_of-bit (b ∷ bits) (suc j) =
     ap (λ n. n == 1) (bit_at-suc (from_bool b + 2 * mask_word_of bits) j ∙ ap (λ n. bit_at n j) (halved b (mask_word_of bits)))
     ∙ word_of-bit bits j
 
--- the numbers behind the first k
-drop-range : (f : ℕ → Bool) (a k n : ℕ) → drop k (map f (range_with_len a (k + n))) ≡ map f (range_with_len (a + k) n)
-drop-range f a zero n =
-    let all : 0 + n ≡ n = omega arith in
-    let here : a + 0 ≡ a = omega arith in
-    rw (all, here) refl
-drop-range f a (suc k) n =
-    let longer : suc k + n ≡ suc (k + n) = omega arith in
-    let later : a + 1 + k ≡ a + suc k = omega arith in
-    rw (longer, sym later) (drop-range f (a + 1) k n)
-
--- the word that 64 of the marks from `first` on write
-pub word_of-marks : (is_on : ℕ → Bool) (marks : List Bool) (first n : ℕ) → marks ≡ map is_on (range_with_len 0 (first + n)) → 64 ≤ n → mask_word_of (take 64 (drop first marks)) ≡ word_from is_on first
-unfolding word_from
-word_of-marks is_on marks first n is enough =
-    let start : 0 + first ≡ first = omega arith in
-    ap (λ xs. mask_word_of (take 64 (drop first xs))) is
-    ∙ ap (λ xs. mask_word_of (take 64 xs)) (drop-range is_on 0 first n)
-    ∙ ap (λ a. mask_word_of (take 64 (map is_on (range_with_len a n)))) start
-    ∙ ap mask_word_of (take-map-range_with_len is_on first n 64 enough)
-
--- code block r has its bit in its word
-word_from-bit : (is_on : ℕ → Bool) (first j r : ℕ) → j < 64 → first + j ≡ r → (bit_at (word_from is_on first) j == 1) ≡ is_on r
-unfolding word_from
-word_from-bit is_on first j r h is = word_of-bit (map is_on (range_with_len first 64)) j ∙ get_or-map-range_with_len is_on first 64 j r false h is
-
-words_of-bit : (is_on : ℕ → Bool) (r : ℕ) → r < 384 → (bit_at (slice_index (mask_words_of is_on) (r / 64)) (r % 64) == 1) ≡ is_on r
-words_of-bit is_on r h =
-    let word : slice_index (mask_words_of is_on) (r / 64) ≡ word_from is_on (64 * (r / 64)) =
-    get_or-map-range_with_len (λ w. word_from is_on (64 * w)) 0 6 (r / 64) (r / 64) 0 (omega arith) (omega arith) in
-    ap (λ n. bit_at n (r % 64) == 1) word ∙ word_from-bit is_on (64 * (r / 64)) (r % 64) r (omega arith) (omega arith)
-
--- words that are those of the named places
-pub words-schedule : (named : Places) (words : List ℕ) → words ≡ mask_words_of (is_named named) → Schedules named (mask.Only words)
-words-schedule named words is = λ r h. ap (λ ws. bit_at (slice_index ws (r / 64)) (r % 64) == 1) is ∙ words_of-bit (is_named named) r h
-
--- what holds of the places that were read
-pub read_places : (said : Option Places) (named : Places) (m : Mask) → said ≡ Some named → Schedules named m → IfSome said (λ places. Schedules places m)
-read_places said named m is holds = subst (λ o. IfSome o (λ places. Schedules places m)) (sym is) holds
-
 -- six words, each by itself
 pub six-words : {a b c d e f s t u v w x : ℕ} → a ≡ s → b ≡ t → c ≡ u → d ≡ v → e ≡ w → f ≡ x → a ∷ b ∷ c ∷ d ∷ e ∷ f ∷ [] ≡ s ∷ t ∷ u ∷ v ∷ w ∷ x ∷ []
 six-words p q r y z o = rw (p, q, r, y, z, o) refl
+
+-- mark first + j is mark j of those from `first` on
+mark-within : (marks : List Bool) (first j r : ℕ) → j < 64 → first + j ≡ r → get_or (take 64 (drop first marks)) j false ≡ get_or marks r false
+mark-within marks first j r h is = get_or-take 64 (drop first marks) j false h ∙ get_or-drop first marks j false ∙ ap (λ n. get_or marks n false) is
+
+-- mark r is its bit in its word
+pub words_of-bit : (marks : List Bool) (r : ℕ) → r < 384 → (bit_at (slice_index (mask_words marks) (r / 64)) (r % 64) == 1) ≡ get_or marks r false
+words_of-bit marks r h =
+    let word : slice_index (mask_words marks) (r / 64) ≡ mask_word_of (take 64 (drop (64 * (r / 64)) marks)) =
+    get_or-map-range_with_len (λ w. mask_word_of (take 64 (drop (64 * w) marks))) 0 6 (r / 64) (r / 64) 0 (omega arith) (omega arith) in
+    ap (λ n. bit_at n (r % 64) == 1) word
+    ∙ word_of-bit (take 64 (drop (64 * (r / 64)) marks)) (r % 64)
+    ∙ mark-within marks (64 * (r / 64)) (r % 64) r (omega arith) (omega arith)
