@@ -1,6 +1,6 @@
 -- The codewords of plans and accepted tables.
-use Rattle.std.proofs.Common.{◌≡◌, ℕ, zero, suc, ◌+◌, ◌-◌, ◌*◌, ◌<◌, ◌≤◌, ◌==◌, nat_lt, nat_le, Bool, true, false, not, ◌&&◌, cond, List, ◌++◌, length, take, get_or, replicate, refl, sym, ap, subst, ◌∙◌, arith, lit≤}
-use Rattle.std.specs.Prelude.{Option, Some, None, Ok}
+use Rattle.std.proofs.Common.{◌≡◌, ℕ, ◌+◌, ◌-◌, ◌*◌, ◌<◌, ◌≤◌, ◌==◌, nat_lt, nat_le, Bool, true, false, not, cond, List, length, take, replicate, refl, sym, ap, subst, ◌∙◌, arith, lit≤}
+use Rattle.std.specs.Prelude.{Option, Some, None}
 use Rattle.std.proofs.lemmas.Bool.{and_parts}
 use Rattle.std.proofs.lemmas.Bool.Decides.{nat_tests}
 use Rattle.std.proofs.Math.Nat.{mul-le-mul_right}
@@ -12,11 +12,11 @@ use Rattle.nr_graphpick.specs.Graph.{rows_of, cols_of, info_cols_of}
 use Rattle.nr_lifting.specs.Sizes.{is_in, set_index, set_0, set_1, set_2, set_3, set_4, set_5, set_6, set_7}
 use Rattle.nr_segment.specs.CodeBlock.{with_fillers}
 use Rattle.nr_segment.specs.Plan.{Numbers, IsSound}
-use Rattle.nr_shifttable.specs.Accepted.{Entries, entries_in, has_graph}
+use Rattle.nr_shifttable.specs.Accepted.{Entries, entries_in}
 use Rattle.nr_shifttable.specs.CoreRows.{CoreSum}
 use Rattle.nr_shifttable.specs.Tails.{HasShape}
 use Rattle.nr_ldpcenc.specs.Rows.{block_checks, checks_of}
-use Rattle.nr_ldpcenc.specs.Codeword.{IsWordOf, completed, HasOneWord, codeword, filler, IsPlain, IsCodeword}
+use Rattle.nr_ldpcenc.specs.Codeword.{IsWordOf, completed, HasOneWord, codeword, IsCodeword}
 use Rattle.nr_ldpcenc.specs.Solving.{word_of, IsSolvedTo, AgreeBelow}
 use Rattle.nr_ldpcenc.proofs.Words.{word_of-is, word_of-only, solved-is}
 
@@ -50,6 +50,10 @@ pub columns-are : (g : Graph) → cols_of g ≡ info_cols_of g + rows_of g
 columns-are One = refl
 columns-are Two = refl
 
+pub columns_few : (g : Graph) → cols_of g ≤ 68
+columns_few One = lit≤ tt
+columns_few Two = lit≤ tt
+
 pub rows_four : (g : Graph) → 4 ≤ rows_of g
 rows_four One = lit≤ tt
 rows_four Two = lit≤ tt
@@ -61,7 +65,7 @@ has_some n h = grind (arith, nat_tests)
 checks-are : (t : Entries) (g : Graph) (p : Numbers) → checks_of (entries_in g t) p.set p.z (rows_of g) (info_cols_of g + rows_of g) ≡ block_checks t g p
 checks-are t g p = ap (checks_of (entries_in g t) p.set p.z (rows_of g)) (sym (columns-are g))
 
-take_agree : (k : ℕ) (a b : List Bool) → length a ≡ length b → AgreeBelow k (bit a) (bit b) → take k a ≡ take k b
+pub take_agree : (k : ℕ) (a b : List Bool) → length a ≡ length b → AgreeBelow k (bit a) (bit b) → take k a ≡ take k b
 take_agree k a b same agree = same_lists (take k a) (take k b) (omega (arith, length-take k a, length-take k b))
     (λ j d lt.
     let low : j < k = omega (arith, length-take k a) in

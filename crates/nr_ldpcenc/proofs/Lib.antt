@@ -6,3 +6,6 @@ pub mod Codes
 pub mod Adding
 pub mod Solved
 pub mod Written
+pub mod Shifts
+pub mod TwoCopies
+pub mod TurnedSums

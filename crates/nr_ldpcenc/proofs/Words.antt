@@ -1,5 +1,5 @@
 -- The one word of a list of information bits, for a base graph of an accepted shape.
-use Rattle.std.proofs.Common.{◌≡◌, ℕ, zero, suc, ◌+◌, ◌-◌, ◌*◌, ◌<◌, ◌≤◌, Bool, false, List, length, take, get_or, refl, sym, ap, subst, ◌∙◌, arith}
+use Rattle.std.proofs.Common.{◌≡◌, ℕ, ◌+◌, ◌-◌, ◌*◌, ◌<◌, ◌≤◌, Bool, false, List, length, take, sym, ap, subst, ◌∙◌, arith}
 use Rattle.std.proofs.Math.Nat.{mul-le-mul_right}
 use Rattle.std.proofs.lemmas.List.{same_lists, get_or-take, length-take, get_or_default}
 use Rattle.std.proofs.lemmas.List.FromFn.{get_or-map-range_with_len, length-map-range_with_len}
@@ -10,7 +10,7 @@ use Rattle.nr_shifttable.specs.Tails.{HasShape}
 use Rattle.nr_ldpcenc.specs.Rows.{checks_of}
 use Rattle.nr_ldpcenc.specs.Codeword.{IsWordOf}
 use Rattle.nr_ldpcenc.specs.Solving.{with_columns, word_of, AgreeBelow, IsSolvedTo}
-use Rattle.nr_ldpcenc.proofs.Columns.{Built, agree_narrow, agree_then, agree_back, columns_built, meets_from_solved, solved_from_meets, solved_same, solved_agree}
+use Rattle.nr_ldpcenc.proofs.Columns.{agree_narrow, agree_then, agree_back, columns_built, meets_from_solved, solved_from_meets, solved_same, solved_agree}
 
 -- a word that begins with some bits has them
 begins-agree : (info w : List Bool) → take (length info) w ≡ info → AgreeBelow (length info) (bit w) (bit info)

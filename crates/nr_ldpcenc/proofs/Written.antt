@@ -1,11 +1,11 @@
 -- Bits that are written into a list 64 at a time.
-use Rattle.std.proofs.Common.{◌≡◌, ℕ, zero, suc, ◌+◌, ◌-◌, ◌*◌, ◌<◌, ◌≤◌, ◌==◌, nat_lt, min, Bool, true, false, List, length, replicate, refl, sym, ap, subst, ◌∙◌, arith}
+use Rattle.std.proofs.Common.{◌≡◌, ℕ, ◌+◌, ◌-◌, ◌*◌, ◌<◌, ◌≤◌, ◌==◌, nat_lt, min, Bool, true, false, List, length, replicate, refl, sym, ap, subst, ◌∙◌, arith}
 use Rattle.std.specs.Int.{bit_at}
 use Rattle.std.proofs.lemmas.Bool.Decides.{nat_tests}
 use Rattle.std.proofs.lemmas.List.{get_or-replicate, get_or_past, length-replicate}
 use Rattle.std.proofs.lemmas.Nat.Bits.{bit_at-zero}
 use Rattle.nr_bitvec.specs.Bit.{bit}
-use Rattle.nr_ldpcenc.specs.Solving.{PutsBlock, Copies}
+use Rattle.nr_ldpcenc.specs.Solving.{IsClearedTo, Copies}
 
 below : (a b : ℕ) → nat_lt a b ≡ true → a < b
 below a b h = grind (arith, nat_tests)
@@ -24,25 +24,25 @@ zero_bit n j = by_place (nat_lt j n) refl
 zero_word : (k : ℕ) → (bit_at 0 k == 1) ≡ false
 zero_word k = ap (λ b. b == 1) (bit_at-zero k)
 
--- one more word of a block is cleared
-pub cleared_more : (z at i count : ℕ) (old xs ys : List Bool) → count ≡ min (z - 64 * i) 64 → PutsBlock (min (64 * i) z) xs old at (λ t. false) 0
+-- one more word is cleared
+pub cleared_more : (n at i count : ℕ) (old xs ys : List Bool) → count ≡ min (n - at - 64 * i) 64 → IsClearedTo (min (at + 64 * i) n) at xs old
     → ((t : ℕ) → t < count → bit ys ((at + 64 * i) + t) ≡ (bit_at 0 t == 1))
     → ((t : ℕ) → t < at + 64 * i → bit ys t ≡ bit xs t) → length ys ≡ length xs
-    → PutsBlock (min (64 * (i + 1)) z) ys old at (λ t. false) 0
-cleared_more z at i count old xs ys is_count done within before long = record {
-  within = λ t lt. by_place t lt (nat_lt t (64 * i)) refl;
+    → IsClearedTo (min (at + 64 * (i + 1)) n) at ys old
+cleared_more n at i count old xs ys is_count done within before long = record {
+  zeros = λ t le lt. by_place t le lt (nat_lt t (at + 64 * i)) refl;
   before = λ p lt. done.before p lt ∙ sym (before p (omega arith));
   long = long ∙ done.long;
 }
   where
-    by_place : (t : ℕ) → t < min (64 * (i + 1)) z → (b : Bool) → nat_lt t (64 * i) ≡ b → bit ys (at + t) ≡ false
-    by_place t lt true h =
-        let low : t < 64 * i = below t (64 * i) h in
-        before (at + t) (omega arith) ∙ done.within t (omega arith)
-    by_place t lt false h =
-        let high : 64 * i ≤ t = from t (64 * i) h in
-        let place : (at + 64 * i) + (t - 64 * i) ≡ at + t = omega arith in
-        ap (bit ys) (sym place) ∙ within (t - 64 * i) (omega arith) ∙ zero_word (t - 64 * i)
+    by_place : (t : ℕ) → at ≤ t → t < min (at + 64 * (i + 1)) n → (b : Bool) → nat_lt t (at + 64 * i) ≡ b → bit ys t ≡ false
+    by_place t le lt true h =
+        let low : t < at + 64 * i = below t (at + 64 * i) h in
+        before t low ∙ done.zeros t le (omega arith)
+    by_place t le lt false h =
+        let high : at + 64 * i ≤ t = from t (at + 64 * i) h in
+        let place : (at + 64 * i) + (t - (at + 64 * i)) ≡ t = omega arith in
+        ap (bit ys) (sym place) ∙ within (t - (at + 64 * i)) (omega arith) ∙ zero_word (t - (at + 64 * i))
 
 -- one more word is copied
 pub copied_more : (n i word count : ℕ) (src old xs ys : List Bool) → count ≡ min (n - 64 * i) 64 → 64 * i < n → Copies (min (64 * i) n) n src old xs

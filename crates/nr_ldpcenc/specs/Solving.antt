@@ -1,13 +1,10 @@
 -- The parity columns of a word, computed: what the one codeword is made of. What it promises stands in Codeword: the
 -- word meets every row, and no other does.
-use Rattle.std.specs.Prelude.{◌≡◌, ℕ, zero, suc, ◌+◌, ◌-◌, ◌*◌, ◌/◌, ◌%◌, ◌<◌, ◌≤◌, ◌==◌, nat_lt, Bool, if◌then◌else◌, List, map, filter, length, Option, Some, None, option_map, unwrap_or, slice_index}
+use Rattle.std.specs.Prelude.{◌≡◌, ℕ, zero, suc, ◌+◌, ◌-◌, ◌*◌, ◌/◌, ◌%◌, ◌<◌, ◌≤◌, ◌==◌, nat_lt, Bool, false, if◌then◌else◌, List, map, filter, length, Option, Some, None, option_map, unwrap_or, slice_index}
 use Rattle.std.specs.List.{range_with_len}
 use Rattle.nr_bitvec.specs.Bit.{◌⊕◌, bit}
-use Rattle.nr_graphpick.specs.declared.Graph.{Graph}
-use Rattle.nr_graphpick.specs.Graph.{info_cols_of}
-use Rattle.nr_segment.specs.Plan.{Numbers}
 use Rattle.nr_shifttable.specs.declared.entry.Entry.{Entry}
-use Rattle.nr_shifttable.specs.Accepted.{Entries, entries_in, row_of, values_at}
+use Rattle.nr_shifttable.specs.Accepted.{row_of, values_at}
 use Rattle.nr_shifttable.specs.CoreRows.{third_of}
 use Rattle.nr_shifttable.specs.Tails.{value_in}
 use Rattle.nr_ldpcenc.specs.Parity.{parity}
@@ -72,19 +69,11 @@ pub record IsSolvedTo (es : List Entry) (set n z lim : ℕ) (w : ℕ → Bool) :
   pub first : (t : ℕ) → t < z → w (one_at z t n (core_rotation es set n)) ≡ core_sum es set z w n t
   pub later : (i t : ℕ) → 1 ≤ i → i < lim → t < z → w (one_at z t (n + i) 0) ≡ head_sum es set z w (n + i) (row_ending i) t
 
--- the parity columns below n + lim of a code block's word are solved
-abbrev pub IsSolved : Entries → Graph → Numbers → ℕ → List Bool → Type 0
-IsSolved t g p lim word = IsSolvedTo (entries_in g t) p.set (info_cols_of g) p.z lim (bit word)
-
--- the z bits from bit `at` on become those of a block, rotated by p; no bit before them is another
-pub record PutsBlock (z : ℕ) (new old : List Bool) (at : ℕ) (block : ℕ → Bool) (p : ℕ) : Type 0 where
-  pub within : (t : ℕ) → t < z → bit new (at + t) ≡ block ((t + p) % z)
-  pub before : AgreeBelow at (bit old) (bit new)
+-- the bits from bit `from` on and below n are zeros, and no bit before them is another
+pub record IsClearedTo (n from : ℕ) (new old : List Bool) : Type 0 where
+  pub zeros : (t : ℕ) → from ≤ t → t < n → bit new t ≡ false
+  pub before : AgreeBelow from (bit old) (bit new)
   pub long : length new ≡ length old
-
--- the sum of the four core rows of a code block over its information columns
-abbrev pub core_of : Entries → Graph → Numbers → List Bool → ℕ → Bool
-core_of t g p word u = core_sum (entries_in g t) p.set p.z (bit word) (info_cols_of g) u
 
 -- the first bits of a list, as far as m, are those of another, and its bits from n on are as they were
 pub record Copies (m n : ℕ) (src old new : List Bool) : Type 0 where

@@ -11,7 +11,7 @@ ghost use Rattle.nr_shifttable.specs.Accepted.{entries_in, has_graph, IsInRange}
 use crate::fault::EncFault;
 use crate::laws::codewords_are_plain;
 use crate::solver::set_in;
-use crate::word::{Word, fill};
+use crate::word::Word;
 use nr_bitvec::Bits;
 use nr_segment::Plan;
 use nr_shifttable::{Entry, Table};
@@ -41,7 +41,7 @@ pub fn encode(alloc: Global, table: &Table, plan: &Plan, bits: &Bits) -> Result<
         return Err(EncFault::Memory);
     };
     word.begin(bits);
-    fill(table, plan, &mut word);
+    word.finish(table, plan);
     Ok(word)
 }
 

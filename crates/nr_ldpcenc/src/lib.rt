@@ -5,10 +5,14 @@
 //! Stands on nr_bitvec, nr_lifting, nr_graphpick, nr_segment and nr_shifttable, with `thiserror` for the fault.
 #![tactic(auto)]
 
+mod columns_twice;
 mod encoder;
 mod fault;
+mod lanes;
 mod laws;
+mod solve_sizes;
 mod solver;
+mod with_size;
 mod word;
 
 pub use encoder::{encode, meets};

@@ -1,73 +1,25 @@
 //! The parity columns of a word, solved one after another: the first from the sum of the four core rows, in which all
-//! else cancels, and each later one from the row that it is the last of.
+//! else cancels, and each later one from the row that it is the last of. A row's sum stays in words from its first entry
+//! to its last.
 
-ghost use Rattle.std.specs.Prelude.{◌≡◌, ℕ, ◌+◌, ◌*◌, ◌<◌, ◌≤◌, false, length, take, unwrap_or, IsTrue};
-ghost use Rattle.nr_bitvec.specs.Bit.{◌⊕◌, bit};
-ghost use Rattle.nr_graphpick.specs.Graph.{info_cols_of, rows_of};
+ghost use Rattle.std.specs.Prelude.{◌≡◌, ℕ, ◌+◌, ◌*◌, ◌<◌, ◌≤◌, ◌==◌, false, length, take, unwrap_or, IsTrue};
+ghost use Rattle.nr_bitvec.specs.Bit.{bit};
+ghost use Rattle.nr_bitvec.specs.Packed.{place, IsClear};
+ghost use Rattle.nr_graphpick.specs.Graph.{info_cols_of, cols_of, rows_of};
 ghost use Rattle.nr_ldpcenc.specs.Codeword.{completed, IsWordOf};
+ghost use Rattle.nr_ldpcenc.specs.Doubled.{col_bit, AreTwice, HasColumns};
 ghost use Rattle.nr_ldpcenc.specs.Rows.{plan_checks};
-ghost use Rattle.nr_ldpcenc.specs.Solving.{sum_before, core_of, shift_at, either, core_rotation, AgreeBelow, IsSolved, PutsBlock};
-ghost use Rattle.nr_lifting.specs.Blocks.{IsSize};
+ghost use Rattle.nr_ldpcenc.specs.Solving.{core_sum, shift_at, either, core_rotation, AgreeBelow, IsSolvedTo};
 ghost use Rattle.nr_segment.specs.CodeBlock.{positions_of, numbers};
-ghost use Rattle.nr_shifttable.specs.Accepted.{entries_in, has_graph};
+ghost use Rattle.nr_shifttable.specs.Accepted.{entries_in, has_graph, IsTable};
 ghost use Rattle.nr_shifttable.specs.CoreRows.{third_of};
 
+use crate::columns_twice::{add_row, load_columns, put_block};
+use crate::lanes::{clip, rotated};
 use nr_bitvec::Bits;
-use nr_lifting::add_block;
 use nr_segment::Plan;
+use nr_shifttable::Table;
 use nr_shifttable::laws::{accepted_shape, core_rows_add_up};
-use nr_shifttable::{Entry, Table};
-
-// Makes z bits zero.
-fn clear_block(z: usize, bits: &mut Bits, at: usize)
-    requires { at + z ≤ length bits.old.items }
-    ensures { PutsBlock z bits.new.items bits.old.items at (λ t. false) 0 }
-{
-    // A list has at most 2^24 bits, so no place below overflows.
-    let _ = bits.len();
-    for i in 0..z.div_ceil(64) {
-        bits.put(at + 64 * i, (z - 64 * i).min(64), 0);
-    }
-}
-
-// Puts the first z bits of a block, rotated, in the place of others.
-fn put_block(z: usize, bits: &mut Bits, at: usize, block: &Bits, p: usize)
-    requires size { IsSize z }
-    requires inside { at + z ≤ length bits.old.items }
-    requires block { z ≤ length block.now.items }
-    requires turn { p < z }
-    ensures { PutsBlock z bits.new.items bits.old.items at (bit block.now.items) p }
-{
-    clear_block(z, bits, at);
-    add_block(z, bits, at, block, 0, p);
-}
-
-// Adds to the first z bits of `sums` what a row of blocks has before a column.
-fn add_row(z: usize, set: usize, row: &[Entry], before: usize, bits: &Bits, sums: &mut Bits)
-    requires size { IsSize z }
-    requires set { set < 8 }
-    requires inside { before * z ≤ length bits.now.items }
-    requires block { z ≤ length sums.old.items }
-    ensures sum { (t : ℕ) → t < z → bit sums.new.items t
-        ≡ bit sums.old.items t ⊕ sum_before set z (bit bits.now.items) before t row.now }
-    ensures long { length sums.new.items ≡ length sums.old.items }
-{
-    // A list has at most 2^24 bits, so no place below overflows.
-    let _ = bits.len();
-    for entry in row {
-        let col = usize::from(entry.col);
-        if col < before {
-            add_block(
-                z,
-                sums,
-                0,
-                bits,
-                col * z,
-                usize::from(entry.values[set]) % z,
-            );
-        }
-    }
-}
 
 // The set index of a plan's lifting size.
 pub fn set_in(plan: &Plan) -> u32
@@ -125,112 +77,148 @@ fn rotation_of(table: &Table, plan: &Plan) -> u16
     third_value(first, middle, last)
 }
 
-// Sums up what the four core rows have before the first parity column.
-fn sum_core(table: &Table, plan: &Plan, bits: &Bits, sums: &mut Bits)
-    requires long { length bits.now.items ≡ positions_of plan.now }
-    requires sums { length sums.old.items ≡ 384 }
-    ensures sum { (t : ℕ) → t < plan.now.z → bit sums.new.items t
-        ≡ core_of table.now plan.now.graph (numbers plan.now) bits.now.items t }
-    ensures sums { length sums.new.items ≡ 384 }
+// The sum of what the four core rows have before the first parity column.
+fn sum_core<const Z: usize, const W: usize>(table: &Table, plan: &Plan, cols: &[u64]) -> [u64; W]
+    requires above { 64 * W < Z + 64 }
+    requires below { Z ≤ 64 * W }
+    requires some { 0 < Z }
+    requires most { W ≤ 6 }
+    requires words { length cols.now ≡ 816 }
+    requires twice { AreTwice Z (info_cols_of plan.now.graph) cols.now }
+    ensures table { IsTable table.now }
+    ensures sum { (t : ℕ) → t < Z → (place result t == 1)
+        ≡ core_sum (entries_in plan.now.graph table.now) plan.now.set Z (col_bit Z cols.now)
+        (info_cols_of plan.now.graph) t }
+    ensures clear { IsClear result Z }
 {
-    let z = plan.z as usize;
     let set = set_in(plan) as usize;
     let columns = plan.graph.info_cols() as usize;
-    clear_block(z, sums, 0);
-    add_row(
-        z,
+    let mut sum = [0; W];
+    add_row::<Z, W>(
         set,
         table.row_entries(plan.graph, 0),
         columns,
-        bits,
-        sums,
+        cols,
+        &mut sum,
     );
-    add_row(
-        z,
+    add_row::<Z, W>(
         set,
         table.row_entries(plan.graph, 1),
         columns,
-        bits,
-        sums,
+        cols,
+        &mut sum,
     );
-    add_row(
-        z,
+    add_row::<Z, W>(
         set,
         table.row_entries(plan.graph, 2),
         columns,
-        bits,
-        sums,
+        cols,
+        &mut sum,
     );
-    add_row(
-        z,
+    add_row::<Z, W>(
         set,
         table.row_entries(plan.graph, 3),
         columns,
-        bits,
-        sums,
+        cols,
+        &mut sum,
     );
+    clip::<Z, W>(&mut sum);
+    sum
 }
 
 // Solves the first parity column: the sum of the four core rows is this column alone, rotated.
-fn solve_first(table: &Table, plan: &Plan, bits: &mut Bits, sums: &mut Bits)
-    requires long { length bits.old.items ≡ positions_of plan.now }
-    requires sums { length sums.old.items ≡ 384 }
-    ensures solved { IsSolved table.now plan.now.graph (numbers plan.now) 1 bits.new.items }
-    ensures kept { AgreeBelow plan.now.k (bit bits.old.items) (bit bits.new.items) }
+fn solve_first<const Z: usize, const W: usize>(
+    table: &Table,
+    plan: &Plan,
+    cols: &mut [u64],
+    bits: &mut Bits,
+)
+    requires above { 64 * W < Z + 64 }
+    requires below { Z ≤ 64 * W }
+    requires some { 0 < Z }
+    requires most { W ≤ 6 }
+    requires long { length bits.old.items ≡ cols_of plan.now.graph * Z }
+    requires columns { HasColumns Z (info_cols_of plan.now.graph) cols.old bits.old.items }
+    ensures table { IsTable table.now }
+    ensures solved { IsSolvedTo (entries_in plan.now.graph table.now) plan.now.set
+        (info_cols_of plan.now.graph) Z 1 (bit bits.new.items) }
+    ensures columns { HasColumns Z (info_cols_of plan.now.graph + 1) cols.new bits.new.items }
+    ensures kept { AgreeBelow (info_cols_of plan.now.graph * Z)
+        (bit bits.old.items) (bit bits.new.items) }
     ensures long { length bits.new.items ≡ length bits.old.items }
-    ensures sums { length sums.new.items ≡ 384 }
 {
-    let z = plan.z as usize;
-    let rotation = usize::from(rotation_of(table, plan)) % z;
-    sum_core(table, plan, bits, sums);
-    put_block(z, bits, plan.k as usize, sums, (z - rotation) % z);
+    let rotation = usize::from(rotation_of(table, plan)) % Z;
+    let sum = sum_core::<Z, W>(table, plan, cols);
+    let block = rotated::<Z, W>(&sum, (Z - rotation) % Z);
+    put_block::<Z, W>(plan.graph.info_cols() as usize, cols, bits, &block);
 }
 
 // Solves parity column `i`, counted from the first one, from the row that it is the last of.
-fn solve_next(table: &Table, plan: &Plan, i: u32, bits: &mut Bits, sums: &mut Bits)
+fn solve_next<const Z: usize, const W: usize>(
+    table: &Table,
+    plan: &Plan,
+    i: u32,
+    cols: &mut [u64],
+    bits: &mut Bits,
+)
+    requires above { 64 * W < Z + 64 }
+    requires below { Z ≤ 64 * W }
+    requires some { 0 < Z }
+    requires most { W ≤ 6 }
     requires after { 1 ≤ i }
     requires last { i < rows_of plan.now.graph }
-    requires solved { IsSolved table.now plan.now.graph (numbers plan.now) i bits.old.items }
-    requires long { length bits.old.items ≡ positions_of plan.now }
-    requires sums { length sums.old.items ≡ 384 }
-    ensures solved { IsSolved table.now plan.now.graph (numbers plan.now) (i + 1) bits.new.items }
-    ensures kept { AgreeBelow plan.now.k (bit bits.old.items) (bit bits.new.items) }
+    requires long { length bits.old.items ≡ cols_of plan.now.graph * Z }
+    requires columns { HasColumns Z (info_cols_of plan.now.graph + i) cols.old bits.old.items }
+    requires solved { IsSolvedTo (entries_in plan.now.graph table.now) plan.now.set
+        (info_cols_of plan.now.graph) Z i (bit bits.old.items) }
+    ensures solved { IsSolvedTo (entries_in plan.now.graph table.now) plan.now.set
+        (info_cols_of plan.now.graph) Z (i + 1) (bit bits.new.items) }
+    ensures columns { HasColumns Z (info_cols_of plan.now.graph + (i + 1)) cols.new
+        bits.new.items }
+    ensures kept { AgreeBelow (info_cols_of plan.now.graph * Z)
+        (bit bits.old.items) (bit bits.new.items) }
     ensures long { length bits.new.items ≡ length bits.old.items }
-    ensures sums { length sums.new.items ≡ 384 }
 {
-    let z = plan.z as usize;
     let set = set_in(plan) as usize;
     let column = (plan.graph.info_cols() + i) as usize;
     let row = if i < 3 { i - 1 } else { i };
-    clear_block(z, sums, 0);
-    add_row(
-        z,
+    let mut sum = [0; W];
+    add_row::<Z, W>(
         set,
         table.row_entries(plan.graph, row),
         column,
-        bits,
-        sums,
+        cols,
+        &mut sum,
     );
-    put_block(z, bits, column * z, sums, 0);
+    clip::<Z, W>(&mut sum);
+    put_block::<Z, W>(column, cols, bits, &sum);
 }
 
-// Solves all parity columns of a word: its first K bits stay, and it meets every row.
-pub fn solve(table: &Table, plan: &Plan, bits: &mut Bits, sums: &mut Bits)
+// Solves all parity columns of a word that has zeros there: its first K bits stay, and it meets every row.
+pub(crate) fn solve_lanes<const Z: usize, const W: usize>(
+    table: &Table,
+    plan: &Plan,
+    bits: &mut Bits,
+)
+    requires above { 64 * W < Z + 64 }
+    requires below { Z ≤ 64 * W }
+    requires some { 0 < Z }
+    requires most { W ≤ 6 }
+    requires size { plan.now.z ≡ Z }
     requires graph { IsTrue (has_graph plan.now.graph table.now) }
     requires long { length bits.old.items ≡ positions_of plan.now }
-    requires sums { length sums.old.items ≡ 384 }
+    requires zeros { (t : ℕ) → plan.now.k ≤ t → bit bits.old.items t ≡ false }
     ensures completed { bits.new.items ≡ completed table.now plan.now.graph (numbers plan.now)
         (take plan.now.k bits.old.items) }
     ensures is_word { IsWordOf (plan_checks table.now plan.now)
         (take plan.now.k bits.old.items) bits.new.items }
-    ensures sums { length sums.new.items ≡ 384 }
 {
     accepted_shape();
     core_rows_add_up();
-    // Each table is an accepted one, which the two laws speak of.
-    let _ = table.has(plan.graph);
-    solve_first(table, plan, bits, sums);
+    let mut cols = [0; 816];
+    load_columns::<Z, W>(plan.graph.info_cols() as usize, bits, &mut cols);
+    solve_first::<Z, W>(table, plan, &mut cols, bits);
     for i in 1..plan.graph.rows() {
-        solve_next(table, plan, i, bits, sums);
+        solve_next::<Z, W>(table, plan, i, &mut cols, bits);
     }
 }

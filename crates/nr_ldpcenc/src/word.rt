@@ -1,40 +1,33 @@
 //! The words that a code block is encoded into.
 
-ghost use Rattle.std.specs.Prelude.{◌≡◌, ℕ, ◌*◌, ◌^◌, ◌<◌, ◌≤◌, false, IfOk, IsTrue, length, replicate, slice_set, take};
+ghost use Rattle.std.specs.Prelude.{◌≡◌, ℕ, ◌^◌, ◌<◌, ◌≤◌, false, IfOk, IsTrue, length, replicate, slice_set, take};
 ghost use Rattle.nr_bitvec.specs.Bit.{bit};
 ghost use Rattle.nr_ldpcenc.specs.Codeword.{completed, IsWordOf};
 ghost use Rattle.nr_ldpcenc.specs.Rows.{plan_checks};
-ghost use Rattle.nr_ldpcenc.specs.Solving.{Copies};
+ghost use Rattle.nr_ldpcenc.specs.Solving.{Copies, IsClearedTo};
 ghost use Rattle.nr_segment.specs.CodeBlock.{positions_of, numbers};
 ghost use Rattle.nr_shifttable.specs.Accepted.{has_graph};
 
-use crate::solver::solve;
+use crate::solve_sizes::solve;
 use nr_bitvec::Bits;
 use nr_segment::Plan;
 use nr_shifttable::Table;
 use std::alloc::{AllocError, Global};
 use std::marker::Model;
 
-/// The largest lifting size.
-const MOST_SIZE: u32 = 384;
-
 /// A word: a bit for each column of the parity-check matrix of a code block, 68 Zc or 52 Zc of them
 /// (TS 38.212, 5.3.2). The first K are the code block with its fillers, and the first 2 Zc are not sent.
 #[derive(Debug, Drop)]
 pub struct Word {
     bits: Bits,
-    // One block's place for the sums of `fill`, at any lifting size.
-    work: Bits,
 }
 
 impl Model for Word {
-    ghost use Rattle.std.specs.Prelude.{◌≡◌, List, Bool, length};
+    ghost use Rattle.std.specs.Prelude.{List, Bool};
 
     ghost Value = { List Bool };
 
     ghost view = { λ w. w.bits.items };
-
-    ghost invariant = { λ w. length w.work.items ≡ 384 };
 }
 
 impl Word {
@@ -48,8 +41,7 @@ impl Word {
             ≡ replicate (positions_of plan.now) false) }
     {
         let bits = Bits::zeros(alloc, plan.graph.cols() * plan.z)?;
-        let work = Bits::zeros(alloc, MOST_SIZE)?;
-        Ok(Word { bits, work })
+        Ok(Word { bits })
     }
 
     /// The number of bits: 68 Zc or 52 Zc.
@@ -91,6 +83,17 @@ impl Word {
     {
         copy_bits(&mut self.bits, bits);
     }
+
+    // As `fill`, where the word has zeros past its first K bits.
+    pub(crate) fn finish(&mut self, table: &Table, plan: &Plan)
+        requires graph { IsTrue (has_graph plan.now.graph table.now) }
+        requires long { length self.old ≡ positions_of plan.now }
+        requires zeros { (t : ℕ) → plan.now.k ≤ t → bit self.old t ≡ false }
+        ensures { self.new ≡ completed table.now plan.now.graph (numbers plan.now)
+            (take plan.now.k self.old) }
+    {
+        solve(table, plan, &mut self.bits);
+    }
 }
 
 /// Solves the parity columns of a word: the first K bits stay, and the others become those of the one word that
@@ -103,7 +106,31 @@ pub fn fill(table: &Table, plan: &Plan, word: &mut Word)
     ensures completed { word.new ≡ completed table.now plan.now.graph (numbers plan.now)
         (take plan.now.k word.old) }
 {
-    solve(table, plan, &mut word.bits, &mut word.work);
+    solve_over(table, plan, &mut word.bits);
+}
+
+// As `fill`, over the list of bits.
+fn solve_over(table: &Table, plan: &Plan, bits: &mut Bits)
+    requires graph { IsTrue (has_graph plan.now.graph table.now) }
+    requires long { length bits.old.items ≡ positions_of plan.now }
+    ensures is_word { IsWordOf (plan_checks table.now plan.now)
+        (take plan.now.k bits.old.items) bits.new.items }
+    ensures completed { bits.new.items ≡ completed table.now plan.now.graph (numbers plan.now)
+        (take plan.now.k bits.old.items) }
+{
+    clear_from(bits, plan.k as usize);
+    solve(table, plan, bits);
+}
+
+// Makes the bits from bit `from` on zero.
+fn clear_from(bits: &mut Bits, from: usize)
+    requires { from ≤ length bits.old.items }
+    ensures { IsClearedTo (length bits.old.items) from bits.new.items bits.old.items }
+{
+    let count = bits.len() - from;
+    for i in 0..count.div_ceil(64) {
+        bits.put(from + 64 * i, (count - 64 * i).min(64), 0);
+    }
 }
 
 // Puts a list of bits at the start of another.

@@ -1,4 +1,4 @@
-use Rattle.std.proofs.Common.{◌≡◌, ◌*◌, ℕ, ◌≤◌, true, false, List, Bool, length, take, replicate, subst, sym, ap, ◌∙◌, arith}
+use Rattle.std.proofs.Common.{◌≡◌, ◌*◌, ◌≤◌, true, false, List, Bool, length, take, replicate, subst, sym, ap, ◌∙◌, arith}
 use Rattle.std.proofs.lemmas.List.{length-replicate}
 use Rattle.nr_bitvec.specs.Bit.{bit}
 use Rattle.nr_graphpick.specs.Graph.{cols_of}
@@ -16,6 +16,13 @@ begin-requires c =
     let long : length c.in-Ok.word ≡ size = ap length c.in-Ok.ensures ∙ length-replicate size false in
     omega (arith, kdash_inside plan.graph plan.b (numbers plan) plan.sound)
 
+pub finish-requires-clause-zeros : goal.finish-requires-clause-zeros
+finish-requires-clause-zeros c = λ j le.
+    let plan = c.args.plan.now in
+    let size = cols_of plan.graph * plan.z in
+    let held : plan.kdash ≤ plan.k = plan.sound.held in
+    c.begin.ensures.after j (omega (arith, le, held)) ∙ ap (λ l. bit l j) c.in-Ok.ensures ∙ zero_bit size j
+
 pub returns-clause-word : goal.returns-clause-word
 unfolding codeword
 returns-clause-word c =
@@ -28,7 +35,7 @@ returns-clause-word c =
     (c.begin.ensures.long ∙ ap length zeros ∙ length-replicate size false)
     (λ j lt. c.begin.ensures.begins j (omega arith))
     (λ j le. c.begin.ensures.after j (omega arith) ∙ ap (λ l. bit l j) zeros ∙ zero_bit size j) in
-    c.fill.ensures.completed ∙ ap (completed c.args.table.now plan.graph (numbers plan)) begins
+    c.finish.ensures ∙ ap (completed c.args.table.now plan.graph (numbers plan)) begins
 
 pub returns-clause-plain : goal.returns-clause-plain
 unfolding codeword
@@ -45,5 +52,5 @@ returns-clause-plain c =
     (λ j le. c.begin.ensures.after j (omega arith) ∙ ap (λ l. bit l j) zeros ∙ zero_bit size j) in
     let has : has_graph plan.graph t ≡ true = sym c.has.ensures.value ∙ c.if-not-has.false in
     subst (IsCodeword t plan.graph (numbers plan) bits)
-    (sym (c.fill.ensures.completed ∙ ap (completed t plan.graph (numbers plan)) begins))
+    (sym (c.finish.ensures ∙ ap (completed t plan.graph (numbers plan)) begins))
     (c.codewords_are_plain.ensures t plan.graph plan.b (numbers plan) bits c.has.ensures.table has plan.planned c.requires)

@@ -1,14 +1,56 @@
-use Rattle.std.proofs.Common.{refl, ◌∙◌}
+use Rattle.std.proofs.Common.{◌+◌, ◌*◌, ◌≤◌, ◌==◌, refl, sym, ap, subst, ◌∙◌, arith}
+use Rattle.std.proofs.Math.Nat.{mul-le-mul_right}
 use Rattle.nr_bitvec.specs.Bit.{bit}
-use Rattle.nr_graphpick.specs.Graph.{info_cols_of}
+use Rattle.nr_bitvec.specs.Packed.{place}
+use Rattle.nr_graphpick.specs.Graph.{info_cols_of, cols_of}
 use Rattle.nr_shifttable.specs.Accepted.{entries_in}
+use Rattle.nr_ldpcenc.specs.Doubled.{col_bit, HasColumns}
+use Rattle.nr_ldpcenc.proofs.Codes.{columns-are, columns_few, rows_four}
+use Rattle.nr_ldpcenc.proofs.Columns.{core_sums-agree}
 use Rattle.nr_ldpcenc.proofs.Solved.{first_put}
 use Rattle.nr_ldpcenc.proofs.solver.solve_first.Goals as goal
 
+pub put_block-requires : goal.put_block-requires
+put_block-requires g c =
+    let graph = c.args.plan.now.graph in
+    let z = g.row.Z in
+    let up : (c.info_cols.result + 1) * z ≤ cols_of graph * z = mul-le-mul_right z (omega (arith, c.info_cols.ensures, columns-are graph, rows_four graph)) in (
+      omega (arith, c.requires.most),
+      (
+        c.requires.above,
+        (
+          c.requires.below,
+          (
+            c.requires.some,
+            (
+              c.requires.most,
+              (
+                c.rotated-block.ensures.clear,
+                (
+                  omega (arith, c.info_cols.ensures, columns-are graph, columns_few graph, rows_four graph),
+                  (
+                    omega (arith, up, c.requires.long),
+                    subst (λ m. HasColumns z m c.args.cols.now c.args.bits.now.items) (sym c.info_cols.ensures) c.requires.columns,
+                  ),
+                ),
+              ),
+            ),
+          ),
+        ),
+      ),
+    )
+
 pub returns-clause-solved : goal.returns-clause-solved
-returns-clause-solved c =
+returns-clause-solved g c =
     let plan = c.args.plan.now in
-    first_put (entries_in plan.graph c.args.table.now) plan.set (info_cols_of plan.graph) plan.z plan.sound.size_some
-    (bit c.args.bits.now.items) (bit c.put_block.new.bits.items) (bit c.sum_core.new.sums.items) plan.k
-    c.from.result _ plan.sound.columns (c.from.ensures ∙ c.rotation_of.ensures) refl
-    c.put_block.ensures.before c.put_block.ensures.within c.sum_core.ensures.sum
+    let z = g.row.Z in
+    let es = entries_in plan.graph c.args.table.now in
+    let n = info_cols_of plan.graph in
+    let old = bit c.args.bits.now.items in
+    let cols = col_bit z c.args.cols.now in
+    first_put es plan.set n z c.requires.some
+    old (bit c.put_block.new.bits.items) (λ t. place c.sum_core-sum.result t == 1) (c.info_cols.result * z)
+    c.from-rotation.result _ (ap (λ q. q * z) c.info_cols.ensures) (c.from-rotation.ensures ∙ c.rotation_of.ensures) refl
+    c.put_block.ensures.before
+    (λ u lt. c.put_block.ensures.block u lt ∙ ap (λ q. q == 1) (c.rotated-block.ensures.turned u lt))
+    (λ t lt. c.sum_core-sum.ensures.sum t lt ∙ sym (core_sums-agree es plan.set z old cols n t c.requires.some c.requires.columns.same))

@@ -1,28 +1,68 @@
-use Rattle.std.proofs.Common.{◌≡◌, ℕ, ◌+◌, ◌*◌, ◌<◌, Bool, false, List, ap, ◌∙◌, zero-add}
+use Rattle.std.proofs.Common.{◌≡◌, ℕ, ◌+◌, ◌*◌, ◌<◌, ◌≤◌, ◌==◌, Bool, false, List, replicate, sym, ap, subst, ◌∙◌, arith}
+use Rattle.std.proofs.Math.Nat.{mul-le-mul_right}
 use Rattle.nr_bitvec.specs.Bit.{◌⊕◌, bit}
-use Rattle.nr_graphpick.specs.Graph.{info_cols_of}
+use Rattle.nr_bitvec.specs.Packed.{place}
+use Rattle.nr_graphpick.specs.Graph.{info_cols_of, cols_of}
+use Rattle.nr_lifting.proofs.LaneViews.{place-zeros}
 use Rattle.nr_shifttable.specs.Accepted.{entries_in, row_of}
 use Rattle.nr_shifttable.specs.declared.entry.Entry.{Entry}
+use Rattle.nr_ldpcenc.specs.Doubled.{col_bit, HasColumns}
 use Rattle.nr_ldpcenc.specs.Solving.{sum_before, head_sum, row_ending}
+use Rattle.nr_ldpcenc.proofs.Codes.{columns-are, columns_few}
 use Rattle.nr_ldpcenc.proofs.Solved.{next_put, row_ending-low, row_ending-high}
+use Rattle.nr_ldpcenc.proofs.Sums.{heads-agree}
 use Rattle.nr_ldpcenc.proofs.solver.solve_next.Goals as goal
 use Rattle.nr_ldpcenc.proofs.solver.solve_next.Goals.{then-i-lt3, else-i-lt3}
 
+pub put_block-requires : goal.put_block-requires
+put_block-requires g c =
+    let graph = c.args.plan.now.graph in
+    let z = g.row.Z in
+    let up : (c.info_cols.result + c.args.i + 1) * z ≤ cols_of graph * z = mul-le-mul_right z (omega (arith, c.info_cols.ensures, columns-are graph)) in (
+      omega (arith, c.requires.most),
+      (
+        c.requires.above,
+        (
+          c.requires.below,
+          (
+            c.requires.some,
+            (
+              c.requires.most,
+              (
+                c.clip.ensures.clear,
+                (
+                  omega (arith, c.info_cols.ensures, columns-are graph, columns_few graph),
+                  (
+                    omega (arith, up, c.requires.long),
+                    subst (λ m. HasColumns z (m + c.args.i) c.args.cols.now c.args.bits.now.items) (sym c.info_cols.ensures) c.requires.columns,
+                  ),
+                ),
+              ),
+            ),
+          ),
+        ),
+      ),
+    )
+
 pub returns-clause-solved : goal.returns-clause-solved
-returns-clause-solved c =
+returns-clause-solved g c =
     let plan = c.args.plan.now in
     let i = c.args.i in
+    let z = g.row.Z in
     let es : List Entry = entries_in plan.graph c.args.table.now in
     let n : ℕ = info_cols_of plan.graph in
     let w : ℕ → Bool = bit c.args.bits.now.items in
+    let v : ℕ → Bool = col_bit z c.args.cols.now in
     let column : c.info_cols.result + i ≡ n + i = ap (λ q. q + i) c.info_cols.ensures in
     let its_row : c.if-i-lt3.row ≡ row_ending i = elim c.if-i-lt3.branch [
       | then-i-lt3 b ↦ b.row-is ∙ row_ending-low i b.if-i-lt3.true
       | else-i-lt3 b ↦ b.row-is ∙ row_ending-high i b.if-i-lt3.false
     ] in
     let rows : c.row_entries.result.now ≡ row_of es (row_ending i) = c.row_entries.ensures.entries ∙ ap (row_of es) its_row in
-    let none : (t : ℕ) → t < plan.z → bit c.clear_block.new.bits.items t ≡ false = λ t lt. rw (zero-add t) at (c.clear_block.ensures.within t lt) in
-    let sum : (t : ℕ) → t < plan.z → bit c.add_row.new.sums.items t ≡ head_sum es plan.set plan.z w (n + i) (row_ending i) t =
-    λ t lt. c.add_row.ensures.sum t lt ∙ (λ j. none t lt j ⊕ sum_before (c.set_in-set.ensures.value j) plan.z w (column j) t (rows j)) in
-    next_put es plan.set n plan.z plan.sound.size_some w (bit c.put_block.new.bits.items) (bit c.add_row.new.sums.items) ((c.info_cols.result + i) * plan.z)
-    i (ap (λ q. q * plan.z) column) c.requires.after c.requires.solved c.put_block.ensures.before c.put_block.ensures.within sum
+    let none : (t : ℕ) → (place (replicate g.row.W 0) t == 1) ≡ false = λ t. ap (λ q. q == 1) (place-zeros g.row.W t) in
+    let sum : (t : ℕ) → t < z → (place c.clip.new.sum t == 1) ≡ head_sum es plan.set z w (n + i) (row_ending i) t =
+    λ t lt. ap (λ q. q == 1) (c.clip.ensures.kept t lt) ∙ c.add_row.ensures t lt
+    ∙ (λ j. none t j ⊕ sum_before (c.set_in-set.ensures.value j) z v (column j) t (rows j))
+    ∙ sym (heads-agree es plan.set z w v (n + i) (row_ending i) t c.requires.some c.requires.columns.same) in
+    next_put es plan.set n z c.requires.some w (bit c.put_block.new.bits.items) (λ t. place c.clip.new.sum t == 1) ((c.info_cols.result + i) * z)
+    i (ap (λ q. q * z) column) c.requires.after c.requires.solved c.put_block.ensures.before c.put_block.ensures.block sum

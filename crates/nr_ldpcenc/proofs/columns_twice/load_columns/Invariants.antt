@@ -1,0 +1,13 @@
+-- The columns before column j are taken.
+use Rattle.std.proofs.Common.{◌≡◌, ◌*◌, length}
+use Rattle.nr_bitvec.specs.Bit.{bit}
+use Rattle.nr_ldpcenc.specs.Doubled.{col_bit, AreTwice}
+use Rattle.nr_ldpcenc.specs.Solving.{AgreeBelow}
+use Rattle.nr_ldpcenc.proofs.columns_twice.load_columns.Given as goal
+
+abbrev pub invariant-loop-j : goal.invariant-loop-j
+invariant-loop-j g l = record {
+  twice : AreTwice g.row.Z l.j l.cols;
+  same : AgreeBelow (l.j * g.row.Z) (bit l.bits.items) (col_bit g.row.Z l.cols);
+  words : length l.cols ≡ 816;
+}

@@ -1,0 +1,12 @@
+-- The words before word i are read.
+use Rattle.std.proofs.Common.{◌≡◌, ◌+◌, length}
+use Rattle.nr_bitvec.specs.Bit.{bit}
+use Rattle.nr_lifting.proofs.LaneWords.{IsWritten}
+use Rattle.nr_lifting.proofs.Moves.{digit}
+use Rattle.nr_ldpcenc.proofs.lanes.read_lane.Given as goal
+
+abbrev pub invariant-loop-i : goal.invariant-loop-i
+invariant-loop-i g l = record {
+  read : IsWritten g.row.Z l.i (λ t. digit (bit l.bits.items (l.from + t))) l.words l.initial.words;
+  long : length l.words ≡ g.row.W;
+}

@@ -1,0 +1,16 @@
+-- The columns so far are solved, and the first K bits are as they were.
+use Rattle.std.proofs.Common.{◌≡◌, ◌+◌, ◌*◌, length}
+use Rattle.nr_bitvec.specs.Bit.{bit}
+use Rattle.nr_graphpick.specs.Graph.{info_cols_of}
+use Rattle.nr_shifttable.specs.Accepted.{entries_in}
+use Rattle.nr_ldpcenc.specs.Doubled.{HasColumns}
+use Rattle.nr_ldpcenc.specs.Solving.{AgreeBelow, IsSolvedTo}
+use Rattle.nr_ldpcenc.proofs.solver.solve_lanes.Given as goal
+
+abbrev pub invariant-loop-i : goal.invariant-loop-i
+invariant-loop-i g l = record {
+  columns : HasColumns g.row.Z (info_cols_of l.plan.graph + l.i) l.cols l.bits.items;
+  solved : IsSolvedTo (entries_in l.plan.graph l.table) l.plan.set (info_cols_of l.plan.graph) g.row.Z l.i (bit l.bits.items);
+  kept : AgreeBelow (info_cols_of l.plan.graph * g.row.Z) (bit l.fn.bits.items) (bit l.bits.items);
+  long : length l.bits.items ≡ length l.fn.bits.items;
+}

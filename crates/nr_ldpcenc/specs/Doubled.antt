@@ -1,0 +1,32 @@
+-- Columns of z bits that stand twice in a row in words of 64 places: place t of a column is its bit t mod z, as far as
+-- 2 z. Column c stands from word 12 c on, for 2 z is at most 768. How a word is kept while it is solved is a choice of
+-- this crate's, and no rule of TS 38.212.
+use Rattle.std.specs.Prelude.{◌≡◌, ℕ, ◌+◌, ◌*◌, ◌/◌, ◌%◌, ◌<◌, ◌≤◌, ◌==◌, Bool, false, List, length}
+use Rattle.nr_bitvec.specs.Bit.{bit}
+use Rattle.nr_bitvec.specs.Packed.{place}
+use Rattle.nr_ldpcenc.specs.Solving.{AgreeBelow}
+
+-- from word `at` on, the z bits of a block stand twice in a row
+abbrev pub IsDoubled : ℕ → ℕ → List ℕ → List ℕ → Type 0
+IsDoubled z at cols block = (t : ℕ) → t < z + z → place cols (64 * at + t) ≡ place block (t % z)
+
+-- no place is another before word `from` and from word `to` on
+pub record KeepsOthers (from to : ℕ) (new old : List ℕ) : Type 0 where
+  pub before : (t : ℕ) → t < 64 * from → place new t ≡ place old t
+  pub after : (t : ℕ) → 64 * to ≤ t → place new t ≡ place old t
+  pub long : length new ≡ length old
+
+-- bit q of the word whose columns these are
+abbrev pub col_bit : ℕ → List ℕ → ℕ → Bool
+col_bit z cols q = place cols (768 * (q / z) + q % z) == 1
+
+-- each of the first n columns stands twice
+abbrev pub AreTwice : ℕ → ℕ → List ℕ → Type 0
+AreTwice z n cols = (c t : ℕ) → c < n → t < z → place cols (768 * c + z + t) ≡ place cols (768 * c + t)
+
+-- the first n columns of a word stand twice each, and the word has zeros from there on
+pub record HasColumns (z n : ℕ) (cols : List ℕ) (word : List Bool) : Type 0 where
+  pub twice : AreTwice z n cols
+  pub same : AgreeBelow (n * z) (bit word) (col_bit z cols)
+  pub zeros : (t : ℕ) → n * z ≤ t → bit word t ≡ false
+  pub words : length cols ≡ 816

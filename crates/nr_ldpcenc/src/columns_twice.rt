@@ -1,0 +1,100 @@
+//! The columns of blocks of a word, each twice in a row and twelve words from the one before, and the sums of a row of
+//! blocks over them.
+
+ghost use Rattle.std.specs.Prelude.{◌≡◌, ℕ, ◌+◌, ◌*◌, ◌<◌, ◌≤◌, ◌==◌, length};
+ghost use Rattle.nr_bitvec.specs.Bit.{◌⊕◌, bit};
+ghost use Rattle.nr_bitvec.specs.Packed.{place, IsClear};
+ghost use Rattle.nr_ldpcenc.specs.Doubled.{col_bit, AreTwice, HasColumns};
+ghost use Rattle.nr_ldpcenc.specs.Solving.{sum_before, AgreeBelow};
+
+use crate::lanes::{add_turned, put_twice, read_lane};
+use nr_bitvec::Bits;
+use nr_shifttable::Entry;
+
+// Adds to a block what a row of blocks has before a column.
+pub(crate) fn add_row<const Z: usize, const W: usize>(
+    set: usize,
+    row: &[Entry],
+    before: usize,
+    cols: &[u64],
+    sum: &mut [u64; W],
+)
+    requires above { 64 * W < Z + 64 }
+    requires below { Z ≤ 64 * W }
+    requires some { 0 < Z }
+    requires most { W ≤ 6 }
+    requires set { set < 8 }
+    requires few { before ≤ 68 }
+    requires words { length cols.now ≡ 816 }
+    requires twice { AreTwice Z before cols.now }
+    ensures { (t : ℕ) → t < Z → (place sum.new t == 1)
+        ≡ (place sum.old t == 1) ⊕ sum_before set Z (col_bit Z cols.now) before t row.now }
+{
+    for entry in row {
+        let col = usize::from(entry.col);
+        if col < before {
+            add_turned(sum, cols, 12 * col, usize::from(entry.values[set]) % Z);
+        }
+    }
+}
+
+// Puts a block in the place of column `j`, the first one that is not there yet.
+fn put_column<const Z: usize, const W: usize>(cols: &mut [u64], j: usize, sum: &[u64; W])
+    requires above { 64 * W < Z + 64 }
+    requires below { Z ≤ 64 * W }
+    requires some { 0 < Z }
+    requires most { W ≤ 6 }
+    requires clear { IsClear sum.now Z }
+    requires column { j < 68 }
+    requires words { length cols.old ≡ 816 }
+    requires twice { AreTwice Z j cols.old }
+    ensures twice { AreTwice Z (j + 1) cols.new }
+    ensures column { (t : ℕ) → t < Z → place cols.new (768 * j + t) ≡ place sum.now t }
+    ensures before { (t : ℕ) → t < 768 * j → place cols.new t ≡ place cols.old t }
+    ensures words { length cols.new ≡ 816 }
+{
+    put_twice::<Z, W>(cols, 12 * j, sum);
+}
+
+// Takes the first `n` columns from a word.
+pub(crate) fn load_columns<const Z: usize, const W: usize>(n: usize, bits: &Bits, cols: &mut [u64])
+    requires above { 64 * W < Z + 64 }
+    requires below { Z ≤ 64 * W }
+    requires some { 0 < Z }
+    requires most { W ≤ 6 }
+    requires few { n ≤ 68 }
+    requires inside { n * Z ≤ length bits.now.items }
+    requires words { length cols.old ≡ 816 }
+    ensures twice { AreTwice Z n cols.new }
+    ensures same { AgreeBelow (n * Z) (bit bits.now.items) (col_bit Z cols.new) }
+    ensures words { length cols.new ≡ 816 }
+{
+    for j in 0..n {
+        let lane = read_lane::<Z, W>(bits, j * Z);
+        put_column::<Z, W>(cols, j, &lane);
+    }
+}
+
+// Puts a block in the place of column `j` and into the word, where zeros stand from that column on.
+pub(crate) fn put_block<const Z: usize, const W: usize>(
+    j: usize,
+    cols: &mut [u64],
+    bits: &mut Bits,
+    sum: &[u64; W],
+)
+    requires above { 64 * W < Z + 64 }
+    requires below { Z ≤ 64 * W }
+    requires some { 0 < Z }
+    requires most { W ≤ 6 }
+    requires clear { IsClear sum.now Z }
+    requires column { j < 68 }
+    requires inside { (j + 1) * Z ≤ length bits.old.items }
+    requires columns { HasColumns Z j cols.old bits.old.items }
+    ensures columns { HasColumns Z (j + 1) cols.new bits.new.items }
+    ensures block { (t : ℕ) → t < Z → bit bits.new.items (j * Z + t) ≡ (place sum.now t == 1) }
+    ensures before { AgreeBelow (j * Z) (bit bits.old.items) (bit bits.new.items) }
+    ensures long { length bits.new.items ≡ length bits.old.items }
+{
+    put_column::<Z, W>(cols, j, sum);
+    bits.put_words(j * Z, sum);
+}
