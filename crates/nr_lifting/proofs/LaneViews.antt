@@ -11,10 +11,10 @@ use Rattle.nr_bitvec.proofs.Places.{bit-place, length-unpacked, same_from_bits}
 -- ---- digits and truth values
 
 -- a digit is 0 or 1
-place-lt : (ws : List ℕ) (t : ℕ) → place ws t < 2
+pub place-lt : (ws : List ℕ) (t : ℕ) → place ws t < 2
 place-lt ws t = bit_at-lt (get_or ws (t / 64) 0) (t % 64)
 
-sum_bits : (a b : ℕ) → a < 2 → b < 2 → ((a + b) % 2 == 1) ≡ (a == 1) ⊕ (b == 1)
+pub sum_bits : (a b : ℕ) → a < 2 → b < 2 → ((a + b) % 2 == 1) ≡ (a == 1) ⊕ (b == 1)
 sum_bits zero zero h k = refl
 sum_bits zero (suc zero) h k = refl
 sum_bits (suc zero) zero h k = refl
@@ -22,7 +22,7 @@ sum_bits (suc zero) (suc zero) h k = refl
 sum_bits (suc (suc a)) b h k = absurd (omega (arith, h))
 sum_bits a (suc (suc b)) h k = absurd (omega (arith, k))
 
-max_bits : (a b : ℕ) → a < 2 → b < 2 → (max a b == 1) ≡ ((a == 1) || (b == 1))
+pub max_bits : (a b : ℕ) → a < 2 → b < 2 → (max a b == 1) ≡ ((a == 1) || (b == 1))
 max_bits zero zero h k = refl
 max_bits zero (suc zero) h k = refl
 max_bits (suc zero) zero h k = refl
@@ -30,7 +30,7 @@ max_bits (suc zero) (suc zero) h k = refl
 max_bits (suc (suc a)) b h k = absurd (omega (arith, h))
 max_bits a (suc (suc b)) h k = absurd (omega (arith, k))
 
-min_bits : (a b : ℕ) → a < 2 → b < 2 → (min a b == 1) ≡ ((a == 1) && (b == 1))
+pub min_bits : (a b : ℕ) → a < 2 → b < 2 → (min a b == 1) ≡ ((a == 1) && (b == 1))
 min_bits zero zero h k = refl
 min_bits zero (suc zero) h k = refl
 min_bits (suc zero) zero h k = refl

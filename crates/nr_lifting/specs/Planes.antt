@@ -1,6 +1,7 @@
 -- Counts that are kept as bit planes: word b of a group has bit b of each of 64 counts.
-use Rattle.std.specs.Prelude.{◌≡◌, ℕ, zero, suc, ◌+◌, ◌*◌, ◌/◌, ◌%◌, ◌^◌, ◌<◌, List, [], length, slice_index_or}
+use Rattle.std.specs.Prelude.{◌≡◌, ℕ, zero, suc, ◌+◌, ◌*◌, ◌/◌, ◌%◌, ◌^◌, ◌<◌, ◌≤◌, List, [], length, map, slice_index_or}
 use Rattle.std.specs.Int.{bit_at}
+use Rattle.std.specs.List.{range_with_len}
 use Rattle.nr_bitvec.specs.Packed.{place}
 
 -- the number that the first n planes of a group write at place j
@@ -25,3 +26,24 @@ pub record Falls (new old : List ℕ) (bits : ℕ) : Type 0 where
 pub record FallsTurned (z : ℕ) (new old : List (List ℕ)) (places : List ℕ) (p : ℕ) : Type 0 where
   pub numbers : (t : ℕ) → t < z → number_at new t + place places ((t + p) % z) ≡ number_at old t
   pub long : length new ≡ length old
+
+-- ---- several blocks
+
+-- what contracts see of blocks of counts: the counts, block after block, and how many a block has
+pub record BlockCounts : Type 0 where
+  pub items : List ℕ
+  pub lanes : ℕ
+
+-- count k of blocks of z counts that are kept as bit planes
+abbrev pub plane_count : ℕ → List (List (List ℕ)) → ℕ → ℕ
+plane_count z blocks k = number_at (slice_index_or blocks (k / z) []) (k % z)
+
+-- the blocks of z counts that bit planes keep
+abbrev pub block_counts : ℕ → List (List (List ℕ)) → BlockCounts
+block_counts z blocks = record { items = map (plane_count z blocks) (range_with_len 0 (length blocks * z)); lanes = z }
+
+-- so many counts a block, and so few blocks
+pub record ArePlanes (z : ℕ) (blocks : List (List (List ℕ))) : Type 0 where
+  pub some : 0 < z
+  pub short : z ≤ 384
+  pub few : length blocks < 2 ^ 16

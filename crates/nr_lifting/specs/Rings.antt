@@ -1,7 +1,8 @@
 -- Rings: blocks of z bits that stand twice over, from place 0 and from place z on, so that every rotation of the block
 -- stands in one piece.
-use Rattle.std.specs.Prelude.{◌≡◌, ℕ, ◌+◌, ◌*◌, ◌%◌, ◌<◌, max, List}
-use Rattle.nr_bitvec.specs.Packed.{place}
+use Rattle.std.specs.Prelude.{◌≡◌, ℕ, zero, suc, ◌+◌, ◌*◌, ◌/◌, ◌%◌, ◌^◌, ◌<◌, ◌≤◌, ◌==◌, ◌&&◌, max, Bool, if◌then◌else◌, List, [], length, map, slice_index_or}
+use Rattle.std.specs.List.{range_with_len}
+use Rattle.nr_bitvec.specs.Packed.{place, IsClear}
 
 -- the z places from place z on are those before it
 abbrev pub IsRing : ℕ → List ℕ → Type 0
@@ -14,3 +15,39 @@ GainsTwice z new old words = (t : ℕ) → t < 2 * z → place new t ≡ max (pl
 -- the block of z bits is another, rotated by p: its place t has the other's place (t + p) mod z
 abbrev pub IsTurned : ℕ → List ℕ → List ℕ → ℕ → Type 0
 IsTurned z new old p = (t : ℕ) → t < z → place new t ≡ place old ((t + p) % z)
+
+-- ---- several blocks
+
+-- what contracts see of blocks of bits: the bits, block after block, and how many a block has
+pub record BlockBits : Type 0 where
+  pub items : List Bool
+  pub lanes : ℕ
+
+-- whether a lane's words have place t set
+abbrev pub is_set : List ℕ → ℕ → Bool
+is_set words t = place words t == 1
+
+-- the bits of block j that a lane marks, of blocks of z bits
+abbrev pub lane_marks : ℕ → ℕ → (ℕ → Bool) → ℕ → Bool
+lane_marks z j lane p = (p / z == j) && lane (p % z)
+
+-- bit p of blocks of z bits that are kept in rings
+abbrev pub ring_bit : ℕ → List (List ℕ) → ℕ → Bool
+ring_bit z rings p = is_set (slice_index_or rings (p / z) []) (p % z)
+
+-- the blocks of z bits that rings keep
+abbrev pub block_bits : ℕ → List (List ℕ) → BlockBits
+block_bits z rings = record { items = map (ring_bit z rings) (range_with_len 0 (length rings * z)); lanes = z }
+
+-- each keeps a block of z bits twice over, and no place after them is set
+pub record AreRings (z : ℕ) (rings : List (List ℕ)) : Type 0 where
+  pub some : 0 < z
+  pub short : z ≤ 384
+  pub few : length rings < 2 ^ 16
+  pub ring : (j : ℕ) → IsRing z (slice_index_or rings j [])
+  pub clear : (j : ℕ) → IsClear (slice_index_or rings j []) (2 * z)
+
+-- how many of the first n numbers are marked
+abbrev pub marked : (ℕ → Bool) → ℕ → ℕ
+marked u zero = 0
+marked u (suc n) = marked u n + (if u n then 1 else 0)

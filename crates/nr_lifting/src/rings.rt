@@ -1,14 +1,17 @@
 //! Blocks of bits that are kept twice over in words of 64, so that a word of any rotation is read in one piece, and the
 //! rotations of blocks that are kept once.
 
-ghost use Rattle.std.specs.Prelude.{◌≡◌, ℕ, ◌+◌, ◌*◌, ◌%◌, ◌^◌, ◌<◌, ◌≤◌, length};
+ghost use Rattle.std.specs.Prelude.{◌≡◌, ℕ, ◌+◌, ◌*◌, ◌/◌, ◌%◌, ◌^◌, ◌<◌, ◌≤◌, ◌==◌, ◌&&◌, ◌||◌, not, false, length, replicate, IfOk};
 ghost use Rattle.std.specs.Int.{bit_at};
+ghost use Rattle.nr_bitvec.specs.Bit.{bit};
 ghost use Rattle.nr_bitvec.specs.Packed.{place, IsClear};
 ghost use Rattle.nr_lifting.specs.Lane.{IsTurnedWord};
-ghost use Rattle.nr_lifting.specs.Rings.{GainsTwice, IsRing, IsTurned};
+ghost use Rattle.nr_lifting.specs.Rings.{GainsTwice, IsRing, IsTurned, is_set, lane_marks};
 
 use crate::lane::{turned_word, wrapped_word};
 use nr_bitvec::words::{low_bits, window};
+use std::alloc::{AllocError, Global};
+use std::marker::Model;
 
 /// Word `i` of a block of `size` bits that is rotated by `p`, read from its ring: bit t of the block is bit
 /// (t + p) mod `size` of the ring's, and zero from bit `size` on.
@@ -34,7 +37,7 @@ pub fn join_ring(ring: &mut [u64], words: &[u64], size: usize)
     ensures ring_clear { IsClear ring.new (2 * size) }
     ensures long { length ring.new ≡ length ring.old }
 {
-    for k in 0..ring.len() {
+    for k in 0..(2 * size).div_ceil(64) {
         ring[k] |= twice_word(words, size, k);
     }
 }
@@ -63,4 +66,112 @@ pub fn turn_lane(words: &[u64; 6], size: usize, p: usize) -> [u64; 6]
         lane[i] = turned_word(words, size, i, p);
     }
     lane
+}
+
+// The block of a ring, at most 384 bits, rotated by `p`: its bit t is bit (t + p) mod `size` of the ring's.
+fn ring_lane(ring: &[u64], size: usize, p: usize) -> [u64; 6]
+    requires turn { p < size }
+    requires few { size ≤ 384 }
+    requires ring { IsRing size ring.now }
+    ensures turned { IsTurned size result ring.now p }
+    ensures clear { IsClear result size }
+{
+    let mut lane = [0; 6];
+    for i in 0..size.div_ceil(64) {
+        lane[i] = ring_word(ring, size, i, p);
+    }
+    lane
+}
+
+/// Blocks of bits of one size, at most 384 bits each, from which lanes of any rotation are read. Each is kept as a
+/// ring.
+#[derive(Drop)]
+pub struct Rings {
+    size: usize,
+    rings: Vec<[u64; 12]>,
+}
+
+impl Model for Rings {
+    ghost use Rattle.nr_lifting.specs.Rings.{AreRings, BlockBits, block_bits};
+
+    ghost Value = { BlockBits };
+
+    ghost view = { λ a. block_bits a.size a.rings.items };
+
+    ghost invariant = { λ a. AreRings a.size a.rings.items };
+}
+
+impl Rings {
+    /// `count` blocks of `size` zeros.
+    ///
+    /// # Errors
+    ///
+    /// `AllocError` is want of memory.
+    pub fn new(alloc: Global, count: usize, size: usize) -> Result<Rings, AllocError>
+        requires some { 0 < size }
+        requires short { size ≤ 384 }
+        requires few { count < 2 ^ 16 }
+        ensures items { IfOk result (λ r. r.items ≡ replicate (count * size) false) }
+        ensures lanes { IfOk result (λ r. r.lanes ≡ size) }
+    {
+        let mut rings = Vec::with_capacity(alloc, count)?;
+        for i in 0..count {
+            rings.push_reserved([0; 12]);
+        }
+        Ok(Rings { size, rings })
+    }
+
+    // The ring of block `j`.
+    pub(crate) fn ring(&self, j: usize) -> &[u64; 12]
+        requires { (j + 1) * self.now.lanes ≤ length self.now.items }
+        ensures ring { IsRing self.now.lanes result.now }
+        ensures bits { (t : ℕ) → t < self.now.lanes
+            → is_set result.now t ≡ bit self.now.items (j * self.now.lanes + t) }
+        ensures short { self.now.lanes ≤ 384 }
+    {
+        &self.rings[j]
+    }
+
+    /// One bit of all.
+    pub fn get(&self, p: usize) -> bool
+        requires { p < length self.now.items }
+        ensures { result ≡ bit self.now.items p }
+    {
+        let t = p % self.size;
+        window(&self.rings[p / self.size], t / 64, t % 64) & 1 == 1
+    }
+
+    /// Block `j`, rotated by `turn`: its bit t is bit (t + `turn`) modulo the size of the block's.
+    pub fn lane(&self, j: usize, turn: usize) -> [u64; 6]
+        requires block { (j + 1) * self.now.lanes ≤ length self.now.items }
+        requires turn { turn < self.now.lanes }
+        ensures bits { (t : ℕ) → t < self.now.lanes → is_set result t
+            ≡ bit self.now.items (j * self.now.lanes + (t + turn) % self.now.lanes) }
+        ensures clear { IsClear result self.now.lanes }
+    {
+        ring_lane(&self.rings[j], self.size, turn)
+    }
+
+    /// Sets the bits of block `j` where a lane has a one.
+    pub fn join(&mut self, j: usize, lane: &[u64; 6])
+        requires block { (j + 1) * self.old.lanes ≤ length self.old.items }
+        requires clear { IsClear lane.now self.old.lanes }
+        ensures joined { (p : ℕ) → bit self.new.items p
+            ≡ (bit self.old.items p || lane_marks self.old.lanes j (is_set lane.now) p) }
+        ensures long { length self.new.items ≡ length self.old.items }
+        ensures lanes { self.new.lanes ≡ self.old.lanes }
+    {
+        join_ring(&mut self.rings[j], lane, self.size);
+    }
+
+    /// Makes the bits of block `j` zeros.
+    pub fn clear(&mut self, j: usize)
+        requires { (j + 1) * self.old.lanes ≤ length self.old.items }
+        ensures cleared { (p : ℕ) → bit self.new.items p
+            ≡ (bit self.old.items p && not (p / self.old.lanes == j)) }
+        ensures long { length self.new.items ≡ length self.old.items }
+        ensures lanes { self.new.lanes ≡ self.old.lanes }
+    {
+        self.rings[j] = [0; 12];
+    }
 }

@@ -115,6 +115,36 @@ fn lowers_counts_of_one(rt: HostRuntime) {
     assert!(rt; planes[0] == 0b0001 && planes[1] == 0b0101);
 }
 
+// By hand: of two blocks of five counts the second alone are ones, and so are the bits that they mark.
+#[test]
+fn keeps_blocks(rt: HostRuntime) -> Result<(), Fail> {
+    let mut counts = Planes::new(rt.alloc(), 2, 5)?;
+    counts.fill(0, 3);
+    counts.fill(1, 1);
+    assert_eq!(rt; counts.ones(0), [0; 6]);
+    let ones = counts.ones(1);
+    assert_eq!(rt; ones, [0b11111, 0, 0, 0, 0, 0]);
+    let mut rings = Rings::new(rt.alloc(), 2, 5)?;
+    rings.join(1, &ones);
+    assert!(rt; rings.get(5) && !rings.get(4));
+    assert_eq!(rt; rings.lane(1, 2), ones);
+    rings.clear(1);
+    assert!(rt; !rings.get(5));
+    Ok(())
+}
+
+// By hand.
+#[test]
+fn adds_and_counts_lanes(rt: HostRuntime) {
+    let mut lane = [0b1100, 0, 0, 0, 0, 1];
+    let other = [0b1010, 0, 0, 0, 0, 1];
+    assert_eq!(rt; common(&lane, &other), [0b1000, 0, 0, 0, 0, 1]);
+    assert_eq!(rt; without(&lane, &other), [0b0100, 0, 0, 0, 0, 0]);
+    assert_eq!(rt; lane_count(&lane), 3);
+    add_lane(&mut lane, &other);
+    assert_eq!(rt; lane, [0b0110, 0, 0, 0, 0, 0]);
+}
+
 // The sums of a size, against those of single bits.
 fn compare_sums(rt: &impl Abort, alloc: Global, z: usize, p: usize) -> Result<(), AllocError>
     requires size { IsSize z }

@@ -1,6 +1,6 @@
-use Rattle.std.proofs.Common.{◌*◌, refl, inl, inr, arith}
+use Rattle.std.proofs.Common.{◌*◌, ◌/◌, ◌%◌, refl, ap, ◌∙◌, inl, inr, arith}
 use Rattle.std.proofs.lemmas.Bool.{cases_lt}
-use Rattle.nr_bitvec.proofs.BitFacts.{place_past}
+use Rattle.std.specs.Int.{bit_at}
 use Rattle.nr_lifting.proofs.LaneWords.{written_more, ring_low, ring_high}
 use Rattle.nr_lifting.proofs.rings.join_ring.Goals as goal
 
@@ -17,5 +17,5 @@ returns-clause-joined c = λ t below. c.loop-k.invariant.done t (omega (arith, b
 pub returns-clause-ring_clear : goal.returns-clause-ring_clear
 returns-clause-ring_clear c = λ t past. elim (cases_lt t (64 * c.loop-k.k)) [
   | inl inside ↦ c.loop-k.invariant.clear t inside past
-  | inr out ↦ place_past c.loop-k.ring t (omega (arith, out))
+  | inr out ↦ ap (λ n. bit_at n (t % 64)) (c.loop-k.invariant.kept (t / 64) (omega (arith, out))) ∙ c.requires.ring_clear t past
 ]

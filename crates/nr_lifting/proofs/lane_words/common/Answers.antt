@@ -1,0 +1,15 @@
+use Rattle.std.proofs.Common.{refl, arith}
+use Rattle.nr_lifting.proofs.LaneBits.{made_next, common_all, common_bit, common_clear}
+use Rattle.nr_lifting.proofs.lane_words.common.Goals as goal
+
+-- the next word is made
+pub loop-i-preserved : goal.loop-i-preserved
+loop-i-preserved c =
+    made_next _ _ _ _ _ _ c.loop-i.invariant (omega arith) refl (λ j short.
+    common_bit _ _ c.loop-i.i j _ _ (c.loop-i.invariant.kept _ (omega arith)) refl short)
+
+pub returns-clause-bits : goal.returns-clause-bits
+returns-clause-bits c = common_all c.loop-i.i c.loop-i.both _ _ (omega arith) (omega arith) c.loop-i.invariant
+
+pub returns-clause-clear : goal.returns-clause-clear
+returns-clause-clear c = common_clear c.loop-i.i c.loop-i.both _ _ (omega arith) c.loop-i.invariant

@@ -1,0 +1,21 @@
+use Rattle.std.proofs.Common.{◌*◌, ◌/◌, ◌%◌, refl, ap, ◌∙◌, inl, inr, arith}
+use Rattle.std.proofs.lemmas.Bool.{cases_lt}
+use Rattle.std.specs.Int.{bit_at}
+use Rattle.nr_lifting.proofs.LaneViews.{place-zeros}
+use Rattle.nr_lifting.proofs.LaneWords.{written_more}
+use Rattle.nr_lifting.proofs.rings.ring_lane.Goals as goal
+
+-- the next word is read
+pub loop-i-preserved : goal.loop-i-preserved
+loop-i-preserved c =
+    written_more _ _ _ _ _ _ _ c.loop-i.invariant (omega arith) refl
+    c.ring_word.ensures.turned (λ j _ past. c.ring_word.ensures.clear j past)
+
+pub returns-clause-turned : goal.returns-clause-turned
+returns-clause-turned c = λ t below. c.loop-i.invariant.done t (omega (arith, below)) below
+
+pub returns-clause-clear : goal.returns-clause-clear
+returns-clause-clear c = λ t past. elim (cases_lt t (64 * c.loop-i.i)) [
+  | inl inside ↦ c.loop-i.invariant.clear t inside past
+  | inr out ↦ ap (λ n. bit_at n (t % 64)) (c.loop-i.invariant.kept (t / 64) (omega (arith, out))) ∙ place-zeros 6 t
+]
