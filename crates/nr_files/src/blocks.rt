@@ -56,11 +56,7 @@ pub enum BlocksFault {
 fn strip_last(text: &[u8], last: u8) -> &[u8]
     ensures { result.now ≡ without_last last text.now }
 {
-    if !text.is_empty() && text[text.len() - 1] == last {
-        &text[..text.len() - 1]
-    } else {
-        text
-    }
+    text.strip_suffix(&[last]).unwrap_or(text)
 }
 
 // The value of a hexadecimal digit, without a branch: letters of both cases have bit 64, and 1 to 6 in the bits below

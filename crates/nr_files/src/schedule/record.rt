@@ -4,7 +4,7 @@ ghost use Rattle.std.specs.Prelude.{◌≡◌, ◌≤◌, ◌==◌, ◌&&◌, if
 ghost use Rattle.csv.specs.Records.{fields_of};
 ghost use Rattle.nr_graphpick.specs.Refusal.{Gives};
 ghost use Rattle.nr_files.specs.Rounds.{round_of};
-ghost use Rattle.nr_files.specs.Schedule.{block_in, erasure_at, flip_at, fresh_at, fresh_block, is_of_block, mask_at, number_at, process_at, transmission_of};
+ghost use Rattle.nr_files.specs.Schedule.{block_in, erasure_at, flip_at, fresh_at, fresh_block, mask_at, number_at, process_at, transmission_of};
 
 use super::columns::field;
 use super::{PROCESSES, ScheduleFault, Transmission};
@@ -184,17 +184,7 @@ fn fresh_at(
     match field(row, b"fresh") {
         None => Ok(false),
         Some(b"1") => Ok(true),
-        Some(b"0") if is_of_block(block, begun) => Ok(false),
+        Some(b"0") if begun == Some(block) => Ok(false),
         Some(_) => Err(ScheduleFault::Fresh(number)),
-    }
-}
-
-// Whether a round was begun by a transmission of this block.
-fn is_of_block(block: u32, begun: Option<u32>) -> bool
-    ensures { result ≡ is_of_block block begun }
-{
-    match begun {
-        Some(begun) => begun == block,
-        None => false,
     }
 }
