@@ -9,8 +9,24 @@ use Rattle.clap.specs.declared.parser.matches.ArgMatches.{ArgMatches}
 use Rattle.clap.specs.declared.parser.matches.Found.{Found}
 use Rattle.std.specs.String.{string_bytes}
 use Rattle.linksim.specs.Commands.{check_app, cut_app, files_app}
-use Rattle.linksim.specs.Jobs.{IsGiven, IsNumberAt, IsTextAt, check_faults, check_rows, cut_faults, cut_rows, dashes, files_faults, files_rows, is_taken_as_check, is_taken_as_cut, is_taken_as_files}
+use Rattle.linksim.specs.Jobs.{BeginsWith, HasFiles, IsGiven, IsJobOf, IsNumberAt, IsTextAt, check_faults, check_rows, cut_faults, cut_rows, dashes, faults_at, files_faults, files_job, files_rows, name_of, is_taken_as_check, is_taken_as_cut, is_taken_as_files}
+use Rattle.linksim.specs.declared.command_line.apps.FilesCommand.{FilesCommand}
+use Rattle.linksim.specs.declared.command_line.apps.FilesCommand.TheVariants as over
 use Rattle.linksim.specs.declared.job.Files.{Files}
+
+-- the words that begin with the name of a command over four files and give it these files ask for its job
+pub files-job : (name : FilesCommand) (words : List Text) (files : Files) → BeginsWith (name_of name) words
+    → HasFiles (name_of name) words files → IsJobOf words (files_job name files)
+files-job over.Send words files first given = (first, given)
+files-job over.Run words files first given = (first, given)
+files-job over.Audit words files first given = (first, given)
+
+-- the faults at its job are those at the command
+pub files-job-faults : (name : FilesCommand) (words : List Text) (files : Files) → files_faults (name_of name) words ≡ []
+    → faults_at words (files_job name files) ≡ []
+files-job-faults over.Send words files none = none
+files-job-faults over.Run words files none = none
+files-job-faults over.Audit words files none = none
 
 -- clap's functions of the words speak of each command
 cut_simple : is_simple cut_app ≡ true

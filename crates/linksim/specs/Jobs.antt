@@ -4,6 +4,8 @@ use Rattle.std.specs.Str.Parse.{IsNumeral, digits_value, without_leading_plus}
 use Rattle.std.specs.String.{string_bytes}
 use Rattle.clap.specs.Words.{Kinds, Row, Text, fault_of, first_of, matches_of, one_of, takes}
 use Rattle.linksim.specs.Commands.{check_app, cut_app, files_app}
+use Rattle.linksim.specs.declared.command_line.apps.FilesCommand.{FilesCommand}
+use Rattle.linksim.specs.declared.command_line.apps.FilesCommand.TheVariants as over
 use Rattle.linksim.specs.declared.job.Files.{Files}
 use Rattle.linksim.specs.declared.job.Job.{Job}
 use Rattle.linksim.specs.declared.job.Job.TheVariants.{Audit, Check, Cut, Run, Send}
@@ -55,6 +57,17 @@ dashes files = dash (string_bytes files.table) + dash (string_bytes files.settin
 -- the command of this name over these four files, of which at most one is standard input
 abbrev pub HasFiles : Text → List Text → Files → Type 0
 HasFiles name words files = IsGiven (files_rows name words) files × (dashes files ≤ 1)
+
+-- the name of a command over four files, and its job
+abbrev pub name_of : FilesCommand → Text
+name_of over.Send = codes "send"
+name_of over.Run = codes "run"
+name_of over.Audit = codes "audit"
+
+abbrev pub files_job : FilesCommand → Files → Job
+files_job over.Send files = Send files
+files_job over.Run files = Run files
+files_job over.Audit files = Audit files
 
 -- the words ask for this job
 abbrev pub IsJobOf : List Text → Job → Type 0

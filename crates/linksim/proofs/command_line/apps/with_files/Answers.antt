@@ -2,7 +2,7 @@ use Rattle.std.proofs.Common.{◌∙◌, ap, codes}
 use Rattle.std.proofs.lemmas.Result.{IfOk-weaker}
 use Rattle.clap.specs.Words.{with_rule}
 use Rattle.linksim.specs.Commands.{file_rule}
-use Rattle.linksim.proofs.command_line.with_files.Goals as goal
+use Rattle.linksim.proofs.command_line.apps.with_files.Goals as goal
 
 pub returns : goal.returns
 returns c =

@@ -1,7 +1,7 @@
 use Rattle.std.proofs.Common.{◌≡◌, ◌∙◌, None, Some, ap, sym}
 use Rattle.clap.proofs.WalkLemmas.{first_value-rows}
 use Rattle.clap.specs.Words.{found_of}
-use Rattle.linksim.proofs.command_line.path_of.Goals as goal
+use Rattle.linksim.proofs.command_line.options.path_of.Goals as goal
 
 pub returns-in_ok-from_str-in-Some-clause-path : goal.returns-in_ok-from_str-in-Some-clause-path
 returns-in_ok-from_str-in-Some-clause-path c =
