@@ -1,13 +1,11 @@
 -- Sums over the entries of a row so far.
-use Rattle.std.proofs.Common.{◌≡◌, ℕ, ◌+◌, ◌*◌, ◌%◌, ◌<◌, ◌≤◌, nat_lt, Bool, true, false, not, cond, List, [], ◌∷◌, ◌++◌, length, take, get_or, refl, sym, ap, ◌∙◌, arith}
+use Rattle.std.proofs.Common.{◌≡◌, ℕ, ◌+◌, ◌*◌, ◌%◌, ◌<◌, ◌≤◌, nat_lt, Bool, true, false, cond, List, [], ◌∷◌, ◌++◌, length, take, get_or, refl, sym, ap, ◌∙◌, arith}
 use Rattle.std.proofs.lemmas.Bool.Decides.{nat_tests}
-use Rattle.std.specs.Bool.{beq}
-use Rattle.std.proofs.lemmas.List.{take_more, map-append}
+use Rattle.std.proofs.lemmas.List.{take_more}
 use Rattle.nr_bitvec.specs.Bit.{◌⊕◌}
 use Rattle.nr_shifttable.specs.declared.entry.Entry.{Entry}
 use Rattle.nr_shifttable.specs.Tails.{value_in}
-use Rattle.nr_ldpcenc.specs.Parity.{parity}
-use Rattle.nr_ldpcenc.specs.Rows.{one_at, positions}
+use Rattle.nr_ldpcenc.specs.Rows.{one_at}
 use Rattle.nr_ldpcenc.specs.Solving.{sum_before}
 
 zero_right : (a : Bool) → a ≡ a ⊕ false
@@ -68,21 +66,3 @@ entry_bit-not set z w j t e col is_col le = rw (le_test e.col j (omega arith)) r
 -- four rows, one after another
 pub four_sums : (a b c d e f g h i : Bool) → a ≡ false → b ≡ a ⊕ f → c ≡ b ⊕ g → d ≡ c ⊕ h → e ≡ d ⊕ i → e ≡ (f ⊕ g) ⊕ (h ⊕ i)
 four_sums a b c d e f g h i p q r s t = grind arith
-
-pub xor_is_add : (a b : Bool) → not (beq a b) ≡ a ⊕ b
-xor_is_add false false = refl
-xor_is_add false true = refl
-xor_is_add true false = refl
-xor_is_add true true = refl
-
--- a list's sum with one more position
-parity-last : (w : ℕ → Bool) (ps : List ℕ) (p : ℕ) → parity w (ps ++ p ∷ []) ≡ parity w ps ⊕ w p
-parity-last w [] p = sym (zero_right (w p))
-parity-last w (q ∷ ps) p = deeper (w q) (parity w ps) (parity w (ps ++ p ∷ [])) (w p) (parity-last w ps p)
-
-pub parity-next : (w : ℕ → Bool) (set z t : ℕ) (xs : List Entry) (i : ℕ) (d : Entry) → i < length xs
-    → parity w (positions set z t (take (i + 1) xs)) ≡ parity w (positions set z t (take i xs)) ⊕ w (one_at z t (get_or xs i d).col (value_in set (get_or xs i d)))
-parity-next w set z t xs i d lt =
-    ap (λ l. parity w (positions set z t l)) (take_more xs i d lt)
-    ∙ ap (parity w) (map-append (λ e. one_at z t e.col (value_in set e)) (take i xs) (get_or xs i d ∷ []))
-    ∙ parity-last w (positions set z t (take i xs)) (one_at z t (get_or xs i d).col (value_in set (get_or xs i d)))

@@ -9,3 +9,4 @@ pub mod Written
 pub mod Shifts
 pub mod TwoCopies
 pub mod TurnedSums
+pub mod MetRows

@@ -1,6 +1,7 @@
 -- Sums over columns that stand twice in a row.
-use Rattle.std.proofs.Common.{◌≡◌, ℕ, zero, suc, ◌+◌, ◌-◌, ◌*◌, ◌/◌, ◌%◌, ◌<◌, ◌≤◌, ◌==◌, Bool, List, get_or, refl, sym, ap, ◌∙◌, inl, inr, arith}
+use Rattle.std.proofs.Common.{◌≡◌, ℕ, zero, suc, ◌+◌, ◌-◌, ◌*◌, ◌/◌, ◌%◌, ◌<◌, ◌≤◌, ◌==◌, Bool, false, List, get_or, refl, sym, ap, ◌∙◌, inl, inr, arith}
 use Rattle.std.proofs.lemmas.Bool.{cases_lt}
+use Rattle.std.proofs.lemmas.Bool.Decides.{nat_tests}
 use Rattle.std.proofs.lemmas.Nat.Bits.{bit_at-lt}
 use Rattle.std.proofs.lemmas.Nat.{mod_below, div_below, div-mul-add, mod-mul-add}
 use Rattle.nr_bitvec.specs.Bit.{◌⊕◌, bit}
@@ -75,3 +76,10 @@ column_put z w j word sum old new below most some same before read put =
     let inside : 768 * (q / z) + q % z < 768 * j = omega (arith, column, lane, below, most) in
     same q lt ∙ sym (ap (λ n. n == 1) (before (768 * (q / z) + q % z) inside)))
     (λ u lt. read u lt ∙ sym (col_at z new j u lt ∙ ap (λ n. n == 1) (put u lt)))
+
+-- a place that is not set is zero
+pub none_set : (ws : List ℕ) (t : ℕ) → (place ws t == 1) ≡ false → place ws t ≡ 0
+none_set ws t e = zero_of (place ws t) (digit ws t) e
+  where
+    zero_of : (n : ℕ) → n < 2 → (n == 1) ≡ false → n ≡ 0
+    zero_of n h e = grind (arith, nat_tests)

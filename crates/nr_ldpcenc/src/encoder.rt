@@ -1,20 +1,19 @@
 //! The encoder, and the test of a word.
 
-ghost use Rattle.std.specs.Prelude.{◌≡◌, ◌↔◌, ◌<◌, false, length, All, IfOk, IsErrOf, IsTrue};
+ghost use Rattle.std.specs.Prelude.{◌≡◌, ◌↔◌, false, length, IfOk, IsErrOf, IsTrue};
 ghost use Rattle.nr_bitvec.specs.Bit.{bit};
 ghost use Rattle.nr_ldpcenc.specs.Codeword.{codeword, IsCodeword};
-ghost use Rattle.nr_ldpcenc.specs.Parity.{parity};
-ghost use Rattle.nr_ldpcenc.specs.Rows.{plan_checks, Meets, positions};
+ghost use Rattle.nr_ldpcenc.specs.Rows.{plan_checks, Meets};
 ghost use Rattle.nr_segment.specs.CodeBlock.{positions_of, numbers};
-ghost use Rattle.nr_shifttable.specs.Accepted.{entries_in, has_graph, IsInRange};
+ghost use Rattle.nr_shifttable.specs.Accepted.{has_graph};
 
 use crate::fault::EncFault;
 use crate::laws::codewords_are_plain;
-use crate::solver::set_in;
+use crate::meets_sizes::meets_rows;
 use crate::word::Word;
 use nr_bitvec::Bits;
 use nr_segment::Plan;
-use nr_shifttable::{Entry, Table};
+use nr_shifttable::Table;
 use std::alloc::Global;
 
 /// The codeword of the K' bits of a code block: the one word that begins with them, has zeros for the fillers and
@@ -52,30 +51,5 @@ pub fn meets(table: &Table, plan: &Plan, word: &Word) -> bool
     ensures { IsTrue result
         ↔ Meets (plan_checks table.now plan.now) (bit word.now) }
 {
-    for i in 0..plan.graph.rows() {
-        let row = table.row_entries(plan.graph, i);
-        for t in 0..plan.z {
-            if sum_of(plan, row, t, word) {
-                return false;
-            }
-        }
-    }
-    true
-}
-
-// The sum of a word over row t of a row of blocks.
-fn sum_of(plan: &Plan, row: &[Entry], t: u32, word: &Word) -> bool
-    requires lane { t < plan.now.z }
-    requires in_range { All (IsInRange plan.now.graph) row.now }
-    requires long { length word.now ≡ positions_of plan.now }
-    ensures { result ≡ parity (bit word.now) (positions plan.now.set plan.now.z t row.now) }
-{
-    let z = plan.z as usize;
-    let set = set_in(plan) as usize;
-    let mut sum = false;
-    for entry in row {
-        let lane = (t as usize + usize::from(entry.values[set]) % z) % z;
-        sum ^= word.get(usize::from(entry.col) * z + lane);
-    }
-    sum
+    meets_rows(table, plan, word.bits())
 }

@@ -10,6 +10,8 @@ mod encoder;
 mod fault;
 mod lanes;
 mod laws;
+mod meets_sizes;
+mod row_test;
 mod solve_sizes;
 mod solver;
 mod with_size;

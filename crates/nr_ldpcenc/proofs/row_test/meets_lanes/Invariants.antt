@@ -1,0 +1,8 @@
+-- The rows of blocks so far are met.
+use Rattle.nr_bitvec.specs.Bit.{bit}
+use Rattle.nr_shifttable.specs.Accepted.{entries_in}
+use Rattle.nr_ldpcenc.proofs.MetRows.{AreMet}
+use Rattle.nr_ldpcenc.proofs.row_test.meets_lanes.Given as goal
+
+abbrev pub invariant-loop-i : goal.invariant-loop-i
+invariant-loop-i g l = AreMet (entries_in l.plan.graph l.table) l.plan.set l.i g.row.Z (bit l.bits.items)

@@ -1,0 +1,79 @@
+//! The test of a word, a row of blocks at a time.
+
+ghost use Rattle.std.specs.Prelude.{◌≡◌, ◌↔◌, ℕ, ◌+◌, ◌*◌, ◌<◌, ◌≤◌, false, length, IsTrue};
+ghost use Rattle.nr_bitvec.specs.Bit.{bit};
+ghost use Rattle.nr_bitvec.specs.Packed.{place};
+ghost use Rattle.nr_ldpcenc.specs.Doubled.{col_bit, AreTwice};
+ghost use Rattle.nr_ldpcenc.specs.Rows.{plan_checks, Meets};
+ghost use Rattle.nr_ldpcenc.specs.Solving.{sum_before};
+ghost use Rattle.nr_segment.specs.CodeBlock.{positions_of};
+
+use crate::columns_twice::{add_row, load_columns};
+use crate::lanes::clip;
+use crate::solver::set_in;
+use nr_bitvec::Bits;
+use nr_segment::Plan;
+use nr_shifttable::{Entry, Table};
+
+// Whether no place is set.
+fn is_clear(words: &[u64]) -> bool
+    ensures { IsTrue result ↔ ((t : ℕ) → place words.now t ≡ 0) }
+{
+    for word in words {
+        if *word != 0 {
+            return false;
+        }
+    }
+    true
+}
+
+// Whether a word meets each row of a row of blocks, which has no column from `columns` on.
+fn row_is_met<const Z: usize, const W: usize>(
+    set: usize,
+    row: &[Entry],
+    columns: usize,
+    cols: &[u64],
+) -> bool
+    requires above { 64 * W < Z + 64 }
+    requires below { Z ≤ 64 * W }
+    requires some { 0 < Z }
+    requires most { W ≤ 6 }
+    requires set { set < 8 }
+    requires few { columns ≤ 68 }
+    requires words { length cols.now ≡ 816 }
+    requires twice { AreTwice Z columns cols.now }
+    ensures { IsTrue result ↔ ((t : ℕ) → t < Z
+        → sum_before set Z (col_bit Z cols.now) columns t row.now ≡ false) }
+{
+    let mut sum = [0; W];
+    add_row::<Z, W>(set, row, columns, cols, &mut sum);
+    clip::<Z, W>(&mut sum);
+    is_clear(&sum)
+}
+
+// Whether a word meets every row, as `meets`.
+pub(crate) fn meets_lanes<const Z: usize, const W: usize>(
+    table: &Table,
+    plan: &Plan,
+    bits: &Bits,
+) -> bool
+    requires above { 64 * W < Z + 64 }
+    requires below { Z ≤ 64 * W }
+    requires some { 0 < Z }
+    requires most { W ≤ 6 }
+    requires size { plan.now.z ≡ Z }
+    requires long { length bits.now.items ≡ positions_of plan.now }
+    ensures { IsTrue result
+        ↔ Meets (plan_checks table.now plan.now) (bit bits.now.items) }
+{
+    let set = set_in(plan) as usize;
+    let columns = plan.graph.cols() as usize;
+    let mut cols = [0; 816];
+    load_columns::<Z, W>(columns, bits, &mut cols);
+    for i in 0..plan.graph.rows() {
+        if !row_is_met::<Z, W>(set, table.row_entries(plan.graph, i), columns, &cols) {
+            return false;
+        }
+    }
+    true
+}
