@@ -9,6 +9,9 @@ pub mod Places
 pub mod Walk
 pub mod Lowered
 pub mod Searched
+pub mod Steps
+pub mod Sums
+pub mod Marks
 pub mod Tied
 pub mod Pairs
 pub mod Fixing

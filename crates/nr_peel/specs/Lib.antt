@@ -5,4 +5,5 @@ pub mod Peeling
 pub mod Laws
 pub mod Counters
 pub mod State
+pub mod Lanes
 pub mod Rounds

@@ -9,6 +9,7 @@
 mod check;
 mod counters;
 mod fix;
+mod lanes;
 pub mod laws;
 mod lifted;
 mod peeler;

@@ -1,0 +1,74 @@
+-- Lanes of rows, and the positions that they mark in a block.
+use Rattle.std.proofs.Common.{◌≡◌, ℕ, zero, suc, ◌+◌, ◌-◌, ◌*◌, ◌/◌, ◌%◌, ◌<◌, ◌≤◌, ◌==◌, ◌&&◌, ◌||◌, Bool, true, false, not, if◌then◌else◌, List, [], ◌++◌, refl, sym, ap, ◌∙◌, inl, inr, arith}
+use Rattle.std.proofs.Math.Nat.{add-mod-mod}
+use Rattle.std.proofs.lemmas.Bool.{cases_lt, true≢false}
+use Rattle.std.proofs.lemmas.List.{append-nil}
+use Rattle.std.proofs.lemmas.Nat.{mod_below}
+use Rattle.nr_bitvec.specs.Packed.{IsClear}
+use Rattle.nr_lifting.specs.Rings.{IsTurned, is_set, lane_marks, marked}
+use Rattle.nr_ldpcenc.specs.Rows.{one_at, unrotate}
+use Rattle.nr_peel.specs.Lanes.{lacks, marks_of, steps_below}
+use Rattle.nr_peel.specs.declared.fix.Fix.{Fix}
+use Rattle.nr_peel.proofs.Steps.{steps_none}
+
+-- nothing is marked where nothing is counted
+pub marked_zero : (u : ℕ → Bool) (n : ℕ) → marked u n ≡ 0 → (t : ℕ) → t < n → u t ≡ false
+marked_zero u zero none t below = absurd (omega (arith, below))
+marked_zero u (suc n) none t below = go (u n) refl (λ e. marked_zero u n e t)
+  where
+    go : (b : Bool) → u n ≡ b → (marked u n ≡ 0 → t < n → u t ≡ false) → u t ≡ false
+    go true e ih = absurd (omega (arith, none, ap {B = ℕ} (λ b. if b then 1 else 0) e))
+    go false e ih = elim (cases_lt t n) [
+      | inl h ↦ ih (omega (arith, none)) h
+      | inr h ↦
+          let last : t ≡ n = omega (arith, below, h) in
+          ap u last ∙ e
+    ]
+
+-- no place is set past the end
+pub past_clear : (lane : List ℕ) (z t : ℕ) → IsClear lane z → z ≤ t → is_set lane t ≡ false
+past_clear lane z t clear past = ap (λ n. n == 1) (clear t past)
+
+pub none_marked : (lane : List ℕ) (z : ℕ) → IsClear lane z → marked (is_set lane) z ≡ 0 → (t : ℕ) → is_set lane t ≡ false
+none_marked lane z clear none t = elim (cases_lt t z) [
+  | inl below ↦ marked_zero (is_set lane) z none t below
+  | inr past ↦ past_clear lane z t clear past
+]
+
+-- no step without a mark
+pub no_steps : (step : ℕ → Fix) (u : ℕ → Bool) (n : ℕ) (order : List Fix) → ((t : ℕ) → u t ≡ false) → order ≡ order ++ steps_below step u n
+no_steps step u n order none =
+    let from : 0 + n ≡ n = omega arith in
+    sym (ap (λ xs. order ++ xs) (sym (ap (steps_below step u) from) ∙ steps_none step u 0 n (λ t _ _. none t)) ∙ append-nil order)
+
+module _ (z j v : ℕ) (some : 0 < z) where
+  -- the rows of a lane whose positions the block lacks
+  pub lacking : (ones there lane : List ℕ) (K : ℕ → Bool) → IsClear ones z → ((t : ℕ) → is_set lane t ≡ (is_set ones t && not (is_set there t)))
+      → ((t : ℕ) → t < z → is_set there t ≡ K (j * z + (t + v % z) % z)) → (t : ℕ) → is_set lane t ≡ lacks z j v ones K t
+  lacking ones there lane K clear is read t = elim (cases_lt t z) [
+    | inl below ↦ is t ∙ ap (λ b. is_set ones t && not b) (read t below)
+    | inr past ↦
+        is t ∙ ap (λ b. b && not (is_set there t)) (past_clear ones z t clear past)
+        ∙ sym (ap (λ b. b && not (K (one_at z t j v))) (past_clear ones z t clear past))
+  ]
+
+  -- a lane that is turned back marks its rows' positions
+  pub turned_marks : (marks lane : List ℕ) (u : ℕ → Bool) → IsTurned z marks lane ((z - v % z) % z) → ((t : ℕ) → is_set lane t ≡ u t)
+      → (p : ℕ) → lane_marks z j (is_set marks) p ≡ marks_of z j v u p
+  turned_marks marks lane u turned is p =
+      let small : p % z < z = mod_below p z some in
+      let back : (p % z + (z - v % z) % z) % z ≡ unrotate z v (p % z) = add-mod-mod (p % z) (z - v % z) z in
+      ap (λ n. (p / z == j) && (n == 1)) (turned (p % z) small)
+      ∙ ap (λ t. (p / z == j) && is_set lane t) back
+      ∙ ap (λ b. (p / z == j) && b) (is (unrotate z v (p % z)))
+
+  pub marks_none : (u : ℕ → Bool) (a : Bool) (p : ℕ) → ((t : ℕ) → u t ≡ false) → a ≡ (a || marks_of z j v u p)
+  marks_none u a p none = sym (ap (λ b. a || ((p / z == j) && b)) (none (unrotate z v (p % z))) ∙ plain a (p / z == j))
+    where
+      plain : (a b : Bool) → (a || (b && false)) ≡ a
+      plain true b = refl
+      plain false true = refl
+      plain false false = refl
+
+  pub marks_same : (u w : ℕ → Bool) (a : Bool) (p : ℕ) → ((t : ℕ) → u t ≡ w t) → (a || marks_of z j v u p) ≡ (a || marks_of z j v w p)
+  marks_same u w a p same = ap (λ b. a || ((p / z == j) && b)) (same (unrotate z v (p % z)))

@@ -1,0 +1,19 @@
+-- Sums of rows, by lanes.
+use Rattle.std.proofs.Common.{◌≡◌, ℕ, ◌+◌, ◌*◌, ◌%◌, ◌<◌, ◌≤◌, Bool, List, [], ◌∷◌, ◌++◌, length, get_or, map, take, refl, sym, ap, ◌∙◌, arith}
+use Rattle.std.proofs.lemmas.List.{get_or-map, length-map, take_more}
+use Rattle.nr_bitvec.specs.Bit.{◌⊕◌, bit}
+use Rattle.nr_lifting.specs.Rings.{is_set}
+use Rattle.nr_shifttable.specs.declared.entry.Entry.{Entry}
+use Rattle.nr_shifttable.specs.Tails.{value_in}
+use Rattle.nr_ldpcenc.specs.Parity.{parity}
+use Rattle.nr_ldpcenc.specs.Rows.{one_at, positions}
+use Rattle.nr_peel.proofs.Searched.{parity-push}
+
+-- one entry more
+pub summed_more : (B : ℕ → Bool) (set z t n : ℕ) (row : List Entry) (none : Entry) → n < length row
+    → parity B (take (n + 1) (positions set z t row)) ≡ parity B (take n (positions set z t row)) ⊕ B (one_at z t (get_or row n none).col (value_in set (get_or row n none)))
+summed_more B set z t n row none within =
+    let f = λ (e : Entry). one_at z t e.col (value_in set e) in
+    let inside : n < length (map f row) = omega (arith, length-map row f, within) in
+    ap (parity B) (take_more (map f row) n 0 inside) ∙ parity-push B (take n (map f row)) (get_or (map f row) n 0)
+    ∙ ap (λ p. parity B (take n (map f row)) ⊕ B p) (get_or-map f row n none 0 within)

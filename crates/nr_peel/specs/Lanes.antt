@@ -1,0 +1,42 @@
+-- How a row of blocks fixes positions, all its rows at a time.
+use Rattle.std.specs.Prelude.{◌≡◌, ℕ, zero, suc, ◌+◌, ◌*◌, ◌/◌, ◌%◌, ◌==◌, ◌&&◌, ◌||◌, Bool, not, if◌then◌else◌, List, [], ◌∷◌, ◌++◌, length, vec_capacity}
+use Rattle.nr_bitvec.specs.Bit.{bit}
+use Rattle.nr_lifting.specs.Rings.{is_set}
+use Rattle.nr_ldpcenc.specs.Rows.{one_at, unrotate}
+use Rattle.nr_shifttable.specs.declared.entry.Entry.{Entry}
+use Rattle.nr_shifttable.specs.Tails.{value_in}
+use Rattle.nr_peel.specs.declared.fix.Fix.{Fix}
+use Rattle.nr_peel.specs.declared.lanes.Lanes.{Lanes}
+use Rattle.nr_peel.specs.declared.lifted.Lifted.{Lifted}
+
+-- the step by which row t of row of blocks i fixes its position in the block of column j, which is rotated by a turn
+abbrev pub turned_step : ℕ → ℕ → ℕ → ℕ → ℕ → Fix
+turned_step z i j turn t = record { row = i; lane = t; pos = j * z + (t + turn) % z }
+
+-- the steps of those of the first n rows that are marked
+abbrev pub steps_below : (ℕ → Fix) → (ℕ → Bool) → ℕ → List Fix
+steps_below step u zero = []
+steps_below step u (suc n) = steps_below step u n ++ (if u n then step n ∷ [] else [])
+
+-- the rows of a lane whose position in the block of column j with value v isn't in a set
+abbrev pub lacks : ℕ → ℕ → ℕ → List ℕ → (ℕ → Bool) → ℕ → Bool
+lacks z j v lane K t = is_set lane t && not (K (one_at z t j v))
+
+-- the positions of the marked rows in the block of column j with value v
+abbrev pub marks_of : ℕ → ℕ → ℕ → (ℕ → Bool) → ℕ → Bool
+marks_of z j v u p = (p / z == j) && u (unrotate z v (p % z))
+
+-- The rows of a lane fixed the positions of an entry's block that weren't known, to the bits of another lane: nothing
+-- else has changed.
+pub record Takes (l : Lifted) (e : Entry) (ones sums : List ℕ) (old new : Lanes) : Type 0 where
+  pub known : (p : ℕ) → bit new.known.items p ≡ (bit old.known.items p || marks_of l.plan.z e.col (value_in l.plan.set e) (lacks l.plan.z e.col (value_in l.plan.set e) ones (bit old.known.items)) p)
+  pub fresh : (p : ℕ) → bit new.fresh.items p ≡ (bit old.fresh.items p || marks_of l.plan.z e.col (value_in l.plan.set e) (lacks l.plan.z e.col (value_in l.plan.set e) ones (bit old.known.items)) p)
+  pub bits : (p : ℕ) → bit new.bits.items p ≡ (bit old.bits.items p || marks_of l.plan.z e.col (value_in l.plan.set e) (λ t. lacks l.plan.z e.col (value_in l.plan.set e) ones (bit old.known.items) t && is_set sums t) p)
+  pub order : new.order.items ≡ old.order.items ++ steps_below (turned_step l.plan.z e.row e.col (value_in l.plan.set e % l.plan.z)) (lacks l.plan.z e.col (value_in l.plan.set e) ones (bit old.known.items)) l.plan.z
+  pub capacity : vec_capacity new.order ≡ vec_capacity old.order
+  pub known_long : length new.known.items ≡ length old.known.items
+  pub fresh_long : length new.fresh.items ≡ length old.fresh.items
+  pub bits_long : length new.bits.items ≡ length old.bits.items
+  pub known_lanes : new.known.lanes ≡ old.known.lanes
+  pub fresh_lanes : new.fresh.lanes ≡ old.fresh.lanes
+  pub bits_lanes : new.bits.lanes ≡ old.bits.lanes

@@ -1,0 +1,135 @@
+//! What is known of a code block, in lanes, and how a row of blocks fixes positions: all its rows at a time.
+
+ghost use Rattle.std.specs.Prelude.{◌≡◌, ◌+◌, ◌*◌, ◌%◌, ◌<◌, ◌≤◌, ◌++◌, ◌==◌, ℕ, All, length, vec_capacity};
+ghost use Rattle.std.specs.Int.{bit_at};
+ghost use Rattle.nr_bitvec.specs.Bit.{bit};
+ghost use Rattle.nr_bitvec.specs.Packed.{IsClear};
+ghost use Rattle.nr_lifting.specs.Rings.{is_set, marked};
+ghost use Rattle.nr_shifttable.specs.Tails.{value_in};
+ghost use Rattle.nr_ldpcenc.specs.Parity.{parity};
+ghost use Rattle.nr_ldpcenc.specs.Rows.{positions};
+ghost use Rattle.nr_peel.specs.Lanes.{Takes, lacks, steps_below, turned_step};
+
+use crate::fix::Fix;
+use crate::lifted::Lifted;
+use nr_lifting::{Rings, add_lane, common, lane_count, turn_lane, without};
+use nr_shifttable::Entry;
+
+// The sum of the bits of each row of a row of blocks, modulo two.
+pub(crate) fn row_sum(bits: &Rings, lifted: &Lifted<'_>, row: &[Entry]) -> [u64; 6]
+    requires same { bits.now.lanes ≡ lifted.now.plan.z }
+    requires columns { All (λ e. (e.col + 1) * lifted.now.plan.z ≤ length bits.now.items) row.now }
+    ensures sums { (t : ℕ) → t < lifted.now.plan.z → is_set result t
+        ≡ parity (bit bits.now.items) (positions lifted.now.plan.set lifted.now.plan.z t row.now) }
+    ensures clear { IsClear result lifted.now.plan.z }
+{
+    let mut sum = [0; 6];
+    for entry in row {
+        let turn = lifted.turn(entry);
+        let lane = bits.lane(usize::from(entry.col), turn as usize);
+        add_lane(&mut sum, &lane);
+    }
+    sum
+}
+
+// The position of a row in the block of a column that is rotated by `turn`.
+fn placed(size: u32, col: u16, turn: u32, lane: u32) -> u32
+    requires lane { lane < size }
+    requires turn { turn < size }
+    requires few { size ≤ 384 }
+    ensures { result ≡ col * size + (lane + turn) % size }
+{
+    let turned = lane + turn;
+    let turned = if turned < size { turned } else { turned - size };
+    u32::from(col) * size + turned
+}
+
+// Adds the steps of those of 64 rows of an entry's block that a word marks, from row `start` on.
+fn push_word(order: &mut Vec<Fix>, entry: &Entry, size: u32, turn: u32, start: u32, word: u64)
+    requires few { size ≤ 384 }
+    requires turn { turn < size }
+    requires inside { (b : ℕ) → bit_at word b ≡ 1 → start + b < size }
+    requires room { length order.old.items + marked (λ b. bit_at word b == 1) 64
+        ≤ vec_capacity order.old }
+    ensures steps { order.new.items ≡ order.old.items
+        ++ steps_below (λ b. turned_step size entry.now.row entry.now.col turn (start + b))
+        (λ b. bit_at word b == 1) 64 }
+    ensures capacity { vec_capacity order.new ≡ vec_capacity order.old }
+{
+    let mut rest = word;
+    let mut at = 0;
+    'bits: while rest != 0 {
+        let skip = rest.trailing_zeros();
+        let lane = start + at + skip;
+        order.push_reserved(Fix {
+            row: entry.row,
+            lane: lane as u16,
+            pos: placed(size, entry.col, turn, lane),
+        });
+        rest = rest >> skip >> 1;
+        at += skip + 1;
+    }
+}
+
+// Adds the steps of those rows of an entry's block that a lane marks.
+fn push_lane(order: &mut Vec<Fix>, entry: &Entry, size: u32, turn: u32, lane: &[u64; 6])
+    requires few { size ≤ 384 }
+    requires turn { turn < size }
+    requires clear { IsClear lane.now size }
+    requires room { length order.old.items + marked (is_set lane.now) size
+        ≤ vec_capacity order.old }
+    ensures steps { order.new.items ≡ order.old.items
+        ++ steps_below (turned_step size entry.now.row entry.now.col turn) (is_set lane.now) size }
+    ensures capacity { vec_capacity order.new ≡ vec_capacity order.old }
+{
+    for i in 0..6u32 {
+        push_word(order, entry, size, turn, 64 * i, lane[i as usize]);
+    }
+}
+
+// What is known of a code block: the positions that are, their bits (zero elsewhere), those that the counts of the
+// rows don't know of yet, and the steps that fixed positions.
+#[derive(Drop)]
+pub(crate) struct Lanes {
+    pub(crate) known: Rings,
+    pub(crate) bits: Rings,
+    pub(crate) fresh: Rings,
+    pub(crate) order: Vec<Fix>,
+}
+
+impl Lanes {
+    // The positions of an entry's block that aren't known are fixed by the rows of a lane, to each row's sum.
+    pub(crate) fn take(
+        &mut self,
+        lifted: &Lifted<'_>,
+        entry: &Entry,
+        ones: &[u64; 6],
+        sums: &[u64; 6],
+    )
+        requires known { (entry.now.col + 1) * lifted.now.plan.z ≤ length self.old.known.items }
+        requires bits { (entry.now.col + 1) * lifted.now.plan.z ≤ length self.old.bits.items }
+        requires fresh { (entry.now.col + 1) * lifted.now.plan.z ≤ length self.old.fresh.items }
+        requires same { self.old.known.lanes ≡ lifted.now.plan.z }
+        requires same_bits { self.old.bits.lanes ≡ lifted.now.plan.z }
+        requires same_fresh { self.old.fresh.lanes ≡ lifted.now.plan.z }
+        requires clear { IsClear ones.now lifted.now.plan.z }
+        requires room { length self.old.order.items
+            + marked (lacks lifted.now.plan.z entry.now.col (value_in lifted.now.plan.set entry.now)
+            ones.now (bit self.old.known.items)) lifted.now.plan.z ≤ vec_capacity self.old.order }
+        ensures { Takes lifted.now entry.now ones.now sums.now self.old self.new }
+    {
+        let size = lifted.plan.z;
+        let turn = lifted.turn(entry);
+        let col = usize::from(entry.col);
+        let lane = without(ones, &self.known.lane(col, turn as usize));
+        if lane_count(&lane) != 0 {
+            push_lane(&mut self.order, entry, size, turn, &lane);
+            let back = (size - turn) % size;
+            let marks = turn_lane(&lane, size as usize, back as usize);
+            let bits = turn_lane(&common(&lane, sums), size as usize, back as usize);
+            self.known.join(col, &marks);
+            self.fresh.join(col, &marks);
+            self.bits.join(col, &bits);
+        }
+    }
+}
