@@ -26,6 +26,10 @@ lacks z j v lane K t = is_set lane t && not (K (one_at z t j v))
 abbrev pub marks_of : ℕ → ℕ → ℕ → (ℕ → Bool) → ℕ → Bool
 marks_of z j v u p = (p / z == j) && u (unrotate z v (p % z))
 
+-- an entry of column j is of row of blocks i, and the position that it gives row t of it is in a set
+abbrev pub hits : ℕ → ℕ → ℕ → (ℕ → Bool) → ℕ → ℕ → Entry → Bool
+hits set z j M i t e = (e.row == i) && M (one_at z t j (value_in set e))
+
 -- The rows of a lane fixed the positions of an entry's block that weren't known, to the bits of another lane: nothing
 -- else has changed.
 pub record Takes (l : Lifted) (e : Entry) (ones sums : List ℕ) (old new : Lanes) : Type 0 where

@@ -1,6 +1,6 @@
 //! What is known of a code block, in lanes, and how a row of blocks fixes positions: all its rows at a time.
 
-ghost use Rattle.std.specs.Prelude.{◌≡◌, ◌+◌, ◌*◌, ◌%◌, ◌<◌, ◌≤◌, ◌++◌, ◌==◌, ℕ, All, length, vec_capacity};
+ghost use Rattle.std.specs.Prelude.{◌≡◌, ◌+◌, ◌*◌, ◌%◌, ◌<◌, ◌≤◌, ◌++◌, ◌==◌, ℕ, All, count_by, length, slice_index, vec_capacity};
 ghost use Rattle.std.specs.Int.{bit_at};
 ghost use Rattle.nr_bitvec.specs.Bit.{bit};
 ghost use Rattle.nr_bitvec.specs.Packed.{IsClear};
@@ -8,11 +8,11 @@ ghost use Rattle.nr_lifting.specs.Rings.{is_set, marked};
 ghost use Rattle.nr_shifttable.specs.Tails.{value_in};
 ghost use Rattle.nr_ldpcenc.specs.Parity.{parity};
 ghost use Rattle.nr_ldpcenc.specs.Rows.{positions};
-ghost use Rattle.nr_peel.specs.Lanes.{Takes, lacks, steps_below, turned_step};
+ghost use Rattle.nr_peel.specs.Lanes.{Takes, hits, lacks, steps_below, turned_step};
 
 use crate::fix::Fix;
 use crate::lifted::Lifted;
-use nr_lifting::{Rings, add_lane, common, lane_count, turn_lane, without};
+use nr_lifting::{Planes, Rings, add_lane, common, lane_count, turn_lane, without};
 use nr_shifttable::Entry;
 
 // The sum of the bits of each row of a row of blocks, modulo two.
@@ -30,6 +30,35 @@ pub(crate) fn row_sum(bits: &Rings, lifted: &Lifted<'_>, row: &[Entry]) -> [u64;
         add_lane(&mut sum, &lane);
     }
     sum
+}
+
+// The counts of a column's rows fall by one where a position that is marked stands in them.
+pub(crate) fn lower_column(
+    counts: &mut Planes,
+    marks: &Rings,
+    lifted: &Lifted<'_>,
+    column: &[Entry],
+    j: u32,
+)
+    requires same { counts.old.lanes ≡ lifted.now.plan.z }
+    requires same_marks { marks.now.lanes ≡ lifted.now.plan.z }
+    requires block { (j + 1) * lifted.now.plan.z ≤ length marks.now.items }
+    requires rows { All (λ e. (e.row + 1) * lifted.now.plan.z ≤ length counts.old.items)
+        column.now }
+    requires enough { (i t : ℕ) → t < lifted.now.plan.z
+        → count_by (hits lifted.now.plan.set lifted.now.plan.z j (bit marks.now.items) i t) column.now
+        ≤ slice_index counts.old.items (i * lifted.now.plan.z + t) }
+    ensures falls { (i t : ℕ) → t < lifted.now.plan.z
+        → slice_index counts.new.items (i * lifted.now.plan.z + t)
+        + count_by (hits lifted.now.plan.set lifted.now.plan.z j (bit marks.now.items) i t) column.now
+        ≡ slice_index counts.old.items (i * lifted.now.plan.z + t) }
+    ensures long { length counts.new.items ≡ length counts.old.items }
+    ensures lanes { counts.new.lanes ≡ counts.old.lanes }
+{
+    for entry in column {
+        let turn = lifted.turn(entry);
+        counts.lower(usize::from(entry.row), marks, j as usize, turn as usize);
+    }
 }
 
 // The position of a row in the block of a column that is rotated by `turn`.

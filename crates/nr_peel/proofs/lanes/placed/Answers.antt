@@ -1,4 +1,4 @@
-use Rattle.std.proofs.Common.{◌+◌, ◌*◌, ◌%◌, ap, ◌∙◌, arith}
+use Rattle.std.proofs.Common.{◌+◌, ◌*◌, ap, arith}
 use Rattle.nr_peel.proofs.Places.{mod_high, mod_low}
 use Rattle.nr_peel.proofs.lanes.placed.Goals as goal
 use Rattle.nr_peel.proofs.lanes.placed.Goals.{then-turned-size, else-turned-size}

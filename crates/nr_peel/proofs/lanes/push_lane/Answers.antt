@@ -1,4 +1,4 @@
-use Rattle.std.proofs.Common.{◌*◌, ◌++◌, length, refl, ap, ◌∙◌, arith, append_assoc, length-append}
+use Rattle.std.proofs.Common.{◌*◌, ◌++◌, length, refl, ap, ◌∙◌, arith, length-append}
 use Rattle.nr_lifting.specs.Rings.{is_set}
 use Rattle.nr_peel.specs.Lanes.{steps_below, turned_step}
 use Rattle.nr_peel.proofs.Steps.{join_steps, lane_room, lane_steps, row_inside, word_steps}

@@ -1,11 +1,5 @@
-use Rattle.std.proofs.Common.{◌≡◌, ◌≢◌, ◌<◌, ◌≤◌, ◌+◌, ◌-◌, ◌*◌, ◌/◌, ◌^◌, ◌==◌, ◌++◌, ℕ, Bool, true, false, [], ◌∷◌, length, refl, sym, ap, ◌∙◌, arith, append_assoc, length-append}
-use Rattle.std.proofs.lemmas.Bool.{eqb-true, eq-eqb, ne_eqb, cases_lt}
-use Rattle.std.proofs.lemmas.Nat.Bits.{bit_at-trailing_zeros, bit_at_above, bit_at-lt, bit_at-zero}
-use Rattle.std.specs.Prelude.{vec_capacity}
+use Rattle.std.proofs.Common.{◌≡◌, ◌≢◌, ◌<◌, ◌≤◌, ◌+◌, ◌^◌, ◌==◌, ◌++◌, ℕ, [], ◌∷◌, length, sym, ap, ◌∙◌, arith, length-append}
 use Rattle.std.specs.Int.{bit_at, trailing_zeros, w64}
-use Rattle.nr_bitvec.proofs.BitFacts.{bit_at_shr}
-use Rattle.nr_lifting.specs.Rings.{marked}
-use Rattle.nr_lifting.proofs.LaneBits.{marked-append}
 use Rattle.nr_peel.specs.Lanes.{steps_below, turned_step}
 use Rattle.nr_peel.proofs.Steps.{IsLowest, join_steps, lowest, lowest_room, lowest_steps, pushed, rest_left, steps_whole}
 use Rattle.nr_peel.proofs.lanes.push_word.Goals as goal

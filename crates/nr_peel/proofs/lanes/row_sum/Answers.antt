@@ -1,8 +1,7 @@
-use Rattle.std.proofs.Common.{◌≡◌, ◌<◌, ◌+◌, ◌*◌, ◌%◌, ℕ, [], get_or, take, sym, ap, ◌∙◌}
+use Rattle.std.proofs.Common.{[], get_or, take, sym, ap, ◌∙◌}
 use Rattle.nr_bitvec.specs.Bit.{◌⊕◌, bit}
 use Rattle.nr_lifting.specs.Rings.{is_set}
 use Rattle.nr_shifttable.specs.declared.entry.Entry.{Entry}
-use Rattle.nr_shifttable.specs.Tails.{value_in}
 use Rattle.nr_ldpcenc.specs.Parity.{parity}
 use Rattle.nr_ldpcenc.specs.Rows.{positions}
 use Rattle.nr_peel.proofs.Sums.{summed_more}

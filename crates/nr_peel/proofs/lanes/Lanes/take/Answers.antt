@@ -1,9 +1,9 @@
-use Rattle.std.proofs.Common.{◌≡◌, ℕ, ◌+◌, ◌-◌, ◌*◌, ◌%◌, ◌<◌, ◌&&◌, ◌||◌, Bool, false, ◌++◌, refl, sym, ap, ◌∙◌, arith}
+use Rattle.std.proofs.Common.{◌≡◌, ℕ, ◌-◌, ◌%◌, ◌<◌, ◌&&◌, ◌||◌, false, ◌++◌, refl, sym, ap, ◌∙◌, arith}
 use Rattle.nr_bitvec.specs.Bit.{bit}
-use Rattle.nr_lifting.specs.Rings.{IsTurned, is_set, lane_marks, marked}
+use Rattle.nr_lifting.specs.Rings.{IsTurned, is_set, marked}
 use Rattle.nr_lifting.proofs.LaneBits.{marked-same}
 use Rattle.nr_shifttable.specs.Tails.{value_in}
-use Rattle.nr_peel.specs.Lanes.{lacks, marks_of, steps_below, turned_step}
+use Rattle.nr_peel.specs.Lanes.{lacks, turned_step}
 use Rattle.nr_peel.proofs.Marks.{lacking, marks_none, no_steps, none_marked, turned_marks}
 use Rattle.nr_peel.proofs.Steps.{steps_same}
 use Rattle.nr_peel.proofs.lanes.Lanes.take.Goals as goal
