@@ -12,6 +12,7 @@ pub mod Searched
 pub mod Steps
 pub mod Sums
 pub mod Marks
+pub mod StepLaws
 pub mod Tied
 pub mod Pairs
 pub mod Fixing
