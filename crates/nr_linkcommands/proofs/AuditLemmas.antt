@@ -24,8 +24,8 @@ use Rattle.nr_blockdesk.specs.Link.{IsLink, Link}
 use Rattle.nr_blockdesk.specs.Outcome.{fixed, given, left}
 use Rattle.nr_blockdesk.specs.Receiving.{Receiving}
 use Rattle.nr_blockdesk.specs.Sent.{Sending}
-use Rattle.nr_linkcommands.specs.AuditText.{HasHeard, audit_block, audit_line, audit_lines, audit_of, gained, order_line, position_word, steps_of, stuck_line, unfixed}
-use Rattle.nr_linkcommands.specs.ProcessTexts.{audit_by, audit_said, text_of_audit}
+use Rattle.nr_linkcommands.specs.AuditText.{HasHeard, audit_by, audit_lines, audit_of, audit_said, text_of_audit}
+use Rattle.nr_linkcommands.specs.AuditLines.{audit_block, audit_line, gained, order_line, position_word, steps_of, stuck_line, unfixed}
 use Rattle.nr_files.specs.Rounds.{IsOfBlock, of_process}
 use Rattle.nr_linkcommands.specs.RunText.{received, received_of}
 use Rattle.nr_linkcommands.specs.Inputs.{Given, Ready, files_said, inputs_said, senders_from}

@@ -10,9 +10,10 @@ use Rattle.nr_segment.specs.Plan.{PlansAreSound}
 use Rattle.nr_blockdesk.specs.Heard.{heard_record}
 use Rattle.nr_blockdesk.specs.Link.{IsLink}
 use Rattle.nr_blockdesk.specs.Sent.{Sending}
-use Rattle.nr_linkcommands.specs.AuditText.{audit_block}
-use Rattle.nr_linkcommands.specs.ProcessTexts.{audit_words, process_words}
-use Rattle.nr_linkcommands.specs.RoundTexts.{ended_if, pieces_joined, last_rounds, round_lines, said_if, sender_of, turn_lines}
+use Rattle.nr_linkcommands.specs.AuditLines.{audit_block}
+use Rattle.nr_linkcommands.specs.AuditText.{audit_words}
+use Rattle.nr_linkcommands.specs.RunLines.{process_words}
+use Rattle.nr_linkcommands.specs.RoundTexts.{ended_if, last_rounds, pieces_joined, round_lines, said_if, sender_of, turn_lines}
 use Rattle.nr_files.specs.Rounds.{continued, of_process, round_of, since_fresh}
 use Rattle.nr_linkcommands.specs.RunText.{received}
 use Rattle.nr_files.specs.Schedule.{HasBlock}

@@ -5,7 +5,7 @@ use Rattle.std.proofs.lemmas.List.FromFn.{map-range_with_len_more}
 use Rattle.std.proofs.lemmas.List.{get_or_default}
 use Rattle.nr_blockdesk.specs.Sent.{Sending}
 use Rattle.nr_linkcommands.specs.Ends.{HoldRounds, HoldsRound}
-use Rattle.nr_linkcommands.specs.ProcessTexts.{round_counted, rounds_counted, run_words}
+use Rattle.nr_linkcommands.specs.RunText.{round_counted, rounds_counted, run_words}
 use Rattle.nr_linkcommands.specs.RoundTexts.{pieces_joined, round_lines}
 use Rattle.nr_files.specs.Rounds.{all_rounds, ended_rounds, round_of}
 use Rattle.nr_linkcommands.specs.declared.received.End.{End}

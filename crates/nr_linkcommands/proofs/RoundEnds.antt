@@ -13,10 +13,10 @@ use Rattle.nr_blockdesk.specs.Explains.{Reception}
 use Rattle.nr_blockdesk.specs.Link.{Link}
 use Rattle.nr_blockdesk.specs.Sent.{Sending}
 use Rattle.nr_linkcommands.specs.Ends.{AreOfRounds, HasReceived, HoldRounds, HoldsEnd, HoldsIf, HoldsRound, IsOfRound, IsOver}
-use Rattle.nr_linkcommands.specs.ProcessTexts.{counted_if, process_words, round_counted, run_words}
+use Rattle.nr_linkcommands.specs.RunText.{counted, counted_if, lines_of, received, received_of, round_counted, run_words}
+use Rattle.nr_linkcommands.specs.RunLines.{outcome_line, process_words}
 use Rattle.nr_linkcommands.specs.RoundTexts.{ended_if, pieces_joined, round_lines, said_if, sender_of, turns}
 use Rattle.nr_files.specs.Rounds.{continued, of_process, round_of, since_fresh}
-use Rattle.nr_linkcommands.specs.RunText.{counted, lines_of, outcome_line, received, received_of}
 use Rattle.nr_files.specs.Schedule.{HasBlock}
 use Rattle.nr_linkcommands.specs.declared.received.End.{End}
 use Rattle.nr_linkcommands.specs.declared.received.Totals.{Totals}

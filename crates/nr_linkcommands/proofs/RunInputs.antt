@@ -16,7 +16,7 @@ use Rattle.nr_blockdesk.specs.declared.fault.DeskFault.TheVariants as fault
 use Rattle.nr_blockdesk.specs.declared.settings.Settings.{Settings}
 use Rattle.nr_linkcommands.specs.Ends.{IsLinked}
 use Rattle.nr_linkcommands.specs.Inputs.{Given, Ready, files_said, inputs_said, sender_said, senders_from}
-use Rattle.nr_linkcommands.specs.ProcessTexts.{run_said, text_of_run}
+use Rattle.nr_linkcommands.specs.RunText.{run_said, text_of_run}
 use Rattle.nr_commands.specs.declared.fault.RunFault.{RunFault}
 use Rattle.nr_commands.specs.declared.fault.RunFault.TheVariants.{Desk, Memory}
 use Rattle.nr_linkcommands.proofs.InputLemmas.{inputs_said-ready, inputs_said-refused, inputs_said-unsent}

@@ -12,8 +12,9 @@ use Rattle.nr_blockdesk.specs.Sent.{Sending, sent_said}
 use Rattle.nr_blockdesk.specs.declared.fault.DeskFault.{DeskFault}
 use Rattle.nr_linkcommands.specs.Ends.{AllHold, HasReceived, HoldsEnd}
 use Rattle.nr_linkcommands.specs.Hearing.{heard_through}
-use Rattle.nr_linkcommands.specs.RunText.{left_line, left_lines, lines_if, lines_of, own, received, received_if, received_of}
-use Rattle.nr_linkcommands.specs.SendText.{refused_line, sent_line}
+use Rattle.nr_linkcommands.specs.RunLines.{left_line, left_lines}
+use Rattle.nr_linkcommands.specs.RunText.{lines_if, lines_of, own, received, received_if, received_of}
+use Rattle.nr_linkcommands.specs.SendLines.{refused_line, sent_line}
 use Rattle.nr_linkcommands.specs.declared.received.End.{End}
 use Rattle.nr_files.specs.declared.schedule.Transmission.{Transmission}
 use Rattle.nr_linkcommands.proofs.RunOutcomes.{left_line-some}

@@ -18,9 +18,9 @@ use Rattle.nr_blockdesk.specs.ReceiverLaws.{NothingIsOpen}
 use Rattle.nr_blockdesk.specs.Sent.{Sending}
 use Rattle.nr_linkcommands.specs.Ends.{IsWithin}
 use Rattle.nr_commands.specs.Lines.{hex}
-use Rattle.nr_linkcommands.specs.RunText.{contradiction_line, counted, counted_by, delivered_line, left_line, no_totals, open_line, outcome_line, outcome_line_by, outcome_lines, open_counted, own, received, totals_from, unfixed_blocks}
-use Rattle.nr_linkcommands.specs.ProcessTexts.{last_line, rounds_counted, run_ends, run_words, text_of_run}
-use Rattle.nr_linkcommands.specs.RoundTexts.{pieces_joined, last_rounds, turns}
+use Rattle.nr_linkcommands.specs.RunLines.{contradiction_line, delivered_line, last_line, left_line, open_line, outcome_line, outcome_line_by, unfixed_blocks}
+use Rattle.nr_linkcommands.specs.RunText.{counted, counted_by, no_totals, open_counted, outcome_lines, own, received, rounds_counted, run_ends, run_words, text_of_run, totals_from}
+use Rattle.nr_linkcommands.specs.RoundTexts.{last_rounds, pieces_joined, turns}
 use Rattle.nr_files.specs.Rounds.{all_rounds}
 use Rattle.nr_files.specs.Schedule.{Timetable}
 use Rattle.nr_linkcommands.specs.declared.received.Totals.{Totals}

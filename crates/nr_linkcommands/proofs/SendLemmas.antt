@@ -7,7 +7,8 @@ use Rattle.std.specs.Fmt.{decimal}
 use Rattle.nr_commands.specs.Lines.{hex}
 use Rattle.nr_graphpick.specs.Refusal.{◌>>=◌}
 use Rattle.nr_linkcommands.specs.Inputs.{Given, Ready, files_said, inputs_said, senders_from}
-use Rattle.nr_linkcommands.specs.SendText.{answer_line, line_by, refusal_name, refused_line, send_said, sent_line, transmission_line, transmission_lines}
+use Rattle.nr_linkcommands.specs.SendLines.{answer_line, refusal_name, refused_line, sent_line}
+use Rattle.nr_linkcommands.specs.SendText.{line_by, send_said, transmission_line, transmission_lines}
 use Rattle.nr_commands.specs.declared.fault.RunFault.{RunFault}
 use Rattle.nr_commands.specs.declared.fault.RunFault.TheVariants.{Memory}
 use Rattle.nr_files.specs.Schedule.{HasBlock}

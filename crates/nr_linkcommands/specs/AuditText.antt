@@ -1,60 +1,19 @@
--- The lines of `audit`: of each code block, after all transmissions of a schedule, how many positions peeling fixed, or
--- those that it left.
-use Rattle.std.specs.Prelude.{◌≡◌, ℕ, ◌+◌, ◌==◌, ◌&&◌, not, if◌then◌else◌, List, [], ◌∷◌, ◌++◌, length, filter, flat_map, count_by, codes}
-use Rattle.std.specs.Fmt.{decimal}
-use Rattle.std.specs.List.{range_with_len}
-use Rattle.nr_bitvec.specs.Bit.{bit}
-use Rattle.nr_harqbuf.specs.Record.{Heardbits}
-use Rattle.nr_segment.specs.Plan.{word_size}
-use Rattle.nr_peel.specs.Peeling.{Peeling}
+-- The text of `audit` over the rounds of a schedule's processes, or over its blocks where it names none.
+use Rattle.std.specs.Prelude.{Bool, List, Result, [], false, true, ℕ, ◌++◌, ◌+◌, ◌∷◌, ◌≡◌}
 use Rattle.nr_blockdesk.specs.Explains.{Reception}
-use Rattle.nr_blockdesk.specs.Heard.{IsRecordOf, heard_of, heard_record}
-use Rattle.nr_blockdesk.specs.Link.{Link}
-use Rattle.nr_blockdesk.specs.Outcome.{fixed, given, left}
+use Rattle.nr_blockdesk.specs.Heard.{IsRecordOf, heard_record}
 use Rattle.nr_blockdesk.specs.Receiving.{Receiving}
 use Rattle.nr_blockdesk.specs.Sent.{Sending}
 use Rattle.nr_linkcommands.specs.RunText.{own, received}
 use Rattle.nr_files.specs.declared.schedule.Transmission.{Transmission}
+use Rattle.nr_linkcommands.specs.AuditLines.{audit_block}
+use Rattle.nr_linkcommands.specs.FourFiles.{said_over}
+use Rattle.nr_linkcommands.specs.RoundTexts.{Words, pieces_joined, written}
+use Rattle.nr_files.specs.Schedule.{Timetable}
+use Rattle.nr_commands.specs.declared.fault.RunFault.{RunFault}
+use Rattle.nr_linkcommands.specs.RunLines.{process_words}
 
--- how many positions of a code block peeling fixed: those that are fixed, but neither heard nor fillers
-abbrev pub steps_of : Link → Heardbits → ℕ
-steps_of link s =
-    count_by (λ p. fixed link s p && not (given link s p)) (range_with_len 0 (word_size link.graph link.plan))
-
--- the positions that are not fixed, ascending
-abbrev pub unfixed : Link → Heardbits → List ℕ
-unfixed link s = filter (λ p. not (fixed link s p)) (range_with_len 0 (word_size link.graph link.plan))
-
--- how many positions a peeler knows that it was not given
-abbrev pub gained : Peeling → ℕ
-gained p = count_by (λ k. bit p.known k && not (bit p.given k)) (range_with_len 0 (length p.given))
-
--- the line of code block r of block n where it is fixed, in so many steps
-unfoldable pub order_line : ℕ → ℕ → ℕ → List ℕ
-order_line n r steps =
-    codes "order " ++ decimal n ++ codes " " ++ decimal r ++ codes " " ++ decimal steps ++ 10 ∷ []
-
--- a position in a line
-abbrev pub position_word : ℕ → List ℕ
-position_word p = codes " " ++ decimal p
-
--- the line of code block r of block n where peeling is stuck on these positions
-unfoldable pub stuck_line : ℕ → ℕ → List ℕ → List ℕ
-stuck_line n r positions =
-    codes "stuck " ++ decimal n ++ codes " " ++ decimal r ++ codes " " ++ decimal (length positions)
-    ++ flat_map position_word positions ++ 10 ∷ []
-
--- the line of code block r of block n by the record of what was heard: it is fixed where no position below K' is left
-unfoldable pub audit_line : ℕ → Link → List Heardbits → ℕ → List ℕ
-audit_line n link records r =
-    if left link records r == 0 then order_line n r (steps_of link (heard_of records r))
-    else stuck_line n r (unfixed link (heard_of records r))
-
--- the lines of block n's code blocks, each behind these words
-abbrev pub audit_block : List ℕ → ℕ → Link → List Heardbits → List ℕ
-audit_block head n link records = flat_map (λ r. head ++ audit_line n link records r) (range_with_len 0 link.plan.c)
-
--- the same after the transmissions of a schedule
+-- the lines of block n's code blocks after the transmissions of a schedule
 abbrev pub audit_of : List Transmission → ℕ → Sending → List ℕ
 audit_of schedule n sender = audit_block [] n sender.link (heard_record sender.link (received sender (own n schedule)))
 
@@ -67,3 +26,23 @@ audit_lines schedule n (sender ∷ senders) = audit_of schedule n sender ++ audi
 pub record HasHeard (sender : Sending) (list : List Reception) (receiver : Receiving) : Type 0 where
   pub link : receiver.link ≡ sender.link
   pub heard : IsRecordOf sender.link list receiver.heard
+
+-- what `audit` says: of a transmission nothing, of a round a line for each code block
+abbrev pub audit_words : Words
+audit_words = record {
+  transmission = λ sender round x. [];
+  round = λ p n sender round.
+      audit_block (process_words p) n sender.link (heard_record sender.link (received sender round));
+}
+
+-- the text of an audit: by processes, or by blocks
+abbrev pub audit_by : Bool → List Sending → List Transmission → List ℕ
+audit_by true senders schedule = pieces_joined (written audit_words senders schedule)
+audit_by false senders schedule = audit_lines schedule 1 senders
+
+abbrev pub text_of_audit : List Sending → Timetable → List ℕ
+text_of_audit senders schedule = audit_by schedule.by_process senders schedule.transmissions
+
+-- what `audit` says of its four files: its text, or the first refusal
+abbrev pub audit_said : List ℕ → List ℕ → List ℕ → List ℕ → Result (List ℕ) RunFault
+audit_said = said_over text_of_audit

@@ -1,11 +1,13 @@
+pub mod AuditLines
 pub mod AuditText
 pub mod Ends
 pub mod FourFiles
 pub mod Hearing
 pub mod Inputs
-pub mod ProcessTexts
 pub mod RoundCalls
 pub mod RoundTexts
+pub mod RunLines
 pub mod RunText
 pub mod SafeRuns
+pub mod SendLines
 pub mod SendText

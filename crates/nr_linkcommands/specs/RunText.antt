@@ -1,19 +1,23 @@
--- The lines of `run`.
-use Rattle.std.specs.Prelude.{ℕ, ◌+◌, ◌==◌, Bool, not, List, [], ◌∷◌, ◌++◌, length, flat_map, count_by, codes, Result, Ok, Err}
-use Rattle.std.specs.Fmt.{decimal}
-use Rattle.std.specs.List.{filter, range_with_len}
-use Rattle.nr_harqbuf.specs.Record.{Heardbits}
+-- The text of `run` over the rounds of a schedule's processes, or over its blocks where it names none: the lines of each
+-- transmission by what was received before, those of each block or round by its outcome, and the totals.
+use Rattle.std.specs.Prelude.{Bool, Err, List, None, Ok, Option, Result, Some, [], codes, false, flat_map, true, ℕ, ◌++◌, ◌+◌, ◌==◌, ◌∷◌}
+use Rattle.std.specs.List.{filter}
 use Rattle.nr_blockdesk.specs.Explains.{Reception, reception}
 use Rattle.nr_blockdesk.specs.Heard.{heard_record}
 use Rattle.nr_blockdesk.specs.Link.{Link}
-use Rattle.nr_blockdesk.specs.Outcome.{Verdict, contradiction, delivered, left, open_still, outcome_of}
+use Rattle.nr_blockdesk.specs.Outcome.{Verdict, contradiction, delivered, open_still, outcome_of}
 use Rattle.nr_blockdesk.specs.Sent.{Sending, sent_said}
 use Rattle.nr_blockdesk.specs.declared.fault.DeskFault.{DeskFault}
 use Rattle.nr_linkcommands.specs.Hearing.{heard_through}
-use Rattle.nr_commands.specs.Lines.{hex}
-use Rattle.nr_linkcommands.specs.SendText.{refused_line, sent_line}
+use Rattle.nr_linkcommands.specs.SendLines.{refused_line, sent_line}
 use Rattle.nr_files.specs.declared.schedule.Transmission.{Transmission}
 use Rattle.nr_linkcommands.specs.declared.received.Totals.{Totals}
+use Rattle.nr_linkcommands.specs.FourFiles.{said_over}
+use Rattle.nr_linkcommands.specs.RoundTexts.{Words, last_rounds, pieces_joined, sender_of, turns}
+use Rattle.nr_files.specs.Rounds.{all_rounds}
+use Rattle.nr_linkcommands.specs.RunLines.{last_line, left_lines, outcome_line, process_words, unfixed_blocks}
+use Rattle.nr_files.specs.Schedule.{Timetable}
+use Rattle.nr_commands.specs.declared.fault.RunFault.{RunFault}
 
 -- the transmissions of transport block n
 abbrev pub own : ℕ → List Transmission → List Transmission
@@ -32,16 +36,6 @@ received_of sender x = received_if x (sent_said sender.link x.tx sender.block)
 abbrev pub received : Sending → List Transmission → List Reception
 received sender transmissions = flat_map (received_of sender) transmissions
 
--- the line of code block r after transmission t of block n: how many positions below K' are not fixed
-unfoldable pub left_line : ℕ → ℕ → ℕ → ℕ → List ℕ
-left_line t n r count =
-    codes "left " ++ decimal t ++ codes " " ++ decimal n ++ codes " " ++ decimal r ++ codes " " ++ decimal count ++ 10 ∷ []
-
--- the lines of the code blocks, by what was heard of them
-abbrev pub left_lines : ℕ → ℕ → Link → List Heardbits → List ℕ
-left_lines t n link records =
-    flat_map (λ r. left_line t n r (left link records r)) (range_with_len 0 link.plan.c)
-
 -- the lines of a transmission by what its sender says, where this is all that was received of its block by then
 abbrev pub lines_if : Transmission → Link → List Reception → Result (List Bool) DeskFault → List ℕ
 lines_if x link list (Ok bits) =
@@ -52,37 +46,6 @@ lines_if x link list (Err e) = refused_line x.number x.block e
 unfoldable pub lines_of : Sending → List Reception → Transmission → List ℕ
 lines_of sender list x =
     lines_if x sender.link (list ++ received_of sender x) (sent_said sender.link x.tx sender.block)
-
--- how many code blocks have a position below K' that is not fixed
-unfoldable pub unfixed_blocks : Link → List Heardbits → ℕ
-unfixed_blocks link records = count_by (λ r. not (left link records r == 0)) (range_with_len 0 link.plan.c)
-
--- the line of block n of c code blocks after tx transmissions: it is delivered
-unfoldable pub delivered_line : ℕ → ℕ → ℕ → List Bool → List ℕ
-delivered_line n tx c bits =
-    codes "block " ++ decimal n ++ codes " delivered tx " ++ decimal tx ++ codes " failed 0 of " ++ decimal c
-    ++ codes " " ++ hex bits ++ 10 ∷ []
-
--- the same: it is open, and so many code blocks failed
-unfoldable pub open_line : ℕ → ℕ → ℕ → ℕ → List ℕ
-open_line n tx failed c =
-    codes "block " ++ decimal n ++ codes " open tx " ++ decimal tx ++ codes " failed " ++ decimal failed
-    ++ codes " of " ++ decimal c ++ 10 ∷ []
-
--- the same: no transport block explains what was heard
-unfoldable pub contradiction_line : ℕ → ℕ → ℕ → List ℕ
-contradiction_line n tx c =
-    codes "block " ++ decimal n ++ codes " contradiction tx " ++ decimal tx ++ codes " failed 0 of " ++ decimal c ++ 10 ∷ []
-
--- the line of block n of which this was received, by its outcome
-abbrev pub outcome_line_by : ℕ → Link → List Reception → Verdict → List ℕ
-outcome_line_by n link list (delivered bits) = delivered_line n (length list) link.plan.c bits
-outcome_line_by n link list open_still =
-    open_line n (length list) (unfixed_blocks link (heard_record link list)) link.plan.c
-outcome_line_by n link list contradiction = contradiction_line n (length list) link.plan.c
-
-abbrev pub outcome_line : ℕ → Link → List Reception → List ℕ
-outcome_line n link list = outcome_line_by n link list (outcome_of link list)
 
 -- the lines of the blocks from block n on, after the whole schedule
 unfoldable pub outcome_lines : ℕ → List Sending → List Transmission → List ℕ
@@ -127,3 +90,43 @@ totals_from t n (sender ∷ senders) schedule =
 -- no block
 abbrev pub no_totals : Totals
 no_totals = record { blocks = 0; delivered = 0; open_still = 0; contradiction = 0; code_blocks = 0; failed = 0 }
+
+-- what `run` says: of a transmission as much as of any, of a round how it ends, as of a block
+abbrev pub run_words : Words
+run_words = record {
+  transmission = λ sender round x. lines_of sender (received sender round) x;
+  round = λ p n sender round. process_words p ++ outcome_line n sender.link (received sender round);
+}
+
+-- the totals with a round more, where its block has a sender
+abbrev pub counted_if : Totals → Option Sending → List Transmission → Totals
+counted_if t None round = t
+counted_if t (Some sender) round = counted t sender.link (received sender round)
+
+-- the same; an empty round is none
+abbrev pub round_counted : Totals → List Sending → List Transmission → Totals
+round_counted t senders [] = t
+round_counted t senders (x ∷ more) = counted_if t (sender_of senders x) (x ∷ more)
+
+-- the totals with these rounds
+unfoldable pub rounds_counted : Totals → List Sending → List (List Transmission) → Totals
+rounds_counted t senders [] = t
+rounds_counted t senders (round ∷ rounds) = rounds_counted (round_counted t senders round) senders rounds
+
+-- what `run` says after all transmissions: by processes, or by blocks
+abbrev pub run_ends : Bool → List Sending → List Transmission → List ℕ
+run_ends true senders schedule =
+    pieces_joined (last_rounds run_words senders schedule)
+    ++ last_line (codes "rounds") (rounds_counted no_totals senders (all_rounds schedule))
+run_ends false senders schedule =
+    outcome_lines 1 senders schedule ++ last_line (codes "blocks") (totals_from no_totals 1 senders schedule)
+
+-- the text of a run
+abbrev pub text_of_run : List Sending → Timetable → List ℕ
+text_of_run senders schedule =
+    pieces_joined (turns run_words senders [] schedule.transmissions)
+    ++ run_ends schedule.by_process senders schedule.transmissions
+
+-- what `run` says of its four files: its text, or the first refusal
+abbrev pub run_said : List ℕ → List ℕ → List ℕ → List ℕ → Result (List ℕ) RunFault
+run_said = said_over text_of_run

@@ -1,36 +1,27 @@
 //! The command `audit`.
 
-ghost use Rattle.std.specs.Prelude.{◌≡◌, ◌≢◌, ◌+◌, ◌^◌, ◌<◌, ◌≤◌, ◌&&◌, ◌++◌, [], ◌∷◌, List, All, length, not, IfErr, IfOk, IsErr, Err, Ok, OnOk};
-ghost use Rattle.std.specs.String.{string_bytes};
-ghost use Rattle.nr_bitvec.specs.Bit.{bit};
-ghost use Rattle.nr_blockdesk.specs.Explains.{Reception};
-ghost use Rattle.nr_blockdesk.specs.Sent.{sent_said};
-ghost use Rattle.nr_linkcommands.specs.AuditText.{HasHeard, audit_block, audit_line, audit_lines, audit_of, gained, order_line, stuck_line};
+ghost use Rattle.std.specs.Prelude.{All, [], length, ◌++◌, ◌+◌, ◌<◌, ◌^◌, ◌≤◌};
+ghost use Rattle.nr_linkcommands.specs.FourFiles.{IsOverFourFiles, used};
+ghost use Rattle.nr_linkcommands.specs.AuditText.{audit_lines, audit_of, audit_said, audit_words, text_of_audit};
+ghost use Rattle.nr_linkcommands.specs.RoundTexts.{last_rounds, pieces_joined, round_lines, turn_lines, turns, written};
 ghost use Rattle.nr_commands.specs.Command.{Writes};
 ghost use Rattle.nr_files.specs.Reading.{FailsAs};
 ghost use Rattle.nr_linkcommands.specs.Ends.{IsLinked};
-ghost use Rattle.nr_linkcommands.specs.FourFiles.{IsOverFourFiles, used};
-ghost use Rattle.nr_linkcommands.specs.ProcessTexts.{audit_said, audit_words, text_of_audit};
-ghost use Rattle.nr_linkcommands.specs.RoundTexts.{pieces_joined, last_rounds, round_lines, turn_lines, turns, written};
-ghost use Rattle.nr_files.specs.Rounds.{IsOfBlock, of_process, round_of};
-ghost use Rattle.nr_linkcommands.specs.RunText.{received, received_if, received_of};
 ghost use Rattle.nr_files.specs.Schedule.{HasBlock};
+ghost use Rattle.nr_files.specs.Rounds.{IsOfBlock, round_of};
+ghost use Rattle.nr_linkcommands.specs.AuditLines.{audit_block, audit_line};
 
-use crate::hearing::heard_through;
+use crate::audit_lines::{behind, line_of};
 use crate::inputs::Inputs;
 use crate::over_files::{Text, over_files};
-use crate::processes::process_words;
-use crate::received::{End, new_end, take};
-use crate::sending::said_of;
-use nr_bitvec::Bits;
-use nr_blockdesk::{Receiver, Sender, accepted_send_all};
+use crate::replaying::end_of;
+use crate::run_lines::process_words;
+use nr_blockdesk::{Receiver, Sender};
 use nr_commands::{RunFault, Sink, deliver};
 use nr_files::{PROCESSES, Transmission, round_block, round_start};
-use nr_peel::Peeler;
 use nr_segment::plans_are_sound;
 use nr_shifttable::Source;
-use std::alloc::{AllocError, Global};
-use std::fmt::Write;
+use std::alloc::Global;
 
 /// Sends and receives each transmission of a schedule as `run` does, without a line, and then writes for each transport
 /// block, counted from 1, a line for each of its code blocks, counted from 0:
@@ -288,166 +279,4 @@ fn write_code<O: Sink>(
     let line = line_of(alloc, number, receiver, r)?;
     let whole = behind(alloc, head, &line)?;
     deliver(out, whole.as_bytes())
-}
-
-// A line behind its first words.
-fn behind(alloc: Global, head: &str, line: &str) -> Result<String, AllocError>
-    ensures { IfOk result (λ whole. string_bytes whole ≡ head.now ++ line.now) }
-{
-    let mut whole = String::new(alloc);
-    write!(whole, "{head}{line}")?;
-    Ok(whole)
-}
-
-// The line of code block `r` of block `number`, by its receiver.
-fn line_of(alloc: Global, number: u32, receiver: &Receiver, r: u32) -> Result<String, AllocError>
-    requires { r < receiver.now.link.plan.c }
-    ensures { IfOk result (λ line. string_bytes line
-        ≡ audit_line number receiver.now.link receiver.now.heard r) }
-{
-    let peeler = receiver.peeler(r);
-    if receiver.left(r) == 0 {
-        return order_line(alloc, number, r, gained(peeler));
-    }
-    let positions = peeler.stuck()?;
-    stuck_line(alloc, number, r, &positions)
-}
-
-// How many positions a peeler knows that it was not given. A step whose position was heard later is none of them.
-fn gained(peeler: &Peeler) -> u32
-    ensures { result ≡ gained peeler.now }
-{
-    let mut count = 0;
-    for position in 0..peeler.given().len() as u32 {
-        count += u32::from(is_gained(peeler, position));
-    }
-    count
-}
-
-// Whether a peeler knows a position that it was not given.
-#[tactic(auto, using(crate::proofs::AuditLemmas::known_at_some))]
-fn is_gained(peeler: &Peeler, position: u32) -> bool
-    requires { position < length peeler.now.given }
-    ensures { result ≡ (bit peeler.now.known position && not (bit peeler.now.given position)) }
-{
-    let given = peeler.given().get(position as usize);
-    let known = peeler.known(position).is_some();
-    known && !given
-}
-
-// The line of code block `r` of block `number`, which is fixed in so many steps.
-#[tactic(auto, unfolding(crate::specs::AuditText::order_line))]
-fn order_line(alloc: Global, number: u32, r: u32, steps: u32) -> Result<String, AllocError>
-    ensures { IfOk result (λ line. string_bytes line ≡ order_line number r steps) }
-{
-    let mut line = String::new(alloc);
-    writeln!(line, "order {number} {r} {steps}")?;
-    Ok(line)
-}
-
-// The line of code block `r` of block `number`, where peeling is stuck on these positions.
-#[tactic(auto, unfolding(crate::specs::AuditText::stuck_line))]
-fn stuck_line(alloc: Global, number: u32, r: u32, positions: &[u32]) -> Result<String, AllocError>
-    ensures { IfOk result (λ line. string_bytes line ≡ stuck_line number r positions.now) }
-{
-    let mut line = String::new(alloc);
-    let count = positions.len();
-    write!(line, "stuck {number} {r} {count}")?;
-    for position in positions {
-        write!(line, " {position}")?;
-    }
-    line.push('\n')?;
-    Ok(line)
-}
-
-// The receiving end of a sender's transport block after those of these transmissions that are of a process.
-fn end_of<'t>(
-    alloc: Global,
-    inputs: &'t Inputs,
-    sender: &Sender,
-    process: u32,
-    transmissions: &[Transmission],
-) -> Result<End<'t>, AllocError>
-    requires { IsLinked inputs.now.table inputs.now.settings sender.now.link }
-    ensures { IfOk result (λ end. HasHeard sender.now
-        (received sender.now (of_process process transmissions.now)) end.receiver) }
-{
-    let mut end = new_end(alloc, inputs, sender)?;
-    hear_all(alloc, sender, process, &mut end.receiver, transmissions)?;
-    Ok(end)
-}
-
-// Makes those of these transmissions that are of a process, and has a receiver hear what arrives.
-fn hear_all(
-    alloc: Global,
-    sender: &Sender,
-    process: u32,
-    receiver: &mut Receiver,
-    transmissions: &[Transmission],
-) -> Result<(), AllocError>
-    requires { HasHeard sender.now [] receiver.old }
-    ensures { OnOk result (HasHeard sender.now
-        (received sender.now (of_process process transmissions.now)) receiver.new) }
-{
-    for transmission in transmissions {
-        receive(alloc, sender, process, receiver, transmission)?;
-    }
-    Ok(())
-}
-
-// Sends a transmission if it is one of a process, and has the receiver hear what arrives.
-fn receive(
-    alloc: Global,
-    sender: &Sender,
-    process: u32,
-    receiver: &mut Receiver,
-    transmission: &Transmission,
-) -> Result<(), AllocError>
-    requires { receiver.old.link ≡ sender.now.link }
-    ensures { OnOk result ((list : List Reception) → HasHeard sender.now list receiver.old
-        → HasHeard sender.now
-        (list ++ received sender.now (of_process process (transmission.now ∷ []))) receiver.new) }
-{
-    if transmission.process != process {
-        return Ok(());
-    }
-    hear(alloc, sender, receiver, transmission)
-}
-
-// Sends a transmission, and has the receiver hear what arrives, where it is not refused.
-fn hear(
-    alloc: Global,
-    sender: &Sender,
-    receiver: &mut Receiver,
-    transmission: &Transmission,
-) -> Result<(), AllocError>
-    requires { receiver.old.link ≡ sender.now.link }
-    ensures { OnOk result ((list : List Reception) → HasHeard sender.now list receiver.old
-        → HasHeard sender.now (list ++ received_of sender.now transmission.now) receiver.new) }
-{
-    match said_of(sender, &transmission.tx)? {
-        Ok(bits) => hear_bits(alloc, sender, receiver, transmission, &bits),
-        Err(_) => Ok(()),
-    }
-}
-
-// Has the receiver hear what arrives of a transmission, of which a sender sends these bits.
-fn hear_bits(
-    alloc: Global,
-    sender: &Sender,
-    receiver: &mut Receiver,
-    transmission: &Transmission,
-    bits: &Bits,
-) -> Result<(), AllocError>
-    requires same_link { receiver.old.link ≡ sender.now.link }
-    requires sent { sent_said sender.now.link transmission.now.tx sender.now.block
-        ≡ Ok bits.now.items }
-    ensures { OnOk result ((list : List Reception) → HasHeard sender.now list receiver.old
-        → HasHeard sender.now (list ++ received_if transmission.now (Ok bits.now.items))
-        receiver.new) }
-{
-    accepted_send_all();
-    let heard = heard_through(alloc, transmission, bits)?;
-    take(receiver, &transmission.tx, &heard)?;
-    Ok(())
 }

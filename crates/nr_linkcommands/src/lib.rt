@@ -6,21 +6,26 @@
 //! Stands on nr_files and nr_commands, and on nr_blockdesk and the layers below it for the standard.
 #![tactic(auto)]
 
+mod audit_lines;
 mod auditing;
+mod carrying;
 mod hearing;
 mod inputs;
 mod over_files;
-mod processes;
 mod received;
+mod replaying;
 mod run_laws;
+mod run_lines;
+mod run_rounds;
 mod running;
+mod send_lines;
 mod sending;
 
 pub use auditing::audit;
 pub use hearing::heard_through;
 pub use inputs::{Inputs, read, senders};
-pub use processes::{lines_are_own, process_words};
-pub use run_laws::{erasures_alone_are_safe, rounds_are_calls, runs_are_safe};
+pub use run_laws::{erasures_alone_are_safe, lines_are_own, rounds_are_calls, runs_are_safe};
+pub use run_lines::process_words;
 pub use running::run;
 pub use sending::send;
 

@@ -7,7 +7,8 @@ ghost use Rattle.nr_blockdesk.specs.Link.{IsLink, Link};
 ghost use Rattle.nr_blockdesk.specs.Outcome.{outcome_of};
 ghost use Rattle.nr_blockdesk.specs.Receiving.{verdict};
 ghost use Rattle.nr_linkcommands.specs.Ends.{AllHold, HasReceived, HoldsEnd, IsEnd, IsLinked, IsOver, IsWithin};
-ghost use Rattle.nr_linkcommands.specs.RunText.{counted, no_totals, totals_from, unfixed_blocks};
+ghost use Rattle.nr_linkcommands.specs.RunText.{counted, no_totals, totals_from};
+ghost use Rattle.nr_linkcommands.specs.RunLines.{unfixed_blocks};
 ghost use Rattle.nr_files.specs.declared.schedule.Transmission.{Transmission};
 
 use crate::inputs::Inputs;

@@ -1,12 +1,19 @@
 //! Laws of runs, each the contract of a function that does nothing.
 
-ghost use Rattle.nr_linkcommands.specs.RoundCalls.{RoundsAreCalls};
+ghost use Rattle.nr_linkcommands.specs.RoundTexts.{LinesAreOwn};
 ghost use Rattle.nr_linkcommands.specs.SafeRuns.{ErasuresAloneAreSafe, RunsAreSafe};
+ghost use Rattle.nr_linkcommands.specs.RoundCalls.{RoundsAreCalls};
 
 use nr_blockdesk::{
     accepted_send_all, delivered_is_only, explained_is_delivered, explained_never_contradicts,
     links_are_sound,
 };
+
+/// Law: the lines that a command writes about a process, in their order, are those that it writes about it for a
+/// schedule of the process's own transmissions alone, with their numbers.
+pub fn lines_are_own()
+    ensures { LinesAreOwn }
+{}
 
 /// Law: of transmissions of a sender's transport block that only erase, the outcome is no contradiction, what is
 /// delivered is that block, and it is delivered once every position below K' is fixed.

@@ -1,25 +1,24 @@
 //! The command `send`.
 
-ghost use Rattle.std.specs.Prelude.{◌≡◌, ◌^◌, ◌<◌, All, length, IfOk};
-ghost use Rattle.std.specs.String.{string_bytes};
+ghost use Rattle.std.specs.Prelude.{All, IfOk, length, ◌<◌, ◌^◌, ◌≡◌};
+ghost use Rattle.nr_linkcommands.specs.FourFiles.{IsOverFourFiles, used};
+ghost use Rattle.nr_linkcommands.specs.SendLines.{answer_line};
+ghost use Rattle.nr_linkcommands.specs.SendText.{send_said, text_of_send, transmission_line, transmission_lines};
 ghost use Rattle.nr_commands.specs.Command.{Writes};
 ghost use Rattle.nr_files.specs.Reading.{FailsAs};
-ghost use Rattle.nr_linkcommands.specs.FourFiles.{IsOverFourFiles, used};
-ghost use Rattle.nr_linkcommands.specs.SendText.{answer_line, rate_name, refusal_name, refused_line, send_said, sent_line, text_of_send, transmission_line, transmission_lines};
 ghost use Rattle.nr_files.specs.Schedule.{HasBlock};
 ghost use Rattle.nr_blockdesk.specs.Sent.{sent_said};
 ghost use Rattle.std.specs.Result.{result_map_both};
 
 use crate::inputs::Inputs;
 use crate::over_files::{Text, over_files};
+use crate::send_lines::{refused_line, sent_line};
 use nr_bitvec::Bits;
 use nr_blockdesk::{DeskFault, Sender, Tx};
-use nr_commands::{RunFault, Sink, deliver, hex_line};
+use nr_commands::{RunFault, Sink, deliver};
 use nr_files::Transmission;
-use nr_ratematch::RmFault;
 use nr_shifttable::Source;
 use std::alloc::{AllocError, Global};
-use std::fmt::Write;
 
 /// Encodes each transport block of a blocks file once (TS 38.212, 6.2.1 to 6.2.4 and 7.2.1 to 7.2.4), and writes a
 /// line for each transmission of a schedule: the bits that are sent (6.2.5, 6.2.6, 7.2.5 and 7.2.6), or the name of
@@ -140,65 +139,5 @@ pub(crate) fn said_of(sender: &Sender, tx: &Tx) -> Result<Result<Bits, DeskFault
         Ok(bits) => Ok(Ok(bits)),
         Err(DeskFault::Memory) => Err(AllocError),
         Err(fault) => Ok(Err(fault)),
-    }
-}
-
-// The line of transmission `number` of block `block`: the bits that it sends.
-pub(crate) fn sent_line(
-    alloc: Global,
-    number: u32,
-    block: u32,
-    bits: &Bits,
-) -> Result<Vec<u8>, AllocError>
-    ensures { IfOk result (λ line. line.items ≡ sent_line number block bits.now.items) }
-{
-    let mut head = String::new(alloc);
-    write!(head, "sent {number} {block} ")?;
-    hex_line(head, bits)
-}
-
-// The line of transmission `number` of block `block`, which is refused.
-#[tactic(auto, unfolding(crate::specs::SendText::refused_line))]
-pub(crate) fn refused_line(
-    alloc: Global,
-    number: u32,
-    block: u32,
-    fault: DeskFault,
-) -> Result<String, AllocError>
-    ensures { IfOk result (λ line. string_bytes line ≡ refused_line number block fault) }
-{
-    let mut line = String::new(alloc);
-    let name = refusal_name(fault);
-    writeln!(line, "refused {number} {block} {name}")?;
-    Ok(line)
-}
-
-// The name of a refusal.
-fn refusal_name(fault: DeskFault) -> &'static str
-    ensures { result.now ≡ refusal_name fault }
-{
-    match fault {
-        DeskFault::Size => "Size",
-        DeskFault::Pick(_) => "Pick",
-        DeskFault::Seg(_) => "Seg",
-        DeskFault::Graph => "Graph",
-        DeskFault::Rv => "Rv",
-        DeskFault::Rm(fault) => rate_name(fault),
-        DeskFault::Length => "Length",
-        DeskFault::Memory => "Memory",
-    }
-}
-
-// The name of a refusal of rate matching.
-fn rate_name(fault: RmFault) -> &'static str
-    ensures { result.now ≡ rate_name fault }
-{
-    match fault {
-        RmFault::NoBuffer => "NoBuffer",
-        RmFault::Order => "Order",
-        RmFault::Layers => "Layers",
-        RmFault::Total => "Total",
-        RmFault::Ragged => "Ragged",
-        RmFault::NoneScheduled => "NoneScheduled",
     }
 }

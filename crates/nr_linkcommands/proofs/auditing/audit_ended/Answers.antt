@@ -2,7 +2,7 @@ use Rattle.std.proofs.Common.{◌≡◌, ◌<◌, ◌≤◌, get_or, length, tak
 use Rattle.std.proofs.lemmas.List.{drop_all}
 use Rattle.std.proofs.lemmas.List.Elements.{All-take}
 use Rattle.std.proofs.lemmas.Result.{err_from_is_err_and}
-use Rattle.nr_linkcommands.specs.ProcessTexts.{audit_words}
+use Rattle.nr_linkcommands.specs.AuditText.{audit_words}
 use Rattle.nr_files.specs.Schedule.{HasBlock}
 use Rattle.nr_linkcommands.proofs.RoundTurns.{turns-end, turns-turn}
 use Rattle.nr_linkcommands.proofs.RunTexts.{left-first, left-last, left-more, left-stopped}

@@ -1,5 +1,5 @@
 use Rattle.std.proofs.Common.{◌≡◌, [], take, drop}
-use Rattle.nr_linkcommands.specs.ProcessTexts.{audit_words}
+use Rattle.nr_linkcommands.specs.AuditText.{audit_words}
 use Rattle.nr_linkcommands.specs.RoundTexts.{pieces_joined, turns}
 use Rattle.nr_linkcommands.proofs.RunTexts.{IsLeft}
 use Rattle.nr_linkcommands.proofs.auditing.audit_ended.Given as goal

@@ -1,6 +1,6 @@
 use Rattle.std.proofs.Common.{◌≡◌, flat_map}
 use Rattle.std.specs.List.{range_with_len}
-use Rattle.nr_linkcommands.specs.ProcessTexts.{audit_words}
+use Rattle.nr_linkcommands.specs.AuditText.{audit_words}
 use Rattle.nr_linkcommands.specs.RoundTexts.{round_lines}
 use Rattle.nr_files.specs.Rounds.{round_of}
 use Rattle.nr_commands.specs.Written.{with_text}

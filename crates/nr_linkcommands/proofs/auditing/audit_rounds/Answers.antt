@@ -1,8 +1,8 @@
 use Rattle.std.proofs.Common.{[], sym}
 use Rattle.std.proofs.lemmas.Grind.{flat_map-append}
 use Rattle.std.proofs.lemmas.Result.{err_from_is_err_and}
-use Rattle.nr_linkcommands.specs.ProcessTexts.{audit_words}
-use Rattle.nr_linkcommands.specs.RoundTexts.{Piece, pieces_joined, last_rounds, turns}
+use Rattle.nr_linkcommands.specs.AuditText.{audit_words}
+use Rattle.nr_linkcommands.specs.RoundTexts.{Piece, last_rounds, pieces_joined, turns}
 use Rattle.nr_commands.proofs.WrittenLemmas.{with_text-nil, writes_behind, writes_last}
 use Rattle.nr_linkcommands.proofs.auditing.audit_rounds.Goals as goal
 

@@ -2,7 +2,7 @@ use Rattle.std.proofs.Common.{◌≡◌, ◌+◌, ◌-◌, ◌<◌, ◌++◌, []
 use Rattle.std.specs.List.{range_with_len}
 use Rattle.std.proofs.lemmas.Result.{err_from_is_err_and}
 use Rattle.nr_segment.specs.Plan.{Numbers}
-use Rattle.nr_linkcommands.specs.AuditText.{audit_line}
+use Rattle.nr_linkcommands.specs.AuditLines.{audit_line}
 use Rattle.nr_commands.specs.Written.{with_text}
 use Rattle.nr_commands.proofs.BlockTexts.{flat_map-range_more, lines_parts}
 use Rattle.nr_commands.proofs.WrittenLemmas.{with_text-append, writes_behind}

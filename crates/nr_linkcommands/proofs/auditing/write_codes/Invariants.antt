@@ -1,6 +1,6 @@
 use Rattle.std.proofs.Common.{◌≡◌, ◌++◌, flat_map}
 use Rattle.std.specs.List.{range_with_len}
-use Rattle.nr_linkcommands.specs.AuditText.{audit_line}
+use Rattle.nr_linkcommands.specs.AuditLines.{audit_line}
 use Rattle.nr_commands.specs.Written.{with_text}
 use Rattle.nr_linkcommands.proofs.auditing.write_codes.Given as goal
 

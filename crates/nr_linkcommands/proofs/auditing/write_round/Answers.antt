@@ -3,7 +3,7 @@ use Rattle.std.proofs.lemmas.Result.{err_from_is_err_and}
 use Rattle.nr_blockdesk.specs.Sent.{Sending}
 use Rattle.nr_linkcommands.specs.AuditText.{HasHeard}
 use Rattle.nr_linkcommands.specs.Ends.{IsLinked}
-use Rattle.nr_linkcommands.specs.ProcessTexts.{process_words}
+use Rattle.nr_linkcommands.specs.RunLines.{process_words}
 use Rattle.nr_files.specs.Rounds.{of_process, round_of}
 use Rattle.nr_linkcommands.specs.RunText.{received}
 use Rattle.nr_files.specs.declared.schedule.Transmission.{Transmission}

@@ -1,7 +1,7 @@
 use Rattle.std.proofs.Common.{◌≡◌, ◌==◌, cond, not, ap, arith}
 use Rattle.nr_blockdesk.specs.Outcome.{left}
 use Rattle.nr_segment.specs.Plan.{Numbers}
-use Rattle.nr_linkcommands.specs.RunText.{unfixed_blocks}
+use Rattle.nr_linkcommands.specs.RunLines.{unfixed_blocks}
 use Rattle.nr_linkcommands.proofs.AuditLemmas.{byte-step, count-next, step-few}
 use Rattle.nr_linkcommands.proofs.RunOutcomes.{some-tested}
 use Rattle.nr_linkcommands.proofs.received.unfixed.Goals as goal

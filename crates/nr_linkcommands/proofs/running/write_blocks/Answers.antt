@@ -1,6 +1,6 @@
 use Rattle.std.proofs.Common.{[], List, ℕ, codes, refl, sym}
 use Rattle.std.proofs.lemmas.Result.{err_from_is_err_and}
-use Rattle.nr_linkcommands.specs.ProcessTexts.{last_line}
+use Rattle.nr_linkcommands.specs.RunLines.{last_line}
 use Rattle.nr_linkcommands.specs.RunText.{no_totals, outcome_lines, totals_from}
 use Rattle.nr_commands.proofs.WrittenLemmas.{with_text-nil, writes_behind, writes_last}
 use Rattle.nr_linkcommands.proofs.running.write_blocks.Goals as goal

@@ -4,7 +4,7 @@ use Rattle.std.proofs.lemmas.List.{length-replicate}
 use Rattle.std.proofs.lemmas.Result.{err_from_is_err_and}
 use Rattle.nr_blockdesk.specs.Sent.{Sending}
 use Rattle.nr_linkcommands.specs.Ends.{HoldRounds}
-use Rattle.nr_linkcommands.specs.ProcessTexts.{run_ends, run_words}
+use Rattle.nr_linkcommands.specs.RunText.{run_ends, run_words}
 use Rattle.nr_linkcommands.specs.RoundTexts.{pieces_joined, turns}
 use Rattle.nr_files.specs.Rounds.{IsOfBlock}
 use Rattle.nr_files.specs.Schedule.{timetable_by}

@@ -1,0 +1,49 @@
+-- The lines of `audit`: of a code block, how many positions peeling fixed, or those that it left.
+use Rattle.std.specs.Prelude.{List, [], codes, count_by, filter, flat_map, if◌then◌else◌, length, not, ℕ, ◌&&◌, ◌++◌, ◌+◌, ◌==◌, ◌∷◌}
+use Rattle.std.specs.Fmt.{decimal}
+use Rattle.std.specs.List.{range_with_len}
+use Rattle.nr_bitvec.specs.Bit.{bit}
+use Rattle.nr_harqbuf.specs.Record.{Heardbits}
+use Rattle.nr_segment.specs.Plan.{word_size}
+use Rattle.nr_peel.specs.Peeling.{Peeling}
+use Rattle.nr_blockdesk.specs.Heard.{heard_of}
+use Rattle.nr_blockdesk.specs.Link.{Link}
+use Rattle.nr_blockdesk.specs.Outcome.{fixed, given, left}
+
+-- how many positions of a code block peeling fixed: those that are fixed, but neither heard nor fillers
+abbrev pub steps_of : Link → Heardbits → ℕ
+steps_of link s =
+    count_by (λ p. fixed link s p && not (given link s p)) (range_with_len 0 (word_size link.graph link.plan))
+
+-- the positions that are not fixed, ascending
+abbrev pub unfixed : Link → Heardbits → List ℕ
+unfixed link s = filter (λ p. not (fixed link s p)) (range_with_len 0 (word_size link.graph link.plan))
+
+-- how many positions a peeler knows that it was not given
+abbrev pub gained : Peeling → ℕ
+gained p = count_by (λ k. bit p.known k && not (bit p.given k)) (range_with_len 0 (length p.given))
+
+-- the line of code block r of block n where it is fixed, in so many steps
+unfoldable pub order_line : ℕ → ℕ → ℕ → List ℕ
+order_line n r steps =
+    codes "order " ++ decimal n ++ codes " " ++ decimal r ++ codes " " ++ decimal steps ++ 10 ∷ []
+
+-- a position in a line
+abbrev pub position_word : ℕ → List ℕ
+position_word p = codes " " ++ decimal p
+
+-- the line of code block r of block n where peeling is stuck on these positions
+unfoldable pub stuck_line : ℕ → ℕ → List ℕ → List ℕ
+stuck_line n r positions =
+    codes "stuck " ++ decimal n ++ codes " " ++ decimal r ++ codes " " ++ decimal (length positions)
+    ++ flat_map position_word positions ++ 10 ∷ []
+
+-- the line of code block r of block n by the record of what was heard: it is fixed where no position below K' is left
+unfoldable pub audit_line : ℕ → Link → List Heardbits → ℕ → List ℕ
+audit_line n link records r =
+    if left link records r == 0 then order_line n r (steps_of link (heard_of records r))
+    else stuck_line n r (unfixed link (heard_of records r))
+
+-- the lines of block n's code blocks, each behind these words
+abbrev pub audit_block : List ℕ → ℕ → Link → List Heardbits → List ℕ
+audit_block head n link records = flat_map (λ r. head ++ audit_line n link records r) (range_with_len 0 link.plan.c)
