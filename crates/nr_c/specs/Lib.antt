@@ -1,0 +1,6 @@
+pub mod Statuses
+pub mod Crossing
+pub mod Sending
+pub mod Receiving
+pub mod Numbers
+pub mod Judging

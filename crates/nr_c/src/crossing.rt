@@ -1,0 +1,95 @@
+//! What crosses between C and the chain: settings, transmissions, and bits as octets.
+
+ghost use Rattle.std.specs.Prelude.{◌≡◌, ◌*◌, ◌<◌, ◌≤◌, ◌^◌, length};
+ghost use Rattle.nr_c.specs.Crossing.{AreBits, AreOctets, digit, settings_of, tx_of};
+
+use nr_bitvec::Bits;
+use nr_blockdesk::{Settings, Tx};
+use nr_ratematch::Mask;
+
+/// What both ends of a link are set to.
+#[repr(C)]
+#[derive(Clone, Copy)]
+pub struct NrSettings {
+    /// The code rate in 2048ths: 1 to 2048.
+    pub rate2048: u32,
+    /// TBS_LBRM, in bits, where the circular buffer is limited (TS 38.212, 5.4.2.1); 0 where it is not.
+    pub lbrm: u32,
+}
+
+impl NrSettings {
+    // The settings that these are.
+    pub(crate) fn settings(&self) -> Settings
+        ensures { result ≡ settings_of self.now }
+    {
+        let lbrm = if self.lbrm == 0 {
+            None
+        } else {
+            Some(self.lbrm)
+        };
+        Settings {
+            rate2048: self.rate2048,
+            lbrm,
+        }
+    }
+}
+
+/// How a transport block is sent once (TS 38.212, 5.4.2).
+#[repr(C)]
+#[derive(Clone, Copy)]
+pub struct NrTx {
+    /// The redundancy version: 0 to 3.
+    pub rv: u32,
+    /// G, how many bits are sent in all: 1 to 4,194,304, a multiple of `qm * nl`.
+    pub g: u32,
+    /// Qm, the bits of a modulation symbol: 1, 2, 4, 6 or 8.
+    pub qm: u32,
+    /// NL, the transmission layers: 1 to 4.
+    pub nl: u32,
+    /// 0 where every code block is scheduled; any other number where `blocks` says which.
+    pub some: u64,
+    /// Code block r, counted from 0, is scheduled where bit r mod 64 of word r div 64 is set.
+    pub blocks: [u64; 6],
+}
+
+impl NrTx {
+    // The transmission that this is.
+    pub(crate) fn tx(&self) -> Tx
+        ensures { result ≡ tx_of self.now }
+    {
+        let mask = if self.some == 0 {
+            Mask::All
+        } else {
+            Mask::Only(self.blocks)
+        };
+        Tx {
+            rv: self.rv,
+            g: self.g,
+            qm: self.qm,
+            nl: self.nl,
+            mask,
+        }
+    }
+}
+
+// Writes an octet for each bit.
+pub(crate) fn write_bits(bits: &Bits, out: &mut [u8])
+    requires { length out.old ≡ length bits.now.items }
+    ensures { AreBits bits.now.items out.new }
+{
+    for (m, octet) in out.iter_mut().enumerate() {
+        *octet = bits.get(m) as u8;
+    }
+}
+
+// Writes an octet for each eight bits, the first bit most significant.
+pub(crate) fn write_octets(bits: &Bits, out: &mut [u8])
+    requires { 8 * length out.old ≡ length bits.now.items }
+    ensures { AreOctets bits.now.items out.new }
+{
+    // A list has at most 2^24 bits, as `len` says: so no place overflows.
+    let _ = bits.len();
+    for (i, octet) in out.iter_mut().enumerate() {
+        *octet = bits.octet(8 * i);
+    }
+}

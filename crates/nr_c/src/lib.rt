@@ -1,0 +1,13 @@
+//! The data coding chain of NR's shared channels (3GPP TS 38.212, Release 15) for callers in C: a static library.
+//! Each export answers a status, 0 or the number of its first fault (specs/Statuses.antt), and has no `requires`: it tests
+//! all that it is given, and what it writes is a stated function of that; a refusal writes nothing. A slice is a pointer
+//! and a length, a `Global` no argument; no memory outlives a call. The main contracts are those of `nr_send` and
+//! `nr_receive`. Stands on nr_blockdesk for both ends of a link, and on the layers below it.
+#![tactic(auto)]
+
+pub mod crossing;
+pub mod fault;
+pub mod numbers;
+pub mod receiving;
+pub mod sending;
+pub mod table;

@@ -1,0 +1,145 @@
+//! Sending a transport block.
+
+ghost use Rattle.std.specs.Prelude.{◌≡◌, ◌*◌, ◌^◌, ◌≤◌, length, IfOk};
+ghost use Rattle.nr_bitvec.specs.BitList.{bits_of};
+ghost use Rattle.nr_graphpick.specs.Refusal.{Gives, with_fault};
+ghost use Rattle.nr_shifttable.specs.Accepted.{table_said};
+ghost use Rattle.nr_blockdesk.specs.Link.{demanded};
+ghost use Rattle.nr_blockdesk.specs.Sent.{sending_said, sent_said};
+ghost use Rattle.nr_blockdesk.specs.declared.fault.DeskFault.TheVariants as desk;
+ghost use Rattle.nr_c.specs.Crossing.{settings_of, tx_of};
+ghost use Rattle.nr_c.specs.Sending.{Answers, send_by, send_into_said, send_said};
+
+use crate::crossing::{NrSettings, NrTx, write_bits};
+use crate::fault::Fault;
+use crate::table::read;
+use nr_bitvec::Bits;
+use nr_blockdesk::{DeskFault, Sender, Settings, Tx};
+use nr_shifttable::Table;
+use std::alloc::Global;
+
+// The most octets of a transport block.
+const MOST_OCTETS: usize = 163_840;
+
+/// The bits that a transmission sends of a transport block, one to an octet of `out` (TS 38.212, 6.2 and 7.2). `block` has
+/// eight bits to an octet, the first most significant, and `out` G octets. It does not depend on what was sent before.
+///
+/// # Errors
+///
+/// In this order: the faults of the shift table as `nr_table_check` has them, 21 to 30; of the block 40 `Size`, 41
+/// `RateRange`, 45 `Uneven`, 46 `Graph`, 47 `NoBuffer`; of the transmission 50 `Rv`, 51 `Order`, 52 `Layers`, 53
+/// `Total`, 54 `Ragged`, 55 `NoneScheduled`; 2 `Room`, where `out` does not have G octets; 1, want of memory, where it is
+/// met. `out` is as it was then.
+#[unsafe(no_mangle)]
+pub extern "C" fn nr_send(
+    alloc: Global,
+    table: &[u8],
+    settings: &NrSettings,
+    block: &[u8],
+    tx: &NrTx,
+    out: &mut [u8],
+) -> u32
+    ensures { Answers result out.old out.new (send_into_said table.now
+        (settings_of settings.now) block.now (tx_of tx.now) (length out.old)) }
+{
+    match send_into(
+        alloc,
+        table,
+        settings.settings(),
+        block,
+        &tx.tx(),
+        out.len(),
+    ) {
+        Ok(bits) => {
+            write_bits(&bits, out);
+            0
+        }
+        Err(fault) => fault.status(),
+    }
+}
+
+// The bits for a room of this length.
+fn send_into(
+    alloc: Global,
+    table: &[u8],
+    settings: Settings,
+    block: &[u8],
+    tx: &Tx,
+    room: usize,
+) -> Result<Bits, Fault>
+    ensures said { Gives Fault.Memory (λ bits. bits.items) result
+        (send_into_said table.now settings block.now tx.now room) }
+    ensures room { IfOk result (λ bits. length bits.items ≡ room) }
+{
+    let bits = send(alloc, table, settings, block, tx)?;
+    if bits.len() != room {
+        return Err(Fault::Room);
+    }
+    Ok(bits)
+}
+
+// The bits of a transmission.
+#[tactic(auto, unfolding(crate::specs::Sending::send_said))]
+fn send(
+    alloc: Global,
+    table: &[u8],
+    settings: Settings,
+    block: &[u8],
+    tx: &Tx,
+) -> Result<Bits, Fault>
+    ensures { Gives Fault.Memory (λ bits. bits.items) result
+        (send_said table.now settings block.now tx.now) }
+{
+    let table = read(alloc, table)?;
+    send_by(alloc, &table, settings, block, tx)
+}
+
+// The bits of a transmission, by a shift table.
+#[tactic(auto, unfolding(crate::specs::Sending::send_by))]
+fn send_by(
+    alloc: Global,
+    table: &Table,
+    settings: Settings,
+    block: &[u8],
+    tx: &Tx,
+) -> Result<Bits, Fault>
+    ensures { Gives Fault.Memory (λ bits. bits.items) result
+        (send_by table.now settings block.now tx.now) }
+{
+    if block.len() > MOST_OCTETS {
+        return Err(Fault::Desk(DeskFault::Size));
+    }
+    let sender = sender_of(alloc, table, settings, block)?;
+    sent_by(&sender, tx)
+}
+
+// The sender of a transport block.
+fn sender_of<'t>(
+    alloc: Global,
+    table: &'t Table,
+    settings: Settings,
+    block: &[u8],
+) -> Result<Sender<'t>, Fault>
+    requires { length block.now ≤ 163840 }
+    ensures { Gives Fault.Memory (λ sender. sender) result
+        (with_fault Fault.Desk (sending_said table.now settings (bits_of block.now))) }
+{
+    let block = Bits::from_bytes(alloc, block)?;
+    match Sender::new(alloc, table, settings, &block) {
+        Ok(sender) => Ok(sender),
+        Err(DeskFault::Memory) => Err(Fault::Memory),
+        Err(fault) => Err(Fault::Desk(fault)),
+    }
+}
+
+// The bits of a transmission, by a sender.
+fn sent_by(sender: &Sender<'_>, tx: &Tx) -> Result<Bits, Fault>
+    ensures { Gives Fault.Memory (λ bits. bits.items) result
+        (with_fault Fault.Desk (sent_said sender.now.link tx.now sender.now.block)) }
+{
+    match sender.send(tx) {
+        Ok(bits) => Ok(bits),
+        Err(DeskFault::Memory) => Err(Fault::Memory),
+        Err(fault) => Err(Fault::Desk(fault)),
+    }
+}
