@@ -30,22 +30,6 @@ pub use running::run;
 pub use sending::send;
 
 #[cfg(test)]
-mod audit_tests;
-#[cfg(test)]
-mod broken_tests;
-#[cfg(test)]
-mod commands;
-#[cfg(test)]
-mod delivery_tests;
-#[cfg(test)]
-mod refusal_tests;
-#[cfg(test)]
 mod refused_tests;
-#[cfg(test)]
-mod round_tests;
-#[cfg(test)]
-mod run_tests;
-#[cfg(test)]
-mod send_tests;
 #[cfg(test)]
 mod tests;

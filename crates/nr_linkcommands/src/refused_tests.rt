@@ -2,9 +2,9 @@
 //! was refused, the call is first made again, and gives the true answer. `tests/refused-growths` refuses them, one after
 //! another.
 
-use crate::broken_tests::{AUDIT, BLOCKS, RUN, SCHEDULE, SENT};
-use crate::commands::{Command, SETTINGS, Texts, outcome};
-use crate::tests::{FIRST, practice_table};
+use crate::tests::broken::{AUDIT, BLOCKS, RUN, SCHEDULE, SENT};
+use crate::tests::commands::{Command, SETTINGS, Texts, outcome};
+use crate::tests::tables::{FIRST, practice_table};
 use nr_commands::RunFault;
 use std::alloc::{AllocError, Global};
 use std::test::Fail;

@@ -1,7 +1,7 @@
 //! `run` and `audit` over HARQ processes, by Sources and a Sink in memory. The values are worked by hand: of blocks 01 and
 //! 80, 24 bits leave column 1, which the last four of 28 bits give, and 32 bits leave nothing.
 
-use crate::commands::{Command, SETTINGS, written};
+use crate::tests::commands::{Command, SETTINGS, written};
 use std::alloc::{AllocError, Global};
 use std::fmt::Write;
 use std::process::Abort;

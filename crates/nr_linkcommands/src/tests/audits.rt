@@ -1,7 +1,7 @@
 //! `audit` over Sources and a Sink in memory. The values are worked by hand: under the practice table the word of block
 //! 01 has 52 columns of four positions, columns 6 to 9 are fillers, and column 10 + i is a rotation of column i mod 10.
 
-use crate::commands::{Command, SETTINGS, written};
+use crate::tests::commands::{Command, SETTINGS, written};
 use std::alloc::{AllocError, Global};
 use std::fmt::Write;
 use std::test::Fail;

@@ -1,7 +1,7 @@
 //! `run` over Sources and a Sink in memory. The values are worked by hand: under the practice table parity columns are
 //! sums and rotations of columns that can be written down.
 
-use crate::commands::{Command, SETTINGS, written};
+use crate::tests::commands::{Command, SETTINGS, written};
 use std::alloc::Global;
 use std::process::Abort;
 use std::test::Fail;

@@ -1,7 +1,7 @@
 //! `send` over Sources and a Sink in memory. The values are worked by hand: under the practice table parity columns are
 //! sums and rotations of columns that can be written down.
 
-use crate::commands::{Command, SETTINGS, written};
+use crate::tests::commands::{Command, SETTINGS, written};
 use std::test::Fail;
 
 // Block 01 with its CRC is 011021: Zc is 4, so each column of the word is a digit. All of the buffer; then 24 bits in

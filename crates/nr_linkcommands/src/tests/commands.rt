@@ -5,7 +5,7 @@ ghost use Rattle.std.specs.Prelude.{◌≡◌, ◌^◌, ◌<◌, IfOk};
 use crate::auditing::audit;
 use crate::running::run;
 use crate::sending::send;
-use crate::tests::practice_table;
+use crate::tests::tables::practice_table;
 use nr_commands::{RunFault, Tape, check, cut};
 use nr_shifttable::{Feed, Source};
 use std::alloc::{AllocError, Global};

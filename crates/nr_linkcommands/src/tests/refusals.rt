@@ -1,8 +1,8 @@
 //! Files that `send`, `run` and `audit` refuse: the first fault in the order of the files is answered, then that of a
 //! transport block, and nothing is written.
 
-use crate::commands::{Command, SETTINGS, Texts, outcome};
-use crate::tests::{least_table, practice_table};
+use crate::tests::commands::{Command, SETTINGS, Texts, outcome};
+use crate::tests::tables::{least_table, practice_table};
 use nr_blockdesk::DeskFault;
 use nr_commands::RunFault;
 use nr_files::{BlocksFault, ScheduleFault, SettingsFault};

@@ -1,8 +1,8 @@
 //! What the program is for, with ample memory: transport blocks whose octets are not zero, of both base graphs and of up
 //! to three code blocks. The values follow by hand from TS 38.212 and the table of both base graphs.
 
-use crate::commands::{Command, Texts, outcome};
-use crate::tests::table_of_both;
+use crate::tests::commands::{Command, Texts, outcome};
+use crate::tests::tables::table_of_both;
 use std::alloc::{AllocError, Global};
 use std::fmt::Write;
 use std::str;
