@@ -23,7 +23,7 @@ count_both p (x ∷ xs) = omega (arith, count_by-cons (λ x. not (p x)) x xs, co
     one true = refl
     one false = refl
 
-sum_below-append : (g : ℕ → ℕ) (a b : ℕ) → sum_below g (a + b) ≡ sum_below g a + sum_below (λ j. g (a + j)) b
+pub sum_below-append : (g : ℕ → ℕ) (a b : ℕ) → sum_below g (a + b) ≡ sum_below g a + sum_below (λ j. g (a + j)) b
 sum_below-append g a zero = ap (sum_below g) (add_none a) ∙ omega arith
   where
     add_none : (a : ℕ) → a + 0 ≡ a

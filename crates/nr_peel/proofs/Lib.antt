@@ -23,6 +23,8 @@ pub mod Peeled
 pub mod Fresh
 pub mod Starting
 pub mod Left
+pub mod Columns
+pub mod Falling
 pub mod Judged
 pub mod RowEntries
 pub mod Found

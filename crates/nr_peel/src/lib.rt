@@ -12,6 +12,7 @@ mod fix;
 mod lanes;
 pub mod laws;
 mod lifted;
+mod lowering;
 mod peeler;
 mod rounds;
 mod state;
