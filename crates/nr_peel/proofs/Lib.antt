@@ -30,3 +30,5 @@ pub mod RowEntries
 pub mod Found
 pub mod Rounded
 pub mod Bounded
+pub mod LaneSteps
+pub mod Sweeping

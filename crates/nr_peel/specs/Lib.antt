@@ -7,3 +7,4 @@ pub mod Counters
 pub mod State
 pub mod Lanes
 pub mod Rounds
+pub mod Sweeps

@@ -5,10 +5,13 @@ ghost use Rattle.std.specs.Int.{bit_at};
 ghost use Rattle.nr_bitvec.specs.Bit.{bit};
 ghost use Rattle.nr_bitvec.specs.Packed.{IsClear};
 ghost use Rattle.nr_lifting.specs.Rings.{is_set, marked};
+ghost use Rattle.nr_shifttable.specs.Accepted.{IsTable};
 ghost use Rattle.nr_shifttable.specs.Tails.{value_in};
 ghost use Rattle.nr_ldpcenc.specs.Parity.{parity};
 ghost use Rattle.nr_ldpcenc.specs.Rows.{positions};
 ghost use Rattle.nr_peel.specs.Lanes.{Takes, hits, lacks, steps_below, turned_step};
+ghost use Rattle.nr_peel.specs.State.{lifted_checks};
+ghost use Rattle.nr_peel.specs.Sweeps.{AreLanes, CountsOf, IsBlockSought, counted_in, has_count};
 
 use crate::fix::Fix;
 use crate::lifted::Lifted;
@@ -160,5 +163,36 @@ impl Lanes {
             self.fresh.join(col, &marks);
             self.bits.join(col, &bits);
         }
+    }
+    // The rows of row of blocks `i` with a count of one fix their positions, unless another row has. How many such rows
+    // there are.
+    pub(crate) fn search_block(&mut self, lifted: &Lifted<'_>, counts: &Planes, i: u32) -> u32
+        requires table { IsTable lifted.now.table.now }
+        requires block { i < (lifted_checks lifted.now).rows }
+        requires lanes { AreLanes (lifted_checks lifted.now) self.old }
+        requires same { counts.now.lanes ≡ lifted.now.plan.z }
+        requires long { length counts.now.items
+            ≡ (lifted_checks lifted.now).rows * lifted.now.plan.z }
+        requires counted { CountsOf (lifted_checks lifted.now) (counted_in self.old)
+            counts.now.items }
+        requires room { length self.old.order.items
+            + marked (λ t. has_count 1 counts.now.items (i * lifted.now.plan.z + t))
+            lifted.now.plan.z ≤ vec_capacity self.old.order }
+        ensures sought { IsBlockSought (lifted_checks lifted.now) counts.now.items i
+            self.old self.new }
+        ensures rows { result ≡ marked
+            (λ t. has_count 1 counts.now.items (i * lifted.now.plan.z + t)) lifted.now.plan.z }
+        ensures few { result ≤ 384 }
+    {
+        let ones = counts.ones(i as usize);
+        let rows = lane_count(&ones);
+        if rows != 0 {
+            let row = lifted.row(i);
+            let sums = row_sum(&self.bits, lifted, row);
+            for entry in row {
+                self.take(lifted, entry, &ones, &sums);
+            }
+        }
+        rows
     }
 }

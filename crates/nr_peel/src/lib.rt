@@ -16,6 +16,7 @@ mod lowering;
 mod peeler;
 mod rounds;
 mod state;
+mod sweep;
 
 pub use check::{check_order, check_stuck};
 pub use fix::Fix;

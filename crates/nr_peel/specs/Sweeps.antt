@@ -1,0 +1,72 @@
+-- How rows fix positions and counts follow, all rows of the code a round.
+use Rattle.std.specs.Prelude.{◌≡◌, ℕ, ◌+◌, ◌*◌, ◌<◌, ◌≤◌, ◌==◌, ◌&&◌, ◌||◌, Bool, true, false, not, if◌then◌else◌, List, ◌++◌, length, count_by, slice_index, vec_capacity}
+use Rattle.nr_bitvec.specs.Bit.{bit}
+use Rattle.nr_lifting.specs.Rings.{marked}
+use Rattle.nr_ldpcenc.specs.Rows.{Checks, Meets}
+use Rattle.nr_peel.specs.Certificates.{all_accepted, is_fixed_by}
+use Rattle.nr_peel.specs.Closure.{Within}
+use Rattle.nr_peel.specs.Touches.{row_length, sum_below}
+use Rattle.nr_peel.specs.declared.fix.Fix.{Fix}
+use Rattle.nr_peel.specs.declared.lanes.Lanes.{Lanes}
+
+-- each count is the number of its row's positions that aren't in a set
+abbrev pub CountsOf : Checks → (ℕ → Bool) → List ℕ → Type 0
+CountsOf c K counts = (i t : ℕ) → i < c.rows → t < c.lanes → slice_index counts (i * c.lanes + t) ≡ count_by (λ p. not (K p)) (c.row i t)
+
+-- the positions that the counts know of: those that are known and not fresh
+abbrev pub counted_in : Lanes → ℕ → Bool
+counted_in s p = bit s.known.items p && not (bit s.fresh.items p)
+
+-- whether row number k has so many unknown positions
+abbrev pub has_count : ℕ → List ℕ → ℕ → Bool
+has_count n counts k = slice_index counts k == n
+
+-- how many pairs there are of a position and one of the first n rows, if the row has one unknown position
+abbrev pub searched_below : Checks → List ℕ → ℕ → ℕ
+searched_below c counts n = sum_below (λ k. if has_count 1 counts k then row_length c k else 0) n
+
+-- the same of all rows
+unfoldable pub searched_pairs : Checks → List ℕ → ℕ
+searched_pairs c counts = searched_below c counts (c.rows * c.lanes)
+
+-- a word has the bits that are known
+abbrev pub HasBits : Lanes → (ℕ → Bool) → Type 0
+HasBits s w = (p : ℕ) → bit s.known.items p ≡ true → w p ≡ bit s.bits.items p
+
+-- each has a place for each position; unknown positions have no bit, and fresh ones are known
+pub record AreLanes (c : Checks) (s : Lanes) : Type 0 where
+  pub known_long : length s.known.items ≡ c.size
+  pub bits_long : length s.bits.items ≡ c.size
+  pub fresh_long : length s.fresh.items ≡ c.size
+  pub known_lanes : s.known.lanes ≡ c.lanes
+  pub bits_lanes : s.bits.lanes ≡ c.lanes
+  pub fresh_lanes : s.fresh.lanes ≡ c.lanes
+  pub blank : (p : ℕ) → bit s.known.items p ≡ false → bit s.bits.items p ≡ false
+  pub within : Within (bit s.fresh.items) (bit s.known.items)
+
+-- Steps that are accepted, in turn, from any set that has the positions of K fixed positions that weren't known: each
+-- word that meets every row and had the known bits has them still.
+pub record Fixes (c : Checks) (K : ℕ → Bool) (old new : Lanes) : Type 0 where
+  pub steps : List Fix
+  pub known : (p : ℕ) → bit new.known.items p ≡ (bit old.known.items p || is_fixed_by steps p)
+  pub fresh : (p : ℕ) → bit new.fresh.items p ≡ (bit old.fresh.items p || is_fixed_by steps p)
+  pub order : new.order.items ≡ old.order.items ++ steps
+  pub missing : (p : ℕ) → is_fixed_by steps p ≡ true → bit old.known.items p ≡ false
+  pub accepted : (S : ℕ → Bool) → Within K S → all_accepted c S steps ≡ true
+  pub kept : (p : ℕ) → bit old.known.items p ≡ true → bit new.bits.items p ≡ bit old.bits.items p
+  pub words : (w : ℕ → Bool) → Meets c w → HasBits old w → HasBits new w
+  pub lanes : AreLanes c new
+  pub capacity : vec_capacity new.order ≡ vec_capacity old.order
+
+-- The rows of row of blocks i fixed the positions that they had alone to fix: at most one step for each row that has one
+-- unknown position by its count, and then such a row has none.
+pub record IsBlockSought (c : Checks) (counts : List ℕ) (i : ℕ) (old new : Lanes) : Type 0 where
+  pub fixes : Fixes c (counted_in old) old new
+  pub few : length fixes.steps ≤ marked (λ t. has_count 1 counts (i * c.lanes + t)) c.lanes
+  pub whole : (t : ℕ) → t < c.lanes → has_count 1 counts (i * c.lanes + t) ≡ true → count_by (λ p. not (bit new.known.items p)) (c.row i t) ≡ 0
+
+-- the same of the first n rows of blocks
+pub record AreSought (c : Checks) (counts : List ℕ) (n : ℕ) (old new : Lanes) : Type 0 where
+  pub fixes : Fixes c (counted_in old) old new
+  pub few : length fixes.steps ≤ marked (has_count 1 counts) (n * c.lanes)
+  pub whole : (i t : ℕ) → i < n → t < c.lanes → has_count 1 counts (i * c.lanes + t) ≡ true → count_by (λ p. not (bit new.known.items p)) (c.row i t) ≡ 0

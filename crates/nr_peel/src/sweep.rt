@@ -1,0 +1,54 @@
+//! A round of peeling, all rows of the code at a time.
+
+ghost use Rattle.std.specs.Prelude.{◌≡◌, ◌+◌, ◌*◌, ◌^◌, ◌<◌, ◌≤◌, nat_lt, length, vec_capacity};
+ghost use Rattle.nr_lifting.specs.Rings.{marked};
+ghost use Rattle.nr_shifttable.specs.Accepted.{IsTable};
+ghost use Rattle.nr_peel.specs.State.{lifted_checks};
+ghost use Rattle.nr_peel.specs.Sweeps.{AreLanes, AreSought, CountsOf, counted_in, has_count, searched_pairs};
+
+use crate::lanes::Lanes;
+use crate::lifted::Lifted;
+use nr_lifting::Planes;
+
+// What is known of a code block, for each row the count of its positions that weren't known when counts last fell, and
+// how many visits there were of a row and a position of it.
+#[derive(Drop)]
+pub(crate) struct Sweep {
+    pub(crate) lanes: Lanes,
+    pub(crate) counts: Planes,
+    pub(crate) touches: u64,
+}
+
+impl Sweep {
+    // Each row with a count of one fixes its position, unless another row has. Whether there is such a row.
+    pub(crate) fn search(&mut self, lifted: &Lifted<'_>) -> bool
+        requires table { IsTable lifted.now.table.now }
+        requires lanes { AreLanes (lifted_checks lifted.now) self.old.lanes }
+        requires same { self.old.counts.lanes ≡ lifted.now.plan.z }
+        requires long { length self.old.counts.items
+            ≡ (lifted_checks lifted.now).rows * lifted.now.plan.z }
+        requires counted { CountsOf (lifted_checks lifted.now) (counted_in self.old.lanes)
+            self.old.counts.items }
+        requires room { length self.old.lanes.order.items
+            + marked (has_count 1 self.old.counts.items)
+            ((lifted_checks lifted.now).rows * lifted.now.plan.z)
+            ≤ vec_capacity self.old.lanes.order }
+        requires few { self.old.touches
+            + searched_pairs (lifted_checks lifted.now) self.old.counts.items < 2 ^ 64 }
+        ensures sought { AreSought (lifted_checks lifted.now) self.old.counts.items
+            (lifted_checks lifted.now).rows self.old.lanes self.new.lanes }
+        ensures counts { self.new.counts ≡ self.old.counts }
+        ensures touches { self.new.touches ≡ self.old.touches
+            + searched_pairs (lifted_checks lifted.now) self.old.counts.items }
+        ensures some { result ≡ nat_lt 0 (marked (has_count 1 self.old.counts.items)
+            ((lifted_checks lifted.now).rows * lifted.now.plan.z)) }
+    {
+        let mut found = false;
+        for i in 0..lifted.plan.graph.rows() {
+            let rows = self.lanes.search_block(lifted, &self.counts, i);
+            self.touches += u64::from(rows) * lifted.row(i).len() as u64;
+            found |= rows != 0;
+        }
+        found
+    }
+}
