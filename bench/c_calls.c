@@ -1,0 +1,102 @@
+/* Measures the calls of nr.h: how many a second, in processor time, the best of five rounds of a tenth of a second or more.
+
+       make -C c && cc -O2 -Ic bench/c_calls.c c/out/libnr.a -o /tmp/c_calls && /tmp/c_calls
+
+   It reads the tables of examples/, so it runs at the repository's top. */
+#include <stdio.h>
+#include <stdlib.h>
+#include <string.h>
+#include <time.h>
+
+#include "nr.h"
+
+struct text {
+    uint8_t octets[1 << 16];
+    size_t length;
+};
+
+static struct text practice, drawn;
+
+/* What the measured call is given. */
+static const struct text *table;
+static const NrSettings settings = {2048, 0};
+static uint8_t block[1024], bits[1 << 16], delivered[1024];
+static size_t octets;
+static NrTx tx;
+static uint32_t answer;
+
+static void read_text(const char *path, struct text *to) {
+    FILE *file = fopen(path, "rb");
+    if (!file) exit(2);
+    to->length = fread(to->octets, 1, sizeof to->octets, file);
+    fclose(file);
+}
+
+static uint32_t plan(void) {
+    NrPlan numbers;
+    return nr_plan(2048, (uint32_t)(8 * octets), &numbers);
+}
+
+static uint32_t crc(void) { return nr_crc(NR_CRC24A, block, octets, &answer); }
+
+static uint32_t check_table(void) {
+    NrReport report;
+    return nr_table_check(table->octets, table->length, &report);
+}
+
+static uint32_t send(void) { return nr_send(table->octets, table->length, &settings, block, octets, &tx, bits, tx.g); }
+
+static uint32_t receive(void) {
+    return nr_receive(table->octets, table->length, &settings, (uint32_t)(8 * octets), &tx, 1, bits, tx.g, &answer, delivered,
+                      octets);
+}
+
+/* The least processor time of a call, in seconds. */
+static double time_of(uint32_t (*call)(void)) {
+    double least = 1e9;
+    for (int round = 0; round < 5; round++) {
+        clock_t start = clock(), now = start;
+        unsigned long calls = 0;
+        for (; now - start < CLOCKS_PER_SEC / 10; now = clock(), calls++)
+            if (call() != NR_OK) exit(3);
+        double each = (double)(now - start) / CLOCKS_PER_SEC / (double)calls;
+        least = each < least ? each : least;
+    }
+    return least;
+}
+
+static void show(const char *what, uint32_t (*call)(void)) {
+    double each = time_of(call);
+    printf("%-60s %8.2f us %9.0f a second\n", what, each * 1e6, 1 / each);
+}
+
+/* Measures sending and receiving, without erasures, of a block that goes once at about the code rate a third. */
+static void link_of(const struct text *by, size_t length, const char *name) {
+    char what[80];
+    table = by;
+    octets = length;
+    memset(&tx, 0, sizeof tx);
+    tx.g = (uint32_t)(24 * length + 72);
+    tx.qm = tx.nl = 1;
+    snprintf(what, sizeof what, "nr_send, A = %u, G = %u, %s", (unsigned)(8 * length), tx.g, name);
+    show(what, send);
+    snprintf(what, sizeof what, "nr_receive, the same");
+    show(what, receive);
+    if (answer != NR_DELIVERED) printf("(not delivered)\n");
+}
+
+int main(void) {
+    read_text("examples/practice.csv", &practice);
+    read_text("examples/drawn.csv", &drawn);
+    for (size_t at = 0; at < sizeof block; at++) block[at] = (uint8_t)(37 * at + 1);
+    octets = 300;
+    show("nr_plan, A = 2400", plan);
+    show("nr_crc, 300 octets, gCRC24A", crc);
+    table = &practice;
+    show("nr_table_check, base graph 2, 105 entries", check_table);
+    table = &drawn;
+    show("nr_table_check, base graph 1, 316 entries", check_table);
+    link_of(&practice, 3, "base graph 2, 105 entries");
+    link_of(&drawn, 300, "base graph 1, 316 entries");
+    return 0;
+}

@@ -1,0 +1,155 @@
+/* nr.h: the data coding chain of 5G NR's shared channels (3GPP TS 38.212, Release 15).
+
+   Each call answers a status: 0, or the number of its first fault, by the lists below. One that answers another number than 0
+   has written nothing (nr_table_check alone writes what is wrong). No call keeps memory, opens a file or starts a thread, and
+   none depends on the calls before it.
+
+   A list is a pointer and then the count of its items. Octets of a transport block are eight bits each, the first bit highest.
+   Bits that are sent, and places that are heard, have an octet each.
+
+   What each call promises is proved, and stands in docs/c-library.md. No proof sees what a caller passes; so these are yours:
+   - No pointer is null, also where the count behind it is 0, and each is aligned for its type. So many items can be read
+     there, and are set; where the pointer is not one to const they can be written too (and need not be set).
+   - What a call may write overlaps nothing else that it is given, and no other thread reads or writes it meanwhile.
+   - malloc, realloc and free are of one allocator.
+   - No call is made from a signal handler, nor in the forked child of a process with several threads; a thread that calls has
+     256 KiB of stack.
+   Any number of threads may call at once. */
+
+#ifndef NR_H
+#define NR_H
+
+#include <stddef.h>
+#include <stdint.h>
+
+#define NR_VERSION "1.0.0"
+
+#ifdef __cplusplus
+extern "C" {
+#endif
+
+/* The statuses. Those of one group come from one thing that a call is given; each call lists its own in their order. */
+enum NrStatus {
+    NR_OK = 0,
+    NR_MEMORY = 1, /* a growth of memory was refused; the call may be made again */
+    NR_ROOM = 2,   /* the room for the answer does not have the answer's length */
+    NR_MANY = 3,   /* there is more than the call takes */
+    NR_POLY = 4,   /* there is no generator polynomial of this number */
+    /* of the shift table's text */
+    NR_READ = 20, /* never answered: it is that of a file */
+    NR_CSV = 21,
+    NR_FIELDS = 22,
+    NR_NUMBER = 23,
+    NR_RANGE = 24,
+    NR_TWICE = 25,
+    NR_CORE = 26,
+    NR_EXTENSION = 27,
+    NR_MISSING_ROW = 28,
+    NR_EMPTY = 29,
+    NR_TOO_LONG = 30,
+    /* of the transport block */
+    NR_SIZE = 40,       /* not 8 to 1,310,720 bits in whole octets */
+    NR_RATE_RANGE = 41, /* rate2048 is not 1 to 2048 */
+    NR_SIZE_RANGE = 42, /* never answered: NR_SIZE comes before it, as before the next two */
+    NR_SHORT = 43,
+    NR_LONG = 44,
+    NR_UNEVEN = 45,    /* its code blocks would not be equally long (5.2.2); no size of TS 38.214 is such */
+    NR_GRAPH = 46,     /* the shift table lacks its base graph */
+    NR_NO_BUFFER = 47, /* lbrm keeps no bit of a code block (5.4.2.1) */
+    /* of a transmission */
+    NR_RV = 50,             /* rv is above 3 */
+    NR_ORDER = 51,          /* qm is none of 1, 2, 4, 6, 8 */
+    NR_LAYERS = 52,         /* nl is not 1 to 4 */
+    NR_TOTAL = 53,          /* g is not 1 to 4,194,304 */
+    NR_RAGGED = 54,         /* g is no multiple of qm * nl */
+    NR_NONE_SCHEDULED = 55, /* no code block is scheduled */
+    NR_LENGTH = 56          /* a list does not have the length that it should */
+};
+
+/* The fault's name, as docs/formats.md and the program linksim have it; "Ok" of 0, "unknown" of a number that is no status. */
+const char *nr_fault_name(uint32_t status);
+
+/* What both ends of a link are set to. */
+typedef struct NrSettings {
+    uint32_t rate2048; /* the code rate in 2048ths, 1 to 2048: twice the "target code rate x 1024" of TS 38.214's MCS tables */
+    uint32_t lbrm;     /* TBS_LBRM in bits, where the circular buffer is limited (5.4.2.1); 0 where it is not */
+} NrSettings;
+
+/* How a transport block is sent once (5.4.2). */
+typedef struct NrTx {
+    uint32_t rv;        /* the redundancy version, 0 to 3 */
+    uint32_t g;         /* G, how many bits are sent, 1 to 4,194,304: a multiple of qm * nl */
+    uint32_t qm;        /* Qm, bits a modulation symbol: 1, 2, 4, 6 or 8 */
+    uint32_t nl;        /* NL, transmission layers, 1 to 4 */
+    uint64_t some;      /* 0 where every code block is scheduled, else `blocks` says which */
+    uint64_t blocks[6]; /* code block r, from 0, is scheduled where bit r % 64 of word r / 64 is set */
+} NrTx;
+
+/* The numbers by which a transport block with its CRC is cut into code blocks (5.2.2, 5.3.2). */
+typedef struct NrPlan {
+    uint32_t graph; /* the base graph, 1 or 2 */
+    uint32_t b;     /* B, bits with the transport block's CRC */
+    uint32_t l;     /* L, CRC bits of each code block: 24, or 0 where there is one code block */
+    uint32_t c;     /* C, code blocks: 1 to 344 */
+    uint32_t kdash; /* K', bits of a code block with its CRC, without fillers */
+    uint32_t kb;    /* Kb, the columns that K' bits are spread over */
+    uint32_t z;     /* Zc, the lifting size */
+    uint32_t set;   /* the set index of Zc, 0 to 7 */
+    uint32_t k;     /* K, bits of a code block with its fillers */
+    uint32_t n;     /* N, bits that a code block is coded into */
+} NrPlan;
+
+/* What judging a shift table tells. */
+typedef struct NrReport {
+    uint32_t one;   /* entries of base graph 1, of an accepted table; else 0 */
+    uint32_t two;   /* entries of base graph 2, of an accepted table; else 0 */
+    uint32_t place; /* the record, from 1, that NR_CSV, NR_NUMBER, NR_RANGE or NR_TWICE is of; the base graph that NR_CORE,
+                       NR_EXTENSION or NR_MISSING_ROW is of; else 0 */
+} NrReport;
+
+/* Judges the shift table of a text (5.3.2): comma-separated values, a record for each entry of Tables 5.3.2-2 and 5.3.2-3, with
+   the base graph, the row, the column and the values of the sets 0 to 7. Writes `out` whether the table is accepted or not,
+   but where memory is refused.
+   Faults: TOO_LONG above 4,194,304 octets; record by record CSV, FIELDS, NUMBER, RANGE, TWICE; EMPTY; by base graph CORE,
+   EXTENSION, MISSING_ROW; MEMORY. */
+uint32_t nr_table_check(const uint8_t *table, size_t table_len, NrReport *out);
+
+/* The plan of a transport block of `a` bits at the code rate rate2048 / 2048 (5.2.2, 6.2.2, 7.2.2). Takes no memory.
+   Faults: SIZE, RATE_RANGE, UNEVEN. */
+uint32_t nr_plan(uint32_t rate2048, uint32_t a, NrPlan *out);
+
+enum NrPoly { NR_CRC24A = 0, NR_CRC24B = 1, NR_CRC16 = 2 };
+
+/* The parity bits of octets (5.1) as a number of 24 or 16 bits, the first parity bit highest.
+   Faults: POLY; MANY above 2,097,152 octets; MEMORY. */
+uint32_t nr_crc(uint32_t poly, const uint8_t *octets, size_t octets_len, uint32_t *out);
+
+/* The G bits, 0 or 1, that a transmission sends of a transport block (6.2, 7.2): with CRC, cut, encoded by the shift table
+   (5.3.2), rate matched, interleaved and joined (5.4.2, 5.5). `out` has room for tx->g octets, no more and no fewer.
+   Faults: of the table as nr_table_check has them; SIZE, RATE_RANGE, UNEVEN, GRAPH, NO_BUFFER; RV, ORDER, LAYERS, TOTAL, RAGGED,
+   NONE_SCHEDULED; ROOM; MEMORY, where it is met. */
+uint32_t nr_send(const uint8_t *table, size_t table_len, const NrSettings *settings, const uint8_t *block, size_t block_len,
+                 const NrTx *tx, uint8_t *out, size_t out_len);
+
+/* What a place says was heard: a bit 0, a bit 1, or nothing (as any number above 1). */
+enum NrHeard { NR_ZERO = 0, NR_ONE = 1, NR_ERASED = 2 };
+
+/* What may be handed up: some bit is not fixed yet; the one transport block that explains all that was heard; there is none. */
+enum NrOutcome { NR_OPEN = 0, NR_DELIVERED = 1, NR_CONTRADICTION = 2 };
+
+/* What may be handed up of a transport block of `a` bits after the transmissions `txs`, at most 256. `heard` has the places of
+   the first one, then those of the second, and so on: txs[0].g + txs[1].g + .. octets. Parity rows (5.3.2) are applied one
+   unknown at a time; a block is delivered where they fix all K' bits of each code block, and its bits equal all that was heard.
+   `outcome` becomes an NrOutcome. `block` has room for a / 8 octets, which are written where the block is delivered.
+   Faults: MANY; of the table as nr_table_check has them; SIZE, RATE_RANGE, UNEVEN, GRAPH, NO_BUFFER; for each transmission in
+   turn LENGTH, where fewer than g octets are left, RV, ORDER, LAYERS, TOTAL, RAGGED, NONE_SCHEDULED; LENGTH, where octets are
+   left over; ROOM; MEMORY, where it is met. */
+uint32_t nr_receive(const uint8_t *table, size_t table_len, const NrSettings *settings, uint32_t a, const NrTx *txs,
+                    size_t txs_len, const uint8_t *heard, size_t heard_len, uint32_t *outcome, uint8_t *block,
+                    size_t block_len);
+
+#ifdef __cplusplus
+}
+#endif
+
+#endif

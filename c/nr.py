@@ -1,0 +1,243 @@
+"""The data coding chain of 5G NR's shared channels (3GPP TS 38.212, Release 15), by the library libnr.so.1 (nr.h).
+
+    import nr
+
+    table = open("table.csv", "rb").read()           # the text of a shift table: docs/formats.md
+    tx = nr.Tx(g=104, qm=2)
+    bits = nr.send(table, b"123456789", tx, rate2048=2048)
+    answer = nr.receive(table, 72, [(tx, bits)], rate2048=2048)
+    answer.outcome, answer.block
+
+Octets may be anything that has a buffer of items of one octet each: bytes, bytearray, memoryview, array.array("B"), numpy's
+arrays of uint8, int8 or bool; or a list of numbers from 0 to 255. What a call gives back is a bytearray, over which
+numpy.frombuffer(.., numpy.uint8) makes an array without a copy; send() also writes into a room of yours. A call that is refused
+raises Fault, and has written nothing. The calls let other threads run, so a buffer must not change while one reads it.
+
+The library is the one that the environment's NR_LIBRARY names; else out/libnr.so.1 beside this file, ../../lib/libnr.so.1 from
+here, as `make install` puts it, or what the system's loader finds.
+"""
+
+import ctypes
+import enum
+import operator
+import os
+import pathlib
+import typing
+
+__all__ = ["CRC16", "CRC24A", "CRC24B", "ERASED", "Fault", "Outcome", "Plan", "Received", "Report", "Tx", "check_table", "crc",
+           "fault_name", "plan", "receive", "send"]
+
+CRC24A, CRC24B, CRC16 = 0, 1, 2
+ERASED = 2  # a place at which nothing was heard; so is any number but 0 and 1
+
+
+class Fault(Exception):
+    """A call was refused: `status` is its number, `name` that fault's name (docs/formats.md), `place` what check_table() says
+    of where it is, else 0."""
+
+    def __init__(self, status, place=0):
+        self.status, self.name, self.place = status, fault_name(status), place
+        super().__init__(f"{self.name} {place}" if place else self.name)
+
+
+class Outcome(enum.IntEnum):
+    """What may be handed up: OPEN, some bit is not fixed yet; DELIVERED, the one block that explains all that was heard;
+    CONTRADICTION, no block does."""
+
+    OPEN = 0
+    DELIVERED = 1
+    CONTRADICTION = 2
+
+
+class Plan(typing.NamedTuple):
+    """The numbers by which a transport block is cut into code blocks (5.2.2, 5.3.2): the base graph; B, bits with the CRC; L,
+    CRC bits of each code block; C, code blocks; K', bits of each; Kb; Zc and its set index; K, bits with fillers; N, coded."""
+
+    graph: int
+    b: int
+    l: int
+    c: int
+    kdash: int
+    kb: int
+    z: int
+    set: int
+    k: int
+    n: int
+
+
+class Report(typing.NamedTuple):
+    """How many entries an accepted shift table has of base graph 1 and of base graph 2."""
+
+    one: int
+    two: int
+
+
+class Received(typing.NamedTuple):
+    """What receive() answers: the outcome, and the block's octets where it is delivered, else None."""
+
+    outcome: Outcome
+    block: typing.Optional[bytearray]
+
+
+class Tx(typing.NamedTuple):
+    """How a transport block is sent once (5.4.2): G bits, a multiple of qm * nl, at most 4,194,304; the redundancy version 0 to
+    3; Qm bits a modulation symbol, 1, 2, 4, 6 or 8; 1 to 4 layers; and the numbers of the code blocks that are scheduled, from
+    0, or None for all."""
+
+    g: int
+    rv: int = 0
+    qm: int = 1
+    nl: int = 1
+    blocks: typing.Optional[typing.Iterable[int]] = None
+
+
+class _Settings(ctypes.Structure):
+    _fields_ = [("rate2048", ctypes.c_uint32), ("lbrm", ctypes.c_uint32)]
+
+
+class _Tx(ctypes.Structure):
+    _fields_ = [(name, ctypes.c_uint32) for name in ("rv", "g", "qm", "nl")]
+    _fields_ += [("some", ctypes.c_uint64), ("blocks", ctypes.c_uint64 * 6)]
+
+
+class _Plan(ctypes.Structure):
+    _fields_ = [(name, ctypes.c_uint32) for name in Plan._fields]
+
+
+class _Report(ctypes.Structure):
+    _fields_ = [(name, ctypes.c_uint32) for name in ("one", "two", "place")]
+
+
+def fault_name(status):
+    """The name of a status: "Ok" of 0, "unknown" of a number that is none."""
+    return _library.nr_fault_name(status).decode()
+
+
+def check_table(table):
+    """Judges the text of a shift table, and answers how many entries it has, as a Report.
+
+    A Fault has in `place` the number of the record for Csv, Number, Range and Twice, the base graph for Core, Extension and
+    MissingRow, else 0."""
+    octets, report = _octets(table), _Report()
+    status = _library.nr_table_check(octets, len(octets), ctypes.byref(report))
+    if status:
+        raise Fault(status, report.place)
+    return Report(report.one, report.two)
+
+
+def plan(a, *, rate2048):
+    """The plan of a transport block of `a` bits at the code rate rate2048 / 2048, as a Plan."""
+    numbers = _Plan()
+    _judge(_library.nr_plan(_number(rate2048), _number(a), ctypes.byref(numbers)))
+    return Plan(*(getattr(numbers, name) for name in Plan._fields))
+
+
+def crc(octets, poly=CRC24A):
+    """The parity bits of octets (5.1) as a number, the first parity bit highest; `poly` is CRC24A, CRC24B or CRC16."""
+    octets, parity = _octets(octets), ctypes.c_uint32()
+    _judge(_library.nr_crc(_number(poly), octets, len(octets), ctypes.byref(parity)))
+    return parity.value
+
+
+def send(table, block, tx, *, rate2048, lbrm=0, out=None):
+    """The G bits that a Tx sends of a transport block's octets, each an octet 0 or 1: a bytearray, or `out` with them, which
+    is a buffer of G octets that can be written. `lbrm` is TBS_LBRM in bits, 0 for none."""
+    table, block, given = _octets(table), _octets(block), _tx(tx)
+    bits = bytearray(min(given.g, 1 << 22)) if out is None else out
+    room = _room(bits)
+    link = table, len(table), ctypes.byref(_Settings(_number(rate2048), _number(lbrm)))
+    _judge(_library.nr_send(*link, block, len(block), ctypes.byref(given), room, len(room)))
+    return bits
+
+
+def receive(table, a, receptions, *, rate2048, lbrm=0):
+    """What may be handed up of a transport block of `a` bits, as a Received. `receptions` are pairs, at most 256: a Tx, and
+    what was heard at its G places, each an octet 0 or 1, or another one (ERASED) where nothing was."""
+    table, pairs = _octets(table), [(_tx(tx), _octets(heard)) for tx, heard in receptions]
+    for given, heard in pairs:
+        if given.g != len(heard):
+            raise Fault(_LENGTH)
+    txs, heard = (_Tx * len(pairs))(*(given for given, _ in pairs)), b"".join(octets for _, octets in pairs)
+    settings, outcome = _Settings(_number(rate2048), _number(lbrm)), ctypes.c_uint32()
+    block = bytearray(min(_number(a), _MOST_BITS) // 8)
+    room = _room(block)
+    _judge(
+        _library.nr_receive(
+            table, len(table), ctypes.byref(settings), a, txs, len(pairs), heard, len(heard), ctypes.byref(outcome), room, len(room)
+        )
+    )
+    return Received(Outcome(outcome.value), block if outcome.value == Outcome.DELIVERED else None)
+
+
+_LENGTH = 56
+_MOST_BITS = 1_310_720
+
+
+def _judge(status):
+    """Raises the fault of a status that is not 0."""
+    if status:
+        raise Fault(status)
+
+
+def _number(given):
+    """A number that fits 32 bits: ctypes would drop the others' high bits."""
+    number = operator.index(given)
+    if not 0 <= number < 1 << 32:
+        raise ValueError(f"{number} is not 0 to 4,294,967,295")
+    return number
+
+
+def _octets(given):
+    """The octets of a buffer, or of a list of numbers."""
+    if isinstance(given, bytes):
+        return given
+    return bytes(given) if isinstance(given, (list, tuple)) else _view(given).tobytes()
+
+
+def _room(given):
+    """A buffer's octets, to be written."""
+    view = _view(given)
+    return (ctypes.c_ubyte * view.nbytes).from_buffer(given)
+
+
+def _view(given):
+    """A buffer, whose items must be of one octet."""
+    view = memoryview(given)
+    if view.itemsize != 1:
+        raise TypeError(f"items of {view.itemsize} octets: make them of one, as by .astype(numpy.uint8)")
+    return view
+
+
+def _tx(tx):
+    """A Tx as the library takes it."""
+    given = _Tx(rv=_number(tx.rv), g=_number(tx.g), qm=_number(tx.qm), nl=_number(tx.nl))
+    if tx.blocks is not None:
+        given.some = 1
+        for number in tx.blocks:
+            if not 0 <= number < 384:
+                raise ValueError(f"code block {number} is not 0 to 383")
+            given.blocks[number // 64] |= 1 << number % 64
+    return given
+
+
+def _load():
+    """The library, with what its calls take and answer."""
+    here = pathlib.Path(__file__).resolve().parent
+    named = os.environ.get("NR_LIBRARY")
+    beside = [here / "out" / "libnr.so.1", here.parent.parent / "lib" / "libnr.so.1"]
+    library = ctypes.CDLL(named or next((str(path) for path in beside if path.exists()), "libnr.so.1"))
+    octets, number, place = [ctypes.c_void_p, ctypes.c_size_t], ctypes.c_uint32, ctypes.c_void_p
+    for name, takes in {
+        "nr_fault_name": [number],
+        "nr_table_check": [*octets, place],
+        "nr_plan": [number, number, place],
+        "nr_crc": [number, *octets, place],
+        "nr_send": [*octets, place, *octets, place, *octets],
+        "nr_receive": [*octets, place, number, *octets, *octets, place, *octets],
+    }.items():
+        call = getattr(library, name)
+        call.argtypes, call.restype = takes, ctypes.c_char_p if name == "nr_fault_name" else number
+    return library
+
+
+_library = _load()

@@ -1,0 +1,76 @@
+"""The archive of nr_c, crates/nr_c/out/libnr_c.a, made where it is missing or older than a source.
+
+`rt lib` makes it over what `rt lib` and `rt check` keep in the crates' folders out/. `rt ci` keeps nothing there: in a new
+clone `rt lib` would prove the crates below nr_c once more. But each of them has the library then that `rt ci` has just proved,
+so `rattle build` is asked for the archive over these; it proves nr_c, and builds only what is proved."""
+
+import importlib.machinery
+import importlib.util
+import pathlib
+import subprocess
+
+ROOT = pathlib.Path(__file__).resolve().parent.parent.parent
+CRATES = ROOT / "crates"
+ARCHIVE = CRATES / "nr_c" / "out" / "libnr_c.a"
+
+
+def kit():
+    """The folder of the Rattle kit."""
+    said = subprocess.run(["rt", "doc"], stdout=subprocess.PIPE, check=True, text=True)
+    return pathlib.Path(said.stdout.strip()).parent
+
+
+def below():
+    """The crates that nr_c stands on, all of them and those that its line of crates.txt names."""
+    script = importlib.machinery.SourceFileLoader("refused_growths", str(ROOT / "tests" / "refused-growths"))
+    growths = importlib.util.module_from_spec(importlib.util.spec_from_loader("refused_growths", script))
+    script.exec_module(growths)
+    line = next(it for it in (ROOT / "crates.txt").read_text().splitlines() if it.startswith("nr_c "))
+    return sorted(growths.crates_and_below()["nr_c"]), line.partition(":")[2].split()
+
+
+def newest(crates):
+    """When a source of these crates was last written."""
+    sources = [ROOT / "crates.txt"]
+    for name in crates:
+        sources += [*CRATES.glob(f"{name}/src/**/*.rt"), *CRATES.glob(f"{name}/specs/**/*.antt")]
+    return max(path.stat().st_mtime for path in sources)
+
+
+def library(name):
+    """The folder that has the library of a crate, as rt builds it, and the library."""
+    folder = CRATES / name / "out" / "rlib"
+    return folder, folder / f"{name}.rlib"
+
+
+def is_of_gate(crates, written):
+    """Whether `rt ci` left the libraries of these crates: newer than the sources, without the stamp of a check's own."""
+    places = [library(name) for name in crates]
+    is_new = all(rlib.is_dir() and rlib.stat().st_mtime > written for _, rlib in places)
+    return is_new and not any((folder / "stamp").exists() for folder, _ in places)
+
+
+def build_over_gate(crates, named):
+    """Builds the archive over the libraries that `rt ci` left."""
+    of_kit = kit()
+    words = [of_kit / "bin" / "rattle", "build", "--crate-name", "nr_c", "src/lib.rt", "--crate-type", "staticlib"]
+    words += ["-L", f"dependency={of_kit / 'rlibs'}", *[it for name in crates for it in ("-L", f"dependency={library(name)[0]}")]]
+    for name in ["std", *named]:
+        words += ["--extern", f"{name}={library(name)[1] if name in crates else of_kit / 'rlibs' / f'{name}.rlib'}"]
+    words += ["--antt-project", of_kit / "rattle" / "logic" / "antt-project.json", "--logic-built", of_kit / "logic_built"]
+    words += ["--toolchain", of_kit / "toolchain", "--backend", "llvm", "--links", "nr_c=", "--jobs", "2", "-o", ARCHIVE]
+    ARCHIVE.parent.mkdir(exist_ok=True)
+    subprocess.run(words, cwd=CRATES / "nr_c", stdin=subprocess.DEVNULL, check=True)
+
+
+def made():
+    """The archive, made anew where it is missing or older than a source."""
+    crates, named = below()
+    written = newest(["nr_c", *crates])
+    if ARCHIVE.exists() and ARCHIVE.stat().st_mtime > written:
+        return ARCHIVE
+    if is_of_gate(crates, written):
+        build_over_gate(crates, named)
+    else:
+        subprocess.run(["rt", "lib"], cwd=CRATES / "nr_c", stdin=subprocess.DEVNULL, check=True)
+    return ARCHIVE

@@ -1,0 +1,175 @@
+"""The library as the tests have it: built from the archive of nr_c into a folder of its own, and called as C calls it."""
+
+import ctypes
+import importlib.util
+import os
+import pathlib
+import shutil
+import subprocess
+import sys
+import tempfile
+import unittest
+
+import archive as made
+
+ROOT = pathlib.Path(__file__).resolve().parent.parent.parent
+C = ROOT / "c"
+HERE = pathlib.Path(__file__).resolve().parent
+PROGRAM = ROOT / "crates" / "linksim" / "out" / "linksim"
+PRACTICE = ROOT / "examples" / "practice.csv"
+SECONDS = 300
+
+FOLDER = pathlib.Path(tempfile.mkdtemp(prefix="nr-c-"))
+LIBRARY, STATIC = FOLDER / "libnr.so.1", FOLDER / "libnr.a"
+
+_archive = _program = _calls = _module = None
+
+
+def use(archive, program):
+    """Names the archive and the program linksim, and builds both libraries."""
+    global _archive, _program, _calls
+    _archive, _program = pathlib.Path(archive).resolve(), pathlib.Path(program).resolve()
+    objects = FOLDER / "objects"
+    objects.mkdir()
+    for path in (_archive, allocator()):
+        done(["ar", "x", path], objects)
+    done([compiler(), "-O2", "-fPIC", "-c", C / "fault_name.c", "-o", objects / "fault_name.o"])
+    members = sorted(objects.glob("*.o"))
+    done(["ar", "rcs", STATIC, *members])
+    script = f"-Wl,--version-script,{C / 'nr.map'}"
+    done([compiler(), "-shared", "-Wl,-soname,libnr.so.1", script, "-Wl,--no-undefined", "-o", LIBRARY, *members])
+    _calls = ctypes.CDLL(str(LIBRARY))
+
+
+def archive():
+    """The archive that `rt lib` left."""
+    return _archive
+
+
+def allocator():
+    """The kit's archive that has the allocator's three calls."""
+    return made.kit() / "c" / "liblibc_c.a"
+
+
+def program():
+    """The program linksim; a test without it is skipped."""
+    if not os.access(_program, os.X_OK):
+        raise unittest.SkipTest(f"no program at {_program}")
+    return _program
+
+
+def compiler():
+    """The C compiler's name."""
+    return os.environ.get("CC", "cc")
+
+
+def ran(words, folder=None, environment=None):
+    """A command's status and what it wrote, standard error behind standard output."""
+    how = {"cwd": folder, "env": environment, "stdout": subprocess.PIPE, "stderr": subprocess.STDOUT}
+    ended = subprocess.run([str(word) for word in words], stdin=subprocess.DEVNULL, timeout=SECONDS, **how)
+    return ended.returncode, ended.stdout
+
+
+def done(words, folder=None, environment=None):
+    """What a command wrote; a failure ends the tests or fails the one that asked."""
+    status, output = ran(words, folder, environment)
+    if status:
+        raise AssertionError(f"{' '.join(map(str, words))}: status {status}\n{output.decode(errors='replace')}")
+    return output
+
+
+def needs(*tools):
+    """The first of these tools that is there; a test that finds none is skipped."""
+    for tool in tools:
+        if shutil.which(tool):
+            return tool
+    raise unittest.SkipTest(f"no {' or '.join(tools)}")
+
+
+def module():
+    """The Python module nr, over the library."""
+    global _module
+    if _module is None:
+        os.environ["NR_LIBRARY"] = str(LIBRARY)
+        spec = importlib.util.spec_from_file_location("nr", C / "nr.py")
+        _module = importlib.util.module_from_spec(spec)
+        sys.modules["nr"] = _module
+        spec.loader.exec_module(_module)
+    return _module
+
+
+def for_python():
+    """The environment of a Python program over the library."""
+    return {**os.environ, "NR_LIBRARY": str(LIBRARY), "PYTHONPATH": str(C), "PYTHONDONTWRITEBYTECODE": "1"}
+
+
+class Tx(ctypes.Structure):
+    """A transmission, as nr.h has it."""
+
+    _fields_ = [(name, ctypes.c_uint32) for name in ("rv", "g", "qm", "nl")]
+    _fields_ += [("some", ctypes.c_uint64), ("blocks", ctypes.c_uint64 * 6)]
+
+
+def tx(g, rv=0, qm=1, nl=1, blocks=None):
+    """A transmission of all code blocks, or of those with these numbers."""
+    given = Tx(rv, g, qm, nl, blocks is not None)
+    for number in blocks or []:
+        given.blocks[number // 64] |= 1 << number % 64
+    return given
+
+
+class Room:
+    """Memory for so many items that a call may write, between octets that it may not, all filled with one octet."""
+
+    FILL, AROUND = 0xA5, 64
+
+    def __init__(self, count, item=1, counted=True):
+        self.count, self.length, self.counted = count, count * item, counted
+        self.whole = bytearray([self.FILL]) * (self.length + 2 * self.AROUND)
+        self.memory = (ctypes.c_ubyte * len(self.whole)).from_buffer(self.whole)
+
+    def octets(self):
+        """What stands in the room; an assertion fails where something was written around it."""
+        around = self.whole[: self.AROUND] + self.whole[self.AROUND + self.length :]
+        assert around == bytes([self.FILL]) * len(around), "written outside the room"
+        return bytes(self.whole[self.AROUND : self.AROUND + self.length])
+
+    def numbers(self):
+        """The same as numbers of 32 bits."""
+        return list(memoryview(self.octets()).cast("I"))
+
+    def is_unwritten(self):
+        return self.octets() == bytes([self.FILL]) * self.length
+
+    def words(self):
+        """The address of the room, and its count where a call wants one."""
+        address = ctypes.c_void_p(ctypes.addressof(self.memory) + self.AROUND)
+        return [address, ctypes.c_size_t(self.count)] if self.counted else [address]
+
+
+def struct(count=1):
+    """A room for a struct of so many numbers of 32 bits."""
+    return Room(count, item=4, counted=False)
+
+
+def settings(rate2048, lbrm=0):
+    """The settings of a link."""
+    return (ctypes.c_uint32 * 2)(rate2048, lbrm)
+
+
+def call(name, *given):
+    """The status of a call. Octets, lists of transmissions and rooms are passed with their count, numbers with 32 bits, and
+    any other value by its address."""
+    passed = []
+    for it in given:
+        if isinstance(it, bytes):
+            passed += [ctypes.c_char_p(it), ctypes.c_size_t(len(it))]
+        elif isinstance(it, Room):
+            passed += it.words()
+        elif isinstance(it, list):
+            passed += [(Tx * len(it))(*it), ctypes.c_size_t(len(it))]
+        else:
+            passed.append(ctypes.c_uint32(it) if isinstance(it, int) else ctypes.byref(it))
+    answer = getattr(_calls, name)
+    answer.restype = ctypes.c_uint32
+    return answer(*passed)

@@ -1,0 +1,106 @@
+"""Known answers: those of another model of the clauses, of plain lists, and of README's examples."""
+
+import random
+import unittest
+
+import built
+import encoder
+import model
+
+DRAWN = (built.ROOT / "examples" / "drawn.csv").read_bytes()
+PRACTICE = built.PRACTICE.read_bytes()
+
+
+class Answers(unittest.TestCase):
+    """Of each call that computes."""
+
+    def test_crc(self):
+        polynomials = [encoder.CRC_24A, encoder.CRC_24B, encoder.CRC_16]
+        draw = random.Random(1)
+        for length in [0, 1, 2, 3, 7, 8, 9, 64, 477, 478, 2000]:
+            octets = draw.randbytes(length)
+            for number, (degree, polynomial) in enumerate(polynomials):
+                with self.subTest(length=length, number=number):
+                    parity = encoder.with_crc(encoder.bits_of(octets), (degree, polynomial))[8 * length :]
+                    room = built.struct()
+                    self.assertEqual(built.call("nr_crc", number, octets, room), 0)
+                    self.assertEqual(room.numbers(), [int("".join(map(str, parity)), 2)])
+
+    def test_plan(self):
+        for a in [8, 176, 184, 192, 288, 296, 544, 552, 624, 632, 3816, 3824, 3832, 8424, 8432, 12264, 100_008, 1_310_688]:
+            for rate2048 in [1, 511, 512, 513, 1372, 1373, 2048]:
+                with self.subTest(a=a, rate2048=rate2048):
+                    room, wanted = built.struct(10), model.plan(a, rate2048)
+                    self.assertEqual(built.call("nr_plan", rate2048, a, room), 0 if wanted else 45)
+                    if wanted:
+                        self.assertEqual(room.numbers(), list(wanted.values()))
+                    else:
+                        self.assertTrue(room.is_unwritten())
+
+    def test_the_plan_of_readme(self):
+        room = built.struct(10)
+        self.assertEqual(built.call("nr_plan", 2048, 8, room), 0)
+        self.assertEqual(room.numbers(), [2, 24, 0, 1, 24, 6, 4, 0, 40, 200])
+
+    def test_tables(self):
+        for text, counts in [(PRACTICE, [0, 105]), (DRAWN, [316, 0]), (PRACTICE + DRAWN, [316, 105])]:
+            room = built.struct(3)
+            self.assertEqual(built.call("nr_table_check", text, room), 0)
+            self.assertEqual(room.numbers(), [*counts, 0])
+
+    def check_sent(self, text, octets, tx, rate2048, lbrm=0):
+        with self.subTest(a=8 * len(octets), rv=tx.rv, g=tx.g, qm=tx.qm, nl=tx.nl, lbrm=lbrm):
+            room = built.Room(tx.g)
+            status = built.call("nr_send", text, built.settings(rate2048, lbrm), octets, tx, room)
+            self.assertEqual(status, 0)
+            self.assertEqual(room.octets(), model.sent(text, octets, tx, rate2048, lbrm))
+
+    def test_sent(self):
+        both = PRACTICE + DRAWN
+        draw = random.Random(2)
+        for octets, rate2048 in [(1, 2048), (9, 2048), (37, 2048), (478, 2048), (479, 512), (1065, 2048), (1533, 1024)]:
+            block = draw.randbytes(octets)
+            for rv in range(4):
+                qm, nl = draw.choice([1, 2, 4, 6, 8]), draw.randrange(1, 5)
+                g = qm * nl * draw.randrange(4, 400)
+                lbrm = draw.choice([0, 16 * octets, 40 * octets])
+                self.check_sent(both, block, built.tx(g, rv, qm, nl), rate2048, lbrm)
+
+    def test_sent_in_part(self):
+        block = random.Random(3).randbytes(479)
+        for blocks in [[0], [1], [0, 1], [1, 7, 300]]:
+            self.check_sent(PRACTICE, block, built.tx(2400, 2, 4, 2, blocks), 512)
+
+    def test_the_bits_of_readme(self):
+        for tx, wanted in [
+            (built.tx(184), "1021033022000008108800000240220000081088000002"),
+            (built.tx(24, qm=4), "000a51"),
+            (built.tx(40, rv=3), "8000002102"),
+        ]:
+            room = built.Room(tx.g)
+            self.assertEqual(built.call("nr_send", PRACTICE, built.settings(2048), b"\1", tx, room), 0)
+            self.assertEqual(encoder.octets_of(list(room.octets())).hex(), wanted)
+
+    def test_received(self):
+        """Of 8,592 bits in two code blocks 6,000 places leave some open, and all places none; what was heard with both bits
+        no block explains."""
+        block = random.Random(4).randbytes(1065)
+        first, second = built.tx(6000, 0, 2), built.tx(30000, 2, 2)
+        bits = [model.sent(DRAWN, block, tx, 2048) for tx in (first, second)]
+        flipped = bytes([bits[0][0] ^ 1]) + bits[0][1:]
+        for txs, heard, outcome in [
+            ([], b"", 0),
+            ([first], bits[0], 0),
+            ([second], bits[1], 1),
+            ([first, second], bits[0] + bits[1], 1),
+            ([second, first], bits[1] + bits[0], 1),
+            ([first, second], flipped + bits[1], 2),
+            ([second, first], bits[1] + flipped, 2),
+            ([first, second], bits[0] + b"\2" * 30000, 0),
+            ([second], bits[1][:6000] + bytes(range(2, 256)) * 94 + b"\2" * 124, 0),
+        ]:
+            with self.subTest(transmissions=len(txs), outcome=outcome):
+                found, room = built.struct(), built.Room(len(block))
+                status = built.call("nr_receive", DRAWN, built.settings(2048), 8 * len(block), txs, heard, found, room)
+                self.assertEqual((status, found.numbers()), (0, [outcome]))
+                self.assertEqual(room.octets(), block if outcome == 1 else b"\xa5" * len(block))

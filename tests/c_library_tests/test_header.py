@@ -1,0 +1,99 @@
+"""nr.h against the sources of nr_c, which the proofs are of: calls, structs and statuses; and what the libraries show."""
+
+import re
+import unittest
+
+import built
+
+HEADER = re.sub(r"/\*.*?\*/", "", (built.C / "nr.h").read_text(), flags=re.DOTALL)
+SOURCES = "".join(path.read_text() for path in sorted((built.ROOT / "crates" / "nr_c" / "src").glob("**/*.rt")))
+NAMES = ["nr_fault_name"]
+
+# How C writes what Rattle passes.
+ITEMS = {"u8": "uint8_t", "u32": "uint32_t", "u64": "uint64_t"}
+
+
+def spaced(text):
+    """A declaration with one space where there is any, and none beside a comma or a parenthesis."""
+    return re.sub(r"\s*([(),;{}])\s*", r"\1", re.sub(r"\s+", " ", text)).strip()
+
+
+def parameter(name, kind):
+    """A parameter of an export as C declares it."""
+    slice_, item = re.fullmatch(r"&(mut )?\[(\w+)\]", kind), re.fullmatch(r"&(mut )?(\w+)", kind)
+    if slice_:
+        const, item = "" if slice_[1] else "const ", ITEMS.get(slice_[2], slice_[2])
+        return f"{const}{item} *{name},size_t {name}_len"
+    if item:
+        return f"{'' if item[1] else 'const '}{ITEMS.get(item[2], item[2])} *{name}"
+    return f"{ITEMS[kind]} {name}"
+
+
+def exports():
+    """The declarations of nr_c's exports, by name."""
+    found = {}
+    for name, given in re.findall(r'pub extern "C" fn (\w+)\((.*?)\) -> u32', SOURCES, flags=re.DOTALL):
+        pairs = re.findall(r"(\w+): ([^,]+)", given)
+        found[name] = ",".join(parameter(it, kind.strip()) for it, kind in pairs if kind.strip() != "Global")
+    return found
+
+
+def structs():
+    """The fields of nr_c's structs, as C declares them."""
+    found = {}
+    for name, body in re.findall(r"#\[repr\(C\)\]\n(?:#[^\n]*\n)*pub struct (\w+) \{(.*?)\n\}", SOURCES, flags=re.DOTALL):
+        fields = re.findall(r"pub (\w+): (?:\[(\w+); (\d+)\]|(\w+)),", body)
+        found[name] = [f"{ITEMS[many or one]} {field}{f'[{count}]' if many else ''}" for field, many, count, one in fields]
+    return found
+
+
+def statuses():
+    """The number of each fault, by the name of its variant."""
+    return {name: int(number) for name, number in re.findall(r"\w+Fault::(\w+)(?:\(_\))? => (\d+),|", SOURCES) if name} | {
+        name: int(number) for name, number in re.findall(r" Fault::(\w+) => (\d+),", SOURCES)
+    }
+
+
+class Header(unittest.TestCase):
+    """What stands in nr.h is what stands in the sources."""
+
+    def test_calls(self):
+        declared = re.findall(r"uint32_t (nr_\w+)\((.*?)\);", HEADER, flags=re.DOTALL)
+        found = {name: spaced(given) for name, given in declared}
+        self.assertEqual(found, exports())
+        self.assertIn("nr_send", found)
+
+    def test_structs(self):
+        declared = re.findall(r"typedef struct (\w+) \{(.*?)\} (\w+);", HEADER, flags=re.DOTALL)
+        found = {name: [spaced(field) for field in body.split(";") if field.strip()] for name, body, _ in declared}
+        self.assertEqual(found, structs())
+        self.assertTrue(all(name == again for name, _, again in declared))
+
+    def test_statuses(self):
+        named = dict(re.findall(r"NR_(\w+) = (\d+)", re.search(r"enum NrStatus \{.*?\}", HEADER, flags=re.DOTALL)[0]))
+        found = {name.title().replace("_", ""): int(number) for name, number in named.items() if name != "OK"}
+        self.assertEqual(found, statuses())
+
+    def test_names(self):
+        names = {name: number for number in range(1000) if (name := built.module().fault_name(number)) != "unknown"}
+        self.assertEqual(names, statuses() | {"Ok": 0})
+
+
+class Libraries(unittest.TestCase):
+    """What the libraries show, and what they ask of the system."""
+
+    def symbols(self, kind, path):
+        built.needs("nm")
+        dynamic = ["-D"] if path == built.LIBRARY else []
+        lines = built.done(["nm", "-P", *dynamic, kind, path]).decode().splitlines()
+        return {line.split()[0].partition("@")[0] for line in lines if line.split()[1:] and line.split()[1] not in "Aw"}
+
+    def test_shared(self):
+        self.assertEqual(self.symbols("--defined-only", built.LIBRARY), {*exports(), *NAMES})
+
+    def test_asks(self):
+        allowed = {"malloc", "realloc", "free", "memcpy", "memmove", "memset", "memcmp"}
+        self.assertLessEqual(self.symbols("--undefined-only", built.LIBRARY), allowed)
+
+    def test_static(self):
+        self.assertLessEqual({*exports(), *NAMES, "rattle_alloc"}, self.symbols("--defined-only", built.STATIC))

@@ -1,0 +1,116 @@
+"""The Python module nr: what it takes, what it gives back, how it refuses, and the examples of the documents."""
+
+import array
+import ctypes
+import inspect
+import re
+import sys
+import unittest
+
+import built
+import encoder
+
+PRACTICE = built.PRACTICE.read_bytes()
+RATE = {"rate2048": 2048}
+BLOCK = b"123456789"
+PAGES = ["README.md", "docs/c-library.md"]
+
+
+class Module(unittest.TestCase):
+    """The calls over buffers of several kinds."""
+
+    def setUp(self):
+        self.nr = built.module()
+        self.tx = self.nr.Tx(g=104, qm=2)
+        self.bits = self.nr.send(PRACTICE, BLOCK, self.tx, **RATE)
+
+    def delivered(self, heard, table=PRACTICE):
+        answer = self.nr.receive(table, 72, [(self.tx, heard)], **RATE)
+        self.assertEqual((answer.outcome, answer.block), (self.nr.Outcome.DELIVERED, BLOCK))
+
+    def test_answers(self):
+        self.assertEqual(self.nr.check_table(PRACTICE), (0, 105))
+        self.assertEqual(self.nr.plan(8, **RATE), (2, 24, 0, 1, 24, 6, 4, 0, 40, 200))
+        self.assertEqual(self.nr.plan(8, **RATE).kdash, 24)
+        self.assertEqual(self.nr.crc(BLOCK, self.nr.CRC16), 0x31C3)
+        self.assertEqual(encoder.octets_of(list(self.nr.send(PRACTICE, b"\1", self.nr.Tx(24, qm=4), **RATE))).hex(), "000a51")
+        self.assertEqual(self.nr.receive(PRACTICE, 72, [], **RATE), (self.nr.Outcome.OPEN, None))
+
+    def test_buffers(self):
+        self.assertIsInstance(self.bits, bytearray)
+        for kind in [bytes, bytearray, memoryview, list, tuple, lambda it: array.array("B", it), lambda it: array.array("b", it),
+                     lambda it: (ctypes.c_ubyte * len(it))(*it)]:
+            self.delivered(kind(self.bits))
+            self.assertEqual(self.nr.send(kind(PRACTICE), kind(BLOCK), self.tx, **RATE), self.bits)
+        self.delivered(memoryview(bytes(bit for pair in zip(self.bits, self.bits) for bit in pair))[::2])
+        self.delivered(memoryview(bytes(self.bits)).cast("?"))
+        self.tx = self.nr.Tx(g=300, qm=2)
+        self.delivered(array.array("b", [-1] * 30 + list(self.nr.send(PRACTICE, BLOCK, self.tx, **RATE))[30:]))
+
+    def test_room(self):
+        for room in [bytearray(104), array.array("B", bytes(104)), memoryview(bytearray(104)), (ctypes.c_ubyte * 104)()]:
+            self.assertIs(self.nr.send(PRACTICE, BLOCK, self.tx, out=room, **RATE), room)
+            self.assertEqual(bytes(room), self.bits)
+        for room in [bytes(104), memoryview(bytes(104)), array.array("H", bytes(104)), memoryview(bytearray(208))[::2]]:
+            self.assertRaises((TypeError, ValueError, BufferError), self.nr.send, PRACTICE, BLOCK, self.tx, out=room, **RATE)
+
+    def test_numpy(self):
+        try:
+            import numpy
+        except ImportError:
+            self.skipTest("no numpy")
+        bits = numpy.frombuffer(self.bits, numpy.uint8)
+        for kind in [numpy.uint8, numpy.int8, numpy.bool_]:
+            self.delivered(bits.astype(kind))
+        self.delivered(bits.reshape(8, 13))
+        self.assertRaises(TypeError, self.delivered, bits.astype(numpy.float32))
+        room = numpy.zeros(104, numpy.uint8)
+        self.assertIs(self.nr.send(PRACTICE, BLOCK, self.tx, out=room, **RATE), room)
+        self.assertEqual(room.tobytes(), self.bits)
+
+    def test_faults(self):
+        for call, status, name in [
+            (lambda: self.nr.plan(9, **RATE), 40, "Size"),
+            (lambda: self.nr.crc(b"", 3), 4, "Poly"),
+            (lambda: self.nr.send(PRACTICE, BLOCK, self.nr.Tx(5_000_000), **RATE), 53, "Total"),
+            (lambda: self.nr.send(PRACTICE, BLOCK, self.nr.Tx(104, blocks=[]), **RATE), 55, "NoneScheduled"),
+            (lambda: self.nr.send(PRACTICE, BLOCK, self.tx, out=bytearray(103), **RATE), 2, "Room"),
+            (lambda: self.nr.receive(PRACTICE, 72, [(self.tx, self.bits[1:])], **RATE), 56, "Length"),
+            (lambda: self.nr.receive(PRACTICE, 72, [(self.tx, self.bits)] * 257, **RATE), 3, "Many"),
+            (lambda: self.nr.receive(PRACTICE, 0xFFFFFFFF, [], **RATE), 40, "Size"),
+        ]:
+            with self.assertRaises(self.nr.Fault) as raised:
+                call()
+            self.assertEqual((raised.exception.status, str(raised.exception)), (status, name))
+        with self.assertRaises(self.nr.Fault) as raised:
+            self.nr.check_table(PRACTICE + b"3,0,0" + b",0" * 8)
+        self.assertEqual((raised.exception.name, raised.exception.place), ("Range", 106))
+
+    def test_what_is_no_number_of_32_bits(self):
+        for call in [
+            lambda: self.nr.plan(1 << 32, **RATE),
+            lambda: self.nr.plan(-8, **RATE),
+            lambda: self.nr.send(PRACTICE, BLOCK, self.nr.Tx(104, rv=-1), **RATE),
+            lambda: self.nr.send(PRACTICE, BLOCK, self.nr.Tx(104, blocks=[384]), **RATE),
+            lambda: self.nr.send(PRACTICE, [256], self.tx, **RATE),
+        ]:
+            self.assertRaises(ValueError, call)
+        for call in [lambda: self.nr.plan(8.0, **RATE), lambda: self.nr.crc("text"), lambda: self.nr.plan(8)]:
+            self.assertRaises(TypeError, call)
+
+    def test_help(self):
+        for name in self.nr.__all__:
+            it = getattr(self.nr, name)
+            if inspect.isfunction(it) or inspect.isclass(it):
+                self.assertGreater(len(it.__doc__ or ""), 40, name)
+
+
+class Documents(unittest.TestCase):
+    """The blocks ```python of the documents, as they stand there, from the repository's top."""
+
+    def test_pages(self):
+        for page in PAGES:
+            text = (built.ROOT / page).read_text()
+            for script, said in re.findall(r"```python\n(.*?)```\n+```\n(.*?)```", text, flags=re.DOTALL):
+                output = built.done([sys.executable, "-c", script], built.ROOT, built.for_python())
+                self.assertEqual(output.decode(), said)

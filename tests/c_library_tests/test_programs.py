@@ -1,0 +1,136 @@
+"""Programs in C and in C++ over the library: each call, memory refused, four threads, the examples, and what is installed."""
+
+import os
+import pathlib
+import shutil
+import sys
+import tempfile
+import unittest
+
+import built
+
+WARNINGS = ["-Wall", "-Wextra", "-pedantic", "-Werror"]
+WRAPPED = [f"-Wl,--wrap={name}" for name in ("malloc", "calloc", "realloc", "free")]
+SANITIZERS = ["-fsanitize=address,undefined", "-fno-sanitize-recover=all", "-g"]
+CMAKE = """cmake_minimum_required(VERSION 3.10)
+project(erasures C)
+find_package(nr REQUIRED)
+add_executable(erasures {example})
+target_link_libraries(erasures nr::{target})
+"""
+
+
+class InFolder(unittest.TestCase):
+    """A test with a folder of its own."""
+
+    def setUp(self):
+        self.folder = pathlib.Path(tempfile.mkdtemp(prefix="nr-c-program-"))
+        self.addCleanup(shutil.rmtree, self.folder)
+
+    def compiled(self, source, *flags, compiler=None, ending=(built.STATIC,)):
+        """The program of a source, over the static library where no other ending is given."""
+        program = self.folder / pathlib.Path(source).stem
+        words = [compiler or built.compiler(), "-O1", *WARNINGS, *flags, f"-I{built.C}", built.HERE / source]
+        built.done([*words, "-o", program, *(["-x", "none"] if "-x" in flags else []), *ending])
+        return program
+
+    def both_graphs(self):
+        """The path of the practice table with one of base graph 1."""
+        path = self.folder / "both.csv"
+        path.write_bytes(built.PRACTICE.read_bytes() + (built.ROOT / "examples" / "drawn.csv").read_bytes())
+        return path
+
+
+class Programs(InFolder):
+    """The test programs."""
+
+    def test_calls(self):
+        built.done([self.compiled("calls.c", "-std=c99"), built.PRACTICE])
+
+    def test_calls_in_cpp(self):
+        compiler = os.environ.get("CXX") or built.needs("c++", "g++", "clang++")
+        for standard in ["-std=c++98", "-std=c++17"]:
+            built.done([self.compiled("calls.c", "-x", "c++", standard, compiler=compiler), built.PRACTICE])
+
+    def test_calls_of_the_shared_library(self):
+        ending = [f"-L{built.FOLDER}", f"-Wl,-rpath,{built.FOLDER}", "-l:libnr.so.1"]
+        built.done([self.compiled("calls.c", ending=ending), built.PRACTICE])
+
+    def test_calls_under_sanitizers(self):
+        (self.folder / "nothing.c").write_text("int main(void) { return 0; }\n")
+        words = [built.compiler(), *SANITIZERS, "nothing.c", "-o", "nothing"]
+        if built.ran(words, self.folder)[0] or built.ran(["./nothing"], self.folder)[0]:
+            self.skipTest(f"{built.compiler()} links no program with {SANITIZERS[0]}")
+        for source, table in [("calls.c", built.PRACTICE), ("threads.c", self.both_graphs())]:
+            built.done([self.compiled(source, *SANITIZERS, "-pthread"), table])
+
+    def test_calls_under_valgrind(self):
+        built.needs("valgrind")
+        words = ["valgrind", "-q", "--error-exitcode=9", "--leak-check=full", self.compiled("calls.c", "-g"), built.PRACTICE]
+        built.done(words)
+
+    def test_memory_refused(self):
+        output = built.done([self.compiled("refused.c", *WRAPPED), self.both_graphs()])
+        for call in ["nr_table_check", "nr_crc", "nr_send", "nr_receive"]:
+            self.assertRegex(output.decode(), rf"(?m)^{call}: [1-9]\d* growths refused$")
+
+    def test_threads(self):
+        output = built.done([self.compiled("threads.c", "-pthread"), self.both_graphs()])
+        self.assertRegex(output.decode(), r"^4 threads, ")
+
+
+class Examples(InFolder):
+    """The examples, and the library as it is installed."""
+
+    def check(self, output):
+        """The outcomes of the examples: open at first, and then the block that was sent."""
+        lines = output.decode().splitlines()
+        self.assertRegex(lines[0], "open")
+        self.assertRegex(output.decode(), "(?s)delivered.*123456789")
+
+    def test_c(self):
+        program = self.compiled(built.C / "examples" / "erasures.c")
+        self.check(built.done([program, built.PRACTICE]))
+        self.assertEqual(built.ran([program])[0], 2)
+
+    def test_python(self):
+        self.check(built.done([sys.executable, built.C / "examples" / "erasures.py", built.PRACTICE], environment=built.for_python()))
+
+    def make(self, *words):
+        built.needs("make")
+        built.done(["make", "-C", built.C, f"NR_C={built.archive()}", f"OUT={self.folder / 'made'}", *words])
+
+    def test_installed(self):
+        stage = self.folder / "stage"
+        self.make("install", f"DESTDIR={stage}", "PREFIX=/usr")
+        found = {str(path.relative_to(stage / "usr")) for path in stage.glob("**/*") if not path.is_dir()}
+        names = ["libnr.a", "libnr.so", "libnr.so.1", "pkgconfig/nr.pc", "cmake/nr/nrConfig.cmake"]
+        self.assertEqual(found, {"include/nr.h", "share/nr/nr.py", *(f"lib/{name}" for name in names)})
+        self.assertIn("prefix=/usr\n", (stage / "usr" / "lib" / "pkgconfig" / "nr.pc").read_text())
+
+    def test_pkg_config(self):
+        built.needs("pkg-config")
+        self.make("install", f"PREFIX={self.folder}")
+        library = self.folder / "lib"
+        environment = {**os.environ, "PKG_CONFIG_PATH": str(library / "pkgconfig"), "LD_LIBRARY_PATH": str(library)}
+        flags = built.done(["pkg-config", "--cflags", "--libs", "nr"], environment=environment).decode().split()
+        program = self.folder / "erasures"
+        built.done([built.compiler(), built.C / "examples" / "erasures.c", "-o", program, *flags])
+        self.check(built.done([program, built.PRACTICE], environment=environment))
+
+    def test_installed_module(self):
+        """The module finds the library that is installed with it."""
+        self.make("install", f"PREFIX={self.folder}")
+        environment = {**built.for_python(), "NR_LIBRARY": "", "PYTHONPATH": str(self.folder / "share" / "nr")}
+        self.check(built.done([sys.executable, built.C / "examples" / "erasures.py", built.PRACTICE], environment=environment))
+
+    def test_cmake(self):
+        built.needs("cmake")
+        self.make("install", f"PREFIX={self.folder}")
+        for target in ["nr", "static"]:
+            source = self.folder / target
+            source.mkdir()
+            (source / "CMakeLists.txt").write_text(CMAKE.format(example=built.C / "examples" / "erasures.c", target=target))
+            built.done(["cmake", "-S", source, "-B", source / "build", f"-DCMAKE_PREFIX_PATH={self.folder}"])
+            built.done(["cmake", "--build", source / "build"])
+            self.check(built.done([source / "build" / "erasures", built.PRACTICE]))

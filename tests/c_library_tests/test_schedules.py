@@ -1,0 +1,130 @@
+"""Random schedules, against the program linksim: what is sent, what is refused, and what is handed up."""
+
+import pathlib
+import random
+import shutil
+import tempfile
+import unittest
+
+import built
+import encoder
+
+SCHEDULES = 300
+PRACTICE = built.PRACTICE.read_bytes()
+DRAWN = (built.ROOT / "examples" / "drawn.csv").read_bytes()
+HEADER = "block,rv,g,qm,nl,erase,flip,mask\n"
+
+
+def places(draw, count, chance):
+    """A list of places, each with this chance."""
+    return [place for place in range(count) if draw.random() < chance]
+
+
+def field(listed):
+    """A list of places as a schedule has it."""
+    return " ".join(map(str, listed)) or "-"
+
+
+class Case:
+    """A drawn table, settings, blocks and schedule."""
+
+    def __init__(self, seed):
+        draw = self.draw = random.Random(seed)
+        self.table = draw.choice([PRACTICE, PRACTICE, PRACTICE + DRAWN, DRAWN])
+        self.rate2048 = draw.choice([2048, 2048, 1372, 1024, 512, 100])
+        lengths = [draw.choice([1, 2, 5, 9, 20, 36, 37, 60, 300, 479]) for _ in range(draw.randrange(1, 4))]
+        self.lbrm = draw.choice([0, 0, 0, 1, 300, 8 * max(lengths), 20 * max(lengths)])
+        self.blocks = [draw.randbytes(length) for length in lengths]
+        self.transmissions = [self.drawn(draw.randrange(len(self.blocks))) for _ in range(draw.randrange(1, 8))]
+
+    def drawn(self, block):
+        """A transmission of a block: its fields, and the places that are erased and flipped."""
+        draw, count = self.draw, 8 * len(self.blocks[block]) + 40
+        rv = draw.choice([0, 0, 0, 1, 2, 3, 2, 3, 1, 4])
+        qm = draw.choice([1, 1, 2, 2, 4, 6, 8, 1, 2, draw.randrange(10)])
+        nl = draw.choice([1, 1, 1, 1, 2, 3, 4, draw.randrange(6)])
+        step = max(1, qm * nl)
+        g = step * (draw.randrange(count // 3, 4 * count) // step) + draw.choice([0] * 15 + [1])
+        erased = places(draw, g, draw.choice([0, 0, 0, 0.1, 0.3, 0.6, 0.9]))
+        flipped = places(draw, g, 2 / max(g, 1)) if draw.random() < 0.15 else []
+        mask = None if draw.random() < 0.8 else draw.choice([[0], [1], [0, 1], [2]])
+        return block, (rv, g, qm, nl), erased, flipped, mask
+
+    def files(self, folder):
+        """Writes the files of the program, and gives the words that name them."""
+        lines = [
+            ",".join(map(str, (block + 1, *numbers, field(erased), field(flipped)))) + f",{'all' if mask is None else field(mask)}\n"
+            for block, numbers, erased, flipped, mask in self.transmissions
+        ]
+        lbrm = f"lbrm = {self.lbrm}\n" if self.lbrm else ""
+        texts = {
+            "table": self.table,
+            "settings": f"rate2048 = {self.rate2048}\n{lbrm}".encode(),
+            "blocks": "".join(it.hex() + "\n" for it in self.blocks).encode(),
+            "schedule": (HEADER + "".join(lines)).encode(),
+        }
+        for name, text in texts.items():
+            (folder / name).write_bytes(text)
+        return [word for name in texts for word in (f"--{name}", folder / name)]
+
+    def lines(self):
+        """The lines that the program is to write by the library, or the one with which it refuses."""
+        nr, link = built.module(), {"rate2048": self.rate2048, "lbrm": self.lbrm}
+        lines, taken = [], [[] for _ in self.blocks]
+        for number, block in enumerate(self.blocks, 1):
+            try:
+                nr.receive(self.table, 8 * len(block), [], **link)
+            except nr.Fault as fault:
+                return [f"linksim: refused: block {number} {fault.name}"]
+        for number, (n, (rv, g, qm, nl), erased, flipped, mask) in enumerate(self.transmissions, 1):
+            tx = nr.Tx(g=g, rv=rv, qm=qm, nl=nl, blocks=mask)
+            try:
+                bits = nr.send(self.table, self.blocks[n], tx, **link)
+            except nr.Fault as fault:
+                lines.append(f"refused {number} {n + 1} {fault.name}")
+                continue
+            sent = encoder.octets_of(list(bits)).hex()[: (g + 3) // 4]
+            lines.append(f"sent {number} {n + 1} {sent}")
+            for place in flipped:
+                bits[place] ^= 1
+            for place in erased:
+                bits[place] = nr.ERASED
+            taken[n].append((tx, bits))
+        for number, (block, receptions) in enumerate(zip(self.blocks, taken), 1):
+            answer = nr.receive(self.table, 8 * len(block), receptions, **link)
+            octets = f" {answer.block.hex()}" if answer.block is not None else ""
+            lines.append(f"block {number} {answer.outcome.name.lower()} tx {len(receptions)}{octets}")
+        return lines
+
+
+def seen(text):
+    """The program's lines without the counts that the library does not tell."""
+    lines = []
+    for line in text.splitlines():
+        words = line.split()
+        if words[0] == "block":
+            line = " ".join(words[:5] + words[9:])
+        if words[0] not in ("left", "total"):
+            lines.append(line)
+    return lines
+
+
+class Schedules(unittest.TestCase):
+    """The program's text and the library's answers."""
+
+    maxDiff = None
+
+    def setUp(self):
+        self.folder = pathlib.Path(tempfile.mkdtemp(prefix="nr-c-schedules-"))
+        self.addCleanup(shutil.rmtree, self.folder)
+
+    def test_random(self):
+        program, said = built.program(), ""
+        for seed in range(SCHEDULES):
+            with self.subTest(seed=seed):
+                case = Case(seed)
+                text = built.ran([program, "run", *case.files(self.folder)])[1].decode()
+                self.assertEqual(seen(text), case.lines())
+                said += text
+        for word in ["sent", "refused", "open", "delivered", "contradiction", "Graph", "NoBuffer", "Ragged", "NoneScheduled"]:
+            self.assertIn(word, said)

@@ -1,0 +1,123 @@
+"""Every status by its cause. A call that is refused writes nothing, and of several causes the first one is told."""
+
+import unittest
+
+import built
+
+PRACTICE = built.PRACTICE.read_bytes()
+LINES = PRACTICE.splitlines(keepends=True)
+ONE = b"2,0,0" + b",0" * 8 + b"\n"
+SETTINGS = built.settings(2048)
+TX = built.tx(24)
+
+
+def without(row):
+    """The practice table without the records of a row."""
+    return b"".join(line for line in LINES if line.split(b",")[1] != row)
+
+
+# The texts that are no shift tables: the status, the place of the fault, and the text.
+TABLES = [
+    (21, 2, ONE + b"1,2\n"),
+    (22, 0, b"1,2\n"),
+    (23, 1, b"x" + ONE[1:]),
+    (23, 3, LINES[0] + LINES[1] + LINES[2].replace(b"2,", b"2x,", 1)),
+    (24, 1, b"3" + ONE[1:]),
+    (24, 2, ONE + b"2,42,0" + b",0" * 8 + b"\n"),
+    (24, 1, b"2,0,0" + b",0" * 7 + b",65536\n"),
+    (25, 2, ONE + ONE),
+    (26, 2, ONE),
+    (27, 2, PRACTICE + b"2,4,15" + b",0" * 8 + b"\n"),
+    (28, 2, without(b"41")),
+    (29, 0, b""),
+    (29, 0, b"graph,row,column,0,1,2,3,4,5,6,7\n"),
+    (30, 0, b"\n" * 4_194_305),
+]
+
+# The blocks that a link is refused for: the status, the settings, and the number of bits.
+BLOCKS = [
+    (40, SETTINGS, 0),
+    (40, built.settings(0), 1_310_728),
+    (41, built.settings(0), 8),
+    (41, built.settings(2049), 9600),
+    (45, built.settings(512), 7640),
+    (46, SETTINGS, 3832),
+    (47, built.settings(512, 1), 8 * 479),
+]
+
+# The transmissions that are refused.
+TXS = [
+    (50, built.tx(24, rv=4, qm=3)),
+    (51, built.tx(24, qm=3, nl=5)),
+    (52, built.tx(0, nl=0)),
+    (52, built.tx(24, nl=5)),
+    (53, built.tx(0)),
+    (53, built.tx(4_194_305)),
+    (54, built.tx(23, qm=2, blocks=[])),
+    (55, built.tx(24, blocks=[])),
+    (55, built.tx(24, blocks=[1, 383])),
+]
+
+
+class Statuses(unittest.TestCase):
+    """Of each call, with the rooms that it may write."""
+
+    def refused(self, status, name, *given):
+        rooms = [it for it in given if isinstance(it, built.Room)]
+        self.assertEqual(built.call(name, *given), status)
+        for room in rooms:
+            self.assertTrue(room.is_unwritten())
+
+    def refused_send(self, status, text=PRACTICE, settings=SETTINGS, block=b"\1", tx=TX, room=24):
+        self.refused(status, "nr_send", text, settings, block, tx, built.Room(room))
+
+    def refused_receive(self, status, text=PRACTICE, settings=SETTINGS, a=8, txs=(TX,), heard=bytes(24), room=1):
+        self.refused(status, "nr_receive", text, settings, a, list(txs), heard, built.struct(), built.Room(room))
+
+    def test_tables(self):
+        for status, place, text in TABLES:
+            with self.subTest(status=status, text=text[:40]):
+                report = built.struct(3)
+                self.assertEqual(built.call("nr_table_check", text, report), status)
+                self.assertEqual(report.numbers(), [0, 0, place])
+                # The first cause of all, but for too many transmissions.
+                self.refused_send(status, text, built.settings(0), b"", built.tx(0, 4), 1)
+                self.refused_receive(status, text, built.settings(0), 7, [built.tx(0, 4)], b"", 0)
+                self.refused_receive(3, text, txs=[TX] * 257)
+
+    def test_blocks(self):
+        for status, settings, a in BLOCKS:
+            with self.subTest(status=status, a=a):
+                if status < 46:
+                    self.refused(status, "nr_plan", settings[0], a, built.struct(10))
+                self.refused_send(status, settings=settings, block=bytes(a // 8), tx=built.tx(0, 4), room=1)
+                self.refused_receive(status, settings=settings, a=a, txs=[built.tx(0, 4)], heard=b"", room=0)
+        for a in [1, 7, 9, 1_310_721, 0xFFFFFFFF]:
+            self.refused(40, "nr_plan", 0, a, built.struct(10))
+            self.refused_receive(40, settings=built.settings(0), a=a)
+
+    def test_transmissions(self):
+        for status, tx in TXS:
+            with self.subTest(status=status, g=tx.g):
+                self.refused_send(status, tx=tx, room=tx.g + 1 if tx.g < 100 else 1)
+                self.refused_receive(status, txs=[tx], heard=bytes(tx.g), room=0)
+                self.refused_receive(status, txs=[TX, tx], heard=bytes(24 + tx.g), room=0)
+                # Fewer places than G come before what else is wrong with a transmission.
+                if tx.g:
+                    self.refused_receive(56, txs=[tx], heard=bytes(tx.g - 1), room=0)
+        self.refused_receive(56, txs=[], heard=b"\0", room=0)
+        self.refused_receive(56, heard=bytes(25), room=0)
+        self.refused_receive(56, txs=[TX, TX], heard=bytes(47), room=0)
+
+    def test_rooms(self):
+        for room in [0, 1, 23, 25, 1000]:
+            self.refused_send(2, room=room)
+        # All zeros are the code word of the block of zeros, and G = 32 are enough to fix it.
+        for room in [0, 2, 100]:
+            self.refused_receive(2, txs=[built.tx(32)], heard=bytes(32), room=room)
+
+    def test_parities(self):
+        for poly in [3, 4, 0xFFFFFFFF]:
+            self.refused(4, "nr_crc", poly, bytes(2_097_153), built.struct())
+        self.refused(3, "nr_crc", 0, bytes(2_097_153), built.struct())
+        self.assertEqual(built.call("nr_crc", 0, bytes(2_097_152), built.struct()), 0)
