@@ -25,4 +25,6 @@ pub use word::{Word, fill};
 #[cfg(test)]
 mod refused_tests;
 #[cfg(test)]
+mod size_tests;
+#[cfg(test)]
 mod tests;

@@ -1,25 +1,25 @@
-//! Words of practice tables, and of a table of base graph 1 at all 51 lifting sizes.
+//! Words of practice tables, by hand.
 
 use crate::{EncFault, Word, codewords_are_plain, encode, fill, meets, one_codeword};
 use nr_bitvec::Bits;
 use nr_graphpick::Graph;
-use nr_lifting::SIZES;
 use nr_segment::{Plan, plan};
 use nr_shifttable::{Feed, Table};
 use std::alloc::{AllocError, Global};
 use std::fmt::Write;
+use std::process::Abort;
 use std::test::Fail;
 
 /// An entry of a table that a test makes.
 #[derive(Clone, Copy)]
-struct Cell {
-    row: u32,
-    col: u32,
-    values: [u16; 8],
+pub(crate) struct Cell {
+    pub(crate) row: u32,
+    pub(crate) col: u32,
+    pub(crate) values: [u16; 8],
 }
 
 /// An entry with one value in all sets.
-fn plain_cell(row: u32, col: u32, value: u16) -> Cell {
+pub(crate) fn plain_cell(row: u32, col: u32, value: u16) -> Cell {
     Cell {
         row,
         col,
@@ -28,7 +28,7 @@ fn plain_cell(row: u32, col: u32, value: u16) -> Cell {
 }
 
 /// The table of a list of entries of one base graph. To write to a String fails for want of memory alone.
-fn table_of(alloc: Global, graph: Graph, cells: &[Cell]) -> Result<Table, Fail> {
+pub(crate) fn table_of(alloc: Global, graph: Graph, cells: &[Cell]) -> Result<Table, Fail> {
     let mut text = String::new(alloc);
     for cell in cells {
         write!(text, "{graph},{},{}", cell.row, cell.col).map_err(|_| AllocError)?;
@@ -82,7 +82,7 @@ pub(crate) fn is_met(table: &Table, plan: &Plan, word: &Word) -> bool {
 }
 
 /// A bit of a word; zero past the end.
-fn bit_of(word: &Word, i: usize) -> bool {
+pub(crate) fn bit_of(word: &Word, i: usize) -> bool {
     i < word.len() && word.get(i)
 }
 
@@ -93,6 +93,14 @@ fn put(word: &mut Word, i: usize, value: bool) {
     }
 }
 
+/// The word of the bits, where they are K'.
+fn word_of_bits(alloc: Global, table: &Table, plan: &Plan, bits: &Bits) -> Result<Word, Fail> {
+    if bits.len() != plan.kdash as usize {
+        return Err(Fail::new("these are not K' bits"));
+    }
+    Ok(encode(alloc, table, plan, bits)?)
+}
+
 /// The word of K' bits that are given as octets.
 pub(crate) fn word_of(
     alloc: Global,
@@ -101,10 +109,7 @@ pub(crate) fn word_of(
     octets: &[u8; 3],
 ) -> Result<Word, Fail> {
     let bits = Bits::from_bytes(alloc, octets)?;
-    if bits.len() != plan.kdash as usize {
-        return Err(Fail::new("the octets are not K' bits"));
-    }
-    Ok(encode(alloc, table, plan, &bits)?)
+    word_of_bits(alloc, table, plan, &bits)
 }
 
 /// The four bits of a column at lifting size 4, the first one highest.
@@ -118,231 +123,154 @@ fn digit(word: &Word, column: usize) -> u32 {
     digit
 }
 
-// By hand: with E and O the sums of the even and the odd information columns, the first four parity columns are 0, E,
-// E + O and O, and each later one is an information column, rotated.
-#[test]
-fn a_word_by_hand(rt: HostRuntime) -> Result<(), Fail> {
-    let alloc = rt.alloc();
-    let table = practice(alloc, 0, 1, false)?;
-    let plan = plan(Graph::Two, 24)?;
-    assert_eq!(rt; (plan.kdash, plan.k, plan.z), (24, 40, 4));
-    let mut word = word_of(alloc, &table, &plan, &[0x01, 0x10, 0x21])?;
-    let digits = [
-        0, 1, 1, 0, 2, 1, 0, 0, 0, 0, 0, 3, 3, 0, 2, 2, 0, 0, 0, 0, 0, 8, 1, 0, 8, 8, 0, 0, 0, 0,
-        0, 2, 4, 0, 2, 2, 0, 0, 0, 0, 0, 8, 1, 0, 8, 8, 0, 0, 0, 0, 0, 2,
-    ];
+/// The first of the columns from one on whose digit is not the one that is given.
+fn first_other(word: &Word, from: usize, digits: &[u32]) -> Option<usize> {
+    for (i, want) in digits.iter().enumerate() {
+        let column = from.wrapping_add(i);
+        if digit(word, column) != *want {
+            return Some(column);
+        }
+    }
+    None
+}
+
+/// The first bit without which the word still meets every row.
+fn first_idle(table: &Table, plan: &Plan, word: &mut Word) -> Option<usize> {
+    for i in 0..word.len() {
+        let bit = bit_of(word, i);
+        put(word, i, !bit);
+        if is_met(table, plan, word) {
+            return Some(i);
+        }
+        put(word, i, bit);
+    }
+    None
+}
+
+const OCTETS: [u8; 3] = [0x01, 0x10, 0x21];
+
+/// By hand: with E and O the sums of the even and the odd information columns, the first four parity columns are 0, E,
+/// E + O and O, and each later one is an information column, rotated.
+const DIGITS: [u32; 52] = [
+    0, 1, 1, 0, 2, 1, 0, 0, 0, 0, 0, 3, 3, 0, 2, 2, 0, 0, 0, 0, 0, 8, 1, 0, 8, 8, 0, 0, 0, 0, 0, 2,
+    4, 0, 2, 2, 0, 0, 0, 0, 0, 8, 1, 0, 8, 8, 0, 0, 0, 0, 0, 2,
+];
+
+/// The word of the octets is the one of the digits, and meets every row with none of its bits turned.
+fn is_by_hand(rt: &impl Abort, alloc: Global, table: &Table, plan: &Plan) -> Result<(), Fail> {
+    let mut word = word_of(alloc, table, plan, &OCTETS)?;
     assert_eq!(rt; word.len(), 208);
     assert_eq!(rt; word.bits().octet(8), 0x10, "columns 2 and 3");
-    for (column, want) in digits.iter().enumerate() {
-        assert_eq!(rt; digit(&word, column), *want, "column {column}");
-    }
-    assert!(rt; is_met(&table, &plan, &word));
-    for i in 0..208 {
-        let bit = bit_of(&word, i);
-        put(&mut word, i, !bit);
-        assert!(rt; !is_met(&table, &plan, &word), "bit {i}");
-        put(&mut word, i, bit);
-    }
-    assert!(rt; is_met(&table, &plan, &word));
+    assert_eq!(rt; first_other(&word, 0, &DIGITS), None);
+    assert!(rt; is_met(table, plan, &word));
+    assert_eq!(rt; first_idle(table, plan, &mut word), None);
+    assert!(rt; is_met(table, plan, &word));
     Ok(())
+}
+
+#[test]
+fn a_word_by_hand(rt: HostRuntime) -> Result<(), Fail> {
+    let plan = plan(Graph::Two, 24)?;
+    assert_eq!(rt; (plan.kdash, plan.k, plan.z), (24, 40, 4));
+    let table = practice(rt.alloc(), 0, 1, false)?;
+    is_by_hand(&rt, rt.alloc(), &table, &plan)
+}
+
+/// Whether the first four parity columns of a word have these digits, and the word meets every row.
+fn has_parity(alloc: Global, table: &Table, plan: &Plan, digits: &[u32; 4]) -> Result<bool, Fail> {
+    let word = word_of(alloc, table, plan, &[0x80, 0x91, 0x88])?;
+    Ok(first_other(&word, 10, digits).is_none() && is_met(table, plan, &word))
+}
+
+/// The same over the practice table with more in row 1.
+fn has_parity_over(
+    alloc: Global,
+    (first, middle): (u16, u16),
+    plan: &Plan,
+    digits: &[u32; 4],
+) -> Result<bool, Fail> {
+    let table = practice(alloc, first, middle, true)?;
+    has_parity(alloc, &table, plan, digits)
 }
 
 // By hand: column 0, rotated by one, is in row 1 too, and so the first parity column is it, rotated back by the value
 // that stands there once.
 #[test]
 fn odd_values_by_hand(rt: HostRuntime) -> Result<(), Fail> {
-    let alloc = rt.alloc();
     let plan = plan(Graph::Two, 24)?;
     for (first, middle, digits) in [
         (0, 1, [8, 1, 9, 1]),
         (0, 0, [1, 8, 0, 8]),
         (1, 0, [8, 8, 0, 1]),
     ] {
-        let table = practice(alloc, first, middle, true)?;
-        let word = word_of(alloc, &table, &plan, &[0x80, 0x91, 0x88])?;
-        for (i, want) in digits.iter().enumerate() {
-            assert_eq!(rt;
-                digit(&word, i.wrapping_add(10)),
-                *want,
-                "column {i} of {first} {middle}"
-            );
-        }
-        assert!(rt; is_met(&table, &plan, &word));
+        let has = has_parity_over(rt.alloc(), (first, middle), &plan, &digits)?;
+        assert!(rt; has, "{first} {middle}");
     }
     Ok(())
 }
 
+/// The new word has zeros alone, and is filled to the one by hand from its first K bits on.
+fn fills_by_hand(rt: &impl Abort, alloc: Global, table: &Table, plan: &Plan) -> Result<(), Fail> {
+    let mut word = Word::new(alloc, plan)?;
+    assert_eq!(rt; word.len(), 208);
+    assert_eq!(rt; first_other(&word, 0, &[0; 52]), None);
+    assert!(rt; is_met(table, plan, &word));
+    begin(&mut word);
+    assert!(rt; table.has(plan.graph));
+    assert_eq!(rt; word.len(), (plan.graph.cols() * plan.z) as usize);
+    fill(table, plan, &mut word);
+    assert_eq!(rt; first_other(&word, 0, &DIGITS), None);
+    Ok(())
+}
+
+/// Puts the ten information columns by hand, and ones in every third place behind them.
+fn begin(word: &mut Word) {
+    for (column, digit) in DIGITS[..10].iter().enumerate() {
+        for (t, weight) in [8, 4, 2, 1].iter().enumerate() {
+            put(word, column * 4 + t, digit & weight != 0);
+        }
+    }
+    for i in 40..208 {
+        put(word, i, i % 3 == 0);
+    }
+}
+
 #[test]
 fn fills_as_encoded(rt: HostRuntime) -> Result<(), Fail> {
-    let alloc = rt.alloc();
-    let table = practice(alloc, 0, 1, false)?;
     let plan = plan(Graph::Two, 24)?;
-    let word = word_of(alloc, &table, &plan, &[0x01, 0x10, 0x21])?;
-    let mut again = Word::new(alloc, &plan)?;
-    assert_eq!(rt; again.len(), 208);
-    for i in 0..208 {
-        assert!(rt; !bit_of(&again, i), "bit {i}");
-    }
-    assert!(rt; is_met(&table, &plan, &again));
-    for i in 0..208 {
-        put(
-            &mut again,
-            i,
-            if i < 40 { bit_of(&word, i) } else { i % 3 == 0 },
-        );
-    }
-    assert!(rt; table.has(plan.graph));
-    assert_eq!(rt; again.len(), (plan.graph.cols() * plan.z) as usize);
-    fill(&table, &plan, &mut again);
-    for i in 0..208 {
-        assert_eq!(rt; bit_of(&again, i), bit_of(&word, i), "bit {i}");
-    }
+    let table = practice(rt.alloc(), 0, 1, false)?;
+    fills_by_hand(&rt, rt.alloc(), &table, &plan)?;
     one_codeword();
     codewords_are_plain();
     Ok(())
 }
 
+/// Why the octets are not encoded.
+fn fault_of(alloc: Global, table: &Table, plan: &Plan) -> Result<Option<EncFault>, Fail> {
+    let bits = Bits::from_bytes(alloc, &OCTETS)?;
+    if bits.len() != plan.kdash as usize {
+        return Err(Fail::new("these are not K' bits"));
+    }
+    Ok(encode(alloc, table, plan, &bits).err())
+}
+
 #[test]
 fn no_graph(rt: HostRuntime) -> Result<(), Fail> {
-    let alloc = rt.alloc();
-    let table = practice(alloc, 0, 1, false)?;
-    let bits = Bits::from_bytes(alloc, &[0x01, 0x10, 0x21])?;
     let plan = plan(Graph::One, 24)?;
-    assert_eq!(rt; bits.len(), plan.kdash as usize);
-    assert!(rt; matches!(encode(alloc, &table, &plan, &bits), Err(EncFault::NoGraph)));
-    assert_eq!(rt; EncFault::NoGraph.to_string(alloc)?.as_str(), "NoGraph");
-    assert_eq!(rt; EncFault::Memory.to_string(alloc)?.as_str(), "Memory");
+    let table = practice(rt.alloc(), 0, 1, false)?;
+    let fault = fault_of(rt.alloc(), &table, &plan)?;
+    assert_eq!(rt; fault, Some(EncFault::NoGraph));
     Ok(())
 }
 
-/// The value of a made-up entry in a set, above most lifting sizes.
-fn value(row: u32, col: u32, set: u32) -> u16 {
-    let mixed = row
-        .wrapping_mul(2_654_435_761)
-        .wrapping_add(col.wrapping_mul(40_503))
-        .wrapping_add(set.wrapping_mul(97_777));
-    (mixed % 65_536) as u16
-}
-
-/// The values of a made-up entry.
-fn values(row: u32, col: u32) -> [u16; 8] {
-    [
-        value(row, col, 0),
-        value(row, col, 1),
-        value(row, col, 2),
-        value(row, col, 3),
-        value(row, col, 4),
-        value(row, col, 5),
-        value(row, col, 6),
-        value(row, col, 7),
-    ]
-}
-
-/// A made-up table of base graph 1, by rows. In the first parity column the row `odd`, one of 0, 1 and 3, has other
-/// values than the other two.
-fn made_up(alloc: Global, odd: u32) -> Result<Vec<Cell>, Fail> {
-    let mut cells = Vec::new(alloc);
-    for row in 0..46 {
-        for col in 0..22 {
-            if (row + 3 * col) % 4 == 0 || col == row % 22 {
-                cells.push(Cell {
-                    row,
-                    col,
-                    values: values(row, col),
-                })?;
-            }
-        }
-        if row == 0 || row == 1 || row == 3 {
-            cells.push(Cell {
-                row,
-                col: 22,
-                values: values(if row == odd { 99 } else { 98 }, 22),
-            })?;
-        }
-        let parity: &[u32] = match row {
-            0 => &[23],
-            1 => &[23, 24],
-            2 => &[24, 25],
-            3 => &[25],
-            _ => &[],
-        };
-        for col in parity {
-            cells.push(plain_cell(row, *col, 0))?;
-        }
-        if row >= 4 {
-            if row % 3 == 0 {
-                cells.push(Cell {
-                    row,
-                    col: 22 + row % 4,
-                    values: values(row, 70),
-                })?;
-            }
-            cells.push(plain_cell(row, 22 + row, 0))?;
-        }
-    }
-    Ok(cells)
-}
-
-/// Whether row `t` of each row of blocks adds up to zero, by the entries alone.
-fn adds_up(cells: &[Cell], set: usize, z: usize, t: usize, word: &Word) -> bool {
-    let mut row = 0;
-    let mut sum = false;
-    for cell in cells {
-        if cell.row != row {
-            if sum {
-                return false;
-            }
-            row = cell.row;
-        }
-        let value = cell.values.get(set).copied().unwrap_or(0);
-        let lane = t
-            .wrapping_add(usize::from(value))
-            .checked_rem(z)
-            .unwrap_or(0);
-        if bit_of(word, (cell.col as usize).wrapping_mul(z).wrapping_add(lane)) {
-            sum = !sum;
-        }
-    }
-    !sum
-}
-
-/// Bits that look drawn at random.
-fn drawn(alloc: Global, count: u32) -> Result<Bits, Fail> {
-    let mut bits = Bits::new(alloc);
-    let mut state = u64::from(count);
-    for _ in 0..count {
-        state = state
-            .wrapping_mul(6364136223846793005)
-            .wrapping_add(1442695040888963407);
-        if bits.len() < 16384 {
-            bits.push(state >> 63 == 1)?;
-        }
-    }
-    Ok(bits)
+/// Whether a fault is written so.
+fn is_written(alloc: Global, fault: EncFault, text: &str) -> Result<bool, Fail> {
+    Ok(fault.to_string(alloc)?.as_str() == text)
 }
 
 #[test]
-fn all_sizes(rt: HostRuntime) -> Result<(), Fail> {
-    let alloc = rt.alloc();
-    for odd in [0, 1, 3] {
-        let cells = made_up(alloc, odd)?;
-        let table = table_of(alloc, Graph::One, &cells)?;
-        for size in SIZES {
-            let plan = plan(Graph::One, (22 * u32::from(size)).saturating_sub(3))?;
-            assert_eq!(rt; plan.z, u32::from(size));
-            let bits = drawn(alloc, plan.kdash)?;
-            assert_eq!(rt; bits.len(), plan.kdash as usize);
-            let word = encode(alloc, &table, &plan, &bits)?;
-            assert!(rt; is_met(&table, &plan, &word));
-            let mut met = true;
-            for t in 0..plan.z as usize {
-                met = met && adds_up(&cells, plan.set as usize, plan.z as usize, t, &word);
-            }
-            assert!(rt; met, "size {size}, odd value in row {odd}");
-            for k in 0..bits.len() {
-                assert_eq!(rt; bit_of(&word, k), bits.get(k), "bit {k} of size {size}");
-            }
-        }
-    }
+fn faults_are_written(rt: HostRuntime) -> Result<(), Fail> {
+    assert!(rt; is_written(rt.alloc(), EncFault::NoGraph, "NoGraph")?);
+    assert!(rt; is_written(rt.alloc(), EncFault::Memory, "Memory")?);
     Ok(())
 }
