@@ -241,6 +241,14 @@ fn refused_records(rt: HostRuntime) {
         ),
         ("Graph,,,,,,,,,,", TableFault::Number(1)),
         ("3,0,0,0,0,0,0,0,0,0,x", TableFault::Number(1)),
+    ] {
+        assert_eq!(rt; items(rt.alloc(), text).err(), Some(want), "{text}");
+    }
+}
+
+#[test]
+fn refused_places(rt: HostRuntime) {
+    for (text, want) in [
         ("2,0,0,0,0,0,0,0,0,0,65536", TableFault::Range(1)),
         ("2,0,0,0,0,0,0,0,0,0,9999999999", TableFault::Range(1)),
         ("2,42,0,0,0,0,0,0,0,0,0", TableFault::Range(1)),
