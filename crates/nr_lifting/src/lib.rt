@@ -27,4 +27,6 @@ pub use rings::{Rings, join_ring, ring_word, turn_lane};
 pub use sizes::{SIZES, set_of, size_table, smallest};
 
 #[cfg(test)]
+mod refused_tests;
+#[cfg(test)]
 mod tests;

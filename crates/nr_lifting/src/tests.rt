@@ -133,6 +133,21 @@ fn keeps_blocks(rt: HostRuntime) -> Result<(), Fail> {
     Ok(())
 }
 
+// By hand: the first of two blocks of five counts is all twos, and a rotation by two brings the ones at places 0 and 2
+// of a block to its counts 3 and 0. The second block stays as it is.
+#[test]
+fn lowers_a_block(rt: HostRuntime) -> Result<(), Fail> {
+    let mut marks = Rings::new(rt.alloc(), 2, 5)?;
+    marks.join(1, &[0b00101, 0, 0, 0, 0, 0]);
+    let mut counts = Planes::new(rt.alloc(), 2, 5)?;
+    counts.fill(0, 2);
+    counts.fill(1, 1);
+    counts.lower(0, &marks, 1, 2);
+    assert_eq!(rt; counts.ones(0), [0b01001, 0, 0, 0, 0, 0]);
+    assert_eq!(rt; counts.ones(1), [0b11111, 0, 0, 0, 0, 0]);
+    Ok(())
+}
+
 // By hand.
 #[test]
 fn adds_and_counts_lanes(rt: HostRuntime) {
