@@ -3,4 +3,5 @@ pub mod Crossing
 pub mod Sending
 pub mod Receiving
 pub mod Numbers
+pub mod Rates
 pub mod Judging

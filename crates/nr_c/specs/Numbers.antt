@@ -1,5 +1,5 @@
 -- The plan of a transport block, and the parity bits of octets.
-use Rattle.std.specs.Prelude.{ℕ, ◌==◌, nat_le, if◌then◌else◌, Option, Some, None, Result, Ok, Err, List, length}
+use Rattle.std.specs.Prelude.{ℕ, ◌==◌, nat_le, if◌then◌else◌, Option, Some, None, Result, Ok, List, length}
 use Rattle.nr_bitvec.specs.BitList.{bits_of}
 use Rattle.nr_crcattach.specs.Attachment.{attached_length}
 use Rattle.nr_crcattach.specs.Crc.{crc_of}
@@ -8,7 +8,9 @@ use Rattle.nr_crcattach.specs.declared.Poly.TheVariants as poly
 use Rattle.nr_graphpick.specs.Graph.{picked}
 use Rattle.nr_graphpick.specs.Refusal.{◌>>=◌, or_fault, with_fault}
 use Rattle.nr_graphpick.specs.declared.Graph.{Graph}
+use Rattle.nr_segment.specs.CodeBlock.{numbers}
 use Rattle.nr_segment.specs.Plan.{Numbers, plan_of}
+use Rattle.nr_segment.specs.declared.numbers.Plan.{Plan}
 use Rattle.nr_blockdesk.specs.Link.{demanded, is_size}
 use Rattle.nr_blockdesk.specs.declared.fault.DeskFault.TheVariants as desk
 use Rattle.nr_c.specs.Judging.{graph_number}
@@ -31,13 +33,26 @@ shown graph b p = record {
   n = p.n;
 }
 
--- the plan of a transport block of a bits, or the first fault (TS 38.212, 5.2.2, 6.2.2 and 7.2.2)
-abbrev pub plan_said : ℕ → ℕ → Result NrPlan Fault
-plan_said rate2048 a = do
+-- a base graph, and the numbers of a plan
+pub record Planned : Type 0 where
+  pub graph : Graph
+  pub plan : Numbers
+
+-- those of a plan
+abbrev pub planned : Plan → Planned
+planned p = record { graph = p.graph; plan = numbers p }
+
+-- the base graph and the numbers of a transport block of a bits, or the first fault (TS 38.212, 5.2.2, 6.2.2 and 7.2.2)
+unfoldable pub planned_said : ℕ → ℕ → Result Planned Fault
+planned_said rate2048 a = do
   whole ← demanded (fault.Desk desk.Size) (is_size a)
   graph ← with_fault (λ e. fault.Desk (desk.Pick e)) (picked a rate2048)
   p ← with_fault (λ e. fault.Desk (desk.Seg e)) (plan_of graph (attached_length a))
-  Ok (shown graph (attached_length a) p)
+  Ok (record { graph = graph; plan = p })
+
+-- the same, for C
+abbrev pub plan_said : ℕ → ℕ → Result NrPlan Fault
+plan_said rate2048 a = planned_said rate2048 a >>= λ p. Ok (shown p.graph (attached_length a) p.plan)
 
 -- the generator polynomial of a number
 abbrev pub poly_of : ℕ → Option Poly

@@ -8,6 +8,7 @@
 pub mod crossing;
 pub mod fault;
 pub mod numbers;
+pub mod rates;
 pub mod receiving;
 pub mod sending;
 pub mod table;

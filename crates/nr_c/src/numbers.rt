@@ -1,8 +1,9 @@
 //! The plan of a transport block, and the parity bits of octets.
 
-ghost use Rattle.std.specs.Prelude.{◌≡◌, MatchResult, Ok, Err};
+ghost use Rattle.std.specs.Prelude.{◌≡◌, IfOk, MatchResult, Ok, Err};
+ghost use Rattle.nr_crcattach.specs.Attachment.{attached_length};
 ghost use Rattle.nr_segment.specs.CodeBlock.{numbers};
-ghost use Rattle.nr_c.specs.Numbers.{crc_said, plan_said, poly_of, shown};
+ghost use Rattle.nr_c.specs.Numbers.{crc_said, plan_said, planned, planned_said, poly_of, shown};
 ghost use Rattle.nr_c.specs.Statuses.{Leaves, Tells};
 
 use crate::fault::Fault;
@@ -87,10 +88,11 @@ pub extern "C" fn nr_plan(rate2048: u32, a: u32, out: &mut NrPlan) -> u32
 }
 
 // The plan, or the first cause against it.
-fn plan_on(rate2048: u32, a: u32) -> Result<Plan, Fault>
-    ensures { MatchResult result
-        (λ plan. plan_said rate2048 a ≡ Ok (shown plan.graph plan.b (numbers plan)))
-        (λ fault. plan_said rate2048 a ≡ Err fault) }
+#[tactic(auto, unfolding(crate::specs::Numbers::planned_said))]
+pub(crate) fn plan_on(rate2048: u32, a: u32) -> Result<Plan, Fault>
+    ensures said { MatchResult result (λ plan. planned_said rate2048 a ≡ Ok (planned plan))
+        (λ fault. planned_said rate2048 a ≡ Err fault) }
+    ensures whole { IfOk result (λ plan. plan.b ≡ attached_length a) }
 {
     if a % 8 != 0 || !(8..=MOST_BITS).contains(&a) {
         return Err(Fault::Desk(DeskFault::Size));
