@@ -4,4 +4,5 @@ pub mod Sending
 pub mod Receiving
 pub mod Numbers
 pub mod Rates
+pub mod Coding
 pub mod Judging

@@ -21,6 +21,8 @@ pub enum Fault {
     Many,
     /// There is no generator polynomial of this number.
     Poly,
+    /// An octet that stands for a bit is neither 0 nor 1.
+    Bit,
     /// The shift table is refused.
     Table(TableFault),
     /// The transport block or a transmission is refused.
@@ -37,6 +39,7 @@ impl Fault {
             Fault::Room => 2,
             Fault::Many => 3,
             Fault::Poly => 4,
+            Fault::Bit => 5,
             Fault::Table(fault) => table_status(fault),
             Fault::Desk(fault) => desk_status(fault),
         }

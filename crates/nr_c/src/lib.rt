@@ -5,6 +5,10 @@
 //! `nr_receive`. Stands on nr_blockdesk for both ends of a link, and on the layers below it.
 #![tactic(auto)]
 
+mod coded;
+pub mod coding;
+#[cfg(test)]
+mod coding_tests;
 pub mod crossing;
 pub mod fault;
 pub mod numbers;
@@ -12,3 +16,5 @@ pub mod rates;
 pub mod receiving;
 pub mod sending;
 pub mod table;
+#[cfg(test)]
+mod tests;
