@@ -8,6 +8,7 @@ const char *nr_fault_name(uint32_t status) {
     case NR_ROOM: return "Room";
     case NR_MANY: return "Many";
     case NR_POLY: return "Poly";
+    case NR_BIT: return "Bit";
     case NR_READ: return "Read";
     case NR_CSV: return "Csv";
     case NR_FIELDS: return "Fields";

@@ -35,6 +35,7 @@ enum NrStatus {
     NR_ROOM = 2,   /* the room for the answer does not have the answer's length */
     NR_MANY = 3,   /* there is more than the call takes */
     NR_POLY = 4,   /* there is no generator polynomial of this number */
+    NR_BIT = 5,    /* an octet that stands for a bit is neither 0 nor 1 */
     /* of the shift table's text */
     NR_READ = 20, /* never answered: it is that of a file */
     NR_CSV = 21,
@@ -117,6 +118,28 @@ uint32_t nr_table_check(const uint8_t *table, size_t table_len, NrReport *out);
 /* The plan of a transport block of `a` bits at the code rate rate2048 / 2048 (5.2.2, 6.2.2, 7.2.2). Takes no memory.
    Faults: SIZE, RATE_RANGE, UNEVEN. */
 uint32_t nr_plan(uint32_t rate2048, uint32_t a, NrPlan *out);
+
+/* E_r, how many bits a transmission sends of each code block of a transport block of `a` bits (5.4.2.1). `out` has room for C of
+   them, no more and no fewer. Takes no memory.
+   Faults: SIZE, RATE_RANGE, UNEVEN; RV, ORDER, LAYERS, TOTAL, RAGGED, NONE_SCHEDULED; ROOM. */
+uint32_t nr_lengths(uint32_t rate2048, uint32_t a, const NrTx *tx, uint32_t *out, size_t out_len);
+
+/* The circular buffer of a code block, and where a redundancy version begins in it (5.4.2.1). */
+typedef struct NrBuffer {
+    uint32_t ncb; /* Ncb, the bits that the buffer keeps of a code block: 1 to N */
+    uint32_t k0;  /* the place in the buffer where the redundancy version begins: below ncb */
+} NrBuffer;
+
+/* The same buffer for each code block of a transport block of `a` bits, and where `rv` begins in it. Takes no memory.
+   Faults: SIZE, RATE_RANGE, UNEVEN, NO_BUFFER, RV. */
+uint32_t nr_buffer(const NrSettings *settings, uint32_t a, uint32_t rv, NrBuffer *out);
+
+/* The N bits d that a code block of a transport block of `a` bits is coded into (5.3.2), an octet each: 0, 1, or 2 for a filler,
+   which is never sent. `bits` has its K' bits with its CRC, without fillers, an octet of 0 or 1 each.
+   Faults: of the table as nr_table_check has them; SIZE, RATE_RANGE, UNEVEN, GRAPH; LENGTH, where `bits` does not have K'
+   octets; BIT; ROOM; MEMORY, where it is met. */
+uint32_t nr_codeword(const uint8_t *table, size_t table_len, uint32_t rate2048, uint32_t a, const uint8_t *bits, size_t bits_len,
+                     uint8_t *out, size_t out_len);
 
 enum NrPoly { NR_CRC24A = 0, NR_CRC24B = 1, NR_CRC16 = 2 };
 
