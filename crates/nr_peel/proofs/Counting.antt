@@ -7,9 +7,8 @@ use Rattle.std.proofs.lemmas.List.{take_all}
 use Rattle.std.proofs.lemmas.List.Sums.{sum_by_more}
 use Rattle.nr_bitvec.specs.Bit.{bit}
 use Rattle.nr_ldpcenc.specs.Rows.{Checks}
-use Rattle.nr_peel.specs.Counters.{AreTied}
+use Rattle.nr_peel.specs.Sweeps.{CountsOf}
 use Rattle.nr_peel.specs.Touches.{all_pairs, row_length, pairs_in, spent_pairs, sum_below}
-use Rattle.nr_peel.specs.declared.counters.Counters.{Counters}
 use Rattle.nr_peel.proofs.Standing.{count_by-cons}
 use Rattle.nr_peel.proofs.Pairs.{sum_below-le, sum_below-plus, sum_below-same}
 use Rattle.nr_peel.proofs.Places.{row_number}
@@ -63,40 +62,40 @@ sum-below xs = sym (ap sum (take_all (length xs) xs (omega arith))) ∙ so_far (
         next : (n : ℕ) → suc n ≡ n + 1
         next n = omega arith
 
-module _ (c : Checks) (known : List Bool) (s : Counters) (pos : 0 < c.lanes) (tied : AreTied c known s) where
+module _ (c : Checks) (known : List Bool) (counts : List ℕ) (pos : 0 < c.lanes) (counted : CountsOf c (bit known) counts) (long : length counts ≡ c.rows * c.lanes) where
   known_in : ℕ → ℕ
   known_in k = count_by (bit known) (c.row (k / c.lanes) (k % c.lanes))
 
-  counted_at : (k : ℕ) → k < c.rows * c.lanes → slice_index s.counts.items k + count_by (bit known) (c.row (k / c.lanes) (k % c.lanes)) ≡ row_length c k
+  counted_at : (k : ℕ) → k < c.rows * c.lanes → slice_index counts k + count_by (bit known) (c.row (k / c.lanes) (k % c.lanes)) ≡ row_length c k
   counted_at k lt =
       let i = k / c.lanes in
       let t = k % c.lanes in
-      let at : slice_index s.counts.items k ≡ count_by (λ p. not (bit known p)) (c.row i t) =
-      sym (ap (slice_index s.counts.items) (row_number k c.lanes)) ∙ tied.counted i t (div_below k c.lanes c.rows pos lt) (mod_below k c.lanes pos) in
+      let at : slice_index counts k ≡ count_by (λ p. not (bit known p)) (c.row i t) =
+      sym (ap (slice_index counts) (row_number k c.lanes)) ∙ counted i t (div_below k c.lanes c.rows pos lt) (mod_below k c.lanes pos) in
       omega (arith, at, count_both (bit known) (c.row i t))
 
   pairs_flat : pairs_in c (bit known) ≡ sum_below (λ k. count_by (bit known) (c.row (k / c.lanes) (k % c.lanes))) (c.rows * c.lanes)
   unfolding pairs_in
   pairs_flat = sum_flat (λ i t. count_by (bit known) (c.row i t)) c.rows c.lanes
 
-  pub pairs_and_counts : pairs_in c (bit known) + sum s.counts.items ≡ all_pairs c
+  pub pairs_and_counts : pairs_in c (bit known) + sum counts ≡ all_pairs c
   unfolding all_pairs
   pairs_and_counts =
       let flat = pairs_flat in
-      let counts : sum s.counts.items ≡ sum_below (slice_index s.counts.items) (c.rows * c.lanes) = sum-below s.counts.items ∙ ap (sum_below (slice_index s.counts.items)) tied.long in
-      let plus = sum_below-plus (slice_index s.counts.items) (λ k. count_by (bit known) (c.row (k / c.lanes) (k % c.lanes))) (row_length c) (c.rows * c.lanes) counted_at in
-      omega (arith, flat, counts, plus)
+      let all : sum counts ≡ sum_below (slice_index counts) (c.rows * c.lanes) = sum-below counts ∙ ap (sum_below (slice_index counts)) long in
+      let plus = sum_below-plus (slice_index counts) (λ k. count_by (bit known) (c.row (k / c.lanes) (k % c.lanes))) (row_length c) (c.rows * c.lanes) counted_at in
+      omega (arith, flat, all, plus)
 
-  pub spent_known : spent_pairs c s.counts.items ≤ pairs_in c (bit known)
+  pub spent_known : spent_pairs c counts ≤ pairs_in c (bit known)
   unfolding spent_pairs
   spent_known =
       let flat = pairs_flat in
-      let le = sum_below-le (λ k. cond (slice_index s.counts.items k == 0) (row_length c k) 0) (λ k. count_by (bit known) (c.row (k / c.lanes) (k % c.lanes))) (c.rows * c.lanes) each in
+      let le = sum_below-le (λ k. cond (slice_index counts k == 0) (row_length c k) 0) (λ k. count_by (bit known) (c.row (k / c.lanes) (k % c.lanes))) (c.rows * c.lanes) each in
       omega (arith, flat, le)
     where
-      each : (k : ℕ) → k < c.rows * c.lanes → cond (slice_index s.counts.items k == 0) (row_length c k) 0 ≤ count_by (bit known) (c.row (k / c.lanes) (k % c.lanes))
-      each k lt = go (slice_index s.counts.items k == 0) refl
+      each : (k : ℕ) → k < c.rows * c.lanes → cond (slice_index counts k == 0) (row_length c k) 0 ≤ count_by (bit known) (c.row (k / c.lanes) (k % c.lanes))
+      each k lt = go (slice_index counts k == 0) refl
         where
-          go : (b : Bool) → (slice_index s.counts.items k == 0) ≡ b → cond b (row_length c k) 0 ≤ count_by (bit known) (c.row (k / c.lanes) (k % c.lanes))
-          go true e = omega (arith, counted_at k lt, eqb-true (slice_index s.counts.items k) 0 e)
+          go : (b : Bool) → (slice_index counts k == 0) ≡ b → cond b (row_length c k) 0 ≤ count_by (bit known) (c.row (k / c.lanes) (k % c.lanes))
+          go true e = omega (arith, counted_at k lt, eqb-true (slice_index counts k) 0 e)
           go false e = omega arith

@@ -32,3 +32,5 @@ pub mod Rounded
 pub mod Bounded
 pub mod LaneSteps
 pub mod Sweeping
+pub mod Viewed
+pub mod Blank

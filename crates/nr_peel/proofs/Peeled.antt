@@ -51,8 +51,8 @@ peeler_peeled l s h =
     let c = lifted_checks l in
     let w = h.working in
     let pos : 0 < l.plan.z = l.plan.sound.size_some in
-    let pairs = pairs_and_counts c s.known.items s.counters pos w.tied in
-    let spent = spent_known c s.known.items s.counters pos w.tied in
+    let pairs = pairs_and_counts c s.known.items s.counters.counts.items pos w.tied.counted w.tied.long in
+    let spent = spent_known c s.known.items s.counters.counts.items pos w.tied.counted w.tied.long in
     record {
       given_long = w.given_long;
       known_long = w.known_long;

@@ -91,14 +91,14 @@ sum_below-most : (f : ℕ → ℕ) (m n : ℕ) → ((k : ℕ) → k < n → f k 
 sum_below-most f m zero h = omega arith
 sum_below-most f m (suc n) h = omega (arith, sum_below-most f m n (λ k lt. h k (omega arith)), h n (omega arith))
 
-rows_most : (g : Graph) → rows_of g ≤ 46
+pub rows_most : (g : Graph) → rows_of g ≤ 46
 rows_most One = omega arith
 rows_most Two = omega arith
 
 pub degree_short : (l : Lifted) (k : ℕ) → IsTable l.table.now → row_length (lifted_checks l) k ≤ 68
 degree_short l k table = omega (arith, rows_short l.table.now l.plan.graph (k / l.plan.z) table, length-map (row_of (entries_in l.plan.graph l.table.now) (k / l.plan.z)) (λ (e : Entry). one_at l.plan.z (k % l.plan.z) e.col (value_in l.plan.set e)))
 
-few_pairs : (l : Lifted) → IsTable l.table.now → 4 * all_pairs (lifted_checks l) + 4 < 2 ^ 64
+pub few_pairs : (l : Lifted) → IsTable l.table.now → 4 * all_pairs (lifted_checks l) + 4 < 2 ^ 64
 unfolding all_pairs
 few_pairs l table =
     let most = sum_below-most (row_length (lifted_checks l)) 68 (rows_of l.plan.graph * l.plan.z) (λ k lt. degree_short l k table) in
@@ -127,7 +127,7 @@ built_start l s table untouched b room = record {
 pub bit-zeros : (n p : ℕ) → bit (replicate n false) p ≡ false
 bit-zeros n p = ⊎_elim (λ lt. get_or-replicate n p false false lt) (λ le. get_or_past (replicate n false) p false (omega (arith, length-replicate {A = Bool} n false))) (cases_lt p n)
 
-count_all : (p : ℕ → Bool) (xs : List ℕ) → ((x : ℕ) → p x ≡ false) → count_by (λ x. not (p x)) xs ≡ length xs
+pub count_all : (p : ℕ → Bool) (xs : List ℕ) → ((x : ℕ) → p x ≡ false) → count_by (λ x. not (p x)) xs ≡ length xs
 count_all p xs none = omega (arith, count_both p xs, no_one xs)
   where
     no_one : (xs : List ℕ) → count_by p xs ≡ 0

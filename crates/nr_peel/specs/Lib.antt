@@ -8,3 +8,6 @@ pub mod State
 pub mod Lanes
 pub mod Rounds
 pub mod Sweeps
+pub mod Settled
+pub mod Starts
+pub mod Swept

@@ -1,6 +1,6 @@
 //! What is known of a code block, in lanes, and how a row of blocks fixes positions: all its rows at a time.
 
-ghost use Rattle.std.specs.Prelude.{◌≡◌, ◌+◌, ◌*◌, ◌%◌, ◌<◌, ◌≤◌, ◌++◌, ◌==◌, ℕ, All, count_by, length, slice_index, vec_capacity};
+ghost use Rattle.std.specs.Prelude.{◌≡◌, ◌+◌, ◌*◌, ◌%◌, ◌<◌, ◌≤◌, ◌++◌, ◌==◌, ℕ, All, IfOk, count_by, length, slice_index, vec_capacity};
 ghost use Rattle.std.specs.Int.{bit_at};
 ghost use Rattle.nr_bitvec.specs.Bit.{bit};
 ghost use Rattle.nr_bitvec.specs.Packed.{IsClear};
@@ -10,6 +10,7 @@ ghost use Rattle.nr_shifttable.specs.Tails.{value_in};
 ghost use Rattle.nr_ldpcenc.specs.Parity.{parity};
 ghost use Rattle.nr_ldpcenc.specs.Rows.{positions};
 ghost use Rattle.nr_peel.specs.Lanes.{Takes, hits, lacks, steps_below, turned_step};
+ghost use Rattle.nr_peel.specs.Starts.{AreBlank};
 ghost use Rattle.nr_peel.specs.State.{lifted_checks};
 ghost use Rattle.nr_peel.specs.Sweeps.{AreLanes, CountsOf, IsBlockSought, counted_in, has_count};
 
@@ -17,6 +18,7 @@ use crate::fix::Fix;
 use crate::lifted::Lifted;
 use nr_lifting::{Planes, Rings, add_lane, common, lane_count, turn_lane, without};
 use nr_shifttable::Entry;
+use std::alloc::{AllocError, Global};
 
 // The sum of the bits of each row of a row of blocks, modulo two.
 pub(crate) fn row_sum(bits: &Rings, lifted: &Lifted<'_>, row: &[Entry]) -> [u64; 6]
@@ -130,6 +132,26 @@ pub(crate) struct Lanes {
 }
 
 impl Lanes {
+    // Nothing is known.
+    pub(crate) fn new(alloc: Global, lifted: &Lifted<'_>) -> Result<Lanes, AllocError>
+        ensures { IfOk result (AreBlank (lifted_checks lifted.now)) }
+    {
+        let size = lifted.plan.z as usize;
+        let cols = lifted.plan.graph.cols() as usize;
+        let known = Rings::new(alloc, cols, size)?;
+        let bits = Rings::new(alloc, cols, size)?;
+        let fresh = Rings::new(alloc, cols, size)?;
+        // Each row fixes one position at most.
+        let rows = lifted.plan.graph.rows() as usize;
+        let order = Vec::with_capacity(alloc, rows * size)?;
+        Ok(Lanes {
+            known,
+            bits,
+            fresh,
+            order,
+        })
+    }
+
     // The positions of an entry's block that aren't known are fixed by the rows of a lane, to each row's sum.
     pub(crate) fn take(
         &mut self,

@@ -1,14 +1,29 @@
 //! A round of peeling, all rows of the code at a time.
 
-ghost use Rattle.std.specs.Prelude.{◌≡◌, ◌+◌, ◌*◌, ◌^◌, ◌<◌, ◌≤◌, nat_lt, length, vec_capacity};
+ghost use Rattle.std.specs.Prelude.{◌≡◌, ◌+◌, ◌*◌, ◌^◌, ◌<◌, ◌≤◌, nat_lt, IfOk, length, vec_capacity};
 ghost use Rattle.nr_lifting.specs.Rings.{marked};
 ghost use Rattle.nr_shifttable.specs.Accepted.{IsTable};
+ghost use Rattle.nr_peel.specs.Starts.{AreDegrees, IsBlankSweep};
 ghost use Rattle.nr_peel.specs.State.{lifted_checks};
 ghost use Rattle.nr_peel.specs.Sweeps.{AreLanes, AreSought, CountsOf, counted_in, has_count, searched_pairs};
 
 use crate::lanes::Lanes;
 use crate::lifted::Lifted;
 use nr_lifting::Planes;
+use std::alloc::{AllocError, Global};
+
+// The counts with which nothing is known.
+fn degrees(alloc: Global, lifted: &Lifted<'_>) -> Result<Planes, AllocError>
+    requires { IsTable lifted.now.table.now }
+    ensures { IfOk result (AreDegrees (lifted_checks lifted.now)) }
+{
+    let rows = lifted.plan.graph.rows();
+    let mut counts = Planes::new(alloc, rows as usize, lifted.plan.z as usize)?;
+    for i in 0..rows {
+        counts.fill(i as usize, lifted.row(i).len() as u8);
+    }
+    Ok(counts)
+}
 
 // What is known of a code block, for each row the count of its positions that weren't known when counts last fell, and
 // how many visits there were of a row and a position of it.
@@ -20,6 +35,18 @@ pub(crate) struct Sweep {
 }
 
 impl Sweep {
+    // Nothing is known.
+    pub(crate) fn new(alloc: Global, lifted: &Lifted<'_>) -> Result<Sweep, AllocError>
+        requires { IsTable lifted.now.table.now }
+        ensures { IfOk result (IsBlankSweep (lifted_checks lifted.now)) }
+    {
+        Ok(Sweep {
+            lanes: Lanes::new(alloc, lifted)?,
+            counts: degrees(alloc, lifted)?,
+            touches: 0,
+        })
+    }
+
     // Each row with a count of one fixes its position, unless another row has. Whether there is such a row.
     pub(crate) fn search(&mut self, lifted: &Lifted<'_>) -> bool
         requires table { IsTable lifted.now.table.now }

@@ -1,0 +1,55 @@
+-- What is kept while rows fix positions and counts follow, round after round.
+use Rattle.std.specs.Prelude.{◌≡◌, ℕ, ◌+◌, ◌*◌, ◌^◌, ◌<◌, ◌≤◌, ◌||◌, Bool, true, false, length, slice_index, sum, vec_capacity}
+use Rattle.nr_bitvec.specs.Bit.{bit}
+use Rattle.nr_lifting.specs.Rings.{marked}
+use Rattle.nr_ldpcenc.specs.Rows.{Checks, Meets}
+use Rattle.nr_peel.specs.Certificates.{all_accepted, is_fixed_by}
+use Rattle.nr_peel.specs.Sweeps.{AreLanes, CountsOf, HasBits, counted_in, has_count}
+use Rattle.nr_peel.specs.Touches.{all_pairs, spent_pairs}
+use Rattle.nr_peel.specs.declared.lanes.Lanes.{Lanes}
+use Rattle.nr_peel.specs.declared.sweep.Sweep.{Sweep}
+
+-- The counts are those of the positions that they know of, each step is that of a row without an unknown position, and
+-- each pair of a row and a position that the counts know of was visited once, or twice if the row has no unknown one.
+pub record IsHeld (c : Checks) (s : Sweep) : Type 0 where
+  pub lanes : AreLanes c s.lanes
+  pub counts_lanes : s.counts.lanes ≡ c.lanes
+  pub counts_long : length s.counts.items ≡ c.rows * c.lanes
+  pub counted : CountsOf c (counted_in s.lanes) s.counts.items
+  pub order_few : length s.lanes.order.items ≤ marked (has_count 0 s.counts.items) (c.rows * c.lanes)
+  pub order_room : c.rows * c.lanes ≤ vec_capacity s.lanes.order
+  pub least : all_pairs c ≤ s.touches + sum s.counts.items
+  pub most : s.touches + sum s.counts.items ≤ all_pairs c + spent_pairs c s.counts.items
+  pub small : 4 * all_pairs c + 4 < 2 ^ 64
+
+-- no position is fresh: the counts know of all that is known
+abbrev pub HasNoFresh : Lanes → Type 0
+HasNoFresh s = (p : ℕ) → bit s.fresh.items p ≡ false
+
+-- the counts have fallen by the fresh positions, each pair of a row and a fresh position was visited, and nothing else
+-- has changed
+pub record CatchesUp (c : Checks) (old new : Sweep) : Type 0 where
+  pub counted : CountsOf c (bit new.lanes.known.items) new.counts.items
+  pub falls : (k : ℕ) → slice_index new.counts.items k ≤ slice_index old.counts.items k
+  pub visits : new.touches + sum new.counts.items ≡ old.touches + sum old.counts.items
+  pub no_fresh : HasNoFresh new.lanes
+  pub known : new.lanes.known ≡ old.lanes.known
+  pub bits : new.lanes.bits ≡ old.lanes.bits
+  pub order : new.lanes.order ≡ old.lanes.order
+  pub counts_lanes : new.counts.lanes ≡ old.counts.lanes
+  pub counts_long : length new.counts.items ≡ length old.counts.items
+  pub fresh_lanes : new.lanes.fresh.lanes ≡ old.lanes.fresh.lanes
+  pub fresh_long : length new.lanes.fresh.items ≡ length old.lanes.fresh.items
+
+-- the steps are accepted in turn from a set, and with it are all that is known
+pub record Reaches (c : Checks) (G : ℕ → Bool) (s : Lanes) : Type 0 where
+  pub accepted : all_accepted c G s.order.items ≡ true
+  pub reached : (p : ℕ) → bit s.known.items p ≡ (G p || is_fixed_by s.order.items p)
+
+-- lanes after others: no known bit is lost, each word that meets every row and had the known bits has them, and what
+-- is known is still reached from each set from which it was
+pub record Keeps (c : Checks) (old new : Lanes) : Type 0 where
+  pub known : (p : ℕ) → bit old.known.items p ≡ true → bit new.known.items p ≡ true
+  pub bits : (p : ℕ) → bit old.known.items p ≡ true → bit new.bits.items p ≡ bit old.bits.items p
+  pub words : (w : ℕ → Bool) → Meets c w → HasBits old w → HasBits new w
+  pub reaches : (G : ℕ → Bool) → Reaches c G old → Reaches c G new

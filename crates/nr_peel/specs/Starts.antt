@@ -1,0 +1,28 @@
+-- With what peeling by lanes begins: nothing is known.
+use Rattle.std.specs.Prelude.{◌≡◌, ℕ, ◌+◌, ◌*◌, ◌<◌, ◌≤◌, Bool, false, [], length, slice_index, vec_capacity}
+use Rattle.nr_bitvec.specs.Bit.{bit}
+use Rattle.nr_lifting.specs.Planes.{BlockCounts}
+use Rattle.nr_ldpcenc.specs.Rows.{Checks}
+use Rattle.nr_peel.specs.Settled.{HasNoFresh, IsHeld}
+use Rattle.nr_peel.specs.Sweeps.{AreLanes}
+use Rattle.nr_peel.specs.declared.lanes.Lanes.{Lanes}
+use Rattle.nr_peel.specs.declared.sweep.Sweep.{Sweep}
+
+-- each count is the number of its row's positions
+pub record AreDegrees (c : Checks) (counts : BlockCounts) : Type 0 where
+  pub counted : (i t : ℕ) → i < c.rows → t < c.lanes → slice_index counts.items (i * c.lanes + t) ≡ length (c.row i t)
+  pub long : length counts.items ≡ c.rows * c.lanes
+  pub lanes : counts.lanes ≡ c.lanes
+
+-- nothing is known, and there is room for a step of each row
+pub record AreBlank (c : Checks) (s : Lanes) : Type 0 where
+  pub lanes : AreLanes c s
+  pub unknown : (p : ℕ) → bit s.known.items p ≡ false
+  pub no_fresh : HasNoFresh s
+  pub order : s.order.items ≡ []
+  pub room : c.rows * c.lanes ≤ vec_capacity s.order
+
+-- the counts are those with which nothing is known, and nothing was visited
+pub record IsBlankSweep (c : Checks) (s : Sweep) : Type 0 where
+  pub blank : AreBlank c s.lanes
+  pub held : IsHeld c s

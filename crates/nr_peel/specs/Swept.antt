@@ -1,0 +1,32 @@
+-- What peeling by lanes comes to.
+use Rattle.std.specs.Prelude.{◌≡◌, ◌≢◌, ℕ, Bool, List, length, slice_index}
+use Rattle.nr_bitvec.specs.Bit.{bit}
+use Rattle.nr_segment.specs.CodeBlock.{numbers}
+use Rattle.nr_shifttable.specs.Accepted.{IsTable}
+use Rattle.nr_peel.specs.Peeling.{Peeling}
+use Rattle.nr_peel.specs.Settled.{HasNoFresh, IsHeld, Reaches}
+use Rattle.nr_peel.specs.State.{lifted_checks}
+use Rattle.nr_peel.specs.declared.lifted.Lifted.{Lifted}
+use Rattle.nr_peel.specs.declared.sweep.Sweep.{Sweep}
+
+-- a sweep of rows that has come to its end, with the positions that were given
+pub record IsSettledSweep (l : Lifted) (given : List Bool) (s : Sweep) : Type 0 where
+  pub table : IsTable l.table.now
+  pub given_long : length given ≡ (lifted_checks l).size
+  pub held : IsHeld (lifted_checks l) s
+  pub no_fresh : HasNoFresh s.lanes
+  pub settled : (k : ℕ) → slice_index s.counts.items k ≢ 1
+  pub reaches : Reaches (lifted_checks l) (bit given) s.lanes
+
+-- what it is seen as
+abbrev pub sweep_view : Lifted → List Bool → Sweep → Peeling
+sweep_view l given s = record {
+  table = l.table.now;
+  graph = l.plan.graph;
+  numbers = numbers l.plan;
+  given = given;
+  known = s.lanes.known.items;
+  bits = s.lanes.bits.items;
+  order = s.lanes.order.items;
+  touches = s.touches;
+}
