@@ -67,7 +67,8 @@ enum NrStatus {
     NR_LENGTH = 56          /* a list does not have the length that it should */
 };
 
-/* The fault's name, as docs/formats.md and the program linksim have it; "Ok" of 0, "unknown" of a number that is no status. */
+/* The fault's name, as "NoBuffer" of NR_NO_BUFFER: the program linksim's, where it has the fault (docs/formats.md). It is "Ok" of 0,
+   and "unknown" of a number that is no status. */
 const char *nr_fault_name(uint32_t status);
 
 /* What both ends of a link are set to. */
@@ -134,8 +135,10 @@ typedef struct NrBuffer {
    Faults: SIZE, RATE_RANGE, UNEVEN, NO_BUFFER, RV. */
 uint32_t nr_buffer(const NrSettings *settings, uint32_t a, uint32_t rv, NrBuffer *out);
 
-/* The N bits d that a code block of a transport block of `a` bits is coded into (5.3.2), an octet each: 0, 1, or 2 for a filler,
-   which is never sent. `bits` has its K' bits with its CRC, without fillers, an octet of 0 or 1 each.
+enum NrFiller { NR_FILLER = 2 };
+
+/* The N bits d that a code block of a transport block of `a` bits is coded into (5.3.2), an octet each: 0, 1, or NR_FILLER, which is
+   never sent; `out` has room for N octets. `bits` has its K' bits with its CRC, without fillers, an octet of 0 or 1 each.
    Faults: of the table as nr_table_check has them; SIZE, RATE_RANGE, UNEVEN, GRAPH; LENGTH, where `bits` does not have K'
    octets; BIT; ROOM; MEMORY, where it is met. */
 uint32_t nr_codeword(const uint8_t *table, size_t table_len, uint32_t rate2048, uint32_t a, const uint8_t *bits, size_t bits_len,

@@ -3,7 +3,7 @@
     import nr
 
     table = open("table.csv", "rb").read()           # the text of a shift table: docs/formats.md
-    tx = nr.Tx(g=104, qm=2)
+    tx = nr.Tx(g=300, qm=2)
     bits = nr.send(table, b"123456789", tx, rate2048=2048)
     answer = nr.receive(table, 72, [(tx, bits)], rate2048=2048)
     answer.outcome, answer.block
@@ -24,16 +24,17 @@ import os
 import pathlib
 import typing
 
-__all__ = ["CRC16", "CRC24A", "CRC24B", "ERASED", "Fault", "Outcome", "Plan", "Received", "Report", "Tx", "check_table", "crc",
-           "fault_name", "plan", "receive", "send"]
+__all__ = ["Buffer", "CRC16", "CRC24A", "CRC24B", "ERASED", "FILLER", "Fault", "Outcome", "Plan", "Received", "Report", "Tx", "buffer",
+           "check_table", "codeword", "crc", "fault_name", "lengths", "plan", "receive", "send"]
 
 CRC24A, CRC24B, CRC16 = 0, 1, 2
+FILLER = 2  # a bit of a codeword that is never sent
 ERASED = 2  # a place at which nothing was heard; so is any number but 0 and 1
 
 
 class Fault(Exception):
-    """A call was refused: `status` is its number, `name` that fault's name (docs/formats.md), `place` what check_table() says
-    of where it is, else 0."""
+    """A call was refused: `status` is the fault's number, `name` its name (nr.h, docs/formats.md), `place` what check_table()
+    says of where it is, else 0."""
 
     def __init__(self, status, place=0):
         self.status, self.name, self.place = status, fault_name(status), place
@@ -72,6 +73,13 @@ class Report(typing.NamedTuple):
     two: int
 
 
+class Buffer(typing.NamedTuple):
+    """The circular buffer of each code block (5.4.2.1): how many bits of d it keeps, and where a redundancy version begins."""
+
+    ncb: int
+    k0: int
+
+
 class Received(typing.NamedTuple):
     """What receive() answers: the outcome, and the block's octets where it is delivered, else None."""
 
@@ -102,6 +110,10 @@ class _Tx(ctypes.Structure):
 
 class _Plan(ctypes.Structure):
     _fields_ = [(name, ctypes.c_uint32) for name in Plan._fields]
+
+
+class _Buffer(ctypes.Structure):
+    _fields_ = [(name, ctypes.c_uint32) for name in Buffer._fields]
 
 
 class _Report(ctypes.Structure):
@@ -139,6 +151,31 @@ def crc(octets, poly=CRC24A):
     return parity.value
 
 
+def codeword(table, bits, a, *, rate2048):
+    """The N bits d that a code block is coded into (5.3.2), an octet each: 0, 1 or FILLER. The code block is one of a transport
+    block of `a` bits; `bits` has its K' bits, its CRC with them, each an octet 0 or 1."""
+    table, bits = _octets(table), _octets(bits)
+    coded = bytearray(_plan(rate2048, a).n)
+    room = _room(coded)
+    _judge(_library.nr_codeword(table, len(table), rate2048, a, bits, len(bits), room, len(room)))
+    return coded
+
+
+def buffer(a, rv, *, rate2048, lbrm=0):
+    """The circular buffer of each code block of a transport block of `a` bits, and where the redundancy version begins in it,
+    as a Buffer. `lbrm` is TBS_LBRM in bits, 0 for none."""
+    settings, found = _Settings(_number(rate2048), _number(lbrm)), _Buffer()
+    _judge(_library.nr_buffer(ctypes.byref(settings), _number(a), _number(rv), ctypes.byref(found)))
+    return Buffer(found.ncb, found.k0)
+
+
+def lengths(a, tx, *, rate2048):
+    """E_r, how many bits a Tx sends of each code block of a transport block of `a` bits (5.4.2.1), as a list."""
+    shares = (ctypes.c_uint32 * _plan(rate2048, a).c)()
+    _judge(_library.nr_lengths(rate2048, a, ctypes.byref(_tx(tx)), shares, len(shares)))
+    return list(shares)
+
+
 def send(table, block, tx, *, rate2048, lbrm=0, out=None):
     """The G bits that a Tx sends of a transport block's octets, each an octet 0 or 1: a bytearray, or `out` with them, which
     is a buffer of G octets that can be written. `lbrm` is TBS_LBRM in bits, 0 for none."""
@@ -171,6 +208,13 @@ def receive(table, a, receptions, *, rate2048, lbrm=0):
 
 _LENGTH = 56
 _MOST_BITS = 1_310_720
+
+
+def _plan(rate2048, a):
+    """The numbers of a plan. Where there is none they are 0: the call that they are for tells then why."""
+    numbers = _Plan()
+    _library.nr_plan(_number(rate2048), _number(a), ctypes.byref(numbers))
+    return numbers
 
 
 def _judge(status):
@@ -232,6 +276,9 @@ def _load():
         "nr_table_check": [*octets, place],
         "nr_plan": [number, number, place],
         "nr_crc": [number, *octets, place],
+        "nr_codeword": [*octets, number, number, *octets, *octets],
+        "nr_buffer": [place, number, number, place],
+        "nr_lengths": [number, number, place, *octets],
         "nr_send": [*octets, place, *octets, place, *octets],
         "nr_receive": [*octets, place, number, *octets, *octets, place, *octets],
     }.items():

@@ -45,6 +45,31 @@ static void parities(void) {
     CHECK(parity == 0x800063);
 }
 
+/* The block 01 with its CRC16, 011021, and what is sent of its code block: E = G, as it is the only one; all of d from its start, and
+   from column 43 on with redundancy version 3, but for the fillers. */
+static void coding(void) {
+    static const uint8_t attached[] = {0x01, 0x10, 0x21}, first[] = {0x10, 0x21}, last[] = {0x80, 0x00, 0x00};
+    NrTx tx = transmission(0, 184, 1);
+    NrBuffer buffer = {7, 7};
+    uint8_t bits[24], wanted[24], *out = (uint8_t *)filled(200);
+    uint32_t length = 7;
+    CHECK(nr_lengths(2048, 8, &tx, &length, 0) == NR_ROOM && length == 7);
+    CHECK(nr_lengths(2048, 8, &tx, &length, 1) == NR_OK && length == 184);
+    CHECK(nr_buffer(&settings, 8, 4, &buffer) == NR_RV && buffer.ncb == 7 && buffer.k0 == 7);
+    CHECK(nr_buffer(&settings, 8, 3, &buffer) == NR_OK && buffer.ncb == 200 && buffer.k0 == 172);
+    bits_of(attached, sizeof attached, bits);
+    bits[23] = 2;
+    CHECK(nr_codeword(table, table_len, 2048, 8, bits, 24, out, 200) == NR_BIT && is_filled(out, 200));
+    bits[23] = 1;
+    CHECK(nr_codeword(table, table_len, 2048, 8, bits, 24, out, 200) == NR_OK);
+    bits_of(first, sizeof first, wanted);
+    CHECK(!memcmp(out, wanted, 16));
+    for (int filler = 16; filler < 32; filler++) CHECK(out[filler] == NR_FILLER);
+    bits_of(last, sizeof last, wanted);
+    CHECK(!memcmp(out + 172, wanted, 24));
+    free(out);
+}
+
 /* Transmission 2 of the example: Qm is 4, so its bits are interleaved. */
 static void sending(void) {
     static const uint8_t sent[] = {0x00, 0x0a, 0x51};
@@ -95,6 +120,7 @@ int main(int count, char **words) {
     tables();
     plans();
     parities();
+    coding();
     sending();
     receiving();
     CHECK(!strcmp(nr_fault_name(NR_NONE_SCHEDULED), "NoneScheduled"));

@@ -45,7 +45,7 @@ static NrTx txs[2];
 static struct {
     NrReport report;
     uint32_t parity, outcome;
-    uint8_t bits[G], block[OCTETS];
+    uint8_t bits[G], coded[990], block[OCTETS];
 } rooms;
 
 static uint32_t check_table(void) { return nr_table_check(table, table_len, &rooms.report); }
@@ -53,6 +53,12 @@ static uint32_t check_table(void) { return nr_table_check(table, table_len, &roo
 static uint32_t check_bad_table(void) { return nr_table_check(table, table_len - 3, &rooms.report); }
 
 static uint32_t crc(void) { return nr_crc(NR_CRC24A, block, OCTETS, &rooms.parity); }
+
+/* The octets of `bits` are zeros, and so is the codeword, but for its fillers. */
+static uint32_t codeword(void) {
+    static const uint8_t bits[312];
+    return nr_codeword(table, table_len, 2048, 8 * OCTETS, bits, sizeof bits, rooms.coded, sizeof rooms.coded);
+}
 
 static uint32_t send(void) { return nr_send(table, table_len, &settings, block, OCTETS, txs, rooms.bits, G); }
 
@@ -105,6 +111,7 @@ int main(int count, char **words) {
     sweep("nr_table_check", check_table, NR_OK);
     sweep("nr_table_check, refused", check_bad_table, NR_CSV);
     sweep("nr_crc", crc, NR_OK);
+    sweep("nr_codeword", codeword, NR_OK);
     sweep("nr_send", send, NR_OK);
     sweep("nr_receive", receive, NR_OK);
     printf("%d wrong\n", wrong);

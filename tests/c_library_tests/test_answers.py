@@ -6,6 +6,7 @@ import unittest
 import built
 import encoder
 import model
+from linksim_tools import rate_matching
 
 DRAWN = (built.ROOT / "examples" / "drawn.csv").read_bytes()
 PRACTICE = built.PRACTICE.read_bytes()
@@ -80,6 +81,38 @@ class Answers(unittest.TestCase):
             room = built.Room(tx.g)
             self.assertEqual(built.call("nr_send", PRACTICE, built.settings(2048), b"\1", tx, room), 0)
             self.assertEqual(encoder.octets_of(list(room.octets())).hex(), wanted)
+
+    def test_coded(self):
+        """The codewords of each code block, the lengths and the buffer, by which the model sends."""
+        both, draw = PRACTICE + DRAWN, random.Random(5)
+        for octets, rate2048 in [(1, 2048), (37, 2048), (37, 512), (479, 512), (1065, 2048)]:
+            a = 8 * octets
+            plan = model.plan(a, rate2048)
+            for bits in model.code_blocks(draw.randbytes(octets), plan):
+                room = built.Room(plan["n"])
+                self.assertEqual(built.call("nr_codeword", both, rate2048, a, bytes(bits), room), 0)
+                wanted = model.coded(model.tables(both)[plan["graph"]], plan, bits)
+                self.assertEqual(list(room.octets()), [2 if it is None else it for it in wanted])
+            for rv in range(4):
+                for lbrm in [0, a, 3 * a]:
+                    room = built.struct(2)
+                    self.assertEqual(built.call("nr_buffer", built.settings(rate2048, lbrm), a, rv, room), 0)
+                    ncb = rate_matching.buffer_length(plan, lbrm or None)
+                    self.assertEqual(room.numbers(), [ncb, rate_matching.start(plan, ncb, rv)])
+
+    def test_lengths(self):
+        draw = random.Random(6)
+        for a, rate2048 in [(8, 2048), (3832, 512), (100_008, 2048), (1_310_616, 512)]:
+            plan = model.plan(a, rate2048)
+            for _ in range(20):
+                qm, nl = draw.choice([1, 2, 4, 6, 8]), draw.randrange(1, 5)
+                some = sorted(draw.sample(range(plan["c"]), draw.randrange(1, plan["c"] + 1)))
+                for blocks in [None, some, [*some, 383]]:
+                    tx = built.tx(qm * nl * draw.randrange(1, 4_194_304 // (qm * nl) + 1), draw.randrange(4), qm, nl, blocks)
+                    shares = rate_matching.lengths(tx.g, qm, nl, range(plan["c"]) if blocks is None else some)
+                    room = built.Room(plan["c"], item=4)
+                    self.assertEqual(built.call("nr_lengths", rate2048, a, tx, room), 0)
+                    self.assertEqual(room.numbers(), [shares.get(r, 0) for r in range(plan["c"])])
 
     def test_received(self):
         """Of 8,592 bits in two code blocks 6,000 places leave some open, and all places none; what was heard with both bits

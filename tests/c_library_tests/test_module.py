@@ -35,6 +35,11 @@ class Module(unittest.TestCase):
         self.assertEqual(self.nr.crc(BLOCK, self.nr.CRC16), 0x31C3)
         self.assertEqual(encoder.octets_of(list(self.nr.send(PRACTICE, b"\1", self.nr.Tx(24, qm=4), **RATE))).hex(), "000a51")
         self.assertEqual(self.nr.receive(PRACTICE, 72, [], **RATE), (self.nr.Outcome.OPEN, None))
+        self.assertEqual(self.nr.lengths(3832, self.nr.Tx(104, qm=4, nl=2), rate2048=512), [48, 56])
+        self.assertEqual(self.nr.buffer(8, 3, **RATE), (200, 172))
+        self.assertEqual(self.nr.buffer(8, 3, lbrm=100, **RATE).ncb, 150)
+        coded = self.nr.codeword(PRACTICE, encoder.with_crc([0] * 7 + [1], encoder.CRC_16), 8, **RATE)
+        self.assertEqual((len(coded), list(coded[14:18])), (200, [0, 1, self.nr.FILLER, self.nr.FILLER]))
 
     def test_buffers(self):
         self.assertIsInstance(self.bits, bytearray)
@@ -78,6 +83,11 @@ class Module(unittest.TestCase):
             (lambda: self.nr.receive(PRACTICE, 72, [(self.tx, self.bits[1:])], **RATE), 56, "Length"),
             (lambda: self.nr.receive(PRACTICE, 72, [(self.tx, self.bits)] * 257, **RATE), 3, "Many"),
             (lambda: self.nr.receive(PRACTICE, 0xFFFFFFFF, [], **RATE), 40, "Size"),
+            (lambda: self.nr.receive(PRACTICE, 7640, [], rate2048=512), 45, "Uneven"),
+            (lambda: self.nr.codeword(PRACTICE, bytes(23), 8, **RATE), 56, "Length"),
+            (lambda: self.nr.codeword(PRACTICE, b"\2" * 24, 8, **RATE), 5, "Bit"),
+            (lambda: self.nr.lengths(9, self.tx, **RATE), 40, "Size"),
+            (lambda: self.nr.buffer(8, 4, **RATE), 50, "Rv"),
         ]:
             with self.assertRaises(self.nr.Fault) as raised:
                 call()

@@ -71,7 +71,7 @@ class Programs(InFolder):
 
     def test_memory_refused(self):
         output = built.done([self.compiled("refused.c", *WRAPPED), self.both_graphs()])
-        for call in ["nr_table_check", "nr_crc", "nr_send", "nr_receive"]:
+        for call in ["nr_table_check", "nr_crc", "nr_codeword", "nr_send", "nr_receive"]:
             self.assertRegex(output.decode(), rf"(?m)^{call}: [1-9]\d* growths refused$")
 
     def test_threads(self):

@@ -30,7 +30,7 @@ class Case:
 
     def __init__(self, seed):
         draw = self.draw = random.Random(seed)
-        self.table = draw.choice([PRACTICE, PRACTICE, PRACTICE + DRAWN, DRAWN])
+        self.table = draw.choice([PRACTICE, DRAWN, *[PRACTICE + DRAWN] * 6])
         self.rate2048 = draw.choice([2048, 2048, 1372, 1024, 512, 100])
         lengths = [draw.choice([1, 2, 5, 9, 20, 36, 37, 60, 300, 479]) for _ in range(draw.randrange(1, 4))]
         self.lbrm = draw.choice([0, 0, 0, 1, 300, 8 * max(lengths), 20 * max(lengths)])

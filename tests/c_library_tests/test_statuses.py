@@ -74,6 +74,9 @@ class Statuses(unittest.TestCase):
     def refused_receive(self, status, text=PRACTICE, settings=SETTINGS, a=8, txs=(TX,), heard=bytes(24), room=1):
         self.refused(status, "nr_receive", text, settings, a, list(txs), heard, built.struct(), built.Room(room))
 
+    def refused_codeword(self, status, text=PRACTICE, rate2048=2048, a=8, bits=bytes(24), room=200):
+        self.refused(status, "nr_codeword", text, rate2048, a, bits, built.Room(room))
+
     def test_tables(self):
         for status, place, text in TABLES:
             with self.subTest(status=status, text=text[:40]):
@@ -84,12 +87,19 @@ class Statuses(unittest.TestCase):
                 self.refused_send(status, text, built.settings(0), b"", built.tx(0, 4), 1)
                 self.refused_receive(status, text, built.settings(0), 7, [built.tx(0, 4)], b"", 0)
                 self.refused_receive(3, text, txs=[TX] * 257)
+                self.refused_codeword(status, text, 0, 0, b"\2", 1)
 
     def test_blocks(self):
         for status, settings, a in BLOCKS:
             with self.subTest(status=status, a=a):
+                rate2048 = settings[0]
                 if status < 46:
-                    self.refused(status, "nr_plan", settings[0], a, built.struct(10))
+                    self.refused(status, "nr_plan", rate2048, a, built.struct(10))
+                    self.refused(status, "nr_lengths", rate2048, a, built.tx(0, 4), built.Room(0, item=4))
+                if status < 47:
+                    self.refused_codeword(status, rate2048=rate2048, a=a, bits=b"\2", room=1)
+                if status != 46:
+                    self.refused(status, "nr_buffer", settings, a, 4, built.struct(2))
                 self.refused_send(status, settings=settings, block=bytes(a // 8), tx=built.tx(0, 4), room=1)
                 self.refused_receive(status, settings=settings, a=a, txs=[built.tx(0, 4)], heard=b"", room=0)
         for a in [1, 7, 9, 1_310_721, 0xFFFFFFFF]:
@@ -100,11 +110,13 @@ class Statuses(unittest.TestCase):
         for status, tx in TXS:
             with self.subTest(status=status, g=tx.g):
                 self.refused_send(status, tx=tx, room=tx.g + 1 if tx.g < 100 else 1)
+                self.refused(status, "nr_lengths", 2048, 8, tx, built.Room(2, item=4))
                 self.refused_receive(status, txs=[tx], heard=bytes(tx.g), room=0)
                 self.refused_receive(status, txs=[TX, tx], heard=bytes(24 + tx.g), room=0)
                 # Fewer places than G come before what else is wrong with a transmission.
                 if tx.g:
                     self.refused_receive(56, txs=[tx], heard=bytes(tx.g - 1), room=0)
+        self.refused(50, "nr_buffer", SETTINGS, 8, 4, built.struct(2))
         self.refused_receive(56, txs=[], heard=b"\0", room=0)
         self.refused_receive(56, heard=bytes(25), room=0)
         self.refused_receive(56, txs=[TX, TX], heard=bytes(47), room=0)
@@ -115,6 +127,17 @@ class Statuses(unittest.TestCase):
         # All zeros are the code word of the block of zeros, and G = 32 are enough to fix it.
         for room in [0, 2, 100]:
             self.refused_receive(2, txs=[built.tx(32)], heard=bytes(32), room=room)
+        for room in [0, 2, 344]:
+            self.refused(2, "nr_lengths", 2048, 8, TX, built.Room(room, item=4))
+
+    def test_codewords(self):
+        for room in [0, 199, 201]:
+            self.refused_codeword(2, room=room)
+        for place in [0, 23]:
+            self.refused_codeword(5, bits=bytes(place) + b"\2" + bytes(23 - place), room=0)
+            self.refused_codeword(5, bits=bytes(place) + b"\xff" + bytes(23 - place))
+        for bits in [b"", bytes(23), b"\2" * 25]:
+            self.refused_codeword(56, bits=bits, room=0)
 
     def test_parities(self):
         for poly in [3, 4, 0xFFFFFFFF]:
