@@ -9,8 +9,6 @@ use Rattle.std.proofs.lemmas.List.{get_or-set_other, get_or_read, length-set}
 use Rattle.std.proofs.lemmas.List.Elements.{filter_map-append}
 use Rattle.std.proofs.lemmas.List.Sums.{sum_by_more}
 use Rattle.std.proofs.Math.ListN.{drop_of_length-le}
-use Rattle.std.proofs.Math.Seq.{take-append_seam}
-use Rattle.std.specs.Option.{is_some}
 use Rattle.nr_bitvec.specs.Bit.{bit}
 use Rattle.nr_graphpick.specs.Graph.{cols_of}
 use Rattle.nr_graphpick.specs.declared.Graph.{Graph}
@@ -345,15 +343,6 @@ peelers-kept P₀ P r q later k d above =
     let other : k ≢ r = λ e. omega (arith, e, above) in
     get_or-set_other P r k q d other ∙ later k d (omega arith)
 
--- a bit was heard, in other words
-pub heard-some : (o : Option Bool) → is_heard o ≡ is_some o
-heard-some None = refl
-heard-some (Some b) = refl
-
 pub size-same : (p q : Peeling) → IsSameCode p q → (checks_for q).size ≡ (checks_for p).size
 size-same p q same =
     ap (λ (g : Graph). cols_of g * q.numbers.z) same.graph ∙ ap (λ (n : Numbers). cols_of p.graph * n.z) same.numbers
-
--- what is written back to the whole of a list
-pub written : {X : Type 0} (n : ℕ) (xs ys : List X) → length xs ≡ n → take n (xs ++ ys) ≡ xs
-written n xs ys long = ap (λ k. take k (xs ++ ys)) (sym long) ∙ take-append_seam xs ys

@@ -1,5 +1,5 @@
 -- What a receiver keeps of the one transport block that may explain what was heard.
-use Rattle.std.proofs.Common.{◌≡◌, ◌≢◌, ℕ, ◌+◌, ◌<◌, Bool, true, false, List, [], length, set, take, sym, ap, subst, ◌∙◌, ⊎_elim, length-append, arith}
+use Rattle.std.proofs.Common.{◌≡◌, ◌≢◌, ℕ, ◌+◌, ◌<◌, Bool, true, false, List, [], ◌++◌, length, set, take, sym, ap, subst, ◌∙◌, ⊎_elim, length-append, arith}
 use Rattle.std.proofs.lemmas.Bool.{cases_eq}
 use Rattle.std.proofs.lemmas.Grind.{get_or-set_at}
 use Rattle.std.proofs.lemmas.List.{get_or-set_other, length-set}
@@ -89,3 +89,7 @@ told-of agreed c words words₁ S S₁ T words-is S-is many tells =
     subst (λ n. AllTell agreed n words S T) many
     (subst (λ (l : List Heardbits). AllTell agreed (length l) words l T) S-is
     (subst (λ (l : List (List Bool)). AllTell agreed (length S₁) l S₁ T) words-is tells))
+
+-- what is written back to the whole of a list
+pub written : {X : Type 0} (n : ℕ) (xs ys : List X) → length xs ≡ n → take n (xs ++ ys) ≡ xs
+written n xs ys long = ap (λ k. take k (xs ++ ys)) (sym long) ∙ take-append_seam xs ys

@@ -2,13 +2,14 @@
 use Rattle.std.proofs.Common.{◌≡◌, ℕ, ◌*◌, ◌<◌, ◌≤◌, ◌==◌, Bool, true, false, cond, nat_lt, List, [], ◌∷◌, length, map, get_or, All, refl, sym, ap, subst, ◌∙◌, ⊎_elim, arith}
 use Rattle.std.specs.Prelude.{Option, Some, None, option_map, Ok, sum}
 use Rattle.std.specs.List.{list_all, range_with_len}
+use Rattle.std.specs.Option.{is_some}
 use Rattle.std.proofs.lemmas.Bool.{and_from, cases_lt, eqb-true}
 use Rattle.std.proofs.lemmas.Bool.Decides.{nat_tests}
 use Rattle.std.proofs.lemmas.List.{get_or_past}
 use Rattle.std.proofs.lemmas.List.FromFn.{get_or-map-range_with_len, length-map-range_with_len}
 use Rattle.nr_bitvec.specs.Bit.{bit}
 use Rattle.nr_graphpick.specs.Graph.{cols_of}
-use Rattle.nr_harqbuf.specs.Record.{FitsByRecord, HasFirsts, Heardbits, Hearing, first_at, first_heard, record_of}
+use Rattle.nr_harqbuf.specs.Record.{FitsByRecord, HasFirsts, Heardbits, Hearing, first_at, first_heard, is_heard, record_of}
 use Rattle.nr_segment.specs.Plan.{word_size}
 use Rattle.nr_blockdesk.specs.Explains.{Explains, IsAccepted, Reception, heard_at}
 use Rattle.nr_blockdesk.specs.Heard.{hearing_at, heard_of, heard_record, hearings, hearings_in}
@@ -140,3 +141,8 @@ explains-by_record matched at by_record link list block is accepted whole = (for
         each r inside =
             (by_record (w r) (word_size link.graph link.plan) (hearings link list r) (hearings-below matched at link list r is accepted)).1
             (subst (λ (s : Heardbits). (s.clash ≡ false) × HasFirsts s (w r)) (record-at link list r inside) (by r inside))
+
+-- a bit was heard, in other words
+pub heard-some : (o : Option Bool) → is_heard o ≡ is_some o
+heard-some None = refl
+heard-some (Some b) = refl

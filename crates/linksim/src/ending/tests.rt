@@ -18,40 +18,102 @@ fn told(alloc: Global, ending: Ending, fails: (u32, u32)) -> Result<(u8, Tape, T
     Ok((status, out, errors))
 }
 
+// Whether a run that this fault refuses ends with status 1, nothing on standard output, and this line on standard error.
+fn refuses(alloc: Global, fault: RunFault, line: &str) -> Result<bool, AllocError> {
+    let (status, out, errors) = told(alloc, Ending::Refused(fault), (0, 0))?;
+    let want = format!(in alloc; "linksim: refused: {line}\n")?;
+    Ok(status == 1 && out.bytes().is_empty() && errors.bytes() == want.as_bytes())
+}
+
 #[test]
-fn refusals_have_a_line(rt: HostRuntime) -> Result<(), AllocError> {
+fn faults_of_blocks_have_a_line(rt: HostRuntime) -> Result<(), AllocError> {
     for (fault, line) in [
-        (RunFault::Blocks(BlocksFault::Read), "blocks Read"),
-        (RunFault::Blocks(BlocksFault::TooLong), "blocks TooLong"),
-        (RunFault::Blocks(BlocksFault::Empty), "blocks Empty"),
-        (RunFault::Blocks(BlocksFault::TooMany), "blocks TooMany"),
-        (RunFault::Blocks(BlocksFault::Blank(1)), "blocks Blank 1"),
-        (RunFault::Blocks(BlocksFault::Digit(2)), "blocks Digit 2"),
-        (RunFault::Blocks(BlocksFault::Odd(30)), "blocks Odd 30"),
-        (
-            RunFault::Blocks(BlocksFault::LongLine(256)),
-            "blocks LongLine 256",
-        ),
-        (RunFault::Table(TableFault::Read), "table Read"),
-        (RunFault::Table(TableFault::TooLong), "table TooLong"),
-        (RunFault::Table(TableFault::Csv(2)), "table Csv 2"),
-        (RunFault::Table(TableFault::Fields), "table Fields"),
-        (RunFault::Table(TableFault::Number(3)), "table Number 3"),
-        (RunFault::Table(TableFault::Range(40)), "table Range 40"),
-        (RunFault::Table(TableFault::Twice(106)), "table Twice 106"),
-        (RunFault::Table(TableFault::Empty), "table Empty"),
-        (
-            RunFault::Table(TableFault::Core(Graph::One)),
-            "table Core 1",
-        ),
-        (
-            RunFault::Table(TableFault::Extension(Graph::Two)),
-            "table Extension 2",
-        ),
-        (
-            RunFault::Table(TableFault::MissingRow(Graph::One)),
-            "table MissingRow 1",
-        ),
+        (BlocksFault::Read, "blocks Read"),
+        (BlocksFault::TooLong, "blocks TooLong"),
+        (BlocksFault::Empty, "blocks Empty"),
+        (BlocksFault::TooMany, "blocks TooMany"),
+        (BlocksFault::Blank(1), "blocks Blank 1"),
+        (BlocksFault::Digit(2), "blocks Digit 2"),
+        (BlocksFault::Odd(30), "blocks Odd 30"),
+        (BlocksFault::LongLine(256), "blocks LongLine 256"),
+    ] {
+        assert!(rt;
+            refuses(rt.alloc(), RunFault::Blocks(fault), line)?,
+            "at {line}"
+        );
+    }
+    Ok(())
+}
+
+#[test]
+fn faults_of_the_table_have_a_line(rt: HostRuntime) -> Result<(), AllocError> {
+    for (fault, line) in [
+        (TableFault::Read, "table Read"),
+        (TableFault::TooLong, "table TooLong"),
+        (TableFault::Csv(2), "table Csv 2"),
+        (TableFault::Fields, "table Fields"),
+        (TableFault::Number(3), "table Number 3"),
+        (TableFault::Range(40), "table Range 40"),
+        (TableFault::Twice(106), "table Twice 106"),
+        (TableFault::Empty, "table Empty"),
+        (TableFault::Core(Graph::One), "table Core 1"),
+        (TableFault::Extension(Graph::Two), "table Extension 2"),
+        (TableFault::MissingRow(Graph::One), "table MissingRow 1"),
+    ] {
+        assert!(rt;
+            refuses(rt.alloc(), RunFault::Table(fault), line)?,
+            "at {line}"
+        );
+    }
+    Ok(())
+}
+
+#[test]
+fn faults_of_settings_have_a_line(rt: HostRuntime) -> Result<(), AllocError> {
+    for (fault, line) in [
+        (SettingsFault::Read, "settings Read"),
+        (SettingsFault::TooLong, "settings TooLong"),
+        (SettingsFault::Toml, "settings Toml"),
+        (SettingsFault::Unknown, "settings Unknown"),
+        (SettingsFault::Missing, "settings Missing"),
+        (SettingsFault::Kind, "settings Kind"),
+        (SettingsFault::Range, "settings Range"),
+    ] {
+        assert!(rt;
+            refuses(rt.alloc(), RunFault::Settings(fault), line)?,
+            "at {line}"
+        );
+    }
+    Ok(())
+}
+
+#[test]
+fn faults_of_the_schedule_have_a_line(rt: HostRuntime) -> Result<(), AllocError> {
+    for (fault, line) in [
+        (ScheduleFault::Read, "schedule Read"),
+        (ScheduleFault::TooLong, "schedule TooLong"),
+        (ScheduleFault::Header, "schedule Header"),
+        (ScheduleFault::Csv(3), "schedule Csv 3"),
+        (ScheduleFault::TooMany, "schedule TooMany"),
+        (ScheduleFault::Number(4), "schedule Number 4"),
+        (ScheduleFault::Block(5), "schedule Block 5"),
+        (ScheduleFault::Erase(2), "schedule Erase 2"),
+        (ScheduleFault::Flip(4097), "schedule Flip 4097"),
+        (ScheduleFault::Mask(6), "schedule Mask 6"),
+        (ScheduleFault::Process(7), "schedule Process 7"),
+        (ScheduleFault::Fresh(8), "schedule Fresh 8"),
+    ] {
+        assert!(rt;
+            refuses(rt.alloc(), RunFault::Schedule(fault), line)?,
+            "at {line}"
+        );
+    }
+    Ok(())
+}
+
+#[test]
+fn faults_behind_the_files_have_a_line(rt: HostRuntime) -> Result<(), AllocError> {
+    for (fault, line) in [
         (
             RunFault::Desk(256, DeskFault::Seg(SegFault::Uneven)),
             "block 256 Uneven",
@@ -61,69 +123,10 @@ fn refusals_have_a_line(rt: HostRuntime) -> Result<(), AllocError> {
             RunFault::Desk(1, DeskFault::Rm(RmFault::NoBuffer)),
             "block 1 NoBuffer",
         ),
-        (RunFault::Settings(SettingsFault::Read), "settings Read"),
-        (
-            RunFault::Settings(SettingsFault::TooLong),
-            "settings TooLong",
-        ),
-        (RunFault::Settings(SettingsFault::Toml), "settings Toml"),
-        (
-            RunFault::Settings(SettingsFault::Unknown),
-            "settings Unknown",
-        ),
-        (
-            RunFault::Settings(SettingsFault::Missing),
-            "settings Missing",
-        ),
-        (RunFault::Settings(SettingsFault::Kind), "settings Kind"),
-        (RunFault::Settings(SettingsFault::Range), "settings Range"),
-        (RunFault::Schedule(ScheduleFault::Read), "schedule Read"),
-        (
-            RunFault::Schedule(ScheduleFault::TooLong),
-            "schedule TooLong",
-        ),
-        (RunFault::Schedule(ScheduleFault::Header), "schedule Header"),
-        (RunFault::Schedule(ScheduleFault::Csv(3)), "schedule Csv 3"),
-        (
-            RunFault::Schedule(ScheduleFault::TooMany),
-            "schedule TooMany",
-        ),
-        (
-            RunFault::Schedule(ScheduleFault::Number(4)),
-            "schedule Number 4",
-        ),
-        (
-            RunFault::Schedule(ScheduleFault::Block(5)),
-            "schedule Block 5",
-        ),
-        (
-            RunFault::Schedule(ScheduleFault::Erase(2)),
-            "schedule Erase 2",
-        ),
-        (
-            RunFault::Schedule(ScheduleFault::Flip(4097)),
-            "schedule Flip 4097",
-        ),
-        (
-            RunFault::Schedule(ScheduleFault::Mask(6)),
-            "schedule Mask 6",
-        ),
-        (
-            RunFault::Schedule(ScheduleFault::Process(7)),
-            "schedule Process 7",
-        ),
-        (
-            RunFault::Schedule(ScheduleFault::Fresh(8)),
-            "schedule Fresh 8",
-        ),
         (RunFault::Write, "output Write"),
         (RunFault::Memory, "memory"),
     ] {
-        let (status, out, errors) = told(rt.alloc(), Ending::Refused(fault), (0, 0))?;
-        let want = format!(in rt.alloc(); "linksim: refused: {line}\n")?;
-        assert_eq!(rt; status, 1, "at {line}");
-        assert_eq!(rt; out.bytes(), b"".as_slice(), "at {line}");
-        assert_eq!(rt; errors.bytes(), want.as_bytes(), "at {line}");
+        assert!(rt; refuses(rt.alloc(), fault, line)?, "at {line}");
     }
     Ok(())
 }

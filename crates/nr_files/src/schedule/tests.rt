@@ -37,14 +37,19 @@ fn count_of(alloc: Global, text: &[u8]) -> Result<usize, ScheduleFault> {
     Ok(parse_schedule(alloc, 1, text)?.transmissions.len())
 }
 
-#[test]
-fn reads_a_schedule(rt: HostRuntime) -> Result<(), Fail> {
+// Two transmissions of eight columns, with a blank line, blanks around numbers and the largest G.
+fn two(alloc: Global) -> Result<Schedule, ScheduleFault> {
     let text = text_of(
-        rt.alloc(),
+        alloc,
         EIGHT,
         b" 2 ,0,64,2,1,-,-,all\n\n1,3,4294967295,0,9,pcg:42:7,1 3-5,65 2\n",
     )?;
-    let schedule = read_schedule(rt.alloc(), 2, &mut Feed::new(text, 7, 0))?.transmissions;
+    read_schedule(alloc, 2, &mut Feed::new(text, 7, 0))
+}
+
+#[test]
+fn reads_what_is_sent(rt: HostRuntime) -> Result<(), Fail> {
+    let schedule = two(rt.alloc())?.transmissions;
     assert_eq!(rt; schedule.len(), 2);
     let tx = Tx {
         rv: 0,
@@ -68,6 +73,13 @@ fn reads_a_schedule(rt: HostRuntime) -> Result<(), Fail> {
         (schedule[1].number, schedule[1].block, schedule[1].tx),
         (2, 1, tx)
     );
+    Ok(())
+}
+
+#[test]
+fn reads_what_the_link_does(rt: HostRuntime) -> Result<(), Fail> {
+    let schedule = two(rt.alloc())?.transmissions;
+    assert_eq!(rt; schedule.len(), 2);
     assert!(rt; matches!(&schedule[0].erasure, Erasure::Named(Places::Nothing)));
     assert!(rt; matches!(&schedule[0].flip, Places::Nothing));
     assert!(rt;

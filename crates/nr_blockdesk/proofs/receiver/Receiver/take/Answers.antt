@@ -9,8 +9,7 @@ use Rattle.nr_blockdesk.specs.Heard.{IsRecordOf, heard_of}
 use Rattle.nr_blockdesk.specs.Link.{link_of}
 use Rattle.nr_blockdesk.specs.Receiving.{AllTell, IsDesk, IsSized, Receiving, Stands}
 use Rattle.nr_blockdesk.proofs.Decided.{outcome-of_record, sized-of}
-use Rattle.nr_blockdesk.proofs.Hears.{written}
-use Rattle.nr_blockdesk.proofs.Kept.{stands-after, told-of}
+use Rattle.nr_blockdesk.proofs.Kept.{stands-after, told-of, written}
 use Rattle.nr_blockdesk.proofs.Links.{no-memory}
 use Rattle.nr_blockdesk.proofs.Taking.{AreHeard, all-taken, desk-taken, none-of, parts-are, reception-never_memory}
 use Rattle.nr_blockdesk.proofs.receiver.Receiver.take.Goals as goal
