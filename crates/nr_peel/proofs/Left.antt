@@ -17,7 +17,7 @@ use Rattle.nr_peel.proofs.Ordered.{after_accepted}
 use Rattle.nr_peel.proofs.Standing.{count_by-cons, count_yes}
 use Rattle.nr_peel.proofs.Words.{left_over_stops, stopping_stays_out}
 
-left_more : (n : ℕ) (known : List Bool) → n < length known → left_of (suc n) known ≡ left_of n known + cond (not (get_or known n false)) 1 0
+pub left_more : (n : ℕ) (known : List Bool) → n < length known → left_of (suc n) known ≡ left_of n known + cond (not (get_or known n false)) 1 0
 left_more n known lt = ap (λ m. left_of m known) (next n) ∙ count_more (λ (b : Bool). not b) known n false lt
   where
     next : (n : ℕ) → suc n ≡ n + 1

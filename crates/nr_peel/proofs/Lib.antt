@@ -25,6 +25,10 @@ pub mod Starting
 pub mod Left
 pub mod Columns
 pub mod Falling
+pub mod Tallies
+pub mod Held
+pub mod Told
+pub mod Remaining
 pub mod Judged
 pub mod RowEntries
 pub mod Found

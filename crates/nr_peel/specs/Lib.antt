@@ -6,6 +6,7 @@ pub mod Laws
 pub mod Counters
 pub mod State
 pub mod Lanes
+pub mod Hearing
 pub mod Rounds
 pub mod Sweeps
 pub mod Settled

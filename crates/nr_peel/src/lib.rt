@@ -9,14 +9,17 @@
 mod check;
 mod counters;
 mod fix;
+mod hearing;
 mod lanes;
 pub mod laws;
 mod lifted;
 mod lowering;
 mod peeler;
 mod rounds;
+mod settle;
 mod state;
 mod sweep;
+mod unknown;
 
 pub use check::{check_order, check_stuck};
 pub use fix::Fix;

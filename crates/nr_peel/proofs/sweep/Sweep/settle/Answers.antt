@@ -1,0 +1,90 @@
+use Rattle.std.proofs.Common.{◌≡◌, ◌≢◌, ℕ, ◌<◌, ◌≤◌, ◌*◌, ◌∙◌, nat_lt, true, false, refl, sym, ap, length, inl, inr, arith}
+use Rattle.std.proofs.lemmas.Bool.{cases_lt, lt-ltb, ltb-true, true≢false}
+use Rattle.nr_lifting.specs.Rings.{marked}
+use Rattle.nr_peel.specs.State.{lifted_checks}
+use Rattle.nr_peel.specs.Sweeps.{has_count}
+use Rattle.nr_peel.proofs.Held.{caught_held, caught_keeps, fixes_keep, held_few, held_room, held_searched, keeps_then, round_held, round_keeps, round_smaller, sought_counted, sought_few, stop_held, stop_fresh, stop_settled}
+use Rattle.nr_peel.proofs.sweep.Sweep.settle.Goals as goal
+
+-- the counts have fallen by what was fresh
+pub lower-requires-clause-few : goal.lower-requires-clause-few
+lower-requires-clause-few c = held_few (lifted_checks c.args.lifted.now) c.args.self.now c.requires.held
+
+pub rounds-init : goal.rounds-init
+rounds-init c =
+    let ck = lifted_checks c.args.lifted.now in
+    record {
+      held = caught_held ck c.args.self.now c.lower.new.self c.requires.held c.lower.ensures;
+      no_fresh = c.lower.ensures.no_fresh;
+      keeps = caught_keeps ck c.args.self.now c.lower.new.self c.requires.held.lanes c.lower.ensures;
+    }
+
+pub search-requires-clause-room : goal.search-requires-clause-room
+search-requires-clause-room c = held_room (lifted_checks c.args.lifted.now) c.rounds.self c.rounds.invariant.held
+
+pub search-requires-clause-few : goal.search-requires-clause-few
+search-requires-clause-few c = held_searched (lifted_checks c.args.lifted.now) c.rounds.self c.rounds.invariant.held
+
+pub lower-requires-in-rounds-clause-counted : goal.lower-requires-in-rounds-clause-counted
+lower-requires-in-rounds-clause-counted c =
+    let l = c.args.lifted.now in
+    sought_counted (lifted_checks l) l.plan.sound.size_some c.rounds.self c.search.new.self c.rounds.invariant.held c.search.ensures.sought c.search.ensures.counts c.search.ensures.touches
+
+pub lower-requires-in-rounds-clause-few : goal.lower-requires-in-rounds-clause-few
+lower-requires-in-rounds-clause-few c =
+    let l = c.args.lifted.now in
+    sought_few (lifted_checks l) l.plan.sound.size_some c.rounds.self c.search.new.self c.rounds.invariant.held c.search.ensures.sought c.search.ensures.counts c.search.ensures.touches
+
+pub rounds-smaller : goal.rounds-smaller
+rounds-smaller c =
+    let l = c.args.lifted.now in
+    let some = ltb-true 0 (marked (has_count 1 c.rounds.self.counts.items) ((lifted_checks l).rows * l.plan.z)) (sym c.search.ensures.some ∙ c.rounds-test.true) in
+    round_smaller (lifted_checks l) l.plan.sound.size_some c.rounds.self c.search.new.self c.rounds.invariant.held c.search.ensures.sought c.search.ensures.counts c.search.ensures.touches
+    c.lower-in-rounds.new.self c.lower-in-rounds.ensures some
+
+-- a round more
+pub rounds-preserved : goal.rounds-preserved
+rounds-preserved c =
+    let l = c.args.lifted.now in
+    let ck = lifted_checks l in
+    let a = c.rounds.self in
+    let b = c.search.new.self in
+    let d = c.lower-in-rounds.new.self in
+    let held = c.rounds.invariant.held in
+    let sought = c.search.ensures.sought in
+    record {
+      held = round_held ck l.plan.sound.size_some a b held sought c.search.ensures.counts c.search.ensures.touches d c.lower-in-rounds.ensures;
+      no_fresh = c.lower-in-rounds.ensures.no_fresh;
+      keeps = keeps_then ck c.args.self.now.lanes a.lanes d.lanes c.rounds.invariant.keeps (round_keeps ck l.plan.sound.size_some a b held sought c.search.ensures.counts c.search.ensures.touches d c.lower-in-rounds.ensures);
+    }
+
+none_left : (m : ℕ) → nat_lt 0 m ≡ false → m ≡ 0
+none_left m h = elim (cases_lt 0 m) [
+  | inl some ↦ absurd (true≢false (sym (lt-ltb 0 m some) ∙ h))
+  | inr none ↦ omega (arith, none)
+]
+
+pub returns-clause-held : goal.returns-clause-held
+returns-clause-held c =
+    let l = c.args.lifted.now in
+    let none = none_left (marked (has_count 1 c.rounds.self.counts.items) ((lifted_checks l).rows * l.plan.z)) (sym c.search.ensures.some ∙ c.rounds-test.false) in
+    stop_held (lifted_checks l) l.plan.sound.size_some c.rounds.self c.search.new.self c.rounds.invariant.held c.search.ensures.sought c.search.ensures.counts c.search.ensures.touches none
+
+pub returns-clause-no_fresh : goal.returns-clause-no_fresh
+returns-clause-no_fresh c =
+    let l = c.args.lifted.now in
+    let none = none_left (marked (has_count 1 c.rounds.self.counts.items) ((lifted_checks l).rows * l.plan.z)) (sym c.search.ensures.some ∙ c.rounds-test.false) in
+    stop_fresh (lifted_checks l) l.plan.sound.size_some c.rounds.self c.search.new.self c.rounds.invariant.held c.search.ensures.sought c.search.ensures.counts c.search.ensures.touches none c.rounds.invariant.no_fresh
+
+pub returns-clause-settled : goal.returns-clause-settled
+returns-clause-settled c =
+    let l = c.args.lifted.now in
+    let none = none_left (marked (has_count 1 c.rounds.self.counts.items) ((lifted_checks l).rows * l.plan.z)) (sym c.search.ensures.some ∙ c.rounds-test.false) in
+    stop_settled (lifted_checks l) l.plan.sound.size_some c.rounds.self c.search.new.self c.rounds.invariant.held c.search.ensures.sought c.search.ensures.counts c.search.ensures.touches none
+
+pub returns-clause-keeps : goal.returns-clause-keeps
+returns-clause-keeps c =
+    let ck = lifted_checks c.args.lifted.now in
+    let a = c.rounds.self.lanes in
+    let b = c.search.new.self.lanes in
+    keeps_then ck c.args.self.now.lanes a b c.rounds.invariant.keeps (fixes_keep ck a b c.search.ensures.sought.fixes)

@@ -1,0 +1,18 @@
+-- Many positions that are given at a time.
+use Rattle.std.specs.Prelude.{◌≡◌, ℕ, ◌&&◌, ◌||◌, Bool, not}
+use Rattle.nr_bitvec.specs.Bit.{bit}
+use Rattle.nr_ldpcenc.specs.Rows.{Checks}
+use Rattle.nr_peel.specs.Sweeps.{AreLanes}
+use Rattle.nr_peel.specs.declared.lanes.Lanes.{Lanes}
+
+-- the positions of a set that aren't known
+abbrev pub news : (ℕ → Bool) → Lanes → ℕ → Bool
+news H s p = H p && not (bit s.known.items p)
+
+-- The positions of a set are given: those that weren't known take the bits V, and are fresh. Nothing else has changed.
+pub record Hears (c : Checks) (H V : ℕ → Bool) (old new : Lanes) : Type 0 where
+  pub known : (p : ℕ) → bit new.known.items p ≡ (bit old.known.items p || H p)
+  pub fresh : (p : ℕ) → bit new.fresh.items p ≡ (bit old.fresh.items p || news H old p)
+  pub bits : (p : ℕ) → bit new.bits.items p ≡ (bit old.bits.items p || (news H old p && V p))
+  pub order : new.order ≡ old.order
+  pub lanes : AreLanes c new

@@ -1,0 +1,51 @@
+//! How many positions are given at a time: block by block of a list of them.
+
+ghost use Rattle.std.specs.Prelude.{◌≡◌, ◌+◌, ◌<◌, ◌≤◌, ◌^◌, ℕ, length};
+ghost use Rattle.nr_bitvec.specs.Bit.{bit};
+ghost use Rattle.nr_bitvec.specs.Packed.{IsClear};
+ghost use Rattle.nr_lifting.specs.Rings.{is_set};
+ghost use Rattle.nr_peel.specs.Hearing.{Hears};
+ghost use Rattle.nr_peel.specs.State.{lifted_checks};
+ghost use Rattle.nr_peel.specs.Sweeps.{AreLanes};
+
+use crate::lanes::Lanes;
+use crate::lifted::Lifted;
+use nr_bitvec::Bits;
+use nr_bitvec::words::low_bits;
+use nr_lifting::{common, lane_count, without};
+
+// The block of `size` bits of a list from bit `from` on.
+fn read_lane(bits: &Bits, from: usize, size: usize) -> [u64; 6]
+    requires few { size ≤ 384 }
+    requires short { from < 2 ^ 32 }
+    ensures bits { (t : ℕ) → t < size → is_set result t ≡ bit bits.now.items (from + t) }
+    ensures clear { IsClear result size }
+{
+    let mut lane = [0; 6];
+    for i in 0..size.div_ceil(64) {
+        lane[i] = low_bits(bits.window(from + 64 * i), size - 64 * i);
+    }
+    lane
+}
+
+impl Lanes {
+    // Positions are given: those that weren't known take their bits, and are fresh.
+    pub(crate) fn hear(&mut self, lifted: &Lifted<'_>, heard: &Bits, values: &Bits)
+        requires lanes { AreLanes (lifted_checks lifted.now) self.old }
+        requires long { length heard.now.items ≡ (lifted_checks lifted.now).size }
+        ensures { Hears (lifted_checks lifted.now) (bit heard.now.items) (bit values.now.items)
+            self.old self.new }
+    {
+        let size = lifted.plan.z as usize;
+        for j in 0..lifted.plan.graph.cols() as usize {
+            let told = read_lane(heard, j * size, size);
+            let lane = without(&told, &self.known.lane(j, 0));
+            if lane_count(&lane) != 0 {
+                let bits = common(&lane, &read_lane(values, j * size, size));
+                self.known.join(j, &lane);
+                self.fresh.join(j, &lane);
+                self.bits.join(j, &bits);
+            }
+        }
+    }
+}
