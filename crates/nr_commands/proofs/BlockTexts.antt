@@ -17,7 +17,8 @@ use Rattle.nr_segment.specs.CodeBlock.{code_bits}
 use Rattle.std.specs.Fmt.{decimal}
 use Rattle.std.proofs.lemmas.Grind.{flat_map-append}
 use Rattle.nr_commands.specs.Command.{Stops, Writes}
-use Rattle.nr_commands.specs.Lines.{hex, block_line, attached_line, code_line}
+use Rattle.nr_commands.specs.Hex.{hex}
+use Rattle.nr_commands.specs.CutLines.{block_line, attached_line, code_line}
 use Rattle.nr_commands.specs.CutText.{planned_lines, block_lines, lines_from}
 use Rattle.nr_commands.specs.Written.{with_text}
 use Rattle.nr_commands.proofs.CommandLemmas.{writes_said}

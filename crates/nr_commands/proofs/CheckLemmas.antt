@@ -7,7 +7,8 @@ use Rattle.nr_graphpick.specs.declared.Graph.{Graph}
 use Rattle.nr_shifttable.specs.Accepted.{Entries, entries_in, has_graph, table_said}
 use Rattle.nr_shifttable.specs.declared.fault.TableFault.{TableFault}
 use Rattle.nr_shifttable.specs.declared.fault.TableFault.TheVariants as table_fault
-use Rattle.nr_commands.specs.CheckText.{check_said, graph_line, graph_lines, table_lines}
+use Rattle.nr_commands.specs.CheckLines.{graph_line}
+use Rattle.nr_commands.specs.CheckText.{check_said, graph_lines, table_lines}
 use Rattle.nr_commands.specs.Faults.{table_refusal}
 use Rattle.nr_graphpick.specs.Refusal.{◌>>=◌, with_fault}
 use Rattle.nr_commands.specs.declared.fault.RunFault.TheVariants.{Memory, Table, Write}

@@ -1,18 +1,12 @@
 -- The text of `check`.
-use Rattle.std.specs.Prelude.{ℕ, List, [], ◌∷◌, ◌++◌, Result, Ok, length, codes, if◌then◌else◌}
-use Rattle.std.specs.Fmt.{decimal}
-use Rattle.nr_graphpick.specs.Graph.{digits_of}
+use Rattle.std.specs.Prelude.{ℕ, List, [], ◌++◌, Result, Ok, if◌then◌else◌}
 use Rattle.nr_graphpick.specs.declared.Graph.{Graph}
 use Rattle.nr_graphpick.specs.declared.Graph.TheVariants.{One, Two}
-use Rattle.nr_shifttable.specs.Accepted.{Entries, entries_in, has_graph, table_said}
+use Rattle.nr_shifttable.specs.Accepted.{Entries, has_graph, table_said}
 use Rattle.nr_graphpick.specs.Refusal.{◌>>=◌, with_fault}
+use Rattle.nr_commands.specs.CheckLines.{graph_line}
 use Rattle.nr_commands.specs.declared.fault.RunFault.{RunFault}
 use Rattle.nr_commands.specs.declared.fault.RunFault.TheVariants as faults
-
--- the line of a base graph: how many entries it has
-unfoldable pub graph_line : Entries → Graph → List ℕ
-graph_line table graph =
-    codes "graph " ++ digits_of graph ++ codes " entries " ++ decimal (length (entries_in graph table)) ++ 10 ∷ []
 
 -- the line of a base graph, where the table has it
 unfoldable pub graph_lines : Entries → Graph → List ℕ

@@ -9,7 +9,7 @@ use Rattle.nr_crcattach.specs.Attachment.{attached}
 use Rattle.nr_segment.specs.CodeBlock.{code_bits}
 use Rattle.nr_graphpick.specs.Refusal.{◌>>=◌, with_fault}
 use Rattle.nr_files.specs.Blocks.{blocks_said}
-use Rattle.nr_commands.specs.Lines.{block_line, attached_line, code_line}
+use Rattle.nr_commands.specs.CutLines.{block_line, attached_line, code_line}
 use Rattle.nr_commands.specs.declared.fault.RunFault.{RunFault}
 use Rattle.nr_commands.specs.declared.fault.RunFault.TheVariants.{Blocks, Desk}
 use Rattle.nr_blockdesk.specs.declared.fault.DeskFault.TheVariants.{Pick, Seg}

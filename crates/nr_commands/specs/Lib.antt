@@ -1,7 +1,9 @@
+pub mod CheckLines
 pub mod CheckText
 pub mod Command
+pub mod CutLines
 pub mod CutText
 pub mod Faults
-pub mod Lines
+pub mod Hex
 pub mod Tape
 pub mod Written

@@ -1,18 +1,17 @@
 //! The command `check`.
 
-ghost use Rattle.std.specs.Prelude.{◌≡◌, ◌≢◌, ℕ, ◌^◌, ◌<◌, IfOk, IfSome, IsErr};
-ghost use Rattle.std.specs.String.{string_bytes};
+ghost use Rattle.std.specs.Prelude.{◌≡◌, ◌≢◌, ℕ, ◌^◌, ◌<◌, IfSome, IsErr};
 ghost use Rattle.nr_commands.specs.Command.{Delivers, Writes};
 ghost use Rattle.nr_files.specs.Reading.{FailsAs};
-ghost use Rattle.nr_commands.specs.CheckText.{check_said, graph_line, graph_lines, table_lines};
+ghost use Rattle.nr_commands.specs.CheckText.{check_said, graph_lines, table_lines};
 
-use crate::delivering::deliver;
+use crate::check_lines::graph_line;
+use crate::delivering::put_line;
 use crate::fault::RunFault;
 use crate::sink::Sink;
 use nr_graphpick::Graph;
 use nr_shifttable::{Source, Table, TableFault};
-use std::alloc::{AllocError, Global};
-use std::fmt::Write;
+use std::alloc::Global;
 
 /// Judges a shift table file (TS 38.212, 5.3.2), and writes a line for each base graph that the table has,
 /// graph 1 first: how many entries it has.
@@ -64,17 +63,5 @@ fn write_graph<O: Sink>(
     if !table.has(graph) {
         return Ok(());
     }
-    let line = graph_line(alloc, table, graph)?;
-    deliver(out, line.as_bytes())
-}
-
-// The line of a base graph that the table has.
-#[tactic(auto, unfolding(crate::specs::CheckText::graph_line))]
-fn graph_line(alloc: Global, table: &Table, graph: Graph) -> Result<String, AllocError>
-    ensures { IfOk result (λ line. string_bytes line ≡ graph_line table.now graph) }
-{
-    let mut line = String::new(alloc);
-    let count = table.entries(graph);
-    writeln!(line, "graph {graph} entries {count}")?;
-    Ok(line)
+    put_line(out, graph_line(alloc, table, graph))
 }

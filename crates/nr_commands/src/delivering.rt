@@ -1,23 +1,27 @@
-//! A command's text on its way into a Sink.
+//! A line of a command's text on its way into a Sink.
 
-ghost use Rattle.std.specs.Prelude.{ℕ, ◌^◌, ◌<◌};
+ghost use Rattle.std.specs.Prelude.{◌≡◌, ℕ, ◌^◌, ◌<◌, IfOk, List, length};
 ghost use Rattle.nr_files.specs.Reading.{FailsAs};
 ghost use Rattle.nr_commands.specs.Command.{Writes};
 
 use crate::fault::RunFault;
 use crate::sink::{Sink, put_all};
 use nr_shifttable::Broken;
+use std::alloc::AllocError;
 
-/// Writes a part of a command's text.
+/// Writes a line of a command's text, where memory was not refused for it: whatever the line is to be.
 ///
 /// # Errors
-/// `Write` where a put failed. Then a first part of the text is written.
-pub fn deliver<O: Sink>(out: &mut O, text: &[u8]) -> Result<(), RunFault>
+/// `Memory` where the line was not made, and then nothing of it is written. `Write` where a put failed, and then a first
+/// part of it is written.
+pub fn put_line<O: Sink>(out: &mut O, made: Result<Vec<u8>, AllocError>) -> Result<(), RunFault>
     requires { O.failures out.old < 2 ^ 32 }
-    ensures text { Writes (O.written out.old) (O.written out.new) result text.now }
+    ensures text { (line : List ℕ) → 0 < length line → IfOk made (λ octets. octets.items ≡ line)
+        → Writes (O.written out.old) (O.written out.new) result line }
     ensures put { FailsAs RunFault.Write result (O.failures out.old) (O.failures out.new) }
 {
-    match put_all(out, text) {
+    let line = made?;
+    match put_all(out, &line) {
         Ok(()) => Ok(()),
         Err(Broken) => Err(RunFault::Write),
     }

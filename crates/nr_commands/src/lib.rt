@@ -5,19 +5,23 @@
 //! Stands on nr_files for what is read, nr_blockdesk and the layers below it for the standard, `thiserror` for faults.
 #![tactic(auto)]
 
+mod check_lines;
 mod checking;
+mod cut_lines;
 mod cutting;
 mod delivering;
 mod fault;
+mod hex;
 mod sink;
 mod text;
 
 pub use checking::check;
 pub use cutting::cut;
-pub use delivering::deliver;
+pub use delivering::put_line;
 pub use fault::RunFault;
+pub use hex::hex_line;
 pub use sink::{Sink, Tape, put_all};
-pub use text::{hex_line, judge, write_blocks};
+pub use text::{judge, write_blocks};
 
 #[cfg(test)]
 mod refused_tests;

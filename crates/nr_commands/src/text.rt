@@ -1,174 +1,26 @@
 //! The text of `cut`: for each transport block its plan, its bits with the CRC, and the bits of its code blocks.
 //! Blocks are judged first, and then each line is written as soon as it is made.
 
-ghost use Rattle.std.specs.Prelude.{◌≡◌, ℕ, ◌≤◌, ◌<◌, ◌+◌, ◌*◌, ◌^◌, ◌++◌, Bool, List, [], ◌∷◌, IfOk, IfErr, OnOk, IsOk, IsOkAnd, Err, All, if◌then◌else◌, flat_map, map, length, string_bytes};
-ghost use Rattle.std.specs.Char.{digit_char};
-ghost use Rattle.nr_crcattach.specs.Attachment.{attached};
+ghost use Rattle.std.specs.Prelude.{◌≡◌, ℕ, ◌≤◌, ◌<◌, ◌+◌, ◌^◌, IfOk, IfErr, IsOk, IsOkAnd, Err, All, map, length};
 ghost use Rattle.nr_graphpick.specs.Graph.{picked};
-ghost use Rattle.nr_segment.specs.CodeBlock.{numbers, code_bits};
+ghost use Rattle.nr_segment.specs.CodeBlock.{numbers};
 ghost use Rattle.nr_segment.specs.Plan.{plan_of};
 ghost use Rattle.nr_graphpick.specs.Refusal.{with_fault};
 ghost use Rattle.nr_files.specs.Blocks.{IsBlockLength};
 ghost use Rattle.nr_files.specs.Reading.{FailsAs};
 ghost use Rattle.nr_commands.specs.Command.{IsOfBlock, Judges, Writes};
-ghost use Rattle.nr_commands.specs.Lines.{hex, two_digits, block_line, attached_line, code_line};
 ghost use Rattle.nr_commands.specs.CutText.{planned_lines, block_lines, lines_from};
 
-use crate::delivering::deliver;
+use crate::cut_lines::{attached_line, block_line, code_line};
+use crate::delivering::put_line;
 use crate::fault::RunFault;
 use crate::sink::Sink;
 use nr_bitvec::Bits;
 use nr_blockdesk::DeskFault;
 use nr_crcattach::{attach, attached_len, attachment_lengthens};
 use nr_graphpick::{Graph, pick};
-use nr_segment::{Plan, cut, plan};
-use std::alloc::{AllocError, Global};
-use std::fmt::Write;
-
-// The character of a hexadecimal digit.
-fn hex_digit(value: u8) -> u8
-    requires { value < 16 }
-    ensures { result ≡ digit_char value }
-{
-    if value < 10 {
-        b'0' + value
-    } else {
-        b'a' - 10 + value
-    }
-}
-
-// Writes the two digits of each octet. A plain loop from slice to slice, with no jump within, which the compiler turns
-// into one that takes many octets at a time.
-fn write_digits(octets: &[u8], digits: &mut [u8])
-    requires { length digits.old ≡ 2 * length octets.now }
-    ensures { digits.new ≡ flat_map two_digits octets.now }
-{
-    for (i, octet) in octets.iter().enumerate() {
-        digits[2 * i] = hex_digit(*octet / 16);
-        digits[2 * i + 1] = hex_digit(*octet % 16);
-    }
-}
-
-// Puts the two digits of each octet at the end of a line, with room for a line feed behind them.
-fn push_digits(line: &mut Vec<u8>, octets: &[u8]) -> Result<(), AllocError>
-    ensures { OnOk result (line.new.items ≡ line.old.items ++ flat_map two_digits octets.now) }
-{
-    let start = line.len();
-    line.reserve(2 * octets.len() + 1)?;
-    line.resize(start + 2 * octets.len(), 0)?;
-    write_digits(octets, &mut line[start..]);
-    Ok(())
-}
-
-// A line: its head, then bits in hexadecimal digits, the first bit most significant, the last digit filled with
-// zero bits. The room for the digits is asked for once.
-pub fn hex_line(head: String, bits: &Bits) -> Result<Vec<u8>, AllocError>
-    ensures { IfOk result
-        (λ line. line.items ≡ string_bytes head ++ hex bits.now.items ++ 10 ∷ []) }
-{
-    let mut line = head.into_bytes();
-    let end = line.len() + bits.len().div_ceil(4);
-    push_digits(&mut line, &bits.to_bytes()?)?;
-    line.truncate(end);
-    line.push(b'\n')?;
-    Ok(line)
-}
-
-// The line of block `number`, which has `a` bits, and of its plan.
-fn block_line(alloc: Global, number: u32, a: u32, plan: &Plan) -> Result<String, AllocError>
-    ensures { IfOk result (λ line. string_bytes line
-        ≡ block_line number a plan.now.b plan.now.graph (numbers plan.now)) }
-{
-    let mut line = String::new(alloc);
-    write!(
-        line,
-        "block {number} a {a} b {} graph {}",
-        plan.b, plan.graph
-    )?;
-    write!(
-        line,
-        " c {} l {} kdash {} kb {}",
-        plan.c, plan.l, plan.kdash, plan.kb
-    )?;
-    writeln!(
-        line,
-        " z {} set {} k {} n {}",
-        plan.z, plan.set, plan.k, plan.n
-    )?;
-    Ok(line)
-}
-
-// The line of the bits of block `number` with the CRC.
-fn attached_line(alloc: Global, number: u32, bits: &Bits) -> Result<Vec<u8>, AllocError>
-    ensures { IfOk result (λ line. line.items ≡ attached_line number bits.now.items) }
-{
-    let mut head = String::new(alloc);
-    write!(head, "attached {number} ")?;
-    hex_line(head, bits)
-}
-
-// The line of the bits of code block `r` of block `number`.
-fn code_line(alloc: Global, number: u32, r: u32, bits: &Bits) -> Result<Vec<u8>, AllocError>
-    ensures { IfOk result (λ line. line.items ≡ code_line number r bits.now.items) }
-{
-    let mut head = String::new(alloc);
-    write!(head, "code {number} {r} ")?;
-    hex_line(head, bits)
-}
-
-// Writes the line of block `number`, which has `a` bits, and of its plan.
-fn write_plan<O: Sink>(
-    alloc: Global,
-    number: u32,
-    a: u32,
-    plan: &Plan,
-    out: &mut O,
-) -> Result<(), RunFault>
-    requires { O.failures out.old < 2 ^ 32 }
-    ensures text { Writes (O.written out.old) (O.written out.new) result
-        (block_line number a plan.now.b plan.now.graph (numbers plan.now)) }
-    ensures put { FailsAs RunFault.Write result (O.failures out.old) (O.failures out.new) }
-{
-    let line = block_line(alloc, number, a, plan)?;
-    deliver(out, line.as_bytes())
-}
-
-// Writes the line of the bits of block `number` with the CRC.
-fn write_attached<O: Sink>(
-    alloc: Global,
-    number: u32,
-    bits: &Bits,
-    out: &mut O,
-) -> Result<(), RunFault>
-    requires { O.failures out.old < 2 ^ 32 }
-    ensures text { Writes (O.written out.old) (O.written out.new) result
-        (attached_line number bits.now.items) }
-    ensures put { FailsAs RunFault.Write result (O.failures out.old) (O.failures out.new) }
-{
-    let line = attached_line(alloc, number, bits)?;
-    deliver(out, &line)
-}
-
-// Writes the line of code block `r` of block `number`, cut from its bits with the CRC.
-fn write_code<O: Sink>(
-    alloc: Global,
-    number: u32,
-    r: u32,
-    plan: &Plan,
-    bits: &Bits,
-    out: &mut O,
-) -> Result<(), RunFault>
-    requires puts { O.failures out.old < 2 ^ 32 }
-    requires planned { length bits.now.items ≡ plan.now.b }
-    requires there { r < plan.now.c }
-    ensures text { Writes (O.written out.old) (O.written out.new) result
-        (code_line number r (code_bits (numbers plan.now) bits.now.items r)) }
-    ensures put { FailsAs RunFault.Write result (O.failures out.old) (O.failures out.new) }
-{
-    let code = cut(alloc, plan, bits, r)?;
-    let line = code_line(alloc, number, r, &code)?;
-    deliver(out, &line)
-}
+use nr_segment::{Plan, plan};
+use std::alloc::Global;
 
 // Writes the lines of block `number`, which has `a` bits, from its plan and its bits with the CRC.
 fn write_planned<O: Sink>(
@@ -185,10 +37,10 @@ fn write_planned<O: Sink>(
         (planned_lines number a plan.now.graph (numbers plan.now) bits.now.items) }
     ensures put { FailsAs RunFault.Write result (O.failures out.old) (O.failures out.new) }
 {
-    write_plan(alloc, number, a, plan, out)?;
-    write_attached(alloc, number, bits, out)?;
+    put_line(out, block_line(alloc, number, a, plan))?;
+    put_line(out, attached_line(alloc, number, bits))?;
     for r in 0..plan.c {
-        write_code(alloc, number, r, plan, bits, out)?;
+        put_line(out, code_line(alloc, number, r, plan, bits))?;
     }
     Ok(())
 }
@@ -293,34 +145,4 @@ pub fn write_blocks<O: Sink>(
         write_block(alloc, rate2048, index as u32 + 1, block, out)?;
     }
     Ok(())
-}
-
-#[cfg(test)]
-mod tests {
-    use super::*;
-    use std::test::Fail;
-
-    #[test]
-    fn fills_the_last_digit(rt: HostRuntime) -> Result<(), Fail> {
-        let octets = Bits::from_bytes(rt.alloc(), &[0xac, 0xff])?;
-        assert_eq!(rt; octets.len(), 16);
-        for (len, line) in [
-            (0, "\n"),
-            (1, "8\n"),
-            (4, "a\n"),
-            (5, "a8\n"),
-            (6, "ac\n"),
-            (8, "ac\n"),
-            (9, "ac8\n"),
-            (12, "acf\n"),
-            (13, "acf8\n"),
-            (16, "acff\n"),
-        ] {
-            assert!(rt; len <= octets.len());
-            let bits = octets.copy_range(0, len)?;
-            let written = hex_line(String::new(rt.alloc()), &bits)?;
-            assert_eq!(rt; written.as_slice(), line.as_bytes(), "at {len}");
-        }
-        Ok(())
-    }
 }

@@ -66,27 +66,6 @@ lines-there sound senders p number round sender is within at linked =
     (audit_block-some sound (process_words p) number sender.link (heard_record sender.link (received sender round)) linked)
 
 -- nothing is said of a transmission
-unsaid : (o : Option Sending) (round : List Transmission) (x : Transmission) → said_if audit_words o round x ≡ []
+pub unsaid : (o : Option Sending) (round : List Transmission) (x : Transmission) → said_if audit_words o round x ≡ []
 unsaid None round x = refl
 unsaid (Some sender) round x = refl
-
--- so the lines of a transmission are those of the round that it ends
-turn-by : (senders : List Sending) (before : List Transmission) (x : Transmission) (b : Bool) → x.fresh ≡ b → turn_lines audit_words senders before x ≡ cond b (round_lines audit_words senders x.process (round_of x.process before)) []
-turn-by senders before x b is =
-    ap (λ ys. cond x.fresh (round_lines audit_words senders x.process (round_of x.process before)) [] ++ ys) (unsaid (sender_of senders x) (continued before x) x)
-    ∙ append-nil (cond x.fresh (round_lines audit_words senders x.process (round_of x.process before)) [])
-    ∙ ap (λ t. cond t (round_lines audit_words senders x.process (round_of x.process before)) []) is
-
-pub turn-fresh : (senders : List Sending) (before : List Transmission) (x : Transmission) → x.fresh ≡ true → turn_lines audit_words senders before x ≡ round_lines audit_words senders x.process (round_of x.process before)
-turn-fresh senders before x is = turn-by senders before x true is
-
-pub turn-stale : (senders : List Sending) (before : List Transmission) (x : Transmission) → x.fresh ≡ false → turn_lines audit_words senders before x ≡ []
-turn-stale senders before x is = turn-by senders before x false is
-
--- the lines of the rounds that no transmission ends, process after process
-joined-map : (f : ℕ → List ℕ) (ps : List ℕ) → pieces_joined (map (λ p. (p, f p)) ps) ≡ flat_map f ps
-joined-map f [] = refl
-joined-map f (p ∷ ps) = ap (λ lines. f p ++ lines) (joined-map f ps)
-
-pub last-lines : (senders : List Sending) (schedule : List Transmission) → pieces_joined (last_rounds audit_words senders schedule) ≡ flat_map (λ p. round_lines audit_words senders p (round_of p schedule)) (range_with_len 0 16)
-last-lines senders schedule = joined-map (λ p. round_lines audit_words senders p (round_of p schedule)) (range_with_len 0 16)

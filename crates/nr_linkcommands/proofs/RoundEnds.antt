@@ -12,16 +12,17 @@ use Rattle.std.proofs.lemmas.Option.{slice_get-get_or}
 use Rattle.nr_blockdesk.specs.Explains.{Reception}
 use Rattle.nr_blockdesk.specs.Link.{Link}
 use Rattle.nr_blockdesk.specs.Sent.{Sending}
-use Rattle.nr_linkcommands.specs.Ends.{AreOfRounds, HasReceived, HoldRounds, HoldsEnd, HoldsIf, HoldsRound, IsOfRound, IsOver}
+use Rattle.nr_linkcommands.specs.Ends.{AreOfRounds, HasReceived, HoldRounds, HoldsEnd, HoldsIf, HoldsRound, IsOfRound, IsOver, KeepsRounds}
 use Rattle.nr_linkcommands.specs.RunText.{counted, counted_if, lines_of, received, received_of, round_counted, run_words}
 use Rattle.nr_linkcommands.specs.RunLines.{outcome_line, process_words}
-use Rattle.nr_linkcommands.specs.RoundTexts.{ended_if, pieces_joined, round_lines, said_if, sender_of, turns}
+use Rattle.nr_linkcommands.specs.RoundTexts.{Words, ended_if, pieces_joined, round_lines, said_if, sender_of, turns}
 use Rattle.nr_files.specs.Rounds.{continued, of_process, round_of, since_fresh}
 use Rattle.nr_files.specs.Schedule.{HasBlock}
 use Rattle.nr_linkcommands.specs.declared.received.End.{End}
 use Rattle.nr_linkcommands.specs.declared.received.Totals.{Totals}
 use Rattle.nr_files.specs.declared.schedule.Transmission.{Transmission}
-use Rattle.nr_linkcommands.proofs.RoundTurns.{continued-turn, other-turn, received-more, turns-turn}
+use Rattle.nr_linkcommands.proofs.LastRounds.{holds-round}
+use Rattle.nr_linkcommands.proofs.RoundTurns.{continued-more, other-more, received-more, turns-turn}
 use Rattle.nr_linkcommands.proofs.RunLines.{has_received, received-few}
 use Rattle.nr_linkcommands.proofs.RunOutcomes.{outcome_line-some}
 
@@ -117,7 +118,7 @@ pub round_counted-none : (t : Totals) (senders : List Sending) (round : List Tra
 round_counted-none t senders round is = ap (round_counted t senders) (round-none round is)
 
 -- a transmission is of the block of the round that it goes on with
-of-continued : (before : List Transmission) (x : Transmission) → (x.fresh ≡ false → IsOfRound (round_of x.process before) x) → IsOfRound (continued before x) x
+pub of-continued : (before : List Transmission) (x : Transmission) → (x.fresh ≡ false → IsOfRound (round_of x.process before) x) → IsOfRound (continued before x) x
 of-continued before x goes = go x.fresh refl
   where
     go : (b : Bool) → x.fresh ≡ b → IsOfRound (cond b [] (round_of x.process before)) x
@@ -125,20 +126,29 @@ of-continued before x goes = go x.fresh refl
     go false is = goes is
 
 -- what is received of the round that a transmission goes on with, by the sender of its block
-holds-by : (senders : List Sending) (round : List Transmission) (x : Transmission) (sender : Sending) (end : Option End) → sender_of senders x ≡ Some sender → IsOfRound round x → HoldsRound senders round end → HoldsEnd sender.link (received sender round) end
+pub holds-by : (senders : List Sending) (round : List Transmission) (x : Transmission) (sender : Sending) (end : Option End) → sender_of senders x ≡ Some sender → IsOfRound round x → HoldsRound senders round end → HoldsEnd sender.link (received sender round) end
 holds-by senders [] x sender end there of held = subst (HoldsEnd sender.link []) (sym held) refl
 holds-by senders (y ∷ more) x sender end there of held =
     subst (λ (s : Option Sending). HoldsIf s (y ∷ more) end) (ap (λ n. slice_get senders (n - 1)) of ∙ there) held
 
-pub holds-continued : (senders : List Sending) (xs : List Transmission) (i : ℕ) (x : Transmission) (sender : Sending) (end : Option End) → i < length xs → x ≡ get_or xs i x → AreOfRounds xs → sender_of senders x ≡ Some sender → HoldsRound senders (continued (take i xs) x) end → HoldsEnd sender.link (received sender (continued (take i xs) x)) end
-holds-continued senders xs i x sender end within is of there held =
-    holds-by senders (continued (take i xs) x) x sender end there (of-continued (take i xs) x (of i x within is)) held
+-- where a fresh one forgets what was received
+pub begun-holds : (senders : List Sending) (before : List Transmission) (x : Transmission) (old new : Option End) → new ≡ cond x.fresh None old → HoldsRound senders (round_of x.process before) old → HoldsRound senders (continued before x) new
+begun-holds senders before x old new is held = go x.fresh is
+  where
+    go : (b : Bool) → new ≡ cond b None old → HoldsRound senders (cond b [] (round_of x.process before)) new
+    go true none = none
+    go false same = subst (HoldsRound senders (round_of x.process before)) (sym same) held
+
+pub made-held : (senders : List Sending) (before : List Transmission) (ended : List (List Transmission)) (x : Transmission) (sender : Sending) (ends : List (Option End)) (totals : Totals) (old new : Option End)
+    → KeepsRounds senders before ended ends totals → IsOfRound (continued before x) x → x.process < length ends → old ≡ get_or ends x.process old → new ≡ cond x.fresh None old → sender_of senders x ≡ Some sender → HoldsEnd sender.link (received sender (continued before x)) new
+made-held senders before ended x sender ends totals old new keeps of inside at is there =
+    holds-by senders (continued before x) x sender new there of (begun-holds senders before x old new is (holds-round senders before ends x.process old inside at keeps.held))
 
 -- it is no more than the transmissions before
-pub continued-room : (link : Link) (sender : Sending) (xs : List Transmission) (i n : ℕ) (x : Transmission) (end : Option End) → i ≤ length xs → i ≤ n → HoldsEnd link (received sender (continued (take i xs) x)) end → HasReceived n end
-continued-room link sender xs i n x end within few held =
-    has_received link (received sender (continued (take i xs) x)) n end held
-    (omega (arith, few, received-few sender (continued (take i xs) x), continued-few (take i xs) x, length-take-le i xs within))
+pub continued-room : (sender : Sending) (before : List Transmission) (n : ℕ) (x : Transmission) (end : Option End) → length before ≤ n → HoldsEnd sender.link (received sender (continued before x)) end → HasReceived n end
+continued-room sender before n x end few held =
+    has_received sender.link (received sender (continued before x)) n end held
+    (omega (arith, few, received-few sender (continued before x), continued-few before x))
 
 -- and its receiver has the sender's link
 pub held-over : (link : Link) (list : List Reception) (end : Option End) → HoldsEnd link list end → IsOver link end
@@ -159,33 +169,30 @@ pub rounds-first : (senders : List Sending) (n : ℕ) → HoldRounds senders [] 
 unfolding since_fresh
 rounds-first senders n = λ p within. get_or-replicate n p None None (omega (arith, within, length-replicate {A = Option End} n None))
 
--- after the transmission at index i
-pub rounds-turn : (senders : List Sending) (xs : List Transmission) (i : ℕ) (x : Transmission) (sender : Sending) (ends : List (Option End)) (after : Option End) → i < length xs → x ≡ get_or xs i x → AreOfRounds xs → sender_of senders x ≡ Some sender → x.process < length ends → HoldRounds senders (take i xs) ends
-    → HoldsEnd sender.link (received sender (continued (take i xs) x) ++ received_of sender x) after → HoldRounds senders (take (i + 1) xs) (set ends x.process after)
-rounds-turn senders xs i x sender ends after within is of there inside held holds = λ p low.
+-- after a transmission more
+pub rounds-more : (senders : List Sending) (before : List Transmission) (x : Transmission) (sender : Sending) (ends : List (Option End)) (after : Option End) → IsOfRound (continued before x) x → sender_of senders x ≡ Some sender → x.process < length ends → HoldRounds senders before ends
+    → HoldsEnd sender.link (received sender (continued before x) ++ received_of sender x) after → HoldRounds senders (before ++ x ∷ []) (set ends x.process after)
+rounds-more senders before x sender ends after of there inside held holds = λ p low.
     ⊎_elim (same p) (other p low) (cases_eq p x.process)
   where
-    more : HoldsRound senders (continued (take i xs) x ++ x ∷ []) after
-    more = holds-more senders (continued (take i xs) x) x sender after there (of-continued (take i xs) x (of i x within is)) holds
+    more : HoldsRound senders (continued before x ++ x ∷ []) after
+    more = holds-more senders (continued before x) x sender after there of holds
 
-    same : (p : ℕ) → p ≡ x.process → HoldsRound senders (round_of p (take (i + 1) xs)) (get_or (set ends x.process after) p None)
+    same : (p : ℕ) → p ≡ x.process → HoldsRound senders (round_of p (before ++ x ∷ [])) (get_or (set ends x.process after) p None)
     same p equal =
-        subst (λ round. HoldsRound senders round (get_or (set ends x.process after) p None)) (sym (ap (λ q. round_of q (take (i + 1) xs)) equal ∙ continued-turn xs i x within is))
-        (subst (HoldsRound senders (continued (take i xs) x ++ x ∷ [])) (sym (get_or-set_at ends x.process p after None equal inside)) more)
+        subst (λ round. HoldsRound senders round (get_or (set ends x.process after) p None)) (sym (ap (λ q. round_of q (before ++ x ∷ [])) equal ∙ continued-more before x))
+        (subst (HoldsRound senders (continued before x ++ x ∷ [])) (sym (get_or-set_at ends x.process p after None equal inside)) more)
 
-    other : (p : ℕ) → p < length (set ends x.process after) → (p ≡ x.process → ⊥) → HoldsRound senders (round_of p (take (i + 1) xs)) (get_or (set ends x.process after) p None)
+    other : (p : ℕ) → p < length (set ends x.process after) → (p ≡ x.process → ⊥) → HoldsRound senders (round_of p (before ++ x ∷ [])) (get_or (set ends x.process after) p None)
     other p low differ =
         let apart : (x.process == p) ≡ false = grind (arith, nat_tests) in
         let there_too : p < length ends = omega (arith, low, length-set ends x.process after) in
-        subst (λ round. HoldsRound senders round (get_or (set ends x.process after) p None)) (sym (other-turn p xs i x within is apart))
-        (subst (HoldsRound senders (round_of p (take i xs))) (sym (get_or-set_other ends x.process p after None differ)) (held p there_too))
+        subst (λ round. HoldsRound senders round (get_or (set ends x.process after) p None)) (sym (other-more p before x apart))
+        (subst (HoldsRound senders (round_of p before)) (sym (get_or-set_other ends x.process p after None differ)) (held p there_too))
 
 -- the lines of the transmission at index i: those of the round that it ends, its own, and those behind them
-pub turn-parts : (senders : List Sending) (xs : List Transmission) (i : ℕ) (x : Transmission) (sender : Sending) → i < length xs → x ≡ get_or xs i x → sender_of senders x ≡ Some sender
-    → pieces_joined (turns run_words senders (take i xs) (drop i xs)) ≡ cond x.fresh (round_lines run_words senders x.process (round_of x.process (take i xs))) [] ++ (lines_of sender (received sender (continued (take i xs) x)) x ++ pieces_joined (turns run_words senders (take (i + 1) xs) (drop (i + 1) xs)))
-turn-parts senders xs i x sender within is there =
-    let first : List ℕ = cond x.fresh (round_lines run_words senders x.process (round_of x.process (take i xs))) [] in
-    let rest : List ℕ = pieces_joined (turns run_words senders (take (i + 1) xs) (drop (i + 1) xs)) in
-    turns-turn run_words senders xs i x within is
-    ∙ append_assoc first (said_if run_words (sender_of senders x) (continued (take i xs) x) x) rest
-    ∙ ap (λ s. first ++ (said_if run_words s (continued (take i xs) x) x ++ rest)) there
+pub turn-parts : (words : Words) (senders : List Sending) (xs : List Transmission) (i : ℕ) (x : Transmission) → i < length xs → x ≡ get_or xs i x
+    → pieces_joined (turns words senders (take i xs) (drop i xs)) ≡ cond x.fresh (round_lines words senders x.process (round_of x.process (take i xs))) [] ++ (said_if words (sender_of senders x) (continued (take i xs) x) x ++ pieces_joined (turns words senders (take (i + 1) xs) (drop (i + 1) xs)))
+turn-parts words senders xs i x within is =
+    turns-turn words senders xs i x within is
+    ∙ append_assoc (cond x.fresh (round_lines words senders x.process (round_of x.process (take i xs))) []) (said_if words (sender_of senders x) (continued (take i xs) x) x) (pieces_joined (turns words senders (take (i + 1) xs) (drop (i + 1) xs)))

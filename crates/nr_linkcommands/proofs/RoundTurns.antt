@@ -1,5 +1,5 @@
 -- The text over the rounds of processes, one transmission after the other.
-use Rattle.std.proofs.Common.{◌≡◌, ℕ, ◌+◌, ◌<◌, Bool, true, false, cond, List, [], ◌∷◌, ◌++◌, length, take, drop, get_or, ap, sym, refl, ◌∙◌, arith, append_assoc}
+use Rattle.std.proofs.Common.{◌≡◌, ℕ, ◌+◌, ◌<◌, ◌≤◌, Bool, true, false, cond, List, [], ◌∷◌, ◌++◌, length, take, drop, get_or, ap, sym, refl, ◌∙◌, arith, append_assoc, length-append}
 use Rattle.std.specs.Prelude.{◌==◌}
 use Rattle.std.proofs.lemmas.Bool.Decides.{nat_tests}
 use Rattle.std.proofs.lemmas.Grind.{flat_map-append}
@@ -13,7 +13,7 @@ use Rattle.nr_files.specs.declared.schedule.Transmission.{Transmission}
 use Rattle.nr_files.proofs.RoundFacts.{round-more}
 
 -- the transmissions before the next one
-taken-more : (xs : List Transmission) (i : ℕ) (x : Transmission) → i < length xs → x ≡ get_or xs i x → take (i + 1) xs ≡ take i xs ++ x ∷ []
+pub taken-more : (xs : List Transmission) (i : ℕ) (x : Transmission) → i < length xs → x ≡ get_or xs i x → take (i + 1) xs ≡ take i xs ++ x ∷ []
 taken-more xs i x within is = take_more xs i x within ∙ ap (λ y. take i xs ++ y ∷ []) (sym is)
 
 -- the lines of the transmission at index i, and those behind them
@@ -29,7 +29,7 @@ unfolding turns
 turns-end words senders before xs is = ap (λ ys. pieces_joined (turns words senders before ys)) is
 
 -- the round of a transmission's process once it is made
-continued-more : (before : List Transmission) (x : Transmission) → round_of x.process (before ++ x ∷ []) ≡ continued before x ++ x ∷ []
+pub continued-more : (before : List Transmission) (x : Transmission) → round_of x.process (before ++ x ∷ []) ≡ continued before x ++ x ∷ []
 continued-more before x =
     let own_process : (x.process == x.process) ≡ true = grind (arith, nat_tests) in
     round-more x.process before x
@@ -40,15 +40,11 @@ continued-more before x =
     go true = refl
     go false = refl
 
-pub continued-turn : (xs : List Transmission) (i : ℕ) (x : Transmission) → i < length xs → x ≡ get_or xs i x → round_of x.process (take (i + 1) xs) ≡ continued (take i xs) x ++ x ∷ []
-continued-turn xs i x within is = ap (round_of x.process) (taken-more xs i x within is) ∙ continued-more (take i xs) x
-
 -- the round of another process
-pub other-turn : (p : ℕ) (xs : List Transmission) (i : ℕ) (x : Transmission) → i < length xs → x ≡ get_or xs i x → (x.process == p) ≡ false → round_of p (take (i + 1) xs) ≡ round_of p (take i xs)
-other-turn p xs i x within is other =
-    ap (round_of p) (taken-more xs i x within is)
-    ∙ round-more p (take i xs) x
-    ∙ ap (λ b. cond b (cond x.fresh (x ∷ []) (round_of p (take i xs) ++ x ∷ [])) (round_of p (take i xs))) other
+pub other-more : (p : ℕ) (before : List Transmission) (x : Transmission) → (x.process == p) ≡ false → round_of p (before ++ x ∷ []) ≡ round_of p before
+other-more p before x other =
+    round-more p before x
+    ∙ ap (λ b. cond b (cond x.fresh (x ∷ []) (round_of p before ++ x ∷ [])) (round_of p before)) other
 
 -- what is received of a round with a transmission more
 pub received-more : (sender : Sending) (round : List Transmission) (x : Transmission) → received sender (round ++ x ∷ []) ≡ received sender round ++ received_of sender x
@@ -56,29 +52,37 @@ received-more sender round x =
     flat_map-append (received_of sender) round (x ∷ []) ∙ ap (λ ys. received sender round ++ ys) (append-nil (received_of sender x))
 
 -- the rounds that end
-ended-more : (before xs : List Transmission) (x : Transmission) → ended_rounds before (xs ++ x ∷ []) ≡ ended_rounds before xs ++ ended_by (before ++ xs) x
+ended-behind : (before xs : List Transmission) (x : Transmission) → ended_rounds before (xs ++ x ∷ []) ≡ ended_rounds before xs ++ ended_by (before ++ xs) x
 unfolding ended_rounds
-ended-more before [] x = append-nil (ended_by before x) ∙ ap (λ b. ended_by b x) (sym (append-nil before))
-ended-more before (y ∷ ys) x =
+ended-behind before [] x = append-nil (ended_by before x) ∙ ap (λ b. ended_by b x) (sym (append-nil before))
+ended-behind before (y ∷ ys) x =
     ap (λ rounds. ended_by before y ++ rounds)
-    (ended-more (before ++ y ∷ []) ys x ∙ ap (λ b. ended_rounds (before ++ y ∷ []) ys ++ ended_by b x) (append_assoc before (y ∷ []) ys))
+    (ended-behind (before ++ y ∷ []) ys x ∙ ap (λ b. ended_rounds (before ++ y ∷ []) ys ++ ended_by b x) (append_assoc before (y ∷ []) ys))
     ∙ sym (append_assoc (ended_by before y) (ended_rounds (before ++ y ∷ []) ys) (ended_by (before ++ y ∷ ys) x))
 
+pub ended-more : (before : List Transmission) (x : Transmission) → ended_rounds [] (before ++ x ∷ []) ≡ ended_rounds [] before ++ ended_by before x
+ended-more before x = ended-behind [] before x
+
+-- they are no more than the transmissions
+ended_by-few : (before : List Transmission) (x : Transmission) → length (ended_by before x) ≤ 1
+ended_by-few before x = go x.fresh
+  where
+    go : (b : Bool) → length (cond b (round_of x.process before ∷ []) []) ≤ 1
+    go true = omega arith
+    go false = omega arith
+
+pub ended-few : (before xs : List Transmission) → length (ended_rounds before xs) ≤ length xs
+unfolding ended_rounds
+ended-few before [] = omega arith
+ended-few before (x ∷ xs) =
+    omega (arith, ended_by-few before x, ended-few (before ++ x ∷ []) xs, length-append (ended_by before x) (ended_rounds (before ++ x ∷ []) xs))
+
 -- their totals
-pub counted-append : (t : Totals) (senders : List Sending) (xs ys : List (List Transmission)) → rounds_counted t senders (xs ++ ys) ≡ rounds_counted (rounds_counted t senders xs) senders ys
+counted-append : (t : Totals) (senders : List Sending) (xs ys : List (List Transmission)) → rounds_counted t senders (xs ++ ys) ≡ rounds_counted (rounds_counted t senders xs) senders ys
 unfolding rounds_counted
 counted-append t senders [] ys = refl
 counted-append t senders (x ∷ xs) ys = counted-append (round_counted t senders x) senders xs ys
 
-pub counted-turn : (t : Totals) (senders : List Sending) (xs : List Transmission) (i : ℕ) (x : Transmission) → i < length xs → x ≡ get_or xs i x
-    → rounds_counted t senders (ended_rounds [] (take (i + 1) xs)) ≡ cond x.fresh (round_counted (rounds_counted t senders (ended_rounds [] (take i xs))) senders (round_of x.process (take i xs))) (rounds_counted t senders (ended_rounds [] (take i xs)))
+pub counted-more : (t : Totals) (senders : List Sending) (ended : List (List Transmission)) (round : List Transmission) → rounds_counted t senders (ended ++ round ∷ []) ≡ round_counted (rounds_counted t senders ended) senders round
 unfolding rounds_counted
-counted-turn t senders xs i x within is =
-    ap (λ ys. rounds_counted t senders (ended_rounds [] ys)) (taken-more xs i x within is)
-    ∙ ap (rounds_counted t senders) (ended-more [] (take i xs) x)
-    ∙ counted-append t senders (ended_rounds [] (take i xs)) (ended_by (take i xs) x)
-    ∙ go (rounds_counted t senders (ended_rounds [] (take i xs))) x.fresh
-  where
-    go : (u : Totals) (b : Bool) → rounds_counted u senders (cond b (round_of x.process (take i xs) ∷ []) []) ≡ cond b (round_counted u senders (round_of x.process (take i xs))) u
-    go u true = refl
-    go u false = refl
+counted-more t senders ended round = counted-append t senders ended (round ∷ [])

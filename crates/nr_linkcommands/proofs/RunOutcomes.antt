@@ -17,7 +17,7 @@ use Rattle.nr_blockdesk.specs.Outcome.{Verdict, all_fixed, blocks_of, contradict
 use Rattle.nr_blockdesk.specs.ReceiverLaws.{NothingIsOpen}
 use Rattle.nr_blockdesk.specs.Sent.{Sending}
 use Rattle.nr_linkcommands.specs.Ends.{IsWithin}
-use Rattle.nr_commands.specs.Lines.{hex}
+use Rattle.nr_commands.specs.Hex.{hex}
 use Rattle.nr_linkcommands.specs.RunLines.{contradiction_line, delivered_line, last_line, left_line, open_line, outcome_line, outcome_line_by, unfixed_blocks}
 use Rattle.nr_linkcommands.specs.RunText.{counted, counted_by, no_totals, open_counted, outcome_lines, own, received, rounds_counted, run_ends, run_words, text_of_run, totals_from}
 use Rattle.nr_linkcommands.specs.RoundTexts.{last_rounds, pieces_joined, turns}
@@ -129,6 +129,17 @@ unfolding last_line
 last_line-some name t = some_at_end (codes "total " ++ name ++ codes " " ++ decimal t.blocks ++ codes " delivered " ++ decimal t.delivered
     ++ codes " open " ++ decimal t.open_still ++ codes " contradiction " ++ decimal t.contradiction
     ++ codes " codeblocks " ++ decimal t.code_blocks ++ codes " failed " ++ decimal t.failed)
+
+-- no block is within any bound
+pub none-within : IsWithin 0 no_totals
+none-within = record {
+  blocks = omega arith;
+  delivered = omega arith;
+  open_still = omega arith;
+  contradiction = omega arith;
+  code_blocks = omega arith;
+  failed = omega arith;
+}
 
 -- a bound of the totals, and a greater one
 pub within-more : (n m : ℕ) (t : Totals) → n ≤ m → IsWithin n t → IsWithin m t

@@ -4,7 +4,7 @@ use Rattle.std.proofs.lemmas.List.{take-append-drop, drop_more}
 use Rattle.std.proofs.lemmas.Grind.{flat_map-append}
 use Rattle.std.proofs.lemmas.Option.{slice_get-get_or}
 use Rattle.std.specs.Fmt.{decimal}
-use Rattle.nr_commands.specs.Lines.{hex}
+use Rattle.nr_commands.specs.Hex.{hex}
 use Rattle.nr_graphpick.specs.Refusal.{◌>>=◌}
 use Rattle.nr_linkcommands.specs.Inputs.{Given, Ready, files_said, inputs_said, senders_from}
 use Rattle.nr_linkcommands.specs.SendLines.{answer_line, refusal_name, refused_line, sent_line}

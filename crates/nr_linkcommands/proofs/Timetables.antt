@@ -1,6 +1,6 @@
 -- What a run and an audit use of a schedule that was read: each transmission is of its round's block, and where no
 -- processes are named, the rounds at the end are the blocks.
-use Rattle.std.proofs.Common.{◌≡◌, ℕ, ◌+◌, ◌-◌, Bool, true, false, cond, Option, None, Some, List, [], ◌∷◌, All, length, take, drop, slice_get, get_or, ap, sym, subst, refl, ◌∙◌, arith, length-drop, take_all}
+use Rattle.std.proofs.Common.{◌≡◌, ℕ, ◌+◌, ◌-◌, ◌<◌, Bool, true, false, cond, Option, None, Some, List, [], ◌∷◌, All, length, take, drop, slice_get, get_or, ap, sym, subst, refl, ◌∙◌, arith, length-drop, take_all}
 use Rattle.std.specs.Prelude.{◌==◌}
 use Rattle.std.proofs.lemmas.Bool.Decides.{nat_tests}
 use Rattle.std.proofs.lemmas.Grind.{get_or_after_one}
@@ -10,7 +10,7 @@ use Rattle.nr_blockdesk.specs.Sent.{Sending}
 use Rattle.nr_linkcommands.specs.Ends.{AllHold, AreOfRounds, HoldRounds, HoldsEnd, HoldsIf, HoldsRound, IsOfRound}
 use Rattle.nr_files.specs.Rounds.{IsOfBlock, round_of}
 use Rattle.nr_linkcommands.specs.RunText.{own, received}
-use Rattle.nr_files.specs.Schedule.{EachGoesOn, IsPlaced, IsTimetable, Timetable, fresh_block}
+use Rattle.nr_files.specs.Schedule.{EachGoesOn, HasBlock, IsPlaced, IsTimetable, Timetable, fresh_block}
 use Rattle.nr_linkcommands.specs.declared.received.End.{End}
 use Rattle.nr_files.specs.declared.schedule.Transmission.{Transmission}
 use Rattle.nr_files.proofs.BlockRounds.{blocks_are_rounds}
@@ -44,6 +44,14 @@ of_rounds false xs placed goes_on = λ i x within at stale.
 
 pub timetable-of_rounds : (n : ℕ) (s : Timetable) → IsTimetable n s → AreOfRounds s.transmissions
 timetable-of_rounds n s is = of_rounds s.by_process s.transmissions is.placed is.rounds
+
+-- each has a place: one of sixteen, or that of its block
+pub placed-in : (b : Bool) (n places : ℕ) (xs : List Transmission) → All (IsPlaced b) xs → All (HasBlock n) xs → places ≡ cond b 16 (n + 1) → All (λ (x : Transmission). x.process < places) xs
+placed-in b n places xs placed named count = λ k d within. one b (get_or xs k d) (placed k d within) (named k d within) count
+  where
+    one : (c : Bool) (x : Transmission) → IsPlaced c x → HasBlock n x → places ≡ cond c 16 (n + 1) → x.process < places
+    one true x low there is = omega (arith, low, is)
+    one false x alone there is = omega (arith, alone.process, there.1, is)
 
 -- a place that holds a round of transmissions of one block
 round-holds : (senders : List Sending) (n : ℕ) (sender : Sending) (round : List Transmission) (end : Option End) → slice_get senders (n - 1) ≡ Some sender → All (λ (y : Transmission). (y.block == n) ≡ true) round → HoldsRound senders round end → HoldsEnd sender.link (received sender round) end

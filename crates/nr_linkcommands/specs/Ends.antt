@@ -10,7 +10,7 @@ use Rattle.nr_blockdesk.specs.Sent.{Sending}
 use Rattle.nr_blockdesk.specs.declared.settings.Settings.{Settings}
 use Rattle.nr_linkcommands.specs.RoundTexts.{sender_of}
 use Rattle.nr_files.specs.Rounds.{round_of}
-use Rattle.nr_linkcommands.specs.RunText.{own, received}
+use Rattle.nr_linkcommands.specs.RunText.{no_totals, own, received, rounds_counted}
 use Rattle.nr_linkcommands.specs.declared.received.End.{End}
 use Rattle.nr_linkcommands.specs.declared.received.Totals.{Totals}
 use Rattle.nr_files.specs.declared.schedule.Transmission.{Transmission}
@@ -81,3 +81,9 @@ pub record IsWithin (n : ℕ) (t : Totals) : Type 0 where
   pub contradiction : t.contradiction ≤ n
   pub code_blocks : t.code_blocks ≤ n * 4294967296
   pub failed : t.failed ≤ n * 4294967296
+
+-- A run's places after these transmissions, and its totals of the rounds that ended.
+pub record KeepsRounds (senders : List Sending) (before : List Transmission) (ended : List (List Transmission)) (ends : List (Option End)) (totals : Totals) : Type 0 where
+  pub held : HoldRounds senders before ends
+  pub counted : totals ≡ rounds_counted no_totals senders ended
+  pub within : IsWithin (length ended) totals

@@ -7,7 +7,7 @@ use Rattle.nr_blockdesk.specs.Explains.{Reception}
 use Rattle.nr_blockdesk.specs.Heard.{heard_record}
 use Rattle.nr_blockdesk.specs.Link.{Link}
 use Rattle.nr_blockdesk.specs.Outcome.{Verdict, contradiction, delivered, left, open_still, outcome_of}
-use Rattle.nr_commands.specs.Lines.{hex}
+use Rattle.nr_commands.specs.Hex.{hex}
 use Rattle.nr_linkcommands.specs.declared.received.Totals.{Totals}
 
 -- the line of code block r after transmission t of block n: how many positions below K' are not fixed

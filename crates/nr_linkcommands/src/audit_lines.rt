@@ -10,22 +10,26 @@ use nr_peel::Peeler;
 use std::alloc::{AllocError, Global};
 use std::fmt::Write;
 
-// A line behind its first words.
-pub(crate) fn behind(alloc: Global, head: &str, line: &str) -> Result<String, AllocError>
-    ensures { IfOk result (λ whole. string_bytes whole ≡ head.now ++ line.now) }
-{
-    let mut whole = String::new(alloc);
-    write!(whole, "{head}{line}")?;
-    Ok(whole)
-}
-
-// The line of code block `r` of block `number`, by its receiver.
-pub(crate) fn line_of(
+// The line of code block `r` of block `number`, by its receiver, behind `head`.
+pub(crate) fn code_line(
     alloc: Global,
+    head: &str,
     number: u32,
     receiver: &Receiver,
     r: u32,
-) -> Result<String, AllocError>
+) -> Result<Vec<u8>, AllocError>
+    requires { r < receiver.now.link.plan.c }
+    ensures { IfOk result (λ line. line.items
+        ≡ head.now ++ audit_line number receiver.now.link receiver.now.heard r) }
+{
+    let line = line_of(alloc, number, receiver, r)?;
+    let mut whole = String::new(alloc);
+    write!(whole, "{head}{line}")?;
+    Ok(whole.into_bytes())
+}
+
+// The same without its head.
+fn line_of(alloc: Global, number: u32, receiver: &Receiver, r: u32) -> Result<String, AllocError>
     requires { r < receiver.now.link.plan.c }
     ensures { IfOk result (λ line. string_bytes line
         ≡ audit_line number receiver.now.link receiver.now.heard r) }

@@ -1,24 +1,25 @@
 //! The command `audit`.
 
-ghost use Rattle.std.specs.Prelude.{All, [], length, ◌++◌, ◌+◌, ◌<◌, ◌^◌, ◌≤◌};
+ghost use Rattle.std.specs.Prelude.{All, length, true, ◌+◌, ◌<◌, ◌^◌, ◌≡◌, ◌≤◌};
 ghost use Rattle.nr_linkcommands.specs.FourFiles.{IsOverFourFiles, used};
 ghost use Rattle.nr_linkcommands.specs.AuditText.{audit_lines, audit_of, audit_said, audit_words, text_of_audit};
-ghost use Rattle.nr_linkcommands.specs.RoundTexts.{last_rounds, pieces_joined, round_lines, turn_lines, turns, written};
+ghost use Rattle.nr_linkcommands.specs.RoundTexts.{pieces_joined, round_lines, written};
 ghost use Rattle.nr_commands.specs.Command.{Writes};
 ghost use Rattle.nr_files.specs.Reading.{FailsAs};
 ghost use Rattle.nr_linkcommands.specs.Ends.{IsLinked};
-ghost use Rattle.nr_files.specs.Schedule.{HasBlock};
+ghost use Rattle.nr_files.specs.Schedule.{HasBlock, IsTimetable, timetable_by};
 ghost use Rattle.nr_files.specs.Rounds.{IsOfBlock, round_of};
-ghost use Rattle.nr_linkcommands.specs.AuditLines.{audit_block, audit_line};
+ghost use Rattle.nr_linkcommands.specs.AuditLines.{audit_block};
 
-use crate::audit_lines::{behind, line_of};
+use crate::audit_lines::code_line;
 use crate::inputs::Inputs;
 use crate::over_files::{Text, over_files};
 use crate::replaying::end_of;
 use crate::run_lines::process_words;
+use crate::walking::{Walk, end_all, follow};
 use nr_blockdesk::{Receiver, Sender};
-use nr_commands::{RunFault, Sink, deliver};
-use nr_files::{PROCESSES, Transmission, round_block, round_start};
+use nr_commands::{RunFault, Sink, put_line};
+use nr_files::{Transmission, round_block, round_start};
 use nr_segment::plans_are_sound;
 use nr_shifttable::Source;
 use std::alloc::Global;
@@ -81,6 +82,41 @@ impl Text for AuditCommand {
     }
 }
 
+// What `audit` keeps of the rounds of HARQ processes: nothing. A round is sent and received where it ends.
+#[derive(Drop)]
+struct AuditRounds;
+
+impl<'t> Walk<'t> for AuditRounds {
+    ghost words = { audit_words };
+
+    ghost Keeps = { λ rounds senders before ended. Unit {0} };
+
+    ghost places = { λ rounds. 16 };
+
+    fn end_round<O: Sink>(
+        &mut self,
+        alloc: Global,
+        inputs: &'t Inputs,
+        senders: &[Sender],
+        process: u32,
+        before: &[Transmission],
+        out: &mut O,
+    ) -> Result<(), RunFault> {
+        write_round(alloc, inputs, senders, process, before, out)
+    }
+
+    fn make<O: Sink>(
+        &mut self,
+        _: Global,
+        _: &'t Inputs,
+        senders: &[Sender],
+        transmission: &Transmission,
+        _: &mut O,
+    ) -> Result<(), RunFault> {
+        Ok(())
+    }
+}
+
 // Writes the lines of each round of a HARQ process: first of those that a transmission ends, in their order, and then
 // of the others, by process.
 fn audit_rounds<O: Sink>(
@@ -92,81 +128,15 @@ fn audit_rounds<O: Sink>(
     requires puts { O.failures out.old < 2 ^ 32 }
     requires linked { All (λ sender. IsLinked inputs.now.table inputs.now.settings sender.link)
         senders.now }
-    requires named { All (HasBlock (length senders.now)) inputs.now.schedule.transmissions.items }
+    requires timetable { IsTimetable (length senders.now) (timetable_by inputs.now.schedule) }
+    requires by_process { inputs.now.schedule.by_process ≡ true }
     ensures text { Writes (O.written out.old) (O.written out.new) result
         (pieces_joined (written audit_words senders.now inputs.now.schedule.transmissions.items)) }
     ensures put { FailsAs RunFault.Write result (O.failures out.old) (O.failures out.new) }
 {
-    audit_ended(alloc, inputs, senders, out)?;
-    audit_last(alloc, inputs, senders, out)
-}
-
-// Writes the lines of each round that a transmission ends.
-fn audit_ended<O: Sink>(
-    alloc: Global,
-    inputs: &Inputs,
-    senders: &[Sender],
-    out: &mut O,
-) -> Result<(), RunFault>
-    requires puts { O.failures out.old < 2 ^ 32 }
-    requires linked { All (λ sender. IsLinked inputs.now.table inputs.now.settings sender.link)
-        senders.now }
-    requires named { All (HasBlock (length senders.now)) inputs.now.schedule.transmissions.items }
-    ensures text { Writes (O.written out.old) (O.written out.new) result
-        (pieces_joined (turns audit_words senders.now [] inputs.now.schedule.transmissions.items)) }
-    ensures put { FailsAs RunFault.Write result (O.failures out.old) (O.failures out.new) }
-{
-    let schedule = inputs.schedule.transmissions.as_slice();
-    for (index, transmission) in schedule.iter().enumerate() {
-        let before = &schedule[..index];
-        audit_turn(alloc, inputs, senders, before, transmission, out)?;
-    }
-    Ok(())
-}
-
-// Writes the lines of the round that a transmission ends, if it is fresh.
-fn audit_turn<O: Sink>(
-    alloc: Global,
-    inputs: &Inputs,
-    senders: &[Sender],
-    before: &[Transmission],
-    transmission: &Transmission,
-    out: &mut O,
-) -> Result<(), RunFault>
-    requires puts { O.failures out.old < 2 ^ 32 }
-    requires linked { All (λ sender. IsLinked inputs.now.table inputs.now.settings sender.link)
-        senders.now }
-    requires named { All (HasBlock (length senders.now)) before.now }
-    ensures text { Writes (O.written out.old) (O.written out.new) result
-        (turn_lines audit_words senders.now before.now transmission.now) }
-    ensures put { FailsAs RunFault.Write result (O.failures out.old) (O.failures out.new) }
-{
-    if !transmission.fresh {
-        return Ok(());
-    }
-    write_round(alloc, inputs, senders, transmission.process, before, out)
-}
-
-// Writes the lines of each round that no transmission ends, by process.
-fn audit_last<O: Sink>(
-    alloc: Global,
-    inputs: &Inputs,
-    senders: &[Sender],
-    out: &mut O,
-) -> Result<(), RunFault>
-    requires puts { O.failures out.old < 2 ^ 32 }
-    requires linked { All (λ sender. IsLinked inputs.now.table inputs.now.settings sender.link)
-        senders.now }
-    requires named { All (HasBlock (length senders.now)) inputs.now.schedule.transmissions.items }
-    ensures text { Writes (O.written out.old) (O.written out.new) result
-        (pieces_joined (last_rounds audit_words senders.now inputs.now.schedule.transmissions.items)) }
-    ensures put { FailsAs RunFault.Write result (O.failures out.old) (O.failures out.new) }
-{
-    let schedule = inputs.schedule.transmissions.as_slice();
-    for process in 0..PROCESSES {
-        write_round(alloc, inputs, senders, process, schedule, out)?;
-    }
-    Ok(())
+    let mut rounds = AuditRounds;
+    follow(alloc, inputs, senders, &mut rounds, out)?;
+    end_all(alloc, inputs, senders, &mut rounds, out)
 }
 
 // Writes the lines of the round that a process is in after these transmissions, if it is in one.
@@ -256,27 +226,7 @@ fn write_codes<O: Sink>(
     ensures put { FailsAs RunFault.Write result (O.failures out.old) (O.failures out.new) }
 {
     for r in 0..receiver.plan().c {
-        write_code(alloc, head, number, receiver, r, out)?;
+        put_line(out, code_line(alloc, head, number, receiver, r))?;
     }
     Ok(())
-}
-
-// Writes the line of code block `r` of block `number`, by its receiver, behind `head`.
-fn write_code<O: Sink>(
-    alloc: Global,
-    head: &str,
-    number: u32,
-    receiver: &Receiver,
-    r: u32,
-    out: &mut O,
-) -> Result<(), RunFault>
-    requires puts { O.failures out.old < 2 ^ 32 }
-    requires there { r < receiver.now.link.plan.c }
-    ensures text { Writes (O.written out.old) (O.written out.new) result
-        (head.now ++ audit_line number receiver.now.link receiver.now.heard r) }
-    ensures put { FailsAs RunFault.Write result (O.failures out.old) (O.failures out.new) }
-{
-    let line = line_of(alloc, number, receiver, r)?;
-    let whole = behind(alloc, head, &line)?;
-    deliver(out, whole.as_bytes())
 }

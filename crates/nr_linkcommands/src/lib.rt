@@ -20,6 +20,7 @@ mod run_rounds;
 mod running;
 mod send_lines;
 mod sending;
+mod walking;
 
 pub use auditing::audit;
 pub use hearing::heard_through;

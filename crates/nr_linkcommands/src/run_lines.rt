@@ -39,12 +39,12 @@ pub(crate) fn left_line(
     block: u32,
     r: u32,
     left: u32,
-) -> Result<String, AllocError>
-    ensures { IfOk result (λ line. string_bytes line ≡ left_line number block r left) }
+) -> Result<Vec<u8>, AllocError>
+    ensures { IfOk result (λ line. line.items ≡ left_line number block r left) }
 {
     let mut line = String::new(alloc);
     writeln!(line, "left {number} {block} {r} {left}")?;
-    Ok(line)
+    Ok(line.into_bytes())
 }
 
 // The line of transport block `number`.
@@ -126,8 +126,8 @@ fn contradiction_line(
 }
 
 // The last line: how so many blocks or rounds end.
-pub(crate) fn last_line(alloc: Global, name: &str, totals: &Totals) -> Result<String, AllocError>
-    ensures { IfOk result (λ line. string_bytes line ≡ last_line name.now totals.now) }
+pub(crate) fn last_line(alloc: Global, name: &str, totals: &Totals) -> Result<Vec<u8>, AllocError>
+    ensures { IfOk result (λ line. line.items ≡ last_line name.now totals.now) }
 {
     let mut line = String::new(alloc);
     write!(
@@ -140,7 +140,7 @@ pub(crate) fn last_line(alloc: Global, name: &str, totals: &Totals) -> Result<St
         " contradiction {} codeblocks {} failed {}",
         totals.contradiction, totals.code_blocks, totals.failed
     )?;
-    Ok(line)
+    Ok(line.into_bytes())
 }
 
 /// What stands before each line about a round of a process.

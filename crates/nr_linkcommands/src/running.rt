@@ -1,23 +1,24 @@
 //! The command `run`.
 
-ghost use Rattle.std.specs.Prelude.{All, List, false, if◌then◌else◌, length, ◌+◌, ◌<◌, ◌^◌, ◌≡◌, ◌≤◌};
+ghost use Rattle.std.specs.Prelude.{All, List, [], false, if◌then◌else◌, length, true, ◌+◌, ◌<◌, ◌^◌, ◌≡◌, ◌≤◌};
 ghost use Rattle.nr_linkcommands.specs.FourFiles.{IsOverFourFiles, used};
-ghost use Rattle.nr_linkcommands.specs.RunLines.{last_line, outcome_line};
 ghost use Rattle.nr_linkcommands.specs.RunText.{outcome_lines, run_ends, run_said, text_of_run};
 ghost use Rattle.nr_commands.specs.Command.{Writes};
 ghost use Rattle.nr_files.specs.Reading.{FailsAs};
-ghost use Rattle.nr_linkcommands.specs.Ends.{AllHold, HoldsEnd};
+ghost use Rattle.nr_linkcommands.specs.Ends.{AllHold, IsLinked, KeepsRounds};
 ghost use Rattle.nr_files.specs.declared.schedule.Transmission.{Transmission};
 ghost use Rattle.nr_blockdesk.specs.Link.{IsLink};
-ghost use Rattle.nr_blockdesk.specs.Explains.{Reception};
+ghost use Rattle.nr_files.specs.Rounds.{ended_rounds};
+ghost use Rattle.nr_files.specs.Schedule.{HasBlock};
 
 use crate::inputs::Inputs;
 use crate::over_files::{Text, over_files};
-use crate::received::{End, Totals, no_ends, sum_up};
+use crate::received::{End, sum_up};
 use crate::run_lines::{last_line, outcome_line};
-use crate::run_rounds::{write_rounds, write_transmissions};
+use crate::run_rounds::RunRounds;
+use crate::walking::{end_all, follow};
 use nr_blockdesk::Sender;
-use nr_commands::{RunFault, Sink, deliver};
+use nr_commands::{RunFault, Sink, put_line};
 use nr_files::PROCESSES;
 use nr_shifttable::Source;
 use std::alloc::Global;
@@ -71,13 +72,12 @@ impl Text for RunCommand {
         out: &mut O,
     ) -> Result<(), RunFault> {
         let by_process = inputs.schedule.by_process;
-        let schedule = inputs.schedule.transmissions.as_slice();
-        let mut ends = no_ends(alloc, places(by_process, senders.len()))?;
-        let totals = write_transmissions(alloc, inputs, senders, &mut ends, out)?;
+        let mut rounds = RunRounds::new(alloc, places(by_process, senders.len()))?;
+        follow(alloc, inputs, senders, &mut rounds, out)?;
         if by_process {
-            write_rounds(alloc, senders, schedule, &ends, totals, out)
+            write_rounds(alloc, inputs, senders, &mut rounds, out)
         } else {
-            write_blocks(alloc, senders, &ends[1..], out)
+            write_blocks(alloc, senders, &rounds.ends[1..], out)
         }
     }
 }
@@ -92,6 +92,31 @@ fn places(by_process: bool, blocks: usize) -> usize
     } else {
         blocks + 1
     }
+}
+
+// Writes the line of each round that no transmission ends, by process, and the totals.
+fn write_rounds<'t, O: Sink>(
+    alloc: Global,
+    inputs: &'t Inputs,
+    senders: &[Sender],
+    rounds: &mut RunRounds<'t>,
+    out: &mut O,
+) -> Result<(), RunFault>
+    requires puts { O.failures out.old < 2 ^ 32 }
+    requires linked { All (λ sender. IsLinked inputs.now.table inputs.now.settings sender.link)
+        senders.now }
+    requires named { All (HasBlock (length senders.now)) inputs.now.schedule.transmissions.items }
+    requires few { length inputs.now.schedule.transmissions.items ≤ 4096 }
+    requires long { length rounds.old.ends.items ≡ 16 }
+    requires kept { KeepsRounds senders.now inputs.now.schedule.transmissions.items
+        (ended_rounds [] inputs.now.schedule.transmissions.items)
+        rounds.old.ends.items rounds.old.totals }
+    ensures text { Writes (O.written out.old) (O.written out.new) result
+        (run_ends true senders.now inputs.now.schedule.transmissions.items) }
+    ensures put { FailsAs RunFault.Write result (O.failures out.old) (O.failures out.new) }
+{
+    end_all(alloc, inputs, senders, rounds, out)?;
+    put_line(out, last_line(alloc, "rounds", &rounds.totals))
 }
 
 // Writes the line of each transport block, and the totals.
@@ -111,7 +136,7 @@ fn write_blocks<O: Sink>(
     ensures put { FailsAs RunFault.Write result (O.failures out.old) (O.failures out.new) }
 {
     write_outcomes(alloc, senders, ends, out)?;
-    write_totals(alloc, "blocks", &sum_up(senders, ends), out)
+    put_line(out, last_line(alloc, "blocks", &sum_up(senders, ends)))
 }
 
 // Writes the line of each transport block, by what its end has received.
@@ -131,42 +156,8 @@ fn write_outcomes<O: Sink>(
     ensures put { FailsAs RunFault.Write result (O.failures out.old) (O.failures out.new) }
 {
     for (index, sender) in senders.iter().enumerate() {
-        write_outcome(alloc, index as u32 + 1, sender, &ends[index], out)?;
+        let number = index as u32 + 1;
+        put_line(out, outcome_line(alloc, number, sender, &ends[index]))?;
     }
     Ok(())
-}
-
-// Writes the line of transport block `number`.
-fn write_outcome<O: Sink>(
-    alloc: Global,
-    number: u32,
-    sender: &Sender,
-    end: &Option<End>,
-    out: &mut O,
-) -> Result<(), RunFault>
-    requires puts { O.failures out.old < 2 ^ 32 }
-    requires linked { IsLink sender.now.link }
-    ensures text { (list : List Reception) → HoldsEnd sender.now.link list end.now
-        → Writes (O.written out.old) (O.written out.new) result
-        (outcome_line number sender.now.link list) }
-    ensures put { FailsAs RunFault.Write result (O.failures out.old) (O.failures out.new) }
-{
-    let line = outcome_line(alloc, number, sender, end)?;
-    deliver(out, &line)
-}
-
-// Writes the last line: how so many blocks or rounds end.
-pub(crate) fn write_totals<O: Sink>(
-    alloc: Global,
-    name: &str,
-    totals: &Totals,
-    out: &mut O,
-) -> Result<(), RunFault>
-    requires { O.failures out.old < 2 ^ 32 }
-    ensures text { Writes (O.written out.old) (O.written out.new) result
-        (last_line name.now totals.now) }
-    ensures put { FailsAs RunFault.Write result (O.failures out.old) (O.failures out.new) }
-{
-    let line = last_line(alloc, name, totals)?;
-    deliver(out, line.as_bytes())
 }

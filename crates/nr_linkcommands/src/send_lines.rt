@@ -2,7 +2,6 @@
 
 ghost use Rattle.std.specs.Prelude.{IfOk, ◌≡◌};
 ghost use Rattle.nr_linkcommands.specs.SendLines.{rate_name, refusal_name, refused_line, sent_line};
-ghost use Rattle.std.specs.String.{string_bytes};
 
 use nr_bitvec::Bits;
 use nr_blockdesk::DeskFault;
@@ -32,13 +31,13 @@ pub(crate) fn refused_line(
     number: u32,
     block: u32,
     fault: DeskFault,
-) -> Result<String, AllocError>
-    ensures { IfOk result (λ line. string_bytes line ≡ refused_line number block fault) }
+) -> Result<Vec<u8>, AllocError>
+    ensures { IfOk result (λ line. line.items ≡ refused_line number block fault) }
 {
     let mut line = String::new(alloc);
     let name = refusal_name(fault);
     writeln!(line, "refused {number} {block} {name}")?;
-    Ok(line)
+    Ok(line.into_bytes())
 }
 
 // The name of a refusal.

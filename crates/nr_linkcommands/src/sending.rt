@@ -15,7 +15,7 @@ use crate::over_files::{Text, over_files};
 use crate::send_lines::{refused_line, sent_line};
 use nr_bitvec::Bits;
 use nr_blockdesk::{DeskFault, Sender, Tx};
-use nr_commands::{RunFault, Sink, deliver};
+use nr_commands::{RunFault, Sink, put_line};
 use nr_files::Transmission;
 use nr_shifttable::Source;
 use std::alloc::{AllocError, Global};
@@ -102,12 +102,8 @@ fn write_transmission<O: Sink>(
         (transmission_line senders.now transmission.now) }
     ensures put { FailsAs RunFault.Write result (O.failures out.old) (O.failures out.new) }
 {
-    let line = line_of(
-        alloc,
-        &senders[transmission.block as usize - 1],
-        transmission,
-    )?;
-    deliver(out, &line)
+    let sender = &senders[transmission.block as usize - 1];
+    put_line(out, line_of(alloc, sender, transmission))
 }
 
 // The line of a transmission by the sender of its block.
@@ -123,7 +119,7 @@ fn line_of(
     let (number, block) = (transmission.number, transmission.block);
     match said_of(sender, &transmission.tx)? {
         Ok(bits) => sent_line(alloc, number, block, &bits),
-        Err(fault) => Ok(refused_line(alloc, number, block, fault)?.into_bytes()),
+        Err(fault) => refused_line(alloc, number, block, fault),
     }
 }
 

@@ -39,10 +39,9 @@ fn check(rt: &impl Abort, alloc: Global, command: Command, cases: &[Case]) -> Re
 
 #[test]
 fn follows_two_processes(rt: HostRuntime) -> Result<(), Fail> {
-    let cases: [Case; 2] = [
-        (
-            TWO_PROCESSES,
-            b"sent 1 1 102103\n\
+    let cases: [Case; 1] = [(
+        TWO_PROCESSES,
+        b"sent 1 1 102103\n\
               left 1 1 0 4\n\
               sent 2 2 918809\n\
               left 2 2 0 4\n\
@@ -54,14 +53,20 @@ fn follows_two_processes(rt: HostRuntime) -> Result<(), Fail> {
               process 0 block 2 delivered tx 1 failed 0 of 1 80\n\
               process 1 block 2 open tx 1 failed 1 of 1\n\
               total rounds 3 delivered 2 open 1 contradiction 0 codeblocks 3 failed 1\n",
-        ),
-        (
-            b"1,0,24,1,1,-,-,all,0,1\n\
+    )];
+    check(&rt, rt.alloc(), Command::Run, &cases)
+}
+
+// The same, and then process 1 hears the four bits.
+#[test]
+fn completes_two_processes(rt: HostRuntime) -> Result<(), Fail> {
+    let cases: [Case; 1] = [(
+        b"1,0,24,1,1,-,-,all,0,1\n\
               2,0,24,1,1,-,-,all,1,1\n\
               1,0,28,1,1,0-23,-,all,0,0\n\
               2,0,32,1,1,-,-,all,0,1\n\
               2,0,28,1,1,0-23,-,all,1,0\n",
-            b"sent 1 1 102103\n\
+        b"sent 1 1 102103\n\
               left 1 1 0 4\n\
               sent 2 2 918809\n\
               left 2 2 0 4\n\
@@ -75,8 +80,7 @@ fn follows_two_processes(rt: HostRuntime) -> Result<(), Fail> {
               process 0 block 2 delivered tx 1 failed 0 of 1 80\n\
               process 1 block 2 delivered tx 2 failed 0 of 1 80\n\
               total rounds 3 delivered 3 open 0 contradiction 0 codeblocks 3 failed 0\n",
-        ),
-    ];
+    )];
     check(&rt, rt.alloc(), Command::Run, &cases)
 }
 

@@ -1,7 +1,7 @@
 use Rattle.std.proofs.Common.{◌≡◌, ◌++◌, length, flat_map}
 use Rattle.std.specs.List.{range_with_len}
 use Rattle.nr_segment.specs.CodeBlock.{numbers, code_bits}
-use Rattle.nr_commands.specs.Lines.{block_line, attached_line, code_line}
+use Rattle.nr_commands.specs.CutLines.{block_line, attached_line, code_line}
 use Rattle.nr_commands.specs.Written.{with_text}
 use Rattle.nr_commands.proofs.text.write_planned.Given as goal
 

@@ -1,5 +1,5 @@
 use Rattle.std.proofs.Common.{◌≡◌, ◌++◌, ◌∷◌, [], append_assoc, string_bytes}
-use Rattle.nr_commands.specs.Lines.{hex}
+use Rattle.nr_commands.specs.Hex.{hex}
 use Rattle.nr_linkcommands.specs.RunLines.{delivered_line}
 use Rattle.nr_commands.proofs.WrittenLemmas.{if_ok-items}
 use Rattle.nr_linkcommands.proofs.run_lines.delivered_line.Goals as goal

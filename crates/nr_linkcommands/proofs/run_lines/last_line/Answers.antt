@@ -12,7 +12,7 @@ pub returns : goal.returns
 unfolding last_line
 returns c =
     let t : Totals = c.args.totals.now in
-    rw (c.in_ok-writeln.ensures.bytes, c.in_ok-write.ensures.bytes, c.new-line.ensures.bytes)
+    rw (c.into_bytes.ensures.value, c.in_ok-writeln.ensures.bytes, c.in_ok-write.ensures.bytes, c.new-line.ensures.bytes)
     (ap (λ ys. codes "total " ++ ys)
     (two_parts c.args.name.now (codes " ") (decimal t.blocks) (codes " delivered ") (decimal t.delivered) (codes " open ") (decimal t.open_still)
     (codes " contradiction ") (decimal t.contradiction) (codes " codeblocks ") (decimal t.code_blocks) (codes " failed ") (decimal t.failed) (10 ∷ [])))

@@ -1,6 +1,6 @@
 use Rattle.std.proofs.Common.{[], length, sym, ap, ◌∙◌, arith}
 use Rattle.std.proofs.lemmas.List.{append-nil}
-use Rattle.std.proofs.lemmas.Result.{err_from_is_err_and}
+use Rattle.std.proofs.lemmas.Result.{IfOk-weaker, err_from_is_err_and}
 use Rattle.nr_blockdesk.specs.Link.{IsLink}
 use Rattle.nr_blockdesk.specs.Sent.{Sending}
 use Rattle.nr_files.specs.Rounds.{round_of}
@@ -8,7 +8,7 @@ use Rattle.nr_commands.specs.Written.{with_text}
 use Rattle.nr_linkcommands.proofs.RoundEnds.{round-held, round-named, round_counted-none, round_counted-some, round_lines-long, round_lines-none, round_lines-some}
 use Rattle.nr_linkcommands.proofs.RunLines.{all-at}
 use Rattle.nr_linkcommands.proofs.RunOutcomes.{within-more}
-use Rattle.nr_commands.proofs.WrittenLemmas.{with_text-nil, writes_behind, writes_none}
+use Rattle.nr_commands.proofs.WrittenLemmas.{with_text-nil, writes_behind}
 use Rattle.nr_linkcommands.proofs.run_rounds.end_round.Goals as goal
 
 pub returns-in-None-clause-text : goal.returns-in-None-clause-text
@@ -36,43 +36,38 @@ round_line-requires g c =
     let named = round-named (length c.args.senders.now) c.in-Some.number c.args.process c.args.before.now (sym c.in-Some.is ∙ c.round_block.ensures) c.requires.named in
     all-at (λ (s : Sending). IsLink s.link) c.args.senders.now _ c.index-senders-number.result c.requires.linked named.1 c.index-senders-number.is
 
-pub returns-in_err-line-in-Some-clause-text : goal.returns-in_err-line-in-Some-clause-text
-returns-in_err-line-in-Some-clause-text g c =
-    let begun = sym c.in-Some.is ∙ c.round_block.ensures in
-    let named = round-named (length c.args.senders.now) c.in-Some.number c.args.process c.args.before.now begun c.requires.named in
-    let p = err_from_is_err_and c.from_residual.result c.from_residual.ensures.1 in
-    writes_none _ _ p.0 _ p.1 p.2 (round_lines-long c.args.senders.now c.args.process c.in-Some.number c.index-senders-number.result (round_of c.args.process c.args.before.now) begun named.1 c.index-senders-number.is)
-
-pub returns-in_err-deliver-in-Some-clause-text : goal.returns-in_err-deliver-in-Some-clause-text
-returns-in_err-deliver-in-Some-clause-text g c =
+pub returns-in_err-put_line-in-Some-clause-text : goal.returns-in_err-put_line-in-Some-clause-text
+returns-in_err-put_line-in-Some-clause-text g c =
     let round = round_of c.args.process c.args.before.now in
     let sender = c.index-senders-number.result in
     let begun = sym c.in-Some.is ∙ c.round_block.ensures in
     let named = round-named (length c.args.senders.now) c.in-Some.number c.args.process c.args.before.now begun c.requires.named in
     let held = round-held c.args.senders.now c.in-Some.number sender round c.args.end.now begun named.1 c.index-senders-number.is c.requires.held in
     let lines = round_lines-some c.args.senders.now c.args.process c.in-Some.number sender round begun named.1 c.index-senders-number.is in
-    let same = lines ∙ sym (c.deref.ensures.value ∙ c.in_ok-line-in-Some.ensures _ held) in
-    let p = err_from_is_err_and c.from_residual-in_err-deliver-in-Some.result c.from_residual-in_err-deliver-in-Some.ensures.1 in
-    writes_behind _ _ _ c.from_residual-in_err-deliver-in-Some.result p.0 _ _ [] _ [] p.1 p.2 (same ∙ sym (append-nil _)) (sym (with_text-nil _)) c.in_err-deliver-in-Some.ensures.text
+    let long = round_lines-long c.args.senders.now c.args.process c.in-Some.number sender round begun named.1 c.index-senders-number.is in
+    let made = IfOk-weaker c.round_line.result _ _ (λ line is. is _ held ∙ sym lines) c.round_line.ensures in
+    let p = err_from_is_err_and c.from_residual.result c.from_residual.ensures.1 in
+    writes_behind _ _ _ c.from_residual.result p.0 _ _ [] _ [] p.1 p.2 (sym (append-nil _)) (sym (with_text-nil _)) (c.in_err-put_line-in-Some.ensures.text _ long made)
 
 pub counted-requires-clause-linked : goal.counted-requires-clause-linked
 counted-requires-clause-linked g c =
     let named = round-named (length c.args.senders.now) c.in-Some.number c.args.process c.args.before.now (sym c.in-Some.is ∙ c.round_block.ensures) c.requires.named in
     all-at (λ (s : Sending). IsLink s.link) c.args.senders.now _ c.index-senders-number.result c.requires.linked named.1 c.index-senders-number.is
 
-pub returns-in_ok-deliver-in-Some-clause-text : goal.returns-in_ok-deliver-in-Some-clause-text
-returns-in_ok-deliver-in-Some-clause-text g c =
+pub returns-in_ok-put_line-in-Some-clause-text : goal.returns-in_ok-put_line-in-Some-clause-text
+returns-in_ok-put_line-in-Some-clause-text g c =
     let round = round_of c.args.process c.args.before.now in
     let sender = c.index-senders-number.result in
     let begun = sym c.in-Some.is ∙ c.round_block.ensures in
     let named = round-named (length c.args.senders.now) c.in-Some.number c.args.process c.args.before.now begun c.requires.named in
     let held = round-held c.args.senders.now c.in-Some.number sender round c.args.end.now begun named.1 c.index-senders-number.is c.requires.held in
     let lines = round_lines-some c.args.senders.now c.args.process c.in-Some.number sender round begun named.1 c.index-senders-number.is in
-    let same = lines ∙ sym (c.deref.ensures.value ∙ c.in_ok-line-in-Some.ensures _ held) in
-    c.in_ok-deliver-in-Some.ensures.text ∙ ap (with_text (g.O.Sink.written c.args.out.now)) (sym same)
+    let long = round_lines-long c.args.senders.now c.args.process c.in-Some.number sender round begun named.1 c.index-senders-number.is in
+    let made = IfOk-weaker c.round_line.result _ _ (λ line is. is _ held ∙ sym lines) c.round_line.ensures in
+    c.in_ok-put_line-in-Some.ensures.text _ long made
 
-pub returns-in_ok-deliver-in-Some-clause-totals : goal.returns-in_ok-deliver-in-Some-clause-totals
-returns-in_ok-deliver-in-Some-clause-totals g c =
+pub returns-in_ok-put_line-in-Some-clause-totals : goal.returns-in_ok-put_line-in-Some-clause-totals
+returns-in_ok-put_line-in-Some-clause-totals g c =
     let round = round_of c.args.process c.args.before.now in
     let sender = c.index-senders-number.result in
     let begun = sym c.in-Some.is ∙ c.round_block.ensures in

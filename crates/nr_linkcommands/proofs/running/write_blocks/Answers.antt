@@ -2,6 +2,7 @@ use Rattle.std.proofs.Common.{[], List, ℕ, codes, refl, sym}
 use Rattle.std.proofs.lemmas.Result.{err_from_is_err_and}
 use Rattle.nr_linkcommands.specs.RunLines.{last_line}
 use Rattle.nr_linkcommands.specs.RunText.{no_totals, outcome_lines, totals_from}
+use Rattle.nr_linkcommands.proofs.RunOutcomes.{last_line-some}
 use Rattle.nr_commands.proofs.WrittenLemmas.{with_text-nil, writes_behind, writes_last}
 use Rattle.nr_linkcommands.proofs.running.write_blocks.Goals as goal
 
@@ -17,5 +18,5 @@ pub returns-clause-text : goal.returns-clause-text
 returns-clause-text g c = λ schedule held.
     let outcomes : List ℕ = outcome_lines 1 c.args.senders.now schedule in
     let last : List ℕ = last_line (codes "blocks") (totals_from no_totals 1 c.args.senders.now schedule) in
-    let text = rw (c.sum_up.ensures schedule held) at c.write_totals.ensures.text in
-    writes_last _ _ _ c.write_totals.result outcomes last (c.in_ok-write_outcomes.ensures.text schedule held) text
+    let text = rw (c.sum_up.ensures schedule held) at (c.put_line.ensures.text _ (last_line-some _ _) c.last_line.ensures) in
+    writes_last _ _ _ c.put_line.result outcomes last (c.in_ok-write_outcomes.ensures.text schedule held) text

@@ -1,17 +1,17 @@
 use Rattle.std.proofs.Common.{◌≤◌, length, refl, ◌∙◌, arith}
-use Rattle.std.proofs.lemmas.Result.{err_from_is_err_and}
+use Rattle.std.proofs.lemmas.Result.{IfOk-weaker, err_from_is_err_and}
 use Rattle.nr_linkcommands.proofs.RunLines.{holds-at}
-use Rattle.nr_linkcommands.proofs.RunOutcomes.{outcome_lines-end, outcome_lines-turn}
+use Rattle.nr_linkcommands.proofs.RunOutcomes.{outcome_line-some, outcome_lines-end, outcome_lines-turn}
 use Rattle.nr_linkcommands.proofs.RunTexts.{left-first, left-last, left-more, left-stopped}
 use Rattle.nr_linkcommands.proofs.running.write_outcomes.Goals as goal
 
-pub returns-in_err-write_outcome-clause-text : goal.returns-in_err-write_outcome-clause-text
-returns-in_err-write_outcome-clause-text g c = λ schedule held.
+pub returns-in_err-put_line-clause-text : goal.returns-in_err-put_line-clause-text
+returns-in_err-put_line-clause-text g c = λ schedule held.
     let i = c.loop-index.index in
     let p = err_from_is_err_and c.from_residual.result c.from_residual.ensures.1 in
     let holds = holds-at c.args.senders.now schedule c.args.ends.now i c.index-senders-index.result c.index-ends-index.result c.loop-index-test.true c.index-senders-index.is (omega (arith, c.requires.long)) c.index-ends-index.is held in
     let turn = outcome_lines-turn c.args.senders.now schedule i c.index-senders-index.result c.loop-index-test.true c.index-senders-index.is in
-    left-stopped _ _ _ c.from_residual.result p.0 _ _ _ _ p.1 p.2 (rw turn at (c.loop-index.invariant.lines schedule held)) (c.in_err-write_outcome.ensures.text _ holds)
+    left-stopped _ _ _ c.from_residual.result p.0 _ _ _ _ p.1 p.2 (rw turn at (c.loop-index.invariant.lines schedule held)) (c.in_err-put_line.ensures.text _ (outcome_line-some _ _ _) (IfOk-weaker c.outcome_line.result _ _ (λ line is. is _ holds) c.outcome_line.ensures))
 
 pub loop-index-init : goal.loop-index-init
 loop-index-init g c = record { lines = λ schedule held. left-first _ _; sound = refl }
@@ -23,8 +23,8 @@ loop-index-preserved g c =
       lines = λ schedule held.
           let holds = holds-at c.args.senders.now schedule c.args.ends.now i c.index-senders-index.result c.index-ends-index.result c.loop-index-test.true c.index-senders-index.is (omega (arith, c.requires.long)) c.index-ends-index.is held in
           let turn = outcome_lines-turn c.args.senders.now schedule i c.index-senders-index.result c.loop-index-test.true c.index-senders-index.is in
-          left-more _ _ _ _ _ _ (rw turn at (c.loop-index.invariant.lines schedule held)) (c.in_ok-write_outcome.ensures.text _ holds);
-      sound = c.in_ok-write_outcome.ensures.put ∙ c.loop-index.invariant.sound;
+          left-more _ _ _ _ _ _ (rw turn at (c.loop-index.invariant.lines schedule held)) (c.in_ok-put_line.ensures.text _ (outcome_line-some _ _ _) (IfOk-weaker c.outcome_line.result _ _ (λ line is. is _ holds) c.outcome_line.ensures));
+      sound = c.in_ok-put_line.ensures.put ∙ c.loop-index.invariant.sound;
     }
 
 pub returns-clause-text : goal.returns-clause-text

@@ -1,0 +1,8 @@
+use Rattle.std.proofs.Common.{◌≡◌, ◌*◌, take}
+use Rattle.std.specs.List.{flat_map}
+use Rattle.nr_commands.specs.Hex.{two_digits}
+use Rattle.nr_commands.proofs.hex.write_digits.Given as goal
+
+-- the digits of the octets so far
+abbrev pub invariant-loop-i : goal.invariant-loop-i
+invariant-loop-i l = take (2 * l.i) l.digits ≡ flat_map two_digits (take l.i l.octets)

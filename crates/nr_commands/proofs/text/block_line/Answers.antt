@@ -1,8 +1,0 @@
-use Rattle.std.proofs.Common.{append_assoc}
-use Rattle.nr_commands.specs.Lines.{block_line}
-use Rattle.nr_commands.proofs.text.block_line.Goals as goal
-
-pub returns : goal.returns
-unfolding block_line
-returns c =
-    rw (c.in_ok-writeln.ensures.bytes, c.in_ok-write-2.ensures.bytes, c.in_ok-write.ensures.bytes, c.new-line.ensures.bytes) (simp append_assoc)

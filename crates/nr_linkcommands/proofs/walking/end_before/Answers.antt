@@ -1,0 +1,9 @@
+use Rattle.std.proofs.Common.{◌≡◌, ◌++◌, [], List, true, false, sym, subst, arith}
+use Rattle.std.proofs.lemmas.List.{append-nil}
+use Rattle.nr_files.specs.declared.schedule.Transmission.{Transmission}
+use Rattle.nr_linkcommands.proofs.walking.end_before.Goals as goal
+
+pub returns-clause-text : goal.returns-clause-text
+returns-clause-text g c =
+    let fresh : c.args.transmission.now.fresh ≡ true = cc in
+    rw fresh c.end_round.ensures.text

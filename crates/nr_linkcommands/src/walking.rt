@@ -1,0 +1,196 @@
+//! How a command follows a schedule by its HARQ processes: each transmission in its turn, behind the round that it ends,
+//! and at last the rounds that none ends.
+
+ghost use Rattle.std.specs.Prelude.{All, List, OnOk, [], ◌∷◌, ◌++◌, if◌then◌else◌, length, ℕ, ◌<◌, ◌^◌, ◌≡◌, ◌≤◌};
+ghost use Rattle.nr_blockdesk.specs.Sent.{Sending};
+ghost use Rattle.nr_commands.specs.Command.{Writes};
+ghost use Rattle.nr_files.specs.Reading.{FailsAs};
+ghost use Rattle.nr_files.specs.Rounds.{all_rounds, continued, ended_by, ended_rounds, round_of};
+ghost use Rattle.nr_files.specs.Schedule.{HasBlock};
+ghost use Rattle.nr_files.specs.declared.schedule.Transmission.{Transmission};
+ghost use Rattle.nr_linkcommands.specs.Ends.{AreOfRounds, IsLinked, IsOfRound};
+ghost use Rattle.nr_linkcommands.specs.RoundTexts.{Words, last_rounds, pieces_joined, round_lines, said_if, sender_of, turns};
+
+use crate::inputs::Inputs;
+use nr_blockdesk::Sender;
+use nr_commands::{RunFault, Sink};
+use nr_files::{PROCESSES, Transmission};
+use std::alloc::Global;
+
+/// What a command makes of transmissions and of rounds, and what it keeps from one to the next.
+pub(crate) trait Walk<'t> {
+    /// What the command says.
+    ghost words: { Words };
+
+    /// What is kept of senders after these transmissions, of which so many rounds have ended.
+    ghost Keeps: { Self → List Sending → List Transmission → List (List Transmission) → Type 0 };
+
+    /// How many processes there is a place for.
+    ghost places: { Self → ℕ };
+
+    /// Writes the lines of the round that a process is in after these transmissions, if it is in one, which ends.
+    ///
+    /// # Errors
+    /// `Write` where a put failed, and `Memory` where a growth is refused: then a first part of the lines is written.
+    fn end_round<O: Sink>(
+        &mut self,
+        alloc: Global,
+        inputs: &'t Inputs,
+        senders: &[Sender],
+        process: u32,
+        before: &[Transmission],
+        out: &mut O,
+    ) -> Result<(), RunFault>
+        requires puts { O.failures out.old < 2 ^ 32 }
+        requires linked { All (λ sender. IsLinked inputs.now.table inputs.now.settings sender.link)
+            senders.now }
+        requires named { All (HasBlock (length senders.now)) before.now }
+        requires placed { process < places self.old }
+        requires kept { (ended : List (List Transmission)) × (length ended ≤ 65535)
+            × Keeps self.old senders.now before.now ended }
+        ensures text { Writes (O.written out.old) (O.written out.new) result
+            (round_lines words senders.now process (round_of process before.now)) }
+        ensures kept { OnOk result ((ended : List (List Transmission))
+            → Keeps self.old senders.now before.now ended
+            → Keeps self.new senders.now before.now (ended ++ round_of process before.now ∷ [])) }
+        ensures places { OnOk result (places self.new ≡ places self.old) }
+        ensures put { FailsAs RunFault.Write result (O.failures out.old) (O.failures out.new) };
+
+    /// Makes a transmission, which goes on with the round of its process or begins it, and writes its lines.
+    ///
+    /// # Errors
+    /// `Write` where a put failed, and `Memory` where a growth is refused: then a first part of the lines is written.
+    fn make<O: Sink>(
+        &mut self,
+        alloc: Global,
+        inputs: &'t Inputs,
+        senders: &[Sender],
+        transmission: &Transmission,
+        out: &mut O,
+    ) -> Result<(), RunFault>
+        requires puts { O.failures out.old < 2 ^ 32 }
+        requires linked { All (λ sender. IsLinked inputs.now.table inputs.now.settings sender.link)
+            senders.now }
+        requires named { HasBlock (length senders.now) transmission.now }
+        requires placed { transmission.now.process < places self.old }
+        requires kept { (before : List Transmission) × (ended : List (List Transmission))
+            × (length before ≤ 4096) × IsOfRound (continued before transmission.now) transmission.now
+            × Keeps self.old senders.now before ended }
+        ensures text { (before : List Transmission) (ended : List (List Transmission))
+            → IsOfRound (continued before transmission.now) transmission.now
+            → Keeps self.old senders.now before ended
+            → Writes (O.written out.old) (O.written out.new) result
+            (said_if words (sender_of senders.now transmission.now)
+            (continued before transmission.now) transmission.now) }
+        ensures kept { OnOk result ((before : List Transmission) (ended : List (List Transmission))
+            → IsOfRound (continued before transmission.now) transmission.now
+            → Keeps self.old senders.now before ended
+            → Keeps self.new senders.now (before ++ transmission.now ∷ []) ended) }
+        ensures places { OnOk result (places self.new ≡ places self.old) }
+        ensures put { FailsAs RunFault.Write result (O.failures out.old) (O.failures out.new) };
+}
+
+/// Makes the transmissions of a schedule, each behind the round that it ends, and writes the lines of both.
+///
+/// # Errors
+/// `Write` where a put failed, and `Memory` where a growth is refused: then a first part of the lines is written.
+pub(crate) fn follow<'t, W: Walk<'t>, O: Sink>(
+    alloc: Global,
+    inputs: &'t Inputs,
+    senders: &[Sender],
+    walk: &mut W,
+    out: &mut O,
+) -> Result<(), RunFault>
+    requires puts { O.failures out.old < 2 ^ 32 }
+    requires linked { All (λ sender. IsLinked inputs.now.table inputs.now.settings sender.link)
+        senders.now }
+    requires named { All (HasBlock (length senders.now)) inputs.now.schedule.transmissions.items }
+    requires few { length inputs.now.schedule.transmissions.items ≤ 4096 }
+    requires placed { All (λ x. x.process < W.places walk.old)
+        inputs.now.schedule.transmissions.items }
+    requires rounds { AreOfRounds inputs.now.schedule.transmissions.items }
+    requires nothing { W.Keeps walk.old senders.now [] [] }
+    ensures text { Writes (O.written out.old) (O.written out.new) result
+        (pieces_joined (turns W.words senders.now [] inputs.now.schedule.transmissions.items)) }
+    ensures kept { OnOk result
+        (W.Keeps walk.new senders.now inputs.now.schedule.transmissions.items
+        (ended_rounds [] inputs.now.schedule.transmissions.items)) }
+    ensures places { OnOk result (W.places walk.new ≡ W.places walk.old) }
+    ensures put { FailsAs RunFault.Write result (O.failures out.old) (O.failures out.new) }
+{
+    let schedule = inputs.schedule.transmissions.as_slice();
+    for (index, transmission) in schedule.iter().enumerate() {
+        let before = &schedule[..index];
+        end_before(alloc, inputs, senders, before, transmission, walk, out)?;
+        walk.make(alloc, inputs, senders, transmission, out)?;
+    }
+    Ok(())
+}
+
+// Ends the round of a transmission's process, where it is fresh.
+fn end_before<'t, W: Walk<'t>, O: Sink>(
+    alloc: Global,
+    inputs: &'t Inputs,
+    senders: &[Sender],
+    before: &[Transmission],
+    transmission: &Transmission,
+    walk: &mut W,
+    out: &mut O,
+) -> Result<(), RunFault>
+    requires puts { O.failures out.old < 2 ^ 32 }
+    requires linked { All (λ sender. IsLinked inputs.now.table inputs.now.settings sender.link)
+        senders.now }
+    requires named { All (HasBlock (length senders.now)) before.now }
+    requires placed { transmission.now.process < W.places walk.old }
+    requires kept { (ended : List (List Transmission)) × (length ended ≤ 65535)
+        × W.Keeps walk.old senders.now before.now ended }
+    ensures text { Writes (O.written out.old) (O.written out.new) result
+        (if transmission.now.fresh
+        then round_lines W.words senders.now transmission.now.process
+        (round_of transmission.now.process before.now)
+        else []) }
+    ensures kept { OnOk result ((ended : List (List Transmission))
+        → W.Keeps walk.old senders.now before.now ended
+        → W.Keeps walk.new senders.now before.now
+        (ended ++ ended_by before.now transmission.now)) }
+    ensures places { OnOk result (W.places walk.new ≡ W.places walk.old) }
+    ensures put { FailsAs RunFault.Write result (O.failures out.old) (O.failures out.new) }
+{
+    if !transmission.fresh {
+        return Ok(());
+    }
+    walk.end_round(alloc, inputs, senders, transmission.process, before, out)
+}
+
+/// Ends the rounds that no transmission ends, by process, and writes their lines.
+///
+/// # Errors
+/// `Write` where a put failed, and `Memory` where a growth is refused: then a first part of the lines is written.
+pub(crate) fn end_all<'t, W: Walk<'t>, O: Sink>(
+    alloc: Global,
+    inputs: &'t Inputs,
+    senders: &[Sender],
+    walk: &mut W,
+    out: &mut O,
+) -> Result<(), RunFault>
+    requires puts { O.failures out.old < 2 ^ 32 }
+    requires linked { All (λ sender. IsLinked inputs.now.table inputs.now.settings sender.link)
+        senders.now }
+    requires named { All (HasBlock (length senders.now)) inputs.now.schedule.transmissions.items }
+    requires few { length inputs.now.schedule.transmissions.items ≤ 4096 }
+    requires placed { 16 ≤ W.places walk.old }
+    requires kept { W.Keeps walk.old senders.now inputs.now.schedule.transmissions.items
+        (ended_rounds [] inputs.now.schedule.transmissions.items) }
+    ensures text { Writes (O.written out.old) (O.written out.new) result
+        (pieces_joined (last_rounds W.words senders.now inputs.now.schedule.transmissions.items)) }
+    ensures kept { OnOk result
+        (W.Keeps walk.new senders.now inputs.now.schedule.transmissions.items
+        (all_rounds inputs.now.schedule.transmissions.items)) }
+    ensures put { FailsAs RunFault.Write result (O.failures out.old) (O.failures out.new) }
+{
+    let schedule = inputs.schedule.transmissions.as_slice();
+    for process in 0..PROCESSES {
+        walk.end_round(alloc, inputs, senders, process, schedule, out)?;
+    }
+    Ok(())
+}
