@@ -1,6 +1,7 @@
 pub mod Statuses
 pub mod Crossing
 pub mod Sending
+pub mod Findings
 pub mod Receiving
 pub mod Numbers
 pub mod Rates

@@ -11,6 +11,7 @@ pub mod coding;
 mod coding_tests;
 pub mod crossing;
 pub mod fault;
+mod findings;
 pub mod numbers;
 pub mod rates;
 pub mod receiving;

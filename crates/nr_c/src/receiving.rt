@@ -1,20 +1,21 @@
 //! Receiving a transport block over its transmissions.
 
-ghost use Rattle.std.specs.Prelude.{◌≡◌, ◌*◌, ◌++◌, ◌∷◌, [], Bool, List, length, map, IfOk};
+ghost use Rattle.std.specs.Prelude.{◌≡◌, ◌++◌, ◌∷◌, [], List, map, true, IfOk};
 ghost use Rattle.nr_graphpick.specs.Refusal.{Gives, with_fault};
 ghost use Rattle.nr_shifttable.specs.Accepted.{IsTable};
 ghost use Rattle.nr_blockdesk.specs.Explains.{Reception, reception, reception_said};
 ghost use Rattle.nr_blockdesk.specs.Heard.{IsRecordOf};
 ghost use Rattle.nr_blockdesk.specs.Link.{IsLink, link_said};
-ghost use Rattle.nr_blockdesk.specs.Outcome.{delivered, outcome_of};
+ghost use Rattle.nr_blockdesk.specs.Outcome.{outcome_of};
 ghost use Rattle.nr_blockdesk.specs.Receiving.{RefusesAs, verdict};
 ghost use Rattle.nr_c.specs.Crossing.{settings_of, tx_of};
-ghost use Rattle.nr_c.specs.Receiving.{Decides, heard_octet, heard_said, one_more_said, receive_by, receive_into_said, receive_said};
+ghost use Rattle.nr_c.specs.Findings.{Decides, findings_of, has_room, lefts, outcome_number, outcomes_of, places, room_in};
+ghost use Rattle.nr_c.specs.Receiving.{heard_octet, heard_said, one_more_said, receive_by, receive_into_said, receive_said};
 
-use crate::crossing::{NrSettings, NrTx, write_octets};
+use crate::crossing::{NrSettings, NrTx};
 use crate::fault::Fault;
+use crate::findings::{Found, Room, outcome_number};
 use crate::table::read;
-use nr_bitvec::Bits;
 use nr_blockdesk::{
     DeskFault, Heard, Outcome, Receiver, Settings, Tx, links_are_sound, nothing_is_open,
 };
@@ -24,19 +25,22 @@ use std::alloc::{AllocError, Global};
 // The most transmissions of a call, each of which takes a place on the stack.
 const MOST_TRANSMISSIONS: usize = 256;
 
-/// What may be handed up of a transport block of `a` bits after the transmissions `txs`, of which `heard` has what was
-/// received, an octet for each place, one transmission after the other: 0 and 1 are bits, and any other octet is an erased
-/// place (TS 38.212, 5.4.2 and 5.5). Writes to `outcome` 0, where a position below K' is left that isn't fixed; 1, where the
-/// one transport block that explains all is delivered: it goes to `block`, eight bits to an octet, the first most
-/// significant; 2, where no transport block explains all. `block` is as it was unless it is delivered.
+/// What may be handed up of a transport block of `a` bits after each of the transmissions `txs`, of which `heard` has what
+/// was received, an octet for each place, one transmission after the other: 0 and 1 are bits, and any other octet is an
+/// erased place (TS 38.212, 5.4.2 and 5.5). Writes to `outcomes`, which has an entry for each transmission, the outcome of
+/// that transmission and those before it: 0, where a position below K' is left that isn't fixed; 1, where the one transport
+/// block that explains all is delivered; 2, where no transport block explains all. Writes to `left`, which has an entry for
+/// each of the C code blocks, how many positions below K' are left after the last transmission. Where the last outcome is 1
+/// the transport block goes to `block`, eight bits to an octet, the first most significant; else `block` is as it was.
 ///
 /// # Errors
 ///
 /// In this order: 3 `Many`, where there are more than 256 transmissions; the faults of the shift table, 21 to 30, as
 /// `nr_table_check` has them; of the block 40 `Size`, 41 `RateRange`, 45 `Uneven`, 46 `Graph`, 47 `NoBuffer`; for each
 /// transmission in turn 56 `Length`, where fewer than G octets are left, 50 `Rv`, 51 `Order`, 52 `Layers`, 53 `Total`, 54
-/// `Ragged`, 55 `NoneScheduled`; 56 `Length`, where octets are left over; 2 `Room`, where a block is delivered and `block`
-/// does not have a / 8 octets; 1, want of memory, where it is met. `outcome` and `block` are as they were then.
+/// `Ragged`, 55 `NoneScheduled`; 56 `Length`, where octets are left over; 2 `Room`, where `outcomes` or `left` does not have
+/// so many entries, or a block is delivered at last and `block` does not have a / 8 octets; 1, want of memory, where it is
+/// met. `outcomes`, `left` and `block` are as they were then.
 #[unsafe(no_mangle)]
 pub extern "C" fn nr_receive(
     alloc: Global,
@@ -45,39 +49,30 @@ pub extern "C" fn nr_receive(
     a: u32,
     txs: &[NrTx],
     heard: &[u8],
-    outcome: &mut u32,
+    outcomes: &mut [u32],
+    left: &mut [u32],
     block: &mut [u8],
 ) -> u32
-    ensures { Decides result outcome.old outcome.new block.old block.new
-        (receive_into_said table.now (settings_of settings.now) a txs.now heard.now (length block.old)) }
+    ensures { Decides result (places outcomes.old left.old block.old)
+        (places outcomes.new left.new block.new)
+        (receive_into_said table.now (settings_of settings.now) a txs.now heard.now
+        (room_in (places outcomes.old left.old block.old))) }
 {
-    match receive_into(
-        alloc,
-        table,
-        settings.settings(),
-        a,
-        txs,
-        heard,
-        block.len(),
-    ) {
-        Ok(Outcome::Open) => {
-            *outcome = 0;
-            0
-        }
-        Ok(Outcome::Delivered(bits)) => {
-            write_octets(&bits, block);
-            *outcome = 1;
-            0
-        }
-        Ok(Outcome::Contradiction) => {
-            *outcome = 2;
+    let room = Room {
+        outcomes: outcomes.len(),
+        left: left.len(),
+        block: block.len(),
+    };
+    match receive_into(alloc, table, settings.settings(), a, txs, heard, room) {
+        Ok(found) => {
+            found.write(outcomes, left, block);
             0
         }
         Err(fault) => fault.status(),
     }
 }
 
-// The outcome, for a room of so many octets.
+// What is found, for so much room.
 fn receive_into(
     alloc: Global,
     table: &[u8],
@@ -85,26 +80,20 @@ fn receive_into(
     a: u32,
     txs: &[NrTx],
     octets: &[u8],
-    room: usize,
-) -> Result<Outcome, Fault>
-    ensures said { Gives Fault.Memory verdict result
+    room: Room,
+) -> Result<Found, Fault>
+    ensures said { Gives Fault.Memory findings_of result
         (receive_into_said table.now settings a txs.now octets.now room) }
-    ensures room { IfOk result (λ outcome. (bits : List Bool)
-        → verdict outcome ≡ delivered bits → length bits ≡ 8 * room) }
+    ensures room { IfOk result (λ found. has_room room (findings_of found) ≡ true) }
 {
-    match receive(alloc, table, settings, a, txs, octets)? {
-        Outcome::Delivered(bits) => {
-            if bits.len() != 8 * room.min(1 << 24) {
-                return Err(Fault::Room);
-            }
-            Ok(Outcome::Delivered(bits))
-        }
-        Outcome::Open => Ok(Outcome::Open),
-        Outcome::Contradiction => Ok(Outcome::Contradiction),
+    let found = receive(alloc, table, settings, a, txs, octets)?;
+    if !found.fits(&room) {
+        return Err(Fault::Room);
     }
+    Ok(found)
 }
 
-// The outcome.
+// What is found.
 #[tactic(auto, unfolding(crate::specs::Receiving::receive_said))]
 fn receive(
     alloc: Global,
@@ -113,8 +102,8 @@ fn receive(
     a: u32,
     txs: &[NrTx],
     octets: &[u8],
-) -> Result<Outcome, Fault>
-    ensures { Gives Fault.Memory verdict result
+) -> Result<Found, Fault>
+    ensures { Gives Fault.Memory findings_of result
         (receive_said table.now settings a txs.now octets.now) }
 {
     if txs.len() > MOST_TRANSMISSIONS {
@@ -124,7 +113,7 @@ fn receive(
     receive_by(alloc, &table, settings, a, txs, octets)
 }
 
-// The outcome, by a shift table.
+// What is found by a shift table.
 #[tactic(auto, unfolding(crate::specs::Receiving::receive_by))]
 fn receive_by(
     alloc: Global,
@@ -133,29 +122,29 @@ fn receive_by(
     a: u32,
     txs: &[NrTx],
     octets: &[u8],
-) -> Result<Outcome, Fault>
+) -> Result<Found, Fault>
     requires { IsTable table.now }
-    ensures { Gives Fault.Memory verdict result
+    ensures { Gives Fault.Memory findings_of result
         (receive_by table.now settings a txs.now octets.now) }
 {
     let mut receiver = receiver_of(alloc, table, settings, a)?;
     hear_first(alloc, &mut receiver, txs, octets)
 }
 
-// The outcome of a receiver that has heard nothing yet.
+// What a receiver finds that has heard nothing yet.
 fn hear_first(
     alloc: Global,
     receiver: &mut Receiver<'_>,
     txs: &[NrTx],
     octets: &[u8],
-) -> Result<Outcome, Fault>
+) -> Result<Found, Fault>
     requires sound { IsLink receiver.old.link }
     requires empty { IsRecordOf receiver.old.link [] receiver.old.heard }
-    ensures { Gives Fault.Memory verdict result
+    ensures { Gives Fault.Memory findings_of result
         (heard_said receiver.old.link [] txs.now octets.now) }
 {
     nothing_is_open();
-    hear_all(alloc, receiver, txs, octets, Outcome::Open)
+    hear_all(alloc, receiver, txs, octets, Vec::new(alloc), Outcome::Open)
 }
 
 // The receiver of a transport block, which has heard nothing yet.
@@ -179,22 +168,31 @@ fn receiver_of<'t>(
     }
 }
 
-// The outcome after some more transmissions; `so_far` is the one before them.
+// What is found after some more transmissions; `outcomes` has the outcome after each of those before them, and `last` is
+// the last of these.
 #[tactic(auto, unfolding(crate::specs::Receiving::heard_said))]
 fn hear_all(
     alloc: Global,
     receiver: &mut Receiver<'_>,
     txs: &[NrTx],
     octets: &[u8],
-    so_far: Outcome,
-) -> Result<Outcome, Fault>
+    mut outcomes: Vec<u32>,
+    last: Outcome,
+) -> Result<Found, Fault>
     ensures { (list : List Reception) → IsRecordOf receiver.old.link list receiver.old.heard
-        → verdict so_far ≡ outcome_of receiver.old.link list
-        → Gives Fault.Memory verdict result (heard_said receiver.old.link list txs.now octets.now) }
+        → outcomes.items ≡ outcomes_of receiver.old.link list
+        → verdict last ≡ outcome_of receiver.old.link list
+        → Gives Fault.Memory findings_of result
+        (heard_said receiver.old.link list txs.now octets.now) }
 {
     let [tx, rest @ ..] = txs else {
         if octets.is_empty() {
-            return Ok(so_far);
+            let left = left_of(alloc, receiver)?;
+            return Ok(Found {
+                outcomes,
+                left,
+                last,
+            });
         }
         return Err(Fault::Desk(DeskFault::Length));
     };
@@ -202,9 +200,70 @@ fn hear_all(
     if octets.len() < g {
         return Err(Fault::Desk(DeskFault::Length));
     }
-    match hear(alloc, receiver, &tx.tx(), &octets[..g]) {
-        Ok(outcome) => hear_all(alloc, receiver, rest, &octets[g..], outcome),
+    match hear_next(alloc, receiver, &tx.tx(), &octets[..g], &mut outcomes) {
+        Ok(outcome) => hear_all(alloc, receiver, rest, &octets[g..], outcomes, outcome),
         Err(fault) => Err(fault),
+    }
+}
+
+// How many positions below K' of each code block aren't fixed.
+fn left_of(alloc: Global, receiver: &Receiver<'_>) -> Result<Vec<u32>, AllocError>
+    ensures { IfOk result
+        (λ left. left.items ≡ lefts receiver.now.link receiver.now.heard) }
+{
+    let count = block_count(receiver);
+    let mut left = Vec::with_capacity(alloc, count as usize)?;
+    for r in 0..count {
+        left.push_reserved(receiver.left(r));
+    }
+    Ok(left)
+}
+
+// C, the number of code blocks.
+fn block_count(receiver: &Receiver<'_>) -> u32
+    ensures { result ≡ receiver.now.link.plan.c }
+{
+    receiver.plan().c
+}
+
+// The outcome after one more transmission, whose number goes to the end of those before it.
+fn hear_next(
+    alloc: Global,
+    receiver: &mut Receiver<'_>,
+    tx: &Tx,
+    octets: &[u8],
+    outcomes: &mut Vec<u32>,
+) -> Result<Outcome, Fault>
+    ensures link { receiver.new.link ≡ receiver.old.link }
+    ensures refused { RefusesAs Fault.Memory result (with_fault Fault.Desk
+        (reception_said receiver.old.link (reception tx.now (map heard_octet octets.now)))) }
+    ensures heard { IfOk result (λ outcome. (list : List Reception)
+        → IsRecordOf receiver.old.link list receiver.old.heard
+        → IsRecordOf receiver.old.link
+        (list ++ reception tx.now (map heard_octet octets.now) ∷ []) receiver.new.heard) }
+    ensures outcome { (list : List Reception) → IsRecordOf receiver.old.link list receiver.old.heard
+        → Gives Fault.Memory verdict result (one_more_said receiver.old.link list
+        (reception tx.now (map heard_octet octets.now))) }
+    ensures outcomes { IfOk result (λ outcome. (list : List Reception)
+        → IsRecordOf receiver.old.link list receiver.old.heard
+        → outcomes.old.items ≡ outcomes_of receiver.old.link list
+        → outcomes.new.items ≡ outcomes_of receiver.old.link
+        (list ++ reception tx.now (map heard_octet octets.now) ∷ [])) }
+{
+    let outcome = hear(alloc, receiver, tx, octets)?;
+    let noted = noted(outcomes, outcome)?;
+    Ok(noted)
+}
+
+// An outcome, whose number goes to the end of those before it.
+fn noted(outcomes: &mut Vec<u32>, outcome: Outcome) -> Result<Outcome, AllocError>
+    ensures same { IfOk result (λ noted. noted ≡ outcome) }
+    ensures pushed { IfOk result (λ noted. outcomes.new.items
+        ≡ outcomes.old.items ++ outcome_number (verdict outcome) ∷ []) }
+{
+    match outcomes.push(outcome_number(&outcome)) {
+        Ok(()) => Ok(outcome),
+        Err(_) => Err(AllocError),
     }
 }
 

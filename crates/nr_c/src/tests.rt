@@ -2,6 +2,7 @@
 
 use crate::crossing::{NrSettings, NrTx};
 use crate::numbers::{NrPlan, nr_crc, nr_plan};
+use crate::receiving::nr_receive;
 use crate::sending::nr_send;
 use crate::table::{NrReport, nr_table_check};
 use std::alloc::{AllocError, Global};
@@ -176,5 +177,81 @@ fn sends(rt: HostRuntime) -> Result<(), Fail> {
             0, 0, 0, 1, 0, 0, 0, 0, 0, 0, 1, 0, 0, 0, 0, 1, 0, 0, 0, 0, 0, 0, 1, 1
         ]
     );
+    Ok(())
+}
+
+// The codeword of zeros is zeros: of octet 0, with its CRC, all 184 bits that are ever sent. A first transmission is erased,
+// the second heard whole, and of the third ones are heard where zeros were before.
+#[test]
+fn receives(rt: HostRuntime) -> Result<(), Fail> {
+    let table = practice(rt.alloc())?;
+    let txs = [
+        on_one_layer(0, 8, 1),
+        on_one_layer(0, 184, 1),
+        on_one_layer(0, 8, 1),
+    ];
+    let mut heard = [0; 200];
+    heard[..8].copy_from_slice(&[2, 3, 255, 2, 2, 2, 2, 2]);
+    heard[192..].copy_from_slice(&[1; 8]);
+    for (count, places, said, last) in [
+        (1, 8, [0, 7, 7], (24, 7)),
+        (2, 192, [0, 1, 7], (0, 0)),
+        (3, 200, [0, 1, 2], (0, 7)),
+    ] {
+        let mut outcomes = [7; 3];
+        let mut left = [7];
+        let mut block = [7];
+        assert_eq!(rt;
+            nr_receive(
+                rt.alloc(),
+                &table,
+                &PLAIN,
+                8,
+                &txs[..count],
+                &heard[..places],
+                &mut outcomes[..count],
+                &mut left,
+                &mut block
+            ),
+            0
+        );
+        assert_eq!(rt; outcomes, said);
+        assert_eq!(rt; (left[0], block[0]), last, "{count} transmissions");
+    }
+    Ok(())
+}
+
+// Too little room for the outcomes, for what is left, and for the block; a place too few, and one too many.
+#[test]
+fn receives_nothing(rt: HostRuntime) -> Result<(), Fail> {
+    let table = practice(rt.alloc())?;
+    let txs = [on_one_layer(0, 184, 1)];
+    let heard = [0; 185];
+    for (outcome_count, left_count, octets, places, status) in [
+        (0, 1, 1, 184, 2),
+        (1, 0, 1, 184, 2),
+        (1, 1, 2, 184, 2),
+        (1, 1, 1, 183, 56),
+        (1, 1, 1, 185, 56),
+    ] {
+        let mut outcomes = [7; 1];
+        let mut left = [7; 1];
+        let mut block = [7; 2];
+        assert_eq!(rt;
+            nr_receive(
+                rt.alloc(),
+                &table,
+                &PLAIN,
+                8,
+                &txs,
+                &heard[..places],
+                &mut outcomes[..outcome_count],
+                &mut left[..left_count],
+                &mut block[..octets]
+            ),
+            status
+        );
+        assert_eq!(rt; (outcomes, left, block), ([7], [7], [7, 7]));
+    }
     Ok(())
 }
