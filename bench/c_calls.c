@@ -23,7 +23,7 @@ static const NrSettings settings = {2048, 0};
 static uint8_t block[1024], bits[1 << 16], delivered[1024];
 static size_t octets;
 static NrTx tx;
-static uint32_t answer;
+static uint32_t answer, left;
 
 static void read_text(const char *path, struct text *to) {
     FILE *file = fopen(path, "rb");
@@ -47,8 +47,8 @@ static uint32_t check_table(void) {
 static uint32_t send(void) { return nr_send(table->octets, table->length, &settings, block, octets, &tx, bits, tx.g); }
 
 static uint32_t receive(void) {
-    return nr_receive(table->octets, table->length, &settings, (uint32_t)(8 * octets), &tx, 1, bits, tx.g, &answer, delivered,
-                      octets);
+    return nr_receive(table->octets, table->length, &settings, (uint32_t)(8 * octets), &tx, 1, bits, tx.g, &answer, 1, &left, 1,
+                      delivered, octets);
 }
 
 /* The least processor time of a call, in seconds. */

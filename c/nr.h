@@ -163,16 +163,18 @@ enum NrHeard { NR_ZERO = 0, NR_ONE = 1, NR_ERASED = 2 };
 /* What may be handed up: some bit is not fixed yet; the one transport block that explains all that was heard; there is none. */
 enum NrOutcome { NR_OPEN = 0, NR_DELIVERED = 1, NR_CONTRADICTION = 2 };
 
-/* What may be handed up of a transport block of `a` bits after the transmissions `txs`, at most 256. `heard` has the places of
-   the first one, then those of the second, and so on: txs[0].g + txs[1].g + .. octets. Parity rows (5.3.2) are applied one
+/* What may be handed up of a transport block of `a` bits after each of the transmissions `txs`, at most 256. `heard` has the places
+   of the first one, then those of the second, and so on: txs[0].g + txs[1].g + .. octets. Parity rows (5.3.2) are applied one
    unknown at a time; a block is delivered where they fix all K' bits of each code block, and its bits equal all that was heard.
-   `outcome` becomes an NrOutcome. `block` has room for a / 8 octets, which are written where the block is delivered.
+   `outcomes` has room for txs_len numbers, each the NrOutcome of its transmission and those before it. `left` has room for C
+   numbers: how many of the K' bits of each code block are not fixed after the last transmission. Where the last outcome is
+   NR_DELIVERED, `block` has room for a / 8 octets, which are written; else it is not written.
    Faults: MANY; of the table as nr_table_check has them; SIZE, RATE_RANGE, UNEVEN, GRAPH, NO_BUFFER; for each transmission in
    turn LENGTH, where fewer than g octets are left, RV, ORDER, LAYERS, TOTAL, RAGGED, NONE_SCHEDULED; LENGTH, where octets are
    left over; ROOM; MEMORY, where it is met. */
 uint32_t nr_receive(const uint8_t *table, size_t table_len, const NrSettings *settings, uint32_t a, const NrTx *txs,
-                    size_t txs_len, const uint8_t *heard, size_t heard_len, uint32_t *outcome, uint8_t *block,
-                    size_t block_len);
+                    size_t txs_len, const uint8_t *heard, size_t heard_len, uint32_t *outcomes, size_t outcomes_len,
+                    uint32_t *left, size_t left_len, uint8_t *block, size_t block_len);
 
 #ifdef __cplusplus
 }

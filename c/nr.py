@@ -81,10 +81,17 @@ class Buffer(typing.NamedTuple):
 
 
 class Received(typing.NamedTuple):
-    """What receive() answers: the outcome, and the block's octets where it is delivered, else None."""
+    """What receive() answers: the outcome after each transmission, in their order; how many of the K' bits of each code block
+    are not fixed after the last one; and the block's octets where it is delivered then, else None."""
 
-    outcome: Outcome
+    outcomes: typing.List[Outcome]
+    left: typing.List[int]
     block: typing.Optional[bytearray]
+
+    @property
+    def outcome(self):
+        """The last outcome; OPEN before the first transmission."""
+        return self.outcomes[-1] if self.outcomes else Outcome.OPEN
 
 
 class Tx(typing.NamedTuple):
@@ -195,15 +202,12 @@ def receive(table, a, receptions, *, rate2048, lbrm=0):
         if given.g != len(heard):
             raise Fault(_LENGTH)
     txs, heard = (_Tx * len(pairs))(*(given for given, _ in pairs)), b"".join(octets for _, octets in pairs)
-    settings, outcome = _Settings(_number(rate2048), _number(lbrm)), ctypes.c_uint32()
-    block = bytearray(min(_number(a), _MOST_BITS) // 8)
-    room = _room(block)
-    _judge(
-        _library.nr_receive(
-            table, len(table), ctypes.byref(settings), a, txs, len(pairs), heard, len(heard), ctypes.byref(outcome), room, len(room)
-        )
-    )
-    return Received(Outcome(outcome.value), block if outcome.value == Outcome.DELIVERED else None)
+    settings, block = _Settings(_number(rate2048), _number(lbrm)), bytearray(min(_number(a), _MOST_BITS) // 8)
+    outcomes, left, room = (ctypes.c_uint32 * len(pairs))(), (ctypes.c_uint32 * _plan(rate2048, a).c)(), _room(block)
+    given = table, len(table), ctypes.byref(settings), a, txs, len(pairs), heard, len(heard)
+    _judge(_library.nr_receive(*given, outcomes, len(outcomes), left, len(left), room, len(room)))
+    found = [Outcome(it) for it in outcomes]
+    return Received(found, list(left), block if found and found[-1] == Outcome.DELIVERED else None)
 
 
 _LENGTH = 56
@@ -280,7 +284,7 @@ def _load():
         "nr_buffer": [place, number, number, place],
         "nr_lengths": [number, number, place, *octets],
         "nr_send": [*octets, place, *octets, place, *octets],
-        "nr_receive": [*octets, place, number, *octets, *octets, place, *octets],
+        "nr_receive": [*octets, place, number, *[*octets] * 5],
     }.items():
         call = getattr(library, name)
         call.argtypes, call.restype = takes, ctypes.c_char_p if name == "nr_fault_name" else number

@@ -7,5 +7,5 @@ for rv in (0, 2, 3, 1):
     tx = nr.Tx(g=400, rv=rv, qm=2)
     bits = nr.send(table, block, tx, rate2048=2048)
     heard.append((tx, [nr.ERASED if random.random() < 0.5 else bit for bit in bits]))
-    answer = nr.receive(table, 8 * len(block), heard, rate2048=2048)
-    print(answer.outcome.name.lower(), answer.block)
+answer = nr.receive(table, 8 * len(block), heard, rate2048=2048)
+print(*(it.name.lower() for it in answer.outcomes), answer.left, answer.block)

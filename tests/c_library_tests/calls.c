@@ -87,29 +87,37 @@ static void sending(void) {
     free(out);
 }
 
+/* What is received of a block of 8 bits, which is one code block. */
+static uint32_t receive(const NrTx *txs, size_t count, const uint8_t *heard, size_t heard_len, uint32_t *outcomes,
+                        size_t outcomes_len, uint32_t *left, uint8_t *block) {
+    return nr_receive(table, table_len, &settings, 8, txs, count, heard, heard_len, outcomes, outcomes_len, left, 1, block, 1);
+}
+
 /* All of transmission 1, which leaves 4 bits; then also the last four of transmission 2. */
 static void receiving(void) {
     static const uint8_t sent[] = {0x10, 0x21, 0x03, 0x10, 0x21, 0x03, 0x30};
     NrTx *txs = (NrTx *)filled(2 * sizeof(NrTx));
     uint8_t bits[56], *heard = (uint8_t *)filled(52), *block = (uint8_t *)filled(1);
-    uint32_t outcome = 7;
+    uint32_t *outcomes = (uint32_t *)filled(2 * sizeof(uint32_t)), *left = (uint32_t *)filled(sizeof(uint32_t));
     txs[0] = transmission(0, 24, 1);
     txs[1] = transmission(0, 28, 1);
     bits_of(sent, sizeof sent, bits);
     memcpy(heard, bits, 24);
     memset(heard + 24, NR_ERASED, 24);
     memcpy(heard + 48, bits + 48, 4);
-    CHECK(nr_receive(table, table_len, &settings, 8, txs, 2, heard, 51, &outcome, block, 1) == NR_LENGTH);
-    CHECK(nr_receive(table, table_len, &settings, 8, txs, 2, heard, 52, &outcome, block, 0) == NR_ROOM);
-    CHECK(outcome == 7 && is_filled(block, 1));
-    CHECK(nr_receive(table, table_len, &settings, 8, txs, 1, heard, 24, &outcome, block, 1) == NR_OK);
-    CHECK(outcome == NR_OPEN && is_filled(block, 1));
-    CHECK(nr_receive(table, table_len, &settings, 8, txs, 2, heard, 52, &outcome, block, 1) == NR_OK);
-    CHECK(outcome == NR_DELIVERED && block[0] == 1);
+    CHECK(receive(txs, 2, heard, 51, outcomes, 2, left, block) == NR_LENGTH);
+    CHECK(receive(txs, 2, heard, 52, outcomes, 1, left, block) == NR_ROOM);
+    CHECK(is_filled(outcomes, 2 * sizeof *outcomes) && is_filled(left, sizeof *left) && is_filled(block, 1));
+    CHECK(receive(txs, 1, heard, 24, outcomes, 1, left, block) == NR_OK);
+    CHECK(outcomes[0] == NR_OPEN && is_filled(outcomes + 1, sizeof *outcomes) && *left == 4 && is_filled(block, 1));
+    CHECK(receive(txs, 2, heard, 52, outcomes, 2, left, block) == NR_OK);
+    CHECK(outcomes[0] == NR_OPEN && outcomes[1] == NR_DELIVERED && *left == 0 && block[0] == 1);
     heard[0] = !heard[0];
     block[0] = 0xA5;
-    CHECK(nr_receive(table, table_len, &settings, 8, txs, 2, heard, 52, &outcome, block, 1) == NR_OK);
-    CHECK(outcome == NR_CONTRADICTION && is_filled(block, 1));
+    CHECK(receive(txs, 2, heard, 52, outcomes, 2, left, block) == NR_OK);
+    CHECK(outcomes[0] == NR_OPEN && outcomes[1] == NR_CONTRADICTION && *left == 0 && is_filled(block, 1));
+    free(left);
+    free(outcomes);
     free(block);
     free(heard);
     free(txs);

@@ -44,7 +44,7 @@ static uint8_t block[OCTETS], heard[2 * G];
 static NrTx txs[2];
 static struct {
     NrReport report;
-    uint32_t parity, outcome;
+    uint32_t parity, outcomes[2], left;
     uint8_t bits[G], coded[990], block[OCTETS];
 } rooms;
 
@@ -63,12 +63,13 @@ static uint32_t codeword(void) {
 static uint32_t send(void) { return nr_send(table, table_len, &settings, block, OCTETS, txs, rooms.bits, G); }
 
 static uint32_t receive(void) {
-    return nr_receive(table, table_len, &settings, 8 * OCTETS, txs, 2, heard, 2 * G, &rooms.outcome, rooms.block, OCTETS);
+    return nr_receive(table, table_len, &settings, 8 * OCTETS, txs, 2, heard, 2 * G, rooms.outcomes, 2, &rooms.left, 1, rooms.block,
+                      OCTETS);
 }
 
 static int is_right(const char *name) {
     if (!strcmp(name, "nr_send")) return !memcmp(rooms.bits, heard + G, G);
-    if (!strcmp(name, "nr_receive")) return rooms.outcome == NR_DELIVERED && !memcmp(rooms.block, block, OCTETS);
+    if (!strcmp(name, "nr_receive")) return rooms.outcomes[1] == NR_DELIVERED && !memcmp(rooms.block, block, OCTETS);
     return 1;
 }
 

@@ -133,7 +133,9 @@ class Answers(unittest.TestCase):
             ([second], bits[1][:6000] + bytes(range(2, 256)) * 94 + b"\2" * 124, 0),
         ]:
             with self.subTest(transmissions=len(txs), outcome=outcome):
-                found, room = built.struct(), built.Room(len(block))
-                status = built.call("nr_receive", DRAWN, built.settings(2048), 8 * len(block), txs, heard, found, room)
-                self.assertEqual((status, found.numbers()), (0, [outcome]))
+                found, left, room = built.Room(len(txs), item=4), built.Room(2, item=4), built.Room(len(block))
+                given = built.settings(2048), 8 * len(block), txs, heard
+                self.assertEqual(built.call("nr_receive", DRAWN, *given, found, left, room), 0)
+                self.assertEqual(found.numbers()[-1:], [outcome] * bool(txs))
+                self.assertEqual(any(left.numbers()), outcome == 0)
                 self.assertEqual(room.octets(), block if outcome == 1 else b"\xa5" * len(block))

@@ -1,4 +1,4 @@
-"""Random schedules, against the program linksim: what is sent, what is refused, and what is handed up."""
+"""Random schedules, against the program linksim: what is sent, what is refused, what is left, and what is handed up."""
 
 import pathlib
 import random
@@ -90,23 +90,17 @@ class Case:
             for place in erased:
                 bits[place] = nr.ERASED
             taken[n].append((tx, bits))
+            left = nr.receive(self.table, 8 * len(self.blocks[n]), taken[n], **link).left
+            lines += [f"left {number} {n + 1} {r} {count}" for r, count in enumerate(left)]
         for number, (block, receptions) in enumerate(zip(self.blocks, taken), 1):
             answer = nr.receive(self.table, 8 * len(block), receptions, **link)
             octets = f" {answer.block.hex()}" if answer.block is not None else ""
-            lines.append(f"block {number} {answer.outcome.name.lower()} tx {len(receptions)}{octets}")
+            failed = f"failed {sum(map(bool, answer.left)) if answer.outcome == nr.Outcome.OPEN else 0} of {len(answer.left)}"
+            lines.append(f"block {number} {answer.outcome.name.lower()} tx {len(receptions)} {failed}{octets}")
+            for count, outcome in enumerate(answer.outcomes, 1):
+                before = nr.receive(self.table, 8 * len(block), receptions[:count], **link)
+                assert before.outcome == outcome, f"another outcome after {count} transmissions of block {number}"
         return lines
-
-
-def seen(text):
-    """The program's lines without the counts that the library does not tell."""
-    lines = []
-    for line in text.splitlines():
-        words = line.split()
-        if words[0] == "block":
-            line = " ".join(words[:5] + words[9:])
-        if words[0] not in ("left", "total"):
-            lines.append(line)
-    return lines
 
 
 class Schedules(unittest.TestCase):
@@ -124,7 +118,7 @@ class Schedules(unittest.TestCase):
             with self.subTest(seed=seed):
                 case = Case(seed)
                 text = built.ran([program, "run", *case.files(self.folder)])[1].decode()
-                self.assertEqual(seen(text), case.lines())
+                self.assertEqual([line for line in text.splitlines() if not line.startswith("total ")], case.lines())
                 said += text
         for word in ["sent", "refused", "open", "delivered", "contradiction", "Graph", "NoBuffer", "Ragged", "NoneScheduled"]:
             self.assertIn(word, said)

@@ -72,7 +72,8 @@ class Statuses(unittest.TestCase):
         self.refused(status, "nr_send", text, settings, block, tx, built.Room(room))
 
     def refused_receive(self, status, text=PRACTICE, settings=SETTINGS, a=8, txs=(TX,), heard=bytes(24), room=1):
-        self.refused(status, "nr_receive", text, settings, a, list(txs), heard, built.struct(), built.Room(room))
+        outcomes, left = built.Room(len(txs), item=4), built.Room(1, item=4)
+        self.refused(status, "nr_receive", text, settings, a, list(txs), heard, outcomes, left, built.Room(room))
 
     def refused_codeword(self, status, text=PRACTICE, rate2048=2048, a=8, bits=bytes(24), room=200):
         self.refused(status, "nr_codeword", text, rate2048, a, bits, built.Room(room))
@@ -127,6 +128,9 @@ class Statuses(unittest.TestCase):
         # All zeros are the code word of the block of zeros, and G = 32 are enough to fix it.
         for room in [0, 2, 100]:
             self.refused_receive(2, txs=[built.tx(32)], heard=bytes(32), room=room)
+        for outcomes, left in [(0, 1), (2, 1), (1, 0), (1, 2)]:
+            rooms = built.Room(outcomes, item=4), built.Room(left, item=4), built.Room(1)
+            self.refused(2, "nr_receive", PRACTICE, SETTINGS, 8, [TX], bytes(24), *rooms)
         for room in [0, 2, 344]:
             self.refused(2, "nr_lengths", 2048, 8, TX, built.Room(room, item=4))
 

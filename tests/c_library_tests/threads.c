@@ -11,7 +11,7 @@ static size_t table_len;
 static const NrSettings settings = {2048, 0};
 
 struct answer {
-    uint32_t status, outcome, parity;
+    uint32_t status, outcome, parity, left;
     uint8_t bits[G], block[OCTETS];
 };
 
@@ -32,7 +32,8 @@ static void answer(uint32_t seed, struct answer *to) {
     if (!to->status) to->status = nr_send(table, table_len, &settings, block, OCTETS, &tx, to->bits, G);
     for (int place = 0; place < G; place++) heard[place] = next(&seed) >> 24 < 64 ? NR_ERASED : to->bits[place];
     if (!to->status)
-        to->status = nr_receive(table, table_len, &settings, 8 * OCTETS, &tx, 1, heard, G, &to->outcome, to->block, OCTETS);
+        to->status = nr_receive(table, table_len, &settings, 8 * OCTETS, &tx, 1, heard, G, &to->outcome, 1, &to->left, 1, to->block,
+                                OCTETS);
     if (to->outcome == NR_DELIVERED && memcmp(to->block, block, OCTETS)) to->status = 99;
 }
 
