@@ -74,7 +74,7 @@ abbrev pub Tells : {X : Type 0} → ℕ → X → X → Result X Fault → Type 
 Tells status old new (Ok x) = (status ≡ 0) × (new ≡ x)
 Tells status old new (Err e) = (status ≡ status_of e) × (new ≡ old)
 
--- the same of a call that may want memory
+-- the same of a call that may want memory where nothing refuses it
 abbrev pub Leaves : {X : Type 0} → ℕ → X → X → Result X Fault → Type 0
 Leaves status old new (Ok x) = ((status ≡ 0) × (new ≡ x)) ⊎ ((status ≡ 1) × (new ≡ old))
-Leaves status old new (Err e) = ((status ≡ status_of e) ⊎ (status ≡ 1)) × (new ≡ old)
+Leaves status old new (Err e) = (status ≡ status_of e) × (new ≡ old)

@@ -1,6 +1,6 @@
 //! Receiving a transport block over its transmissions.
 
-ghost use Rattle.std.specs.Prelude.{◌≡◌, ◌++◌, ◌∷◌, [], List, map, true, IfOk};
+ghost use Rattle.std.specs.Prelude.{◌≡◌, ◌<◌, ◌++◌, ◌∷◌, [], Err, List, length, map, true, IfOk};
 ghost use Rattle.nr_graphpick.specs.Refusal.{Gives, with_fault};
 ghost use Rattle.nr_shifttable.specs.Accepted.{IsTable};
 ghost use Rattle.nr_blockdesk.specs.Explains.{Reception, reception, reception_said};
@@ -53,10 +53,11 @@ pub extern "C" fn nr_receive(
     left: &mut [u32],
     block: &mut [u8],
 ) -> u32
-    ensures { Decides result (places outcomes.old left.old block.old)
+    ensures said { Decides result (places outcomes.old left.old block.old)
         (places outcomes.new left.new block.new)
         (receive_into_said table.now (settings_of settings.now) a txs.now heard.now
         (room_in (places outcomes.old left.old block.old))) }
+    ensures many { 256 < length txs.now → result ≡ 3 }
 {
     let room = Room {
         outcomes: outcomes.len(),
@@ -85,6 +86,7 @@ fn receive_into(
     ensures said { Gives Fault.Memory findings_of result
         (receive_into_said table.now settings a txs.now octets.now room) }
     ensures room { IfOk result (λ found. has_room room (findings_of found) ≡ true) }
+    ensures many { 256 < length txs.now → result ≡ Err Fault.Many }
 {
     let found = receive(alloc, table, settings, a, txs, octets)?;
     if !found.fits(&room) {
@@ -103,8 +105,9 @@ fn receive(
     txs: &[NrTx],
     octets: &[u8],
 ) -> Result<Found, Fault>
-    ensures { Gives Fault.Memory findings_of result
+    ensures said { Gives Fault.Memory findings_of result
         (receive_said table.now settings a txs.now octets.now) }
+    ensures many { 256 < length txs.now → result ≡ Err Fault.Many }
 {
     if txs.len() > MOST_TRANSMISSIONS {
         return Err(Fault::Many);
