@@ -1,5 +1,5 @@
 -- The tables that spread four bits, and words that are made of what they give.
-use Rattle.std.proofs.Common.{◌≡◌, ℕ, suc, zero, ◌+◌, ◌-◌, ◌*◌, ◌/◌, ◌%◌, ◌^◌, ◌<◌, ◌≤◌, ◌==◌, ◌≢◌, ◌&&◌, inl, inr, max, nat_lt, if◌then◌else◌, Bool, true, false, List, length, get_or, slice_index_or, map, take, drop, refl, sym, ap, ◌∙◌, arith, length-take, length-drop, get_or-take, get_or-drop}
+use Rattle.std.proofs.Common.{◌≡◌, ℕ, suc, zero, ◌+◌, ◌-◌, ◌*◌, ◌/◌, ◌%◌, ◌^◌, ◌<◌, ◌≤◌, ◌==◌, ◌≢◌, ◌&&◌, inl, inr, max, nat_lt, if◌then◌else◌, Bool, true, false, List, length, get_or, slice_index_or, map, set, take, drop, refl, sym, ap, ◌∙◌, arith, length-take, length-drop, get_or-take, get_or-drop, get_or-set_same, get_or-set_other}
 use Rattle.std.proofs.Math.Nat.{mul-le-mul_right, mul-le-mul_left, div-add-mod, div-lt_iff_lt-mul, mod-lt}
 use Rattle.std.proofs.lemmas.Bool.{cases_lt, cases_eq, and_parts, lt-ltb, le-ltb, eqb-true, eqb-false, ltb-true}
 use Rattle.std.proofs.lemmas.Bool.Decides.{nat_tests}
@@ -10,14 +10,14 @@ use Rattle.std.proofs.lemmas.Nat.Bits.{bit_at-lt, bit_at_above, bit_at_or}
 use Rattle.std.specs.Int.{bit_at}
 use Rattle.std.specs.Int.RustNames.{bit_and, bit_or}
 use Rattle.std.specs.List.{range_with_len}
-use Rattle.nr_bitvec.proofs.BitFacts.{bit_at_shr, bit_at_shl_low, bit_at_shl_high, bit_at_mod}
+use Rattle.nr_bitvec.proofs.BitFacts.{bit_at_shr, bit_at_shl_low, bit_at_shl_high, bit_at_mod, bit_at_mod_above}
 use Rattle.nr_bitvec.proofs.Lists.{length-low_first, bit-low_first}
 use Rattle.nr_bitvec.proofs.Places.{same_from_bits}
 use Rattle.nr_bitvec.specs.Bit.{bit}
 use Rattle.nr_bitvec.specs.BitList.{low_first}
 use Rattle.nr_interleave.proofs.Seats.{whole-is}
 use Rattle.nr_interleave.specs.Interleaving.{seat_of, interleaved}
-use Rattle.nr_interleave.specs.Spreading.{first_of, IsSpread}
+use Rattle.nr_interleave.specs.Spreading.{first_of, HasRows, IsSpread}
 use Rattle.nr_interleave.specs.declared.columns.TheConstants.{BY_2, BY_4, BY_6, BY_8}
 
 -- ---- tables, tested
@@ -74,7 +74,7 @@ pub by-8 : IsSpread 8 BY_8
 unfolding all_under is_spread short_at places_at
 by-8 = spread-from 8 BY_8 refl
 
--- ---- eight bits of a row
+-- ---- bits of a row
 
 -- a number's first bits, in the first rows
 first-same : (m n s t r : ℕ) → bit_at m s ≡ bit_at n t → first_of m s r ≡ first_of n t r
@@ -83,57 +83,85 @@ first-same m n s t r same = ap (λ b. if r == 0 then b else 0) same
 first-none : (n s r : ℕ) → 0 < r → first_of n s r ≡ 0
 first-none n s r h = grind (arith, nat_tests)
 
--- a place of the eight columns is one of the word
+-- a place of so many columns is one of the word
 place-below : (qm s r most : ℕ) → s < most → r < qm → s * qm + r < most * qm
 place-below qm s r most column row =
     let columns : (s + 1) * qm ≤ most * qm = mul-le-mul_right qm (omega (arith, column)) in
     omega (arith, columns, row)
 
-pub spread-eight : (qm : ℕ) (table : List ℕ) (eight s r : ℕ) → qm ≤ 8 → IsSpread qm table → s < 8 → r < qm
-    → bit_at (bit_or (get_or table (bit_and eight 15) 0) (get_or table (bit_and (eight / 16) 15) 0 * 2 ^ (4 * qm) % 2 ^ 64)) (s * qm + r) ≡ first_of eight s r
-spread-eight qm table eight s r few spreads column row =
-    let low : bit_and eight 15 ≡ eight % 2 ^ 4 = and_mask eight 4 in
-    let high : bit_and (eight / 16) 15 ≡ (eight / 16) % 2 ^ 4 = and_mask (eight / 16) 4 in
-    let a : ℕ = get_or table (bit_and eight 15) 0 in
-    let b : ℕ = get_or table (bit_and (eight / 16) 15) 0 in
-    let inside : s * qm + r < 8 * qm = place-below qm s r 8 column row in
-    let split : bit_at (bit_or a (b * 2 ^ (4 * qm) % 2 ^ 64)) (s * qm + r) ≡ max (bit_at a (s * qm + r)) (bit_at (b * 2 ^ (4 * qm) % 2 ^ 64) (s * qm + r)) = bit_at_or a (b * 2 ^ (4 * qm) % 2 ^ 64) (s * qm + r) in
-    let cut : bit_at (b * 2 ^ (4 * qm) % 2 ^ 64) (s * qm + r) ≡ bit_at (b * 2 ^ (4 * qm)) (s * qm + r) = bit_at_mod (b * 2 ^ (4 * qm)) 64 (s * qm + r) (omega (arith, inside, few)) in
-    elim (cases_lt s 4) [
-      | inl first ↦
-          let here : bit_at a (s * qm + r) ≡ first_of eight s r = spreads.places (bit_and eight 15) s r (omega (arith, low)) first row ∙ first-same (bit_and eight 15) eight s s r (ap (λ n. bit_at n s) low ∙ bit_at_mod eight 4 s first) in
-          let none : bit_at (b * 2 ^ (4 * qm)) (s * qm + r) ≡ 0 = bit_at_shl_low b (4 * qm) (s * qm + r) (place-below qm s r 4 first row) in
+-- four bits more
+pub four-more : (qm four : ℕ) (table : List ℕ) (row word : ℕ) → 4 * (four + 1) * qm ≤ 64 → IsSpread qm table
+    → ((s r : ℕ) → s < 4 * four → r < qm → bit_at word (s * qm + r) ≡ first_of row s r)
+    → ((j : ℕ) → 4 * qm * four ≤ j → bit_at word j ≡ 0)
+    → (s r : ℕ) → s < 4 * (four + 1) → r < qm
+    → bit_at (bit_or word (get_or table (bit_and (row / 2 ^ (4 * four)) 15) 0 * 2 ^ (4 * qm * four) % 2 ^ 64)) (s * qm + r) ≡ first_of row s r
+four-more qm four table row word most spreads places above s r column below =
+    let n : ℕ = bit_and (row / 2 ^ (4 * four)) 15 in
+    let low : bit_and (row / 2 ^ (4 * four)) 15 ≡ (row / 2 ^ (4 * four)) % 2 ^ 4 = and_mask (row / 2 ^ (4 * four)) 4 in
+    let e : ℕ = get_or table n 0 in
+    let inside : s * qm + r < 4 * (four + 1) * qm = place-below qm s r (4 * (four + 1)) column below in
+    let split : bit_at (bit_or word (e * 2 ^ (4 * qm * four) % 2 ^ 64)) (s * qm + r) ≡ max (bit_at word (s * qm + r)) (bit_at (e * 2 ^ (4 * qm * four) % 2 ^ 64) (s * qm + r)) = bit_at_or word (e * 2 ^ (4 * qm * four) % 2 ^ 64) (s * qm + r) in
+    let cut : bit_at (e * 2 ^ (4 * qm * four) % 2 ^ 64) (s * qm + r) ≡ bit_at (e * 2 ^ (4 * qm * four)) (s * qm + r) = bit_at_mod (e * 2 ^ (4 * qm * four)) 64 (s * qm + r) (omega (arith, inside, most)) in
+    elim (cases_lt s (4 * four)) [
+      | inl before ↦
+          let here : bit_at word (s * qm + r) ≡ first_of row s r = places s r before below in
+          let low_place : s * qm + r < 4 * four * qm = place-below qm s r (4 * four) before below in
+          let none : bit_at (e * 2 ^ (4 * qm * four)) (s * qm + r) ≡ 0 = bit_at_shl_low e (4 * qm * four) (s * qm + r) (omega (arith, low_place)) in
           omega (arith, split, cut, here, none)
-      | inr second ↦
-          let more : s * qm ≡ (4 + (s - 4)) * qm = ap (λ k. k * qm) (omega (arith, second)) in
-          let none : bit_at a (s * qm + r) ≡ 0 = bit_at_above a (4 * qm) (s * qm + r) (spreads.short (bit_and eight 15) (omega (arith, low))) (omega (arith, more)) in
-          let place : s * qm + r - 4 * qm ≡ (s - 4) * qm + r = omega (arith, more) in
-          let four : 4 + (s - 4) ≡ s = omega (arith, second) in
-          let bits : bit_at (bit_and (eight / 16) 15) (s - 4) ≡ bit_at eight s = ap (λ n. bit_at n (s - 4)) high ∙ bit_at_mod (eight / 16) 4 (s - 4) (omega (arith, column, second)) ∙ bit_at_shr eight 4 (s - 4) ∙ ap (bit_at eight) four in
-          let here : bit_at (b * 2 ^ (4 * qm)) (s * qm + r) ≡ first_of eight s r =
-          bit_at_shl_high b (4 * qm) (s * qm + r) (omega (arith, more)) ∙ ap (bit_at b) place ∙ spreads.places (bit_and (eight / 16) 15) (s - 4) r (omega (arith, high)) (omega (arith, column, second)) row ∙ first-same (bit_and (eight / 16) 15) eight (s - 4) s r bits in
+      | inr after ↦
+          let more : s * qm ≡ (4 * four + (s - 4 * four)) * qm = ap (λ k. k * qm) (omega (arith, after)) in
+          let none : bit_at word (s * qm + r) ≡ 0 = above (s * qm + r) (omega (arith, more)) in
+          let place : s * qm + r - 4 * qm * four ≡ (s - 4 * four) * qm + r = omega (arith, more) in
+          let all : 4 * four + (s - 4 * four) ≡ s = omega (arith, after) in
+          let bits : bit_at n (s - 4 * four) ≡ bit_at row s = ap (λ k. bit_at k (s - 4 * four)) low ∙ bit_at_mod (row / 2 ^ (4 * four)) 4 (s - 4 * four) (omega (arith, column, after)) ∙ bit_at_shr row (4 * four) (s - 4 * four) ∙ ap (bit_at row) all in
+          let here : bit_at (e * 2 ^ (4 * qm * four)) (s * qm + r) ≡ first_of row s r =
+          bit_at_shl_high e (4 * qm * four) (s * qm + r) (omega (arith, more)) ∙ ap (bit_at e) place ∙ spreads.places n (s - 4 * four) r (omega (arith, low)) (omega (arith, column, after)) below ∙ first-same n row (s - 4 * four) s r bits in
           omega (arith, split, cut, here, none)
     ]
 
+pub four-above : (qm four : ℕ) (table : List ℕ) (row word : ℕ) → IsSpread qm table → ((j : ℕ) → 4 * qm * four ≤ j → bit_at word j ≡ 0)
+    → (j : ℕ) → 4 * qm * (four + 1) ≤ j
+    → bit_at (bit_or word (get_or table (bit_and (row / 2 ^ (4 * four)) 15) 0 * 2 ^ (4 * qm * four) % 2 ^ 64)) j ≡ 0
+four-above qm four table row word spreads above j past =
+    let low : bit_and (row / 2 ^ (4 * four)) 15 ≡ (row / 2 ^ (4 * four)) % 2 ^ 4 = and_mask (row / 2 ^ (4 * four)) 4 in
+    let e : ℕ = get_or table (bit_and (row / 2 ^ (4 * four)) 15) 0 in
+    let split : bit_at (bit_or word (e * 2 ^ (4 * qm * four) % 2 ^ 64)) j ≡ max (bit_at word j) (bit_at (e * 2 ^ (4 * qm * four) % 2 ^ 64) j) = bit_at_or word (e * 2 ^ (4 * qm * four) % 2 ^ 64) j in
+    let before : bit_at word j ≡ 0 = above j (omega (arith, past)) in
+    let none : bit_at (e * 2 ^ (4 * qm * four) % 2 ^ 64) j ≡ 0 =
+    elim (cases_lt j 64) [
+      | inl inside ↦
+          bit_at_mod (e * 2 ^ (4 * qm * four)) 64 j inside ∙ bit_at_shl_high e (4 * qm * four) j (omega (arith, past))
+          ∙ bit_at_above e (4 * qm) (j - 4 * qm * four) (spreads.short (bit_and (row / 2 ^ (4 * four)) 15) (omega (arith, low))) (omega (arith, past))
+      | inr outside ↦ bit_at_mod_above (e * 2 ^ (4 * qm * four)) 64 j outside
+    ] in
+    omega (arith, split, before, none)
+
+-- an entry that is one of so many has its place among them
+pub four-inside : (qm four fours : ℕ) → four < fours → 4 * fours * qm ≤ 64 → 4 * (four + 1) * qm ≤ 64
+four-inside qm four fours below most =
+    let part : 4 * (four + 1) * qm ≤ 4 * fours * qm = mul-le-mul_right qm (omega (arith, below)) in
+    omega (arith, part, most)
+
 -- ---- the rows, one after another
 
--- eight bits in the first rows, moved to another row
-row-here : (qm row e w s : ℕ) → row < qm → qm ≤ 8 → ((t r : ℕ) → t < 8 → r < qm → bit_at e (t * qm + r) ≡ first_of w t r) → s < 8 → bit_at (e * 2 ^ row % 2 ^ 64) (s * qm + row) ≡ bit_at w s
-row-here qm row e w s some few reads column =
-    let inside : s * qm + row < 8 * qm = place-below qm s row 8 column some in
+-- bits in the first rows, moved to another row
+row-here : (qm wide row e w s : ℕ) → row < qm → wide * qm ≤ 64 → ((t r : ℕ) → t < wide → r < qm → bit_at e (t * qm + r) ≡ first_of w t r) → s < wide → bit_at (e * 2 ^ row % 2 ^ 64) (s * qm + row) ≡ bit_at w s
+row-here qm wide row e w s some few reads column =
+    let inside : s * qm + row < wide * qm = place-below qm s row wide column some in
     let place : s * qm + row - row ≡ s * qm + 0 = omega arith in
     bit_at_mod (e * 2 ^ row) 64 (s * qm + row) (omega (arith, inside, few)) ∙ bit_at_shl_high e row (s * qm + row) (omega arith) ∙ ap (bit_at e) place ∙ reads s 0 column (omega (arith, some))
 
-row-apart : (qm row e w s r : ℕ) → row < qm → qm ≤ 8 → ((t u : ℕ) → t < 8 → u < qm → bit_at e (t * qm + u) ≡ first_of w t u) → s < 8 → r < qm → r ≢ row → bit_at (e * 2 ^ row % 2 ^ 64) (s * qm + r) ≡ 0
-row-apart qm row e w zero r some few reads column below apart =
-    bit_at_mod (e * 2 ^ row) 64 (0 * qm + r) (omega (arith, below, few)) ∙ elim (cases_lt r row) [
+row-apart : (qm wide row e w s r : ℕ) → row < qm → wide * qm ≤ 64 → ((t u : ℕ) → t < wide → u < qm → bit_at e (t * qm + u) ≡ first_of w t u) → s < wide → r < qm → r ≢ row → bit_at (e * 2 ^ row % 2 ^ 64) (s * qm + r) ≡ 0
+row-apart qm wide row e w zero r some few reads column below apart =
+    let inside : 0 * qm + r < wide * qm = place-below qm 0 r wide column below in
+    bit_at_mod (e * 2 ^ row) 64 (0 * qm + r) (omega (arith, inside, few)) ∙ elim (cases_lt r row) [
       | inl before ↦ bit_at_shl_low e row (0 * qm + r) (omega (arith, before))
       | inr after ↦
           let place : 0 * qm + r - row ≡ 0 * qm + (r - row) = omega (arith, after) in
           bit_at_shl_high e row (0 * qm + r) (omega (arith, after)) ∙ ap (bit_at e) place ∙ reads 0 (r - row) column (omega (arith, below)) ∙ first-none w 0 (r - row) (omega (arith, after, apart))
     ]
-row-apart qm row e w (suc s) r some few reads column below apart =
-    let inside : suc s * qm + r < 8 * qm = place-below qm (suc s) r 8 column below in
+row-apart qm wide row e w (suc s) r some few reads column below apart =
+    let inside : suc s * qm + r < wide * qm = place-below qm (suc s) r wide column below in
     let more : suc s * qm ≡ s * qm + qm = omega arith in
     bit_at_mod (e * 2 ^ row) 64 (suc s * qm + r) (omega (arith, inside, few)) ∙ bit_at_shl_high e row (suc s * qm + r) (omega (arith, more, some)) ∙ elim (cases_lt r row) [
       | inl before ↦
@@ -144,37 +172,57 @@ row-apart qm row e w (suc s) r some few reads column below apart =
           ap (bit_at e) place ∙ reads (suc s) (r - row) column (omega (arith, below)) ∙ first-none w (suc s) (r - row) (omega (arith, after, apart))
     ]
 
--- a row more
-pub row-more : (xs : List Bool) (qm columns column row word e w : ℕ) → row < qm → qm ≤ 8
-    → ((t u : ℕ) → t < 8 → u < qm → bit_at e (t * qm + u) ≡ first_of w t u) → ((j : ℕ) → j < 64 → (bit_at w j == 1) ≡ bit xs (row * columns + column + j))
-    → ((s r : ℕ) → s < 8 → r < qm → (bit_at word (s * qm + r) == 1) ≡ (nat_lt r row && bit xs (r * columns + column + s)))
-    → (s r : ℕ) → s < 8 → r < qm → (bit_at (bit_or word (e * 2 ^ row % 2 ^ 64)) (s * qm + r) == 1) ≡ (nat_lt r (row + 1) && bit xs (r * columns + column + s))
-row-more xs qm columns column row word e w some few reads window before s r in_eight in_rows =
+-- a row more, where f r s says which bit is in row r of column s
+pub row-more : (f : ℕ → ℕ → Bool) (qm wide row word e w : ℕ) → row < qm → wide * qm ≤ 64
+    → ((t u : ℕ) → t < wide → u < qm → bit_at e (t * qm + u) ≡ first_of w t u) → ((s : ℕ) → (bit_at w s == 1) ≡ f row s)
+    → ((s r : ℕ) → s < wide → r < qm → (bit_at word (s * qm + r) == 1) ≡ (nat_lt r row && f r s))
+    → (s r : ℕ) → s < wide → r < qm → (bit_at (bit_or word (e * 2 ^ row % 2 ^ 64)) (s * qm + r) == 1) ≡ (nat_lt r (row + 1) && f r s)
+row-more f qm wide row word e w some few reads row_is before s r in_columns in_rows =
     let split : bit_at (bit_or word (e * 2 ^ row % 2 ^ 64)) (s * qm + r) ≡ max (bit_at word (s * qm + r)) (bit_at (e * 2 ^ row % 2 ^ 64) (s * qm + r)) = bit_at_or word (e * 2 ^ row % 2 ^ 64) (s * qm + r) in
     elim (cases_eq r row) [
       | inl here ↦
-          let not_yet : (bit_at word (s * qm + r) == 1) ≡ false = before s r in_eight in_rows ∙ ap (λ b. b && bit xs (r * columns + column + s)) (le-ltb r row (omega (arith, here))) in
+          let not_yet : (bit_at word (s * qm + r) == 1) ≡ false = before s r in_columns in_rows ∙ ap (λ b. b && f r s) (le-ltb r row (omega (arith, here))) in
           let none : bit_at word (s * qm + r) ≡ 0 = let other = eqb-false (bit_at word (s * qm + r)) 1 not_yet in omega (arith, other, bit_at-lt word (s * qm + r)) in
-          let moved : bit_at (e * 2 ^ row % 2 ^ 64) (s * qm + r) ≡ bit_at w s = ap (λ k. bit_at (e * 2 ^ row % 2 ^ 64) (s * qm + k)) here ∙ row-here qm row e w s some few reads in_eight in
+          let moved : bit_at (e * 2 ^ row % 2 ^ 64) (s * qm + r) ≡ bit_at w s = ap (λ k. bit_at (e * 2 ^ row % 2 ^ 64) (s * qm + k)) here ∙ row-here qm wide row e w s some few reads in_columns in
           let now : bit_at (bit_or word (e * 2 ^ row % 2 ^ 64)) (s * qm + r) ≡ bit_at w s = omega (arith, split, none, moved) in
-          ap (λ k. k == 1) now ∙ window s (omega (arith, in_eight)) ∙ ap (λ k. bit xs (k * columns + column + s)) (sym here) ∙ sym (ap (λ b. b && bit xs (r * columns + column + s)) (lt-ltb r (row + 1) (omega (arith, here))))
+          ap (λ k. k == 1) now ∙ row_is s ∙ ap (λ k. f k s) (sym here) ∙ sym (ap (λ b. b && f r s) (lt-ltb r (row + 1) (omega (arith, here))))
       | inr other ↦
-          let none : bit_at (e * 2 ^ row % 2 ^ 64) (s * qm + r) ≡ 0 = row-apart qm row e w s r some few reads in_eight in_rows other in
+          let none : bit_at (e * 2 ^ row % 2 ^ 64) (s * qm + r) ≡ 0 = row-apart qm wide row e w s r some few reads in_columns in_rows other in
           let same : bit_at (bit_or word (e * 2 ^ row % 2 ^ 64)) (s * qm + r) ≡ bit_at word (s * qm + r) = omega (arith, split, none) in
           let row_same : nat_lt r row ≡ nat_lt r (row + 1) = elim (cases_lt r row) [
             | inl low ↦ lt-ltb r row low ∙ sym (lt-ltb r (row + 1) (omega (arith, low)))
             | inr high ↦ le-ltb r row high ∙ sym (le-ltb r (row + 1) (omega (arith, high, other)))
           ] in
-          ap (λ k. k == 1) same ∙ before s r in_eight in_rows ∙ ap (λ b. b && bit xs (r * columns + column + s)) row_same
+          ap (λ k. k == 1) same ∙ before s r in_columns in_rows ∙ ap (λ b. b && f r s) row_same
     ]
 
--- ---- the columns, eight after eight
+-- a row more is read
+pub read-more : (f : ℕ → ℕ → Bool) (rows : List ℕ) (row w : ℕ) → row < length rows → ((j : ℕ) → j < 64 → (bit_at w j == 1) ≡ f row j)
+    → ((r j : ℕ) → r < row → j < 64 → (bit_at (slice_index_or rows r 0) j == 1) ≡ f r j)
+    → (r j : ℕ) → r < row + 1 → j < 64 → (bit_at (slice_index_or (set rows row w) r 0) j == 1) ≡ f r j
+read-more f rows row w inside reads before r j below in_word =
+    elim (cases_eq r row) [
+      | inl here ↦
+          ap (λ k. bit_at (slice_index_or (set rows row w) k 0) j == 1) here ∙ ap (λ n. bit_at n j == 1) (get_or-set_same rows row w 0 inside)
+          ∙ reads j in_word ∙ ap (λ k. f k j) (sym here)
+      | inr other ↦
+          ap (λ n. bit_at n j == 1) (get_or-set_other rows row r w 0 other) ∙ before r j (omega (arith, below, other)) in_word
+    ]
+
+-- columns that are taken leave those after them
+pub rows-left : (xs : List Bool) (qm columns column first n : ℕ) (rows : List ℕ) → HasRows qm rows first xs columns column → HasRows qm rows (first + n) xs columns (column + n)
+rows-left xs qm columns column first n rows has r j row inside =
+    let there : first + n + j ≡ first + (n + j) = omega arith in
+    let place : r * columns + column + (n + j) ≡ r * columns + (column + n) + j = omega arith in
+    ap (λ k. bit_at (slice_index_or rows r 0) k == 1) there ∙ has r (n + j) row (omega (arith, inside)) ∙ ap (bit xs) place
+
+-- ---- the columns, a few after a few
 
 -- columns of the matrix are a part of the interleaved bits
-pub columns-word : (xs : List Bool) (qm columns column n word : ℕ) → 0 < qm → length xs % qm ≡ 0 → columns ≡ length xs / qm → n ≤ 8 → column + n ≤ columns
-    → ((s r : ℕ) → s < 8 → r < qm → (bit_at word (s * qm + r) == 1) ≡ bit xs (r * columns + column + s)) → low_first (qm * n) word ≡ take (qm * n) (drop (qm * column) (interleaved qm xs))
+pub columns-word : (xs : List Bool) (qm wide columns column n word : ℕ) → 0 < qm → length xs % qm ≡ 0 → columns ≡ length xs / qm → n ≤ wide → column + n ≤ columns
+    → ((s r : ℕ) → s < wide → r < qm → (bit_at word (s * qm + r) == 1) ≡ bit xs (r * columns + column + s)) → low_first (qm * n) word ≡ take (qm * n) (drop (qm * column) (interleaved qm xs))
 unfolding interleaved
-columns-word xs qm columns column n word some whole e few inside reads =
+columns-word xs qm wide columns column n word some whole e few inside reads =
     let placed : ℕ → Bool = λ m. bit xs (seat_of qm (length xs) m) in
     let ys : List Bool = map placed (range_with_len 0 (length xs)) in
     let long : length (map placed (range_with_len 0 (length xs))) ≡ length xs = length-map-range_with_len placed 0 (length xs) in

@@ -1,10 +1,10 @@
-//! Interleaving by eight columns of the matrix at a time.
+//! Interleaving by several columns of the matrix at a time.
 
-ghost use Rattle.std.specs.Prelude.{◌≡◌, ℕ, ◌+◌, ◌*◌, ◌/◌, ◌%◌, ◌^◌, ◌<◌, ◌≤◌, ◌==◌, ◌++◌, length};
+ghost use Rattle.std.specs.Prelude.{◌≡◌, ℕ, ◌+◌, ◌*◌, ◌/◌, ◌%◌, ◌^◌, ◌<◌, ◌≤◌, ◌==◌, ◌++◌, length, slice_index_or};
 ghost use Rattle.std.specs.Int.{bit_at};
 ghost use Rattle.nr_bitvec.specs.Bit.{bit};
 ghost use Rattle.nr_interleave.specs.Interleaving.{interleaved};
-ghost use Rattle.nr_interleave.specs.Spreading.{first_of, IsSpread};
+ghost use Rattle.nr_interleave.specs.Spreading.{first_of, HasRows, IsSpread};
 
 use nr_bitvec::Bits;
 
@@ -55,45 +55,99 @@ pub(crate) const BY_8: [u64; 16] = [
     0x0101_0101,
 ];
 
-// The eight lowest bits of `eight`, each in the first row of a column of `qm` places.
-fn spread_eight(qm: usize, fours: &[u64; 16], eight: u64) -> u64
-    requires few { qm ≤ 8 }
-    requires spreads { IsSpread qm fours.now }
-    ensures { (s r : ℕ) → s < 8 → r < qm → bit_at result (s * qm + r) ≡ first_of eight s r }
-{
-    fours[(eight & 15) as usize] | fours[(eight >> 4 & 15) as usize] << (4 * qm)
-}
-
-// Eight columns of the matrix, from column `column` on, one after the other. A row's bits past its end are those of the
-// next row.
-fn eight_columns(qm: usize, fours: &[u64; 16], bits: &Bits, columns: usize, column: usize) -> u64
-    requires few { qm ≤ 8 }
-    requires spreads { IsSpread qm fours.now }
-    requires columns { columns ≤ 2 ^ 24 }
-    requires column { column ≤ 2 ^ 24 }
-    ensures { (s r : ℕ) → s < 8 → r < qm
-        → (bit_at result (s * qm + r) == 1) ≡ bit bits.now.items (r * columns + column + s) }
+// The lowest bits of `row`, four for each of `FOURS` entries, each in the first row of a column of `QM` places.
+fn spread_low<const QM: usize, const FOURS: usize>(fours: &[u64; 16], row: u64) -> u64
+    requires some { 0 < QM }
+    requires few { QM ≤ 8 }
+    requires short { FOURS ≤ 8 }
+    requires most { 4 * FOURS * QM ≤ 64 }
+    requires spreads { IsSpread QM fours.now }
+    ensures { (s r : ℕ) → s < 4 * FOURS → r < QM → bit_at result (s * QM + r) ≡ first_of row s r }
 {
     let mut word = 0;
-    for row in 0..qm {
-        word |= spread_eight(qm, fours, bits.window(row * columns + column)) << row;
+    for four in 0..FOURS {
+        word |= fours[(row >> (4 * four) & 15) as usize] << (4 * QM * four);
     }
     word
 }
 
-// Puts the interleaved bits at the end of a list, by the table of the modulation order.
-pub(crate) fn by_columns(qm: usize, fours: &[u64; 16], bits: &Bits, spread: &mut Bits)
-    requires some { 0 < qm }
-    requires few { qm ≤ 8 }
-    requires spreads { IsSpread qm fours.now }
-    requires whole { length bits.now.items % qm ≡ 0 }
+// Columns of the matrix, one after the other, of which row r has its bits in word r of `rows` from place `first` on.
+fn join_rows<const QM: usize, const FOURS: usize>(
+    fours: &[u64; 16],
+    rows: &[u64; QM],
+    first: usize,
+) -> u64
+    requires few { QM ≤ 8 }
+    requires some { 0 < FOURS }
+    requires short { FOURS ≤ 8 }
+    requires most { 4 * FOURS * QM ≤ 64 }
+    requires spreads { IsSpread QM fours.now }
+    requires inside { first + 4 * FOURS ≤ 64 }
+    ensures { (s r : ℕ) → s < 4 * FOURS → r < QM
+        → (bit_at result (s * QM + r) == 1) ≡ (bit_at (slice_index_or rows.now r 0) (first + s) == 1) }
+{
+    let mut word = 0;
+    for row in 0..QM {
+        word |= spread_low::<QM, FOURS>(fours, rows[row] >> first) << row;
+    }
+    word
+}
+
+// Has the next columns, as many as `FOURS` entries have, in the words of the rows: reads these anew from column `column`
+// on where they have fewer from place `first` on. Answers the place where the columns begin. A row's bits past its end
+// are those of the next row.
+fn refill<const QM: usize, const FOURS: usize>(
+    rows: &mut [u64; QM],
+    first: usize,
+    bits: &Bits,
+    columns: usize,
+    column: usize,
+) -> usize
+    requires few { QM ≤ 8 }
+    requires short { FOURS ≤ 8 }
+    requires first { first ≤ 64 }
+    requires columns { columns ≤ 2 ^ 24 }
+    requires column { column ≤ 2 ^ 24 }
+    requires rows { HasRows QM rows.old first bits.now.items columns column }
+    ensures inside { result + 4 * FOURS ≤ 64 }
+    ensures rows { HasRows QM rows.new result bits.now.items columns column }
+{
+    if first + 4 * FOURS <= 64 {
+        return first;
+    }
+    for row in 0..QM {
+        rows[row] = bits.window(row * columns + column);
+    }
+    0
+}
+
+// Puts the interleaved bits at the end of a list, by the table of the modulation order, as many columns at a time as
+// `FOURS` of its entries have.
+pub(crate) fn by_columns<const QM: usize, const FOURS: usize>(
+    fours: &[u64; 16],
+    bits: &Bits,
+    spread: &mut Bits,
+)
+    requires some { 0 < QM }
+    requires few { QM ≤ 8 }
+    requires more { 0 < FOURS }
+    requires short { FOURS ≤ 8 }
+    requires most { 4 * FOURS * QM ≤ 64 }
+    requires spreads { IsSpread QM fours.now }
+    requires whole { length bits.now.items % QM ≡ 0 }
     requires room { length bits.now.items ≤ spread.old.room }
-    ensures items { spread.new.items ≡ spread.old.items ++ interleaved qm bits.now.items }
+    ensures items { spread.new.items ≡ spread.old.items ++ interleaved QM bits.now.items }
     ensures room { spread.new.room + length bits.now.items ≡ spread.old.room }
 {
-    let columns = bits.len() / qm;
-    for i in 0..columns.div_ceil(8) {
-        let word = eight_columns(qm, fours, bits, columns, 8 * i);
-        spread.push_word(qm * (columns - 8 * i).min(8), word);
+    let columns = bits.len() / QM;
+    let mut rows = [0; QM];
+    let mut first = 64;
+    let mut column = 0;
+    while column < columns {
+        let from = refill::<QM, FOURS>(&mut rows, first, bits, columns, column);
+        let word = join_rows::<QM, FOURS>(fours, &rows, from);
+        spread.push_word(QM * (columns - column).min(4 * FOURS), word);
+        first = from + 4 * FOURS;
+        column += 4 * FOURS;
     }
 }

@@ -54,10 +54,10 @@ pub fn spread_onto(qm: u32, bits: &Bits, spread: &mut Bits)
 {
     match qm {
         1 => spread.extend_range(bits, 0, bits.len()),
-        2 => by_columns(2, &BY_2, bits, spread),
-        4 => by_columns(4, &BY_4, bits, spread),
-        6 => by_columns(6, &BY_6, bits, spread),
-        8 => by_columns(8, &BY_8, bits, spread),
+        2 => by_columns::<2, 8>(&BY_2, bits, spread),
+        4 => by_columns::<4, 4>(&BY_4, bits, spread),
+        6 => by_columns::<6, 2>(&BY_6, bits, spread),
+        8 => by_columns::<8, 2>(&BY_8, bits, spread),
         _ => by_places(qm, bits, spread),
     }
 }

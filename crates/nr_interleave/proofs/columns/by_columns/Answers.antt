@@ -1,41 +1,50 @@
-use Rattle.std.proofs.Common.{◌≡◌, ◌+◌, ◌*◌, ◌/◌, ◌<◌, ◌≤◌, ◌++◌, ◌∙◌, min, length, take, ap, sym, arith}
+use Rattle.std.proofs.Common.{◌≡◌, ◌+◌, ◌*◌, ◌/◌, ◌≤◌, ◌++◌, ◌∙◌, min, length, take, ap, sym, arith}
+use Rattle.std.proofs.Math.Nat.{mul-le-mul_left}
 use Rattle.nr_bitvec.proofs.RangeWords.{taken-more}
 use Rattle.nr_bitvec.specs.BitList.{low_first}
 use Rattle.nr_interleave.specs.Interleaving.{interleaved}
-use Rattle.nr_interleave.proofs.Spreads.{columns-word, columns-all, columns-inside}
+use Rattle.nr_interleave.proofs.Spreads.{columns-word, columns-all, columns-inside, rows-left}
 use Rattle.nr_interleave.proofs.columns.by_columns.Goals as goal
 
-pub push_word-requires-clause-room : goal.push_word-requires-clause-room
-push_word-requires-clause-room c =
-    let columns : c.len.result / c.args.qm ≡ length c.args.bits.now.items / c.args.qm = ap (λ n. n / c.args.qm) c.len.ensures.value in
-    let more : 8 * c.loop-i.i < c.len.result / c.args.qm = omega (arith, c.loop-i-test.true, c.loop-i.auto.i-end, c.div_ceil-i-end.ensures) in
-    let so_far : min (8 * c.loop-i.i) (c.len.result / c.args.qm) ≡ 8 * c.loop-i.i = omega (arith, more) in
-    let placed : c.args.qm * min (8 * c.loop-i.i) (c.len.result / c.args.qm) ≡ c.args.qm * (8 * c.loop-i.i) = ap (λ n. c.args.qm * n) so_far in
-    let inside : c.args.qm * (8 * c.loop-i.i) + c.args.qm * c.min.result ≤ length c.args.bits.now.items =
-    columns-inside (length c.args.bits.now.items) c.args.qm (8 * c.loop-i.i) c.min.result c.requires.whole (omega (arith, more, c.min.ensures, columns)) in
-    omega (arith, placed, inside, c.loop-i.invariant.room, c.requires.room)
+pub push_word-requires-clause-count : goal.push_word-requires-clause-count
+push_word-requires-clause-count g c =
+    let part : g.row.QM * c.min.result ≤ g.row.QM * (4 * g.row.FOURS) = mul-le-mul_left g.row.QM (omega (arith, c.min.ensures)) in
+    omega (arith, part, c.requires.most)
 
-pub loop-i-preserved : goal.loop-i-preserved
-loop-i-preserved c =
-    let columns : c.len.result / c.args.qm ≡ length c.args.bits.now.items / c.args.qm = ap (λ n. n / c.args.qm) c.len.ensures.value in
-    let more : 8 * c.loop-i.i < c.len.result / c.args.qm = omega (arith, c.loop-i-test.true, c.loop-i.auto.i-end, c.div_ceil-i-end.ensures) in
-    let so_far : min (8 * c.loop-i.i) (c.len.result / c.args.qm) ≡ 8 * c.loop-i.i = omega (arith, more) in
-    let placed : c.args.qm * min (8 * c.loop-i.i) (c.len.result / c.args.qm) ≡ c.args.qm * (8 * c.loop-i.i) = ap (λ n. c.args.qm * n) so_far in
-    let next : min (8 * (c.loop-i.i + 1)) (c.len.result / c.args.qm) ≡ 8 * c.loop-i.i + c.min.result = omega (arith, more, c.min.ensures) in
-    let then_placed : c.args.qm * min (8 * (c.loop-i.i + 1)) (c.len.result / c.args.qm) ≡ c.args.qm * (8 * c.loop-i.i) + c.args.qm * c.min.result =
-    ap (λ n. c.args.qm * n) next ∙ omega arith in
+pub push_word-requires-clause-room : goal.push_word-requires-clause-room
+push_word-requires-clause-room g c =
+    let columns : c.len-columns.result / g.row.QM ≡ length c.args.bits.now.items / g.row.QM = ap (λ n. n / g.row.QM) c.len-columns.ensures.value in
+    let so_far : min c.loop-column.column (c.len-columns.result / g.row.QM) ≡ c.loop-column.column = omega (arith, c.loop-column-test.true) in
+    let placed : g.row.QM * min c.loop-column.column (c.len-columns.result / g.row.QM) ≡ g.row.QM * c.loop-column.column = ap (λ n. g.row.QM * n) so_far in
+    let inside : g.row.QM * c.loop-column.column + g.row.QM * c.min.result ≤ length c.args.bits.now.items =
+    columns-inside (length c.args.bits.now.items) g.row.QM c.loop-column.column c.min.result c.requires.whole (omega (arith, c.loop-column-test.true, c.min.ensures, columns)) in
+    omega (arith, placed, inside, c.loop-column.invariant.room, c.requires.room)
+
+pub loop-column-preserved : goal.loop-column-preserved
+loop-column-preserved g c =
+    let columns : c.len-columns.result / g.row.QM ≡ length c.args.bits.now.items / g.row.QM = ap (λ n. n / g.row.QM) c.len-columns.ensures.value in
+    let so_far : min c.loop-column.column (c.len-columns.result / g.row.QM) ≡ c.loop-column.column = omega (arith, c.loop-column-test.true) in
+    let placed : g.row.QM * min c.loop-column.column (c.len-columns.result / g.row.QM) ≡ g.row.QM * c.loop-column.column = ap (λ n. g.row.QM * n) so_far in
+    let next : min (c.loop-column.column + 4 * g.row.FOURS) (c.len-columns.result / g.row.QM) ≡ c.loop-column.column + c.min.result = omega (arith, c.loop-column-test.true, c.min.ensures) in
+    let then_placed : g.row.QM * min (c.loop-column.column + 4 * g.row.FOURS) (c.len-columns.result / g.row.QM) ≡ g.row.QM * c.loop-column.column + g.row.QM * c.min.result =
+    ap (λ n. g.row.QM * n) next ∙ omega arith in
     let old = c.args.spread.now.items in
-    let all = interleaved c.args.qm c.args.bits.now.items in
+    let all = interleaved g.row.QM c.args.bits.now.items in
     record {
-      spread = taken-more old c.loop-i.spread.items c.push_word.new.self.items all (low_first (c.args.qm * c.min.result) c.eight_columns-word.result) (c.args.qm * (8 * c.loop-i.i)) (c.args.qm * c.min.result)
-          (c.loop-i.invariant.spread ∙ ap (λ n. old ++ take n all) placed) c.push_word.ensures.items
-          (columns-word c.args.bits.now.items c.args.qm (c.len.result / c.args.qm) (8 * c.loop-i.i) c.min.result c.eight_columns-word.result c.requires.some c.requires.whole columns (omega (arith, c.min.ensures)) (omega (arith, more, c.min.ensures)) c.eight_columns-word.ensures)
+      spread = taken-more old c.loop-column.spread.items c.push_word.new.self.items all (low_first (g.row.QM * c.min.result) c.join_rows-word.result) (g.row.QM * c.loop-column.column) (g.row.QM * c.min.result)
+          (c.loop-column.invariant.spread ∙ ap (λ n. old ++ take n all) placed) c.push_word.ensures.items
+          (columns-word c.args.bits.now.items g.row.QM (4 * g.row.FOURS) (c.len-columns.result / g.row.QM) c.loop-column.column c.min.result c.join_rows-word.result c.requires.some c.requires.whole columns (omega (arith, c.min.ensures)) (omega (arith, c.loop-column-test.true, c.min.ensures))
+          (λ s r in_columns in_rows. c.join_rows-word.ensures s r in_columns in_rows ∙ c.refill-from.ensures.rows r s in_rows (omega (arith, in_columns, c.refill-from.ensures.inside))))
           ∙ ap (λ n. old ++ take n all) (sym then_placed);
-      room = omega (arith, placed, then_placed, c.push_word.ensures.room, c.loop-i.invariant.room);
+      room = omega (arith, placed, then_placed, c.push_word.ensures.room, c.loop-column.invariant.room);
+      rows = rows-left c.args.bits.now.items g.row.QM (c.len-columns.result / g.row.QM) c.loop-column.column c.refill-from.result (4 * g.row.FOURS) c.refill-from.new.rows c.refill-from.ensures.rows;
+      first = c.refill-from.ensures.inside;
     }
 
 pub returns-clause-items : goal.returns-clause-items
-returns-clause-items c =
-    let columns : c.len.result / c.args.qm ≡ length c.args.bits.now.items / c.args.qm = ap (λ n. n / c.args.qm) c.len.ensures.value in
-    let last : min (8 * c.loop-i.i) (c.len.result / c.args.qm) ≡ length c.args.bits.now.items / c.args.qm = omega (arith, c.loop-i-test.false, c.loop-i.auto.i-end, c.div_ceil-i-end.ensures, columns) in
-    c.loop-i.invariant.spread ∙ ap (λ xs. c.args.spread.now.items ++ xs) (columns-all c.args.bits.now.items c.args.qm (min (8 * c.loop-i.i) (c.len.result / c.args.qm)) c.requires.whole last)
+returns-clause-items g c =
+    let columns : c.len-columns.result / g.row.QM ≡ length c.args.bits.now.items / g.row.QM = ap (λ n. n / g.row.QM) c.len-columns.ensures.value in
+    let last : min c.loop-column.column (c.len-columns.result / g.row.QM) ≡ length c.args.bits.now.items / g.row.QM = omega (arith, c.loop-column-test.false, columns) in
+    let old = c.args.spread.now.items in
+    let bits = c.args.bits.now.items in
+    c.loop-column.invariant.spread ∙ ap (λ xs. old ++ xs) (columns-all bits g.row.QM (min c.loop-column.column (c.len-columns.result / g.row.QM)) c.requires.whole last)
