@@ -1,6 +1,7 @@
 //! How the program ends: what it says, where, and with which status.
 
-ghost use Rattle.std.specs.Prelude.{◌≡◌, ◌-◌, ◌^◌, ◌<◌, IfOk};
+ghost use Rattle.std.specs.Prelude.{◌≡◌, ◌==◌, ◌-◌, ◌^◌, ◌<◌, IfOk};
+ghost use Rattle.std.specs.List.{before_first};
 ghost use Rattle.std.specs.String.{string_bytes};
 ghost use Rattle.linksim.specs.Ending.{Complains, IsOnOneLine, IsRefusalLine, ended_at, output_of, status_of};
 ghost use Rattle.nr_commands.specs.Written.{WritesPrefix, with_text};
@@ -128,7 +129,8 @@ fn refusal_line(alloc: Global, fault: RunFault) -> Result<String, AllocError>
 
 // The first line of words. A fault's words are no longer; but no contract says so, and a refusal is one line.
 fn first_line(words: &str) -> &str
-    ensures { IsOnOneLine result.now }
+    ensures first { result.now ≡ before_first (λ octet. octet == 10) words.now }
+    ensures one { IsOnOneLine result.now }
 {
     match words.split_once('\n') {
         Some((line, _)) => line,
