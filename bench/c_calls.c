@@ -1,6 +1,6 @@
 /* Measures the calls of nr.h: how many a second, in processor time, the best of five rounds of a tenth of a second or more.
 
-       make -C c && cc -O2 -Ic bench/c_calls.c c/out/libnr.a -o /tmp/c_calls && /tmp/c_calls
+       make -C c && cc -O2 -Ic bench/c_calls.c c/out/libnr.a -o c/out/c_calls && c/out/c_calls
 
    It reads the tables of examples/, so it runs at the repository's top. */
 #include <stdio.h>
