@@ -40,9 +40,9 @@ class Conf(shared.InFolder):
         self.conf = self.file("c.toml", CONF)
         self.setting = curve_setting.read_setting(self.conf)
 
-    def curve(self, *words):
-        """What `tools/curve` writes; a failure is a failed test."""
-        status, output, error = shared.tool("curve", *words)
+    def curve(self, *words, folder=None):
+        """What `tools/curve` writes, run in this folder or in that of the tests; a failure is a failed test."""
+        status, output, error = shared.tool("curve", *words, folder=folder)
         self.assertEqual(status, 0, error)
         return output
 
@@ -314,7 +314,8 @@ class Picture(Conf):
         if status:
             self.skipTest("matplotlib and numpy are not there")
         self.file("c.csv", "0.2,0,40,1,40,3,40,3,900,9\n0.1,0,40,1,21,0,21,0,200,0\n0.05,0,40,1,0,0,0,0,0,0\n")
-        said = self.curve("plot", self.conf, self.folder / "c.svg")
+        # From a folder that the program isn't below: else its path is written as it is seen from there.
+        said = self.curve("plot", self.conf, self.folder / "c.svg", folder=self.folder)
         self.assertTrue((self.folder / "c.svg").read_text().startswith("<?xml"))
         first = (self.folder / "c.svg").read_bytes()
         self.assertIn("transmissions,erasure_limit,density_evolution,half_of_blocks_fail\n1,0.6667,", said)
