@@ -1,5 +1,5 @@
 -- A check by octets and words.
-use Rattle.std.specs.Prelude.{◌≡◌, ℕ, ◌+◌, ◌/◌, ◌==◌, zero, suc, ◌++◌, Bool, List, [], ◌∷◌, map}
+use Rattle.std.specs.Prelude.{◌≡◌, ℕ, ◌+◌, ◌*◌, ◌/◌, ◌==◌, zero, suc, ◌++◌, Bool, List, [], ◌∷◌, map}
 use Rattle.std.specs.Int.{bit_at}
 use Rattle.std.specs.List.{range_with_len}
 use Rattle.nr_crcattach.specs.declared.Poly.{Poly}
@@ -13,6 +13,10 @@ low_first (suc n) v = (bit_at v 0 == 1) ∷ low_first n (v / 2)
 -- the remainder of each octet times D^(L + s), in the order of the octets' numbers
 unfoldable pub octet_residues : Poly → ℕ → List ℕ
 octet_residues p s = map (λ octet. residue p (s + degree p) (high_first 8 octet)) (range_with_len 0 256)
+
+-- these for no zero octet behind each octet, for one, and so on up to seven
+unfoldable pub octet_tables : Poly → List (List ℕ)
+octet_tables p = map (λ k. octet_residues p (8 * k)) (range_with_len 0 8)
 
 -- where `remainder` is the check of some bits, `next` is that of these bits with `more` behind them
 abbrev pub Continues : Poly → ℕ → List Bool → ℕ → Type 0

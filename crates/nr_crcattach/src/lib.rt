@@ -11,6 +11,7 @@ ghost use Rattle.std.specs.Prelude.{◌≡◌, ◌+◌, ◌*◌, ◌<◌, ◌≤
 ghost use Rattle.nr_crcattach.specs.declared.Poly.{Poly};
 
 mod octets;
+mod tables;
 
 use nr_bitvec::Bits;
 use std::alloc::{AllocError, Global};

@@ -94,7 +94,7 @@ fn short_lists(rt: HostRuntime) -> Result<(), Fail> {
     Ok(())
 }
 
-// Lists that are longer than words and pairs of octets, against the shift register.
+// Lists of more than one word, against the shift register.
 #[test]
 fn longer_lists(rt: HostRuntime) -> Result<(), Fail> {
     for (poly, top, rest, generator) in REGISTERS {

@@ -1,6 +1,6 @@
 -- One more bit enters the register: `residue-next` at the code's numbers.
-use Rattle.std.proofs.Common.{◌≡◌, ℕ, ◌+◌, ◌-◌, ◌*◌, ◌%◌, ◌^◌, ◌<◌, Bool, true, false, [], ◌∷◌, ◌++◌, length-drop, take, drop, refl, sym, ◌∙◌, ap, arith, bit_xor}
-use Rattle.std.proofs.lemmas.Nat.{one_shl, pow_pos, xor_lt}
+use Rattle.std.proofs.Common.{◌≡◌, ℕ, ◌+◌, ◌-◌, ◌*◌, ◌%◌, ◌^◌, ◌<◌, Bool, true, false, [], ◌∷◌, ◌++◌, length-drop, take, drop, sym, ◌∙◌, ap, arith, bit_xor}
+use Rattle.std.proofs.lemmas.Nat.{one_shl, xor_lt}
 use Rattle.std.proofs.lemmas.List.{take_more, get_or-drop}
 use Rattle.nr_crcattach.specs.declared.Poly.{Poly}
 use Rattle.nr_crcattach.specs.Crc.{degree, residue, times_d}

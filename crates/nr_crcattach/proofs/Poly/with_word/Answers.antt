@@ -1,13 +1,27 @@
--- Four times sixteen bits are the word's.
-use Rattle.std.proofs.Common.{◌++◌, ◌/◌, ◌^◌, ap, sym, ◌∙◌}
-use Rattle.nr_crcattach.specs.Crc.{crc_of, high_first}
-use Rattle.nr_crcattach.specs.Octets.{low_first}
-use Rattle.nr_crcattach.proofs.Octet.{crc-word}
+-- The word with the check added to its highest bits, whose octets' checks the tables have.
+use Rattle.std.proofs.Common.{◌-◌, ◌*◌, ◌%◌, ◌^◌, ap, arith, bit_xor}
+use Rattle.std.proofs.lemmas.Nat.{shr_below}
+use Rattle.nr_crcattach.proofs.Octet.{Continues-summed, joined-lt, moved_up, summed-lt}
 use Rattle.nr_crcattach.proofs.Poly.with_word.Goals as goal
 
+pub bounds-tables-joined : goal.bounds-tables-joined
+bounds-tables-joined c =
+    let moved = c.from.result * 2 ^ (64 - c.degree.result) % 2 ^ 64 in
+    let fits = joined-lt c.from.result (64 - c.degree.result) c.reverse_bits.result (omega (arith, c.reverse_bits.type_inv)) in
+    shr_below (bit_xor moved c.reverse_bits.result) 8 56 fits
+
 pub returns-clause-value : goal.returns-clause-value
-returns-clause-value c = λ bits same.
-    crc-word c.args.self c.args.word bits c.lowest_pair.result c.lowest_pair-2.result c.lowest_pair-3.result c.lowest_pair-4.result
-    c.args.remainder c.with_pair-one.result c.with_pair-two.result c.with_pair-three.result c.with_pair.result
-    c.lowest_pair.ensures c.lowest_pair-2.ensures c.lowest_pair-3.ensures c.lowest_pair-4.ensures
-    c.with_pair-one.ensures.value c.with_pair-two.ensures.value c.with_pair-three.ensures.value c.with_pair.ensures.value same
+returns-clause-value c =
+    let p = c.args.self in
+    let reversed = c.reverse_bits.result in
+    let moved = c.from.result * 2 ^ (64 - c.degree.result) % 2 ^ 64 in
+    let fits = joined-lt c.from.result (64 - c.degree.result) reversed (omega (arith, c.reverse_bits.type_inv)) in
+    Continues-summed p c.octet_tables-tables.result.now c.args.remainder c.args.word reversed (bit_xor moved reversed) c.octet_tables-tables.ensures c.reverse_bits.ensures
+    (ap (λ m. bit_xor m reversed) (moved_up p c.args.remainder c.from.result c.degree.result c.requires c.from.ensures c.degree.ensures)) fits
+
+pub returns-clause-fits : goal.returns-clause-fits
+returns-clause-fits c =
+    let reversed = c.reverse_bits.result in
+    let moved = c.from.result * 2 ^ (64 - c.degree.result) % 2 ^ 64 in
+    let fits = joined-lt c.from.result (64 - c.degree.result) reversed (omega (arith, c.reverse_bits.type_inv)) in
+    summed-lt c.args.self c.octet_tables-tables.result.now (bit_xor moved reversed) c.octet_tables-tables.ensures fits

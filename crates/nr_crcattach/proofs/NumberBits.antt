@@ -1,0 +1,76 @@
+-- The bits of a number, in both orders.
+use Rattle.std.proofs.Common.{◌≡◌, ℕ, ◌+◌, ◌*◌, ◌/◌, ◌%◌, ◌^◌, ◌<◌, ◌≤◌, ◌==◌, zero, suc, Bool, false, List, [], ◌∷◌, ◌++◌, length, take, drop, get_or, refl, sym, ◌∙◌, ap, arith, append_assoc, append-nil}
+use Rattle.std.specs.Int.{bit_at, reverse_bits_onto}
+use Rattle.std.proofs.lemmas.List.{drop_more}
+use Rattle.std.proofs.lemmas.Nat.{shr-shr}
+use Rattle.std.proofs.lemmas.Nat.Bits.{bit_at_cat_low, bit_at_lowest}
+use Rattle.nr_crcattach.specs.Crc.{high_first}
+use Rattle.nr_crcattach.specs.Octets.{low_first}
+
+-- the higher bits stand before the lower ones
+pub high_first-split : (j k v : ℕ) → high_first (j + k) v ≡ high_first j (v / 2 ^ k) ++ high_first k v
+unfolding high_first
+high_first-split zero k v = ap (λ n. high_first n v) (omega arith)
+high_first-split (suc j) k v =
+    let next : suc j + k ≡ suc (j + k) = omega arith in
+    let turned : k + j ≡ j + k = omega arith in
+    let same : bit_at (v / 2 ^ k) j ≡ bit_at v (j + k) = ap (λ q. q % 2) (shr-shr v k j ∙ ap (λ n. v / 2 ^ n) turned) in
+    ap (λ n. high_first n v) next
+    ∙ ap (λ bits. (bit_at v (j + k) == 1) ∷ bits) (high_first-split j k v)
+    ∙ ap (λ b. ((b == 1) ∷ high_first j (v / 2 ^ k)) ++ high_first k v) (sym same)
+
+-- higher bits are left out
+pub high_first-low : (k n a w : ℕ) → k ≤ n → high_first k (a * 2 ^ n + w) ≡ high_first k w
+unfolding high_first
+high_first-low zero n a w short = refl
+high_first-low (suc k) n a w short =
+    ap (λ b. (b == 1) ∷ high_first k (a * 2 ^ n + w)) (bit_at_cat_low a n w k (omega arith))
+    ∙ ap (λ bits. (bit_at w k == 1) ∷ bits) (high_first-low k n a w (omega arith))
+
+-- one bit more at the end
+high_first-last : (j a b : ℕ) → b < 2 → high_first (j + 1) (a * 2 + b) ≡ high_first j a ++ (b == 1) ∷ []
+unfolding high_first
+high_first-last j a b is_digit =
+    let up : (a * 2 + b) / 2 ^ 1 ≡ a = omega arith in
+    let low : bit_at (a * 2 + b) 0 ≡ b = omega arith in
+    high_first-split j 1 (a * 2 + b)
+    ∙ ap (λ v. high_first j v ++ high_first 1 (a * 2 + b)) up
+    ∙ ap (λ d. high_first j a ++ (d == 1) ∷ []) low
+
+-- bits taken lowest first and put behind others are the number's turned round
+pub high_first-reversed : (j k n a : ℕ) → high_first (j + k) (reverse_bits_onto k n a) ≡ high_first j a ++ low_first k n
+unfolding reverse_bits_onto low_first
+high_first-reversed j zero n a =
+    let none : j + 0 ≡ j = omega arith in
+    ap (λ m. high_first m a) none ∙ sym (append-nil (high_first j a))
+high_first-reversed j (suc k) n a =
+    let next : j + suc k ≡ (j + 1) + k = omega arith in
+    let last : high_first (j + 1) (a * 2 + n % 2) ≡ high_first j a ++ (bit_at n 0 == 1) ∷ [] = high_first-last j a (n % 2) (omega arith) ∙ ap (λ d. high_first j a ++ (d == 1) ∷ []) (sym (bit_at_lowest n)) in
+    ap (λ m. high_first m (reverse_bits_onto k (n / 2) (a * 2 + n % 2))) next
+    ∙ high_first-reversed (j + 1) k (n / 2) (a * 2 + n % 2)
+    ∙ ap (λ bits. bits ++ low_first k (n / 2)) last
+    ∙ append_assoc (high_first j a) ((bit_at n 0 == 1) ∷ []) (low_first k (n / 2))
+
+-- n bits of a word that stand in a list from a place on
+low_first-listed : (n j at word : ℕ) (bits : List Bool) → ((i : ℕ) → i < 64 → (bit_at word i == 1) ≡ get_or bits (at + i) false) → j + n ≤ 64 → at + (j + n) ≤ length bits
+    → low_first n (word / 2 ^ j) ≡ take n (drop (at + j) bits)
+unfolding low_first
+low_first-listed zero j at word bits same short inside = refl
+low_first-listed (suc n) j at word bits same short inside =
+    let here : bit_at (word / 2 ^ j) 0 ≡ bit_at word j = omega arith in
+    let down : word / 2 ^ j / 2 ≡ word / 2 ^ (j + 1) = shr-shr word j 1 in
+    let next : at + j + 1 ≡ at + (j + 1) = omega arith in
+    let first : (bit_at (word / 2 ^ j) 0 == 1) ≡ get_or bits (at + j) false = ap (λ b. b == 1) here ∙ same j (omega arith) in
+    let rest : low_first n (word / 2 ^ j / 2) ≡ take n (drop (at + j + 1) bits) =
+    ap (low_first n) down ∙ low_first-listed n (j + 1) at word bits same (omega arith) (omega arith) ∙ ap (λ m. take n (drop m bits)) (sym next) in
+    let both : (bit_at (word / 2 ^ j) 0 == 1) ∷ low_first n (word / 2 ^ j / 2) ≡ get_or bits (at + j) false ∷ take n (drop (at + j + 1) bits) =
+    ap (λ b. b ∷ low_first n (word / 2 ^ j / 2)) first ∙ ap (λ r. get_or bits (at + j) false ∷ r) rest in
+    both ∙ ap (take (suc n)) (sym (drop_more bits (at + j) false (omega arith)))
+
+-- the bits of a window are those of the list
+pub low_first-window : (at word : ℕ) (bits : List Bool) → ((i : ℕ) → i < 64 → (bit_at word i == 1) ≡ get_or bits (at + i) false) → at + 64 ≤ length bits
+    → low_first 64 word ≡ take 64 (drop at bits)
+low_first-window at word bits same inside =
+    let whole : word / 2 ^ 0 ≡ word = omega arith in
+    let start : at + 0 ≡ at = omega arith in
+    ap (low_first 64) (sym whole) ∙ low_first-listed 64 0 at word bits same (omega arith) (omega arith) ∙ ap (λ m. take 64 (drop m bits)) start

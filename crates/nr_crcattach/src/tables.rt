@@ -1,0 +1,25 @@
+//! The tables by which eight octets enter a check at once.
+
+ghost use Rattle.std.specs.Prelude.{◌≡◌};
+ghost use Rattle.nr_crcattach.specs.Octets.{octet_tables};
+ghost use Rattle.nr_crcattach.specs.declared.Poly.{Poly};
+
+mod a24;
+mod b24;
+mod c16;
+
+use crate::Poly;
+
+impl Poly {
+    // For each number of zero octets from 0 to 7 the remainders of the octets that have so many behind
+    // them, in the order of the octets' numbers.
+    pub(crate) fn octet_tables(self) -> &'static [[u32; 256]; 8]
+        ensures { result.now ≡ octet_tables self }
+    {
+        match self {
+            Poly::A24 => &a24::A24_RESIDUES,
+            Poly::B24 => &b24::B24_RESIDUES,
+            Poly::C16 => &c16::C16_RESIDUES,
+        }
+    }
+}
