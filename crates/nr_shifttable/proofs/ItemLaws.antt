@@ -41,7 +41,7 @@ some-ok true r x e = cc e
 some-ok false r x e = e
 
 -- the tests of an item in range hold
-both-true : (a b : Bool) → (a && b) ≡ true → (a ≡ true) × (b ≡ true)
+pub both-true : (a b : Bool) → (a && b) ≡ true → (a ≡ true) × (b ≡ true)
 both-true true b e = (refl, e)
 both-true false b e = cc e
 

@@ -4,7 +4,8 @@ pub mod Feeds
 pub mod FieldFacts
 pub mod ItemFacts
 pub mod ItemLaws
-pub mod NeverRead
+pub mod Kept
+pub mod Judged
 pub mod Order
 pub mod Parity
 pub mod Places

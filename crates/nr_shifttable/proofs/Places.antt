@@ -6,6 +6,7 @@ use Rattle.nr_graphpick.specs.declared.Graph.{Graph}
 use Rattle.nr_graphpick.specs.declared.Graph.TheVariants.{One, Two}
 use Rattle.nr_shifttable.specs.declared.entry.Item.{Item}
 use Rattle.nr_shifttable.specs.Items.{graph_eq, has_place}
+use Rattle.nr_shifttable.specs.Listed.{item_key}
 use Rattle.nr_shifttable.specs.Orders.{AreBefore, key_of}
 
 -- in one base graph
@@ -13,14 +14,11 @@ rows-apart : (n r s c d : ℕ) → n + 68 * r + c < n + 68 * s + d → ((r == s)
 rows-apart n r s c d lt = grind (arith, nat_tests)
 
 -- items at one place have one key
-keys-apart : (g h : Graph) (r s c d : ℕ) → key_of g r c < key_of h s d → (graph_eq g h && (r == s) && (c == d)) ≡ false
+pub keys-apart : (g h : Graph) (r s c d : ℕ) → key_of g r c < key_of h s d → (graph_eq g h && (r == s) && (c == d)) ≡ false
 keys-apart One One r s c d lt = rows-apart 0 r s c d lt
 keys-apart One Two r s c d lt = refl
 keys-apart Two One r s c d lt = refl
 keys-apart Two Two r s c d lt = rows-apart 4096 r s c d lt
-
-abbrev pub item_key : Item → ℕ
-item_key item = key_of item.graph item.entry.row item.entry.col
 
 pub past-no_place : (items : List Item) (past : ℕ) (item : Item) → AreBefore past items → past ≤ item_key item → has_place items item ≡ false
 past-no_place [] past item before le = refl

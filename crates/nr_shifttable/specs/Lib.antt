@@ -11,3 +11,4 @@ pub mod CoreRows
 pub mod Written
 pub mod Faults
 pub mod RecordOrder
+pub mod Listed

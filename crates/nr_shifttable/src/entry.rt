@@ -12,7 +12,8 @@ pub struct Entry {
     pub values: [u16; 8],
 }
 
-/// What one record of a table file gives: an entry, and the base graph whose table it belongs to.
+/// An entry, and the base graph whose table it belongs to: what one record of a table file gives.
+/// The base graph has rows 0..=45 and columns 0..=67, or 0..=41 and 0..=51 (TS 38.212 clause 5.3.2).
 #[derive(Clone, Copy, Debug, PartialEq, Eq)]
 pub struct Item {
     pub graph: Graph,

@@ -1,4 +1,4 @@
-//! Why a table file is refused.
+//! Why a table file is refused, and why items are.
 
 use nr_graphpick::Graph;
 use std::alloc::{AllocError, AllocFailed};
@@ -47,6 +47,27 @@ pub enum TableFault {
     /// The source has more than 4,194,304 octets.
     #[error("TooLong")]
     TooLong,
+    /// A growth was refused.
+    #[error("Memory")]
+    Memory,
+}
+
+/// Why items that a caller kept are refused. Its text is the variant's name with the number that the
+/// variant carries, or the text of the table's fault.
+///
+/// The items are judged one by one, each by `Range` and `Order` in this order; then their table by
+/// `Table`. `Memory` comes where a growth is refused, and never in place of `Range` or `Order`.
+#[derive(Clone, Copy, Debug, PartialEq, Eq, Error)]
+pub enum EntriesFault {
+    /// The row or the column of the item of this number, from 1, is not one of its base graph.
+    #[error("Range {0}")]
+    Range(u32),
+    /// The item of this number, from 1, does not stand past the one before it.
+    #[error("Order {0}")]
+    Order(u32),
+    /// The table of the items is refused: `Empty`, `Core`, `Extension` or `MissingRow`.
+    #[error("{0}")]
+    Table(TableFault),
     /// A growth was refused.
     #[error("Memory")]
     Memory,

@@ -68,8 +68,8 @@ fn add(items: &mut Vec<Item>, past: u32, found: Option<Item>) -> Result<u32, All
     Ok(past.max(next))
 }
 
-// The key of a place: base graph 1 comes before base graph 2, and each goes row by row.
-fn place_key(graph: Graph, row: u16, col: u16) -> u32
+/// The key of a place: base graph 1 comes before base graph 2, and each goes row by row.
+pub(crate) fn place_key(graph: Graph, row: u16, col: u16) -> u32
     ensures key { result ≡ key_of graph row col }
     ensures few { result < 2 ^ 24 }
 {

@@ -1,11 +1,27 @@
 //! Laws of accepted tables, each the contract of a function that does nothing.
 
-ghost use Rattle.nr_shifttable.specs.Accepted.{OrderDoesNotMatter};
+ghost use Rattle.nr_shifttable.specs.Accepted.{IsTable, OrderDoesNotMatter};
 ghost use Rattle.nr_shifttable.specs.CoreRows.{CoreRowsAddUp};
 ghost use Rattle.nr_shifttable.specs.Faults.{CoreIsNamed, ExtensionIsNamed, MissingRowIsNamed};
+ghost use Rattle.nr_shifttable.specs.Listed.{ListedAreKept};
 ghost use Rattle.nr_shifttable.specs.RecordOrder.{RecordsMayMove};
 ghost use Rattle.nr_shifttable.specs.Tails.{AcceptedHasShape, ShapeIsAccepted};
 ghost use Rattle.nr_shifttable.specs.Written.{ItemsAreWritten};
+
+use crate::table::Table;
+
+/// Each `Table` is one that was accepted: what its type promises, for a caller that only borrows one.
+pub fn tables_are_sound(table: &Table)
+    ensures { IsTable table.now }
+{
+    table.is_sound();
+}
+
+/// What is listed of a table by `Table::item`, as its items 0, 1 and so on, is accepted by
+/// `Table::of_entries`, unless memory is refused, and gives the same table.
+pub fn listed_are_kept()
+    ensures { ListedAreKept }
+{}
 
 /// The items of a table file's records are exactly those that the records behind the header write,
 /// in their order, where each record has eleven fields and no two items stand at one place; other

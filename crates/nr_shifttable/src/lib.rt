@@ -12,6 +12,7 @@ mod fault;
 mod fields;
 mod items;
 pub mod laws;
+mod listed;
 #[cfg(test)]
 mod reader_tests;
 mod records;
@@ -24,8 +25,8 @@ mod table;
 #[cfg(test)]
 mod table_tests;
 
-pub use entry::Entry;
-pub use fault::TableFault;
+pub use entry::{Entry, Item};
+pub use fault::{EntriesFault, TableFault};
 pub use fields::{numeral, short_number, stripped};
 pub use records::Records;
 pub use source::{Broken, Endless, Feed, ReadFault, Source, read_to_end};

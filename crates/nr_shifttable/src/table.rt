@@ -1,15 +1,17 @@
 //! The accepted table of shift values.
 
-ghost use Rattle.std.specs.Prelude.{◌≡◌, ◌↔◌, ◌⊎◌, ◌+◌, ◌^◌, ◌<◌, ◌≤◌, All, IfOk, IfSome, IsErrOf, length, option_map, slice_index};
+ghost use Rattle.std.specs.Prelude.{◌≡◌, ◌↔◌, ◌⊎◌, ◌+◌, ◌^◌, ◌<◌, ◌≤◌, All, IfErr, IfOk, IfSome, IsErrOf, length, option_map, slice_get, slice_index};
 ghost use Rattle.nr_shifttable.specs.Accepted.{entries_in, has_graph, row_of, column_of, value_at, TellsTable, table_of, table_said, accepted, ColumnsAscend, RowsAscend, IsInRange, IsTable};
 ghost use Rattle.nr_shifttable.specs.Items.{Apart, IsInside};
+ghost use Rattle.nr_shifttable.specs.Listed.{entries_said, items_listed, places_said};
 ghost use Rattle.nr_shifttable.specs.Source.{KeepsCount, TellsFailure};
 ghost use Rattle.nr_graphpick.specs.Refusal.{Gives};
 
 use crate::accept::check;
 use crate::entry::{Entry, Item};
-use crate::fault::TableFault;
+use crate::fault::{EntriesFault, TableFault};
 use crate::items::read_items;
+use crate::listed::judge_places;
 use crate::sorted::{Sorted, values_in};
 use crate::source::{ReadFault, Source, read_to_end};
 use nr_graphpick::Graph;
@@ -74,19 +76,46 @@ impl Table {
     ///
     /// # Errors
     ///
-    /// `TooLong`, where the text has more than 4,194,304 octets; then as `read` from `Csv` on. It is
-    /// never `Read`.
+    /// `TooLong`, where the text has more than 4,194,304 octets, and then never `Memory`; then as `read`
+    /// from `Csv` on. It is never `Read`.
     #[tactic(auto, unfolding(crate::specs::Accepted::table_said))]
     pub fn of_text(alloc: Global, text: &[u8]) -> Result<Table, TableFault>
         ensures table { IfOk result IsTable }
         ensures judged { IsErrOf result TableFault.Read → ⊥ }
+        ensures long { IsErrOf result TableFault.TooLong ↔ (4194304 < length text.now) }
         ensures said { Gives TableFault.Memory (λ t. t) result (table_said text.now) }
     {
         if text.len() > LIMIT {
             return Err(TableFault::TooLong);
         }
         let items = read_items(alloc, text)?;
-        Table::from_items(alloc, items)
+        Table::from_items(alloc, &items)
+    }
+
+    /// The table of items that a caller kept, judged: the entries of both base graphs in ascending
+    /// order, those of base graph 1 before those of base graph 2, and each graph's by row and then by
+    /// column. `item` lists a table's.
+    ///
+    /// # Errors
+    ///
+    /// For the first item that has one, `Range`, where its row or column is not one of its base graph,
+    /// or `Order`, where it does not stand past the item before it, in this order, with its number from
+    /// 1; then `Table` with `Empty`, where there is no item, or, for each base graph that has an entry,
+    /// base graph 1 first, with `Core`, `Extension` or `MissingRow`. `Memory` comes where a growth is
+    /// refused, and never in place of `Range` or `Order`.
+    #[tactic(auto, unfolding(crate::specs::Listed::entries_said))]
+    pub fn of_entries(alloc: Global, items: &[Item]) -> Result<Table, EntriesFault>
+        ensures table { IfOk result IsTable }
+        ensures placed { IfErr (places_said items.now) (λ fault. IsErrOf result fault) }
+        ensures listed { IfOk result (λ t. items_listed t ≡ items.now) }
+        ensures said { Gives EntriesFault.Memory (λ t. t) result (entries_said items.now) }
+    {
+        judge_places(items)?;
+        match Table::from_items(alloc, items) {
+            Ok(table) => Ok(table),
+            Err(TableFault::Memory) => Err(EntriesFault::Memory),
+            Err(fault) => Err(EntriesFault::Table(fault)),
+        }
     }
 
     /// The table of a list of items, judged.
@@ -97,20 +126,27 @@ impl Table {
     /// base graph 1 first, `Core`, `Extension` and `MissingRow`. `Memory` comes where a growth is
     /// refused.
     #[tactic(auto, unfolding(crate::specs::Accepted::accepted))]
-    pub(crate) fn from_items(alloc: Global, items: Vec<Item>) -> Result<Table, TableFault>
-        requires apart { Apart items.items }
-        requires in_range { All IsInside items.items }
+    pub(crate) fn from_items(alloc: Global, items: &[Item]) -> Result<Table, TableFault>
+        requires apart { Apart items.now }
+        requires in_range { All IsInside items.now }
         ensures table { IfOk result IsTable }
-        ensures said { Gives TableFault.Memory (λ t. t) result (accepted (table_of items.items)) }
+        ensures said { Gives TableFault.Memory (λ t. t) result (accepted (table_of items.now)) }
     {
-        let one = Sorted::new(alloc, Graph::One, &items)?;
-        let two = Sorted::new(alloc, Graph::Two, &items)?;
+        let one = Sorted::new(alloc, Graph::One, items)?;
+        let two = Sorted::new(alloc, Graph::Two, items)?;
         if one.entries().is_empty() && two.entries().is_empty() {
             return Err(TableFault::Empty);
         }
         check(Graph::One, one.entries())?;
         check(Graph::Two, two.entries())?;
         Ok(Table { one, two })
+    }
+
+    /// Tells what the type promises of each table, at no cost.
+    pub(crate) fn is_sound(&self)
+        ensures { IsTable self.now }
+    {
+        let _ = &self.one;
     }
 
     // The entries of a base graph.
@@ -169,6 +205,31 @@ impl Table {
         ensures in_range { All (IsInRange graph) result.now }
     {
         self.sorted(graph).column(col)
+    }
+
+    /// The table's item of this number, from 0: its entries in ascending order, those of base graph 1
+    /// before those of base graph 2, and each graph's by row and then by column. `None` past the last
+    /// one. `of_entries` makes the same table of all items.
+    pub fn item(&self, n: u32) -> Option<Item>
+        ensures table { IsTable self.now }
+        ensures value { result ≡ slice_get (items_listed self.now) n }
+    {
+        let (ones, twos) = (self.one.entries(), self.two.entries());
+        let n = n as usize;
+        if n < ones.len() {
+            return Some(Item {
+                graph: Graph::One,
+                entry: ones[n],
+            });
+        }
+        let rest = n - ones.len();
+        if rest < twos.len() {
+            return Some(Item {
+                graph: Graph::Two,
+                entry: twos[rest],
+            });
+        }
+        None
     }
 
     /// How many entries the table has of a base graph.

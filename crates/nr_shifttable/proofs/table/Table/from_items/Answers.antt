@@ -1,17 +1,16 @@
-use Rattle.std.proofs.Common.{◌==◌, [], length, sym, ap, ◌∙◌}
-use Rattle.std.specs.List.{fold}
+use Rattle.std.proofs.Common.{◌==◌, length, sym, ap, ◌∙◌}
 use Rattle.std.proofs.lemmas.Bool.{and_left, and_right}
 use Rattle.nr_graphpick.specs.declared.Graph.TheVariants.{One, Two}
-use Rattle.nr_shifttable.specs.Accepted.{with_entry, entries_for, graph_checked}
+use Rattle.nr_shifttable.specs.Accepted.{graph_checked}
 use Rattle.nr_shifttable.proofs.Order.{made-table}
 use Rattle.nr_shifttable.proofs.table.Table.from_items.Goals as goal
 use Rattle.nr_shifttable.proofs.table.Table.from_items.Goals.{else-is_empty-via-then-is_empty+else-is_empty-2, else-is_empty-via-else-is_empty}
 
 pub invariant_of-result : goal.invariant_of-result
 invariant_of-result c =
-    made-table c.args.items.items c.in_ok-one.one c.in_ok-two.two c.requires.in_range
-    (c.in_ok-one.ensures ∙ ap (λ l. fold with_entry [] (entries_for One l)) c.deref.ensures.value)
-    (c.in_ok-two.ensures ∙ ap (λ l. fold with_entry [] (entries_for Two l)) c.deref-2.ensures.value)
+    made-table c.args.items.now c.in_ok-one.one c.in_ok-two.two c.requires.in_range
+    c.in_ok-one.ensures
+    c.in_ok-two.ensures
     c.entries-2.ensures.order c.entries-3.ensures.order
     (elim c.else-is_empty.branch [
       | else-is_empty-via-then-is_empty+else-is_empty-2 w ↦ and_right (length c.in_ok-one.one == 0) (length c.in_ok-two.two == 0) (cc)
@@ -22,9 +21,9 @@ invariant_of-result c =
 
 pub returns-clause-table : goal.returns-clause-table
 returns-clause-table c =
-    made-table c.args.items.items c.in_ok-one.one c.in_ok-two.two c.requires.in_range
-    (c.in_ok-one.ensures ∙ ap (λ l. fold with_entry [] (entries_for One l)) c.deref.ensures.value)
-    (c.in_ok-two.ensures ∙ ap (λ l. fold with_entry [] (entries_for Two l)) c.deref-2.ensures.value)
+    made-table c.args.items.now c.in_ok-one.one c.in_ok-two.two c.requires.in_range
+    c.in_ok-one.ensures
+    c.in_ok-two.ensures
     c.entries-2.ensures.order c.entries-3.ensures.order
     (elim c.else-is_empty.branch [
       | else-is_empty-via-then-is_empty+else-is_empty-2 w ↦ and_right (length c.in_ok-one.one == 0) (length c.in_ok-two.two == 0) (cc)

@@ -1,0 +1,93 @@
+-- The faults that judging a text's records and their table answers: neither a failed read nor too long a text.
+use Rattle.std.proofs.Common.{◌≡◌, ℕ, ◌+◌, ◌==◌, Bool, true, false, cond, not, ◌&&◌, ◌<◌, ◌⊎◌, inl, inr, List, [], ◌∷◌, length, refl, sym, subst}
+use Rattle.std.specs.Prelude.{Option, Some, None, Result, Ok, Err, IsErrOf, IfSome}
+use Rattle.std.proofs.lemmas.Bool.{lt-ltb}
+use Rattle.nr_graphpick.specs.declared.Graph.{Graph}
+use Rattle.nr_graphpick.specs.declared.Graph.TheVariants.{One, Two}
+use Rattle.nr_graphpick.specs.Graph.{rows_of, info_cols_of}
+use Rattle.nr_shifttable.specs.declared.entry.Entry.{Entry}
+use Rattle.nr_shifttable.specs.declared.entry.Item.{Item}
+use Rattle.nr_shifttable.specs.declared.fault.TableFault.{TableFault}
+use Rattle.nr_shifttable.specs.declared.fault.TableFault.TheVariants as fault
+use Rattle.nr_graphpick.specs.Refusal.{◌>>=◌, or_fault, Gives}
+use Rattle.nr_shifttable.specs.Records.{Record}
+use Rattle.nr_shifttable.specs.Items.{is_header, short_numbers, item_of_numbers, has_place, item_of, with_item, items_from}
+use Rattle.nr_shifttable.specs.Accepted.{Entries, core_ok, extension_ok, rows_present, graph_checked, accepted, table_said}
+
+-- a fault of reading the octets
+abbrev pub is_of_octets : TableFault → Bool
+is_of_octets fault.Read = true
+is_of_octets fault.TooLong = true
+is_of_octets _ = false
+
+-- an answer that is not such a fault
+abbrev pub IsJudged : {X : Type 0} → Result X TableFault → Type 0
+IsJudged (Ok x) = Unit {0}
+IsJudged (Err e) = is_of_octets e ≡ false
+
+module _ {X : Type 0} where
+  judged-if : (b : Bool) (x y : Result X TableFault) → IsJudged x → IsJudged y → IsJudged (cond b x y)
+  judged-if true x y p q = p
+  judged-if false x y p q = q
+
+  judged-or : (e : TableFault) (o : Option X) → is_of_octets e ≡ false → IsJudged (or_fault e o)
+  judged-or e None other = other
+  judged-or e (Some x) other = tt
+
+  judged-bind : {Y : Type 0} (r : Result Y TableFault) (next : Y → Result X TableFault) → IsJudged r → ((y : Y) → IsJudged (next y)) → IsJudged (r >>= next)
+  judged-bind (Ok y) next p q = q y
+  judged-bind (Err e) next p q = p
+
+judged-fault : (b : Bool) (e f : TableFault) → is_of_octets e ≡ false → is_of_octets f ≡ false → is_of_octets (cond b e f) ≡ false
+judged-fault true e f p q = p
+judged-fault false e f p q = q
+
+item-judged : (k : ℕ) (earlier : List Item) (r : Record) → IsJudged (item_of k earlier r)
+unfolding item_of
+item-judged k earlier r =
+    judged-if (not (length r == 11)) _ _ (judged-fault (k == 1) fault.Fields (fault.Csv k) refl refl)
+    (judged-if ((k == 1) && is_header r) _ _ tt
+    (judged-bind (or_fault (fault.Number k) (short_numbers r)) _ (judged-or (fault.Number k) (short_numbers r) refl) (λ numbers.
+    judged-bind (or_fault (fault.Range k) (item_of_numbers numbers)) _ (judged-or (fault.Range k) (item_of_numbers numbers) refl) (λ found.
+    judged-if (has_place earlier found) _ _ refl tt))))
+
+pub items-judged : (k : ℕ) (items : List Item) (rs : List Record) → IsJudged (items_from k items rs)
+unfolding items_from
+items-judged k items [] = tt
+items-judged k items (r ∷ rs) = judged-bind (item_of k items r) _ (item-judged k items r) (λ found. items-judged (k + 1) (with_item items found) rs)
+
+graph-judged : (g : Graph) (es : List Entry) → IsJudged (graph_checked g es)
+unfolding graph_checked
+graph-judged g es =
+    judged-if (length es == 0) _ _ tt
+    (judged-if (not (core_ok (info_cols_of g) es)) _ _ refl
+    (judged-if (not (extension_ok (info_cols_of g) (rows_of g) es)) _ _ refl
+    (judged-if (not (rows_present (rows_of g) es)) _ _ refl tt)))
+
+pub accepted-judged : (t : Entries) → IsJudged (accepted t)
+unfolding accepted
+accepted-judged t =
+    judged-if ((length t.one == 0) && (length t.two == 0)) _ _ refl
+    (judged-bind (graph_checked One t.one) _ (graph-judged One t.one) (λ _. judged-bind (graph_checked Two t.two) _ (graph-judged Two t.two) (λ _. tt)))
+
+-- nor does a call answer such a fault that gives what is said so
+pub fault-judged : {Y : Type 0} (e : TableFault) (said : Result Y TableFault) → (e ≡ fault.Memory) ⊎ (said ≡ Err e) → IsJudged said → is_of_octets e ≡ false
+fault-judged e said (inl m) judged = subst (λ f. is_of_octets f ≡ false) (sym m) refl
+fault-judged e said (inr s) judged = subst IsJudged s judged
+
+pub gives-judged : {X Y : Type 0} (view : X → Y) (r : Result X TableFault) (said : Result Y TableFault) → Gives fault.Memory view r said → IsJudged said → IsJudged r
+gives-judged view (Ok x) said gives judged = tt
+gives-judged view (Err e) said gives judged = fault-judged e said gives judged
+
+pub judged-not : {X : Type 0} (r : Result X TableFault) (f : TableFault) → IsJudged r → is_of_octets f ≡ true → IsErrOf r f → ⊥
+judged-not r f judged outer is = clash (is_of_octets f) outer (subst IsJudged is judged)
+  where
+    clash : (b : Bool) → b ≡ true → b ≡ false → ⊥
+    clash b p q = cc
+
+-- a text over the limit is said to be too long
+pub too_long-said : {X : Type 0} (o : Option (List ℕ)) (view : X → Entries) → IfSome o (λ all. 4194304 < length all)
+    → IfSome o (λ text. ◌≡◌ {A = Result X TableFault} (Err fault.TooLong) (Err fault.Read) ⊎ Gives fault.Memory view (Err fault.TooLong) (table_said text))
+unfolding table_said
+too_long-said None view long = tt
+too_long-said (Some text) view long = inr (inr (rw (lt-ltb 4194304 (length text) long) refl))

@@ -1,0 +1,5 @@
+use Rattle.nr_shifttable.proofs.Kept.{listed-kept}
+use Rattle.nr_shifttable.proofs.laws.listed_are_kept.Goals as goal
+
+pub returns : goal.returns
+returns c = listed-kept
