@@ -21,28 +21,32 @@ first_heard-cons h hs p = go (h.0 == p)
     go true = refl
     go false = refl
 
--- one more hearing, at the end
-pub first_heard-push : (hs : List Hearing) (h : Hearing) (p : ℕ) → first_heard (hs ++ h ∷ []) p ≡ cond (is_heard (first_heard hs p)) (first_heard hs p) (cond (h.0 == p) (Some h.1) None)
+-- more hearings, and one more
+pub first_heard-append : (hs more : List Hearing) (p : ℕ) → first_heard (hs ++ more) p ≡ cond (is_heard (first_heard hs p)) (first_heard hs p) (first_heard more p)
 unfolding first_heard
-first_heard-push [] h p = first_heard-cons h [] p
-first_heard-push (x ∷ hs) h p = first_heard-cons x (hs ++ h ∷ []) p ∙ ap (λ o. cond (x.0 == p) (Some x.1) o) (first_heard-push hs h p) ∙ go (x.0 == p) ∙ ap (λ o. cond (is_heard o) o (cond (h.0 == p) (Some h.1) None)) (sym (first_heard-cons x hs p))
+first_heard-append [] more p = refl
+first_heard-append (x ∷ hs) more p = first_heard-cons x (hs ++ more) p ∙ ap (λ o. cond (x.0 == p) (Some x.1) o) (first_heard-append hs more p) ∙ go (x.0 == p) ∙ ap (λ o. cond (is_heard o) o (first_heard more p)) (sym (first_heard-cons x hs p))
   where
-    go : (b : Bool) → cond b (Some x.1) (cond (is_heard (first_heard hs p)) (first_heard hs p) (cond (h.0 == p) (Some h.1) None))
-        ≡ cond (is_heard (cond b (Some x.1) (first_heard hs p))) (cond b (Some x.1) (first_heard hs p)) (cond (h.0 == p) (Some h.1) None)
+    go : (b : Bool) → cond b (Some x.1) (cond (is_heard (first_heard hs p)) (first_heard hs p) (first_heard more p))
+        ≡ cond (is_heard (cond b (Some x.1) (first_heard hs p))) (cond b (Some x.1) (first_heard hs p)) (first_heard more p)
     go true = refl
     go false = refl
 
-beq_true : (a b : Bool) → beq a b ≡ true → a ≡ b
+pub first_heard-push : (hs : List Hearing) (h : Hearing) (p : ℕ) → first_heard (hs ++ h ∷ []) p ≡ cond (is_heard (first_heard hs p)) (first_heard hs p) (cond (h.0 == p) (Some h.1) None)
+unfolding first_heard
+first_heard-push hs h p = first_heard-append hs (h ∷ []) p ∙ ap (λ o. cond (is_heard (first_heard hs p)) (first_heard hs p) o) (first_heard-cons h [] p)
+
+pub beq_true : (a b : Bool) → beq a b ≡ true → a ≡ b
 beq_true true true h = refl
 beq_true false false h = refl
 beq_true true false h = absurd (false≢true h)
 beq_true false true h = absurd (false≢true h)
 
-beq_same : (a : Bool) → beq a a ≡ true
+pub beq_same : (a : Bool) → beq a a ≡ true
 beq_same true = refl
 beq_same false = refl
 
-same_truth : (a b : Bool) → (a ≡ true → b ≡ true) → (b ≡ true → a ≡ true) → a ≡ b
+pub same_truth : (a b : Bool) → (a ≡ true → b ≡ true) → (b ≡ true → a ≡ true) → a ≡ b
 same_truth true b f g = sym (f refl)
 same_truth false true f g = g refl
 same_truth false false f g = refl
@@ -65,17 +69,17 @@ one_passes {X} p (x ∷ xs) d h = go (p x) refl h (λ k. one_passes p xs d k)
     go false e k ih = let r = ih k in record { index = suc r.index; below = omega arith; passes = r.passes }
 
 -- a position was heard with a bit where some hearing says so
-heard_there : (hs : List Hearing) (p : ℕ) (b : Bool) → heard_as hs p b ≡ true → Passes (λ (h : Hearing). (h.0 == p) && beq h.1 b) hs (0, false)
+pub heard_there : (hs : List Hearing) (p : ℕ) (b : Bool) → heard_as hs p b ≡ true → Passes (λ (h : Hearing). (h.0 == p) && beq h.1 b) hs (0, false)
 unfolding heard_as
 heard_there hs p b h = one_passes (λ (x : Hearing). (x.0 == p) && beq x.1 b) hs (0, false) h
 
-heard_here : (hs : List Hearing) (i p : ℕ) (b : Bool) → i < length hs → (get_or hs i (0, false)).0 ≡ p → (get_or hs i (0, false)).1 ≡ b → heard_as hs p b ≡ true
+pub heard_here : (hs : List Hearing) (i p : ℕ) (b : Bool) → i < length hs → (get_or hs i (0, false)).0 ≡ p → (get_or hs i (0, false)).1 ≡ b → heard_as hs p b ≡ true
 unfolding heard_as
 heard_here hs i p b lt e f = list_any_at (λ (x : Hearing). (x.0 == p) && beq x.1 b) hs i (0, false) lt
     (and_from ((get_or hs i (0, false)).0 == p) (beq (get_or hs i (0, false)).1 b) (eq-eqb (get_or hs i (0, false)).0 p e) (rw f (beq_same b)))
 
 -- the first bit of a position was heard there, and a position that was heard has one
-first_is_heard : (hs : List Hearing) (p : ℕ) (a : Bool) → first_heard hs p ≡ Some a → heard_as hs p a ≡ true
+pub first_is_heard : (hs : List Hearing) (p : ℕ) (a : Bool) → first_heard hs p ≡ Some a → heard_as hs p a ≡ true
 unfolding first_heard heard_as
 first_is_heard [] p a h = absurd (none_some h)
   where
@@ -95,7 +99,7 @@ pub record HasFirst (hs : List Hearing) (p : ℕ) : Type 0 where
   pub bit : Bool
   pub is : first_heard hs p ≡ Some bit
 
-first_there : (hs : List Hearing) (i : ℕ) → i < length hs → HasFirst hs (get_or hs i (0, false)).0
+pub first_there : (hs : List Hearing) (i : ℕ) → i < length hs → HasFirst hs (get_or hs i (0, false)).0
 first_there [] i lt = absurd (omega arith)
 first_there (x ∷ hs) zero lt = record { bit = x.1; is = first_heard-cons x hs x.0 ∙ ap (λ t. cond t (Some x.1) (first_heard hs x.0)) (eq-eqb x.0 x.0 refl) }
 first_there (x ∷ hs) (suc i) lt = go (x.0 == (get_or hs i (0, false)).0) (first_there hs i (omega arith)) (first_heard-cons x hs (get_or hs i (0, false)).0)
@@ -105,7 +109,7 @@ first_there (x ∷ hs) (suc i) lt = go (x.0 == (get_or hs i (0, false)).0) (firs
     go false r e = record { bit = r.bit; is = e ∙ r.is }
 
 -- some hearing differs from the first one at its position
-abbrev some_differs : List Hearing → List Hearing → Bool
+abbrev pub some_differs : List Hearing → List Hearing → Bool
 some_differs firsts hs = list_any (λ (h : Hearing). differs (first_heard firsts h.0) h.1) hs
 
 differs_not : (a b : Bool) → differs (Some a) b ≡ true → a ≡ not b
@@ -118,7 +122,7 @@ not_differs : (b : Bool) → differs (Some b) (not b) ≡ true
 not_differs true = refl
 not_differs false = refl
 
-clashes-differs : (hs : List Hearing) → clashes hs ≡ some_differs hs hs
+pub clashes-differs : (hs : List Hearing) → clashes hs ≡ some_differs hs hs
 unfolding clashes
 clashes-differs hs = same_truth (list_any (λ (h : Hearing). heard_as hs h.0 (not h.1)) hs) (some_differs hs hs) down up
   where
@@ -164,9 +168,9 @@ clashes-differs hs = same_truth (list_any (λ (h : Hearing). heard_as hs h.0 (no
             list_any_at (λ (h : Hearing). heard_as hs h.0 (not h.1)) hs r.index (0, false) r.below
             (ap (heard_as hs x.0) (sym (differs_not f.bit x.1 d)) ∙ first_is_heard hs x.0 f.bit f.is)
 
--- the first bit of a position that was heard stays when one more is heard
-first_stays : (hs : List Hearing) (h : Hearing) (p : ℕ) (a : Bool) → first_heard hs p ≡ Some a → first_heard (hs ++ h ∷ []) p ≡ Some a
-first_stays hs h p a e = first_heard-push hs h p ∙ ap (λ o. cond (is_heard o) o (cond (h.0 == p) (Some h.1) None)) e
+-- the first bit of a position that was heard stays when more is heard
+pub first_stays : (hs more : List Hearing) (p : ℕ) (a : Bool) → first_heard hs p ≡ Some a → first_heard (hs ++ more) p ≡ Some a
+first_stays hs more p a e = first_heard-append hs more p ∙ ap (λ o. cond (is_heard o) o (first_heard more p)) e
 
 -- two tests that agree at each element
 any_same : {X : Type 0} (p q : X → Bool) (xs : List X) (d : X) → ((i : ℕ) → i < length xs → p (get_or xs i d) ≡ q (get_or xs i d)) → list_any p xs ≡ list_any q xs
@@ -176,14 +180,16 @@ any_same {X} p q (x ∷ xs) d h = or_both (p x) (q x) (list_any p xs) (list_any 
     or_both : (a b c e : Bool) → a ≡ b → c ≡ e → (a || c) ≡ (b || e)
     or_both a b c e f g = cc
 
+-- more hearings change nothing for those before
+pub differs-before : (hs more : List Hearing) → some_differs (hs ++ more) hs ≡ some_differs hs hs
+differs-before hs more =
+    any_same (λ (x : Hearing). differs (first_heard (hs ++ more) x.0) x.1) (λ (x : Hearing). differs (first_heard hs x.0) x.1) hs (0, false)
+    (λ i lt. let f = first_there hs i lt in let x = get_or hs i (0, false) in ap (λ o. differs o x.1) (first_stays hs more x.0 f.bit f.is ∙ sym f.is))
+
 clashes-push : (hs : List Hearing) (h : Hearing) → clashes (hs ++ h ∷ []) ≡ (clashes hs || differs (first_heard hs h.0) h.1)
 clashes-push hs h =
-    clashes-differs (hs ++ h ∷ []) ∙ list_any-append (λ (x : Hearing). differs (first_heard (hs ++ h ∷ []) x.0) x.1) hs (h ∷ []) ∙ both (some_differs (hs ++ h ∷ []) hs) (some_differs hs hs) (clashes hs) _ _ before (clashes-differs hs) last
+    clashes-differs (hs ++ h ∷ []) ∙ list_any-append (λ (x : Hearing). differs (first_heard (hs ++ h ∷ []) x.0) x.1) hs (h ∷ []) ∙ both (some_differs (hs ++ h ∷ []) hs) (some_differs hs hs) (clashes hs) _ _ (differs-before hs (h ∷ [])) (clashes-differs hs) last
   where
-    before : some_differs (hs ++ h ∷ []) hs ≡ some_differs hs hs
-    before = any_same (λ (x : Hearing). differs (first_heard (hs ++ h ∷ []) x.0) x.1) (λ (x : Hearing). differs (first_heard hs x.0) x.1) hs (0, false)
-        (λ i lt. let f = first_there hs i lt in let x = get_or hs i (0, false) in ap (λ o. differs o x.1) (first_stays hs h x.0 f.bit f.is ∙ sym f.is))
-
     own : (b : Bool) → not (beq b b) ≡ false
     own true = refl
     own false = refl
@@ -234,7 +240,7 @@ record-continues n hs h lt =
             (λ k d l. let l' : k < n = omega (arith, long (first_heard hs)) in rng (first_heard hs) k d l' ∙ same k ∙ sym (rng (first_heard (hs ++ h ∷ [])) k d l'))
           where
             same : (k : ℕ) → first_heard hs k ≡ first_heard (hs ++ h ∷ []) k
-            same k = ⊎_elim (λ (q : k ≡ h.0). rw q (e ∙ sym (first_stays hs h h.0 a e))) (λ ne. sym (other k ne)) (cases_eq k h.0)
+            same k = ⊎_elim (λ (q : k ≡ h.0). rw q (e ∙ sym (first_stays hs (h ∷ []) h.0 a e))) (λ ne. sym (other k ne)) (cases_eq k h.0)
         go None e = same_lists (set (map (first_heard hs) (range_with_len 0 n)) h.0 (Some h.1)) (map (first_heard (hs ++ h ∷ [])) (range_with_len 0 n)) (length-set (map (first_heard hs) (range_with_len 0 n)) h.0 (Some h.1) ∙ long (first_heard hs) ∙ sym (long (first_heard (hs ++ h ∷ []))))
             (λ k d l. let l' : k < n = omega (arith, long (first_heard hs), length-set (map (first_heard hs) (range_with_len 0 n)) h.0 (Some h.1)) in each k d l')
           where

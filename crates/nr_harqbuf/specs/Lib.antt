@@ -1,2 +1,3 @@
 pub mod Record
 pub mod Positions
+pub mod Masks

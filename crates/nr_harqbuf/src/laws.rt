@@ -1,5 +1,6 @@
 //! Laws of the record of what was heard, each the contract of a function that does nothing.
 
+ghost use Rattle.nr_harqbuf.specs.Masks.{RecordMerges};
 ghost use Rattle.nr_harqbuf.specs.Record.{FitsByRecord, RecordContinues};
 
 /// Law: hearing one more bit makes the record of the longer list of hearings.
@@ -11,4 +12,10 @@ pub fn record_continues()
 /// bit of the record.
 pub fn fits_by_record()
     ensures { FitsByRecord }
+{}
+
+/// Law: hearing all that the masks of further hearings say, of which none tells a position both bits, makes the record
+/// of the longer list of hearings.
+pub fn record_merges()
+    ensures { RecordMerges }
 {}

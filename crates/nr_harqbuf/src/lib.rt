@@ -8,9 +8,11 @@
 #![tactic(auto)]
 
 mod laws;
+mod masks;
 mod store;
 
-pub use laws::{fits_by_record, record_continues};
+pub use laws::{fits_by_record, record_continues, record_merges};
+pub use masks::{agrees, merge_word};
 pub use store::Store;
 
 #[cfg(test)]

@@ -1,8 +1,10 @@
 //! The store of one code block.
 
-ghost use Rattle.std.specs.Prelude.{◌≡◌, ◌<◌, [], length, IfOk};
+ghost use Rattle.std.specs.Prelude.{◌≡◌, ℕ, ◌<◌, ◌&&◌, not, [], length, IfOk};
+ghost use Rattle.nr_bitvec.specs.Bit.{bit};
 ghost use Rattle.nr_segment.specs.CodeBlock.{positions_of};
-ghost use Rattle.nr_harqbuf.specs.Record.{first_at, record_of, with_hearing};
+ghost use Rattle.nr_harqbuf.specs.Masks.{merged};
+ghost use Rattle.nr_harqbuf.specs.Record.{first_at, is_heard, record_of, with_hearing};
 
 use nr_bitvec::Bits;
 use nr_segment::Plan;
@@ -61,6 +63,31 @@ impl Store {
         } else {
             self.heard.set(pos, true);
             self.value.set(pos, bit);
+        }
+    }
+
+    /// Hears all that masks say at once: the bit of `value` at each position that `heard` marks, one mark a position of
+    /// the codeword. The first bit of a position is kept, and a different one later is a clash. Of the marks only the
+    /// fresh ones stay, of the positions that were heard for the first time. Takes no memory.
+    pub fn hear_all(&mut self, heard: &mut Bits, value: &Bits)
+        requires marks { length heard.old.items ≡ length self.old.first }
+        ensures merged { self.new ≡ merged self.old heard.old.items value.now.items }
+        ensures fresh { (p : ℕ) → bit heard.new.items p
+            ≡ (bit heard.old.items p && not (is_heard (first_at self.old p))) }
+        ensures long { length heard.new.items ≡ length heard.old.items }
+    {
+        for i in 0..heard.len().div_ceil(64) {
+            let at = 64 * i;
+            let count = (heard.len() - at).min(64);
+            let before = self.heard.window(at);
+            let old = self.value.window(at);
+            let now = heard.window(at);
+            let bits = value.window(at);
+            let fresh = now & !before;
+            self.clash |= now & before & (old ^ bits) != 0;
+            self.heard.put(at, count, before | now);
+            self.value.put(at, count, old ^ (fresh & (old ^ bits)));
+            heard.put(at, count, fresh);
         }
     }
 

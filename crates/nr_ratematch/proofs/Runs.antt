@@ -36,7 +36,7 @@ pub record IsRun (b : Circular) (word : List Bool) (rv k n position : ℕ) : Typ
   pub inside : position + n ≤ length word
 
 -- the positions of a round's places
-run-places : (round : Round) (b : Circular) (rv at k n position : ℕ) → GivesPlaces round b rv → at ≡ (round.first + k % round.count) % round.count → at + n ≤ round.count
+pub run-places : (round : Round) (b : Circular) (rv at k n position : ℕ) → GivesPlaces round b rv → at ≡ (round.first + k % round.count) % round.count → at + n ≤ round.count
     → ((j : ℕ) → j < n → index_of round.front round.skip (at + j) + round.punctured ≡ position + j) → (j : ℕ) → j < n → place_of b rv (k + j) ≡ position + j
 run-places round b rv at k n position gives here inside places j below =
     let turned : (round.first + (k + j) % round.count) % round.count ≡ at + j =
@@ -44,7 +44,7 @@ run-places round b rv at k n position gives here inside places j below =
     sym (gives (k + j)) ∙ ap (λ i. index_of round.front round.skip i + round.punctured) turned ∙ places j below
 
 -- they are positions of the codeword
-run-inside : (b : Circular) (rv k n position long : ℕ) → 0 < n → ((m : ℕ) → IsSent b (place_of b rv m)) → long ≡ cols_of b.graph * b.z
+pub run-inside : (b : Circular) (rv k n position long : ℕ) → 0 < n → ((m : ℕ) → IsSent b (place_of b rv m)) → long ≡ cols_of b.graph * b.z
     → ((j : ℕ) → j < n → place_of b rv (k + j) ≡ position + j) → position + n ≤ long
 run-inside b rv k n position long some sent e places =
     let coded : place_of b rv (k + (n - 1)) < cols_of b.graph * b.z = (sent (k + (n - 1))).coded in

@@ -1,6 +1,7 @@
 //! The circular buffer of a code block.
 
-ghost use Rattle.std.specs.Prelude.{◌≡◌, ℕ, ◌<◌};
+ghost use Rattle.std.specs.Prelude.{◌≡◌, ℕ, ◌+◌, ◌*◌, ◌<◌, ◌≤◌};
+ghost use Rattle.nr_graphpick.specs.Graph.{cols_of};
 ghost use Rattle.nr_segment.specs.CodeBlock.{numbers};
 ghost use Rattle.nr_ratematch.specs.Places.{GivesPlaces};
 ghost use Rattle.nr_ratematch.specs.Selection.{buffer_said, start_columns, start_of, place_of, IsSent};
@@ -113,6 +114,25 @@ impl Buffer {
         ensures sent { IsSent self.now result }
     {
         self.round(rv).place(k)
+    }
+
+    /// A run of the bits that the redundancy version `rv` selects, from bit `k` on: the position in the codeword of
+    /// bit `k`, and how many bits, from 1 to `most`, have it and the positions after it, one after another. The run
+    /// ends before the fillers, at the end of the buffer, where the start comes again, or at `most`
+    /// (TS 38.212, 5.4.2.1). Takes no memory, and as long for every `k`.
+    pub fn run(&self, rv: u32, k: u32, most: u32) -> (u32, u32)
+        requires version { rv < 4 }
+        requires most { 0 < most }
+        ensures some { 0 < result.1 }
+        ensures most { result.1 ≤ most }
+        ensures inside { result.0 + result.1 ≤ cols_of self.now.graph * self.now.z }
+        ensures places { (j : ℕ) → j < result.1
+            → place_of self.now rv (k + j) ≡ result.0 + j }
+    {
+        let round = self.round(rv);
+        let at = (round.first + k % round.count) % round.count;
+        let (position, run) = round.run(at);
+        (position, run.min(most))
     }
 
     // The places of the buffer once round, as a redundancy version takes them.

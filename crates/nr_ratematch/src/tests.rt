@@ -60,6 +60,28 @@ fn places(rt: HostRuntime) -> Result<(), Fail> {
     Ok(())
 }
 
+// The same buffers: 26 positions stand before the fillers, and 294 after them.
+#[test]
+fn runs(rt: HostRuntime) -> Result<(), Fail> {
+    let made = plan(Graph::Two, 40)?;
+    let whole = Buffer::new(&made, None)?;
+    let limited = Buffer::new(&made, Some(200))?;
+    let least = Buffer::new(&made, Some(1))?;
+    for (buffer, rv, k, most, run) in [
+        (whole, 0, 0, 64, (14, 26)),
+        (whole, 0, 25, 64, (39, 1)),
+        (whole, 0, 26, 64, (70, 64)),
+        (whole, 0, 26, u32::MAX, (70, 294)),
+        (whole, 0, 319, 2, (363, 1)),
+        (whole, 0, 320, 20, (14, 20)),
+        (limited, 3, 0, 64, (266, 48)),
+        (least, 2, u32::MAX, 64, (14, 1)),
+    ] {
+        assert_eq!(rt; buffer.run(rv, k, most), run, "bit {k} of version {rv}");
+    }
+    Ok(())
+}
+
 // Puts a one in the place of a bit that the word has.
 fn put_one(word: &mut Word, at: usize) {
     if at < word.len() {

@@ -1,0 +1,50 @@
+//! Masks of what is heard at once: one list of bits marks the positions of the codeword that were heard, another has
+//! the bits heard there.
+
+ghost use Rattle.std.specs.Prelude.{◌≡◌, ℕ, ◌+◌, ◌≤◌, ◌||◌, ◌↔◌, Bool, true, length, IsTrue};
+ghost use Rattle.nr_bitvec.specs.Bit.{bit};
+ghost use Rattle.nr_harqbuf.specs.Masks.{says, word_says};
+
+use nr_bitvec::Bits;
+use nr_bitvec::words::low_bits;
+
+/// Hears up to 64 bits one after another: of the `count` positions from position `at` on, those that `now` marks, the
+/// lowest bit first, with the bits of `bits`. The first bit of a position stays. Answers whether no position that the
+/// masks marked before is marked again with the other bit: then they say what they said and what the words say. Takes
+/// no memory.
+pub fn merge_word(
+    heard: &mut Bits,
+    value: &mut Bits,
+    at: usize,
+    count: usize,
+    now: u64,
+    bits: u64,
+) -> bool
+    requires count { count ≤ 64 }
+    requires inside { at + count ≤ length heard.old.items }
+    requires both { length value.old.items ≡ length heard.old.items }
+    ensures says { IsTrue result → (p : ℕ) (b : Bool) → says heard.new.items value.new.items p b
+        ≡ (says heard.old.items value.old.items p b || word_says at count now bits p b) }
+    ensures heard { length heard.new.items ≡ length heard.old.items }
+    ensures value { length value.new.items ≡ length value.old.items }
+{
+    let before = heard.window(at);
+    let old = value.window(at);
+    let now = low_bits(now, count);
+    let fresh = now & !before;
+    heard.put(at, count, before | now);
+    value.put(at, count, old ^ (fresh & (old ^ bits)));
+    now & before & (old ^ bits) == 0
+}
+
+/// Whether a word of the code has the bit that the masks say at each position that they mark. Takes no memory.
+pub fn agrees(heard: &Bits, value: &Bits, word: &Bits) -> bool
+    ensures { IsTrue result ↔ ((p : ℕ) → bit heard.now.items p ≡ true → bit word.now.items p ≡ bit value.now.items p) }
+{
+    let mut agreed = true;
+    for i in 0..heard.len().div_ceil(64) {
+        let at = 64 * i;
+        agreed &= heard.window(at) & (value.window(at) ^ word.window(at)) == 0;
+    }
+    agreed
+}
