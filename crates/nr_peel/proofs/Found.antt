@@ -14,9 +14,8 @@ use Rattle.nr_peel.specs.Closure.{AreSound, IsStopping, closure, stands}
 use Rattle.nr_peel.specs.Certificates.{IsFixOrder, IsRising, IsStoppingSet}
 use Rattle.nr_peel.specs.declared.fix.Fix.{Fix}
 use Rattle.nr_peel.proofs.Left.{place_of, stands_at}
-use Rattle.nr_peel.proofs.Lowered.{count_more}
 use Rattle.nr_peel.proofs.Ordered.{steps_stay}
-use Rattle.nr_peel.proofs.Standing.{count_no}
+use Rattle.nr_peel.proofs.Standing.{count_more, count_no}
 use Rattle.nr_peel.proofs.Words.{stopping_stays_out}
 
 -- a rising list's search finds what stands in it

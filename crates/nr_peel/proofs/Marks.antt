@@ -1,11 +1,15 @@
 -- Lanes of rows, and the positions that they mark in a block.
-use Rattle.std.proofs.Common.{◌≡◌, ℕ, zero, suc, ◌+◌, ◌-◌, ◌*◌, ◌/◌, ◌%◌, ◌<◌, ◌≤◌, ◌==◌, ◌&&◌, ◌||◌, Bool, true, false, not, if◌then◌else◌, List, ◌++◌, refl, sym, ap, ◌∙◌, inl, inr, arith}
+use Rattle.std.proofs.Common.{◌≡◌, ℕ, zero, suc, ◌+◌, ◌-◌, ◌*◌, ◌/◌, ◌%◌, ◌^◌, ◌<◌, ◌≤◌, ◌==◌, ◌&&◌, ◌||◌, Bool, true, false, not, if◌then◌else◌, List, ◌++◌, get_or, set, replicate, refl, sym, ap, ◌∙◌, inl, inr, arith}
+use Rattle.std.specs.Int.{bit_at, w64}
+use Rattle.std.specs.Int.RustNames.{bit_or}
+use Rattle.std.proofs.lemmas.Nat.Bits.{bit_at_set_other, bit_at_set_same}
 use Rattle.std.proofs.Math.Nat.{add-mod-mod}
-use Rattle.std.proofs.lemmas.Bool.{cases_lt}
-use Rattle.std.proofs.lemmas.List.{append-nil}
-use Rattle.std.proofs.lemmas.Nat.{mod_below}
+use Rattle.std.proofs.lemmas.Bool.{cases_eq, cases_lt, eq-eqb, ne_eqb}
+use Rattle.std.proofs.lemmas.List.{append-nil, get_or-set_same, get_or-set_other}
+use Rattle.std.proofs.lemmas.Nat.{div_below, mod_below}
 use Rattle.nr_bitvec.specs.Packed.{IsClear}
 use Rattle.nr_lifting.specs.Rings.{IsTurned, is_set, lane_marks, marked}
+use Rattle.nr_lifting.proofs.LaneViews.{place-zeros}
 use Rattle.nr_ldpcenc.specs.Rows.{one_at, unrotate}
 use Rattle.nr_peel.specs.Lanes.{lacks, marks_of, steps_below}
 use Rattle.nr_peel.specs.declared.fix.Fix.{Fix}
@@ -72,3 +76,28 @@ module _ (z j v : ℕ) (some : 0 < z) where
 
   pub marks_same : (u w : ℕ → Bool) (a : Bool) (p : ℕ) → ((t : ℕ) → u t ≡ w t) → (a || marks_of z j v u p) ≡ (a || marks_of z j v w p)
   marks_same u w a p same = ap (λ b. a || ((p / z == j) && b)) (same (unrotate z v (p % z)))
+
+-- the lane that marks one row
+pub one_marked : (row : ℕ) → row < 384 → (t : ℕ) → is_set (set (replicate 6 0) (row / 64) (bit_or (get_or (replicate 6 0) (row / 64) 0) (1 * 2 ^ (row % 64) % 2 ^ 64))) t ≡ (row == t)
+one_marked row small t = elim (cases_eq (t / 64) (row / 64)) [
+  | inl here ↦
+      let within : row / 64 < 6 = div_below row 64 6 (omega arith) small in
+      let read : get_or (set (replicate 6 0) (row / 64) word) (t / 64) 0 ≡ word = ap (λ k. get_or (set (replicate 6 0) (row / 64) word) k 0) here ∙ get_or-set_same (replicate 6 0) (row / 64) word 0 within in
+      elim (cases_eq (t % 64) (row % 64)) [
+        | inl same ↦
+            ap (λ w. bit_at w (t % 64) == 1) read ∙ ap (λ j. bit_at word j == 1) same ∙ ap (λ n. n == 1) (bit_at_set_same w64 blank (row % 64) (mod_below row 64 (omega arith)))
+            ∙ sym (eq-eqb row t (omega (arith, here, same)))
+        | inr other ↦
+            ap (λ w. bit_at w (t % 64) == 1) read ∙ ap (λ n. n == 1) (bit_at_set_other w64 blank (row % 64) (mod_below row 64 (omega arith)) (t % 64) other ∙ ap (λ k. bit_at (get_or (replicate 6 0) k 0) (t % 64)) (sym here) ∙ place-zeros 6 t)
+            ∙ sym (ne_eqb row t (λ e. other (ap (λ m. m % 64) (sym e))))
+      ]
+  | inr other ↦
+      ap (λ w. bit_at w (t % 64) == 1) (get_or-set_other (replicate 6 0) (row / 64) (t / 64) word 0 other) ∙ ap (λ n. n == 1) (place-zeros 6 t)
+      ∙ sym (ne_eqb row t (λ e. other (ap (λ m. m / 64) (sym e))))
+]
+  where
+    blank : ℕ
+    blank = get_or (replicate 6 0) (row / 64) 0
+
+    word : ℕ
+    word = bit_or (get_or (replicate 6 0) (row / 64) 0) (1 * 2 ^ (row % 64) % 2 ^ 64)

@@ -1,11 +1,10 @@
 -- Sums of rows' numbers of positions.
-use Rattle.std.proofs.Common.{◌≡◌, ℕ, ◌+◌, ◌*◌, ◌%◌, ◌<◌, ◌≤◌, ◌==◌, Bool, true, false, cond, List, length, refl, ap, ◌∙◌, ⊎_elim, arith}
+use Rattle.std.proofs.Common.{◌≡◌, ℕ, ◌+◌, ◌*◌, ◌%◌, ◌<◌, ◌≤◌, ◌==◌, Bool, true, false, cond, List, length, refl, ap, ◌∙◌, arith}
 use Rattle.std.specs.Prelude.{zero, suc, slice_index}
-use Rattle.std.proofs.lemmas.Bool.{eqb-true, eq-eqb, ne_eqb}
+use Rattle.std.proofs.lemmas.Bool.{eqb-true, eq-eqb}
 use Rattle.std.proofs.lemmas.Nat.{div-mul-add, mod-mul-add}
 use Rattle.nr_ldpcenc.specs.Rows.{Checks}
 use Rattle.nr_peel.specs.Touches.{all_pairs, row_length, spent_pairs, sum_below}
-use Rattle.nr_peel.proofs.Closed.{cases_below}
 
 pub sum_below-le : (f g : ℕ → ℕ) (n : ℕ) → ((k : ℕ) → k < n → f k ≤ g k) → sum_below f n ≤ sum_below g n
 sum_below-le f g zero h = omega arith
@@ -14,18 +13,6 @@ sum_below-le f g (suc n) h = omega (arith, sum_below-le f g n (λ k lt. h k (ome
 pub sum_below-same : (f g : ℕ → ℕ) (n : ℕ) → ((k : ℕ) → k < n → f k ≡ g k) → sum_below f n ≡ sum_below g n
 sum_below-same f g zero h = refl
 sum_below-same f g (suc n) h = omega (arith, sum_below-same f g n (λ k lt. h k (omega arith)), h n (omega arith))
-
-pub sum_below-at : (f : ℕ → ℕ) (n k : ℕ) → k < n → f k ≤ sum_below f n
-sum_below-at f zero k lt = absurd (omega arith)
-sum_below-at f (suc n) k lt = ⊎_elim (λ l. omega (arith, sum_below-at f n k l)) (λ e. omega (arith, ap f e)) (cases_below k n lt)
-
--- a sum whose term at k gains d, and in which no term falls
-pub sum_below-gain : (f g : ℕ → ℕ) (n k d : ℕ) → k < n → ((j : ℕ) → j < n → f j ≤ g j) → f k + d ≤ g k → sum_below f n + d ≤ sum_below g n
-sum_below-gain f g zero k d lt h gain = absurd (omega arith)
-sum_below-gain f g (suc n) k d lt h gain = ⊎_elim
-    (λ l. omega (arith, sum_below-gain f g n k d l (λ j m. h j (omega arith)) gain, h n (omega arith)))
-    (λ e. omega (arith, sum_below-le f g n (λ j m. h j (omega arith)), ap f e, ap g e))
-    (cases_below k n lt)
 
 pub sum_below-plus : (f g h : ℕ → ℕ) (n : ℕ) → ((k : ℕ) → k < n → f k + g k ≡ h k) → sum_below f n + sum_below g n ≡ sum_below h n
 sum_below-plus f g h zero e = refl
@@ -42,10 +29,6 @@ pub spent_le : (c : Checks) (counts : List ℕ) → spent_pairs c counts ≤ all
 unfolding spent_pairs all_pairs
 spent_le c counts = sum_below-le (λ k. cond (slice_index counts k == 0) (row_length c k) 0) (row_length c) (c.rows * c.lanes) (λ k lt. cond_le (slice_index counts k == 0) (row_length c k))
 
-pub degree_le : (c : Checks) (k : ℕ) → k < c.rows * c.lanes → row_length c k ≤ all_pairs c
-unfolding all_pairs
-degree_le c k lt = sum_below-at (row_length c) (c.rows * c.lanes) k lt
-
 -- counters that fall
 spent_term : (a b d : ℕ) → b ≤ a → cond (a == 0) d 0 ≤ cond (b == 0) d 0
 spent_term a b d le = go (a == 0) refl
@@ -60,20 +43,3 @@ spent_term a b d le = go (a == 0) refl
 pub spent_more : (c : Checks) (old new : List ℕ) → ((k : ℕ) → slice_index new k ≤ slice_index old k) → spent_pairs c old ≤ spent_pairs c new
 unfolding spent_pairs
 spent_more c old new fall = sum_below-le (λ k. cond (slice_index old k == 0) (row_length c k) 0) (λ k. cond (slice_index new k == 0) (row_length c k) 0) (c.rows * c.lanes) (λ k lt. spent_term (slice_index old k) (slice_index new k) (row_length c k) (fall k))
-
--- a row that comes down to none adds its pairs
-pub spent_gain : (c : Checks) (old new : List ℕ) (k : ℕ) → k < c.rows * c.lanes → ((j : ℕ) → slice_index new j ≤ slice_index old j) → 0 < slice_index old k → slice_index new k ≡ 0
-    → spent_pairs c old + row_length c k ≤ spent_pairs c new
-unfolding spent_pairs
-spent_gain c old new k lt fall some none =
-    sum_below-gain (λ k. cond (slice_index old k == 0) (row_length c k) 0) (λ k. cond (slice_index new k == 0) (row_length c k) 0) (c.rows * c.lanes) k (row_length c k) lt
-    (λ j l. spent_term (slice_index old j) (slice_index new j) (row_length c j) (fall j)) gain
-  where
-    before : cond (slice_index old k == 0) (row_length c k) 0 ≡ 0
-    before = ap (λ t. cond t (row_length c k) 0) (ne_eqb (slice_index old k) 0 (λ e. absurd (omega arith)))
-
-    after : cond (slice_index new k == 0) (row_length c k) 0 ≡ row_length c k
-    after = ap (λ t. cond t (row_length c k) 0) (eq-eqb (slice_index new k) 0 none)
-
-    gain : cond (slice_index old k == 0) (row_length c k) 0 + row_length c k ≤ cond (slice_index new k == 0) (row_length c k) 0
-    gain = omega (arith, before, after)

@@ -1,12 +1,10 @@
 -- Where a position's rows are: a row by its number, and its lane by a rotation.
-use Rattle.std.proofs.Common.{◌≡◌, ℕ, ◌+◌, ◌-◌, ◌*◌, ◌/◌, ◌%◌, ◌<◌, ◌≤◌, ◌==◌, nat_lt, ◌&&◌, true, false, cond, sym, ap, ◌∙◌, ⊎_elim, arith}
-use Rattle.std.proofs.lemmas.Bool.{and_parts, and_from, eqb-true, eq-eqb, cases_lt, lt-ltb, le-ltb}
-use Rattle.std.proofs.lemmas.Nat.{mod_below, same_from_place, div-add-mod'}
+use Rattle.std.proofs.Common.{◌≡◌, ℕ, ◌+◌, ◌-◌, ◌*◌, ◌/◌, ◌%◌, ◌<◌, ◌≤◌, ◌==◌, ◌&&◌, true, sym, ap, ◌∙◌, ⊎_elim, arith}
+use Rattle.std.proofs.lemmas.Bool.{and_parts, and_from, eqb-true, eq-eqb, cases_lt}
+use Rattle.std.proofs.lemmas.Nat.{mod_below, div-add-mod'}
 use Rattle.std.proofs.Math.Nat.{mod-eq_of_lt, add-mod_left}
 use Rattle.nr_shifttable.specs.declared.entry.Entry.{Entry}
-use Rattle.nr_shifttable.specs.Tails.{value_in}
 use Rattle.nr_ldpcenc.specs.Rows.{one_at, unrotate}
-use Rattle.nr_peel.specs.Touches.{holder}
 use Rattle.nr_peel.proofs.Closed.{same_truth}
 use Rattle.nr_peel.proofs.Grid.{place_column, place_lane}
 
@@ -19,18 +17,6 @@ mod_high s z le lt =
     let e : s ≡ z + (s - z) = omega arith in
     let low : s - z < z = omega arith in
     ap (λ n. n % z) e ∙ add-mod_left z (s - z) ∙ mod-eq_of_lt low
-
-pub turned_is : (s z : ℕ) → s < 2 * z → cond (nat_lt s z) s (s - z) ≡ s % z
-turned_is s z lt = ⊎_elim
-    (λ l. ap (λ b. cond b s (s - z)) (below s z l) ∙ sym (mod_low s z l))
-    (λ le. ap (λ b. cond b s (s - z)) (above s z le) ∙ sym (mod_high s z le lt))
-    (cases_lt s z)
-  where
-    below : (a b : ℕ) → a < b → nat_lt a b ≡ true
-    below a b h = lt-ltb a b h
-
-    above : (a b : ℕ) → b ≤ a → nat_lt a b ≡ false
-    above a b h = le-ltb a b h
 
 -- a lane turned one way and back
 rotate_back : (z w t u : ℕ) → w < z → t < z → (t + w) % z ≡ u → (u + (z - w)) % z ≡ t
@@ -91,31 +77,6 @@ place-eqb z t col v p tl = same_truth (one_at z t col v == p) ((col == p / z) &&
         let column : col ≡ p / z = eqb-true col (p / z) parts.0 in
         let lane : (t + v % z) % z ≡ p % z = eqb-true ((t + v % z) % z) (p % z) (rotate-eqb z v t (p % z) tl ul ∙ parts.1) in
         eq-eqb (one_at z t col v) p (ap (λ c. c * z + (t + v % z) % z) column ∙ ap (λ l. p / z * z + l) lane ∙ div-add-mod' p z)
-
--- an entry's row number is that of row t of row of blocks i
-pub holder-eqb : (set z u i t : ℕ) (e : Entry) → t < z → u < z → (holder set z u e == i * z + t) ≡ ((e.row == i) && (unrotate z (value_in set e) u == t))
-holder-eqb set z u i t e tl ul = same_truth (holder set z u e == i * z + t) ((e.row == i) && (unrotate z (value_in set e) u == t)) there back
-  where
-    lane : ℕ
-    lane = unrotate z (value_in set e) u
-
-    small : lane < z
-    small = mod_below (u + (z - value_in set e % z)) z (omega arith)
-
-    there : (holder set z u e == i * z + t) ≡ true → ((e.row == i) && (lane == t)) ≡ true
-    there h =
-        let same = same_from_place e.row lane i t z small tl (eqb-true (holder set z u e) (i * z + t) h) in
-        and_from (e.row == i) (lane == t) (eq-eqb e.row i same.0) (eq-eqb lane t same.1)
-
-    back : ((e.row == i) && (lane == t)) ≡ true → (holder set z u e == i * z + t) ≡ true
-    back h =
-        let parts = and_parts (e.row == i) (lane == t) h in
-        eq-eqb (holder set z u e) (i * z + t) (ap (λ r. r * z + lane) (eqb-true e.row i parts.0) ∙ ap (λ l. i * z + l) (eqb-true lane t parts.1))
-
-pub holder_below : (set z u rows : ℕ) (e : Entry) → 0 < z → (e.row + 1) * z ≤ rows → holder set z u e < rows
-holder_below set z u rows e pos le =
-    let small = mod_below (u + (z - value_in set e % z)) z pos in
-    omega arith
 
 -- a row's block and lane, from its number
 pub row_number : (k z : ℕ) → k / z * z + k % z ≡ k

@@ -1,12 +1,22 @@
 -- Sums of rows, by lanes.
-use Rattle.std.proofs.Common.{◌≡◌, ℕ, ◌+◌, ◌<◌, Bool, List, length, get_or, map, take, ap, ◌∙◌, arith}
+use Rattle.std.proofs.Common.{◌≡◌, ℕ, ◌+◌, ◌<◌, Bool, true, false, List, [], ◌∷◌, ◌++◌, length, get_or, map, take, refl, ap, ◌∙◌, arith}
 use Rattle.std.proofs.lemmas.List.{get_or-map, length-map, take_more}
 use Rattle.nr_bitvec.specs.Bit.{◌⊕◌}
 use Rattle.nr_shifttable.specs.declared.entry.Entry.{Entry}
 use Rattle.nr_shifttable.specs.Tails.{value_in}
 use Rattle.nr_ldpcenc.specs.Parity.{parity}
 use Rattle.nr_ldpcenc.specs.Rows.{one_at, positions}
-use Rattle.nr_peel.proofs.Searched.{parity-push}
+
+parity-push : (w : ℕ → Bool) (ps : List ℕ) (p : ℕ) → parity w (ps ++ p ∷ []) ≡ parity w ps ⊕ w p
+parity-push w [] p = none (w p)
+  where
+    none : (b : Bool) → (b ⊕ false) ≡ b
+    none true = refl
+    none false = refl
+parity-push w (q ∷ ps) p = ap (λ b. w q ⊕ b) (parity-push w ps p) ∙ regroup (w q) (parity w ps) (w p)
+  where
+    regroup : (a b c : Bool) → (a ⊕ (b ⊕ c)) ≡ ((a ⊕ b) ⊕ c)
+    regroup a b c = grind arith
 
 -- one entry more
 pub summed_more : (B : ℕ → Bool) (set z t n : ℕ) (row : List Entry) (none : Entry) → n < length row

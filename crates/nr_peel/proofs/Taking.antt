@@ -1,146 +1,191 @@
--- A position is given, and takes a bit if it was not known.
-use Rattle.std.proofs.Common.{◌≡◌, ◌≢◌, ℕ, ◌+◌, ◌<◌, ◌≤◌, ◌==◌, ◌||◌, Bool, true, false, length, set, refl, sym, ap, ◌∙◌, ⊎_elim, inl, inr, arith}
-use Rattle.std.specs.Prelude.{◌⊎◌, count_by, slice_index, sum, vec_capacity}
-use Rattle.std.proofs.lemmas.Bool.{cases_eq, eqb-true, eq-eqb, or_left, or_right, or_cases, true≢false}
-use Rattle.std.proofs.lemmas.List.{get_or-set_same, get_or-set_other, length-set}
+-- The entries of a row of blocks, one after another: its rows fix the positions that they have alone to fix.
+use Rattle.std.proofs.Common.{◌≡◌, ℕ, zero, suc, ◌+◌, ◌-◌, ◌*◌, ◌<◌, ◌≤◌, ◌==◌, ◌&&◌, Bool, true, false, not, cond, if◌then◌else◌, List, [], length, get_or, take, refl, sym, ap, ◌∙◌, arith, length-append}
+use Rattle.std.specs.Prelude.{count_by, slice_index}
+use Rattle.std.proofs.lemmas.Bool.{and_parts, eqb-true, true≢false, false≢true}
+use Rattle.std.proofs.lemmas.List.{get_or-map, length-map, take_all}
+use Rattle.std.proofs.lemmas.List.Elements.{filter_passes}
+use Rattle.std.proofs.lemmas.List.Sums.{sum_by-take-le}
 use Rattle.nr_bitvec.specs.Bit.{bit}
-use Rattle.nr_ldpcenc.specs.Rows.{Checks}
-use Rattle.nr_peel.specs.Closure.{Within}
-use Rattle.nr_peel.specs.Certificates.{is_fixed_by, with_position}
-use Rattle.nr_peel.specs.Counters.{IsLowered, IsListed, IsSettled, AreTied}
-use Rattle.nr_peel.specs.State.{IsWorking, LearnsWords}
-use Rattle.nr_peel.specs.declared.counters.Counters.{Counters}
-use Rattle.nr_peel.specs.declared.state.State.{State}
-use Rattle.nr_peel.proofs.Ordered.{all_accepted_within}
-use Rattle.nr_peel.proofs.Fixing.{count-mark}
-use Rattle.nr_peel.proofs.Pairs.{spent_more}
-use Rattle.nr_peel.proofs.Tied.{bit-mark}
+use Rattle.nr_bitvec.specs.Packed.{IsClear}
+use Rattle.nr_lifting.specs.Rings.{is_set, marked}
+use Rattle.nr_lifting.proofs.LaneBits.{marked-same}
+use Rattle.nr_segment.specs.CodeBlock.{numbers}
+use Rattle.nr_shifttable.specs.declared.entry.Entry.{Entry}
+use Rattle.nr_shifttable.specs.Accepted.{IsTable, entries_in, row_of}
+use Rattle.nr_shifttable.specs.Tails.{value_in}
+use Rattle.nr_ldpcenc.specs.Parity.{parity}
+use Rattle.nr_ldpcenc.specs.Rows.{Checks, Meets, one_at, positions}
+use Rattle.nr_peel.specs.Closure.{AreSound, IsOnlyMissing, Within, stands}
+use Rattle.nr_peel.specs.Certificates.{is_fixed_by}
+use Rattle.nr_peel.specs.Lanes.{Takes, lacks}
+use Rattle.nr_peel.specs.State.{lifted_checks}
+use Rattle.nr_peel.specs.Sweeps.{AreLanes, CountsOf, Fixes, HasBits, IsBlockSought, counted_in, has_count}
+use Rattle.nr_peel.specs.Touches.{sum_below}
+use Rattle.nr_peel.specs.declared.lanes.Lanes.{Lanes}
+use Rattle.nr_peel.specs.declared.lifted.Lifted.{Lifted}
+use Rattle.nr_peel.proofs.Grid.{checks_sound}
+use Rattle.nr_peel.proofs.LaneSteps.{neither, only_at, take_fixes, take_knows, unnot}
+use Rattle.nr_peel.proofs.Left.{stands_at}
+use Rattle.nr_peel.proofs.Marks.{none_marked}
+use Rattle.nr_peel.proofs.Standing.{count_more}
+use Rattle.nr_peel.proofs.Tied.{row_columns}
+use Rattle.nr_peel.proofs.Words.{forced_bit}
+use Rattle.nr_peel.proofs.Sweeping.{count_fewer, counted_known, fixes_none, fixes_then, known_more}
 
--- what happened from a to d: a position that was not known was given a bit
-pub record IsTaken (c : Checks) (a d : State) (pos : ℕ) (v : Bool) : Type 0 where
-  pub inside : pos < c.size
-  pub missing : bit a.known.items pos ≡ false
-  pub given : d.given.items ≡ set a.given.items pos true
-  pub known : d.known.items ≡ set a.known.items pos true
-  pub bits : d.bits.items ≡ set a.bits.items pos v
-  pub order : d.order ≡ a.order
-  pub tied : AreTied c d.known.items d.counters
-  pub falls : (k : ℕ) → slice_index d.counters.counts.items k ≤ slice_index a.counters.counts.items k
-  pub visits : d.counters.touches + sum d.counters.counts.items ≡ a.counters.touches + sum a.counters.counts.items
+-- ---- sums over rows
 
-regroup : (g s m : Bool) → ((g || s) || m) ≡ ((g || m) || s)
-regroup true s m = refl
-regroup false true true = refl
-regroup false true false = refl
-regroup false false m = or_false m
-  where
-    or_false : (m : Bool) → m ≡ (m || false)
-    or_false true = refl
-    or_false false = refl
+sum_with : (u : ℕ → Bool) (f g : ℕ → ℕ) (n : ℕ) → ((t : ℕ) → t < n → f t + (if u t then 1 else 0) ≤ g t) → sum_below f n + marked u n ≤ sum_below g n
+sum_with u f g zero h = omega arith
+sum_with u f g (suc n) h = omega (arith, sum_with u f g n (λ t lt. h t (omega (arith, lt))), h n (omega arith))
 
-module _ (c : Checks) (a d : State) (pos : ℕ) (v : Bool) (w : IsWorking c a) (f : IsTaken c a d pos v) where
-  in_known : pos < length a.known.items
-  in_known = omega (arith, f.inside, w.known_long)
+sum_marked : (u : ℕ → Bool) (f : ℕ → ℕ) (n : ℕ) → ((t : ℕ) → t < n → f t ≤ (if u t then 1 else 0)) → sum_below f n ≤ marked u n
+sum_marked u f zero h = omega arith
+sum_marked u f (suc n) h = omega (arith, sum_marked u f n (λ t lt. h t (omega (arith, lt))), h n (omega arith))
 
-  known_is : (q : ℕ) → bit d.known.items q ≡ with_position (bit a.known.items) pos q
-  known_is q = ap (λ l. bit l q) f.known ∙ bit-mark a.known.items pos in_known q
+-- how many positions outside a set the first n entries have in the rows of a lane
+abbrev pub lacking_in : (ℕ → Bool) → ℕ → ℕ → List Entry → List ℕ → ℕ → ℕ
+lacking_in K set z row ones n = sum_below (λ t. if is_set ones t then count_by (λ p. not (K p)) (take n (positions set z t row)) else 0) z
 
-  given_is : (q : ℕ) → bit d.given.items q ≡ with_position (bit a.given.items) pos q
-  given_is q = ap (λ l. bit l q) f.given ∙ bit-mark a.given.items pos (omega (arith, f.inside, w.given_long)) q
+-- the first n entries of a row of blocks were taken for the rows of a lane
+pub record IsTaking (l : Lifted) (i : ℕ) (ones : List ℕ) (n : ℕ) (old new : Lanes) : Type 0 where
+  pub fixes : Fixes (lifted_checks l) (counted_in old) old new
+  pub few : length fixes.steps ≤ lacking_in (counted_in old) l.plan.set l.plan.z (row_of (entries_in l.plan.graph l.table.now) i) ones n
+  pub whole : (t : ℕ) → t < l.plan.z → is_set ones t ≡ true → count_by (λ p. not (bit new.known.items p)) (take n ((lifted_checks l).row i t)) ≡ 0
 
-  bits_other : (q : ℕ) → q ≢ pos → bit d.bits.items q ≡ bit a.bits.items q
-  bits_other q ne = ap (λ l. bit l q) f.bits ∙ get_or-set_other a.bits.items pos q v false ne
+-- what one more entry adds in a row
+fit : (o k b : Bool) (x y : ℕ) → y ≡ x + cond (not k) 1 0 → (k ≡ true → b ≡ true) → (if o then x else 0) + (if (o && not b) then 1 else 0) ≤ (if o then y else 0)
+fit false k b x y e h = omega arith
+fit true k true x y e h = omega (arith, e)
+fit true true false x y e h = absurd (false≢true (h refl))
+fit true false false x y e h = omega (arith, e)
 
-  pub taken_bit : bit d.bits.items pos ≡ v
-  taken_bit = ap (λ l. bit l pos) f.bits ∙ get_or-set_same a.bits.items pos v false (omega (arith, f.inside, w.bits_long))
+module _ (l : Lifted) (i : ℕ) (ones : List ℕ) (a : Lanes) (table : IsTable l.table.now) (block : i < (lifted_checks l).rows) (lanes : AreLanes (lifted_checks l) a)
+    (one : (t : ℕ) → t < l.plan.z → is_set ones t ≡ true → count_by (λ p. not (counted_in a p)) ((lifted_checks l).row i t) ≡ 1) where
+  abbrev c : Checks
+  c = lifted_checks l
 
-  pub take_known : (q : ℕ) → bit a.known.items q ≡ true → bit d.known.items q ≡ true
-  take_known q h = known_is q ∙ or_left (bit a.known.items q) (pos == q) h
+  abbrev z : ℕ
+  z = l.plan.z
 
-  pub taken_known : bit d.known.items pos ≡ true
-  taken_known = known_is pos ∙ or_right (bit a.known.items pos) (pos == pos) (eq-eqb pos pos refl)
+  abbrev set : ℕ
+  set = l.plan.set
 
-  pub take_bits : (q : ℕ) → bit a.known.items q ≡ true → bit d.bits.items q ≡ bit a.bits.items q
-  take_bits q h = bits_other q (λ e. true≢false (sym h ∙ ap (bit a.known.items) e ∙ f.missing))
+  abbrev row : List Entry
+  row = row_of (entries_in l.plan.graph l.table.now) i
 
-  pub take_words : LearnsWords c a d pos v
-  take_words u meets agree is q h = ⊎_elim
-      (λ (e : q ≡ pos). ap u e ∙ is ∙ sym taken_bit ∙ ap (bit d.bits.items) (sym e))
-      (λ (ne : q ≢ pos). agree q (was q ne h) ∙ sym (bits_other q ne))
-      (cases_eq q pos)
+  abbrev K : ℕ → Bool
+  K = counted_in a
+
+  abbrev none : Entry
+  none = record { row = 0; col = 0; values = [] }
+
+  sound : AreSound c
+  sound = checks_sound l.table.now l.plan.graph (numbers l.plan) table l.plan.sound.size_some
+
+  pub taking_start : IsTaking l i ones 0 a a
+  taking_start =
+      let f = fixes_none c K a lanes in
+      record { fixes = f.0; few = omega (arith, f.1); whole = λ t below set. refl }
+
+  -- no more than the rows of the lane
+  lacking_most : (n : ℕ) → lacking_in K set z row ones n ≤ marked (is_set ones) z
+  lacking_most n = sum_marked (is_set ones) (λ t. if is_set ones t then count_by (λ p. not (K p)) (take n (positions set z t row)) else 0) z (λ t below. go t below (is_set ones t) refl)
     where
-      was : (q : ℕ) → q ≢ pos → bit d.known.items q ≡ true → bit a.known.items q ≡ true
-      was q ne h = ⊎_elim (λ k. k) (λ e. absurd (ne (sym (eqb-true pos q e)))) (or_cases (bit a.known.items q) (pos == q) (sym (known_is q) ∙ h))
+      go : (t : ℕ) → t < z → (b : Bool) → is_set ones t ≡ b → (if b then count_by (λ p. not (K p)) (take n (positions set z t row)) else 0) ≤ (if b then 1 else 0)
+      go t below false e = omega arith
+      go t below true e = omega (arith, one t below e, sum_by-take-le (λ p. cond (not (K p)) 1 0) (positions set z t row) n)
 
-  pub take_works : IsWorking c d
-  take_works = record {
-    given_long = ap length f.given ∙ length-set a.given.items pos true ∙ w.given_long;
-    known_long = ap length f.known ∙ length-set a.known.items pos true ∙ w.known_long;
-    bits_long = ap length f.bits ∙ length-set a.bits.items pos v ∙ w.bits_long;
-    blank = λ q h. bits_other q (not_here q h) ∙ w.blank q (unknown_before q h);
-    tied = f.tied;
-    accepted = rw f.order (all_accepted_within c (bit a.given.items) (bit d.given.items) a.order.items more w.accepted);
-    reached = λ q. known_is q ∙ ap (λ b. b || (pos == q)) (w.reached q) ∙ regroup (bit a.given.items q) (is_fixed_by a.order.items q) (pos == q)
-        ∙ ap (λ b. b || is_fixed_by a.order.items q) (sym (given_is q)) ∙ ap (λ o. bit d.given.items q || is_fixed_by o.items q) (sym f.order);
-    order_few = omega (arith, w.order_few, ap (λ o. length o.items) f.order, ap (count_by (λ b. b)) f.known, count-mark a.known.items pos in_known f.missing);
-    order_room = omega (arith, w.order_room, ap vec_capacity f.order);
-    least = omega (arith, w.least, f.visits);
-    most = omega (arith, w.most, f.visits, spent_more c a.counters.counts.items d.counters.counts.items f.falls);
-    small = w.small;
+  module _ (n : ℕ) (m : Lanes) (within_row : n < length row) (so_far : IsTaking l i ones n a m) where
+    abbrev e : Entry
+    e = get_or row n none
+
+    abbrev at : ℕ → ℕ
+    at t = one_at z t e.col (value_in set e)
+
+    abbrev u : ℕ → Bool
+    u = lacks z e.col (value_in set e) ones (bit m.known.items)
+
+    position : (t : ℕ) → get_or (positions set z t row) n 0 ≡ at t
+    position t = get_or-map (λ (x : Entry). one_at z t x.col (value_in set x)) row n none 0 within_row
+
+    inside : (t : ℕ) → n < length (positions set z t row)
+    inside t = omega (arith, length-map row (λ (x : Entry). one_at z t x.col (value_in set x)), within_row)
+
+    K_known : Within K (bit m.known.items)
+    K_known p k = known_more c K a m so_far.fixes p (counted_known a p k)
+
+    lacking_more : lacking_in K set z row ones n + marked (lacks z e.col (value_in set e) ones (bit m.known.items)) z ≤ lacking_in K set z row ones (n + 1)
+    lacking_more = sum_with (lacks z e.col (value_in set e) ones (bit m.known.items))
+        (λ t. if is_set ones t then count_by (λ p. not (K p)) (take n (positions set z t row)) else 0)
+        (λ t. if is_set ones t then count_by (λ p. not (K p)) (take (n + 1) (positions set z t row)) else 0) z
+        (λ t below. fit (is_set ones t) (K (at t)) (bit m.known.items (at t)) (count_by (λ p. not (K p)) (take n (positions set z t row))) (count_by (λ p. not (K p)) (take (n + 1) (positions set z t row)))
+        (count_more (λ p. not (K p)) (positions set z t row) n 0 (inside t) ∙ ap (λ q. count_by (λ p. not (K p)) (take n (positions set z t row)) + cond (not (K q)) 1 0) (position t))
+        (K_known (at t)))
+
+    -- the steps find room
+    pub taking_room : length m.order.items + marked (lacks z e.col (value_in set e) ones (bit m.known.items)) z ≤ length a.order.items + marked (is_set ones) z
+    taking_room = omega (arith, ap length so_far.fixes.order, length-append a.order.items so_far.fixes.steps, so_far.few, lacking_more, lacking_most (n + 1))
+
+    module _ (sums : List ℕ) (d : Lanes) (took : Takes l e ones sums m d) (sums_are : (t : ℕ) → t < z → is_set sums t ≡ parity (bit a.bits.items) (positions set z t row)) where
+      row_is : e.row ≡ i
+      row_is = eqb-true e.row i (filter_passes (λ (x : Entry). x.row == i) (entries_in l.plan.graph l.table.now) n none within_row)
+
+      column : (e.col + 1) * z ≤ c.size
+      column = row_columns l.table.now l.plan.graph (numbers l.plan) table l.plan.sound.size_some i n none within_row
+
+      there : (t : ℕ) → t < z → stands (at t) (c.row i t) ≡ true
+      there t below = sym (ap (λ q. stands q (positions set z t row)) (position t)) ∙ stands_at (positions set z t row) n (inside t)
+
+      only : (t : ℕ) → t < z → lacks z e.col (value_in set e) ones (bit m.known.items) t ≡ true → IsOnlyMissing K (c.row i t) (at t)
+      only = only_at l i e ones sums K m d took so_far.fixes.lanes l.plan.sound.size_some block row_is column K_known there one
+
+      unknown_before : (p : ℕ) → bit m.known.items p ≡ false → bit a.known.items p ≡ false
+      unknown_before p h = (neither (bit a.known.items p) (is_fixed_by so_far.fixes.steps p) (sym (so_far.fixes.known p) ∙ h)).0
+
+      right : (w : ℕ → Bool) → Meets c w → HasBits m w → (t : ℕ) → t < z → lacks z e.col (value_in set e) ones (bit m.known.items) t ≡ true → w (at t) ≡ is_set sums t
+      right w meets has t below h =
+          let out : bit m.known.items (at t) ≡ false = unnot (bit m.known.items (at t)) (and_parts (is_set ones t) (not (bit m.known.items (at t))) h).1 in
+          forced_bit w (bit a.bits.items) K (at t) (c.row i t) (sound.distinct i t block below) (meets i t block below) (only t below h) (lanes.blank (at t) (unknown_before (at t) out))
+          (λ q k. has q (K_known q k) ∙ so_far.fixes.kept q (counted_known a q k)) ∙ sym (sums_are t below)
+
+      pub taking_more : IsTaking l i ones (n + 1) a d
+      taking_more =
+          let f = take_fixes l i e ones sums K m d took so_far.fixes.lanes l.plan.sound.size_some block row_is column K_known there one right in
+          let h = fixes_then c K a m d so_far.fixes f.0 in
+          record {
+            fixes = h.0;
+            few = omega (arith, h.1, f.1, so_far.few, lacking_more);
+            whole = λ t below set_there.
+                let ps = positions set z t row in
+                let grown : count_by (λ p. not (bit d.known.items p)) (take (n + 1) ps) ≡ count_by (λ p. not (bit d.known.items p)) (take n ps) + cond (not (bit d.known.items (get_or ps n 0))) 1 0 = count_more (λ p. not (bit d.known.items p)) ps n 0 (inside t) in
+                let knows : ◌≡◌ {A = ℕ} (cond (not (bit d.known.items (get_or ps n 0))) 1 0) 0 =
+                ap (λ q. cond (not (bit d.known.items q)) 1 0) (position t) ∙ ap (λ b. cond (not b) 1 0) (take_knows l i e ones sums K m d took so_far.fixes.lanes l.plan.sound.size_some block row_is column K_known there one t below set_there) in
+                let fewer = count_fewer (bit m.known.items) (bit d.known.items) (known_more c K m d f.0) (take n ps) in
+                let before : count_by (λ p. not (bit m.known.items p)) (take n ps) ≡ 0 = so_far.whole t below set_there in
+                omega (arith, grown, knows, fewer, before);
+          }
+
+  -- when all entries are taken
+  pub taking_done : (counts : List ℕ) (n : ℕ) (d : Lanes) → length row ≤ n → IsTaking l i ones n a d → ((t : ℕ) → t < z → is_set ones t ≡ has_count 1 counts (i * z + t)) → IsBlockSought c counts i a d
+  taking_done counts n d all so_far are = record {
+    fixes = so_far.fixes;
+    few = omega (arith, so_far.few, lacking_most n, marked-same (is_set ones) (λ t. has_count 1 counts (i * z + t)) z are);
+    whole = λ t below h. sym (ap (count_by (λ p. not (bit d.known.items p))) (take_all n (positions set z t row) (omega (arith, length-map row (λ (x : Entry). one_at z t x.col (value_in set x)), all)))) ∙ so_far.whole t below (are t below ∙ h);
   }
-    where
-      more : Within (bit a.given.items) (bit d.given.items)
-      more q h = given_is q ∙ or_left (bit a.given.items q) (pos == q) h
 
-      not_here : (q : ℕ) → bit d.known.items q ≡ false → q ≢ pos
-      not_here q h e = true≢false (sym (ap (bit d.known.items) e ∙ taken_known) ∙ h)
+  -- where no row is searched
+  pub taking_none : (counts : List ℕ) → IsClear ones z → marked (is_set ones) z ≡ 0 → ((t : ℕ) → t < z → is_set ones t ≡ has_count 1 counts (i * z + t)) → IsBlockSought c counts i a a
+  taking_none counts clear nothing are =
+      let f = fixes_none c K a lanes in
+      record {
+        fixes = f.0;
+        few = omega (arith, f.1);
+        whole = λ t below h. absurd (true≢false (sym h ∙ sym (are t below) ∙ none_marked ones z clear nothing t));
+      }
 
-      unknown_before : (q : ℕ) → bit d.known.items q ≡ false → bit a.known.items q ≡ false
-      unknown_before q h = go (bit a.known.items q) refl
-        where
-          go : (b : Bool) → bit a.known.items q ≡ b → bit a.known.items q ≡ false
-          go false e = e
-          go true e = absurd (true≢false (sym (take_known q e) ∙ h))
-
--- a known position is given
-pub given_works : (c : Checks) (a d : State) (pos : ℕ) → IsWorking c a → pos < c.size → bit a.known.items pos ≡ true → d.given.items ≡ set a.given.items pos true
-    → d.known ≡ a.known → d.bits ≡ a.bits → d.counters ≡ a.counters → d.order ≡ a.order → IsWorking c d
-given_works c a d pos w lt there given known bits counters order = record {
-  given_long = ap length given ∙ length-set a.given.items pos true ∙ w.given_long;
-  known_long = ap (λ b. length b.items) known ∙ w.known_long;
-  bits_long = ap (λ b. length b.items) bits ∙ w.bits_long;
-  blank = rw (known, bits) w.blank;
-  tied = rw (known, counters) w.tied;
-  accepted = rw order (all_accepted_within c (bit a.given.items) (bit d.given.items) a.order.items more w.accepted);
-  reached = λ q. ap (λ b. bit b.items q) known ∙ in_given q (cases_eq q pos) ∙ ap (λ o. bit d.given.items q || is_fixed_by o.items q) (sym order);
-  order_few = rw (order, known) w.order_few;
-  order_room = rw order w.order_room;
-  least = rw counters w.least;
-  most = rw counters w.most;
-  small = w.small;
-}
-  where
-    given_is : (q : ℕ) → bit d.given.items q ≡ with_position (bit a.given.items) pos q
-    given_is q = ap (λ l. bit l q) given ∙ bit-mark a.given.items pos (omega (arith, lt, w.given_long)) q
-
-    more : Within (bit a.given.items) (bit d.given.items)
-    more q h = given_is q ∙ or_left (bit a.given.items q) (pos == q) h
-
-    in_given : (q : ℕ) → (q ≡ pos) ⊎ (q ≢ pos) → bit a.known.items q ≡ (bit d.given.items q || is_fixed_by a.order.items q)
-    in_given q (inl e) = ap (bit a.known.items) e ∙ there ∙ sym (or_left (bit d.given.items q) (is_fixed_by a.order.items q) (given_is q ∙ or_right (bit a.given.items q) (pos == q) (eq-eqb pos q (sym e))))
-    in_given q (inr ne) = w.reached q ∙ ap (λ b. b || is_fixed_by a.order.items q) (sym (given_is q ∙ other))
-      where
-        other : with_position (bit a.given.items) pos q ≡ bit a.given.items q
-        other = go (pos == q) refl
-          where
-            go : (m : Bool) → (pos == q) ≡ m → (bit a.given.items q || m) ≡ bit a.given.items q
-            go true e = absurd (ne (sym (eqb-true pos q e)))
-            go false e = or_false (bit a.given.items q)
-              where
-                or_false : (b : Bool) → (b || false) ≡ b
-                or_false true = refl
-                or_false false = refl
-
--- after a settled state every row that came to one is listed
-pub listed_after : (hits : ℕ → ℕ) (a d : Counters) → IsSettled a → IsLowered hits a d → IsListed d
-listed_after hits a d settled low k one = ⊎_elim (λ e. absurd (settled k e)) (λ l. l) (low.listed k one)
+-- the rows of a lane are those with one position that the counts don't know
+pub ones_counted : (l : Lifted) (i : ℕ) (counts ones : List ℕ) (a : Lanes) → i < (lifted_checks l).rows → CountsOf (lifted_checks l) (counted_in a) counts
+    → ((t : ℕ) → t < l.plan.z → is_set ones t ≡ has_count 1 counts (i * l.plan.z + t))
+    → (t : ℕ) → t < l.plan.z → is_set ones t ≡ true → count_by (λ p. not (counted_in a p)) ((lifted_checks l).row i t) ≡ 1
+ones_counted l i counts ones a block counted are t below set =
+    sym (counted i t block below) ∙ eqb-true (slice_index counts (i * l.plan.z + t)) 1 (sym (are t below) ∙ set)

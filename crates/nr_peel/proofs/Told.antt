@@ -1,17 +1,15 @@
 -- Blocks of a list as lanes, and positions that are given column after column.
-use Rattle.std.proofs.Common.{◌≡◌, ℕ, zero, suc, ◌+◌, ◌*◌, ◌/◌, ◌%◌, ◌<◌, ◌≤◌, ◌==◌, ◌&&◌, ◌||◌, nat_lt, Bool, true, false, not, cond, List, length, refl, sym, ap, ◌∙◌, inl, inr, arith}
+use Rattle.std.proofs.Common.{◌≡◌, ℕ, zero, suc, ◌+◌, ◌*◌, ◌/◌, ◌%◌, ◌<◌, ◌==◌, ◌&&◌, ◌||◌, nat_lt, Bool, true, false, not, cond, List, length, refl, sym, ap, ◌∙◌, inl, inr, arith}
 use Rattle.std.proofs.lemmas.Bool.{cases_eq, cases_lt, eqb-true, eq-eqb, ne_eqb, lt-ltb, le-ltb, true≢false, false≢true}
 use Rattle.std.proofs.lemmas.List.{get_or_past}
 use Rattle.std.proofs.lemmas.Nat.{mod_below, div_below}
 use Rattle.nr_bitvec.specs.Bit.{bit}
-use Rattle.nr_bitvec.specs.Packed.{IsClear}
-use Rattle.nr_lifting.specs.Rings.{is_set, lane_marks, marked}
+use Rattle.nr_lifting.specs.Rings.{is_set, lane_marks}
 use Rattle.nr_ldpcenc.specs.Rows.{Checks}
 use Rattle.nr_peel.specs.Hearing.{Hears, news}
 use Rattle.nr_peel.specs.Sweeps.{AreLanes}
 use Rattle.nr_peel.specs.declared.lanes.Lanes.{Lanes}
 use Rattle.nr_peel.proofs.Columns.{below_column, in_column}
-use Rattle.nr_peel.proofs.Marks.{none_marked}
 use Rattle.nr_peel.proofs.Places.{mod_low, row_number}
 
 -- a digit that is one where a test holds
@@ -195,6 +193,33 @@ module _ (z j : ℕ) (some : 0 < z) (old now : Lanes) (H V : ℕ → Bool) (h : 
           or_false true = refl
           or_false false = refl
 
+-- ---- lanes in which positions that weren't known are given
+
+pub told_lanes : (c : Checks) (N V : ℕ → Bool) (old now : Lanes) → AreLanes c old → ((p : ℕ) → bit now.known.items p ≡ (bit old.known.items p || N p)) → ((p : ℕ) → bit now.fresh.items p ≡ (bit old.fresh.items p || N p))
+    → ((p : ℕ) → bit now.bits.items p ≡ (bit old.bits.items p || (N p && V p))) → length now.known.items ≡ length old.known.items → length now.bits.items ≡ length old.bits.items → length now.fresh.items ≡ length old.fresh.items
+    → now.known.lanes ≡ old.known.lanes → now.bits.lanes ≡ old.bits.lanes → now.fresh.lanes ≡ old.fresh.lanes → AreLanes c now
+told_lanes c N V old now lanes known fresh bits known_long bits_long fresh_long known_lanes bits_lanes fresh_lanes = record {
+  known_long = known_long ∙ lanes.known_long;
+  bits_long = bits_long ∙ lanes.bits_long;
+  fresh_long = fresh_long ∙ lanes.fresh_long;
+  known_lanes = known_lanes ∙ lanes.known_lanes;
+  bits_lanes = bits_lanes ∙ lanes.bits_lanes;
+  fresh_lanes = fresh_lanes ∙ lanes.fresh_lanes;
+  blank = λ p e. bits p ∙ no_bit (bit old.known.items p) (N p) (bit old.bits.items p) (V p) (sym (known p) ∙ e) (lanes.blank p);
+  within = λ p e. known p ∙ in_both (bit old.known.items p) (N p) (bit old.fresh.items p) (sym (fresh p) ∙ e) (lanes.within p);
+}
+  where
+    no_bit : (a n x v : Bool) → (a || n) ≡ false → (a ≡ false → x ≡ false) → (x || (n && v)) ≡ false
+    no_bit true n x v e k = absurd (true≢false e)
+    no_bit false true x v e k = absurd (true≢false e)
+    no_bit false false x v e k = ap (λ b. b || false) (k refl)
+
+    in_both : (a n f : Bool) → (f || n) ≡ true → (f ≡ true → a ≡ true) → (a || n) ≡ true
+    in_both true n f e k = refl
+    in_both false true f e k = refl
+    in_both false false true e k = k refl
+    in_both false false false e k = absurd (false≢true e)
+
 -- when all columns are given
 pub told_all : (c : Checks) (z cols : ℕ) (heard : List Bool) (V : ℕ → Bool) (old now : Lanes) → 0 < z → c.size ≡ cols * z → length heard ≡ c.size → AreLanes c old
     → AreTold z (news (bit heard) old) V cols old now → Hears c (bit heard) V old now
@@ -203,16 +228,8 @@ told_all c z cols heard V old now some size long lanes h = record {
   fresh = fresh;
   bits = bits;
   order = h.order;
-  lanes = record {
-    known_long = h.known_long ∙ lanes.known_long;
-    bits_long = h.bits_long ∙ lanes.bits_long;
-    fresh_long = h.fresh_long ∙ lanes.fresh_long;
-    known_lanes = h.known_lanes ∙ lanes.known_lanes;
-    bits_lanes = h.bits_lanes ∙ lanes.bits_lanes;
-    fresh_lanes = h.fresh_lanes ∙ lanes.fresh_lanes;
-    blank = λ p e. bits p ∙ no_bit (bit old.known.items p) (news (bit heard) old p) (bit old.bits.items p) (V p) (sym (known p) ∙ e) (lanes.blank p);
-    within = λ p e. known p ∙ in_both (bit old.known.items p) (news (bit heard) old p) (bit old.fresh.items p) (sym (fresh p) ∙ e) (lanes.within p);
-  };
+  lanes =
+      told_lanes c (news (bit heard) old) V old now lanes known fresh bits h.known_long h.bits_long h.fresh_long h.known_lanes h.bits_lanes h.fresh_lanes;
 }
   where
     low : (p : ℕ) → bit heard p ≡ true → nat_lt (p / z) cols ≡ true
@@ -242,14 +259,3 @@ told_all c z cols heard V old now some size long lanes h = record {
     with_old true b = refl
     with_old false true = refl
     with_old false false = refl
-
-    no_bit : (a n x v : Bool) → (a || n) ≡ false → (a ≡ false → x ≡ false) → (x || (n && v)) ≡ false
-    no_bit true n x v e k = absurd (true≢false e)
-    no_bit false true x v e k = absurd (true≢false e)
-    no_bit false false x v e k = ap (λ b. b || false) (k refl)
-
-    in_both : (a n f : Bool) → (f || n) ≡ true → (f ≡ true → a ≡ true) → (a || n) ≡ true
-    in_both true n f e k = refl
-    in_both false true f e k = refl
-    in_both false false true e k = k refl
-    in_both false false false e k = absurd (false≢true e)

@@ -3,7 +3,6 @@ pub mod Certificates
 pub mod Touches
 pub mod Peeling
 pub mod Laws
-pub mod Counters
 pub mod State
 pub mod Lanes
 pub mod Hearing
@@ -12,3 +11,4 @@ pub mod Sweeps
 pub mod Settled
 pub mod Starts
 pub mod Swept
+pub mod Learning

@@ -65,6 +65,19 @@ KeepsBits old new = (p : ℕ) → bit old.known p ≡ true → bit new.bits p �
 abbrev pub KeepsWords : ℕ → Bool → Peeling → Peeling → Type 0
 KeepsWords pos value old new = (w : ℕ → Bool) → Meets (checks_for old) w → AgreesWith old w → w pos ≡ value → AgreesWith new w
 
+-- the positions of a set are given besides those that were
+abbrev pub GivesAll : (ℕ → Bool) → Peeling → Peeling → Type 0
+GivesAll H old new = (p : ℕ) → bit new.given p ≡ (bit old.given p || H p)
+
+-- the positions of a set that weren't known take the bits V
+abbrev pub TakesAll : (ℕ → Bool) → (ℕ → Bool) → Peeling → Peeling → Type 0
+TakesAll H V old new = (p : ℕ) → H p ≡ true → bit old.known p ≡ false → bit new.bits p ≡ V p
+
+-- each word that meets every row, has the bits that were known and has the bits V at the positions of a set, has the
+-- bits that are known
+abbrev pub KeepsAllWords : (ℕ → Bool) → (ℕ → Bool) → Peeling → Peeling → Type 0
+KeepsAllWords H V old new = (w : ℕ → Bool) → Meets (checks_for old) w → AgreesWith old w → ((p : ℕ) → H p ≡ true → w p ≡ V p) → AgreesWith new w
+
 -- where some position below K' isn't known, the positions are a stopping set beside the given ones
 abbrev pub StopsWhereLeft : Peeling → List ℕ → Type 0
 StopsWhereLeft s positions = left_of s.numbers.kdash s.known ≢ 0 → IsStoppingSet (checks_for s) s.numbers.kdash (bit s.given) positions

@@ -1,8 +1,6 @@
 -- Pairs of a row and a position of it, by which the peeler's visits are bounded.
 use Rattle.std.specs.Prelude.{ℕ, zero, suc, ◌+◌, ◌*◌, ◌/◌, ◌%◌, ◌==◌, Bool, if◌then◌else◌, List, length, count_by, slice_index}
-use Rattle.nr_shifttable.specs.declared.entry.Entry.{Entry}
-use Rattle.nr_shifttable.specs.Tails.{value_in}
-use Rattle.nr_ldpcenc.specs.Rows.{Checks, unrotate}
+use Rattle.nr_ldpcenc.specs.Rows.{Checks}
 
 -- the sum of a function's values below n
 abbrev pub sum_below : (ℕ → ℕ) → ℕ → ℕ
@@ -24,7 +22,3 @@ all_pairs c = sum_below (row_length c) (c.rows * c.lanes)
 -- how many of them are of rows that have no unknown position
 unfoldable pub spent_pairs : Checks → List ℕ → ℕ
 spent_pairs c counts = sum_below (λ k. if slice_index counts k == 0 then row_length c k else 0) (c.rows * c.lanes)
-
--- the number of the row that has lane u of an entry's column
-abbrev pub holder : ℕ → ℕ → ℕ → Entry → ℕ
-holder set z u e = e.row * z + unrotate z (value_in set e) u

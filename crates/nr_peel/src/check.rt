@@ -14,6 +14,7 @@ use crate::lifted::Lifted;
 use nr_bitvec::Bits;
 use nr_segment::Plan;
 use nr_shifttable::Table;
+use nr_shifttable::laws::tables_are_sound;
 
 // Whether a step is accepted from the marked positions.
 fn accepts(lifted: &Lifted<'_>, known: &Bits, step: Fix) -> bool
@@ -30,13 +31,14 @@ fn accepts(lifted: &Lifted<'_>, known: &Bits, step: Fix) -> bool
     if lane >= z {
         return false;
     }
-    if step.pos >= lifted.plan.graph.cols() * z {
+    let fixed = u32::from(step.pos);
+    if fixed >= lifted.plan.graph.cols() * z {
         return false;
     }
     let mut there = false;
     for entry in lifted.row(row) {
         let pos = lifted.place(entry, lane);
-        if pos == step.pos {
+        if pos == fixed {
             there = true;
         } else if !known.get(pos as usize) {
             return false;
@@ -80,7 +82,7 @@ pub fn check_order(table: &Table, plan: &Plan, known: &mut Bits, steps: &[Fix]) 
         → AgreeOn (bit known.old.items) v w → (p : ℕ) → p < plan.now.kdash → v p ≡ w p }
 {
     // Each table is an accepted one, so that its parity checks are sound.
-    let _ = table.has(plan.graph);
+    tables_are_sound(table);
     let lifted = Lifted { table, plan: *plan };
     for step in steps {
         if !accepts(&lifted, known, *step) {
@@ -171,7 +173,7 @@ pub fn check_stuck(table: &Table, plan: &Plan, given: &Bits, set: &[u32]) -> boo
         (bit given.now.items) steps) }
 {
     // Each table is an accepted one, so that its parity checks are sound.
-    let _ = table.has(plan.graph);
+    tables_are_sound(table);
     let lifted = Lifted { table, plan: *plan };
     let size = plan.graph.cols() * plan.z;
     if !is_beside(size, given, set) {

@@ -1,6 +1,7 @@
 //! One step of peeling.
 
-/// A step that fixes a position: the row of blocks, the row in it, and the position of the codeword.
+/// A step that fixes a position: the row of blocks, the row in it, and the position of the codeword. Codewords have at
+/// most 26,112 positions.
 #[derive(Clone, Copy, Debug, PartialEq, Eq)]
 pub struct Fix {
     /// The row of blocks.
@@ -8,5 +9,5 @@ pub struct Fix {
     /// The row in it.
     pub lane: u16,
     /// The position that is fixed.
-    pub pos: u32,
+    pub pos: u16,
 }

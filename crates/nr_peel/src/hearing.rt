@@ -1,6 +1,6 @@
-//! How many positions are given at a time: block by block of a list of them.
+//! How positions are given: one, or many at a time, block by block of a list of them.
 
-ghost use Rattle.std.specs.Prelude.{◌≡◌, ◌+◌, ◌<◌, ◌≤◌, ◌^◌, ℕ, length};
+ghost use Rattle.std.specs.Prelude.{◌≡◌, ◌+◌, ◌<◌, ◌≤◌, ◌==◌, ◌^◌, ℕ, length};
 ghost use Rattle.nr_bitvec.specs.Bit.{bit};
 ghost use Rattle.nr_bitvec.specs.Packed.{IsClear};
 ghost use Rattle.nr_lifting.specs.Rings.{is_set};
@@ -28,6 +28,16 @@ fn read_lane(bits: &Bits, from: usize, size: usize) -> [u64; 6]
     lane
 }
 
+// The lane that marks one row.
+fn one_marked(row: usize) -> [u64; 6]
+    requires { row < 384 }
+    ensures { (t : ℕ) → is_set result t ≡ (row == t) }
+{
+    let mut lane = [0; 6];
+    lane[row / 64] |= 1 << (row % 64);
+    lane
+}
+
 impl Lanes {
     // Positions are given: those that weren't known take their bits, and are fresh.
     pub(crate) fn hear(&mut self, lifted: &Lifted<'_>, heard: &Bits, values: &Bits)
@@ -45,6 +55,23 @@ impl Lanes {
                 self.known.join(j, &lane);
                 self.fresh.join(j, &lane);
                 self.bits.join(j, &bits);
+            }
+        }
+    }
+    // A position is given: if it wasn't known it takes its bit, and is fresh.
+    pub(crate) fn hear_one(&mut self, lifted: &Lifted<'_>, pos: u32, value: bool)
+        requires lanes { AreLanes (lifted_checks lifted.now) self.old }
+        requires inside { pos < (lifted_checks lifted.now).size }
+        ensures { Hears (lifted_checks lifted.now) (λ p. pos == p) (λ p. value)
+            self.old self.new }
+    {
+        if !self.known.get(pos as usize) {
+            let j = (pos / lifted.plan.z) as usize;
+            let lane = one_marked((pos % lifted.plan.z) as usize);
+            self.known.join(j, &lane);
+            self.fresh.join(j, &lane);
+            if value {
+                self.bits.join(j, &lane);
             }
         }
     }

@@ -1,23 +1,27 @@
 //! The peeler of a code block of NR's LDPC codes (3GPP TS 38.212, 5.3.2): it fixes the positions of a codeword that were
-//! not heard, by rows that have one unknown position, a counter a row, and goes on from call to call.
+//! not heard, by rows that have one unknown position, and goes on from call to call. `Peeler::learn_all` gives it many
+//! positions at a time, `Peeler::learn` one.
 //! Its contract (specs/Peeling.antt): what is known is the closure of what was given (specs/Closure.antt); each fix is a
 //! step that can be checked; each pair of a row and a known position of it was visited once or twice.
-//! A peeler holds about 12 octets a position: three bits, 8 octets for a step and 5 for each row. `close` is the plain
-//! peeler by rounds. Stands on nr_bitvec, nr_graphpick, nr_lifting, nr_segment, nr_shifttable and nr_ldpcenc.
+//! It works on words: a column of positions of the base graph is a block of bits, a row of blocks a block of counts, and
+//! all rows of a round are taken before the counts fall (specs/Sweeps.antt, specs/Settled.antt).
+//! A peeler holds three rings of bits (known, bit, and known but not yet counted), which take 96 octets for each column
+//! of the base graph each, seven bits for each row's count, a bit for each position that was given, and 6 octets for
+//! each row's step: at the largest lifting size at most 6.5 octets a position. All are taken in `Peeler::new`. `close` is
+//! the plain peeler by rounds. Stands on nr_bitvec, nr_graphpick, nr_lifting, nr_segment, nr_shifttable and nr_ldpcenc.
 #![tactic(auto)]
 
 mod check;
-mod counters;
 mod fix;
 mod hearing;
 mod lanes;
 pub mod laws;
+mod learner;
 mod lifted;
 mod lowering;
 mod peeler;
 mod rounds;
 mod settle;
-mod state;
 mod sweep;
 mod unknown;
 

@@ -1,10 +1,9 @@
 //! Where the entries of a base graph lie in the lifted matrix of a plan.
 
-ghost use Rattle.std.specs.Prelude.{◌≡◌, ◌+◌, ◌-◌, ◌*◌, ◌%◌, ◌<◌, ◌≤◌};
+ghost use Rattle.std.specs.Prelude.{◌≡◌, ◌+◌, ◌*◌, ◌%◌, ◌<◌, ◌≤◌};
 ghost use Rattle.nr_shifttable.specs.Accepted.{column_of, entries_in, row_of};
 ghost use Rattle.nr_shifttable.specs.Tails.{value_in};
 ghost use Rattle.nr_ldpcenc.specs.Rows.{one_at};
-ghost use Rattle.nr_peel.specs.Touches.{holder};
 
 use nr_segment::Plan;
 use nr_shifttable::{Entry, Table};
@@ -37,21 +36,6 @@ impl<'t> Lifted<'t> {
         let turned = lane + self.turn(entry);
         let turned = if turned < z { turned } else { turned - z };
         u32::from(entry.col) * z + turned
-    }
-
-    // The number of the row that has lane `lane` of an entry's column.
-    pub(crate) fn holder(&self, entry: &Entry, lane: u32) -> u32
-        requires { lane < self.now.plan.z }
-        ensures { result ≡ holder self.now.plan.set self.now.plan.z lane entry.now }
-    {
-        let z = self.plan.z;
-        let turn = self.turn(entry);
-        let turned = if lane < turn {
-            lane + (z - turn)
-        } else {
-            lane - turn
-        };
-        u32::from(entry.row) * z + turned
     }
 
     // The entries of a row of blocks.

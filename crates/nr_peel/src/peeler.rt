@@ -1,19 +1,22 @@
 //! The peeler of one code block.
 
-ghost use Rattle.std.specs.Prelude.{◌≡◌, ◌<◌, ◌≤◌, ◌↔◌, false, true, IfOk, IsErrOf, slice_set};
+ghost use Rattle.std.specs.Prelude.{◌≡◌, ◌<◌, ◌≤◌, ◌↔◌, false, true, IfOk, IsErrOf, length, slice_set};
 ghost use Rattle.nr_bitvec.specs.Bit.{bit};
 ghost use Rattle.nr_segment.specs.CodeBlock.{numbers};
 ghost use Rattle.nr_shifttable.specs.Accepted.{has_graph};
 ghost use Rattle.nr_peel.specs.Certificates.{IsFixOrder};
 ghost use Rattle.nr_peel.specs.Peeling.{
+  GivesAll,
   HasEachStopping,
   IsPeeled,
   IsSameCode,
   IsStarted,
+  KeepsAllWords,
   KeepsBits,
   KeepsKnown,
   KeepsWords,
   StopsWhereLeft,
+  TakesAll,
   checks_for,
   known_at,
   left_of,
@@ -22,8 +25,8 @@ ghost use Rattle.nr_peel.specs.Peeling.{
 };
 
 use crate::fix::Fix;
+use crate::learner::Learner;
 use crate::lifted::Lifted;
-use crate::state::State;
 use nr_bitvec::Bits;
 use nr_ldpcenc::EncFault;
 use nr_segment::Plan;
@@ -36,28 +39,18 @@ use std::marker::Model;
 #[derive(Drop)]
 pub struct Peeler<'t> {
     lifted: Lifted<'t>,
-    state: State,
+    learner: Learner,
 }
 
 impl<'t> Model for Peeler<'t> {
-    ghost use Rattle.nr_segment.specs.CodeBlock.{numbers};
     ghost use Rattle.nr_peel.specs.Peeling.{Peeling};
-    ghost use Rattle.nr_peel.specs.State.{IsPeeler};
+    ghost use Rattle.nr_peel.specs.Learning.{IsLearner, learner_view};
 
     ghost Value = { Peeling };
 
-    ghost view = { λ a. record {
-      table = a.lifted.table.now;
-      graph = a.lifted.plan.graph;
-      numbers = numbers a.lifted.plan;
-      given = a.state.given.items;
-      known = a.state.known.items;
-      bits = a.state.bits.items;
-      order = a.state.order.items;
-      touches = a.state.counters.touches;
-    } };
+    ghost view = { λ a. learner_view a.lifted a.learner };
 
-    ghost invariant = { λ a. IsPeeler a.lifted a.state };
+    ghost invariant = { λ a. IsLearner a.lifted a.learner };
 }
 
 impl<'t> Peeler<'t> {
@@ -77,14 +70,14 @@ impl<'t> Peeler<'t> {
             return Err(EncFault::NoGraph);
         }
         let lifted = Lifted { table, plan: *plan };
-        match State::new(alloc, &lifted) {
-            Ok(state) => Ok(Peeler { lifted, state }),
+        match Learner::new(alloc, &lifted) {
+            Ok(learner) => Ok(Peeler { lifted, learner }),
             Err(_) => Err(EncFault::Memory),
         }
     }
 
-    /// Gives a position, which takes the bit if it was not known, and fixes all that follows. Takes no memory, and
-    /// costs by its visits alone.
+    /// Gives a position, which takes the bit if it was not known, and fixes all that follows. Takes no memory. Many
+    /// positions cost less by `learn_all`.
     pub fn learn(&mut self, pos: u32, value: bool)
         requires { pos < (checks_for self.old).size }
         ensures code { IsSameCode self.old self.new }
@@ -95,7 +88,25 @@ impl<'t> Peeler<'t> {
         ensures words { KeepsWords pos value self.old self.new }
         ensures peeled { IsPeeled self.new }
     {
-        self.state.learn(&self.lifted, pos, value);
+        self.learner.learn(&self.lifted, pos, value);
+    }
+
+    /// Gives all positions that `heard` marks; those that weren't known take the bits of `values`, and all that follows
+    /// is fixed, block of rows by block of rows. Takes no memory. Where each marked position was known it reads and
+    /// writes words of 64 positions, and no more.
+    pub fn learn_all(&mut self, heard: &Bits, values: &Bits)
+        requires heard { length heard.now.items ≡ (checks_for self.old).size }
+        requires values { length values.now.items ≡ (checks_for self.old).size }
+        ensures code { IsSameCode self.old self.new }
+        ensures given { GivesAll (bit heard.now.items) self.old self.new }
+        ensures known { KeepsKnown self.old self.new }
+        ensures bits { KeepsBits self.old self.new }
+        ensures taken { TakesAll (bit heard.now.items) (bit values.now.items) self.old self.new }
+        ensures words { KeepsAllWords (bit heard.now.items) (bit values.now.items)
+            self.old self.new }
+        ensures peeled { IsPeeled self.new }
+    {
+        self.learner.learn_all(&self.lifted, heard, values);
     }
 
     /// The bit of a position, if it is known.
@@ -105,8 +116,9 @@ impl<'t> Peeler<'t> {
         ensures peeled { IsPeeled self.now }
     {
         let pos = pos as usize;
-        if self.state.known.get(pos) {
-            Some(self.state.bits.get(pos))
+        let lanes = &self.learner.sweep.lanes;
+        if lanes.known.get(pos) {
+            Some(lanes.bits.get(pos))
         } else {
             None
         }
@@ -118,7 +130,7 @@ impl<'t> Peeler<'t> {
         ensures value { result ≡ left_of self.now.numbers.kdash self.now.known }
         ensures peeled { IsPeeled self.now }
     {
-        self.state.left
+        self.learner.left
     }
 
     /// How many visits there were of a row and a position of it: with n the number of pairs of a row and a known
@@ -129,7 +141,7 @@ impl<'t> Peeler<'t> {
         ensures few { result ≤ most_visits self.now }
         ensures peeled { IsPeeled self.now }
     {
-        self.state.counters.touches
+        self.learner.sweep.touches
     }
 
     /// The positions that were given, marked: the fillers and those learned.
@@ -137,7 +149,7 @@ impl<'t> Peeler<'t> {
         ensures value { result.now.items ≡ self.now.given }
         ensures peeled { IsPeeled self.now }
     {
-        &self.state.given
+        &self.learner.given
     }
 
     /// The steps that fixed positions, in turn. Where no position below K' is left they are a fix order from the
@@ -149,7 +161,7 @@ impl<'t> Peeler<'t> {
             → IsFixOrder (checks_for self.now) self.now.numbers.kdash
             (bit self.now.given) self.now.order }
     {
-        &self.state.order
+        &self.learner.sweep.lanes.order
     }
 
     /// All positions that aren't known, ascending. Where a position below K' is left they are a stopping set beside
@@ -164,7 +176,7 @@ impl<'t> Peeler<'t> {
         ensures stops { IfOk result (λ v. StopsWhereLeft self.now v.items) }
         ensures largest { IfOk result (λ v. HasEachStopping self.now v.items) }
     {
-        let positions = self.state.unknown()?;
+        let positions = self.learner.sweep.lanes.unknown(&self.lifted)?;
         Ok(positions)
     }
 }

@@ -1,26 +1,76 @@
-//! The worklist beside rounds, and what shows its answers beside the checks: words of made-up tables of both base
-//! graphs, of which a part was heard.
+//! The peeler beside plain rounds, and what shows its answers beside the checks: words of made-up tables of both base
+//! graphs, at sizes of each set, of which a part was heard, position by position or many positions at a time.
 
-use crate::test_tables::{is_order, is_stuck, known, learn, made_up, size_of};
+use crate::test_tables::{is_order, is_stuck, known, learn, learn_all, made_up, size_of};
 use crate::{Peeler, close};
+use nr_bitvec::Bits;
 use nr_graphpick::Graph;
 use nr_segment::{Plan, plan};
 use nr_shifttable::Table;
-use std::alloc::Global;
+use std::alloc::{AllocError, Global};
 use std::process::Abort;
 use std::test::Fail;
 
-/// Gives positions of the word of zeros, each with the chance `share` of 256.
-fn hear(peeler: &mut Peeler<'_>, size: u32, share: u64, seed: u64) {
+/// Marks positions, each with the chance `share` of 256. With a larger share they are marked, too.
+fn drawn(alloc: Global, size: u32, share: u64, seed: u64) -> Result<Bits, AllocError> {
+    let mut marks = Bits::zeros(alloc, size.min(1 << 24))?;
     let mut state = seed;
-    for pos in 0..size {
+    for pos in 0..marks.len() {
         state = state
             .wrapping_mul(6_364_136_223_846_793_005)
             .wrapping_add(1_442_695_040_888_963_407);
-        if state >> 56 < share {
-            learn(peeler, pos, false);
+        if state >> 56 < share && pos < marks.len() {
+            marks.set(pos, true);
         }
     }
+    Ok(marks)
+}
+
+/// Ones where a list has zeros, and zeros where it has ones.
+fn turned(marks: &Bits) -> Result<Bits, AllocError> {
+    let mut turned = marks.try_clone()?;
+    for pos in 0..turned.len() {
+        if pos < turned.len() {
+            let bit = turned.get(pos);
+            turned.set(pos, !bit);
+        }
+    }
+    Ok(turned)
+}
+
+/// Gives marked positions of the word of zeros, one after another.
+fn hear_each(peeler: &mut Peeler<'_>, marks: &Bits) {
+    for pos in 0..marks.len() {
+        if marks.get(pos) {
+            learn(peeler, pos as u32, false);
+        }
+    }
+}
+
+/// Gives marked positions of the word of zeros at a time. What the values have elsewhere is nothing to a peeler.
+fn hear_all(peeler: &mut Peeler<'_>, marks: &Bits) -> Result<(), AllocError> {
+    let values = turned(marks)?;
+    learn_all(peeler, marks, &values);
+    Ok(())
+}
+
+/// Gives positions of the word of zeros, each with the chance `share` of 256: one after another, or first half of them
+/// at a time and then all of them.
+fn hear(
+    alloc: Global,
+    peeler: &mut Peeler<'_>,
+    plan: &Plan,
+    share: u64,
+    each: bool,
+) -> Result<(), AllocError> {
+    let seed = share.wrapping_add(7);
+    let marks = drawn(alloc, size_of(plan), share, seed)?;
+    if each {
+        hear_each(peeler, &marks);
+        return Ok(());
+    }
+    hear_all(peeler, &drawn(alloc, size_of(plan), share / 2, seed)?)?;
+    hear_all(peeler, &marks)
 }
 
 /// Whether rounds mark what the peeler knows, all of which is zero.
@@ -54,12 +104,18 @@ fn is_shown(table: &Table, plan: &Plan, peeler: &Peeler<'_>) -> Result<bool, Fai
 }
 
 /// Peels words of a plan, of which ever more was heard. How many of them came out whole.
-fn count_whole(rt: &impl Abort, alloc: Global, table: &Table, plan: &Plan) -> Result<u32, Fail> {
+fn count_whole(
+    rt: &impl Abort,
+    alloc: Global,
+    table: &Table,
+    plan: &Plan,
+    each: bool,
+) -> Result<u32, Fail> {
     let mut whole = 0u32;
     for step in 0..11u64 {
         let share = step.wrapping_mul(25).wrapping_add(6);
         let mut peeler = Peeler::new(alloc, table, plan)?;
-        hear(&mut peeler, size_of(plan), share, share.wrapping_add(7));
+        hear(alloc, &mut peeler, plan, share, each)?;
         assert!(rt; is_as_rounds(alloc, table, plan, &peeler)?, "{share}");
         assert!(rt; is_shown(table, plan, &peeler)?, "{share}");
         if peeler.left() == 0 {
@@ -69,40 +125,56 @@ fn count_whole(rt: &impl Abort, alloc: Global, table: &Table, plan: &Plan) -> Re
     Ok(whole)
 }
 
-/// At each size some words come out whole and some don't.
-fn check_size(rt: &impl Abort, alloc: Global, table: &Table, plan: &Plan) -> Result<(), Fail> {
-    let whole = count_whole(rt, alloc, table, plan)?;
+/// At a size some words come out whole and some don't.
+fn check_size(
+    rt: &impl Abort,
+    alloc: Global,
+    table: &Table,
+    plan: &Plan,
+    each: bool,
+) -> Result<(), Fail> {
+    let whole = count_whole(rt, alloc, table, plan, each)?;
     assert!(rt; 0 < whole && whole < 11, "{whole} at size {}", plan.z);
     Ok(())
 }
 
-/// A small and a large code block of a base graph.
+/// Code blocks of a base graph: two small ones by single positions, and one of each set of sizes by many at a time.
 fn check_graph(
     rt: &impl Abort,
     alloc: Global,
     table: &Table,
     graph: Graph,
-    most: u32,
+    sizes: [u32; 8],
 ) -> Result<(), Fail> {
-    check_size(rt, alloc, table, &plan(graph, 40)?)?;
-    check_size(rt, alloc, table, &plan(graph, most)?)
+    check_size(rt, alloc, table, &plan(graph, 40)?, true)?;
+    check_size(rt, alloc, table, &plan(graph, sizes[7])?, true)?;
+    for set in 0..8 {
+        let plan = plan(graph, sizes[set])?;
+        assert_eq!(rt; plan.set as usize, set);
+        check_size(rt, alloc, table, &plan, false)?;
+    }
+    Ok(())
 }
 
+/// The lifting sizes are 64, 384, 320, 56, 288, 11, 208 and 15 for base graph 1, and 128, 384, 80, 7, 144, 176, 26 and
+/// 240 for base graph 2.
 #[test]
 fn as_rounds_and_as_shown(rt: HostRuntime) -> Result<(), Fail> {
     let alloc = rt.alloc();
+    let one = [1400, 8440, 7030, 1230, 6330, 240, 4570, 320];
     check_graph(
         &rt,
         alloc,
         &made_up(alloc, Graph::One, 46, 22)?,
         Graph::One,
-        8440,
+        one,
     )?;
+    let two = [1275, 3830, 790, 40, 1435, 1750, 150, 2390];
     check_graph(
         &rt,
         alloc,
         &made_up(alloc, Graph::Two, 42, 10)?,
         Graph::Two,
-        3830,
+        two,
     )
 }

@@ -12,6 +12,7 @@ use crate::lifted::Lifted;
 use nr_bitvec::Bits;
 use nr_lifting::tally_block;
 use nr_segment::Plan;
+use nr_shifttable::laws::tables_are_sound;
 use nr_shifttable::{Entry, Table};
 use std::alloc::{AllocError, Global};
 
@@ -160,7 +161,7 @@ pub fn close(alloc: Global, table: &Table, plan: &Plan, known: &mut Bits) -> Res
     ensures err { OnErr result (known.new ≡ known.old) }
 {
     // Each table is an accepted one, so that its parity checks are sound.
-    let _ = table.has(plan.graph);
+    tables_are_sound(table);
     let lifted = Lifted { table, plan: *plan };
     let mut tally = Tally::new(alloc, plan.z)?;
     let mut unknown = Bits::zeros(alloc, plan.graph.cols() * plan.z)?;

@@ -12,14 +12,27 @@ use std::alloc::{AllocError, Global};
 use std::fmt::Write;
 use std::test::Fail;
 
-/// Puts a record with one value in all sets at the end of a table's text. To write to a String fails for want of
-/// memory alone.
-fn put(text: &mut String, graph: Graph, row: u32, col: u32, value: u32) -> Result<(), AllocError> {
+/// Puts a record at the end of a table's text, whose values grow by a step from set to set. To write to a String fails
+/// for want of memory alone.
+fn put_steps(
+    text: &mut String,
+    graph: Graph,
+    row: u32,
+    col: u32,
+    value: u32,
+    step: u32,
+) -> Result<(), AllocError> {
     write!(text, "{graph},{row},{col}").map_err(|_| AllocError)?;
-    for _ in 0..8 {
+    for set in 0..8u32 {
+        let value = value.wrapping_add(set.wrapping_mul(step)) % 384;
         write!(text, ",{value}").map_err(|_| AllocError)?;
     }
     text.push('\n')
+}
+
+/// Puts a record with one value in all sets at the end of a table's text.
+fn put(text: &mut String, graph: Graph, row: u32, col: u32, value: u32) -> Result<(), AllocError> {
+    put_steps(text, graph, row, col, value, 0)
 }
 
 /// The table of a text.
@@ -76,7 +89,7 @@ pub(crate) fn practice(alloc: Global) -> Result<Table, Fail> {
 }
 
 /// A made-up table of a base graph: in each row some information columns, and in each third row one of the first four
-/// parity columns, rotated by values that look drawn.
+/// parity columns, rotated by values that look drawn and differ from set to set.
 pub(crate) fn made_up(alloc: Global, graph: Graph, rows: u32, columns: u32) -> Result<Table, Fail> {
     let mut text = String::new(alloc);
     for row in 0..rows {
@@ -85,7 +98,7 @@ pub(crate) fn made_up(alloc: Global, graph: Graph, rows: u32, columns: u32) -> R
                 let value = row
                     .wrapping_mul(7919)
                     .wrapping_add(col.wrapping_mul(104_729));
-                put(&mut text, graph, row, col, value % 384)?;
+                put_steps(&mut text, graph, row, col, value, 31)?;
             }
         }
         if row > 4 && row % 3 == 0 {
@@ -116,6 +129,14 @@ pub(crate) fn known(peeler: &Peeler<'_>, pos: u32) -> Option<bool> {
 pub(crate) fn learn(peeler: &mut Peeler<'_>, pos: u32, value: bool) {
     if (pos as usize) < peeler.given().len() {
         peeler.learn(pos, value);
+    }
+}
+
+/// Gives marked positions of the code at a time.
+pub(crate) fn learn_all(peeler: &mut Peeler<'_>, heard: &Bits, values: &Bits) {
+    let size = peeler.given().len();
+    if heard.len() == size && values.len() == size {
+        peeler.learn_all(heard, values);
     }
 }
 

@@ -1,13 +1,13 @@
 //! Peelers over a practice table, beside what comes out by hand.
 
-use crate::test_tables::{is_order, is_stuck, known, learn, practice};
+use crate::test_tables::{is_order, is_stuck, known, learn, learn_all, practice};
 use crate::{Fix, Peeler};
 use nr_bitvec::Bits;
 use nr_graphpick::Graph;
 use nr_ldpcenc::EncFault;
 use nr_segment::{Plan, plan};
 use nr_shifttable::Table;
-use std::alloc::Global;
+use std::alloc::{AllocError, Global};
 use std::process::Abort;
 use std::test::Fail;
 
@@ -27,6 +27,24 @@ fn hear(peeler: &mut Peeler<'_>, from: u32, to: u32) {
     for pos in from..to {
         learn(peeler, pos, word_bit(pos));
     }
+}
+
+/// The word's bits from one position up to another, or marks of them.
+fn part(alloc: Global, from: u32, to: u32, marks: bool) -> Result<Bits, AllocError> {
+    let mut part = Bits::zeros(alloc, 208)?;
+    for pos in from..to {
+        if (pos as usize) < part.len() {
+            part.set(pos as usize, marks || word_bit(pos));
+        }
+    }
+    Ok(part)
+}
+
+/// Gives the word's bits from one position up to another at a time.
+fn hear_all(alloc: Global, peeler: &mut Peeler<'_>, from: u32, to: u32) -> Result<(), AllocError> {
+    let marks = part(alloc, from, to, true)?;
+    learn_all(peeler, &marks, &part(alloc, 0, 208, false)?);
+    Ok(())
 }
 
 /// The positions of columns of seven or four places.
@@ -119,7 +137,7 @@ fn is_changed_order(
 ) -> Result<bool, Fail> {
     let mut changed = Vec::new(alloc);
     for step in peeler.order() {
-        if step.pos != without {
+        if u32::from(step.pos) != without {
             changed.push(*step)?;
         }
     }
@@ -156,7 +174,7 @@ fn is_step(
     peeler: &Peeler<'_>,
     row: u16,
     lane: u16,
-    pos: u32,
+    pos: u16,
 ) -> Result<bool, Fail> {
     is_order(table, plan, peeler.given(), &[Fix { row, lane, pos }])
 }
@@ -186,9 +204,9 @@ fn check_word(rt: &impl Abort, alloc: Global, table: &Table, plan: &Plan) -> Res
     let mut peeler = Peeler::new(alloc, table, plan)?;
     check_new(rt, &peeler);
     hear(&mut peeler, 8, 24);
-    hear(&mut peeler, 40, 48);
+    hear_all(alloc, &mut peeler, 40, 48)?;
     check_part(rt, alloc, table, plan, &peeler)?;
-    hear(&mut peeler, 48, 208);
+    hear_all(alloc, &mut peeler, 48, 208)?;
     check_whole(rt, alloc, table, plan, &peeler)?;
     hear(&mut peeler, 0, 8);
     check_steps(rt, table, plan, &peeler)

@@ -1,14 +1,15 @@
-//! How many positions of a code block's own bits aren't known.
+//! Which positions of a code block aren't known, and how many of its own bits.
 
-ghost use Rattle.std.specs.Prelude.{◌≡◌, ◌<◌, ◌≤◌, ℕ, true};
+ghost use Rattle.std.specs.Prelude.{◌≡◌, ◌<◌, ◌≤◌, ℕ, true, IfOk};
 ghost use Rattle.nr_bitvec.specs.Bit.{bit};
-ghost use Rattle.nr_peel.specs.Peeling.{left_of};
+ghost use Rattle.nr_peel.specs.Peeling.{left_of, unknown_in};
 ghost use Rattle.nr_peel.specs.State.{lifted_checks};
 ghost use Rattle.nr_peel.specs.Sweeps.{AreLanes};
 
 use crate::lanes::Lanes;
 use crate::lifted::Lifted;
 use nr_lifting::lane_count;
+use std::alloc::AllocError;
 
 impl Lanes {
     // How many positions below K' aren't known, where the fillers are.
@@ -24,5 +25,19 @@ impl Lanes {
             left += size - lane_count(&self.known.lane(j as usize, 0));
         }
         left
+    }
+
+    // The positions that aren't known, ascending.
+    pub(crate) fn unknown(&self, lifted: &Lifted<'_>) -> Result<Vec<u32>, AllocError>
+        requires { AreLanes (lifted_checks lifted.now) self.now }
+        ensures { IfOk result (λ v. v.items ≡ unknown_in self.now.known.items) }
+    {
+        let mut unknown = Vec::new(*self.order.allocator());
+        for p in 0..lifted.plan.graph.cols() * lifted.plan.z {
+            if !self.known.get(p as usize) {
+                unknown.push(p)?;
+            }
+        }
+        Ok(unknown)
     }
 }

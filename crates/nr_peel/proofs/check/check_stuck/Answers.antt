@@ -29,12 +29,12 @@ pub returns-clause-out : goal.returns-clause-out
 returns-clause-out c =
     let p = c.args.plan.now in
     let ck = block_checks c.args.table.now p.graph (numbers p) in
-    let sound = checks_sound c.args.table.now p.graph (numbers p) c.has.ensures.table p.sound.size_some in
+    let sound = checks_sound c.args.table.now p.graph (numbers p) c.tables_are_sound.ensures p.sound.size_some in
     λ y q member. stops_out ck (bit c.args.given.now.items) p.kdash c.args.set.now q sound ((returns-clause-yes c).0 y) member
 
 pub returns-clause-no_order : goal.returns-clause-no_order
 returns-clause-no_order c =
     let p = c.args.plan.now in
     let ck = block_checks c.args.table.now p.graph (numbers p) in
-    let sound = checks_sound c.args.table.now p.graph (numbers p) c.has.ensures.table p.sound.size_some in
+    let sound = checks_sound c.args.table.now p.graph (numbers p) c.tables_are_sound.ensures p.sound.size_some in
     λ y steps. stops_orders ck (bit c.args.given.now.items) p.kdash c.args.set.now steps sound ((returns-clause-yes c).0 y)

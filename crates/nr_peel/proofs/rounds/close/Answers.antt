@@ -31,7 +31,7 @@ rounds-smaller c =
     let ck = block_checks c.args.table.now p.graph (numbers p) in
     let known = bit c.rounds.known.items in
     let next = bit c.go_round.new.known.items in
-    let sound = checks_sound c.args.table.now p.graph (numbers p) c.has.ensures.table p.sound.size_some in
+    let sound = checks_sound c.args.table.now p.graph (numbers p) c.tables_are_sound.ensures p.sound.size_some in
     let grows = round_grows ck known next sound (sym c.go_round.ensures.some ∙ c.rounds-test.true) c.go_round.ensures.known in
     let small : ck.size - size_below next ck.size < ck.size - size_below known ck.size = omega (arith, grows, size_le next ck.size) in
     small
@@ -44,7 +44,7 @@ rounds-preserved c =
     let known = bit c.rounds.known.items in
     let inv = c.rounds.invariant in
     let r = c.go_round.ensures in
-    let sound = checks_sound c.args.table.now p.graph (numbers p) c.has.ensures.table p.sound.size_some in
+    let sound = checks_sound c.args.table.now p.graph (numbers p) c.tables_are_sound.ensures p.sound.size_some in
     record {
       up = λ q h. r.known q ∙ round_keeps ck known q (inv.up q h);
       inside = λ q h. round_within ck known (closure ck heard) inv.inside (closure_closed ck heard sound) q (sym (r.known q) ∙ h);
@@ -61,5 +61,5 @@ returns-clause-closed c =
     let known = bit c.rounds.known.items in
     let inv = c.rounds.invariant in
     let r = c.go_round.ensures in
-    let sound = checks_sound c.args.table.now p.graph (numbers p) c.has.ensures.table p.sound.size_some in
+    let sound = checks_sound c.args.table.now p.graph (numbers p) c.tables_are_sound.ensures p.sound.size_some in
     λ q. r.known q ∙ rounds_done ck heard known sound inv.up inv.inside (sym r.some ∙ c.rounds-test.false) q

@@ -6,7 +6,7 @@ use Rattle.nr_lifting.specs.Rings.{is_set, marked}
 use Rattle.nr_lifting.proofs.LaneBits.{marked-le}
 use Rattle.nr_peel.specs.Peeling.{left_of}
 use Rattle.nr_peel.specs.declared.lifted.Lifted.{Lifted}
-use Rattle.nr_peel.proofs.Peeled.{fillers_fit}
+use Rattle.nr_peel.proofs.Filled.{fillers_fit}
 use Rattle.nr_peel.proofs.Remaining.{info_turns, left_column, left_end, left_most}
 use Rattle.nr_peel.proofs.lanes.Lanes.left.Goals as goal
 

@@ -1,4 +1,4 @@
-use Rattle.nr_peel.proofs.Sweeping.{IsTaking}
+use Rattle.nr_peel.proofs.Taking.{IsTaking}
 use Rattle.nr_peel.proofs.lanes.Lanes.search_block.Given as goal
 
 -- the entries so far were taken

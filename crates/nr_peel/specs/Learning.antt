@@ -1,0 +1,37 @@
+-- What a peeler holds between calls, and what becomes of positions that are given to it.
+use Rattle.std.specs.Prelude.{◌≡◌, ℕ, ◌<◌, ◌≤◌, Bool, true, false}
+use Rattle.nr_bitvec.specs.Bit.{bit}
+use Rattle.nr_segment.specs.CodeBlock.{numbers}
+use Rattle.nr_ldpcenc.specs.Codeword.{filler}
+use Rattle.nr_ldpcenc.specs.Rows.{Meets}
+use Rattle.nr_peel.specs.Peeling.{GivesAll, KeepsAllWords, KeepsBits, KeepsKnown, Peeling, TakesAll, fillers, left_of}
+use Rattle.nr_peel.specs.State.{lifted_checks}
+use Rattle.nr_peel.specs.Sweeps.{HasBits}
+use Rattle.nr_peel.specs.Swept.{IsSettledSweep, sweep_view}
+use Rattle.nr_peel.specs.declared.learner.Learner.{Learner}
+use Rattle.nr_peel.specs.declared.lifted.Lifted.{Lifted}
+
+-- what it is seen as
+abbrev pub learner_view : Lifted → Learner → Peeling
+learner_view l s = sweep_view l s.given.items s.sweep
+
+-- what was given is followed to its end, the fillers are given, and what is left is counted
+pub record IsLearner (l : Lifted) (s : Learner) : Type 0 where
+  pub sweep : IsSettledSweep l s.given.items s.sweep
+  pub fillers : (p : ℕ) → l.plan.kdash ≤ p → p < l.plan.k → bit s.given.items p ≡ true
+  pub counted : s.left ≡ left_of l.plan.kdash s.sweep.lanes.known.items
+
+-- the positions of a set H are given, and those that weren't known take the bits V
+pub record Learns (l : Lifted) (H V : ℕ → Bool) (old new : Learner) : Type 0 where
+  pub learner : IsLearner l new
+  pub given : GivesAll H (learner_view l old) (learner_view l new)
+  pub known : KeepsKnown (learner_view l old) (learner_view l new)
+  pub bits : KeepsBits (learner_view l old) (learner_view l new)
+  pub taken : TakesAll H V (learner_view l old) (learner_view l new)
+  pub words : KeepsAllWords H V (learner_view l old) (learner_view l new)
+
+-- The fillers alone are given, as zeros: each word that meets every row and is zero at the fillers has the known bits.
+pub record IsFilled (l : Lifted) (s : Learner) : Type 0 where
+  pub learner : IsLearner l s
+  pub given : s.given.items ≡ fillers (lifted_checks l) (numbers l.plan)
+  pub words : (w : ℕ → Bool) → Meets (lifted_checks l) w → ((q : ℕ) → filler l.plan.kdash l.plan.k q ≡ true → w q ≡ false) → HasBits s.sweep.lanes w
