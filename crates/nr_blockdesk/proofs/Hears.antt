@@ -112,13 +112,13 @@ or-none : (a b : Bool) → (a || b) ≡ false → (a ≡ false) × (b ≡ false)
 or-none true b e = cc e
 or-none false b e = (refl, e)
 
-same-bit : (a b : Bool) → not (beq a b) ≡ false → a ≡ b
+pub same-bit : (a b : Bool) → not (beq a b) ≡ false → a ≡ b
 same-bit true true e = refl
 same-bit true false e = cc e
 same-bit false true e = cc e
 same-bit false false e = refl
 
-beq-self : (b : Bool) → beq b b ≡ true
+pub beq-self : (b : Bool) → beq b b ≡ true
 beq-self true = refl
 beq-self false = refl
 

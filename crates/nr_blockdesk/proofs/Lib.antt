@@ -12,6 +12,9 @@ pub mod Encoding
 pub mod Taking
 pub mod Decided
 mod Kept
+mod Gathered
+mod Telling
+mod Merging
 mod Nothing
 mod Ends
 mod Exact

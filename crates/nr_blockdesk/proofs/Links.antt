@@ -1,7 +1,5 @@
 -- The steps by which a link is agreed on, and what they say of it.
-use Rattle.std.proofs.Common.{◌≡◌, ℕ, ◌+◌, ◌<◌, ◌≤◌, ◌==◌, ◌⊎◌, inl, inr, nat_lt, Bool, true, false, cond, Option, Some, None, Result, Ok, Err, List, length, subst, refl, sym, ap, ◌∙◌, arith}
-use Rattle.std.proofs.lemmas.Bool.{cases_lt}
-use Rattle.std.proofs.lemmas.Bool.Decides.{nat_tests}
+use Rattle.std.proofs.Common.{◌≡◌, ℕ, ◌+◌, ◌≤◌, ◌==◌, nat_lt, Bool, true, false, cond, Option, Some, None, Result, Ok, Err, length, subst, refl, sym, ap, ◌∙◌, arith}
 use Rattle.nr_crcattach.specs.Attachment.{BlocksLengthen, attached, attached_length}
 use Rattle.nr_graphpick.specs.declared.Graph.{Graph}
 use Rattle.nr_graphpick.specs.declared.PickFault.{PickFault}

@@ -7,5 +7,6 @@ pub mod Outcome
 pub mod ReceiverLaws
 pub mod OutcomeLaws
 pub mod Receiving
+pub mod Telling
 pub mod Processing
 pub mod Calls

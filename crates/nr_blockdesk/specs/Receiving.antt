@@ -16,11 +16,13 @@ use Rattle.nr_blockdesk.specs.Heard.{heard_of}
 use Rattle.nr_blockdesk.specs.Hearing.{heard_bit}
 use Rattle.nr_blockdesk.specs.Link.{IsBlock, IsLink, Link, word}
 use Rattle.nr_blockdesk.specs.Outcome.{ExplainedBy, Verdict, all_fixed, contradiction, delivered, given, open_still}
+use Rattle.nr_blockdesk.specs.Telling.{IsUntold}
 use Rattle.nr_blockdesk.specs.declared.candidate.Standing.{Standing}
 use Rattle.nr_blockdesk.specs.declared.candidate.Standing.TheVariants as standing
 use Rattle.nr_blockdesk.specs.declared.heard.Heard.{Heard}
 use Rattle.nr_blockdesk.specs.declared.outcome.Outcome.{Outcome}
 use Rattle.nr_blockdesk.specs.declared.outcome.Outcome.TheVariants as outcome
+use Rattle.nr_blockdesk.specs.declared.told.Told.{Told}
 use Rattle.nr_blockdesk.specs.declared.tx.Tx.{Tx}
 
 -- what contracts see of a `Receiver`: the link, and the record and the peeler of each code block
@@ -125,23 +127,28 @@ standing_after standing.Explains true = standing.Explains
 standing_after standing.Explains false = standing.Fails
 standing_after standing.Fails agreed = standing.Fails
 
--- what a receiver keeps: these, with room for a transport block with its CRC, b bits, and a codeword a code block
+-- what a receiver keeps: these, with room for a transport block with its CRC, b bits, a codeword a code block, and lists
+-- for what a transmission tells of one
 pub record IsReceiver (link : Link) (b : ℕ) (records : List Heardbits) (peelers : List Peeling) (block : BitList)
-    (words : List (List Bool)) (standing : Standing) : Type 0 where
+    (words : List (List Bool)) (standing : Standing) (told : Told) : Type 0 where
   pub is_link : IsLink link
   pub whole : b ≡ attached_length link.a
   pub desk : IsDesk link records peelers
   pub room : b ≤ length block.items + block.room
   pub sized : AreWords link.plan.c (word_size link.graph link.plan) words
   pub stands : Stands link records block.items words standing
+  pub untold : IsUntold (word_size link.graph link.plan) told
 
--- a code block's part of a transmission was heard: the record is that of the longer list, store and peeler belong
--- together again, and no word fits that did not before
-pub record HearsPart (b : Circular) (tx : Tx) (heard : List Heard) (s : Heardbits) (p : Peeling) (t : Heardbits) (q : Peeling) : Type 0 where
-  pub recorded : (hs : List Hearing) → s ≡ record_of (length s.first) hs
-      → t ≡ record_of (length s.first) (hs ++ part_hearings b tx heard (length heard))
+-- hearings were heard of a code block: the record is that of the longer list, store and peeler belong together again, and
+-- no word fits that did not before
+pub record HearsAll (more : List Hearing) (s : Heardbits) (p : Peeling) (t : Heardbits) (q : Peeling) : Type 0 where
+  pub recorded : (hs : List Hearing) → s ≡ record_of (length s.first) hs → t ≡ record_of (length s.first) (hs ++ more)
   pub tied : (link : Link) → IsTied link s p → IsTied link t q
   pub fewer : (w : ℕ → Bool) → Fits t w → Fits s w
+
+-- a code block's part of a transmission was heard
+abbrev pub HearsPart : Circular → Tx → List Heard → Heardbits → Peeling → Heardbits → Peeling → Type 0
+HearsPart b tx heard s p t q = HearsAll (part_hearings b tx heard (length heard)) s p t q
 
 -- whether what was heard from one record to the next agrees with a word
 abbrev pub Tells : Bool → (ℕ → Bool) → Heardbits → Heardbits → Type 0

@@ -36,7 +36,12 @@ pub(crate) fn first<'a>(g: u32, heard: Places<'a>, flipped: Places<'a>) -> Arriv
 
 /// Whether a place is in one of these ranges.
 fn is_in(places: Places<'_>, m: usize) -> bool {
-    places.iter().any(|range| range.0 <= m && m <= range.1)
+    for (from, to) in places.iter().copied() {
+        if from <= m && m <= to {
+            return true;
+        }
+    }
+    false
 }
 
 /// What is heard of the bits that a transmission sends.

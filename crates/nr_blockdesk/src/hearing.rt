@@ -1,20 +1,26 @@
-//! Hearing one transmission.
+//! Hearing one transmission: what it tells of a code block is put together first, and then the store and the peeler hear
+//! all of it at once.
 
-ghost use Rattle.std.specs.Prelude.{◌≡◌, ℕ, ◌*◌, ◌%◌, ◌^◌, ◌<◌, length, slice_index_or, IfOk, MatchResult, Ok, Err};
+ghost use Rattle.std.specs.Prelude.{◌≡◌, ℕ, ◌*◌, ◌%◌, ◌^◌, ◌<◌, length, slice_index_or, List, IfOk, MatchResult, Ok, Err};
 ghost use Rattle.nr_bitvec.specs.Bit.{bit};
 ghost use Rattle.nr_graphpick.specs.Graph.{cols_of};
+ghost use Rattle.nr_harqbuf.specs.Masks.{AreMasks};
+ghost use Rattle.nr_harqbuf.specs.Record.{Hearing};
 ghost use Rattle.nr_peel.specs.Peeling.{Peeling};
 ghost use Rattle.nr_ratematch.specs.Lengths.{IsShared};
 ghost use Rattle.nr_blockdesk.specs.Explains.{reception, reception_said_of};
 ghost use Rattle.nr_blockdesk.specs.Heard.{heard_of};
-ghost use Rattle.nr_blockdesk.specs.Receiving.{AllTell, AreWords, HearsPart, IsSized, Tells, piece};
+ghost use Rattle.nr_blockdesk.specs.Receiving.{AllTell, AreWords, HearsAll, HearsPart, IsSized, Tells, piece};
+ghost use Rattle.nr_blockdesk.specs.Telling.{IsUntold};
 
+use crate::deposit::deposit;
 use crate::fault::DeskFault;
 use crate::heard::Heard;
 use crate::sender::judge;
+use crate::told::Told;
 use crate::tx::Tx;
 use arrayvec::ArrayVec;
-use nr_harqbuf::{Store, record_continues};
+use nr_harqbuf::{Store, agrees, record_continues, record_merges};
 use nr_interleave::seat;
 use nr_ldpcenc::Word;
 use nr_peel::Peeler;
@@ -42,9 +48,62 @@ pub(crate) fn judge_heard(
     Ok(lengths)
 }
 
+// Fewer places than these are heard one by one: to go over the words of a code block would take longer.
+const FEW: usize = 32;
+
 // Hears one code block's part of a transmission: only the first bit of a position is learned. Answers whether each bit
 // heard is that of `word`.
 fn hear_part(
+    buffer: &Buffer,
+    tx: &Tx,
+    heard: &[Heard],
+    store: &mut Store,
+    peeler: &mut Peeler<'_>,
+    word: &Word,
+    told: &mut Told,
+) -> bool
+    requires version { tx.now.rv < 4 }
+    requires order { 0 < tx.now.qm }
+    requires whole { length heard.now % tx.now.qm ≡ 0 }
+    requires short { length heard.now < 2 ^ 32 }
+    requires sized { IsSized (cols_of buffer.now.graph * buffer.now.z) store.old peeler.old }
+    requires long { length word.now ≡ cols_of buffer.now.graph * buffer.now.z }
+    requires untold { IsUntold (cols_of buffer.now.graph * buffer.now.z) told.old }
+    ensures hears { HearsPart buffer.now tx.now heard.now store.old peeler.old store.new peeler.new }
+    ensures agreed { Tells result (bit word.now) store.old store.new }
+    ensures untold { IsUntold (cols_of buffer.now.graph * buffer.now.z) told.new }
+{
+    if heard.len() >= FEW && deposit(buffer, tx, heard, told) {
+        teach(told, store, peeler, word)
+    } else {
+        hear_by_places(buffer, tx, heard, store, peeler, word)
+    }
+}
+
+// Hears all that is told: what is told for the first time is learned at once. Answers whether each bit told is that of
+// `word`. Nothing is told then.
+fn teach(told: &mut Told, store: &mut Store, peeler: &mut Peeler<'_>, word: &Word) -> bool
+    requires sized { IsSized (length told.old.heard.items) store.old peeler.old }
+    requires bits { length told.old.value.items ≡ length told.old.heard.items }
+    ensures hears { (more : List Hearing)
+        → AreMasks more told.old.heard.items told.old.value.items
+        → HearsAll more store.old peeler.old store.new peeler.new }
+    ensures agreed { Tells result (bit word.now) store.old store.new }
+    ensures untold { IsUntold (length told.old.heard.items) told.new }
+{
+    record_merges();
+    let agreed = agrees(&told.heard, &told.value, word.bits());
+    store.hear_all(&mut told.heard, &told.value);
+    if told.is_empty() {
+        return agreed;
+    }
+    peeler.learn_all(&told.heard, &told.value);
+    told.heard.zero();
+    agreed
+}
+
+// The same place by place: only the first bit of a position is learned.
+fn hear_by_places(
     buffer: &Buffer,
     tx: &Tx,
     heard: &[Heard],
@@ -87,6 +146,7 @@ pub(crate) fn hear(
     stores: &mut [Store],
     peelers: &mut [Peeler<'_>],
     words: &[Word],
+    told: &mut Told,
 ) -> bool
     requires version { tx.now.rv < 4 }
     requires shared { IsShared (length stores.old) tx.now.g tx.now.qm lengths.now }
@@ -97,6 +157,7 @@ pub(crate) fn hear(
         (heard_of stores.old r) (slice_index_or peelers.old r d) }
     requires words { AreWords (length stores.old)
         (cols_of buffer.now.graph * buffer.now.z) words.now }
+    requires untold { IsUntold (cols_of buffer.now.graph * buffer.now.z) told.old }
     ensures stores { length stores.new ≡ length stores.old }
     ensures peelers { length peelers.new ≡ length peelers.old }
     ensures parts { (r : ℕ) (d : Peeling) → r < length stores.old
@@ -104,6 +165,7 @@ pub(crate) fn hear(
         (heard_of stores.old r) (slice_index_or peelers.old r d)
         (heard_of stores.new r) (slice_index_or peelers.new r d) }
     ensures agreed { AllTell result (length stores.old) words.now stores.old stores.new }
+    ensures untold { IsUntold (cols_of buffer.now.graph * buffer.now.z) told.new }
 {
     let mut agreed = true;
     let mut rest = heard;
@@ -111,7 +173,7 @@ pub(crate) fn hear(
         let (part, later) = rest.split_at(lengths[r] as usize);
         let store = &mut stores[r];
         let peeler = &mut peelers[r];
-        agreed &= hear_part(buffer, tx, part, store, peeler, &words[r]);
+        agreed &= hear_part(buffer, tx, part, store, peeler, &words[r], told);
         rest = later;
     }
     agreed

@@ -7,6 +7,7 @@
 
 mod again;
 mod candidate;
+mod deposit;
 mod fault;
 mod heard;
 mod hearing;
@@ -18,6 +19,7 @@ mod receiver;
 mod receiver_laws;
 mod sender;
 mod settings;
+mod told;
 mod tx;
 
 pub use fault::DeskFault;
@@ -52,6 +54,8 @@ mod processes_tests;
 mod receiver_tests;
 #[cfg(test)]
 mod refused_tests;
+#[cfg(test)]
+mod repetition_tests;
 #[cfg(test)]
 mod tests;
 #[cfg(test)]

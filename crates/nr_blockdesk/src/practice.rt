@@ -45,7 +45,7 @@ fn put_practice(
             put(text, graph, row, 2 * k + row % 2, 0)?;
         }
     }
-    for (row, col, value) in [
+    let parity = [
         (0, n, first),
         (0, n + 1, 0),
         (1, n + 1, 0),
@@ -55,7 +55,8 @@ fn put_practice(
         (2, n + 3, 0),
         (3, n, 0),
         (3, n + 3, 0),
-    ] {
+    ];
+    for (row, col, value) in parity.iter().copied() {
         put(text, graph, row, col, value)?;
     }
     if more {

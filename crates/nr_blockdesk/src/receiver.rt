@@ -26,6 +26,7 @@ use crate::receiver_laws::{
     delivered_is_only, explained_is_delivered, explained_never_contradicts, explains_by_record,
 };
 use crate::settings::Settings;
+use crate::told::Told;
 use crate::tx::Tx;
 use nr_bitvec::Bits;
 use nr_cbconcat::places_have_one_owner;
@@ -41,8 +42,9 @@ use std::marker::Model;
 
 /// The receiver of one transport block: it keeps the first bit heard of each position of each code block, and what
 /// follows from them. From where every position below K' is known it keeps the codewords of the one transport block that
-/// may explain all: a bit more for each position. It keeps its allocator. All memory but that of a delivered transport
-/// block is taken by `new`.
+/// may explain all: a bit more for each position. What a transmission tells of a code block is put together in two bits
+/// for each position of one. It keeps its allocator. All memory but that of a delivered transport block is taken by
+/// `new`.
 #[derive(Drop)]
 pub struct Receiver<'t> {
     table: &'t Table,
@@ -54,6 +56,7 @@ pub struct Receiver<'t> {
     block: Bits,
     words: Vec<Word>,
     standing: Standing,
+    told: Told,
     alloc: Global,
 }
 
@@ -70,7 +73,8 @@ impl<'t> Model for Receiver<'t> {
     } };
 
     ghost invariant = { λ x. IsReceiver (link_of x.table.now x.plan x.a x.buffer)
-        x.plan.b x.stores.items x.peelers.items x.block x.words.items x.standing };
+        x.plan.b x.stores.items x.peelers.items x.block x.words.items x.standing
+        x.told };
 }
 
 impl<'t> Receiver<'t> {
@@ -97,6 +101,7 @@ impl<'t> Receiver<'t> {
         let (stores, peelers) = parts(alloc, table, &plan)?;
         let block = Bits::with_room(alloc, plan.b)?;
         let words = blank_words(alloc, &plan)?;
+        let told = Told::new(alloc, &plan)?;
         Ok(Receiver {
             table,
             plan,
@@ -107,11 +112,12 @@ impl<'t> Receiver<'t> {
             block,
             words,
             standing: Standing::Unread,
+            told,
             alloc,
         })
     }
 
-    /// Hears a transmission, place by place, and answers what may be handed up of all that was received so far
+    /// Hears a transmission, code block by code block, and answers what may be handed up of all that was received so far
     /// (TS 38.212, 5.4.2 and 5.5): for every list of receptions of which `heard` is the record. A transport block is
     /// delivered only where it explains all that arrived, and no other one does. When every position below K' is known for
     /// the first time, that block is encoded and compared with all that was heard; a later call compares only the bits
@@ -161,6 +167,7 @@ impl<'t> Receiver<'t> {
             &mut self.stores,
             &mut self.peelers,
             &self.words,
+            &mut self.told,
         );
         self.standing = self.standing.after(agreed);
         Ok(self.answer(list))

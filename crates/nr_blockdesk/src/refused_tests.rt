@@ -66,12 +66,17 @@ fn against_a_sender_of(
     against_a_sender(alloc, table, at_rate(rate2048), &block)
 }
 
+/// The same over the practice table of both base graphs.
+fn against_senders(alloc: Global, octets: u32, rate2048: u32) -> Result<Causes, Fail> {
+    let table = practice_of_both(alloc)?;
+    against_a_sender_of(alloc, &table, octets, rate2048)
+}
+
 #[test]
 fn makes_a_sender(rt: HostRuntime) -> Result<(), Fail> {
-    let table = practice_of_both(rt.alloc())?;
     for (octets, rate2048) in BLOCKS.iter().copied() {
-        let [cause, again] = against_a_sender_of(rt.alloc(), &table, octets, rate2048)?;
-        assert_eq!(rt; again, None, "{octets} octets");
+        let [cause, again] = against_senders(rt.alloc(), octets, rate2048)?;
+        assert!(rt; again.is_none(), "{octets} octets");
         end(cause)?;
     }
     Ok(())
@@ -100,12 +105,17 @@ fn against_bits_of(
     against_bits(alloc, &sender)
 }
 
+/// The same over the practice table of both base graphs.
+fn against_all_bits(alloc: Global, octets: u32, rate2048: u32) -> Result<Causes, Fail> {
+    let table = practice_of_both(alloc)?;
+    against_bits_of(alloc, &table, octets, rate2048)
+}
+
 #[test]
 fn sends(rt: HostRuntime) -> Result<(), Fail> {
-    let table = practice_of_both(rt.alloc())?;
     for (octets, rate2048) in BLOCKS.iter().copied() {
-        let [cause, again] = against_bits_of(rt.alloc(), &table, octets, rate2048)?;
-        assert_eq!(rt; again, None, "{octets} octets");
+        let [cause, again] = against_all_bits(rt.alloc(), octets, rate2048)?;
+        assert!(rt; again.is_none(), "{octets} octets");
         end(cause)?;
     }
     Ok(())
@@ -130,12 +140,17 @@ fn against_a_receiver_of(
     ])
 }
 
+/// The same over the practice table of both base graphs.
+fn against_receivers(alloc: Global, octets: u32, rate2048: u32) -> Result<Causes, Fail> {
+    let table = practice_of_both(alloc)?;
+    against_a_receiver_of(alloc, &table, octets, rate2048)
+}
+
 #[test]
 fn makes_a_receiver(rt: HostRuntime) -> Result<(), Fail> {
-    let table = practice_of_both(rt.alloc())?;
     for (octets, rate2048) in BLOCKS.iter().copied() {
-        let [cause, again] = against_a_receiver_of(rt.alloc(), &table, octets, rate2048)?;
-        assert_eq!(rt; again, None, "{octets} octets");
+        let [cause, again] = against_receivers(rt.alloc(), octets, rate2048)?;
+        assert!(rt; again.is_none(), "{octets} octets");
         end(cause)?;
     }
     Ok(())
@@ -186,14 +201,18 @@ fn hears_anew_of(
     hears_anew(alloc, &mut receiver)
 }
 
+/// The same over the practice table of both base graphs.
+fn all_hear_anew(alloc: Global, octets: u32, rate2048: u32) -> Result<(Causes, Given), Fail> {
+    let table = practice_of_both(alloc)?;
+    hears_anew_of(alloc, &table, octets, rate2048)
+}
+
 // The ones are heard at 24 positions; none of them is a filler.
 #[test]
 fn takes(rt: HostRuntime) -> Result<(), Fail> {
-    let table = practice_of_both(rt.alloc())?;
     for (octets, rate2048) in BLOCKS.iter().copied() {
-        let ([cause, again], given) = hears_anew_of(rt.alloc(), &table, octets, rate2048)?;
-        assert_eq!(rt; again, None, "{octets} octets");
-        assert_eq!(rt; given, (true, true), "{octets} octets");
+        let ([cause, again], given) = all_hear_anew(rt.alloc(), octets, rate2048)?;
+        assert!(rt; again.is_none() && given == (true, true), "{octets} octets");
         end(cause)?;
     }
     Ok(())

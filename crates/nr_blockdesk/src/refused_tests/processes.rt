@@ -60,15 +60,20 @@ fn begins_anew_of(alloc: Global, table: &Table, a: u32) -> Result<Answers, Fail>
 /// The bits of a transport block, and its K'.
 const BLOCKS: &[(u32, u32)] = &[(8, 24), (296, 312), (8432, 4252)];
 
+/// The same over the practice table of both base graphs.
+fn all_begin_anew(alloc: Global, a: u32) -> Result<Answers, Fail> {
+    let table = practice_of_both(alloc)?;
+    begins_anew_of(alloc, &table, a)
+}
+
 // All K' positions are left: of one code block of base graph 2 and of base graph 1, and of the first of two.
 #[test]
 fn begins(rt: HostRuntime) -> Result<(), Fail> {
-    let table = practice_of_both(rt.alloc())?;
     for (a, all) in BLOCKS.iter().copied() {
-        let ([cause, again], kept, left) = begins_anew_of(rt.alloc(), &table, a)?;
-        assert_eq!(rt; kept.unwrap_or([Some(4); 2]), [Some(4); 2], "{a} bits");
-        assert_eq!(rt; again, None, "{a} bits");
-        assert_eq!(rt; left, [Some(all), Some(4)], "{a} bits");
+        let ([cause, again], kept, left) = all_begin_anew(rt.alloc(), a)?;
+        let two = [Some(4); 2];
+        assert!(rt; kept.unwrap_or(two) == two, "{a} bits, refused");
+        assert!(rt; again.is_none() && left == [Some(all), Some(4)], "{a} bits");
         end(cause)?;
     }
     Ok(())
@@ -115,16 +120,23 @@ const ARRIVALS: &[(u32, u32, &[Heard], u32)] = &[
     (8432, 4252, &[Heard::One; 2], 4251),
 ];
 
+/// The same over the practice table of both base graphs.
+fn all_take_anew(alloc: Global, a: u32, places: &[Heard]) -> Result<Taken, Fail> {
+    let table = practice_of_both(alloc)?;
+    takes_anew_of(alloc, &table, a, places)
+}
+
 // One bit of each code block is heard, and one position less than K' is left.
 #[test]
 fn takes_at_one(rt: HostRuntime) -> Result<(), Fail> {
-    let table = practice_of_both(rt.alloc())?;
     for (a, all, places, less) in ARRIVALS.iter().copied() {
-        let (told, cause, kept, left) = takes_anew_of(rt.alloc(), &table, a, places)?;
+        let (told, cause, kept, left) = all_take_anew(rt.alloc(), a, places)?;
         let before = [Some(4), Some(all)];
-        assert_eq!(rt; kept.unwrap_or(before), before, "{a} bits");
-        assert_eq!(rt; told, Ok(Some((0, 0))), "{a} bits");
-        assert_eq!(rt; left, [Some(4), Some(less)], "{a} bits");
+        assert!(rt; kept.unwrap_or(before) == before, "{a} bits, refused");
+        assert!(rt;
+            told == Ok(Some((0, 0))) && left == [Some(4), Some(less)],
+            "{a} bits"
+        );
         end(cause)?;
     }
     Ok(())

@@ -30,8 +30,9 @@ loop-r-preserved c =
           (c.split_at.ensures.front ∙ ap (take (slice_index lengths r)) inv.rest) c.index-stores-r.is c.index-peelers-r.is hears inv.done inv.later inv.later_peelers;
       later = later-kept c.args.stores.now c.loop-r.stores r c.hear_part-agreed.new.store inv.later;
       later_peelers = peelers-kept c.args.peelers.now c.loop-r.peelers r c.hear_part-agreed.new.peeler inv.later_peelers;
-      told = all-tell-more c.loop-r.agreed c.hear_part-agreed.result c.args.words.now c.index-words-r.result c.args.stores.now S r (get_or S r s) c.hear_part-agreed.new.store stored
+      untold = c.hear_part-agreed.ensures.untold;
+      agreed = all-tell-more c.loop-r.agreed c.hear_part-agreed.result c.args.words.now c.index-words-r.result c.args.stores.now S r (get_or S r s) c.hear_part-agreed.new.store stored
           (get_or_read c.args.words.now r c.index-words-r.result worded c.index-words-r.is [])
           (sym c.index-stores-r.is ∙ get_or_read S r s stored c.index-stores-r.is (record { first = []; clash = false }) ∙ inv.later r (omega arith))
-          c.hear_part-agreed.ensures.agreed inv.told;
+          c.hear_part-agreed.ensures.agreed inv.agreed;
     }

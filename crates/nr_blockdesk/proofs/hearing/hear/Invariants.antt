@@ -1,8 +1,10 @@
 -- The code blocks so far have heard their parts, and the others nothing yet.
-use Rattle.std.proofs.Common.{◌≡◌, ℕ, ◌<◌, ◌≤◌, length, take, drop, sum, slice_index_or}
+use Rattle.std.proofs.Common.{◌≡◌, ℕ, ◌*◌, ◌<◌, ◌≤◌, length, take, drop, sum, slice_index_or}
+use Rattle.nr_graphpick.specs.Graph.{cols_of}
 use Rattle.nr_peel.specs.Peeling.{Peeling}
 use Rattle.nr_blockdesk.specs.Heard.{heard_of}
 use Rattle.nr_blockdesk.specs.Receiving.{AllTell, HearsPart, piece}
+use Rattle.nr_blockdesk.specs.Telling.{IsUntold}
 use Rattle.nr_blockdesk.proofs.hearing.hear.Given as goal
 
 abbrev pub invariant-loop-r : goal.invariant-loop-r
@@ -14,5 +16,6 @@ invariant-loop-r l = record {
       (heard_of l.fn.stores q) (slice_index_or l.fn.peelers q d) (heard_of l.stores q) (slice_index_or l.peelers q d);
   later : (q : ℕ) → l.r ≤ q → heard_of l.stores q ≡ heard_of l.fn.stores q;
   later_peelers : (q : ℕ) (d : Peeling) → l.r ≤ q → slice_index_or l.peelers q d ≡ slice_index_or l.fn.peelers q d;
-  told : AllTell l.agreed l.r l.words l.fn.stores l.stores;
+  untold : IsUntold (cols_of l.buffer.graph * l.buffer.z) l.told;
+  agreed : AllTell l.agreed l.r l.words l.fn.stores l.stores;
 }

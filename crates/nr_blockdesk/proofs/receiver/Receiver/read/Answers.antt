@@ -64,6 +64,7 @@ invariant_of-self c =
       stands = subst (IsExplained link s.stores.items c.attach_in_room.new.list.items) (sym kept)
           (kept-read link s.stores.items c.attach_in_room.new.list.items bits W c.attach_in_room.ensures.items whole by only
           (c.explains.ensures.encoded c.if-explains.true));
+      untold = inv.untold;
     }
 
 pub invariant_of-self-else-explains : goal.invariant_of-self-else-explains
@@ -91,6 +92,7 @@ invariant_of-self-else-explains c =
       stands = λ y long-y by. c.explains.ensures.misfits c.if-explains.false
           (explained-to link s.stores.items c.deref-2.result.now c.attach_in_room.new.list.items bits c.deref-2.ensures.value c.attach_in_room.ensures.items
           (subst (ExplainedBy link s.stores.items) (only y long-y by) by));
+      untold = inv.untold;
     }
 
 pub returns-then-explains-clause-decided : goal.returns-then-explains-clause-decided

@@ -4,10 +4,12 @@ use Rattle.std.specs.Vec.{vec_len}
 use Rattle.nr_graphpick.specs.Graph.{cols_of}
 use Rattle.nr_harqbuf.specs.Record.{Heardbits}
 use Rattle.nr_peel.specs.Peeling.{Peeling}
+use Rattle.nr_ratematch.specs.Selection.{Circular}
 use Rattle.nr_blockdesk.specs.Explains.{Reception, reception, reception_said_of}
 use Rattle.nr_blockdesk.specs.Heard.{IsRecordOf, heard_of}
 use Rattle.nr_blockdesk.specs.Link.{link_of}
 use Rattle.nr_blockdesk.specs.Receiving.{AllTell, IsDesk, IsSized, Receiving, Stands}
+use Rattle.nr_blockdesk.specs.Telling.{IsUntold}
 use Rattle.nr_blockdesk.proofs.Decided.{outcome-of_record, sized-of}
 use Rattle.nr_blockdesk.proofs.Kept.{stands-after, told-of, written}
 use Rattle.nr_blockdesk.proofs.Links.{no-memory}
@@ -69,6 +71,8 @@ invariant_of-self c =
           (subst (Stands link S' s.block.items s.words.items) (sym c.after-self-inside.ensures)
           (stands-after link S S' (λ r w block. (are r (none-of link) block).fewer w) s.block.items s.words.items c.hear-agreed.result s.standing
           told inv.stands));
+      untold = subst (λ n. IsUntold n c.hear-agreed.new.told) (ap (λ (b : Circular). cols_of b.graph * b.z) inv.is_link.buffered)
+          c.hear-agreed.ensures.untold;
     }
 
 pub returns-clause-heard : goal.returns-clause-heard

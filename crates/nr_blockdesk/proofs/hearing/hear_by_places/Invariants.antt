@@ -5,7 +5,7 @@ use Rattle.nr_graphpick.specs.Graph.{cols_of}
 use Rattle.nr_harqbuf.specs.Record.{Hearing, record_of}
 use Rattle.nr_blockdesk.specs.Link.{Link}
 use Rattle.nr_blockdesk.specs.Receiving.{Fits, IsSized, IsTied, Tells, part_hearings}
-use Rattle.nr_blockdesk.proofs.hearing.hear_part.Given as goal
+use Rattle.nr_blockdesk.proofs.hearing.hear_by_places.Given as goal
 
 abbrev pub invariant-loop-m : goal.invariant-loop-m
 invariant-loop-m l = record {

@@ -12,8 +12,8 @@ use Rattle.nr_blockdesk.specs.Receiving.{Fits, IsTied, Tells, part_hearings}
 use Rattle.nr_blockdesk.specs.declared.heard.Heard.TheVariants as heard
 use Rattle.nr_blockdesk.proofs.Hears.{first-kept, first-long, first-set, fits-before, part-none, part-some, recorded-more, size-same, tells-more, tied-again, tied-more}
 use Rattle.nr_blockdesk.proofs.Recorded.{heard-some}
-use Rattle.nr_blockdesk.proofs.hearing.hear_part.Goals as goal
-use Rattle.nr_blockdesk.proofs.hearing.hear_part.Goals.{in-Some, then-is_none, else-is_none, in_default}
+use Rattle.nr_blockdesk.proofs.hearing.hear_by_places.Goals as goal
+use Rattle.nr_blockdesk.proofs.hearing.hear_by_places.Goals.{in-Some, then-is_none, else-is_none, in_default}
 
 pub loop-m-preserved : goal.loop-m-preserved
 loop-m-preserved c =
