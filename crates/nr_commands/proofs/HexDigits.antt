@@ -1,7 +1,7 @@
 -- Bits in hexadecimal digits, octet by octet.
-use Rattle.std.proofs.Common.{◌≡◌, ℕ, ◌+◌, ◌*◌, ◌/◌, ◌%◌, ◌^◌, ◌<◌, ◌≤◌, suc, Bool, true, false, if◌then◌else◌, List, [], ◌∷◌, ◌++◌, length, take, drop, get_or, set, ap, sym, ◌∙◌, refl, arith, append_assoc, length-append, length-set}
+use Rattle.std.proofs.Common.{◌≡◌, ℕ, ◌+◌, ◌*◌, ◌/◌, ◌%◌, ◌^◌, ◌≤◌, suc, Bool, true, false, if◌then◌else◌, List, [], ◌∷◌, ◌++◌, length, take, drop, ap, sym, ◌∙◌, refl, arith, append_assoc, length-append}
 use Rattle.std.proofs.Math.Seq.{take-append_seam, take-append-add}
-use Rattle.std.proofs.lemmas.List.{take_all, take_more_set, take_more, flat_map_more}
+use Rattle.std.proofs.lemmas.List.{take_all}
 use Rattle.std.specs.Char.{digit_char}
 use Rattle.std.specs.List.{flat_map}
 use Rattle.nr_bitvec.specs.BitList.{number_of, octets_of}
@@ -56,20 +56,6 @@ pub hex_cut : (head line octets : List ℕ) (bits : List Bool) (n : ℕ) → lin
 hex_cut head line octets bits n put read most =
     ap (λ k. take k line) most ∙ ap (take (length head + (length bits + 3) / 4)) (put ∙ ap (λ os. head ++ flat_map two_digits os) read)
     ∙ take-append-add head (flat_map two_digits (octets_of bits)) ((length bits + 3) / 4) ∙ ap (λ digits. head ++ digits) (hex-octets bits)
-
--- the digits of octet i, put behind those of the octets before it
-pub digits_more : (octets digits : List ℕ) (i : ℕ) → i < length octets → length digits ≡ 2 * length octets → take (2 * i) digits ≡ flat_map two_digits (take i octets)
-    → take (2 * (i + 1)) (set (set digits (2 * i) (digit_char (get_or octets i 0 / 16))) (2 * i + 1) (digit_char (get_or octets i 0 % 16))) ≡ flat_map two_digits (take (i + 1) octets)
-digits_more octets digits i h long so_far =
-    let high = digit_char (get_or octets i 0 / 16) in
-    let low = digit_char (get_or octets i 0 % 16) in
-    let n : 2 * (i + 1) ≡ 2 * i + 1 + 1 = omega arith in
-    ap (λ k. take k (set (set digits (2 * i) high) (2 * i + 1) low)) n
-    ∙ take_more_set (set digits (2 * i) high) (2 * i + 1) low (omega (arith, h, long, length-set digits (2 * i) high))
-    ∙ ap (λ xs. xs ++ low ∷ []) (take_more_set digits (2 * i) high (omega (arith, h, long)) ∙ ap (λ xs. xs ++ high ∷ []) so_far)
-    ∙ append_assoc (flat_map two_digits (take i octets)) (high ∷ []) (low ∷ [])
-    ∙ flat_map_more two_digits [] (take i octets) (get_or octets i 0)
-    ∙ ap (flat_map two_digits) (sym (take_more octets i 0 h))
 
 -- ---- room behind a line
 

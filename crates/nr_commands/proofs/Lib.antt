@@ -1,6 +1,7 @@
-pub mod BlockTexts
 mod CheckLemmas
-pub mod CommandLemmas
 mod CutLemmas
 mod HexDigits
+mod HexLanes
+pub mod BlockTexts
+pub mod CommandLemmas
 pub mod WrittenLemmas

@@ -1,11 +1,22 @@
 //! Lines that end with bits in hexadecimal digits.
 
-ghost use Rattle.std.specs.Prelude.{◌≡◌, ◌<◌, ◌*◌, ◌++◌, [], ◌∷◌, IfOk, OnOk, flat_map, length, string_bytes};
+ghost use Rattle.std.specs.Prelude.{◌≡◌, ◌<◌, ◌*◌, ◌++◌, [], ◌∷◌, IfOk, OnOk, flat_map, length, map, string_bytes};
 ghost use Rattle.std.specs.Char.{digit_char};
+ghost use Rattle.std.specs.Simd.Lanes.{Each1};
 ghost use Rattle.nr_commands.specs.Hex.{hex, two_digits};
 
 use nr_bitvec::Bits;
 use std::alloc::{AllocError, Global};
+use std::simd::prelude::*;
+
+// The characters of the hexadecimal digits.
+const CHARACTERS: [u8; 16] = *b"0123456789abcdef";
+
+// The places of two lists of sixteen that take turns.
+const IN_TURN: [usize; 32] = [
+    0, 16, 1, 17, 2, 18, 3, 19, 4, 20, 5, 21, 6, 22, 7, 23, 8, 24, 9, 25, 10, 26, 11, 27, 12, 28,
+    13, 29, 14, 30, 15, 31,
+];
 
 // The character of a hexadecimal digit.
 fn hex_digit(value: u8) -> u8
@@ -19,15 +30,36 @@ fn hex_digit(value: u8) -> u8
     }
 }
 
-// Writes the two digits of each octet. A plain loop from slice to slice, with no jump within, which the compiler turns
-// into one that takes many octets at a time.
+// The characters of sixteen hexadecimal digits, looked up side by side.
+fn sixteen_characters(values: u8x16) -> u8x16
+    requires { Each1 (λ value. value < 16) values }
+    ensures { result ≡ map digit_char values }
+{
+    u8x16::from_array(CHARACTERS).swizzle_dyn(values)
+}
+
+// The two digits of each of sixteen octets.
+fn digits_of_sixteen(octets: u8x16) -> u8x32
+    ensures { result ≡ flat_map two_digits octets }
+{
+    let high = sixteen_characters(octets >> u8x16::splat(4));
+    let low = sixteen_characters(octets & u8x16::splat(15));
+    high.shuffle(low, IN_TURN)
+}
+
+// Writes the two digits of each octet, of sixteen octets at a turn.
 fn write_digits(octets: &[u8], digits: &mut [u8])
     requires { length digits.old ≡ 2 * length octets.now }
     ensures { digits.new ≡ flat_map two_digits octets.now }
 {
-    for (i, octet) in octets.iter().enumerate() {
-        digits[2 * i] = hex_digit(*octet / 16);
-        digits[2 * i + 1] = hex_digit(*octet % 16);
+    let whole = octets.len() / 16;
+    for i in 0..whole {
+        let written = digits_of_sixteen(u8x16::from_slice(&octets[16 * i..]));
+        written.copy_to_slice(&mut digits[32 * i..]);
+    }
+    for i in 16 * whole..octets.len() {
+        digits[2 * i] = hex_digit(octets[i] / 16);
+        digits[2 * i + 1] = hex_digit(octets[i] % 16);
     }
 }
 
@@ -82,6 +114,22 @@ mod tests {
             let written = hex_line(String::new(rt.alloc()), &bits)?;
             assert_eq!(rt; written.as_slice(), line.as_bytes(), "at {len}");
         }
+        Ok(())
+    }
+
+    // Sixteen octets at a turn, and one behind them.
+    #[test]
+    fn writes_seventeen_octets(rt: HostRuntime) -> Result<(), Fail> {
+        let octets = [
+            0x01, 0x23, 0x45, 0x67, 0x89, 0xab, 0xcd, 0xef, 0xfe, 0xdc, 0xba, 0x98, 0x76, 0x54,
+            0x32, 0x10, 0x5f,
+        ];
+        let bits = Bits::from_bytes(rt.alloc(), &octets)?;
+        let written = hex_line(String::new(rt.alloc()), &bits)?;
+        assert_eq!(rt;
+            written.as_slice(),
+            b"0123456789abcdeffedcba98765432105f\n".as_slice()
+        );
         Ok(())
     }
 }

@@ -1,0 +1,12 @@
+use Rattle.nr_commands.proofs.HexLanes.{digits-in_turn, high-small, low-small}
+use Rattle.nr_commands.proofs.hex.digits_of_sixteen.Goals as goal
+
+pub sixteen_characters-high-requires : goal.sixteen_characters-high-requires
+sixteen_characters-high-requires c = high-small c.args.octets c.fits-octets.1
+
+pub sixteen_characters-low-requires : goal.sixteen_characters-low-requires
+sixteen_characters-low-requires c = low-small c.args.octets
+
+pub returns : goal.returns
+returns c =
+    digits-in_turn c.args.octets c.sixteen_characters-high.result c.sixteen_characters-low.result c.fits-octets.0 c.sixteen_characters-high.ensures c.sixteen_characters-low.ensures

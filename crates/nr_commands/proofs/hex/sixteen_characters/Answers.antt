@@ -1,0 +1,8 @@
+use Rattle.nr_commands.proofs.HexLanes.{characters, characters-ok}
+use Rattle.nr_commands.proofs.hex.sixteen_characters.Goals as goal
+
+pub swizzle : goal.swizzle
+swizzle c = characters-ok c.args.values c.fits-values.0 c.requires
+
+pub returns : goal.returns
+returns c = characters c.args.values c.fits-values.0 c.requires
