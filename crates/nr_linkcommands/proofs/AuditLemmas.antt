@@ -1,5 +1,5 @@
 -- The text of `audit`, line by line.
-use Rattle.std.proofs.Common.{◌≡◌, ℕ, zero, suc, ◌+◌, ◌<◌, ◌≤◌, ◌==◌, ◌&&◌, ◌⊎◌, inl, inr, Bool, true, false, not, if◌then◌else◌, Result, Ok, Err, None, Some, List, [], ◌∷◌, ◌++◌, All, length, take, drop, flat_map, get_or, codes, ap, sym, subst, ◌∙◌, refl, arith, append_assoc, length-append, cond}
+use Rattle.std.proofs.Common.{◌≡◌, ℕ, zero, suc, ◌+◌, ◌<◌, ◌≤◌, ◌==◌, ◌&&◌, Bool, true, false, not, if◌then◌else◌, None, Some, List, [], ◌∷◌, ◌++◌, All, length, take, drop, flat_map, get_or, codes, ap, sym, subst, ◌∙◌, refl, arith, append_assoc, length-append, cond}
 use Rattle.std.proofs.lemmas.Grind.{flat_map-append}
 use Rattle.std.proofs.lemmas.List.{append-nil, map-id, take_more}
 use Rattle.std.proofs.lemmas.List.Elements.{filter-append}
@@ -11,7 +11,6 @@ use Rattle.std.specs.Option.{is_some}
 use Rattle.nr_crcattach.specs.Attachment.{attached_length}
 use Rattle.nr_bitvec.specs.Bit.{bit}
 use Rattle.nr_graphpick.specs.declared.Graph.{Graph}
-use Rattle.nr_graphpick.specs.Refusal.{◌>>=◌}
 use Rattle.nr_harqbuf.specs.Record.{Heardbits}
 use Rattle.nr_ldpcenc.specs.Rows.{Checks, block_checks}
 use Rattle.nr_segment.specs.Plan.{word_size, Numbers, PlansAreSound}
@@ -24,15 +23,11 @@ use Rattle.nr_blockdesk.specs.Link.{IsLink, Link}
 use Rattle.nr_blockdesk.specs.Outcome.{fixed, given, left}
 use Rattle.nr_blockdesk.specs.Receiving.{Receiving}
 use Rattle.nr_blockdesk.specs.Sent.{Sending}
-use Rattle.nr_linkcommands.specs.AuditText.{HasHeard, audit_by, audit_lines, audit_of, audit_said, text_of_audit}
+use Rattle.nr_linkcommands.specs.AuditText.{HasHeard, audit_lines, audit_of}
 use Rattle.nr_linkcommands.specs.AuditLines.{audit_block, audit_line, gained, order_line, position_word, steps_of, stuck_line, unfixed}
 use Rattle.nr_files.specs.Rounds.{IsOfBlock, of_process}
 use Rattle.nr_linkcommands.specs.RunText.{received, received_of}
-use Rattle.nr_linkcommands.specs.Inputs.{Given, Ready, files_said, inputs_said, senders_from}
-use Rattle.nr_commands.specs.declared.fault.RunFault.{RunFault}
-use Rattle.nr_commands.specs.declared.fault.RunFault.TheVariants as faults
 use Rattle.nr_files.specs.declared.schedule.Transmission.{Transmission}
-use Rattle.nr_linkcommands.proofs.InputLemmas.{inputs_said-ready, inputs_said-refused, inputs_said-unsent}
 use Rattle.nr_files.proofs.BlockRounds.{own-block}
 use Rattle.nr_linkcommands.proofs.RunLines.{some-lines}
 use Rattle.nr_commands.proofs.WrittenLemmas.{some_at_end}

@@ -1,9 +1,8 @@
 -- The text of `audit` over the rounds of processes.
-use Rattle.std.proofs.Common.{◌≡◌, ℕ, ◌-◌, ◌<◌, ◌≤◌, Bool, true, false, cond, Option, None, Some, List, [], ◌∷◌, ◌++◌, All, length, flat_map, map, slice_get, get_or, ap, sym, refl, ◌∙◌, arith}
-use Rattle.std.specs.List.{list_any, range_with_len}
+use Rattle.std.proofs.Common.{◌≡◌, ℕ, ◌-◌, ◌<◌, ◌≤◌, Bool, true, false, cond, Option, None, Some, List, [], ◌∷◌, All, length, slice_get, get_or, ap, sym, refl, ◌∙◌, arith}
+use Rattle.std.specs.List.{list_any}
 use Rattle.std.specs.Prelude.{◌==◌}
 use Rattle.std.specs.Option.{option_map}
-use Rattle.std.proofs.lemmas.List.{append-nil}
 use Rattle.std.proofs.lemmas.List.Elements.{All-filter, All-head, All-tail}
 use Rattle.std.proofs.lemmas.Option.{slice_get-get_or}
 use Rattle.nr_segment.specs.Plan.{PlansAreSound}
@@ -13,8 +12,8 @@ use Rattle.nr_blockdesk.specs.Sent.{Sending}
 use Rattle.nr_linkcommands.specs.AuditLines.{audit_block}
 use Rattle.nr_linkcommands.specs.AuditText.{audit_words}
 use Rattle.nr_linkcommands.specs.RunLines.{process_words}
-use Rattle.nr_linkcommands.specs.RoundTexts.{ended_if, last_rounds, pieces_joined, round_lines, said_if, sender_of, turn_lines}
-use Rattle.nr_files.specs.Rounds.{continued, of_process, round_of, since_fresh}
+use Rattle.nr_linkcommands.specs.RoundTexts.{ended_if, round_lines, said_if}
+use Rattle.nr_files.specs.Rounds.{of_process, round_of, since_fresh}
 use Rattle.nr_linkcommands.specs.RunText.{received}
 use Rattle.nr_files.specs.Schedule.{HasBlock}
 use Rattle.nr_files.specs.declared.schedule.Transmission.{Transmission}

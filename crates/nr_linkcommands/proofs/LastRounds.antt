@@ -1,13 +1,13 @@
 -- The rounds that no transmission ends, one process after the other.
-use Rattle.std.proofs.Common.{◌≡◌, ℕ, ◌+◌, ◌<◌, Option, None, List, [], ◌∷◌, ◌++◌, length, flat_map, get_or, map, ap, ◌∙◌, refl, sym, subst, arith, append_assoc}
+use Rattle.std.proofs.Common.{◌≡◌, ℕ, ◌+◌, ◌<◌, List, [], ◌∷◌, ◌++◌, length, flat_map, get_or, map, ap, ◌∙◌, refl, sym, subst, arith, append_assoc}
 use Rattle.std.specs.List.{range_with_len}
 use Rattle.std.proofs.lemmas.List.FromFn.{map-range_with_len_more}
 use Rattle.std.proofs.lemmas.List.{get_or_default}
 use Rattle.nr_blockdesk.specs.Sent.{Sending}
-use Rattle.nr_linkcommands.specs.Ends.{HoldRounds, HoldsRound}
+use Rattle.nr_linkcommands.specs.Ends.{HoldRounds, HoldsRound, goes_on, no_place}
 use Rattle.nr_linkcommands.specs.RoundTexts.{Words, last_rounds, pieces_joined, round_lines}
 use Rattle.nr_files.specs.Rounds.{round_of}
-use Rattle.nr_linkcommands.specs.declared.received.End.{End}
+use Rattle.nr_linkcommands.specs.declared.received.Place.{Place}
 use Rattle.nr_files.specs.declared.schedule.Transmission.{Transmission}
 
 -- their lines
@@ -26,6 +26,6 @@ last-more ended schedule p =
     ∙ ap (λ (rounds : List (List Transmission)). ended ++ rounds) (sym (map-range_with_len_more (λ q. round_of q schedule) 0 p p (omega arith)))
 
 -- what the place of a process has received
-pub holds-round : (senders : List Sending) (schedule : List Transmission) (ends : List (Option End)) (p : ℕ) (end : Option End) → p < length ends → end ≡ get_or ends p end → HoldRounds senders schedule ends → HoldsRound senders (round_of p schedule) end
-holds-round senders schedule ends p end within is held =
-    subst (HoldsRound senders (round_of p schedule)) (sym (is ∙ get_or_default ends p end None within)) (held p within)
+pub holds-round : (senders : List Sending) (schedule later : List Transmission) (places : List Place) (p : ℕ) (place : Place) → p < length places → place ≡ get_or places p place → HoldRounds senders schedule later places → HoldsRound (goes_on p later) senders (round_of p schedule) place
+holds-round senders schedule later places p place within is held =
+    subst (HoldsRound (goes_on p later) senders (round_of p schedule)) (sym (is ∙ get_or_default places p place no_place within)) (held p within)

@@ -1,24 +1,25 @@
 -- What each place has received of the round that its process is in, one transmission after the other.
-use Rattle.std.proofs.Common.{◌≡◌, ℕ, suc, ◌+◌, ◌-◌, ◌<◌, ◌≤◌, ◌==◌, All, Bool, true, false, cond, Option, None, Some, List, [], ◌∷◌, ◌++◌, length, take, drop, set, replicate, slice_get, get_or, ap, sym, subst, refl, ◌∙◌, ⊎_elim, arith, append_assoc, length-append}
+use Rattle.std.proofs.Common.{◌≡◌, ℕ, suc, ◌+◌, ◌-◌, ◌<◌, ◌≤◌, ◌==◌, All, Bool, true, false, not, cond, Option, None, Some, List, [], ◌∷◌, ◌++◌, length, take, drop, set, replicate, slice_get, get_or, ap, sym, subst, refl, ◌∙◌, ⊎_elim, arith, append_assoc, length-append}
 use Rattle.std.specs.List.{list_any}
 use Rattle.std.specs.Option.{option_map}
 use Rattle.std.proofs.Math.ListN.{length-set}
 use Rattle.std.proofs.lemmas.Bool.{cases_eq}
 use Rattle.std.proofs.lemmas.Bool.Decides.{nat_tests}
 use Rattle.std.proofs.lemmas.Grind.{get_or-set_at}
-use Rattle.std.proofs.lemmas.List.{get_or-replicate, get_or-set_other, length-replicate, length-take-le}
+use Rattle.std.proofs.lemmas.List.{get_or-replicate, get_or-set_other, length-replicate}
 use Rattle.std.proofs.lemmas.List.Elements.{All-filter, All-head, All-tail}
 use Rattle.std.proofs.lemmas.Option.{slice_get-get_or}
 use Rattle.nr_blockdesk.specs.Explains.{Reception}
 use Rattle.nr_blockdesk.specs.Link.{Link}
 use Rattle.nr_blockdesk.specs.Sent.{Sending}
-use Rattle.nr_linkcommands.specs.Ends.{AreOfRounds, HasReceived, HoldRounds, HoldsEnd, HoldsIf, HoldsRound, IsOfRound, IsOver, KeepsRounds}
-use Rattle.nr_linkcommands.specs.RunText.{counted, counted_if, lines_of, received, received_of, round_counted, run_words}
+use Rattle.nr_linkcommands.specs.Ends.{HasReceived, HoldRounds, HoldsEnd, HoldsIf, HoldsKept, HoldsPlace, HoldsRound, IsOfRound, IsOver, KeepsRounds, goes_on, no_place}
+use Rattle.nr_linkcommands.specs.RunText.{counted, counted_if, received, received_of, round_counted, run_words}
 use Rattle.nr_linkcommands.specs.RunLines.{outcome_line, process_words}
 use Rattle.nr_linkcommands.specs.RoundTexts.{Words, ended_if, pieces_joined, round_lines, said_if, sender_of, turns}
 use Rattle.nr_files.specs.Rounds.{continued, of_process, round_of, since_fresh}
 use Rattle.nr_files.specs.Schedule.{HasBlock}
 use Rattle.nr_linkcommands.specs.declared.received.End.{End}
+use Rattle.nr_linkcommands.specs.declared.received.Place.{Place}
 use Rattle.nr_linkcommands.specs.declared.received.Totals.{Totals}
 use Rattle.nr_files.specs.declared.schedule.Transmission.{Transmission}
 use Rattle.nr_linkcommands.proofs.LastRounds.{holds-round}
@@ -82,11 +83,13 @@ round-named n number p before is all =
     let named = block-named n number (round_of p before) is (round-all (HasBlock n) p before all) in
     (named.0, omega (arith, named.0, named.1))
 
-pub round-held : (senders : List Sending) (number : ℕ) (sender : Sending) (round : List Transmission) (end : Option End) → Some number ≡ option_map (λ x. x.block) (slice_get round 0) → number - 1 < length senders → sender ≡ get_or senders (number - 1) sender → HoldsRound senders round end → HoldsEnd sender.link (received sender round) end
-round-held senders number sender [] end is within at held = absurd (cc)
-round-held senders number sender (x ∷ more) end is within at held =
+pub round-held : (senders : List Sending) (number : ℕ) (sender : Sending) (round : List Transmission) (place : Place) → Some number ≡ option_map (λ x. x.block) (slice_get round 0) → number - 1 < length senders → sender ≡ get_or senders (number - 1) sender → HoldsRound false senders round place → HoldsKept sender.link (received sender round) place.kept
+round-held senders number sender [] place is within at held = absurd (cc)
+round-held senders number sender (x ∷ more) place is within at held =
     let block : x.block ≡ number = cc in
-    subst (λ (s : Option Sending). HoldsIf s (x ∷ more) end) (sender-there senders x number sender block within at) held
+    let holds : HoldsPlace false sender.link (received sender (x ∷ more)) place =
+    subst (λ (s : Option Sending). HoldsIf false s (x ∷ more) place) (sender-there senders x number sender block within at) held in
+    holds.1
 
 pub round_lines-some : (senders : List Sending) (p number : ℕ) (sender : Sending) (round : List Transmission) → Some number ≡ option_map (λ x. x.block) (slice_get round 0) → number - 1 < length senders → sender ≡ get_or senders (number - 1) sender → round_lines run_words senders p round ≡ process_words p ++ outcome_line number sender.link (received sender round)
 round_lines-some senders p number sender [] is within at = absurd (cc)
@@ -125,24 +128,34 @@ of-continued before x goes = go x.fresh refl
     go true is = tt
     go false is = goes is
 
+-- whether a round goes on, by the next transmission: it is fresh or not where it is of the round's process
+pub goes_on-turn : (x : Transmission) (later : List Transmission) → goes_on x.process (x ∷ later) ≡ not x.fresh
+goes_on-turn x later =
+    let own_process : (x.process == x.process) ≡ true = grind (arith, nat_tests) in
+    ap (λ b. cond b (not x.fresh) (goes_on x.process later)) own_process
+
+pub goes_on-other : (p : ℕ) (x : Transmission) (later : List Transmission) → (x.process == p) ≡ false → goes_on p (x ∷ later) ≡ goes_on p later
+goes_on-other p x later other = ap (λ b. cond b (not x.fresh) (goes_on p later)) other
+
 -- what is received of the round that a transmission goes on with, by the sender of its block
-pub holds-by : (senders : List Sending) (round : List Transmission) (x : Transmission) (sender : Sending) (end : Option End) → sender_of senders x ≡ Some sender → IsOfRound round x → HoldsRound senders round end → HoldsEnd sender.link (received sender round) end
-holds-by senders [] x sender end there of held = subst (HoldsEnd sender.link []) (sym held) refl
-holds-by senders (y ∷ more) x sender end there of held =
-    subst (λ (s : Option Sending). HoldsIf s (y ∷ more) end) (ap (λ n. slice_get senders (n - 1)) of ∙ there) held
+holds-by : (senders : List Sending) (round : List Transmission) (x : Transmission) (sender : Sending) (place : Place) → sender_of senders x ≡ Some sender → IsOfRound round x → HoldsRound true senders round place → HoldsPlace true sender.link (received sender round) place
+holds-by senders [] x sender place there of held = subst (HoldsPlace true sender.link []) (sym held) (refl, refl)
+holds-by senders (y ∷ more) x sender place there of held =
+    subst (λ (s : Option Sending). HoldsIf true s (y ∷ more) place) (ap (λ n. slice_get senders (n - 1)) of ∙ there) held
 
 -- where a fresh one forgets what was received
-pub begun-holds : (senders : List Sending) (before : List Transmission) (x : Transmission) (old new : Option End) → new ≡ cond x.fresh None old → HoldsRound senders (round_of x.process before) old → HoldsRound senders (continued before x) new
-begun-holds senders before x old new is held = go x.fresh is
+begun-holds : (senders : List Sending) (before later : List Transmission) (x : Transmission) (old new : Place) → new ≡ cond x.fresh no_place old → HoldsRound (goes_on x.process (x ∷ later)) senders (round_of x.process before) old → HoldsRound true senders (continued before x) new
+begun-holds senders before later x old new is held =
+    go x.fresh is (subst (λ b. HoldsRound b senders (round_of x.process before) old) (goes_on-turn x later) held)
   where
-    go : (b : Bool) → new ≡ cond b None old → HoldsRound senders (cond b [] (round_of x.process before)) new
-    go true none = none
-    go false same = subst (HoldsRound senders (round_of x.process before)) (sym same) held
+    go : (b : Bool) → new ≡ cond b no_place old → HoldsRound (not b) senders (round_of x.process before) old → HoldsRound true senders (cond b [] (round_of x.process before)) new
+    go true none holds = none
+    go false same holds = subst (HoldsRound true senders (round_of x.process before)) (sym same) holds
 
-pub made-held : (senders : List Sending) (before : List Transmission) (ended : List (List Transmission)) (x : Transmission) (sender : Sending) (ends : List (Option End)) (totals : Totals) (old new : Option End)
-    → KeepsRounds senders before ended ends totals → IsOfRound (continued before x) x → x.process < length ends → old ≡ get_or ends x.process old → new ≡ cond x.fresh None old → sender_of senders x ≡ Some sender → HoldsEnd sender.link (received sender (continued before x)) new
-made-held senders before ended x sender ends totals old new keeps of inside at is there =
-    holds-by senders (continued before x) x sender new there of (begun-holds senders before x old new is (holds-round senders before ends x.process old inside at keeps.held))
+pub made-held : (senders : List Sending) (before later : List Transmission) (ended : List (List Transmission)) (x : Transmission) (sender : Sending) (places : List Place) (totals : Totals) (old new : Place)
+    → KeepsRounds senders before (x ∷ later) ended places totals → IsOfRound (continued before x) x → x.process < length places → old ≡ get_or places x.process old → new ≡ cond x.fresh no_place old → sender_of senders x ≡ Some sender → HoldsPlace true sender.link (received sender (continued before x)) new
+made-held senders before later ended x sender places totals old new keeps of inside at is there =
+    holds-by senders (continued before x) x sender new there of (begun-holds senders before later x old new is (holds-round senders before (x ∷ later) places x.process old inside at keeps.held))
 
 -- it is no more than the transmissions before
 pub continued-room : (sender : Sending) (before : List Transmission) (n : ℕ) (x : Transmission) (end : Option End) → length before ≤ n → HoldsEnd sender.link (received sender (continued before x)) end → HasReceived n end
@@ -156,39 +169,41 @@ held-over link list None held = tt
 held-over link list (Some end) held = held.same_link
 
 -- and with the transmission
-holds-more : (senders : List Sending) (round : List Transmission) (x : Transmission) (sender : Sending) (end : Option End) → sender_of senders x ≡ Some sender → IsOfRound round x → HoldsEnd sender.link (received sender round ++ received_of sender x) end → HoldsRound senders (round ++ x ∷ []) end
-holds-more senders [] x sender end there of holds =
-    subst (λ (s : Option Sending). HoldsIf s (x ∷ []) end) (sym there)
-    (subst (λ list. HoldsEnd sender.link list end) (sym (received-more sender [] x)) holds)
-holds-more senders (y ∷ more) x sender end there of holds =
-    subst (λ (s : Option Sending). HoldsIf s (y ∷ more ++ x ∷ []) end) (sym (ap (λ n. slice_get senders (n - 1)) of ∙ there))
-    (subst (λ list. HoldsEnd sender.link list end) (sym (received-more sender (y ∷ more) x)) holds)
+holds-more : (goes : Bool) (senders : List Sending) (round : List Transmission) (x : Transmission) (sender : Sending) (place : Place) → sender_of senders x ≡ Some sender → IsOfRound round x → HoldsPlace goes sender.link (received sender round ++ received_of sender x) place → HoldsRound goes senders (round ++ x ∷ []) place
+holds-more goes senders [] x sender place there of holds =
+    subst (λ (s : Option Sending). HoldsIf goes s (x ∷ []) place) (sym there)
+    (subst (λ list. HoldsPlace goes sender.link list place) (sym (received-more sender [] x)) holds)
+holds-more goes senders (y ∷ more) x sender place there of holds =
+    subst (λ (s : Option Sending). HoldsIf goes s (y ∷ more ++ x ∷ []) place) (sym (ap (λ n. slice_get senders (n - 1)) of ∙ there))
+    (subst (λ list. HoldsPlace goes sender.link list place) (sym (received-more sender (y ∷ more) x)) holds)
 
 -- before any transmission no place has received anything
-pub rounds-first : (senders : List Sending) (n : ℕ) → HoldRounds senders [] (replicate n None)
+pub rounds-first : (senders : List Sending) (later : List Transmission) (n : ℕ) → HoldRounds senders [] later (replicate n no_place)
 unfolding since_fresh
-rounds-first senders n = λ p within. get_or-replicate n p None None (omega (arith, within, length-replicate {A = Option End} n None))
+rounds-first senders later n = λ p within. get_or-replicate n p no_place no_place (omega (arith, within, length-replicate {A = Place} n no_place))
 
 -- after a transmission more
-pub rounds-more : (senders : List Sending) (before : List Transmission) (x : Transmission) (sender : Sending) (ends : List (Option End)) (after : Option End) → IsOfRound (continued before x) x → sender_of senders x ≡ Some sender → x.process < length ends → HoldRounds senders before ends
-    → HoldsEnd sender.link (received sender (continued before x) ++ received_of sender x) after → HoldRounds senders (before ++ x ∷ []) (set ends x.process after)
-rounds-more senders before x sender ends after of there inside held holds = λ p low.
+pub rounds-more : (senders : List Sending) (before later : List Transmission) (x : Transmission) (sender : Sending) (places : List Place) (after : Place) → IsOfRound (continued before x) x → sender_of senders x ≡ Some sender → x.process < length places → HoldRounds senders before (x ∷ later) places
+    → HoldsPlace (goes_on x.process later) sender.link (received sender (continued before x) ++ received_of sender x) after → HoldRounds senders (before ++ x ∷ []) later (set places x.process after)
+rounds-more senders before later x sender places after of there inside held holds = λ p low.
     ⊎_elim (same p) (other p low) (cases_eq p x.process)
   where
-    more : HoldsRound senders (continued before x ++ x ∷ []) after
-    more = holds-more senders (continued before x) x sender after there of holds
+    more : HoldsRound (goes_on x.process later) senders (continued before x ++ x ∷ []) after
+    more = holds-more (goes_on x.process later) senders (continued before x) x sender after there of holds
 
-    same : (p : ℕ) → p ≡ x.process → HoldsRound senders (round_of p (before ++ x ∷ [])) (get_or (set ends x.process after) p None)
+    same : (p : ℕ) → p ≡ x.process → HoldsRound (goes_on p later) senders (round_of p (before ++ x ∷ [])) (get_or (set places x.process after) p no_place)
     same p equal =
-        subst (λ round. HoldsRound senders round (get_or (set ends x.process after) p None)) (sym (ap (λ q. round_of q (before ++ x ∷ [])) equal ∙ continued-more before x))
-        (subst (HoldsRound senders (continued before x ++ x ∷ [])) (sym (get_or-set_at ends x.process p after None equal inside)) more)
+        subst (λ q. HoldsRound (goes_on q later) senders (round_of q (before ++ x ∷ [])) (get_or (set places x.process after) q no_place)) (sym equal)
+        (subst (λ round. HoldsRound (goes_on x.process later) senders round (get_or (set places x.process after) x.process no_place)) (sym (continued-more before x))
+        (subst (HoldsRound (goes_on x.process later) senders (continued before x ++ x ∷ [])) (sym (get_or-set_at places x.process x.process after no_place refl inside)) more))
 
-    other : (p : ℕ) → p < length (set ends x.process after) → (p ≡ x.process → ⊥) → HoldsRound senders (round_of p (before ++ x ∷ [])) (get_or (set ends x.process after) p None)
+    other : (p : ℕ) → p < length (set places x.process after) → (p ≡ x.process → ⊥) → HoldsRound (goes_on p later) senders (round_of p (before ++ x ∷ [])) (get_or (set places x.process after) p no_place)
     other p low differ =
         let apart : (x.process == p) ≡ false = grind (arith, nat_tests) in
-        let there_too : p < length ends = omega (arith, low, length-set ends x.process after) in
-        subst (λ round. HoldsRound senders round (get_or (set ends x.process after) p None)) (sym (other-more p before x apart))
-        (subst (HoldsRound senders (round_of p before)) (sym (get_or-set_other ends x.process p after None differ)) (held p there_too))
+        let there_too : p < length places = omega (arith, low, length-set places x.process after) in
+        subst (λ round. HoldsRound (goes_on p later) senders round (get_or (set places x.process after) p no_place)) (sym (other-more p before x apart))
+        (subst (λ b. HoldsRound b senders (round_of p before) (get_or (set places x.process after) p no_place)) (goes_on-other p x later apart)
+        (subst (HoldsRound (goes_on p (x ∷ later)) senders (round_of p before)) (sym (get_or-set_other places x.process p after no_place differ)) (held p there_too)))
 
 -- the lines of the transmission at index i: those of the round that it ends, its own, and those behind them
 pub turn-parts : (words : Words) (senders : List Sending) (xs : List Transmission) (i : ℕ) (x : Transmission) → i < length xs → x ≡ get_or xs i x

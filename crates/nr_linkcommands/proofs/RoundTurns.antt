@@ -1,5 +1,5 @@
 -- The text over the rounds of processes, one transmission after the other.
-use Rattle.std.proofs.Common.{◌≡◌, ℕ, ◌+◌, ◌<◌, ◌≤◌, Bool, true, false, cond, List, [], ◌∷◌, ◌++◌, length, take, drop, get_or, ap, sym, refl, ◌∙◌, arith, append_assoc, length-append}
+use Rattle.std.proofs.Common.{◌≡◌, ℕ, ◌+◌, ◌-◌, ◌<◌, ◌≤◌, Bool, true, false, cond, List, [], ◌∷◌, ◌++◌, length, take, drop, get_or, ap, sym, refl, ◌∙◌, arith, append_assoc, length-append, length-drop, take_all}
 use Rattle.std.specs.Prelude.{◌==◌}
 use Rattle.std.proofs.lemmas.Bool.Decides.{nat_tests}
 use Rattle.std.proofs.lemmas.Grind.{flat_map-append}
@@ -16,12 +16,20 @@ use Rattle.nr_files.proofs.RoundFacts.{round-more}
 pub taken-more : (xs : List Transmission) (i : ℕ) (x : Transmission) → i < length xs → x ≡ get_or xs i x → take (i + 1) xs ≡ take i xs ++ x ∷ []
 taken-more xs i x within is = take_more xs i x within ∙ ap (λ y. take i xs ++ y ∷ []) (sym is)
 
+-- the next one and those behind it
+pub left-turn : (xs : List Transmission) (i : ℕ) (x : Transmission) → i < length xs → x ≡ get_or xs i x → drop i xs ≡ x ∷ drop (i + 1) xs
+left-turn xs i x within is = drop_more xs i x within ∙ ap (λ y. y ∷ drop (i + 1) xs) (sym is)
+
+-- all that is behind an index
+pub all-behind : {X : Type 0} (n : ℕ) (xs : List X) → take (length xs - n) (drop n xs) ≡ drop n xs
+all-behind n xs = take_all (length xs - n) (drop n xs) (omega (arith, length-drop n xs))
+
 -- the lines of the transmission at index i, and those behind them
 pub turns-turn : (words : Words) (senders : List Sending) (xs : List Transmission) (i : ℕ) (x : Transmission) → i < length xs → x ≡ get_or xs i x
     → pieces_joined (turns words senders (take i xs) (drop i xs)) ≡ turn_lines words senders (take i xs) x ++ pieces_joined (turns words senders (take (i + 1) xs) (drop (i + 1) xs))
 unfolding turns
 turns-turn words senders xs i x within is =
-    ap (λ ys. pieces_joined (turns words senders (take i xs) ys)) (drop_more xs i x within ∙ ap (λ y. y ∷ drop (i + 1) xs) (sym is))
+    ap (λ ys. pieces_joined (turns words senders (take i xs) ys)) (left-turn xs i x within is)
     ∙ ap (λ before. turn_lines words senders (take i xs) x ++ pieces_joined (turns words senders before (drop (i + 1) xs))) (sym (taken-more xs i x within is))
 
 pub turns-end : (words : Words) (senders : List Sending) (before xs : List Transmission) → xs ≡ [] → pieces_joined (turns words senders before xs) ≡ []

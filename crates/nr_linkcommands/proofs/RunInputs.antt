@@ -1,6 +1,5 @@
 -- What `run` works from, and what it says by it.
-use Rattle.std.proofs.Common.{◌≡◌, ℕ, ◌+◌, ◌≤◌, ◌⊎◌, inl, inr, Bool, Result, Ok, Err, IfOk, List, [], ◌∷◌, length, All, ap, refl, sym, subst, ◌∙◌, arith}
-use Rattle.std.proofs.lemmas.Bool.Decides.{nat_tests}
+use Rattle.std.proofs.Common.{◌≡◌, ℕ, ◌+◌, Bool, Result, Ok, Err, IfOk, List, [], ◌∷◌, length, All, ap, refl, sym, subst, ◌∙◌, arith}
 use Rattle.std.proofs.lemmas.List.Elements.{All-cons}
 use Rattle.nr_crcattach.specs.Attachment.{attached_length}
 use Rattle.nr_bitvec.specs.BitList.{bits_of}
@@ -15,11 +14,8 @@ use Rattle.nr_blockdesk.specs.declared.fault.DeskFault.{DeskFault}
 use Rattle.nr_blockdesk.specs.declared.fault.DeskFault.TheVariants as fault
 use Rattle.nr_blockdesk.specs.declared.settings.Settings.{Settings}
 use Rattle.nr_linkcommands.specs.Ends.{IsLinked}
-use Rattle.nr_linkcommands.specs.Inputs.{Given, Ready, files_said, inputs_said, sender_said, senders_from}
-use Rattle.nr_linkcommands.specs.RunText.{run_said, text_of_run}
-use Rattle.nr_commands.specs.declared.fault.RunFault.{RunFault}
-use Rattle.nr_commands.specs.declared.fault.RunFault.TheVariants.{Desk, Memory}
-use Rattle.nr_linkcommands.proofs.InputLemmas.{inputs_said-ready, inputs_said-refused, inputs_said-unsent}
+use Rattle.nr_linkcommands.specs.Inputs.{sender_said, senders_from}
+use Rattle.nr_commands.specs.declared.fault.RunFault.TheVariants.{Desk}
 use Rattle.nr_files.proofs.Refusals.{holds_then, of_ok}
 
 -- two links that a call answers are one

@@ -1,5 +1,5 @@
 -- What is received of transmissions, and the lines of each.
-use Rattle.std.proofs.Common.{◌≡◌, ℕ, zero, suc, ◌+◌, ◌<◌, ◌≤◌, All, Bool, Option, None, Some, Result, Ok, Err, OnOk, List, [], ◌∷◌, ◌++◌, length, flat_map, get_or, ap, sym, subst, refl, ◌∙◌, arith, length-append}
+use Rattle.std.proofs.Common.{◌≡◌, ℕ, zero, suc, ◌+◌, ◌<◌, ◌≤◌, All, Bool, Option, None, Some, Result, Ok, Err, OnOk, List, [], ◌∷◌, ◌++◌, length, flat_map, get_or, ap, sym, subst, arith, length-append}
 use Rattle.std.specs.List.{range_with_len}
 use Rattle.std.proofs.lemmas.List.{get_or_default}
 use Rattle.std.proofs.lemmas.List.Elements.{All-get_or}
@@ -10,12 +10,13 @@ use Rattle.nr_blockdesk.specs.Link.{Link}
 use Rattle.nr_blockdesk.specs.Outcome.{left}
 use Rattle.nr_blockdesk.specs.Sent.{Sending, sent_said}
 use Rattle.nr_blockdesk.specs.declared.fault.DeskFault.{DeskFault}
-use Rattle.nr_linkcommands.specs.Ends.{AllHold, HasReceived, HoldsEnd}
+use Rattle.nr_linkcommands.specs.Ends.{AllHold, HasReceived, HoldsEnd, HoldsKept, no_place}
 use Rattle.nr_linkcommands.specs.Hearing.{heard_through}
 use Rattle.nr_linkcommands.specs.RunLines.{left_line, left_lines}
 use Rattle.nr_linkcommands.specs.RunText.{lines_if, lines_of, own, received, received_if, received_of}
 use Rattle.nr_linkcommands.specs.SendLines.{refused_line, sent_line}
 use Rattle.nr_linkcommands.specs.declared.received.End.{End}
+use Rattle.nr_linkcommands.specs.declared.received.Place.{Place}
 use Rattle.nr_files.specs.declared.schedule.Transmission.{Transmission}
 use Rattle.nr_linkcommands.proofs.RunOutcomes.{left_line-some}
 use Rattle.nr_linkcommands.proofs.SendLemmas.{answer_line-some}
@@ -35,9 +36,6 @@ received-few sender (x ∷ xs) =
 pub has_received : (link : Link) (list : List Reception) (n : ℕ) (end : Option End) → HoldsEnd link list end → length list ≤ n → HasReceived n end
 has_received link list n None holds few = tt
 has_received link list n (Some end) holds few = omega (arith, holds.count, few)
-
-holds-same : (link : Link) (list more : List Reception) (end after : Option End) → more ≡ list → after ≡ end → HoldsEnd link list end → HoldsEnd link more after
-holds-same link list more end after same_list same_end holds = rw (same_list, same_end) holds
 
 -- the lines of a transmission, by what its sender says
 pub lines_of-said : (sender : Sending) (list : List Reception) (x : Transmission) (said : Result (List Bool) DeskFault) → sent_said sender.link x.tx sender.block ≡ said → lines_of sender list x ≡ lines_if x sender.link (list ++ received_if x said) said
@@ -86,7 +84,7 @@ pub on_ok-any : {X E : Type 0} {P : Type 0} (r : Result X E) → P → OnOk r P
 on_ok-any (Ok x) p = p
 on_ok-any (Err e) p = tt
 
--- what the end of a block has received
-pub holds-at : (senders : List Sending) (schedule : List Transmission) (ends : List (Option End)) (i : ℕ) (sender : Sending) (end : Option End) → i < length senders → sender ≡ get_or senders i sender → i < length ends → end ≡ get_or ends i end → AllHold senders schedule ends → HoldsEnd sender.link (received sender (own (i + 1) schedule)) end
-holds-at senders schedule ends i sender end within at inside is held =
-    holds-same sender.link _ _ (get_or ends i None) end refl (is ∙ get_or_default ends i end None inside) (held i sender within at)
+-- what is kept of a block
+pub holds-at : (senders : List Sending) (schedule : List Transmission) (places : List Place) (i : ℕ) (sender : Sending) (any : Place) → i < length senders → sender ≡ get_or senders i sender → i < length places → AllHold senders schedule places → HoldsKept sender.link (received sender (own (i + 1) schedule)) (get_or places i any).kept
+holds-at senders schedule places i sender any within at inside held =
+    subst (λ (p : Place). HoldsKept sender.link (received sender (own (i + 1) schedule)) p.kept) (sym (get_or_default places i any no_place inside)) (held i sender within at).1

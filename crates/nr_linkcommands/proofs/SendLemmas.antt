@@ -1,21 +1,16 @@
 -- The text of `send`, line by line.
-use Rattle.std.proofs.Common.{◌≡◌, ℕ, ◌+◌, ◌-◌, ◌<◌, ◌⊎◌, inl, inr, Bool, Some, Result, Ok, Err, List, ◌∷◌, ◌++◌, length, take, drop, flat_map, slice_get, get_or, codes, ap, sym, ◌∙◌, arith, append_assoc}
+use Rattle.std.proofs.Common.{◌≡◌, ℕ, ◌+◌, ◌-◌, ◌<◌, Bool, Some, Result, Ok, Err, List, ◌∷◌, ◌++◌, length, take, drop, flat_map, slice_get, get_or, codes, ap, sym, ◌∙◌, arith, append_assoc}
 use Rattle.std.proofs.lemmas.List.{take-append-drop, drop_more}
 use Rattle.std.proofs.lemmas.Grind.{flat_map-append}
 use Rattle.std.proofs.lemmas.Option.{slice_get-get_or}
 use Rattle.std.specs.Fmt.{decimal}
 use Rattle.nr_commands.specs.Hex.{hex}
-use Rattle.nr_graphpick.specs.Refusal.{◌>>=◌}
-use Rattle.nr_linkcommands.specs.Inputs.{Given, Ready, files_said, inputs_said, senders_from}
 use Rattle.nr_linkcommands.specs.SendLines.{answer_line, refusal_name, refused_line, sent_line}
-use Rattle.nr_linkcommands.specs.SendText.{line_by, send_said, transmission_line, transmission_lines}
-use Rattle.nr_commands.specs.declared.fault.RunFault.{RunFault}
-use Rattle.nr_commands.specs.declared.fault.RunFault.TheVariants.{Memory}
+use Rattle.nr_linkcommands.specs.SendText.{line_by, transmission_line}
 use Rattle.nr_files.specs.Schedule.{HasBlock}
 use Rattle.nr_blockdesk.specs.Sent.{Sending, sent_said}
 use Rattle.nr_blockdesk.specs.declared.fault.DeskFault.{DeskFault}
 use Rattle.nr_files.specs.declared.schedule.Transmission.{Transmission}
-use Rattle.nr_linkcommands.proofs.InputLemmas.{inputs_said-ready, inputs_said-refused, inputs_said-unsent}
 use Rattle.nr_commands.proofs.WrittenLemmas.{some_at_end}
 
 -- the lines before the element at index i, its own, and those behind it

@@ -1,19 +1,20 @@
 -- What a run and an audit use of a schedule that was read: each transmission is of its round's block, and where no
 -- processes are named, the rounds at the end are the blocks.
-use Rattle.std.proofs.Common.{◌≡◌, ℕ, ◌+◌, ◌-◌, ◌<◌, Bool, true, false, cond, Option, None, Some, List, [], ◌∷◌, All, length, take, drop, slice_get, get_or, ap, sym, subst, refl, ◌∙◌, arith, length-drop, take_all}
+use Rattle.std.proofs.Common.{◌≡◌, ℕ, ◌+◌, ◌-◌, ◌<◌, Bool, true, false, cond, Option, None, Some, List, [], ◌∷◌, All, length, take, drop, slice_get, get_or, ap, sym, subst, refl, ◌∙◌, arith}
 use Rattle.std.specs.Prelude.{◌==◌}
 use Rattle.std.proofs.lemmas.Bool.Decides.{nat_tests}
 use Rattle.std.proofs.lemmas.Grind.{get_or_after_one}
 use Rattle.std.proofs.lemmas.List.Elements.{All-get_or, All-head, All-take, filter_passes}
 use Rattle.std.proofs.lemmas.Option.{slice_get-get_or}
 use Rattle.nr_blockdesk.specs.Sent.{Sending}
-use Rattle.nr_linkcommands.specs.Ends.{AllHold, AreOfRounds, HoldRounds, HoldsEnd, HoldsIf, HoldsRound, IsOfRound}
+use Rattle.nr_linkcommands.specs.Ends.{AllHold, AreOfRounds, HoldRounds, HoldsIf, HoldsPlace, HoldsRound, IsOfRound, no_place}
 use Rattle.nr_files.specs.Rounds.{IsOfBlock, round_of}
 use Rattle.nr_linkcommands.specs.RunText.{own, received}
 use Rattle.nr_files.specs.Schedule.{EachGoesOn, HasBlock, IsPlaced, IsTimetable, Timetable, fresh_block}
-use Rattle.nr_linkcommands.specs.declared.received.End.{End}
+use Rattle.nr_linkcommands.specs.declared.received.Place.{Place}
 use Rattle.nr_files.specs.declared.schedule.Transmission.{Transmission}
 use Rattle.nr_files.proofs.BlockRounds.{blocks_are_rounds}
+use Rattle.nr_linkcommands.proofs.RoundTurns.{all-behind}
 
 -- a round that a fresh transmission of a block began
 begun-of_round : (round : List Transmission) (x : Transmission) → fresh_block round ≡ Some x.block → IsOfRound round x
@@ -54,26 +55,23 @@ placed-in b n places xs placed named count = λ k d within. one b (get_or xs k d
     one false x alone there is = omega (arith, alone.process, there.1, is)
 
 -- a place that holds a round of transmissions of one block
-round-holds : (senders : List Sending) (n : ℕ) (sender : Sending) (round : List Transmission) (end : Option End) → slice_get senders (n - 1) ≡ Some sender → All (λ (y : Transmission). (y.block == n) ≡ true) round → HoldsRound senders round end → HoldsEnd sender.link (received sender round) end
-round-holds senders n sender [] end there all holds = subst (HoldsEnd sender.link []) (sym holds) refl
-round-holds senders n sender (y ∷ more) end there all holds =
+round-holds : (senders : List Sending) (n : ℕ) (sender : Sending) (round : List Transmission) (place : Place) → slice_get senders (n - 1) ≡ Some sender → All (λ (y : Transmission). (y.block == n) ≡ true) round → HoldsRound false senders round place → HoldsPlace false sender.link (received sender round) place
+round-holds senders n sender [] place there all holds = subst (HoldsPlace false sender.link []) (sym holds) (refl, refl)
+round-holds senders n sender (y ∷ more) place there all holds =
     let first : (y.block == n) ≡ true = All-head (λ (z : Transmission). (z.block == n) ≡ true) y more all in
     let number : y.block ≡ n = grind (arith, nat_tests) in
-    subst (λ (o : Option Sending). HoldsIf o (y ∷ more) end) (ap (λ k. slice_get senders (k - 1)) number ∙ there) holds
+    subst (λ (o : Option Sending). HoldsIf false o (y ∷ more) place) (ap (λ k. slice_get senders (k - 1)) number ∙ there) holds
 
 -- where no processes are named, place i + 1 has received the transmissions of block i + 1
-behind-first : (ends : List (Option End)) → take (length ends - 1) (drop 1 ends) ≡ drop 1 ends
-behind-first ends = take_all (length ends - 1) (drop 1 ends) (omega (arith, length-drop 1 ends))
-
-pub blocks-hold : (senders : List Sending) (schedule : List Transmission) (ends : List (Option End)) → All IsOfBlock schedule → length ends ≡ length senders + 1 → HoldRounds senders schedule ends → AllHold senders schedule (take (length ends - 1) (drop 1 ends))
-blocks-hold senders schedule ends all long held = subst (AllHold senders schedule) (sym (behind-first ends)) each
+pub blocks-hold : (senders : List Sending) (schedule : List Transmission) (places : List Place) → All IsOfBlock schedule → length places ≡ length senders + 1 → HoldRounds senders schedule [] places → AllHold senders schedule (take (length places - 1) (drop 1 places))
+blocks-hold senders schedule places all long held = subst (AllHold senders schedule) (sym (all-behind 1 places)) each
   where
-    each : AllHold senders schedule (drop 1 ends)
+    each : AllHold senders schedule (drop 1 places)
     each = λ i sender within at.
         let number : i + 1 - 1 ≡ i = omega arith in
         let there : slice_get senders (i + 1 - 1) ≡ Some sender = ap (slice_get senders) number ∙ slice_get-get_or senders i sender within ∙ ap Some (sym at) in
-        let place : get_or (drop 1 ends) i None ≡ get_or ends (i + 1) None = get_or_after_one ends i None ∙ ap (λ k. get_or ends k None) (omega arith) in
-        let round : HoldsRound senders (own (i + 1) schedule) (get_or ends (i + 1) None) =
-        subst (λ (xs : List Transmission). HoldsRound senders xs (get_or ends (i + 1) None)) (blocks_are_rounds schedule all (i + 1)) (held (i + 1) (omega (arith, long, within))) in
-        subst (HoldsEnd sender.link (received sender (own (i + 1) schedule))) (sym place)
-        (round-holds senders (i + 1) sender (own (i + 1) schedule) (get_or ends (i + 1) None) there (filter_passes (λ x. x.block == i + 1) schedule) round)
+        let place : get_or (drop 1 places) i no_place ≡ get_or places (i + 1) no_place = get_or_after_one places i no_place ∙ ap (λ k. get_or places k no_place) (omega arith) in
+        let round : HoldsRound false senders (own (i + 1) schedule) (get_or places (i + 1) no_place) =
+        subst (λ (xs : List Transmission). HoldsRound false senders xs (get_or places (i + 1) no_place)) (blocks_are_rounds schedule all (i + 1)) (held (i + 1) (omega (arith, long, within))) in
+        subst (HoldsPlace false sender.link (received sender (own (i + 1) schedule))) (sym place)
+        (round-holds senders (i + 1) sender (own (i + 1) schedule) (get_or places (i + 1) no_place) there (filter_passes (λ x. x.block == i + 1) schedule) round)

@@ -1,8 +1,8 @@
 -- What the receiving ends of a run keep.
-use Rattle.std.specs.Prelude.{◌≡◌, ℕ, ◌+◌, ◌*◌, ◌<◌, ◌≤◌, false, List, [], ◌∷◌, Option, Some, None, Ok, length, take, slice_index_or}
+use Rattle.std.specs.Prelude.{◌≡◌, ℕ, ◌+◌, ◌*◌, ◌<◌, ◌≤◌, ◌==◌, Bool, true, false, not, if◌then◌else◌, List, [], ◌∷◌, Option, Some, None, Ok, length, take, slice_index_or}
 use Rattle.nr_shifttable.specs.Accepted.{Entries}
 use Rattle.nr_blockdesk.specs.Explains.{Reception}
-use Rattle.nr_blockdesk.specs.Heard.{IsRecordOf}
+use Rattle.nr_blockdesk.specs.Heard.{IsRecordOf, heard_record}
 use Rattle.nr_blockdesk.specs.Link.{IsLink, Link, link_said}
 use Rattle.nr_blockdesk.specs.Outcome.{outcome_of}
 use Rattle.nr_blockdesk.specs.Receiving.{verdict}
@@ -10,8 +10,11 @@ use Rattle.nr_blockdesk.specs.Sent.{Sending}
 use Rattle.nr_blockdesk.specs.declared.settings.Settings.{Settings}
 use Rattle.nr_linkcommands.specs.RoundTexts.{sender_of}
 use Rattle.nr_files.specs.Rounds.{round_of}
+use Rattle.nr_linkcommands.specs.RunLines.{unfixed_blocks}
 use Rattle.nr_linkcommands.specs.RunText.{no_totals, own, received, rounds_counted}
 use Rattle.nr_linkcommands.specs.declared.received.End.{End}
+use Rattle.nr_linkcommands.specs.declared.received.Kept.{Kept}
+use Rattle.nr_linkcommands.specs.declared.received.Place.{Place}
 use Rattle.nr_linkcommands.specs.declared.received.Totals.{Totals}
 use Rattle.nr_files.specs.declared.schedule.Transmission.{Transmission}
 
@@ -42,26 +45,53 @@ abbrev pub IsOver : Link → Option End → Type 0
 IsOver link None = Unit {0}
 IsOver link (Some end) = end.receiver.link ≡ link
 
--- each transport block's end has received what its sender's transmissions among these gave
-abbrev pub AllHold : List Sending → List Transmission → List (Option End) → Type 0
-AllHold senders transmissions ends = (i : ℕ) (sender : Sending) → i < length senders
+-- what is kept of this list once nothing more is received: the outcome, the number of receptions, and how many code
+-- blocks have a position that is not fixed
+pub record IsKept (link : Link) (list : List Reception) (kept : Kept) : Type 0 where
+  pub outcome : verdict kept.outcome ≡ outcome_of link list
+  pub count : kept.count ≡ length list
+  pub failed : kept.failed ≡ unfixed_blocks link (heard_record link list)
+
+-- the same; nothing is kept where nothing was received
+abbrev pub HoldsKept : Link → List Reception → Option Kept → Type 0
+HoldsKept link list None = list ≡ []
+HoldsKept link list (Some kept) = IsKept link list kept
+
+-- a place at which nothing was received
+abbrev pub no_place : Place
+no_place = record { end = None; kept = None }
+
+-- A place has received this list. While later transmissions go on with it, its receiving end has, and nothing is kept;
+-- once none does, it has no receiver.
+abbrev pub HoldsPlace : Bool → Link → List Reception → Place → Type 0
+HoldsPlace true link list place = (HoldsEnd link list place.end) × (place.kept ≡ None)
+HoldsPlace false link list place = (place.end ≡ None) × HoldsKept link list place.kept
+
+-- of each transport block what its sender's transmissions among these gave is kept, and no receiver is left
+abbrev pub AllHold : List Sending → List Transmission → List Place → Type 0
+AllHold senders transmissions places = (i : ℕ) (sender : Sending) → i < length senders
     → sender ≡ slice_index_or senders i sender
-    → HoldsEnd sender.link (received sender (own (i + 1) transmissions)) (slice_index_or ends i None)
+    → HoldsPlace false sender.link (received sender (own (i + 1) transmissions)) (slice_index_or places i no_place)
 
 -- a place has received what a round gave, by the sender of the round's block
-abbrev pub HoldsIf : Option Sending → List Transmission → Option End → Type 0
-HoldsIf None round end = Unit {0}
-HoldsIf (Some sender) round end = HoldsEnd sender.link (received sender round) end
+abbrev pub HoldsIf : Bool → Option Sending → List Transmission → Place → Type 0
+HoldsIf goes_on None round place = Unit {0}
+HoldsIf goes_on (Some sender) round place = HoldsPlace goes_on sender.link (received sender round) place
 
 -- the same by the block that the round's first transmission names; a place that is in no round has received nothing
-abbrev pub HoldsRound : List Sending → List Transmission → Option End → Type 0
-HoldsRound senders [] end = end ≡ None
-HoldsRound senders (x ∷ more) end = HoldsIf (sender_of senders x) (x ∷ more) end
+abbrev pub HoldsRound : Bool → List Sending → List Transmission → Place → Type 0
+HoldsRound goes_on senders [] place = place ≡ no_place
+HoldsRound goes_on senders (x ∷ more) place = HoldsIf goes_on (sender_of senders x) (x ∷ more) place
+
+-- whether a later transmission goes on with the round that process p is in: the first that is of p is not fresh
+abbrev pub goes_on : ℕ → List Transmission → Bool
+goes_on p [] = false
+goes_on p (x ∷ more) = if x.process == p then not x.fresh else goes_on p more
 
 -- each place has received its process's round
-abbrev pub HoldRounds : List Sending → List Transmission → List (Option End) → Type 0
-HoldRounds senders before ends =
-    (p : ℕ) → p < length ends → HoldsRound senders (round_of p before) (slice_index_or ends p None)
+abbrev pub HoldRounds : List Sending → List Transmission → List Transmission → List Place → Type 0
+HoldRounds senders before later places = (p : ℕ) → p < length places
+    → HoldsRound (goes_on p later) senders (round_of p before) (slice_index_or places p no_place)
 
 -- a transmission is of the block of the round that it goes on with
 abbrev pub IsOfRound : List Transmission → Transmission → Type 0
@@ -82,8 +112,8 @@ pub record IsWithin (n : ℕ) (t : Totals) : Type 0 where
   pub code_blocks : t.code_blocks ≤ n * 4294967296
   pub failed : t.failed ≤ n * 4294967296
 
--- A run's places after these transmissions, and its totals of the rounds that ended.
-pub record KeepsRounds (senders : List Sending) (before : List Transmission) (ended : List (List Transmission)) (ends : List (Option End)) (totals : Totals) : Type 0 where
-  pub held : HoldRounds senders before ends
+-- A run's places after these transmissions and before those later, and its totals of the rounds that ended.
+pub record KeepsRounds (senders : List Sending) (before later : List Transmission) (ended : List (List Transmission)) (places : List Place) (totals : Totals) : Type 0 where
+  pub held : HoldRounds senders before later places
   pub counted : totals ≡ rounds_counted no_totals senders ended
   pub within : IsWithin (length ended) totals

@@ -1,5 +1,5 @@
 -- The lines of `run`, but those that it shares with `send`.
-use Rattle.std.specs.Prelude.{Bool, List, [], codes, count_by, flat_map, length, not, ℕ, ◌++◌, ◌+◌, ◌==◌, ◌∷◌}
+use Rattle.std.specs.Prelude.{Bool, List, [], codes, count_by, flat_map, length, not, ℕ, ◌++◌, ◌==◌, ◌∷◌}
 use Rattle.std.specs.Fmt.{decimal}
 use Rattle.std.specs.List.{range_with_len}
 use Rattle.nr_harqbuf.specs.Record.{Heardbits}

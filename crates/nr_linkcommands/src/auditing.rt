@@ -89,7 +89,7 @@ struct AuditRounds;
 impl<'t> Walk<'t> for AuditRounds {
     ghost words = { audit_words };
 
-    ghost Keeps = { λ rounds senders before ended. Unit {0} };
+    ghost Keeps = { λ rounds senders before later ended. Unit {0} };
 
     ghost places = { λ rounds. 16 };
 
@@ -111,6 +111,7 @@ impl<'t> Walk<'t> for AuditRounds {
         _: &'t Inputs,
         senders: &[Sender],
         transmission: &Transmission,
+        _: &[Transmission],
         _: &mut O,
     ) -> Result<(), RunFault> {
         Ok(())

@@ -1,12 +1,12 @@
-//! The receiving ends of a run: what each has received, and how all of them end.
+//! The receiving ends of a run: what each has received, what is kept of it, and how all of them end.
 
-ghost use Rattle.std.specs.Prelude.{◌≡◌, ℕ, ◌+◌, ◌-◌, ◌^◌, ◌<◌, ◌≤◌, ◌++◌, [], ◌∷◌, All, List, None, length, replicate, IfOk, OnOk};
+ghost use Rattle.std.specs.Prelude.{◌≡◌, ℕ, ◌+◌, ◌-◌, ◌^◌, ◌<◌, ◌≤◌, ◌++◌, [], ◌∷◌, All, List, length, replicate, true, IfOk, OnOk};
 ghost use Rattle.nr_blockdesk.specs.Explains.{IsAccepted, Reception, reception};
 ghost use Rattle.nr_blockdesk.specs.Heard.{IsRecordOf};
 ghost use Rattle.nr_blockdesk.specs.Link.{IsLink, Link};
 ghost use Rattle.nr_blockdesk.specs.Outcome.{outcome_of};
 ghost use Rattle.nr_blockdesk.specs.Receiving.{verdict};
-ghost use Rattle.nr_linkcommands.specs.Ends.{AllHold, HasReceived, HoldsEnd, IsEnd, IsLinked, IsOver, IsWithin};
+ghost use Rattle.nr_linkcommands.specs.Ends.{AllHold, HasReceived, HoldsEnd, HoldsKept, HoldsPlace, IsEnd, IsKept, IsLinked, IsOver, IsWithin, no_place};
 ghost use Rattle.nr_linkcommands.specs.RunText.{counted, no_totals, totals_from};
 ghost use Rattle.nr_linkcommands.specs.RunLines.{unfixed_blocks};
 ghost use Rattle.nr_files.specs.declared.schedule.Transmission.{Transmission};
@@ -26,6 +26,39 @@ pub struct End<'t> {
     pub count: u64,
 }
 
+/// What is kept of a receiving end once nothing more is received.
+#[derive(Drop)]
+pub struct Kept {
+    /// What may be handed up of all that was received.
+    pub outcome: Outcome,
+    /// How many transmissions were received.
+    pub count: u64,
+    /// How many code blocks have a position below K' that isn't fixed.
+    pub failed: u32,
+}
+
+/// A place of a run: that of a transport block, or of a HARQ process. It has a receiver from the first transmission that is
+/// received to the last one.
+#[derive(Drop)]
+pub struct Place<'t> {
+    /// The receiving end, while later transmissions go on with it.
+    pub end: Option<End<'t>>,
+    /// What is kept of it behind its last transmission.
+    pub kept: Option<Kept>,
+}
+
+impl<'t> Place<'t> {
+    /// A place at which nothing was received.
+    pub fn new() -> Place<'t>
+        ensures { result ≡ no_place }
+    {
+        Place {
+            end: None,
+            kept: None,
+        }
+    }
+}
+
 /// How transport blocks end.
 #[derive(Clone, Copy, Debug, PartialEq, Eq)]
 pub struct Totals {
@@ -43,18 +76,18 @@ pub struct Totals {
     pub failed: u64,
 }
 
-/// So many ends of which nothing is received yet.
+/// So many places at which nothing was received.
 ///
 /// # Errors
 /// `AllocError` where memory is refused.
-pub fn no_ends<'t>(alloc: Global, count: usize) -> Result<Vec<Option<End<'t>>>, AllocError>
-    ensures { IfOk result (λ ends. ends.items ≡ replicate count None) }
+pub fn no_places<'t>(alloc: Global, count: usize) -> Result<Vec<Place<'t>>, AllocError>
+    ensures { IfOk result (λ places. places.items ≡ replicate count no_place) }
 {
-    let mut ends = Vec::with_capacity(alloc, count)?;
+    let mut places = Vec::with_capacity(alloc, count)?;
     for _ in 0..count {
-        ends.push_reserved(None);
+        places.push_reserved(Place::new());
     }
-    Ok(ends)
+    Ok(places)
 }
 
 /// The end of a sender's transport block once it has heard a transmission more.
@@ -172,17 +205,40 @@ pub fn unfixed(receiver: &Receiver) -> u32
     count
 }
 
-/// How the transport blocks of senders end, by what their ends have received.
-pub fn sum_up(senders: &[Sender], ends: &[Option<End>]) -> Totals
+/// Lets a place's receiver go, unless a later transmission goes on with what it has received.
+pub fn close(goes_on: bool, place: &mut Place)
+    ensures { (link : Link) (list : List Reception) → HoldsPlace true link list place.old
+        → HoldsPlace goes_on link list place.new }
+{
+    if !goes_on {
+        place.kept = place.end.take().map(kept_of);
+    }
+}
+
+// What is kept of an end.
+fn kept_of(end: End) -> Kept
+    ensures { (link : Link) (list : List Reception) → IsEnd link list end.entry
+        → IsKept link list result }
+{
+    let failed = unfixed(&end.receiver);
+    Kept {
+        outcome: end.outcome,
+        count: end.count,
+        failed,
+    }
+}
+
+/// How the transport blocks of senders end, by what is kept at their places.
+pub fn sum_up(senders: &[Sender], places: &[Place]) -> Totals
     requires few { length senders.now ≤ 256 }
-    requires long { length ends.now ≡ length senders.now }
+    requires long { length places.now ≡ length senders.now }
     requires linked { All (λ sender. IsLink sender.link) senders.now }
-    ensures { (schedule : List Transmission) → AllHold senders.now schedule ends.now
+    ensures { (schedule : List Transmission) → AllHold senders.now schedule places.now
         → result ≡ totals_from no_totals 1 senders.now schedule }
 {
     let mut totals = no_totals();
     for (index, sender) in senders.iter().enumerate() {
-        totals = counted(totals, sender, &ends[index]);
+        totals = counted(totals, sender, &places[index].kept);
     }
     totals
 }
@@ -203,10 +259,10 @@ pub fn no_totals() -> Totals
 }
 
 /// The totals with a transport block or a round more.
-pub fn counted(totals: Totals, sender: &Sender, end: &Option<End>) -> Totals
+pub fn counted(totals: Totals, sender: &Sender, kept: &Option<Kept>) -> Totals
     requires few { IsWithin 65535 totals }
     requires linked { IsLink sender.now.link }
-    ensures value { (list : List Reception) → HoldsEnd sender.now.link list end.now
+    ensures value { (list : List Reception) → HoldsKept sender.now.link list kept.now
         → result ≡ counted totals sender.now.link list }
     ensures grows { (n : ℕ) → IsWithin n totals → IsWithin (n + 1) result }
 {
@@ -217,22 +273,25 @@ pub fn counted(totals: Totals, sender: &Sender, end: &Option<End>) -> Totals
         code_blocks: totals.code_blocks + code_blocks,
         ..totals
     };
-    match end {
+    match kept {
         None => Totals {
             open_still: totals.open_still + 1,
             failed: totals.failed + code_blocks,
             ..totals
         },
-        Some(end) => match end.outcome {
+        Some(kept) => match kept.outcome {
             Outcome::Delivered(_) => Totals {
                 delivered: totals.delivered + 1,
                 ..totals
             },
-            Outcome::Open => Totals {
-                open_still: totals.open_still + 1,
-                failed: totals.failed + u64::from(unfixed(&end.receiver)),
-                ..totals
-            },
+            Outcome::Open => {
+                let failed = kept.failed;
+                Totals {
+                    open_still: totals.open_still + 1,
+                    failed: totals.failed + u64::from(failed),
+                    ..totals
+                }
+            }
             Outcome::Contradiction => Totals {
                 contradiction: totals.contradiction + 1,
                 ..totals

@@ -1,13 +1,13 @@
 //! The lines of `run`, each made once, but those that it shares with `send`.
 
 ghost use Rattle.std.specs.Prelude.{IfOk, List, ◌++◌, ◌+◌, ◌≡◌};
-ghost use Rattle.nr_linkcommands.specs.Ends.{HoldsEnd};
+ghost use Rattle.nr_linkcommands.specs.Ends.{HoldsKept};
 ghost use Rattle.nr_linkcommands.specs.RunLines.{contradiction_line, delivered_line, last_line, left_line, open_line, outcome_line, process_words};
 ghost use Rattle.nr_blockdesk.specs.Explains.{Reception};
 ghost use Rattle.nr_blockdesk.specs.Link.{IsLink};
 ghost use Rattle.std.specs.String.{string_bytes};
 
-use crate::received::{End, Totals, unfixed};
+use crate::received::{Kept, Totals};
 use nr_bitvec::Bits;
 use nr_blockdesk::{Outcome, Sender, nothing_is_open};
 use nr_commands::hex_line;
@@ -20,14 +20,14 @@ pub(crate) fn round_line(
     process: u32,
     number: u32,
     sender: &Sender,
-    end: &Option<End>,
+    kept: &Option<Kept>,
 ) -> Result<Vec<u8>, AllocError>
     requires { IsLink sender.now.link }
-    ensures { IfOk result (λ line. (list : List Reception) → HoldsEnd sender.now.link list end.now
+    ensures { IfOk result (λ line. (list : List Reception) → HoldsKept sender.now.link list kept.now
         → line.items ≡ process_words process ++ outcome_line number sender.now.link list) }
 {
     let mut line = process_words(alloc, process)?.into_bytes();
-    line.extend_from_slice(&outcome_line(alloc, number, sender, end)?)?;
+    line.extend_from_slice(&outcome_line(alloc, number, sender, kept)?)?;
     Ok(line)
 }
 
@@ -52,20 +52,20 @@ pub(crate) fn outcome_line(
     alloc: Global,
     number: u32,
     sender: &Sender,
-    end: &Option<End>,
+    kept: &Option<Kept>,
 ) -> Result<Vec<u8>, AllocError>
     requires { IsLink sender.now.link }
-    ensures { IfOk result (λ line. (list : List Reception) → HoldsEnd sender.now.link list end.now
+    ensures { IfOk result (λ line. (list : List Reception) → HoldsKept sender.now.link list kept.now
         → line.items ≡ outcome_line number sender.now.link list) }
 {
     nothing_is_open();
     let blocks = sender.plan().c;
-    match end {
+    match kept {
         None => open_line(alloc, number, 0, blocks, blocks),
-        Some(end) => match &end.outcome {
-            Outcome::Delivered(block) => delivered_line(alloc, number, end.count, blocks, block),
-            Outcome::Open => open_line(alloc, number, end.count, unfixed(&end.receiver), blocks),
-            Outcome::Contradiction => contradiction_line(alloc, number, end.count, blocks),
+        Some(kept) => match &kept.outcome {
+            Outcome::Delivered(block) => delivered_line(alloc, number, kept.count, blocks, block),
+            Outcome::Open => open_line(alloc, number, kept.count, kept.failed, blocks),
+            Outcome::Contradiction => contradiction_line(alloc, number, kept.count, blocks),
         },
     }
 }

@@ -1,18 +1,19 @@
-//! What `run` keeps of the rounds of HARQ processes: their receiving ends, and the totals of those that ended.
+//! What `run` keeps of the rounds of HARQ processes: their places, and the totals of those that ended. A place has a
+//! receiver only as long as later transmissions go on with its round.
 
-ghost use Rattle.std.specs.Prelude.{All, IfOk, None, if◌then◌else◌, length, replicate, ℕ, ◌+◌, ◌<◌, ◌^◌, ◌≡◌};
+ghost use Rattle.std.specs.Prelude.{All, IfOk, false, if◌then◌else◌, length, replicate, ℕ, ◌+◌, ◌<◌, ◌^◌, ◌≡◌};
 ghost use Rattle.nr_commands.specs.Command.{Writes};
 ghost use Rattle.nr_files.specs.Reading.{FailsAs};
 ghost use Rattle.nr_files.specs.Rounds.{round_of};
 ghost use Rattle.nr_files.specs.Schedule.{HasBlock};
 ghost use Rattle.nr_blockdesk.specs.Link.{IsLink};
-ghost use Rattle.nr_linkcommands.specs.Ends.{HoldsRound, IsWithin, KeepsRounds};
+ghost use Rattle.nr_linkcommands.specs.Ends.{HoldsRound, IsWithin, KeepsRounds, goes_on, no_place};
 ghost use Rattle.nr_linkcommands.specs.RoundTexts.{round_lines};
 ghost use Rattle.nr_linkcommands.specs.RunText.{no_totals, round_counted, run_words};
 
 use crate::carrying::carry;
 use crate::inputs::Inputs;
-use crate::received::{End, Totals, counted, no_ends, no_totals};
+use crate::received::{Place, Totals, close, counted, no_places, no_totals};
 use crate::run_lines::round_line;
 use crate::walking::Walk;
 use nr_blockdesk::Sender;
@@ -23,8 +24,8 @@ use std::alloc::{AllocError, Global};
 /// What a run keeps.
 #[derive(Drop)]
 pub(crate) struct RunRounds<'t> {
-    /// For each place what its process has received of the round that it is in.
-    pub(crate) ends: Vec<Option<End<'t>>>,
+    /// For each process, or transport block, what it has received of the round that it is in.
+    pub(crate) places: Vec<Place<'t>>,
     /// How the rounds that ended did.
     pub(crate) totals: Totals,
 }
@@ -35,11 +36,12 @@ impl<'t> RunRounds<'t> {
     /// # Errors
     /// `AllocError` where memory is refused.
     pub(crate) fn new(alloc: Global, places: usize) -> Result<RunRounds<'t>, AllocError>
-        ensures ends { IfOk result (λ rounds. rounds.ends.items ≡ replicate places None) }
+        ensures places { IfOk result
+            (λ rounds. rounds.places.items ≡ replicate places no_place) }
         ensures totals { IfOk result (λ rounds. rounds.totals ≡ no_totals) }
     {
         Ok(RunRounds {
-            ends: no_ends(alloc, places)?,
+            places: no_places(alloc, places)?,
             totals: no_totals(),
         })
     }
@@ -48,10 +50,10 @@ impl<'t> RunRounds<'t> {
 impl<'t> Walk<'t> for RunRounds<'t> {
     ghost words = { run_words };
 
-    ghost Keeps = { λ rounds senders before ended.
-        KeepsRounds senders before ended rounds.ends.items rounds.totals };
+    ghost Keeps = { λ rounds senders before later ended.
+        KeepsRounds senders before later ended rounds.places.items rounds.totals };
 
-    ghost places = { λ rounds. length rounds.ends.items };
+    ghost places = { λ rounds. length rounds.places.items };
 
     fn end_round<O: Sink>(
         &mut self,
@@ -62,8 +64,8 @@ impl<'t> Walk<'t> for RunRounds<'t> {
         before: &[Transmission],
         out: &mut O,
     ) -> Result<(), RunFault> {
-        let end = &self.ends[process as usize];
-        self.totals = end_round(alloc, senders, before, process, end, self.totals, out)?;
+        let place = &self.places[process as usize];
+        self.totals = end_round(alloc, senders, before, process, place, self.totals, out)?;
         Ok(())
     }
 
@@ -73,22 +75,40 @@ impl<'t> Walk<'t> for RunRounds<'t> {
         inputs: &'t Inputs,
         senders: &[Sender],
         transmission: &Transmission,
+        later: &[Transmission],
         out: &mut O,
     ) -> Result<(), RunFault> {
         let sender = &senders[transmission.block as usize - 1];
-        let end = &mut self.ends[transmission.process as usize];
-        begin_round(transmission.fresh, end);
-        carry(alloc, inputs, sender, end, transmission, out)
+        let place = &mut self.places[transmission.process as usize];
+        begin_round(transmission.fresh, place);
+        carry(alloc, inputs, sender, &mut place.end, transmission, out)?;
+        close(goes_on(transmission.process, later), place);
+        Ok(())
     }
 }
 
 // Forgets what was received, where a transmission is fresh.
-fn begin_round(fresh: bool, end: &mut Option<End>)
-    ensures { end.new ≡ (if fresh then None else end.old) }
+fn begin_round(fresh: bool, place: &mut Place)
+    ensures { place.new ≡ (if fresh then no_place else place.old) }
 {
     if fresh {
-        *end = None;
+        *place = Place::new();
     }
+}
+
+// Whether one of these transmissions goes on with the round that a process is in.
+//
+// Asked behind each transmission of a schedule, it looks at each one no more than once for a process, since it stops at
+// the next one of the process.
+fn goes_on(process: u32, later: &[Transmission]) -> bool
+    ensures { result ≡ goes_on process later.now }
+{
+    for transmission in later {
+        if transmission.process == process {
+            return !transmission.fresh;
+        }
+    }
+    false
 }
 
 // Writes the line of the round that a process is in after these transmissions, and counts it, if it is in one.
@@ -97,7 +117,7 @@ fn end_round<O: Sink>(
     senders: &[Sender],
     before: &[Transmission],
     process: u32,
-    end: &Option<End>,
+    place: &Place,
     totals: Totals,
     out: &mut O,
 ) -> Result<Totals, RunFault>
@@ -105,7 +125,7 @@ fn end_round<O: Sink>(
     requires linked { All (λ sender. IsLink sender.link) senders.now }
     requires named { All (HasBlock (length senders.now)) before.now }
     requires few { IsWithin 65535 totals }
-    requires held { HoldsRound senders.now (round_of process before.now) end.now }
+    requires held { HoldsRound false senders.now (round_of process before.now) place.now }
     ensures text { Writes (O.written out.old) (O.written out.new) result
         (round_lines run_words senders.now process (round_of process before.now)) }
     ensures totals { IfOk result
@@ -117,8 +137,8 @@ fn end_round<O: Sink>(
         None => Ok(totals),
         Some(number) => {
             let sender = &senders[number as usize - 1];
-            put_line(out, round_line(alloc, process, number, sender, end))?;
-            Ok(counted(totals, sender, end))
+            put_line(out, round_line(alloc, process, number, sender, &place.kept))?;
+            Ok(counted(totals, sender, &place.kept))
         }
     }
 }

@@ -13,7 +13,7 @@ ghost use Rattle.nr_files.specs.Schedule.{HasBlock};
 
 use crate::inputs::Inputs;
 use crate::over_files::{Text, over_files};
-use crate::received::{End, sum_up};
+use crate::received::{Place, sum_up};
 use crate::run_lines::{last_line, outcome_line};
 use crate::run_rounds::RunRounds;
 use crate::walking::{end_all, follow};
@@ -30,7 +30,8 @@ use std::alloc::Global;
 ///
 /// The four files are read to their ends and judged whole, in the order of the parameters, and then every transport
 /// block, before the first put. Then each line is written as soon as it is made. Each block is encoded once; a
-/// receiver is made at the first transmission of its block that is not refused, and kept.
+/// receiver is made at the first transmission of its block, or of its process's round, that is not refused, and let go
+/// behind the last: so a schedule that goes block by block holds one at a time.
 ///
 /// # Errors
 /// In this order: `Table`, `Settings`, `Blocks`, `Schedule`, the first fault of a file; `Desk`, the first transport
@@ -77,7 +78,7 @@ impl Text for RunCommand {
         if by_process {
             write_rounds(alloc, inputs, senders, &mut rounds, out)
         } else {
-            write_blocks(alloc, senders, &rounds.ends[1..], out)
+            write_blocks(alloc, senders, &rounds.places[1..], out)
         }
     }
 }
@@ -107,10 +108,10 @@ fn write_rounds<'t, O: Sink>(
         senders.now }
     requires named { All (HasBlock (length senders.now)) inputs.now.schedule.transmissions.items }
     requires few { length inputs.now.schedule.transmissions.items ≤ 4096 }
-    requires long { length rounds.old.ends.items ≡ 16 }
-    requires kept { KeepsRounds senders.now inputs.now.schedule.transmissions.items
+    requires long { length rounds.old.places.items ≡ 16 }
+    requires kept { KeepsRounds senders.now inputs.now.schedule.transmissions.items []
         (ended_rounds [] inputs.now.schedule.transmissions.items)
-        rounds.old.ends.items rounds.old.totals }
+        rounds.old.places.items rounds.old.totals }
     ensures text { Writes (O.written out.old) (O.written out.new) result
         (run_ends true senders.now inputs.now.schedule.transmissions.items) }
     ensures put { FailsAs RunFault.Write result (O.failures out.old) (O.failures out.new) }
@@ -123,41 +124,44 @@ fn write_rounds<'t, O: Sink>(
 fn write_blocks<O: Sink>(
     alloc: Global,
     senders: &[Sender],
-    ends: &[Option<End>],
+    places: &[Place],
     out: &mut O,
 ) -> Result<(), RunFault>
     requires puts { O.failures out.old < 2 ^ 32 }
     requires few { length senders.now ≤ 256 }
-    requires long { length ends.now ≡ length senders.now }
+    requires long { length places.now ≡ length senders.now }
     requires linked { All (λ sender. IsLink sender.link) senders.now }
-    ensures text { (schedule : List Transmission) → AllHold senders.now schedule ends.now
+    ensures text { (schedule : List Transmission) → AllHold senders.now schedule places.now
         → Writes (O.written out.old) (O.written out.new) result
         (run_ends false senders.now schedule) }
     ensures put { FailsAs RunFault.Write result (O.failures out.old) (O.failures out.new) }
 {
-    write_outcomes(alloc, senders, ends, out)?;
-    put_line(out, last_line(alloc, "blocks", &sum_up(senders, ends)))
+    write_outcomes(alloc, senders, places, out)?;
+    put_line(out, last_line(alloc, "blocks", &sum_up(senders, places)))
 }
 
-// Writes the line of each transport block, by what its end has received.
+// Writes the line of each transport block, by what is kept at its place.
 fn write_outcomes<O: Sink>(
     alloc: Global,
     senders: &[Sender],
-    ends: &[Option<End>],
+    places: &[Place],
     out: &mut O,
 ) -> Result<(), RunFault>
     requires puts { O.failures out.old < 2 ^ 32 }
     requires few { length senders.now ≤ 256 }
-    requires long { length ends.now ≡ length senders.now }
+    requires long { length places.now ≡ length senders.now }
     requires linked { All (λ sender. IsLink sender.link) senders.now }
-    ensures text { (schedule : List Transmission) → AllHold senders.now schedule ends.now
+    ensures text { (schedule : List Transmission) → AllHold senders.now schedule places.now
         → Writes (O.written out.old) (O.written out.new) result
         (outcome_lines 1 senders.now schedule) }
     ensures put { FailsAs RunFault.Write result (O.failures out.old) (O.failures out.new) }
 {
     for (index, sender) in senders.iter().enumerate() {
         let number = index as u32 + 1;
-        put_line(out, outcome_line(alloc, number, sender, &ends[index]))?;
+        put_line(
+            out,
+            outcome_line(alloc, number, sender, &places[index].kept),
+        )?;
     }
     Ok(())
 }

@@ -1,14 +1,14 @@
 //! How a command follows a schedule by its HARQ processes: each transmission in its turn, behind the round that it ends,
 //! and at last the rounds that none ends.
 
-ghost use Rattle.std.specs.Prelude.{All, List, OnOk, [], ◌∷◌, ◌++◌, if◌then◌else◌, length, ℕ, ◌<◌, ◌^◌, ◌≡◌, ◌≤◌};
+ghost use Rattle.std.specs.Prelude.{All, List, OnOk, [], ◌∷◌, ◌++◌, false, if◌then◌else◌, length, ℕ, ◌<◌, ◌^◌, ◌≡◌, ◌≤◌};
 ghost use Rattle.nr_blockdesk.specs.Sent.{Sending};
 ghost use Rattle.nr_commands.specs.Command.{Writes};
 ghost use Rattle.nr_files.specs.Reading.{FailsAs};
 ghost use Rattle.nr_files.specs.Rounds.{all_rounds, continued, ended_by, ended_rounds, round_of};
 ghost use Rattle.nr_files.specs.Schedule.{HasBlock};
 ghost use Rattle.nr_files.specs.declared.schedule.Transmission.{Transmission};
-ghost use Rattle.nr_linkcommands.specs.Ends.{AreOfRounds, IsLinked, IsOfRound};
+ghost use Rattle.nr_linkcommands.specs.Ends.{AreOfRounds, IsLinked, IsOfRound, goes_on};
 ghost use Rattle.nr_linkcommands.specs.RoundTexts.{Words, last_rounds, pieces_joined, round_lines, said_if, sender_of, turns};
 
 use crate::inputs::Inputs;
@@ -22,8 +22,9 @@ pub(crate) trait Walk<'t> {
     /// What the command says.
     ghost words: { Words };
 
-    /// What is kept of senders after these transmissions, of which so many rounds have ended.
-    ghost Keeps: { Self → List Sending → List Transmission → List (List Transmission) → Type 0 };
+    /// What is kept of senders between these transmissions and those later, of which these rounds have ended.
+    ghost Keeps: { Self → List Sending → List Transmission → List Transmission
+        → List (List Transmission) → Type 0 };
 
     /// How many processes there is a place for.
     ghost places: { Self → ℕ };
@@ -46,17 +47,20 @@ pub(crate) trait Walk<'t> {
             senders.now }
         requires named { All (HasBlock (length senders.now)) before.now }
         requires placed { process < places self.old }
-        requires kept { (ended : List (List Transmission)) × (length ended ≤ 65535)
-            × Keeps self.old senders.now before.now ended }
+        requires kept { (later : List Transmission) × (ended : List (List Transmission))
+            × (length ended ≤ 65535) × (goes_on process later ≡ false)
+            × Keeps self.old senders.now before.now later ended }
         ensures text { Writes (O.written out.old) (O.written out.new) result
             (round_lines words senders.now process (round_of process before.now)) }
-        ensures kept { OnOk result ((ended : List (List Transmission))
-            → Keeps self.old senders.now before.now ended
-            → Keeps self.new senders.now before.now (ended ++ round_of process before.now ∷ [])) }
+        ensures kept { OnOk result ((later : List Transmission) (ended : List (List Transmission))
+            → Keeps self.old senders.now before.now later ended
+            → Keeps self.new senders.now before.now later
+            (ended ++ round_of process before.now ∷ [])) }
         ensures places { OnOk result (places self.new ≡ places self.old) }
         ensures put { FailsAs RunFault.Write result (O.failures out.old) (O.failures out.new) };
 
-    /// Makes a transmission, which goes on with the round of its process or begins it, and writes its lines.
+    /// Makes a transmission, which goes on with the round of its process or begins it, and writes its lines. Those
+    /// later say which rounds go on.
     ///
     /// # Errors
     /// `Write` where a put failed, and `Memory` where a growth is refused: then a first part of the lines is written.
@@ -66,6 +70,7 @@ pub(crate) trait Walk<'t> {
         inputs: &'t Inputs,
         senders: &[Sender],
         transmission: &Transmission,
+        later: &[Transmission],
         out: &mut O,
     ) -> Result<(), RunFault>
         requires puts { O.failures out.old < 2 ^ 32 }
@@ -75,17 +80,17 @@ pub(crate) trait Walk<'t> {
         requires placed { transmission.now.process < places self.old }
         requires kept { (before : List Transmission) × (ended : List (List Transmission))
             × (length before ≤ 4096) × IsOfRound (continued before transmission.now) transmission.now
-            × Keeps self.old senders.now before ended }
+            × Keeps self.old senders.now before (transmission.now ∷ later.now) ended }
         ensures text { (before : List Transmission) (ended : List (List Transmission))
             → IsOfRound (continued before transmission.now) transmission.now
-            → Keeps self.old senders.now before ended
+            → Keeps self.old senders.now before (transmission.now ∷ later.now) ended
             → Writes (O.written out.old) (O.written out.new) result
             (said_if words (sender_of senders.now transmission.now)
             (continued before transmission.now) transmission.now) }
         ensures kept { OnOk result ((before : List Transmission) (ended : List (List Transmission))
             → IsOfRound (continued before transmission.now) transmission.now
-            → Keeps self.old senders.now before ended
-            → Keeps self.new senders.now (before ++ transmission.now ∷ []) ended) }
+            → Keeps self.old senders.now before (transmission.now ∷ later.now) ended
+            → Keeps self.new senders.now (before ++ transmission.now ∷ []) later.now ended) }
         ensures places { OnOk result (places self.new ≡ places self.old) }
         ensures put { FailsAs RunFault.Write result (O.failures out.old) (O.failures out.new) };
 }
@@ -109,11 +114,11 @@ pub(crate) fn follow<'t, W: Walk<'t>, O: Sink>(
     requires placed { All (λ x. x.process < W.places walk.old)
         inputs.now.schedule.transmissions.items }
     requires rounds { AreOfRounds inputs.now.schedule.transmissions.items }
-    requires nothing { W.Keeps walk.old senders.now [] [] }
+    requires nothing { W.Keeps walk.old senders.now [] inputs.now.schedule.transmissions.items [] }
     ensures text { Writes (O.written out.old) (O.written out.new) result
         (pieces_joined (turns W.words senders.now [] inputs.now.schedule.transmissions.items)) }
     ensures kept { OnOk result
-        (W.Keeps walk.new senders.now inputs.now.schedule.transmissions.items
+        (W.Keeps walk.new senders.now inputs.now.schedule.transmissions.items []
         (ended_rounds [] inputs.now.schedule.transmissions.items)) }
     ensures places { OnOk result (W.places walk.new ≡ W.places walk.old) }
     ensures put { FailsAs RunFault.Write result (O.failures out.old) (O.failures out.new) }
@@ -122,7 +127,14 @@ pub(crate) fn follow<'t, W: Walk<'t>, O: Sink>(
     for (index, transmission) in schedule.iter().enumerate() {
         let before = &schedule[..index];
         end_before(alloc, inputs, senders, before, transmission, walk, out)?;
-        walk.make(alloc, inputs, senders, transmission, out)?;
+        walk.make(
+            alloc,
+            inputs,
+            senders,
+            transmission,
+            &schedule[index + 1..],
+            out,
+        )?;
     }
     Ok(())
 }
@@ -142,16 +154,17 @@ fn end_before<'t, W: Walk<'t>, O: Sink>(
         senders.now }
     requires named { All (HasBlock (length senders.now)) before.now }
     requires placed { transmission.now.process < W.places walk.old }
-    requires kept { (ended : List (List Transmission)) × (length ended ≤ 65535)
-        × W.Keeps walk.old senders.now before.now ended }
+    requires kept { (later : List Transmission) × (ended : List (List Transmission))
+        × (length ended ≤ 65535)
+        × W.Keeps walk.old senders.now before.now (transmission.now ∷ later) ended }
     ensures text { Writes (O.written out.old) (O.written out.new) result
         (if transmission.now.fresh
         then round_lines W.words senders.now transmission.now.process
         (round_of transmission.now.process before.now)
         else []) }
-    ensures kept { OnOk result ((ended : List (List Transmission))
-        → W.Keeps walk.old senders.now before.now ended
-        → W.Keeps walk.new senders.now before.now
+    ensures kept { OnOk result ((later : List Transmission) (ended : List (List Transmission))
+        → W.Keeps walk.old senders.now before.now later ended
+        → W.Keeps walk.new senders.now before.now later
         (ended ++ ended_by before.now transmission.now)) }
     ensures places { OnOk result (W.places walk.new ≡ W.places walk.old) }
     ensures put { FailsAs RunFault.Write result (O.failures out.old) (O.failures out.new) }
@@ -179,12 +192,12 @@ pub(crate) fn end_all<'t, W: Walk<'t>, O: Sink>(
     requires named { All (HasBlock (length senders.now)) inputs.now.schedule.transmissions.items }
     requires few { length inputs.now.schedule.transmissions.items ≤ 4096 }
     requires placed { 16 ≤ W.places walk.old }
-    requires kept { W.Keeps walk.old senders.now inputs.now.schedule.transmissions.items
+    requires kept { W.Keeps walk.old senders.now inputs.now.schedule.transmissions.items []
         (ended_rounds [] inputs.now.schedule.transmissions.items) }
     ensures text { Writes (O.written out.old) (O.written out.new) result
         (pieces_joined (last_rounds W.words senders.now inputs.now.schedule.transmissions.items)) }
     ensures kept { OnOk result
-        (W.Keeps walk.new senders.now inputs.now.schedule.transmissions.items
+        (W.Keeps walk.new senders.now inputs.now.schedule.transmissions.items []
         (all_rounds inputs.now.schedule.transmissions.items)) }
     ensures put { FailsAs RunFault.Write result (O.failures out.old) (O.failures out.new) }
 {

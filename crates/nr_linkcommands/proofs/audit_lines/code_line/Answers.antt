@@ -1,4 +1,4 @@
-use Rattle.std.proofs.Common.{ap, ◌∙◌, ◌++◌}
+use Rattle.std.proofs.Common.{ap, ◌++◌}
 use Rattle.nr_linkcommands.proofs.audit_lines.code_line.Goals as goal
 
 pub returns : goal.returns

@@ -19,7 +19,7 @@ loop-index-preserved c =
     let i = c.loop-index.index in
     record {
       so_far = λ schedule held.
-          let holds = holds-at c.args.senders.now schedule c.args.ends.now i c.index-senders-index.result c.index-ends-index.result c.loop-index-test.true c.index-senders-index.is (omega (arith, c.requires.long)) c.index-ends-index.is held in
+          let holds = holds-at c.args.senders.now schedule c.args.places.now i c.index-senders-index.result c.index-places-index.result c.loop-index-test.true c.index-senders-index.is (omega (arith, c.requires.long)) held in
           ap (λ (t : Totals). totals_from t (i + 1 + 1) (drop (i + 1) c.args.senders.now) schedule) (c.counted-totals.ensures.value _ holds)
           ∙ sym (totals-turn c.loop-index.totals c.args.senders.now schedule i c.index-senders-index.result c.loop-index-test.true c.index-senders-index.is)
           ∙ c.loop-index.invariant.so_far schedule held;

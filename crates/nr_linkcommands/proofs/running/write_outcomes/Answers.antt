@@ -9,7 +9,7 @@ pub returns-in_err-put_line-clause-text : goal.returns-in_err-put_line-clause-te
 returns-in_err-put_line-clause-text g c = λ schedule held.
     let i = c.loop-index.index in
     let p = err_from_is_err_and c.from_residual.result c.from_residual.ensures.1 in
-    let holds = holds-at c.args.senders.now schedule c.args.ends.now i c.index-senders-index.result c.index-ends-index.result c.loop-index-test.true c.index-senders-index.is (omega (arith, c.requires.long)) c.index-ends-index.is held in
+    let holds = holds-at c.args.senders.now schedule c.args.places.now i c.index-senders-index.result c.index-places-index.result c.loop-index-test.true c.index-senders-index.is (omega (arith, c.requires.long)) held in
     let turn = outcome_lines-turn c.args.senders.now schedule i c.index-senders-index.result c.loop-index-test.true c.index-senders-index.is in
     left-stopped _ _ _ c.from_residual.result p.0 _ _ _ _ p.1 p.2 (rw turn at (c.loop-index.invariant.lines schedule held)) (c.in_err-put_line.ensures.text _ (outcome_line-some _ _ _) (IfOk-weaker c.outcome_line.result _ _ (λ line is. is _ holds) c.outcome_line.ensures))
 
@@ -21,7 +21,7 @@ loop-index-preserved g c =
     let i = c.loop-index.index in
     record {
       lines = λ schedule held.
-          let holds = holds-at c.args.senders.now schedule c.args.ends.now i c.index-senders-index.result c.index-ends-index.result c.loop-index-test.true c.index-senders-index.is (omega (arith, c.requires.long)) c.index-ends-index.is held in
+          let holds = holds-at c.args.senders.now schedule c.args.places.now i c.index-senders-index.result c.index-places-index.result c.loop-index-test.true c.index-senders-index.is (omega (arith, c.requires.long)) held in
           let turn = outcome_lines-turn c.args.senders.now schedule i c.index-senders-index.result c.loop-index-test.true c.index-senders-index.is in
           left-more _ _ _ _ _ _ (rw turn at (c.loop-index.invariant.lines schedule held)) (c.in_ok-put_line.ensures.text _ (outcome_line-some _ _ _) (IfOk-weaker c.outcome_line.result _ _ (λ line is. is _ holds) c.outcome_line.ensures));
       sound = c.in_ok-put_line.ensures.put ∙ c.loop-index.invariant.sound;

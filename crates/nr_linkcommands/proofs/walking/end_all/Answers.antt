@@ -1,4 +1,4 @@
-use Rattle.std.proofs.Common.{◌≡◌, ◌+◌, ◌-◌, ◌<◌, ◌≤◌, ◌++◌, [], List, ℕ, flat_map, length, map, ap, refl, sym, subst, ◌∙◌, arith, length-append}
+use Rattle.std.proofs.Common.{◌≡◌, ◌+◌, ◌-◌, ◌<◌, ◌++◌, [], List, ℕ, flat_map, length, map, ap, refl, sym, subst, ◌∙◌, arith, length-append}
 use Rattle.std.specs.List.{range_with_len}
 use Rattle.std.proofs.lemmas.List.{append-nil}
 use Rattle.std.proofs.lemmas.List.FromFn.{length-map-range_with_len}
@@ -16,7 +16,7 @@ use Rattle.nr_linkcommands.proofs.walking.end_all.Goals as goal
 pub loop-process-init : goal.loop-process-init
 loop-process-init g c = record {
   written = sym (with_text-nil (g.O.Sink.written c.args.out.now));
-  kept = subst (λ (rounds : List (List Transmission)). g.W.Walk.Keeps c.args.walk.now c.args.senders.now c.args.inputs.now.schedule.transmissions.items rounds)
+  kept = subst (λ (rounds : List (List Transmission)). g.W.Walk.Keeps c.args.walk.now c.args.senders.now c.args.inputs.now.schedule.transmissions.items [] rounds)
       (sym (append-nil (ended_rounds [] c.args.inputs.now.schedule.transmissions.items))) c.requires.kept;
   places = refl;
   sound = refl;
@@ -28,7 +28,7 @@ end_round-requires g c =
     let p = c.loop-process.process in
     let rounds : List (List Transmission) = map (λ q. round_of q schedule) (range_with_len 0 p) in
     let few : length rounds ≡ p = length-map-range_with_len (λ q. round_of q schedule) 0 p in
-    λ k. ((refl, tt), (omega (arith, c.requires.puts, c.loop-process.invariant.sound), (c.requires.linked, (rw c.as_slice-schedule.ensures.value c.requires.named, (omega (arith, c.loop-process-test.true, c.loop-process.invariant.places, c.requires.placed), rw c.as_slice-schedule.ensures.value (ended_rounds [] schedule ++ rounds, omega (arith, few, ended-few [] schedule, length-append (ended_rounds [] schedule) rounds, c.requires.few, c.loop-process-test.true), c.loop-process.invariant.kept))))))
+    λ k. ((refl, tt), (omega (arith, c.requires.puts, c.loop-process.invariant.sound), (c.requires.linked, (rw c.as_slice-schedule.ensures.value c.requires.named, (omega (arith, c.loop-process-test.true, c.loop-process.invariant.places, c.requires.placed), rw c.as_slice-schedule.ensures.value ([], ended_rounds [] schedule ++ rounds, omega (arith, few, ended-few [] schedule, length-append (ended_rounds [] schedule) rounds, c.requires.few, c.loop-process-test.true), refl, c.loop-process.invariant.kept))))))
 
 pub returns-in_err-end_round-clause-text : goal.returns-in_err-end_round-clause-text
 returns-in_err-end_round-clause-text g c =
@@ -50,8 +50,8 @@ loop-process-preserved g c =
       written = (rw c.as_slice-schedule.ensures.value at c.in_ok-end_round.ensures.text) ∙ ap (λ w. with_text w (lines p)) c.loop-process.invariant.written
           ∙ with_text-append _ (flat_map lines (range_with_len 0 p)) (lines p)
           ∙ ap (λ text. with_text (g.O.Sink.written c.args.out.now) text) (flat_map-range_more lines [] p);
-      kept = subst (λ (rounds : List (List Transmission)). g.W.Walk.Keeps c.end_round.new.self c.args.senders.now schedule rounds) (last-more (ended_rounds [] schedule) schedule p)
-          ((rw c.as_slice-schedule.ensures.value at c.in_ok-end_round.ensures.kept) ended c.loop-process.invariant.kept);
+      kept = subst (λ (rounds : List (List Transmission)). g.W.Walk.Keeps c.end_round.new.self c.args.senders.now schedule [] rounds) (last-more (ended_rounds [] schedule) schedule p)
+          ((rw c.as_slice-schedule.ensures.value at c.in_ok-end_round.ensures.kept) [] ended c.loop-process.invariant.kept);
       places = c.in_ok-end_round.ensures.places ∙ c.loop-process.invariant.places;
       sound = c.in_ok-end_round.ensures.put ∙ c.loop-process.invariant.sound;
     }

@@ -1,6 +1,4 @@
-use Rattle.std.proofs.Common.{◌≡◌, ◌++◌, [], List, true, false, sym, subst, arith}
-use Rattle.std.proofs.lemmas.List.{append-nil}
-use Rattle.nr_files.specs.declared.schedule.Transmission.{Transmission}
+use Rattle.std.proofs.Common.{◌≡◌, true}
 use Rattle.nr_linkcommands.proofs.walking.end_before.Goals as goal
 
 pub returns-clause-text : goal.returns-clause-text

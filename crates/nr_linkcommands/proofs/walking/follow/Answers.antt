@@ -6,7 +6,7 @@ use Rattle.nr_files.specs.Rounds.{ended_by, ended_rounds}
 use Rattle.nr_files.specs.Schedule.{HasBlock}
 use Rattle.nr_files.specs.declared.schedule.Transmission.{Transmission}
 use Rattle.nr_linkcommands.proofs.RoundEnds.{of-continued, turn-parts}
-use Rattle.nr_linkcommands.proofs.RoundTurns.{ended-few, ended-more, taken-more, turns-end}
+use Rattle.nr_linkcommands.proofs.RoundTurns.{all-behind, ended-few, ended-more, left-turn, taken-more, turns-end}
 use Rattle.nr_linkcommands.proofs.RunLines.{all-at}
 use Rattle.nr_linkcommands.proofs.RunTexts.{left-first, left-last, left-more, left-stopped}
 use Rattle.nr_linkcommands.proofs.walking.follow.Goals as goal
@@ -24,7 +24,7 @@ end_before-requires g c =
     let within : i < length xs = rw c.as_slice-schedule.ensures.value at c.loop-index-test.true in
     let at : x ≡ get_or xs i x = rw c.as_slice-schedule.ensures.value at c.index-schedule-index.is in
     let placed = all-at (λ (y : Transmission). y.process < g.W.Walk.places c.args.walk.now) xs i x c.requires.placed within at in
-    λ k. ((refl, tt), (omega (arith, c.requires.puts, c.loop-index.invariant.sound), (c.requires.linked, (rw c.as_slice-schedule.ensures.value (All-take (HasBlock (length senders)) i xs c.requires.named), (omega (arith, placed, c.loop-index.invariant.places), rw c.as_slice-schedule.ensures.value (ended_rounds [] (take i xs), omega (arith, ended-few [] (take i xs), length-take-le i xs (omega (arith, within)), within, c.requires.few), c.loop-index.invariant.kept))))))
+    λ k. ((refl, tt), (omega (arith, c.requires.puts, c.loop-index.invariant.sound), (c.requires.linked, (rw c.as_slice-schedule.ensures.value (All-take (HasBlock (length senders)) i xs c.requires.named), (omega (arith, placed, c.loop-index.invariant.places), rw c.as_slice-schedule.ensures.value (drop (i + 1) xs, ended_rounds [] (take i xs), omega (arith, ended-few [] (take i xs), length-take-le i xs (omega (arith, within)), within, c.requires.few), rw (left-turn xs i x within at) at c.loop-index.invariant.kept))))))
 
 pub make-requires : goal.make-requires
 make-requires g c =
@@ -36,9 +36,9 @@ make-requires g c =
     let at : x ≡ get_or xs i x = rw c.as_slice-schedule.ensures.value at c.index-schedule-index.is in
     let ended : List (List Transmission) = ended_rounds [] (take i xs) ++ ended_by (take i xs) x in
     let of = of-continued (take i xs) x (c.requires.rounds i x within at) in
-    let keeps = rw c.as_slice-schedule.ensures.value at c.in_ok-end_before.ensures.kept (ended_rounds [] (take i xs)) c.loop-index.invariant.kept in
+    let keeps = (rw c.as_slice-schedule.ensures.value at c.in_ok-end_before.ensures.kept) (x ∷ drop (i + 1) xs) (ended_rounds [] (take i xs)) (rw (left-turn xs i x within at) at c.loop-index.invariant.kept) in
     let placed = all-at (λ (y : Transmission). y.process < g.W.Walk.places c.args.walk.now) xs i x c.requires.placed within at in
-    λ k. ((refl, tt), (omega (arith, c.requires.puts, c.loop-index.invariant.sound, c.in_ok-end_before.ensures.put), (c.requires.linked, (all-at (HasBlock (length senders)) xs i x c.requires.named within at, (omega (arith, placed, c.loop-index.invariant.places, c.in_ok-end_before.ensures.places), (take i xs, ended, omega (arith, length-take-le i xs (omega (arith, within)), within, c.requires.few), of, keeps))))))
+    λ k. ((refl, tt), (omega (arith, c.requires.puts, c.loop-index.invariant.sound, c.in_ok-end_before.ensures.put), (c.requires.linked, (all-at (HasBlock (length senders)) xs i x c.requires.named within at, (omega (arith, placed, c.loop-index.invariant.places, c.in_ok-end_before.ensures.places), rw (c.as_slice-schedule.ensures.value, all-behind (i + 1) xs) (take i xs, ended, omega (arith, length-take-le i xs (omega (arith, within)), within, c.requires.few), of, keeps))))))
 
 pub returns-in_err-end_before-clause-text : goal.returns-in_err-end_before-clause-text
 returns-in_err-end_before-clause-text g c =
@@ -62,12 +62,12 @@ returns-in_err-make-clause-text g c =
     let at : x ≡ get_or xs i x = rw c.as_slice-schedule.ensures.value at c.index-schedule-index.is in
     let ended : List (List Transmission) = ended_rounds [] (take i xs) ++ ended_by (take i xs) x in
     let of = of-continued (take i xs) x (c.requires.rounds i x within at) in
-    let keeps = rw c.as_slice-schedule.ensures.value at c.in_ok-end_before.ensures.kept (ended_rounds [] (take i xs)) c.loop-index.invariant.kept in
+    let keeps = (rw c.as_slice-schedule.ensures.value at c.in_ok-end_before.ensures.kept) (x ∷ drop (i + 1) xs) (ended_rounds [] (take i xs)) (rw (left-turn xs i x within at) at c.loop-index.invariant.kept) in
     let parts = turn-parts g.W.Walk.words senders xs i x within at in
     let before = rw c.as_slice-schedule.ensures.value at c.in_ok-end_before.ensures.text in
     let p = err_from_is_err_and c.from_residual-in_err-make.result c.from_residual-in_err-make.ensures.1 in
     left-stopped _ _ _ c.from_residual-in_err-make.result p.0 _ _ _ _ p.1 p.2
-    (left-more _ _ _ _ _ _ (rw parts at c.loop-index.invariant.lines) before) (c.in_err-make.ensures.text (take i xs) ended of keeps)
+    (left-more _ _ _ _ _ _ (rw parts at c.loop-index.invariant.lines) before) ((rw (c.as_slice-schedule.ensures.value, all-behind (i + 1) xs) at c.in_err-make.ensures.text) (take i xs) ended of keeps)
 
 pub loop-index-preserved : goal.loop-index-preserved
 loop-index-preserved g c =
@@ -79,14 +79,15 @@ loop-index-preserved g c =
     let at : x ≡ get_or xs i x = rw c.as_slice-schedule.ensures.value at c.index-schedule-index.is in
     let ended : List (List Transmission) = ended_rounds [] (take i xs) ++ ended_by (take i xs) x in
     let of = of-continued (take i xs) x (c.requires.rounds i x within at) in
-    let keeps = rw c.as_slice-schedule.ensures.value at c.in_ok-end_before.ensures.kept (ended_rounds [] (take i xs)) c.loop-index.invariant.kept in
+    let keeps = (rw c.as_slice-schedule.ensures.value at c.in_ok-end_before.ensures.kept) (x ∷ drop (i + 1) xs) (ended_rounds [] (take i xs)) (rw (left-turn xs i x within at) at c.loop-index.invariant.kept) in
     let parts = turn-parts g.W.Walk.words senders xs i x within at in
     let before = rw c.as_slice-schedule.ensures.value at c.in_ok-end_before.ensures.text in
-    let kept = c.in_ok-make.ensures.kept (take i xs) ended of keeps in
+    let kept = (rw (c.as_slice-schedule.ensures.value, all-behind (i + 1) xs) at c.in_ok-make.ensures.kept) (take i xs) ended of keeps in
+    let made = (rw (c.as_slice-schedule.ensures.value, all-behind (i + 1) xs) at c.in_ok-make.ensures.text) (take i xs) ended of keeps in
     record {
-      lines = left-more _ _ _ _ _ _ (left-more _ _ _ _ _ _ (rw parts at c.loop-index.invariant.lines) before) (c.in_ok-make.ensures.text (take i xs) ended of keeps);
-      kept = subst (λ (ys : List Transmission). g.W.Walk.Keeps c.make.new.self senders ys (ended_rounds [] ys)) (sym (taken-more xs i x within at))
-          (subst (λ (rounds : List (List Transmission)). g.W.Walk.Keeps c.make.new.self senders (take i xs ++ x ∷ []) rounds) (sym (ended-more (take i xs) x)) kept);
+      lines = left-more _ _ _ _ _ _ (left-more _ _ _ _ _ _ (rw parts at c.loop-index.invariant.lines) before) made;
+      kept = subst (λ (ys : List Transmission). g.W.Walk.Keeps c.make.new.self senders ys (drop (i + 1) xs) (ended_rounds [] ys)) (sym (taken-more xs i x within at))
+          (subst (λ (rounds : List (List Transmission)). g.W.Walk.Keeps c.make.new.self senders (take i xs ++ x ∷ []) (drop (i + 1) xs) rounds) (sym (ended-more (take i xs) x)) kept);
       places = c.in_ok-make.ensures.places ∙ c.in_ok-end_before.ensures.places ∙ c.loop-index.invariant.places;
       sound = c.in_ok-make.ensures.put ∙ c.in_ok-end_before.ensures.put ∙ c.loop-index.invariant.sound;
     }

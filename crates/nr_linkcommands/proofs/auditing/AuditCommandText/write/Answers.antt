@@ -1,4 +1,4 @@
-use Rattle.std.proofs.Common.{◌≡◌, true, false}
+use Rattle.std.proofs.Common.{◌≡◌, true}
 use Rattle.nr_linkcommands.proofs.auditing.AuditCommandText.write.Goals as goal
 
 pub returns-then-inputs-clause-text : goal.returns-then-inputs-clause-text

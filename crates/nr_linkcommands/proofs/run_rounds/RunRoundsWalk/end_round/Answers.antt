@@ -1,28 +1,26 @@
-use Rattle.std.proofs.Common.{◌≡◌, ◌+◌, ◌++◌, ◌∷◌, [], List, length, ap, sym, subst, ◌∙◌, arith, length-append}
-use Rattle.std.proofs.lemmas.List.{append-nil}
-use Rattle.std.proofs.lemmas.Result.{err_from_is_err_and}
+use Rattle.std.proofs.Common.{◌+◌, ◌++◌, ◌∷◌, [], length, ap, sym, subst, ◌∙◌, arith, length-append}
 use Rattle.nr_files.specs.Rounds.{round_of}
-use Rattle.nr_files.specs.declared.schedule.Transmission.{Transmission}
-use Rattle.nr_linkcommands.specs.Ends.{IsWithin}
-use Rattle.nr_linkcommands.specs.RunText.{no_totals, round_counted, rounds_counted}
+use Rattle.nr_linkcommands.specs.Ends.{HoldsRound}
+use Rattle.nr_linkcommands.specs.RunText.{no_totals, round_counted}
 use Rattle.nr_linkcommands.specs.declared.received.Totals.{Totals}
 use Rattle.nr_linkcommands.proofs.LastRounds.{holds-round}
 use Rattle.nr_linkcommands.proofs.RoundTurns.{counted-more}
 use Rattle.nr_linkcommands.proofs.RunOutcomes.{within-more}
-use Rattle.nr_commands.proofs.WrittenLemmas.{with_text-nil, writes_behind}
 use Rattle.nr_linkcommands.proofs.run_rounds.RunRoundsWalk.end_round.Goals as goal
 
 pub end_round-requires-clause-few : goal.end_round-requires-clause-few
 end_round-requires-clause-few g c =
     let kept = c.requires.kept in
-    within-more (length kept.0) 65535 c.args.self.now.totals kept.1 kept.2.within
+    within-more (length kept.1) 65535 c.args.self.now.totals kept.2 kept.4.within
 
 pub end_round-requires-clause-held : goal.end_round-requires-clause-held
 end_round-requires-clause-held g c =
-    holds-round c.args.senders.now c.args.before.now c.args.self.now.ends.items c.args.process c.index-end.result.now c.requires.placed c.index-end.ensures c.requires.kept.2.held
+    let kept = c.requires.kept in
+    subst (λ b. HoldsRound b c.args.senders.now (round_of c.args.process c.args.before.now) c.index-place.result.now) kept.3
+    (holds-round c.args.senders.now c.args.before.now kept.0 c.args.self.now.places.items c.args.process c.index-place.result.now c.requires.placed c.index-place.ensures kept.4.held)
 
 pub returns-clause-kept : goal.returns-clause-kept
-returns-clause-kept g c = λ ended keeps.
+returns-clause-kept g c = λ later ended keeps.
     let round = round_of c.args.process c.args.before.now in
     record {
       held = keeps.held;

@@ -1,13 +1,12 @@
-use Rattle.std.proofs.Common.{◌≡◌, ◌+◌, [], All, None, Option, cond, false, true, length, ap, sym, refl, subst, ◌∙◌, arith}
+use Rattle.std.proofs.Common.{◌≡◌, ◌+◌, [], All, cond, false, true, length, ap, sym, refl, subst, ◌∙◌, arith}
 use Rattle.std.proofs.lemmas.List.{length-replicate}
 use Rattle.std.proofs.lemmas.Result.{err_from_is_err_and}
-use Rattle.nr_blockdesk.specs.Sent.{Sending}
-use Rattle.nr_linkcommands.specs.Ends.{HoldRounds}
+use Rattle.nr_linkcommands.specs.Ends.{HoldRounds, no_place}
 use Rattle.nr_linkcommands.specs.RunText.{rounds_counted, run_ends, run_words}
 use Rattle.nr_linkcommands.specs.RoundTexts.{pieces_joined, turns}
 use Rattle.nr_files.specs.Rounds.{IsOfBlock}
 use Rattle.nr_files.specs.Schedule.{timetable_by}
-use Rattle.nr_linkcommands.specs.declared.received.End.{End}
+use Rattle.nr_linkcommands.specs.declared.received.Place.{Place}
 use Rattle.nr_linkcommands.proofs.RoundEnds.{rounds-first}
 use Rattle.nr_linkcommands.proofs.RunOutcomes.{none-within, text_of_run-some}
 use Rattle.nr_linkcommands.proofs.Timetables.{blocks-hold, placed-in, timetable-of_rounds}
@@ -23,9 +22,9 @@ pub follow-requires : goal.follow-requires
 unfolding rounds_counted
 follow-requires g c =
     let schedule = c.args.inputs.now.schedule in
-    let count : length c.in_ok-rounds.rounds.ends.items ≡ cond schedule.by_process 16 (length c.args.senders.now + 1) =
-    ap length c.in_ok-rounds.ensures.ends ∙ length-replicate {A = Option End} c.places.result None ∙ c.places.ensures in
-    λ k. ((refl, tt), (c.requires.puts, (c.requires.linked, (c.requires.timetable.named, (c.requires.timetable.few, (placed-in schedule.by_process (length c.args.senders.now) _ schedule.transmissions.items c.requires.timetable.placed c.requires.timetable.named count, (timetable-of_rounds _ _ c.requires.timetable, record { held = rw c.in_ok-rounds.ensures.ends (rounds-first c.args.senders.now c.places.result); counted = c.in_ok-rounds.ensures.totals; within = rw c.in_ok-rounds.ensures.totals none-within })))))))
+    let count : length c.in_ok-rounds.rounds.places.items ≡ cond schedule.by_process 16 (length c.args.senders.now + 1) =
+    ap length c.in_ok-rounds.ensures.places ∙ length-replicate {A = Place} c.places.result no_place ∙ c.places.ensures in
+    λ k. ((refl, tt), (c.requires.puts, (c.requires.linked, (c.requires.timetable.named, (c.requires.timetable.few, (placed-in schedule.by_process (length c.args.senders.now) _ schedule.transmissions.items c.requires.timetable.placed c.requires.timetable.named count, (timetable-of_rounds _ _ c.requires.timetable, record { held = rw c.in_ok-rounds.ensures.places (rounds-first c.args.senders.now schedule.transmissions.items c.places.result); counted = c.in_ok-rounds.ensures.totals; within = rw c.in_ok-rounds.ensures.totals none-within })))))))
 
 pub returns-in_err-follow-clause-text : goal.returns-in_err-follow-clause-text
 returns-in_err-follow-clause-text g c =
@@ -45,11 +44,11 @@ pub returns-clause-text : goal.returns-clause-text
 returns-clause-text g c =
     let senders = c.args.senders.now in
     let schedule = c.args.inputs.now.schedule.transmissions.items in
-    let ends = c.deref.result.now in
+    let places = c.deref.result.now in
     let all : All IsOfBlock schedule = rw c.if-by_process.false at c.requires.timetable.placed in
     let blocks : c.places.result ≡ length senders + 1 = rw c.if-by_process.false at c.places.ensures in
-    let long : length ends ≡ length senders + 1 =
-    omega (arith, blocks, ap length c.deref.ensures.value, c.in_ok-follow.ensures.places, ap length c.in_ok-rounds.ensures.ends, length-replicate {A = Option End}) in
-    let held : HoldRounds senders schedule ends = subst (HoldRounds senders schedule) (sym c.deref.ensures.value) c.in_ok-follow.ensures.kept.held in
+    let long : length places ≡ length senders + 1 =
+    omega (arith, blocks, ap length c.deref.ensures.value, c.in_ok-follow.ensures.places, ap length c.in_ok-rounds.ensures.places, length-replicate {A = Place}) in
+    let held : HoldRounds senders schedule [] places = subst (HoldRounds senders schedule []) (sym c.deref.ensures.value) c.in_ok-follow.ensures.kept.held in
     rw c.if-by_process.false (writes_last _ _ _ c.write_blocks.result (pieces_joined (turns run_words senders [] schedule)) (run_ends false senders schedule) c.in_ok-follow.ensures.text
-    (c.write_blocks.ensures.text schedule (blocks-hold senders schedule ends all long held)))
+    (c.write_blocks.ensures.text schedule (blocks-hold senders schedule places all long held)))
