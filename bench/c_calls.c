@@ -10,26 +10,32 @@
 
 #include "nr.h"
 
-struct text {
-    uint8_t octets[1 << 16];
+struct table {
+    uint8_t text[1 << 16];
     size_t length;
+    NrEntry entries[512];
+    size_t count;
 };
 
-static struct text practice, drawn;
+static struct table practice, drawn;
 
 /* What the measured call is given. */
-static const struct text *table;
+static struct table *table;
 static const NrSettings settings = {2048, 0};
 static uint8_t block[1024], bits[1 << 16], delivered[1024];
 static size_t octets;
 static NrTx tx;
 static uint32_t answer, left;
 
-static void read_text(const char *path, struct text *to) {
+static uint32_t read_entries(void) { return nr_table_entries(table->text, table->length, table->entries, table->count, &table->count); }
+
+static void read_table(const char *path, struct table *to) {
     FILE *file = fopen(path, "rb");
     if (!file) exit(2);
-    to->length = fread(to->octets, 1, sizeof to->octets, file);
+    to->length = fread(to->text, 1, sizeof to->text, file);
     fclose(file);
+    table = to;
+    if (read_entries() != NR_ROOM || to->count > 512 || read_entries() != NR_OK) exit(2);
 }
 
 static uint32_t plan(void) {
@@ -41,13 +47,13 @@ static uint32_t crc(void) { return nr_crc(NR_CRC24A, block, octets, &answer); }
 
 static uint32_t check_table(void) {
     NrReport report;
-    return nr_table_check(table->octets, table->length, &report);
+    return nr_table_check(table->text, table->length, &report);
 }
 
-static uint32_t send(void) { return nr_send(table->octets, table->length, &settings, block, octets, &tx, bits, tx.g); }
+static uint32_t send(void) { return nr_send(table->entries, table->count, &settings, block, octets, &tx, bits, tx.g); }
 
 static uint32_t receive(void) {
-    return nr_receive(table->octets, table->length, &settings, (uint32_t)(8 * octets), &tx, 1, bits, tx.g, &answer, 1, &left, 1,
+    return nr_receive(table->entries, table->count, &settings, (uint32_t)(8 * octets), &tx, 1, bits, tx.g, &answer, 1, &left, 1,
                       delivered, octets);
 }
 
@@ -71,7 +77,7 @@ static void show(const char *what, uint32_t (*call)(void)) {
 }
 
 /* Measures sending and receiving, without erasures, of a block that goes once at about the code rate a third. */
-static void link_of(const struct text *by, size_t length, const char *name) {
+static void link_of(struct table *by, size_t length, const char *name) {
     char what[80];
     table = by;
     octets = length;
@@ -86,16 +92,18 @@ static void link_of(const struct text *by, size_t length, const char *name) {
 }
 
 int main(void) {
-    read_text("examples/practice.csv", &practice);
-    read_text("examples/drawn.csv", &drawn);
+    read_table("examples/practice.csv", &practice);
+    read_table("examples/drawn.csv", &drawn);
     for (size_t at = 0; at < sizeof block; at++) block[at] = (uint8_t)(37 * at + 1);
     octets = 300;
     show("nr_plan, A = 2400", plan);
     show("nr_crc, 300 octets, gCRC24A", crc);
     table = &practice;
     show("nr_table_check, base graph 2, 105 entries", check_table);
+    show("nr_table_entries, the same", read_entries);
     table = &drawn;
     show("nr_table_check, base graph 1, 316 entries", check_table);
+    show("nr_table_entries, the same", read_entries);
     link_of(&practice, 3, "base graph 2, 105 entries");
     link_of(&drawn, 300, "base graph 1, 316 entries");
     return 0;

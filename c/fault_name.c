@@ -20,6 +20,7 @@ const char *nr_fault_name(uint32_t status) {
     case NR_MISSING_ROW: return "MissingRow";
     case NR_EMPTY: return "Empty";
     case NR_TOO_LONG: return "TooLong";
+    case NR_ENTRIES: return "Entries";
     case NR_SIZE: return "Size";
     case NR_RATE_RANGE: return "RateRange";
     case NR_SIZE_RANGE: return "SizeRange";

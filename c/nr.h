@@ -1,8 +1,9 @@
 /* nr.h: the data coding chain of 5G NR's shared channels (3GPP TS 38.212, Release 15).
 
+   A shift table is read once: nr_table_entries makes of its text entries that the caller keeps, and the other calls take these.
    Each call answers a status: 0, or the number of its first fault, by the lists below. One that answers another number than 0
-   has written nothing (nr_table_check alone writes what is wrong). No call keeps memory, opens a file or starts a thread, and
-   none depends on the calls before it.
+   has written nothing (nr_table_check alone writes what is wrong, and nr_table_entries how many entries want room). No call
+   keeps memory, opens a file or starts a thread, and none depends on the calls before it.
 
    A list is a pointer and then the count of its items. Octets of a transport block are eight bits each, the first bit highest.
    Bits that are sent, and places that are heard, have an octet each.
@@ -22,7 +23,7 @@
 #include <stddef.h>
 #include <stdint.h>
 
-#define NR_VERSION "1.0.0"
+#define NR_VERSION "2.0.0"
 
 #ifdef __cplusplus
 extern "C" {
@@ -48,6 +49,8 @@ enum NrStatus {
     NR_MISSING_ROW = 28,
     NR_EMPTY = 29,
     NR_TOO_LONG = 30,
+    /* of a shift table's entries, beside 26 to 29 */
+    NR_ENTRIES = 31, /* one is outside its base graph, or does not stand past those before it */
     /* of the transport block */
     NR_SIZE = 40,       /* not 8 to 1,310,720 bits in whole octets */
     NR_RATE_RANGE = 41, /* rate2048 is not 1 to 2048 */
@@ -112,9 +115,24 @@ typedef struct NrReport {
 /* Judges the shift table of a text (5.3.2): comma-separated values, a record for each entry of Tables 5.3.2-2 and 5.3.2-3, with
    the base graph, the row, the column and the values of the sets 0 to 7. Writes `out` whether the table is accepted or not,
    but where memory is refused.
-   Faults: TOO_LONG above 4,194,304 octets; record by record CSV, FIELDS, NUMBER, RANGE, TWICE; EMPTY; by base graph CORE,
-   EXTENSION, MISSING_ROW; MEMORY. */
-uint32_t nr_table_check(const uint8_t *table, size_t table_len, NrReport *out);
+   Faults: TOO_LONG above 4,194,304 octets, whatever memory there is; record by record CSV, FIELDS, NUMBER, RANGE, TWICE; EMPTY;
+   by base graph CORE, EXTENSION, MISSING_ROW; MEMORY. */
+uint32_t nr_table_check(const uint8_t *text, size_t text_len, NrReport *out);
+
+/* An entry of a shift table (Tables 5.3.2-2 and 5.3.2-3): 22 octets, without padding. A table is a list of them that ascends: base
+   graph 1 before base graph 2, then by row, then by column, each place once. */
+typedef struct NrEntry {
+    uint16_t graph;     /* the base graph, 1 or 2 */
+    uint16_t row;       /* the row, from 0: below 46 in base graph 1, below 42 in base graph 2 */
+    uint16_t col;       /* the column, from 0: below 68 in base graph 1, below 52 in base graph 2 */
+    uint16_t values[8]; /* the shift value of each set 0 to 7, not reduced by a lifting size */
+} NrEntry;
+
+/* The entries of the shift table of a text, in the order that the calls below take them in, and in `count` how many they are. `out`
+   has room for so many, no more and no fewer; where it has another length, `count` says how many are wanted, and `out` is not
+   written. No table has more than 5,312; those of Tables 5.3.2-2 and 5.3.2-3 have 316 and 197.
+   Faults: as nr_table_check has them; ROOM. With any but ROOM `count` is not written either. */
+uint32_t nr_table_entries(const uint8_t *text, size_t text_len, NrEntry *out, size_t out_len, size_t *count);
 
 /* The plan of a transport block of `a` bits at the code rate rate2048 / 2048 (5.2.2, 6.2.2, 7.2.2). Takes no memory.
    Faults: SIZE, RATE_RANGE, UNEVEN. */
@@ -139,9 +157,9 @@ enum NrFiller { NR_FILLER = 2 };
 
 /* The N bits d that a code block of a transport block of `a` bits is coded into (5.3.2), an octet each: 0, 1, or NR_FILLER, which is
    never sent; `out` has room for N octets. `bits` has its K' bits with its CRC, without fillers, an octet of 0 or 1 each.
-   Faults: of the table as nr_table_check has them; SIZE, RATE_RANGE, UNEVEN, GRAPH; LENGTH, where `bits` does not have K'
-   octets; BIT; ROOM; MEMORY, where it is met. */
-uint32_t nr_codeword(const uint8_t *table, size_t table_len, uint32_t rate2048, uint32_t a, const uint8_t *bits, size_t bits_len,
+   Faults: ENTRIES, whatever memory there is; EMPTY; by base graph CORE, EXTENSION, MISSING_ROW; SIZE, RATE_RANGE, UNEVEN, GRAPH;
+   LENGTH, where `bits` does not have K' octets; BIT; ROOM; MEMORY, where it is met. */
+uint32_t nr_codeword(const NrEntry *table, size_t table_len, uint32_t rate2048, uint32_t a, const uint8_t *bits, size_t bits_len,
                      uint8_t *out, size_t out_len);
 
 enum NrPoly { NR_CRC24A = 0, NR_CRC24B = 1, NR_CRC16 = 2 };
@@ -152,9 +170,9 @@ uint32_t nr_crc(uint32_t poly, const uint8_t *octets, size_t octets_len, uint32_
 
 /* The G bits, 0 or 1, that a transmission sends of a transport block (6.2, 7.2): with CRC, cut, encoded by the shift table
    (5.3.2), rate matched, interleaved and joined (5.4.2, 5.5). `out` has room for tx->g octets, no more and no fewer.
-   Faults: of the table as nr_table_check has them; SIZE, RATE_RANGE, UNEVEN, GRAPH, NO_BUFFER; RV, ORDER, LAYERS, TOTAL, RAGGED,
+   Faults: of the table as nr_codeword has them; SIZE, RATE_RANGE, UNEVEN, GRAPH, NO_BUFFER; RV, ORDER, LAYERS, TOTAL, RAGGED,
    NONE_SCHEDULED; ROOM; MEMORY, where it is met. */
-uint32_t nr_send(const uint8_t *table, size_t table_len, const NrSettings *settings, const uint8_t *block, size_t block_len,
+uint32_t nr_send(const NrEntry *table, size_t table_len, const NrSettings *settings, const uint8_t *block, size_t block_len,
                  const NrTx *tx, uint8_t *out, size_t out_len);
 
 /* What a place says was heard: a bit 0, a bit 1, or nothing (as any number above 1). */
@@ -169,10 +187,10 @@ enum NrOutcome { NR_OPEN = 0, NR_DELIVERED = 1, NR_CONTRADICTION = 2 };
    `outcomes` has room for txs_len numbers, each the NrOutcome of its transmission and those before it. `left` has room for C
    numbers: how many of the K' bits of each code block are not fixed after the last transmission. Where the last outcome is
    NR_DELIVERED, `block` has room for a / 8 octets, which are written; else it is not written.
-   Faults: MANY; of the table as nr_table_check has them; SIZE, RATE_RANGE, UNEVEN, GRAPH, NO_BUFFER; for each transmission in
-   turn LENGTH, where fewer than g octets are left, RV, ORDER, LAYERS, TOTAL, RAGGED, NONE_SCHEDULED; LENGTH, where octets are
-   left over; ROOM; MEMORY, where it is met. */
-uint32_t nr_receive(const uint8_t *table, size_t table_len, const NrSettings *settings, uint32_t a, const NrTx *txs,
+   Faults: MANY, whatever memory there is; of the table as nr_codeword has them; SIZE, RATE_RANGE, UNEVEN, GRAPH, NO_BUFFER; for
+   each transmission in turn LENGTH, where fewer than g octets are left, RV, ORDER, LAYERS, TOTAL, RAGGED, NONE_SCHEDULED;
+   LENGTH, where octets are left over; ROOM; MEMORY, where it is met. */
+uint32_t nr_receive(const NrEntry *table, size_t table_len, const NrSettings *settings, uint32_t a, const NrTx *txs,
                     size_t txs_len, const uint8_t *heard, size_t heard_len, uint32_t *outcomes, size_t outcomes_len,
                     uint32_t *left, size_t left_len, uint8_t *block, size_t block_len);
 

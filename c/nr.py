@@ -1,8 +1,8 @@
-"""The data coding chain of 5G NR's shared channels (3GPP TS 38.212, Release 15), by the library libnr.so.1 (nr.h).
+"""The data coding chain of 5G NR's shared channels (3GPP TS 38.212, Release 15), by the library libnr.so.2 (nr.h).
 
     import nr
 
-    table = open("table.csv", "rb").read()           # the text of a shift table: docs/formats.md
+    table = nr.Table(open("table.csv", "rb").read())  # a shift table, read once: docs/formats.md
     tx = nr.Tx(g=300, qm=2)
     bits = nr.send(table, b"123456789", tx, rate2048=2048)
     answer = nr.receive(table, 72, [(tx, bits)], rate2048=2048)
@@ -13,7 +13,7 @@ arrays of uint8, int8 or bool; or a list of numbers from 0 to 255. What a call g
 numpy.frombuffer(.., numpy.uint8) makes an array without a copy; send() also writes into a room of yours. A call that is refused
 raises Fault, and has written nothing. The calls let other threads run, so a buffer must not change while one reads it.
 
-The library is the one that the environment's NR_LIBRARY names; else out/libnr.so.1 beside this file, ../../lib/libnr.so.1 from
+The library is the one that the environment's NR_LIBRARY names; else out/libnr.so.2 beside this file, ../../lib/libnr.so.2 from
 here, as `make install` puts it, or what the system's loader finds.
 """
 
@@ -24,8 +24,8 @@ import os
 import pathlib
 import typing
 
-__all__ = ["Buffer", "CRC16", "CRC24A", "CRC24B", "ERASED", "FILLER", "Fault", "Outcome", "Plan", "Received", "Report", "Tx", "buffer",
-           "check_table", "codeword", "crc", "fault_name", "lengths", "plan", "receive", "send"]
+__all__ = ["Buffer", "CRC16", "CRC24A", "CRC24B", "ERASED", "FILLER", "Fault", "Outcome", "Plan", "Received", "Report", "Table", "Tx",
+           "buffer", "check_table", "codeword", "crc", "fault_name", "lengths", "plan", "receive", "send"]
 
 CRC24A, CRC24B, CRC16 = 0, 1, 2
 FILLER = 2  # a bit of a codeword that is never sent
@@ -106,6 +106,31 @@ class Tx(typing.NamedTuple):
     blocks: typing.Optional[typing.Iterable[int]] = None
 
 
+class Table:
+    """A shift table, read from its text (docs/formats.md) once, for as many calls as you like; any number of threads may use it.
+    `one` and `two` are how many entries it has of base graph 1 and of base graph 2; len() is how many in all.
+
+    A text that is refused raises a Fault, as check_table() does."""
+
+    __slots__ = "one", "two", "_entries"
+
+    def __init__(self, text):
+        octets, count = _octets(text), ctypes.c_size_t()
+        self.one, self.two = check_table(octets)
+        self._entries = (_Entry * (self.one + self.two))()
+        _judge(_library.nr_table_entries(octets, len(octets), self._entries, len(self), ctypes.byref(count)))
+
+    def __len__(self):
+        return len(self._entries)
+
+    def __repr__(self):
+        return f"Table(one={self.one}, two={self.two})"
+
+
+class _Entry(ctypes.Structure):
+    _fields_ = [(name, ctypes.c_uint16) for name in ("graph", "row", "col")] + [("values", ctypes.c_uint16 * 8)]
+
+
 class _Settings(ctypes.Structure):
     _fields_ = [("rate2048", ctypes.c_uint32), ("lbrm", ctypes.c_uint32)]
 
@@ -132,12 +157,12 @@ def fault_name(status):
     return _library.nr_fault_name(status).decode()
 
 
-def check_table(table):
+def check_table(text):
     """Judges the text of a shift table, and answers how many entries it has, as a Report.
 
     A Fault has in `place` the number of the record for Csv, Number, Range and Twice, the base graph for Core, Extension and
     MissingRow, else 0."""
-    octets, report = _octets(table), _Report()
+    octets, report = _octets(text), _Report()
     status = _library.nr_table_check(octets, len(octets), ctypes.byref(report))
     if status:
         raise Fault(status, report.place)
@@ -159,12 +184,12 @@ def crc(octets, poly=CRC24A):
 
 
 def codeword(table, bits, a, *, rate2048):
-    """The N bits d that a code block is coded into (5.3.2), an octet each: 0, 1 or FILLER. The code block is one of a transport
-    block of `a` bits; `bits` has its K' bits, its CRC with them, each an octet 0 or 1."""
-    table, bits = _octets(table), _octets(bits)
+    """The N bits d that a code block is coded into (5.3.2) by a Table, an octet each: 0, 1 or FILLER. The code block is one of a
+    transport block of `a` bits; `bits` has its K' bits, its CRC with them, each an octet 0 or 1."""
+    entries, bits = _entries(table), _octets(bits)
     coded = bytearray(_plan(rate2048, a).n)
     room = _room(coded)
-    _judge(_library.nr_codeword(table, len(table), rate2048, a, bits, len(bits), room, len(room)))
+    _judge(_library.nr_codeword(*entries, rate2048, a, bits, len(bits), room, len(room)))
     return coded
 
 
@@ -184,28 +209,28 @@ def lengths(a, tx, *, rate2048):
 
 
 def send(table, block, tx, *, rate2048, lbrm=0, out=None):
-    """The G bits that a Tx sends of a transport block's octets, each an octet 0 or 1: a bytearray, or `out` with them, which
-    is a buffer of G octets that can be written. `lbrm` is TBS_LBRM in bits, 0 for none."""
-    table, block, given = _octets(table), _octets(block), _tx(tx)
+    """The G bits that a Tx sends of a transport block's octets by a Table, each an octet 0 or 1: a bytearray, or `out` with
+    them, which is a buffer of G octets that can be written. `lbrm` is TBS_LBRM in bits, 0 for none."""
+    entries, block, given = _entries(table), _octets(block), _tx(tx)
     bits = bytearray(min(given.g, 1 << 22)) if out is None else out
     room = _room(bits)
-    link = table, len(table), ctypes.byref(_Settings(_number(rate2048), _number(lbrm)))
-    _judge(_library.nr_send(*link, block, len(block), ctypes.byref(given), room, len(room)))
+    settings = ctypes.byref(_Settings(_number(rate2048), _number(lbrm)))
+    _judge(_library.nr_send(*entries, settings, block, len(block), ctypes.byref(given), room, len(room)))
     return bits
 
 
 def receive(table, a, receptions, *, rate2048, lbrm=0):
-    """What may be handed up of a transport block of `a` bits, as a Received. `receptions` are pairs, at most 256: a Tx, and
-    what was heard at its G places, each an octet 0 or 1, or another one (ERASED) where nothing was."""
-    table, pairs = _octets(table), [(_tx(tx), _octets(heard)) for tx, heard in receptions]
+    """What may be handed up of a transport block of `a` bits by a Table, as a Received. `receptions` are pairs, at most 256: a
+    Tx, and what was heard at its G places, each an octet 0 or 1, or another one (ERASED) where nothing was."""
+    entries, pairs = _entries(table), [(_tx(tx), _octets(heard)) for tx, heard in receptions]
     for given, heard in pairs:
         if given.g != len(heard):
             raise Fault(_LENGTH)
     txs, heard = (_Tx * len(pairs))(*(given for given, _ in pairs)), b"".join(octets for _, octets in pairs)
     settings, block = _Settings(_number(rate2048), _number(lbrm)), bytearray(min(_number(a), _MOST_BITS) // 8)
     outcomes, left, room = (ctypes.c_uint32 * len(pairs))(), (ctypes.c_uint32 * _plan(rate2048, a).c)(), _room(block)
-    given = table, len(table), ctypes.byref(settings), a, txs, len(pairs), heard, len(heard)
-    _judge(_library.nr_receive(*given, outcomes, len(outcomes), left, len(left), room, len(room)))
+    given = ctypes.byref(settings), a, txs, len(pairs), heard, len(heard)
+    _judge(_library.nr_receive(*entries, *given, outcomes, len(outcomes), left, len(left), room, len(room)))
     found = [Outcome(it) for it in outcomes]
     return Received(found, list(left), block if found and found[-1] == Outcome.DELIVERED else None)
 
@@ -233,6 +258,13 @@ def _number(given):
     if not 0 <= number < 1 << 32:
         raise ValueError(f"{number} is not 0 to 4,294,967,295")
     return number
+
+
+def _entries(table):
+    """The entries of a Table, and their count."""
+    if not isinstance(table, Table):
+        raise TypeError(f"{type(table).__name__} is no Table: make one of the text, by nr.Table(text)")
+    return table._entries, len(table)
 
 
 def _octets(given):
@@ -272,12 +304,13 @@ def _load():
     """The library, with what its calls take and answer."""
     here = pathlib.Path(__file__).resolve().parent
     named = os.environ.get("NR_LIBRARY")
-    beside = [here / "out" / "libnr.so.1", here.parent.parent / "lib" / "libnr.so.1"]
-    library = ctypes.CDLL(named or next((str(path) for path in beside if path.exists()), "libnr.so.1"))
+    beside = [here / "out" / "libnr.so.2", here.parent.parent / "lib" / "libnr.so.2"]
+    library = ctypes.CDLL(named or next((str(path) for path in beside if path.exists()), "libnr.so.2"))
     octets, number, place = [ctypes.c_void_p, ctypes.c_size_t], ctypes.c_uint32, ctypes.c_void_p
     for name, takes in {
         "nr_fault_name": [number],
         "nr_table_check": [*octets, place],
+        "nr_table_entries": [*octets, *octets, place],
         "nr_plan": [number, number, place],
         "nr_crc": [number, *octets, place],
         "nr_codeword": [*octets, number, number, *octets, *octets],

@@ -5,8 +5,8 @@ find_path(NR_INCLUDE_DIR nr.h HINTS "${NR_LIBDIR}/../include" "${NR_LIBDIR}/../.
 if(NOT TARGET nr::nr)
   add_library(nr::nr SHARED IMPORTED)
   set_target_properties(nr::nr PROPERTIES
-    IMPORTED_LOCATION "${NR_LIBDIR}/libnr.so.1"
-    IMPORTED_SONAME "libnr.so.1"
+    IMPORTED_LOCATION "${NR_LIBDIR}/libnr.so.2"
+    IMPORTED_SONAME "libnr.so.2"
     INTERFACE_INCLUDE_DIRECTORIES "${NR_INCLUDE_DIR}")
   add_library(nr::static STATIC IMPORTED)
   set_target_properties(nr::static PROPERTIES

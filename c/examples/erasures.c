@@ -8,14 +8,19 @@
 
 enum { G = 400, MOST = 4 };
 
-/* The text of a shift table, with its length; no text where the file can't be read. */
-static uint8_t *text_of(const char *path, size_t *length) {
+/* Reads the shift table of a file, once for all calls: its entries, in memory of their own, and how many they are. */
+static uint32_t read_table(const char *path, NrEntry **entries, size_t *count) {
     static uint8_t text[1 << 16];
+    NrEntry none;
     FILE *file = fopen(path, "rb");
-    if (!file) return NULL;
-    *length = fread(text, 1, sizeof text, file);
-    fclose(file);
-    return text;
+    size_t length = file ? fread(text, 1, sizeof text, file) : 0;
+    uint32_t status;
+    if (file) fclose(file);
+    /* A room for none: how many are wanted. */
+    status = nr_table_entries(text, length, &none, 0, count);
+    if (status != NR_ROOM) return status;
+    *entries = malloc(*count * sizeof **entries);
+    return *entries ? nr_table_entries(text, length, *entries, *count, count) : NR_MEMORY;
 }
 
 int main(int count, char **words) {
@@ -26,13 +31,14 @@ int main(int count, char **words) {
     const uint8_t block[9] = {'1', '2', '3', '4', '5', '6', '7', '8', '9'};
     const NrSettings settings = {2048, 0};
     uint8_t delivered[sizeof block];
-    uint32_t status = NR_OK, outcomes[MOST], left;
-    size_t length;
-    const uint8_t *table = count == 2 ? text_of(words[1], &length) : NULL;
-    if (!table) {
+    uint32_t status, outcomes[MOST], left;
+    NrEntry *table = NULL;
+    size_t entries;
+    if (count != 2) {
         fputs("usage: erasures TABLE.csv\n", stderr);
         return 2;
     }
+    status = read_table(words[1], &table, &entries);
     srand(1);
     for (size_t at = 0; at < MOST && !status; at++) {
         uint8_t *places = heard + at * G;
@@ -40,13 +46,14 @@ int main(int count, char **words) {
         txs[at].g = G;
         txs[at].qm = 2;
         txs[at].nl = 1;
-        status = nr_send(table, length, &settings, block, sizeof block, &txs[at], places, G);
+        status = nr_send(table, entries, &settings, block, sizeof block, &txs[at], places, G);
         for (size_t place = 0; place < G; place++)
             if (rand() % 2) places[place] = NR_ERASED;
     }
     if (!status)
-        status = nr_receive(table, length, &settings, 8 * sizeof block, txs, MOST, heard, sizeof heard, outcomes, MOST, &left, 1,
+        status = nr_receive(table, entries, &settings, 8 * sizeof block, txs, MOST, heard, sizeof heard, outcomes, MOST, &left, 1,
                             delivered, sizeof delivered);
+    free(table);
     if (status) {
         fprintf(stderr, "refused: %s\n", nr_fault_name(status));
         return 1;

@@ -1,5 +1,6 @@
 """The library as the tests have it: built from the archive of nr_c into a folder of its own, and called as C calls it."""
 
+import csv
 import ctypes
 import importlib.util
 import os
@@ -20,7 +21,7 @@ PRACTICE = ROOT / "examples" / "practice.csv"
 SECONDS = 300
 
 FOLDER = pathlib.Path(tempfile.mkdtemp(prefix="nr-c-"))
-LIBRARY, STATIC = FOLDER / "libnr.so.1", FOLDER / "libnr.a"
+LIBRARY, STATIC = FOLDER / "libnr.so.2", FOLDER / "libnr.a"
 
 _archive = _program = _calls = _module = None
 
@@ -37,7 +38,7 @@ def use(archive, program):
     members = sorted(objects.glob("*.o"))
     done(["ar", "rcs", STATIC, *members])
     script = f"-Wl,--version-script,{C / 'nr.map'}"
-    done([compiler(), "-shared", "-Wl,-soname,libnr.so.1", script, "-Wl,--no-undefined", "-o", LIBRARY, *members])
+    done([compiler(), "-shared", "-Wl,-soname,libnr.so.2", script, "-Wl,--no-undefined", "-o", LIBRARY, *members])
     _calls = ctypes.CDLL(str(LIBRARY))
 
 
@@ -118,6 +119,35 @@ def tx(g, rv=0, qm=1, nl=1, blocks=None):
     return given
 
 
+class Entry(ctypes.Structure):
+    """An entry of a shift table, as nr.h has it."""
+
+    _fields_ = [(name, ctypes.c_uint16) for name in ("graph", "row", "col")] + [("values", ctypes.c_uint16 * 8)]
+
+
+class Table:
+    """Entries as a call takes them, each of eleven numbers, in the order that they are given in."""
+
+    def __init__(self, rows):
+        self.rows = rows
+        # (an array of none has no address of its own)
+        self.array = (Entry * max(1, len(rows)))(*[Entry(*row[:3], tuple(row[3:])) for row in rows])
+
+    def octets(self):
+        """The octets of the entries."""
+        return bytes(self.array)[: 22 * len(self.rows)]
+
+
+def rows_of(text):
+    """The records of a table's text, as they are to stand: by base graph, row and column. The library has no part in it."""
+    return sorted([int(field) for field in row] for row in csv.reader(text.decode().splitlines()))
+
+
+def table(text):
+    """The entries of a table's text."""
+    return Table(rows_of(text))
+
+
 class Room:
     """Memory for so many items that a call may write, between octets that it may not, all filled with one octet."""
 
@@ -147,6 +177,11 @@ class Room:
         return [address, ctypes.c_size_t(self.count)] if self.counted else [address]
 
 
+def counter():
+    """A room for a count of items."""
+    return Room(1, item=ctypes.sizeof(ctypes.c_size_t), counted=False)
+
+
 def struct(count=1):
     """A room for a struct of so many numbers of 32 bits."""
     return Room(count, item=4, counted=False)
@@ -158,14 +193,16 @@ def settings(rate2048, lbrm=0):
 
 
 def call(name, *given):
-    """The status of a call. Octets, lists of transmissions and rooms are passed with their count, numbers with 32 bits, and
-    any other value by its address."""
+    """The status of a call. Octets, entries, lists of transmissions and rooms are passed with their count, numbers with 32 bits,
+    and any other value by its address."""
     passed = []
     for it in given:
         if isinstance(it, bytes):
             passed += [ctypes.c_char_p(it), ctypes.c_size_t(len(it))]
         elif isinstance(it, Room):
             passed += it.words()
+        elif isinstance(it, Table):
+            passed += [it.array, ctypes.c_size_t(len(it.rows))]
         elif isinstance(it, list):
             passed += [(Tx * len(it))(*it), ctypes.c_size_t(len(it))]
         else:

@@ -2,8 +2,9 @@
    length, so that a tool which watches memory sees every octet past an end. */
 #include "checked.h"
 
-static uint8_t *table;
-static size_t table_len;
+static uint8_t *text;
+static NrEntry *table;
+static size_t text_len, table_len;
 static const NrSettings settings = {2048, 0};
 
 static void *filled(size_t length) {
@@ -14,12 +15,37 @@ static void *filled(size_t length) {
 
 static void tables(void) {
     NrReport report = {7, 7, 7};
-    CHECK(nr_table_check(table, table_len, &report) == NR_OK);
+    CHECK(nr_table_check(text, text_len, &report) == NR_OK);
     CHECK(report.one == 0 && report.two == 105 && report.place == 0);
     CHECK(nr_table_check((const uint8_t *)"1,2\n", 4, &report) == NR_FIELDS);
     CHECK(report.one == 0 && report.two == 0 && report.place == 0);
-    CHECK(nr_table_check(table, table_len - 3, &report) == NR_CSV);
+    CHECK(nr_table_check(text, text_len - 3, &report) == NR_CSV);
     CHECK(report.place == 105);
+}
+
+/* The first entry of the practice table is 2,0,0 and its last one 2,41,51, all values 0. */
+static void entries(void) {
+    static const NrEntry first = {2, 0, 0, {0}}, last = {2, 41, 51, {0}};
+    NrEntry *room = (NrEntry *)filled(106 * sizeof(NrEntry)), swapped;
+    uint8_t bits[24];
+    NrTx tx = transmission(0, 24, 1);
+    size_t count = 7;
+    CHECK(sizeof(NrEntry) == 22);
+    CHECK(nr_table_entries((const uint8_t *)"1,2\n", 4, room, 105, &count) == NR_FIELDS);
+    CHECK(count == 7 && is_filled(room, 106 * sizeof(NrEntry)));
+    CHECK(nr_table_entries(text, text_len, room, 104, &count) == NR_ROOM && count == 105);
+    CHECK(nr_table_entries(text, text_len, room, 106, &count) == NR_ROOM && count == 105);
+    CHECK(is_filled(room, 106 * sizeof(NrEntry)));
+    CHECK(nr_table_entries(text, text_len, room, 105, &count) == NR_OK && count == 105);
+    CHECK(is_filled(room + 105, sizeof(NrEntry)));
+    CHECK(!memcmp(room, &first, sizeof first) && !memcmp(room + 104, &last, sizeof last));
+    CHECK(!memcmp(room, table, 105 * sizeof(NrEntry)));
+    swapped = room[3];
+    room[3] = room[4];
+    room[4] = swapped;
+    memset(bits, 0xA5, sizeof bits);
+    CHECK(nr_send(room, 105, &settings, (const uint8_t *)"\1", 1, &tx, bits, 24) == NR_ENTRIES && is_filled(bits, 24));
+    free(room);
 }
 
 static void plans(void) {
@@ -124,8 +150,10 @@ static void receiving(void) {
 }
 
 int main(int count, char **words) {
-    table = text_of(count > 1 ? words[1] : NULL, &table_len);
+    text = text_of(count > 1 ? words[1] : NULL, &text_len);
+    table = entries_of(text, text_len, &table_len);
     tables();
+    entries();
     plans();
     parities();
     coding();
@@ -134,6 +162,7 @@ int main(int count, char **words) {
     CHECK(!strcmp(nr_fault_name(NR_NONE_SCHEDULED), "NoneScheduled"));
     CHECK(!strcmp(nr_fault_name(1000), "unknown"));
     free(table);
+    free(text);
     printf("%d wrong\n", wrong);
     return wrong != 0;
 }

@@ -1,5 +1,6 @@
 /* Refuses memory: each growth of each call in turn, alone and with all that follow. Linked with --wrap=malloc and so on, so that
-   the library asks here. Each such call answers Memory, writes nothing and holds nothing; the next one gives the answer. */
+   the library asks here. Each such call answers Memory, writes nothing and holds nothing; the next one gives the answer. What is
+   refused before the first growth is told whatever memory there is. */
 #include "checked.h"
 
 void *__real_malloc(size_t size);
@@ -36,21 +37,34 @@ void __wrap_free(void *block) {
 }
 
 /* What the calls are given, and the rooms that they write. */
-enum { OCTETS = 37, G = 1056 };
-static uint8_t *table;
-static size_t table_len;
+enum { OCTETS = 37, G = 1056, ENTRIES = 421, LONG = 4194305 };
+static uint8_t *text, long_text[LONG];
+static NrEntry *table, unplaced[ENTRIES];
+static size_t text_len, table_len;
 static const NrSettings settings = {2048, 0};
 static uint8_t block[OCTETS], heard[2 * G];
 static NrTx txs[2];
 static struct {
     NrReport report;
+    size_t count;
+    NrEntry entries[ENTRIES];
     uint32_t parity, outcomes[2], left;
     uint8_t bits[G], coded[990], block[OCTETS];
 } rooms;
 
-static uint32_t check_table(void) { return nr_table_check(table, table_len, &rooms.report); }
+static uint32_t check_table(void) { return nr_table_check(text, text_len, &rooms.report); }
 
-static uint32_t check_bad_table(void) { return nr_table_check(table, table_len - 3, &rooms.report); }
+static uint32_t check_bad_table(void) { return nr_table_check(text, text_len - 3, &rooms.report); }
+
+static uint32_t check_long_table(void) { return nr_table_check(long_text, LONG, &rooms.report); }
+
+static uint32_t list(void) { return nr_table_entries(text, text_len, rooms.entries, ENTRIES, &rooms.count); }
+
+static uint32_t list_in_less(void) { return nr_table_entries(text, text_len, rooms.entries, ENTRIES - 1, &rooms.count); }
+
+static uint32_t list_bad(void) { return nr_table_entries(text, text_len - 3, rooms.entries, ENTRIES, &rooms.count); }
+
+static uint32_t list_long(void) { return nr_table_entries(long_text, LONG, rooms.entries, ENTRIES, &rooms.count); }
 
 static uint32_t crc(void) { return nr_crc(NR_CRC24A, block, OCTETS, &rooms.parity); }
 
@@ -67,7 +81,23 @@ static uint32_t receive(void) {
                       OCTETS);
 }
 
+static uint32_t code_unplaced(void) { return nr_codeword(unplaced, ENTRIES, 0, 0, block, 1, rooms.coded, 1); }
+
+static uint32_t send_unplaced(void) { return nr_send(unplaced, ENTRIES, &settings, block, 0, txs, rooms.bits, 1); }
+
+static uint32_t receive_unplaced(void) {
+    return nr_receive(unplaced, ENTRIES, &settings, 0, txs, 2, heard, 1, rooms.outcomes, 1, &rooms.left, 0, rooms.block, 0);
+}
+
+static uint32_t receive_many(void) {
+    static NrTx many[257];
+    return nr_receive(unplaced, ENTRIES, &settings, 0, many, 257, heard, 1, rooms.outcomes, 1, &rooms.left, 0, rooms.block, 0);
+}
+
 static int is_right(const char *name) {
+    if (!strcmp(name, "nr_table_entries")) return rooms.count == ENTRIES && !memcmp(rooms.entries, table, sizeof rooms.entries);
+    if (!strcmp(name, "nr_table_entries, less room"))
+        return rooms.count == ENTRIES && is_filled(rooms.entries, sizeof rooms.entries);
     if (!strcmp(name, "nr_send")) return !memcmp(rooms.bits, heard + G, G);
     if (!strcmp(name, "nr_receive")) return rooms.outcomes[1] == NR_DELIVERED && !memcmp(rooms.block, block, OCTETS);
     return 1;
@@ -103,18 +133,40 @@ static void sweep(const char *name, uint32_t (*call)(void), uint32_t due) {
     printf("%s: %lu growths refused\n", name, growths);
 }
 
+/* What is refused before any growth, with no memory at all. */
+static void refused_first(const char *name, uint32_t (*call)(void), uint32_t due) {
+    uint32_t status = refusing(call, 1, (unsigned long)-1);
+    if (status != due || met) {
+        printf("%s: status %u after %lu growths\n", name, (unsigned)status, met);
+        wrong += 1;
+    }
+}
+
 int main(int count, char **words) {
-    table = text_of(count > 1 ? words[1] : NULL, &table_len);
+    text = text_of(count > 1 ? words[1] : NULL, &text_len);
+    table = entries_of(text, text_len, &table_len);
+    CHECK(table_len == ENTRIES);
+    memcpy(unplaced, table, sizeof unplaced);
+    unplaced[ENTRIES - 1].col = 52;
     for (int at = 0; at < OCTETS; at++) block[at] = (uint8_t)(at + 1);
     txs[0] = txs[1] = transmission(0, G, 4);
     memset(heard, NR_ERASED, sizeof heard);
     CHECK(nr_send(table, table_len, &settings, block, OCTETS, txs, heard + G, G) == NR_OK);
     sweep("nr_table_check", check_table, NR_OK);
     sweep("nr_table_check, refused", check_bad_table, NR_CSV);
+    sweep("nr_table_entries", list, NR_OK);
+    sweep("nr_table_entries, less room", list_in_less, NR_ROOM);
+    sweep("nr_table_entries, refused", list_bad, NR_CSV);
     sweep("nr_crc", crc, NR_OK);
     sweep("nr_codeword", codeword, NR_OK);
     sweep("nr_send", send, NR_OK);
     sweep("nr_receive", receive, NR_OK);
+    refused_first("nr_table_check", check_long_table, NR_TOO_LONG);
+    refused_first("nr_table_entries", list_long, NR_TOO_LONG);
+    refused_first("nr_codeword", code_unplaced, NR_ENTRIES);
+    refused_first("nr_send", send_unplaced, NR_ENTRIES);
+    refused_first("nr_receive", receive_unplaced, NR_ENTRIES);
+    refused_first("nr_receive", receive_many, NR_MANY);
     printf("%d wrong\n", wrong);
     return wrong != 0;
 }

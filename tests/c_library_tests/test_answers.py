@@ -10,6 +10,7 @@ from linksim_tools import rate_matching
 
 DRAWN = (built.ROOT / "examples" / "drawn.csv").read_bytes()
 PRACTICE = built.PRACTICE.read_bytes()
+PRACTICE_TABLE = built.table(PRACTICE)
 
 
 class Answers(unittest.TestCase):
@@ -49,10 +50,21 @@ class Answers(unittest.TestCase):
             self.assertEqual(built.call("nr_table_check", text, room), 0)
             self.assertEqual(room.numbers(), [*counts, 0])
 
+    def test_entries(self):
+        """The entries of a text, in the order of their places whatever the order of its records."""
+        lines = (PRACTICE + DRAWN).splitlines(keepends=True)
+        random.Random(7).shuffle(lines)
+        for text in [PRACTICE, DRAWN, PRACTICE + DRAWN, b"".join(lines), b"graph,row,col,0,1,2,3,4,5,6,7\n" + PRACTICE]:
+            rows = built.rows_of(text.replace(b"graph,row,col,0,1,2,3,4,5,6,7\n", b""))
+            room, count = built.Room(len(rows), item=22), built.counter()
+            self.assertEqual(built.call("nr_table_entries", text, room, count), 0)
+            self.assertEqual(room.octets(), built.Table(rows).octets())
+            self.assertEqual(int.from_bytes(count.octets(), "little"), len(rows))
+
     def check_sent(self, text, octets, tx, rate2048, lbrm=0):
         with self.subTest(a=8 * len(octets), rv=tx.rv, g=tx.g, qm=tx.qm, nl=tx.nl, lbrm=lbrm):
             room = built.Room(tx.g)
-            status = built.call("nr_send", text, built.settings(rate2048, lbrm), octets, tx, room)
+            status = built.call("nr_send", built.table(text), built.settings(rate2048, lbrm), octets, tx, room)
             self.assertEqual(status, 0)
             self.assertEqual(room.octets(), model.sent(text, octets, tx, rate2048, lbrm))
 
@@ -79,18 +91,19 @@ class Answers(unittest.TestCase):
             (built.tx(40, rv=3), "8000002102"),
         ]:
             room = built.Room(tx.g)
-            self.assertEqual(built.call("nr_send", PRACTICE, built.settings(2048), b"\1", tx, room), 0)
+            self.assertEqual(built.call("nr_send", PRACTICE_TABLE, built.settings(2048), b"\1", tx, room), 0)
             self.assertEqual(encoder.octets_of(list(room.octets())).hex(), wanted)
 
     def test_coded(self):
         """The codewords of each code block, the lengths and the buffer, by which the model sends."""
         both, draw = PRACTICE + DRAWN, random.Random(5)
+        table = built.table(both)
         for octets, rate2048 in [(1, 2048), (37, 2048), (37, 512), (479, 512), (1065, 2048)]:
             a = 8 * octets
             plan = model.plan(a, rate2048)
             for bits in model.code_blocks(draw.randbytes(octets), plan):
                 room = built.Room(plan["n"])
-                self.assertEqual(built.call("nr_codeword", both, rate2048, a, bytes(bits), room), 0)
+                self.assertEqual(built.call("nr_codeword", table, rate2048, a, bytes(bits), room), 0)
                 wanted = model.coded(model.tables(both)[plan["graph"]], plan, bits)
                 self.assertEqual(list(room.octets()), [2 if it is None else it for it in wanted])
             for rv in range(4):
@@ -135,7 +148,7 @@ class Answers(unittest.TestCase):
             with self.subTest(transmissions=len(txs), outcome=outcome):
                 found, left, room = built.Room(len(txs), item=4), built.Room(2, item=4), built.Room(len(block))
                 given = built.settings(2048), 8 * len(block), txs, heard
-                self.assertEqual(built.call("nr_receive", DRAWN, *given, found, left, room), 0)
+                self.assertEqual(built.call("nr_receive", built.table(DRAWN), *given, found, left, room), 0)
                 self.assertEqual(found.numbers()[-1:], [outcome] * bool(txs))
                 self.assertEqual(any(left.numbers()), outcome == 0)
                 self.assertEqual(room.octets(), block if outcome == 1 else b"\xa5" * len(block))

@@ -10,7 +10,7 @@ SOURCES = "".join(path.read_text() for path in sorted((built.ROOT / "crates" / "
 NAMES = ["nr_fault_name"]
 
 # How C writes what Rattle passes.
-ITEMS = {"u8": "uint8_t", "u32": "uint32_t", "u64": "uint64_t"}
+ITEMS = {"u8": "uint8_t", "u16": "uint16_t", "u32": "uint32_t", "u64": "uint64_t", "usize": "size_t"}
 
 
 def spaced(text):

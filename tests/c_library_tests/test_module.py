@@ -21,11 +21,12 @@ class Module(unittest.TestCase):
 
     def setUp(self):
         self.nr = built.module()
+        self.table = self.nr.Table(PRACTICE)
         self.tx = self.nr.Tx(g=104, qm=2)
-        self.bits = self.nr.send(PRACTICE, BLOCK, self.tx, **RATE)
+        self.bits = self.nr.send(self.table, BLOCK, self.tx, **RATE)
 
-    def delivered(self, heard, table=PRACTICE):
-        answer = self.nr.receive(table, 72, [(self.tx, heard)], **RATE)
+    def delivered(self, heard):
+        answer = self.nr.receive(self.table, 72, [(self.tx, heard)], **RATE)
         self.assertEqual((answer.outcome, answer.block), (self.nr.Outcome.DELIVERED, BLOCK))
 
     def test_answers(self):
@@ -33,13 +34,13 @@ class Module(unittest.TestCase):
         self.assertEqual(self.nr.plan(8, **RATE), (2, 24, 0, 1, 24, 6, 4, 0, 40, 200))
         self.assertEqual(self.nr.plan(8, **RATE).kdash, 24)
         self.assertEqual(self.nr.crc(BLOCK, self.nr.CRC16), 0x31C3)
-        self.assertEqual(encoder.octets_of(list(self.nr.send(PRACTICE, b"\1", self.nr.Tx(24, qm=4), **RATE))).hex(), "000a51")
-        self.assertEqual(self.nr.receive(PRACTICE, 72, [], **RATE), ([], [88], None))
-        self.assertEqual(self.nr.receive(PRACTICE, 72, [], **RATE).outcome, self.nr.Outcome.OPEN)
+        self.assertEqual(encoder.octets_of(list(self.nr.send(self.table, b"\1", self.nr.Tx(24, qm=4), **RATE))).hex(), "000a51")
+        self.assertEqual(self.nr.receive(self.table, 72, [], **RATE), ([], [88], None))
+        self.assertEqual(self.nr.receive(self.table, 72, [], **RATE).outcome, self.nr.Outcome.OPEN)
         self.assertEqual(self.nr.lengths(3832, self.nr.Tx(104, qm=4, nl=2), rate2048=512), [48, 56])
         self.assertEqual(self.nr.buffer(8, 3, **RATE), (200, 172))
         self.assertEqual(self.nr.buffer(8, 3, lbrm=100, **RATE).ncb, 150)
-        coded = self.nr.codeword(PRACTICE, encoder.with_crc([0] * 7 + [1], encoder.CRC_16), 8, **RATE)
+        coded = self.nr.codeword(self.table, encoder.with_crc([0] * 7 + [1], encoder.CRC_16), 8, **RATE)
         self.assertEqual((len(coded), list(coded[14:18])), (200, [0, 1, self.nr.FILLER, self.nr.FILLER]))
 
     def test_buffers(self):
@@ -47,18 +48,33 @@ class Module(unittest.TestCase):
         for kind in [bytes, bytearray, memoryview, list, tuple, lambda it: array.array("B", it), lambda it: array.array("b", it),
                      lambda it: (ctypes.c_ubyte * len(it))(*it)]:
             self.delivered(kind(self.bits))
-            self.assertEqual(self.nr.send(kind(PRACTICE), kind(BLOCK), self.tx, **RATE), self.bits)
+            self.assertEqual(self.nr.send(self.nr.Table(kind(PRACTICE)), kind(BLOCK), self.tx, **RATE), self.bits)
         self.delivered(memoryview(bytes(bit for pair in zip(self.bits, self.bits) for bit in pair))[::2])
         self.delivered(memoryview(bytes(self.bits)).cast("?"))
         self.tx = self.nr.Tx(g=300, qm=2)
-        self.delivered(array.array("b", [-1] * 30 + list(self.nr.send(PRACTICE, BLOCK, self.tx, **RATE))[30:]))
+        self.delivered(array.array("b", [-1] * 30 + list(self.nr.send(self.table, BLOCK, self.tx, **RATE))[30:]))
+
+    def test_table(self):
+        """A table is read once; a text in place of one, and a text that is refused."""
+        drawn = (built.ROOT / "examples" / "drawn.csv").read_bytes()
+        for text, counts in [(PRACTICE, (0, 105)), (drawn, (316, 0)), (PRACTICE + drawn, (316, 105))]:
+            table = self.nr.Table(text)
+            self.assertEqual((table.one, table.two, len(table)), (*counts, sum(counts)))
+            self.assertEqual(bytes(table._entries), built.table(text).octets())
+            self.assertEqual(repr(table), f"Table(one={counts[0]}, two={counts[1]})")
+        self.assertRaises(TypeError, self.nr.send, PRACTICE, BLOCK, self.tx, **RATE)
+        self.assertRaises(TypeError, self.nr.Table, "text")
+        for text, said in [(b"", "Empty"), (PRACTICE + PRACTICE, "Twice 106"), (PRACTICE[:-1] + b"x\n", "Number 105")]:
+            with self.assertRaises(self.nr.Fault) as raised:
+                self.nr.Table(text)
+            self.assertEqual(str(raised.exception), said)
 
     def test_room(self):
         for room in [bytearray(104), array.array("B", bytes(104)), memoryview(bytearray(104)), (ctypes.c_ubyte * 104)()]:
-            self.assertIs(self.nr.send(PRACTICE, BLOCK, self.tx, out=room, **RATE), room)
+            self.assertIs(self.nr.send(self.table, BLOCK, self.tx, out=room, **RATE), room)
             self.assertEqual(bytes(room), self.bits)
         for room in [bytes(104), memoryview(bytes(104)), array.array("H", bytes(104)), memoryview(bytearray(208))[::2]]:
-            self.assertRaises((TypeError, ValueError, BufferError), self.nr.send, PRACTICE, BLOCK, self.tx, out=room, **RATE)
+            self.assertRaises((TypeError, ValueError, BufferError), self.nr.send, self.table, BLOCK, self.tx, out=room, **RATE)
 
     def test_numpy(self):
         try:
@@ -71,22 +87,22 @@ class Module(unittest.TestCase):
         self.delivered(bits.reshape(8, 13))
         self.assertRaises(TypeError, self.delivered, bits.astype(numpy.float32))
         room = numpy.zeros(104, numpy.uint8)
-        self.assertIs(self.nr.send(PRACTICE, BLOCK, self.tx, out=room, **RATE), room)
+        self.assertIs(self.nr.send(self.table, BLOCK, self.tx, out=room, **RATE), room)
         self.assertEqual(room.tobytes(), self.bits)
 
     def test_faults(self):
         for call, status, name in [
             (lambda: self.nr.plan(9, **RATE), 40, "Size"),
             (lambda: self.nr.crc(b"", 3), 4, "Poly"),
-            (lambda: self.nr.send(PRACTICE, BLOCK, self.nr.Tx(5_000_000), **RATE), 53, "Total"),
-            (lambda: self.nr.send(PRACTICE, BLOCK, self.nr.Tx(104, blocks=[]), **RATE), 55, "NoneScheduled"),
-            (lambda: self.nr.send(PRACTICE, BLOCK, self.tx, out=bytearray(103), **RATE), 2, "Room"),
-            (lambda: self.nr.receive(PRACTICE, 72, [(self.tx, self.bits[1:])], **RATE), 56, "Length"),
-            (lambda: self.nr.receive(PRACTICE, 72, [(self.tx, self.bits)] * 257, **RATE), 3, "Many"),
-            (lambda: self.nr.receive(PRACTICE, 0xFFFFFFFF, [], **RATE), 40, "Size"),
-            (lambda: self.nr.receive(PRACTICE, 7640, [], rate2048=512), 45, "Uneven"),
-            (lambda: self.nr.codeword(PRACTICE, bytes(23), 8, **RATE), 56, "Length"),
-            (lambda: self.nr.codeword(PRACTICE, b"\2" * 24, 8, **RATE), 5, "Bit"),
+            (lambda: self.nr.send(self.table, BLOCK, self.nr.Tx(5_000_000), **RATE), 53, "Total"),
+            (lambda: self.nr.send(self.table, BLOCK, self.nr.Tx(104, blocks=[]), **RATE), 55, "NoneScheduled"),
+            (lambda: self.nr.send(self.table, BLOCK, self.tx, out=bytearray(103), **RATE), 2, "Room"),
+            (lambda: self.nr.receive(self.table, 72, [(self.tx, self.bits[1:])], **RATE), 56, "Length"),
+            (lambda: self.nr.receive(self.table, 72, [(self.tx, self.bits)] * 257, **RATE), 3, "Many"),
+            (lambda: self.nr.receive(self.table, 0xFFFFFFFF, [], **RATE), 40, "Size"),
+            (lambda: self.nr.receive(self.table, 7640, [], rate2048=512), 45, "Uneven"),
+            (lambda: self.nr.codeword(self.table, bytes(23), 8, **RATE), 56, "Length"),
+            (lambda: self.nr.codeword(self.table, b"\2" * 24, 8, **RATE), 5, "Bit"),
             (lambda: self.nr.lengths(9, self.tx, **RATE), 40, "Size"),
             (lambda: self.nr.buffer(8, 4, **RATE), 50, "Rv"),
         ]:
@@ -101,9 +117,9 @@ class Module(unittest.TestCase):
         for call in [
             lambda: self.nr.plan(1 << 32, **RATE),
             lambda: self.nr.plan(-8, **RATE),
-            lambda: self.nr.send(PRACTICE, BLOCK, self.nr.Tx(104, rv=-1), **RATE),
-            lambda: self.nr.send(PRACTICE, BLOCK, self.nr.Tx(104, blocks=[384]), **RATE),
-            lambda: self.nr.send(PRACTICE, [256], self.tx, **RATE),
+            lambda: self.nr.send(self.table, BLOCK, self.nr.Tx(104, rv=-1), **RATE),
+            lambda: self.nr.send(self.table, BLOCK, self.nr.Tx(104, blocks=[384]), **RATE),
+            lambda: self.nr.send(self.table, [256], self.tx, **RATE),
         ]:
             self.assertRaises(ValueError, call)
         for call in [lambda: self.nr.plan(8.0, **RATE), lambda: self.nr.crc("text"), lambda: self.nr.plan(8)]:

@@ -53,7 +53,7 @@ class Programs(InFolder):
             built.done([self.compiled("calls.c", "-x", "c++", standard, compiler=compiler), built.PRACTICE])
 
     def test_calls_of_the_shared_library(self):
-        ending = [f"-L{built.FOLDER}", f"-Wl,-rpath,{built.FOLDER}", "-l:libnr.so.1"]
+        ending = [f"-L{built.FOLDER}", f"-Wl,-rpath,{built.FOLDER}", "-l:libnr.so.2"]
         built.done([self.compiled("calls.c", ending=ending), built.PRACTICE])
 
     def test_calls_under_sanitizers(self):
@@ -71,7 +71,7 @@ class Programs(InFolder):
 
     def test_memory_refused(self):
         output = built.done([self.compiled("refused.c", *WRAPPED), self.both_graphs()])
-        for call in ["nr_table_check", "nr_crc", "nr_codeword", "nr_send", "nr_receive"]:
+        for call in ["nr_table_check", "nr_table_entries", "nr_crc", "nr_codeword", "nr_send", "nr_receive"]:
             self.assertRegex(output.decode(), rf"(?m)^{call}: [1-9]\d* growths refused$")
 
     def test_threads(self):
@@ -104,7 +104,7 @@ class Examples(InFolder):
         stage = self.folder / "stage"
         self.make("install", f"DESTDIR={stage}", "PREFIX=/usr")
         found = {str(path.relative_to(stage / "usr")) for path in stage.glob("**/*") if not path.is_dir()}
-        names = ["libnr.a", "libnr.so", "libnr.so.1", "pkgconfig/nr.pc", "cmake/nr/nrConfig.cmake"]
+        names = ["libnr.a", "libnr.so", "libnr.so.2", "pkgconfig/nr.pc", "cmake/nr/nrConfig.cmake"]
         self.assertEqual(found, {"include/nr.h", "share/nr/nr.py", *(f"lib/{name}" for name in names)})
         self.assertIn("prefix=/usr\n", (stage / "usr" / "lib" / "pkgconfig" / "nr.pc").read_text())
 

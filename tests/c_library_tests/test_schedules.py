@@ -70,16 +70,17 @@ class Case:
     def lines(self):
         """The lines that the program is to write by the library, or the one with which it refuses."""
         nr, link = built.module(), {"rate2048": self.rate2048, "lbrm": self.lbrm}
+        table = nr.Table(self.table)
         lines, taken = [], [[] for _ in self.blocks]
         for number, block in enumerate(self.blocks, 1):
             try:
-                nr.receive(self.table, 8 * len(block), [], **link)
+                nr.receive(table, 8 * len(block), [], **link)
             except nr.Fault as fault:
                 return [f"linksim: refused: block {number} {fault.name}"]
         for number, (n, (rv, g, qm, nl), erased, flipped, mask) in enumerate(self.transmissions, 1):
             tx = nr.Tx(g=g, rv=rv, qm=qm, nl=nl, blocks=mask)
             try:
-                bits = nr.send(self.table, self.blocks[n], tx, **link)
+                bits = nr.send(table, self.blocks[n], tx, **link)
             except nr.Fault as fault:
                 lines.append(f"refused {number} {n + 1} {fault.name}")
                 continue
@@ -90,15 +91,15 @@ class Case:
             for place in erased:
                 bits[place] = nr.ERASED
             taken[n].append((tx, bits))
-            left = nr.receive(self.table, 8 * len(self.blocks[n]), taken[n], **link).left
+            left = nr.receive(table, 8 * len(self.blocks[n]), taken[n], **link).left
             lines += [f"left {number} {n + 1} {r} {count}" for r, count in enumerate(left)]
         for number, (block, receptions) in enumerate(zip(self.blocks, taken), 1):
-            answer = nr.receive(self.table, 8 * len(block), receptions, **link)
+            answer = nr.receive(table, 8 * len(block), receptions, **link)
             octets = f" {answer.block.hex()}" if answer.block is not None else ""
             failed = f"failed {sum(map(bool, answer.left)) if answer.outcome == nr.Outcome.OPEN else 0} of {len(answer.left)}"
             lines.append(f"block {number} {answer.outcome.name.lower()} tx {len(receptions)} {failed}{octets}")
             for count, outcome in enumerate(answer.outcomes, 1):
-                before = nr.receive(self.table, 8 * len(block), receptions[:count], **link)
+                before = nr.receive(table, 8 * len(block), receptions[:count], **link)
                 assert before.outcome == outcome, f"another outcome after {count} transmissions of block {number}"
         return lines
 

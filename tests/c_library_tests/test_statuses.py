@@ -8,6 +8,7 @@ PRACTICE = built.PRACTICE.read_bytes()
 LINES = PRACTICE.splitlines(keepends=True)
 ONE = b"2,0,0" + b",0" * 8 + b"\n"
 SETTINGS = built.settings(2048)
+TABLE = built.table(PRACTICE)
 TX = built.tx(24)
 
 
@@ -32,6 +33,29 @@ TABLES = [
     (29, 0, b""),
     (29, 0, b"graph,row,column,0,1,2,3,4,5,6,7\n"),
     (30, 0, b"\n" * 4_194_305),
+]
+
+ROWS = built.rows_of(PRACTICE)
+ZEROS = [0] * 8
+
+# The entries that are no shift table: the status, and the entries.
+ENTRIES = [
+    (31, [ROWS[1], ROWS[0], *ROWS[2:]]),
+    (31, [ROWS[0], *ROWS]),
+    (31, [*ROWS, ROWS[-1]]),
+    (31, [*ROWS, [1, 0, 0, *ZEROS]]),
+    (31, [[0, 0, 0, *ZEROS], *ROWS]),
+    (31, [*ROWS, [3, 0, 0, *ZEROS]]),
+    (31, [*ROWS, [2, 42, 0, *ZEROS]]),
+    (31, [*ROWS[:-1], [2, 41, 52, *ZEROS]]),
+    (31, [[1, 46, 0, *ZEROS], *ROWS]),
+    (31, [[1, 45, 68, *ZEROS], *ROWS]),
+    (31, [[2, 65535, 65535, *[65535] * 8]]),
+    (29, []),
+    (26, [[1, 45, 67, *ZEROS], *ROWS]),
+    (26, [ROWS[0]]),
+    (27, sorted([*ROWS, [2, 4, 15, *ZEROS]])),
+    (28, [row for row in ROWS if row[1] != 41]),
 ]
 
 # The blocks that a link is refused for: the status, the settings, and the number of bits.
@@ -68,15 +92,15 @@ class Statuses(unittest.TestCase):
         for room in rooms:
             self.assertTrue(room.is_unwritten())
 
-    def refused_send(self, status, text=PRACTICE, settings=SETTINGS, block=b"\1", tx=TX, room=24):
-        self.refused(status, "nr_send", text, settings, block, tx, built.Room(room))
+    def refused_send(self, status, table=TABLE, settings=SETTINGS, block=b"\1", tx=TX, room=24):
+        self.refused(status, "nr_send", table, settings, block, tx, built.Room(room))
 
-    def refused_receive(self, status, text=PRACTICE, settings=SETTINGS, a=8, txs=(TX,), heard=bytes(24), room=1):
+    def refused_receive(self, status, table=TABLE, settings=SETTINGS, a=8, txs=(TX,), heard=bytes(24), room=1):
         outcomes, left = built.Room(len(txs), item=4), built.Room(1, item=4)
-        self.refused(status, "nr_receive", text, settings, a, list(txs), heard, outcomes, left, built.Room(room))
+        self.refused(status, "nr_receive", table, settings, a, list(txs), heard, outcomes, left, built.Room(room))
 
-    def refused_codeword(self, status, text=PRACTICE, rate2048=2048, a=8, bits=bytes(24), room=200):
-        self.refused(status, "nr_codeword", text, rate2048, a, bits, built.Room(room))
+    def refused_codeword(self, status, table=TABLE, rate2048=2048, a=8, bits=bytes(24), room=200):
+        self.refused(status, "nr_codeword", table, rate2048, a, bits, built.Room(room))
 
     def test_tables(self):
         for status, place, text in TABLES:
@@ -84,11 +108,25 @@ class Statuses(unittest.TestCase):
                 report = built.struct(3)
                 self.assertEqual(built.call("nr_table_check", text, report), status)
                 self.assertEqual(report.numbers(), [0, 0, place])
+                for room in [0, 1, 105]:
+                    self.refused(status, "nr_table_entries", text, built.Room(room, item=22), built.counter())
+
+    def test_entries(self):
+        for status, rows in ENTRIES:
+            with self.subTest(status=status, first=rows[:1], last=rows[-1:]):
                 # The first cause of all, but for too many transmissions.
-                self.refused_send(status, text, built.settings(0), b"", built.tx(0, 4), 1)
-                self.refused_receive(status, text, built.settings(0), 7, [built.tx(0, 4)], b"", 0)
-                self.refused_receive(3, text, txs=[TX] * 257)
-                self.refused_codeword(status, text, 0, 0, b"\2", 1)
+                table = built.Table(rows)
+                self.refused_send(status, table, built.settings(0), b"", built.tx(0, 4), 1)
+                self.refused_receive(status, table, built.settings(0), 7, [built.tx(0, 4)], b"", 0)
+                self.refused_receive(3, table, txs=[TX] * 257)
+                self.refused_codeword(status, table, 0, 0, b"\2", 1)
+
+    def test_rooms_for_entries(self):
+        for room in [0, 1, 104, 106, 1000]:
+            entries, count = built.Room(room, item=22), built.counter()
+            self.assertEqual(built.call("nr_table_entries", PRACTICE, entries, count), 2)
+            self.assertTrue(entries.is_unwritten())
+            self.assertEqual(int.from_bytes(count.octets(), "little"), 105)
 
     def test_blocks(self):
         for status, settings, a in BLOCKS:
@@ -130,7 +168,7 @@ class Statuses(unittest.TestCase):
             self.refused_receive(2, txs=[built.tx(32)], heard=bytes(32), room=room)
         for outcomes, left in [(0, 1), (2, 1), (1, 0), (1, 2)]:
             rooms = built.Room(outcomes, item=4), built.Room(left, item=4), built.Room(1)
-            self.refused(2, "nr_receive", PRACTICE, SETTINGS, 8, [TX], bytes(24), *rooms)
+            self.refused(2, "nr_receive", TABLE, SETTINGS, 8, [TX], bytes(24), *rooms)
         for room in [0, 2, 344]:
             self.refused(2, "nr_lengths", 2048, 8, TX, built.Room(room, item=4))
 

@@ -6,7 +6,7 @@
 
 enum { THREADS = 4, ROUNDS = 40, OCTETS = 60, G = 2000 };
 
-static uint8_t *table;
+static NrEntry *table;
 static size_t table_len;
 static const NrSettings settings = {2048, 0};
 
@@ -51,7 +51,10 @@ int main(int count, char **words) {
     static struct job jobs[THREADS];
     pthread_t threads[THREADS];
     int delivered = 0;
-    table = text_of(count > 1 ? words[1] : NULL, &table_len);
+    size_t text_len;
+    uint8_t *text = text_of(count > 1 ? words[1] : NULL, &text_len);
+    table = entries_of(text, text_len, &table_len);
+    free(text);
     for (uint32_t at = 0; at < THREADS; at++) {
         jobs[at].seed = at + 1;
         answer(jobs[at].seed, &jobs[at].alone);

@@ -5,14 +5,16 @@ use Rattle.nr_bitvec.specs.Bit.{bit}
 use Rattle.nr_graphpick.specs.Refusal.{◌>>=◌, with_fault}
 use Rattle.nr_segment.specs.CodeBlock.{numbers}
 use Rattle.nr_segment.specs.Plan.{Numbers}
-use Rattle.nr_shifttable.specs.Accepted.{Entries, has_graph, table_said}
+use Rattle.nr_shifttable.specs.Accepted.{Entries, has_graph}
 use Rattle.nr_ldpcenc.specs.Codeword.{codeword, filler}
 use Rattle.nr_blockdesk.specs.Link.{demanded}
 use Rattle.nr_blockdesk.specs.declared.fault.DeskFault.TheVariants as desk
 use Rattle.nr_c.specs.Crossing.{digit}
+use Rattle.nr_c.specs.Entries.{table_by}
 use Rattle.nr_c.specs.Numbers.{planned_said}
 use Rattle.nr_c.specs.Statuses.{status_of}
 use Rattle.nr_c.specs.declared.coded.Coded.{Coded}
+use Rattle.nr_c.specs.declared.entries.NrEntry.{NrEntry}
 use Rattle.nr_c.specs.declared.fault.Fault.{Fault}
 use Rattle.nr_c.specs.declared.fault.Fault.TheVariants as fault
 
@@ -45,14 +47,14 @@ coded_by table rate2048 a octets = do
   bits ← bits_said octets
   Ok (record { plan = p.plan; word = codeword table p.graph p.plan bits })
 
--- the same, by a shift table's text
-unfoldable pub coded_said : List ℕ → ℕ → ℕ → List ℕ → Result Codeword Fault
-coded_said text rate2048 a octets = with_fault fault.Table (table_said text) >>= λ table. coded_by table rate2048 a octets
+-- the same, by a shift table's entries
+unfoldable pub coded_said : List NrEntry → ℕ → ℕ → List ℕ → Result Codeword Fault
+coded_said entries rate2048 a octets = table_by entries >>= λ table. coded_by table rate2048 a octets
 
 -- the same, where there is room for N octets
-abbrev pub coded_into_said : List ℕ → ℕ → ℕ → List ℕ → ℕ → Result Codeword Fault
-coded_into_said text rate2048 a octets room = do
-  coded ← coded_said text rate2048 a octets
+abbrev pub coded_into_said : List NrEntry → ℕ → ℕ → List ℕ → ℕ → Result Codeword Fault
+coded_into_said entries rate2048 a octets room = do
+  coded ← coded_said entries rate2048 a octets
   fits ← demanded fault.Room (coded.plan.n == room)
   Ok coded
 

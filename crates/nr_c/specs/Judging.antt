@@ -1,17 +1,15 @@
--- What judging a shift table tells.
-use Rattle.std.specs.Prelude.{◌≡◌, ◌⊎◌, ℕ, Result, Ok, Err, length}
+-- What judging a shift table tells, and what is listed of one.
+use Rattle.std.specs.Prelude.{◌≡◌, ◌⊎◌, ℕ, ◌==◌, if◌then◌else◌, Result, Ok, Err, List, length, map}
 use Rattle.nr_graphpick.specs.declared.Graph.{Graph}
 use Rattle.nr_graphpick.specs.declared.Graph.TheVariants.{One, Two}
 use Rattle.nr_shifttable.specs.Accepted.{Entries}
 use Rattle.nr_shifttable.specs.declared.fault.TableFault.{TableFault}
 use Rattle.nr_shifttable.specs.declared.fault.TableFault.TheVariants as table
+use Rattle.nr_shifttable.specs.Listed.{items_listed}
+use Rattle.nr_c.specs.Entries.{entry_of, graph_number}
 use Rattle.nr_c.specs.Statuses.{table_status}
+use Rattle.nr_c.specs.declared.entries.NrEntry.{NrEntry}
 use Rattle.nr_c.specs.declared.table.NrReport.{NrReport}
-
--- the number of a base graph
-abbrev pub graph_number : Graph → ℕ
-graph_number One = 1
-graph_number Two = 2
 
 -- the place of a fault: the number of a record or of a base graph; 0 where it has none
 abbrev pub fault_place : TableFault → ℕ
@@ -41,3 +39,32 @@ judged_status (Err e) = table_status e
 -- What a call that judges leaves in its place: what is said of the table. Where memory runs out it is as it was.
 abbrev pub Reports : ℕ → NrReport → NrReport → Result Entries TableFault → Type 0
 Reports status old new said = ((status ≡ judged_status said) × (new ≡ report_of said)) ⊎ ((status ≡ 1) × (new ≡ old))
+
+-- the entries of a table
+abbrev pub entries_of : Entries → List NrEntry
+entries_of t = map entry_of (items_listed t)
+
+-- a caller's places: for entries, and for how many there are
+pub record Listing : Type 0 where
+  pub room : List NrEntry
+  pub count : ℕ
+
+abbrev pub listing : List NrEntry → ℕ → Listing
+listing room count = record { room = room; count = count }
+
+-- the number that a call answers which lists a table for a room of so many entries: 2, where the table has more or fewer
+abbrev pub listed_status : ℕ → Result Entries TableFault → ℕ
+listed_status room (Ok t) = if length (entries_of t) == room then 0 else 2
+listed_status room (Err e) = table_status e
+
+-- what it leaves in its places: how many entries the table has, and them where the room has their length; of a refused table
+-- nothing
+abbrev pub listed : Listing → Result Entries TableFault → Listing
+listed old (Ok t) =
+    record { room = if length (entries_of t) == length old.room then entries_of t else old.room; count = length (entries_of t) }
+listed old (Err e) = old
+
+-- What a call that lists leaves in its places. Where memory runs out they are as they were.
+abbrev pub Lists : ℕ → Listing → Listing → Result Entries TableFault → Type 0
+Lists status old new said =
+    ((status ≡ listed_status (length old.room) said) × (new ≡ listed old said)) ⊎ ((status ≡ 1) × (new ≡ old))

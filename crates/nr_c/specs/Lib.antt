@@ -1,4 +1,5 @@
 pub mod Statuses
+pub mod Entries
 pub mod Crossing
 pub mod Sending
 pub mod Findings

@@ -1,7 +1,7 @@
 -- What receiving a transport block over its transmissions answers.
 use Rattle.std.specs.Prelude.{ℕ, ◌++◌, ◌==◌, nat_le, if◌then◌else◌, Result, Ok, Err, List, [], ◌∷◌, length, map, take, drop}
 use Rattle.nr_graphpick.specs.Refusal.{◌>>=◌, with_fault}
-use Rattle.nr_shifttable.specs.Accepted.{Entries, table_said}
+use Rattle.nr_shifttable.specs.Accepted.{Entries}
 use Rattle.nr_blockdesk.specs.Explains.{Reception, reception, reception_said}
 use Rattle.nr_blockdesk.specs.Link.{Link, demanded, link_said}
 use Rattle.nr_blockdesk.specs.Outcome.{Verdict, outcome_of}
@@ -10,8 +10,10 @@ use Rattle.nr_blockdesk.specs.declared.heard.Heard.{Heard}
 use Rattle.nr_blockdesk.specs.declared.heard.Heard.TheVariants as heard
 use Rattle.nr_blockdesk.specs.declared.settings.Settings.{Settings}
 use Rattle.nr_c.specs.Crossing.{tx_of}
+use Rattle.nr_c.specs.Entries.{table_by}
 use Rattle.nr_c.specs.Findings.{Findings, findings, has_room}
 use Rattle.nr_c.specs.declared.crossing.NrTx.{NrTx}
+use Rattle.nr_c.specs.declared.entries.NrEntry.{NrEntry}
 use Rattle.nr_c.specs.declared.fault.Fault.{Fault}
 use Rattle.nr_c.specs.declared.fault.Fault.TheVariants as fault
 use Rattle.nr_c.specs.declared.findings.Room.{Room}
@@ -43,16 +45,16 @@ unfoldable pub receive_by : Entries → Settings → ℕ → List NrTx → List 
 receive_by table settings a ts octets =
     with_fault fault.Desk (link_said table settings a) >>= λ link. heard_said link [] ts octets
 
--- the same of at most 256, by a shift table's text
-unfoldable pub receive_said : List ℕ → Settings → ℕ → List NrTx → List ℕ → Result Findings Fault
-receive_said text settings a ts octets = do
+-- the same of at most 256, by a shift table's entries
+unfoldable pub receive_said : List NrEntry → Settings → ℕ → List NrTx → List ℕ → Result Findings Fault
+receive_said entries settings a ts octets = do
   few ← demanded fault.Many (nat_le (length ts) 256)
-  table ← with_fault fault.Table (table_said text)
+  table ← table_by entries
   receive_by table settings a ts octets
 
 -- the same, where there is room for what is found
-abbrev pub receive_into_said : List ℕ → Settings → ℕ → List NrTx → List ℕ → Room → Result Findings Fault
-receive_into_said text settings a ts octets room = do
-  found ← receive_said text settings a ts octets
+abbrev pub receive_into_said : List NrEntry → Settings → ℕ → List NrTx → List ℕ → Room → Result Findings Fault
+receive_into_said entries settings a ts octets room = do
+  found ← receive_said entries settings a ts octets
   fits ← demanded fault.Room (has_room room found)
   Ok found

@@ -2,14 +2,16 @@
 use Rattle.std.specs.Prelude.{◌≡◌, ◌⊎◌, ℕ, ◌==◌, nat_le, Bool, Result, Ok, Err, List, length}
 use Rattle.nr_bitvec.specs.BitList.{bits_of}
 use Rattle.nr_graphpick.specs.Refusal.{◌>>=◌, with_fault}
-use Rattle.nr_shifttable.specs.Accepted.{Entries, table_said}
+use Rattle.nr_shifttable.specs.Accepted.{Entries}
 use Rattle.nr_blockdesk.specs.Link.{demanded}
 use Rattle.nr_blockdesk.specs.Sent.{sending_said, sent_said}
 use Rattle.nr_blockdesk.specs.declared.fault.DeskFault.TheVariants as desk
 use Rattle.nr_blockdesk.specs.declared.settings.Settings.{Settings}
 use Rattle.nr_blockdesk.specs.declared.tx.Tx.{Tx}
 use Rattle.nr_c.specs.Crossing.{AreBits}
+use Rattle.nr_c.specs.Entries.{table_by}
 use Rattle.nr_c.specs.Statuses.{status_of}
+use Rattle.nr_c.specs.declared.entries.NrEntry.{NrEntry}
 use Rattle.nr_c.specs.declared.fault.Fault.{Fault}
 use Rattle.nr_c.specs.declared.fault.Fault.TheVariants as fault
 
@@ -20,14 +22,14 @@ send_by table settings octets tx = do
   sender ← with_fault fault.Desk (sending_said table settings (bits_of octets))
   with_fault fault.Desk (sent_said sender.link tx sender.block)
 
--- the same, by a shift table's text
-unfoldable pub send_said : List ℕ → Settings → List ℕ → Tx → Result (List Bool) Fault
-send_said text settings octets tx = with_fault fault.Table (table_said text) >>= λ table. send_by table settings octets tx
+-- the same, by a shift table's entries
+unfoldable pub send_said : List NrEntry → Settings → List ℕ → Tx → Result (List Bool) Fault
+send_said entries settings octets tx = table_by entries >>= λ table. send_by table settings octets tx
 
 -- the same, where there is room for so many
-abbrev pub send_into_said : List ℕ → Settings → List ℕ → Tx → ℕ → Result (List Bool) Fault
-send_into_said text settings octets tx room = do
-  bits ← send_said text settings octets tx
+abbrev pub send_into_said : List NrEntry → Settings → List ℕ → Tx → ℕ → Result (List Bool) Fault
+send_into_said entries settings octets tx room = do
+  bits ← send_said entries settings octets tx
   fits ← demanded fault.Room (length bits == room)
   Ok bits
 

@@ -66,6 +66,7 @@ status_of fault.Room = 2
 status_of fault.Many = 3
 status_of fault.Poly = 4
 status_of fault.Bit = 5
+status_of fault.Entries = 31
 status_of (fault.Table e) = table_status e
 status_of (fault.Desk e) = desk_status e
 

@@ -1,14 +1,15 @@
 //! Encoding one code block.
 
-ghost use Rattle.std.specs.Prelude.{◌≡◌, ◌<◌, ◌≤◌, length, map, IfOk};
+ghost use Rattle.std.specs.Prelude.{◌≡◌, ◌<◌, ◌≤◌, false, Err, length, map, IfOk};
 ghost use Rattle.std.specs.List.{list_all};
 ghost use Rattle.nr_graphpick.specs.Refusal.{Gives};
+ghost use Rattle.nr_c.specs.Entries.{are_placed};
 ghost use Rattle.nr_c.specs.Coding.{AreCoded, Codes, bits_said, coded_by, coded_into_said, coded_octet, coded_of, coded_said, is_digit, is_one};
 
 use crate::coded::Coded;
+use crate::entries::{NrEntry, table_by};
 use crate::fault::Fault;
 use crate::numbers::plan_on;
-use crate::table::read;
 use nr_bitvec::Bits;
 use nr_blockdesk::DeskFault;
 use nr_ldpcenc::encode;
@@ -24,21 +25,22 @@ const FILLER: u8 = 2;
 ///
 /// # Errors
 ///
-/// In this order: the faults of the shift table as `nr_table_check` has them, 21 to 30; 40 `Size`, 41 `RateRange` and 45
-/// `Uneven`, as `nr_plan` has them; 46 `Graph`, where the table lacks the base graph; 56 `Length`, where `bits` does not have
-/// K' octets; 5 `Bit`, where one of them is neither 0 nor 1; 2 `Room`, where `out` does not have N octets; 1, want of memory,
-/// where it is met. `out` is as it was then.
+/// In this order: of the shift table 31 `Entries`, 29 `Empty`, 26 `Core`, 27 `Extension`, 28 `MissingRow`, as `nr_send` has
+/// them; 40 `Size`, 41 `RateRange` and 45 `Uneven`, as `nr_plan` has them; 46 `Graph`, where the table lacks the base graph; 56
+/// `Length`, where `bits` does not have K' octets; 5 `Bit`, where one of them is neither 0 nor 1; 2 `Room`, where `out` does
+/// not have N octets; 1, want of memory, where it is met, never in place of 31. `out` is as it was then.
 #[unsafe(no_mangle)]
 pub extern "C" fn nr_codeword(
     alloc: Global,
-    table: &[u8],
+    table: &[NrEntry],
     rate2048: u32,
     a: u32,
     bits: &[u8],
     out: &mut [u8],
 ) -> u32
-    ensures { Codes result out.old out.new
+    ensures said { Codes result out.old out.new
         (coded_into_said table.now rate2048 a bits.now (length out.old)) }
+    ensures placed { are_placed table.now ≡ false → result ≡ 31 }
 {
     match code_into(alloc, table, rate2048, a, bits, out.len()) {
         Ok(coded) => {
@@ -76,7 +78,7 @@ fn octet_at(coded: &Coded, n: usize) -> u8
 // The codeword for a room of so many octets.
 fn code_into(
     alloc: Global,
-    table: &[u8],
+    table: &[NrEntry],
     rate2048: u32,
     a: u32,
     octets: &[u8],
@@ -85,6 +87,7 @@ fn code_into(
     ensures said { Gives Fault.Memory coded_of result
         (coded_into_said table.now rate2048 a octets.now room) }
     ensures room { IfOk result (λ coded. coded.plan.n ≡ room) }
+    ensures placed { are_placed table.now ≡ false → result ≡ Err Fault.Entries }
 {
     let coded = code(alloc, table, rate2048, a, octets)?;
     if coded.plan.n as usize != room {
@@ -93,13 +96,20 @@ fn code_into(
     Ok(coded)
 }
 
-// The codeword, by a shift table's text.
+// The codeword, by a shift table's entries.
 #[tactic(auto, unfolding(crate::specs::Coding::coded_said))]
-fn code(alloc: Global, table: &[u8], rate2048: u32, a: u32, octets: &[u8]) -> Result<Coded, Fault>
-    ensures { Gives Fault.Memory coded_of result
+fn code(
+    alloc: Global,
+    table: &[NrEntry],
+    rate2048: u32,
+    a: u32,
+    octets: &[u8],
+) -> Result<Coded, Fault>
+    ensures said { Gives Fault.Memory coded_of result
         (coded_said table.now rate2048 a octets.now) }
+    ensures placed { are_placed table.now ≡ false → result ≡ Err Fault.Entries }
 {
-    let table = read(alloc, table)?;
+    let table = table_by(alloc, table)?;
     code_by(alloc, &table, rate2048, a, octets)
 }
 

@@ -3,7 +3,7 @@
 use crate::coding::nr_codeword;
 use crate::crossing::NrSettings;
 use crate::rates::{NrBuffer, nr_buffer, nr_lengths};
-use crate::tests::{on_one_layer, practice};
+use crate::tests::{entries, on_one_layer};
 use std::test::Fail;
 
 // By hand from 5.4.2.1: 3832 bits at the rate 0.25 have two code blocks, of which the second has the longer length.
@@ -73,7 +73,7 @@ fn octets_of_columns() -> [u8; 200] {
 // The 24 bits are octet 01 and its CRC, 1021. 296 bits at the full rate want base graph 1.
 #[test]
 fn codes(rt: HostRuntime) -> Result<(), Fail> {
-    let table = practice(rt.alloc())?;
+    let table = entries(rt.alloc())?;
     let mut bits = [0; 24];
     for at in [7, 11, 18, 23] {
         bits[at] = 1;

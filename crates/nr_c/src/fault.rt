@@ -23,6 +23,8 @@ pub enum Fault {
     Poly,
     /// An octet that stands for a bit is neither 0 nor 1.
     Bit,
+    /// An entry of a shift table is outside its base graph, or does not stand past those before it.
+    Entries,
     /// The shift table is refused.
     Table(TableFault),
     /// The transport block or a transmission is refused.
@@ -40,6 +42,7 @@ impl Fault {
             Fault::Many => 3,
             Fault::Poly => 4,
             Fault::Bit => 5,
+            Fault::Entries => 31,
             Fault::Table(fault) => table_status(fault),
             Fault::Desk(fault) => desk_status(fault),
         }

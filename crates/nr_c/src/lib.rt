@@ -1,8 +1,8 @@
 //! The data coding chain of NR's shared channels (3GPP TS 38.212, Release 15) for callers in C: a static library.
 //! Each export answers a status, 0 or the number of its first fault (specs/Statuses.antt), and has no `requires`: it tests
 //! all that it is given, and what it writes is a stated function of that; a refusal writes nothing. A slice is a pointer
-//! and a length, a `Global` no argument; no memory outlives a call. The main contracts are those of `nr_send` and
-//! `nr_receive`. Stands on nr_blockdesk for both ends of a link, and on the layers below it.
+//! and a length, a `Global` no argument; no memory outlives a call. A shift table is entries that the caller keeps. The main
+//! contracts are those of `nr_send` and `nr_receive`. Stands on nr_blockdesk for both ends of a link, and on the layers below it.
 #![tactic(auto)]
 
 mod coded;
@@ -10,6 +10,7 @@ pub mod coding;
 #[cfg(test)]
 mod coding_tests;
 pub mod crossing;
+pub mod entries;
 pub mod fault;
 mod findings;
 pub mod numbers;

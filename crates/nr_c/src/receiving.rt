@@ -1,6 +1,6 @@
 //! Receiving a transport block over its transmissions.
 
-ghost use Rattle.std.specs.Prelude.{◌≡◌, ◌<◌, ◌++◌, ◌∷◌, [], Err, List, length, map, true, IfOk};
+ghost use Rattle.std.specs.Prelude.{◌≡◌, ◌<◌, ◌≤◌, ◌++◌, ◌∷◌, [], Err, List, length, map, true, false, IfOk};
 ghost use Rattle.nr_graphpick.specs.Refusal.{Gives, with_fault};
 ghost use Rattle.nr_shifttable.specs.Accepted.{IsTable};
 ghost use Rattle.nr_blockdesk.specs.Explains.{Reception, reception, reception_said};
@@ -9,13 +9,14 @@ ghost use Rattle.nr_blockdesk.specs.Link.{IsLink, link_said};
 ghost use Rattle.nr_blockdesk.specs.Outcome.{outcome_of};
 ghost use Rattle.nr_blockdesk.specs.Receiving.{RefusesAs, verdict};
 ghost use Rattle.nr_c.specs.Crossing.{settings_of, tx_of};
+ghost use Rattle.nr_c.specs.Entries.{are_placed};
 ghost use Rattle.nr_c.specs.Findings.{Decides, findings_of, has_room, lefts, outcome_number, outcomes_of, places, room_in};
 ghost use Rattle.nr_c.specs.Receiving.{heard_octet, heard_said, one_more_said, receive_by, receive_into_said, receive_said};
 
 use crate::crossing::{NrSettings, NrTx};
+use crate::entries::{NrEntry, table_by};
 use crate::fault::Fault;
 use crate::findings::{Found, Room, outcome_number};
-use crate::table::read;
 use nr_blockdesk::{
     DeskFault, Heard, Outcome, Receiver, Settings, Tx, links_are_sound, nothing_is_open,
 };
@@ -35,16 +36,16 @@ const MOST_TRANSMISSIONS: usize = 256;
 ///
 /// # Errors
 ///
-/// In this order: 3 `Many`, where there are more than 256 transmissions; the faults of the shift table, 21 to 30, as
-/// `nr_table_check` has them; of the block 40 `Size`, 41 `RateRange`, 45 `Uneven`, 46 `Graph`, 47 `NoBuffer`; for each
+/// In this order: 3 `Many`, where there are more than 256 transmissions; of the shift table 31 `Entries`, 29 `Empty`, 26
+/// `Core`, 27 `Extension`, 28 `MissingRow`, as `nr_send` has them; of the block 40 `Size`, 41 `RateRange`, 45 `Uneven`, 46 `Graph`, 47 `NoBuffer`; for each
 /// transmission in turn 56 `Length`, where fewer than G octets are left, 50 `Rv`, 51 `Order`, 52 `Layers`, 53 `Total`, 54
 /// `Ragged`, 55 `NoneScheduled`; 56 `Length`, where octets are left over; 2 `Room`, where `outcomes` or `left` does not have
 /// so many entries, or a block is delivered at last and `block` does not have a / 8 octets; 1, want of memory, where it is
-/// met. `outcomes`, `left` and `block` are as they were then.
+/// met, never in place of 3 and 31. `outcomes`, `left` and `block` are as they were then.
 #[unsafe(no_mangle)]
 pub extern "C" fn nr_receive(
     alloc: Global,
-    table: &[u8],
+    table: &[NrEntry],
     settings: &NrSettings,
     a: u32,
     txs: &[NrTx],
@@ -58,6 +59,7 @@ pub extern "C" fn nr_receive(
         (receive_into_said table.now (settings_of settings.now) a txs.now heard.now
         (room_in (places outcomes.old left.old block.old))) }
     ensures many { 256 < length txs.now → result ≡ 3 }
+    ensures placed { length txs.now ≤ 256 → are_placed table.now ≡ false → result ≡ 31 }
 {
     let room = Room {
         outcomes: outcomes.len(),
@@ -76,7 +78,7 @@ pub extern "C" fn nr_receive(
 // What is found, for so much room.
 fn receive_into(
     alloc: Global,
-    table: &[u8],
+    table: &[NrEntry],
     settings: Settings,
     a: u32,
     txs: &[NrTx],
@@ -87,6 +89,8 @@ fn receive_into(
         (receive_into_said table.now settings a txs.now octets.now room) }
     ensures room { IfOk result (λ found. has_room room (findings_of found) ≡ true) }
     ensures many { 256 < length txs.now → result ≡ Err Fault.Many }
+    ensures placed { length txs.now ≤ 256 → are_placed table.now ≡ false
+        → result ≡ Err Fault.Entries }
 {
     let found = receive(alloc, table, settings, a, txs, octets)?;
     if !found.fits(&room) {
@@ -99,7 +103,7 @@ fn receive_into(
 #[tactic(auto, unfolding(crate::specs::Receiving::receive_said))]
 fn receive(
     alloc: Global,
-    table: &[u8],
+    table: &[NrEntry],
     settings: Settings,
     a: u32,
     txs: &[NrTx],
@@ -108,11 +112,13 @@ fn receive(
     ensures said { Gives Fault.Memory findings_of result
         (receive_said table.now settings a txs.now octets.now) }
     ensures many { 256 < length txs.now → result ≡ Err Fault.Many }
+    ensures placed { length txs.now ≤ 256 → are_placed table.now ≡ false
+        → result ≡ Err Fault.Entries }
 {
     if txs.len() > MOST_TRANSMISSIONS {
         return Err(Fault::Many);
     }
-    let table = read(alloc, table)?;
+    let table = table_by(alloc, table)?;
     receive_by(alloc, &table, settings, a, txs, octets)
 }
 

@@ -1,18 +1,18 @@
 //! Sending a transport block.
 
-ghost use Rattle.std.specs.Prelude.{◌≡◌, ◌*◌, ◌^◌, ◌≤◌, length, IfOk};
+ghost use Rattle.std.specs.Prelude.{◌≡◌, ◌*◌, ◌^◌, ◌≤◌, false, Err, length, IfOk};
 ghost use Rattle.nr_bitvec.specs.BitList.{bits_of};
 ghost use Rattle.nr_graphpick.specs.Refusal.{Gives, with_fault};
-ghost use Rattle.nr_shifttable.specs.Accepted.{table_said};
 ghost use Rattle.nr_blockdesk.specs.Link.{demanded};
 ghost use Rattle.nr_blockdesk.specs.Sent.{sending_said, sent_said};
 ghost use Rattle.nr_blockdesk.specs.declared.fault.DeskFault.TheVariants as desk;
 ghost use Rattle.nr_c.specs.Crossing.{settings_of, tx_of};
+ghost use Rattle.nr_c.specs.Entries.{are_placed};
 ghost use Rattle.nr_c.specs.Sending.{Answers, send_by, send_into_said, send_said};
 
 use crate::crossing::{NrSettings, NrTx, write_bits};
+use crate::entries::{NrEntry, table_by};
 use crate::fault::Fault;
-use crate::table::read;
 use nr_bitvec::Bits;
 use nr_blockdesk::{DeskFault, Sender, Settings, Tx};
 use nr_shifttable::Table;
@@ -26,21 +26,23 @@ const MOST_OCTETS: usize = 163_840;
 ///
 /// # Errors
 ///
-/// In this order: the faults of the shift table as `nr_table_check` has them, 21 to 30; of the block 40 `Size`, 41
-/// `RateRange`, 45 `Uneven`, 46 `Graph`, 47 `NoBuffer`; of the transmission 50 `Rv`, 51 `Order`, 52 `Layers`, 53
+/// In this order: 31 `Entries`, where an entry of the shift table is outside its base graph or does not stand past those
+/// before it; 29 `Empty`; for each base graph that has an entry 26 `Core`, 27 `Extension`, 28 `MissingRow`; of the block 40
+/// `Size`, 41 `RateRange`, 45 `Uneven`, 46 `Graph`, 47 `NoBuffer`; of the transmission 50 `Rv`, 51 `Order`, 52 `Layers`, 53
 /// `Total`, 54 `Ragged`, 55 `NoneScheduled`; 2 `Room`, where `out` does not have G octets; 1, want of memory, where it is
-/// met. `out` is as it was then.
+/// met, never in place of 31. `out` is as it was then.
 #[unsafe(no_mangle)]
 pub extern "C" fn nr_send(
     alloc: Global,
-    table: &[u8],
+    table: &[NrEntry],
     settings: &NrSettings,
     block: &[u8],
     tx: &NrTx,
     out: &mut [u8],
 ) -> u32
-    ensures { Answers result out.old out.new (send_into_said table.now
+    ensures said { Answers result out.old out.new (send_into_said table.now
         (settings_of settings.now) block.now (tx_of tx.now) (length out.old)) }
+    ensures placed { are_placed table.now ≡ false → result ≡ 31 }
 {
     match send_into(
         alloc,
@@ -61,7 +63,7 @@ pub extern "C" fn nr_send(
 // The bits for a room of this length.
 fn send_into(
     alloc: Global,
-    table: &[u8],
+    table: &[NrEntry],
     settings: Settings,
     block: &[u8],
     tx: &Tx,
@@ -70,6 +72,7 @@ fn send_into(
     ensures said { Gives Fault.Memory (λ bits. bits.items) result
         (send_into_said table.now settings block.now tx.now room) }
     ensures room { IfOk result (λ bits. length bits.items ≡ room) }
+    ensures placed { are_placed table.now ≡ false → result ≡ Err Fault.Entries }
 {
     let bits = send(alloc, table, settings, block, tx)?;
     if bits.len() != room {
@@ -82,15 +85,16 @@ fn send_into(
 #[tactic(auto, unfolding(crate::specs::Sending::send_said))]
 fn send(
     alloc: Global,
-    table: &[u8],
+    table: &[NrEntry],
     settings: Settings,
     block: &[u8],
     tx: &Tx,
 ) -> Result<Bits, Fault>
-    ensures { Gives Fault.Memory (λ bits. bits.items) result
+    ensures said { Gives Fault.Memory (λ bits. bits.items) result
         (send_said table.now settings block.now tx.now) }
+    ensures placed { are_placed table.now ≡ false → result ≡ Err Fault.Entries }
 {
-    let table = read(alloc, table)?;
+    let table = table_by(alloc, table)?;
     send_by(alloc, &table, settings, block, tx)
 }
 

@@ -1,12 +1,16 @@
-//! Reading and judging a shift table.
+//! Judging the text of a shift table, and reading its entries.
 
-ghost use Rattle.std.specs.Prelude.{◌≡◌, IfOk};
-ghost use Rattle.nr_graphpick.specs.Refusal.{Gives, with_fault};
-ghost use Rattle.nr_shifttable.specs.Accepted.{IsTable, table_said};
-ghost use Rattle.nr_c.specs.Judging.{Reports, fault_place, graph_number};
+ghost use Rattle.std.specs.Prelude.{◌≡◌, ◌<◌, Ok, length, map};
+ghost use Rattle.nr_graphpick.specs.Refusal.{with_fault};
+ghost use Rattle.nr_shifttable.specs.Accepted.{table_said};
+ghost use Rattle.nr_shifttable.specs.Listed.{items_listed};
+ghost use Rattle.nr_c.specs.Entries.{entry_of, graph_number, table_by};
+ghost use Rattle.nr_c.specs.Judging.{Lists, Reports, entries_of, fault_place, listed, listed_status, listing};
 
+use crate::entries::NrEntry;
 use crate::fault::{Fault, table_status};
 use nr_graphpick::Graph;
+use nr_shifttable::laws::{listed_are_kept, tables_are_sound};
 use nr_shifttable::{Table, TableFault};
 use std::alloc::Global;
 
@@ -30,12 +34,13 @@ pub struct NrReport {
 ///
 /// 30 `TooLong`, where the text has more than 4,194,304 octets; record by record 21 `Csv`, 22 `Fields`, 23 `Number`, 24
 /// `Range`, 25 `Twice`; 29 `Empty`; for each base graph that has an entry 26 `Core`, 27 `Extension`, 28 `MissingRow`.
-/// 1, where memory is refused: `out` is as it was then.
+/// 1, where memory is refused, never in place of 30: `out` is as it was then.
 #[unsafe(no_mangle)]
-pub extern "C" fn nr_table_check(alloc: Global, table: &[u8], out: &mut NrReport) -> u32
-    ensures { Reports result out.old out.new (table_said table.now) }
+pub extern "C" fn nr_table_check(alloc: Global, text: &[u8], out: &mut NrReport) -> u32
+    ensures said { Reports result out.old out.new (table_said text.now) }
+    ensures long { 4194304 < length text.now → result ≡ 30 }
 {
-    match Table::of_text(alloc, table) {
+    match Table::of_text(alloc, text) {
         Ok(table) => {
             let (one, two) = (table.entries(Graph::One), table.entries(Graph::Two));
             *out = NrReport { one, two, place: 0 };
@@ -50,6 +55,65 @@ pub extern "C" fn nr_table_check(alloc: Global, table: &[u8], out: &mut NrReport
                 place,
             };
             table_status(fault)
+        }
+    }
+}
+
+/// The entries of the shift table of a text, written to `out`, which has an entry for each, in the order in which the other
+/// calls take them: base graph 1 before base graph 2, then row by row, then by column (TS 38.212, 5.3.2). Writes to
+/// `count` how many they are, also where `out` has another length.
+///
+/// # Errors
+///
+/// In this order: 21 to 30, as `nr_table_check` has them; 2 `Room`, where `out` does not have so many entries: `out` is as
+/// it was then. 1, where memory is refused, never in place of 30. `out` and `count` are as they were with any but 2.
+#[unsafe(no_mangle)]
+pub extern "C" fn nr_table_entries(
+    alloc: Global,
+    text: &[u8],
+    out: &mut [NrEntry],
+    count: &mut usize,
+) -> u32
+    ensures said { Lists result (listing out.old count.old) (listing out.new count.new)
+        (table_said text.now) }
+    ensures kept { result ≡ 0
+        → table_by out.new ≡ with_fault Fault.Table (table_said text.now) }
+    ensures long { 4194304 < length text.now → result ≡ 30 }
+{
+    match Table::of_text(alloc, text) {
+        Ok(table) => list(&table, out, count),
+        Err(fault) => table_status(fault),
+    }
+}
+
+// Writes how many entries a table has, and the entries where there is room for so many.
+fn list(table: &Table, out: &mut [NrEntry], count: &mut usize) -> u32
+    ensures status { result ≡ listed_status (length out.old) (Ok table.now) }
+    ensures places { listing out.new count.new
+        ≡ listed (listing out.old count.old) (Ok table.now) }
+    ensures kept { result ≡ 0 → table_by out.new ≡ Ok table.now }
+{
+    let wanted = table.entries(Graph::One) as usize + table.entries(Graph::Two) as usize;
+    *count = wanted;
+    if out.len() != wanted {
+        return Fault::Room.status();
+    }
+    write_entries(table, out);
+    listed_are_kept();
+    tables_are_sound(table);
+    0
+}
+
+// Writes the entries of a table.
+fn write_entries(table: &Table, out: &mut [NrEntry])
+    requires { length out.old ≡ length (items_listed table.now) }
+    ensures { out.new ≡ entries_of table.now }
+{
+    // A sound table has few entries, so that each number of one fits.
+    tables_are_sound(table);
+    for (n, entry) in out.iter_mut().enumerate() {
+        if let Some(item) = table.item(n as u32) {
+            *entry = NrEntry::of(&item);
         }
     }
 }
@@ -76,18 +140,5 @@ pub(crate) fn graph_number(graph: Graph) -> u32
     match graph {
         Graph::One => 1,
         Graph::Two => 2,
-    }
-}
-
-// The shift table of a text.
-pub(crate) fn read(alloc: Global, text: &[u8]) -> Result<Table, Fault>
-    ensures table { IfOk result IsTable }
-    ensures said { Gives Fault.Memory (λ table. table) result
-        (with_fault Fault.Table (table_said text.now)) }
-{
-    match Table::of_text(alloc, text) {
-        Ok(table) => Ok(table),
-        Err(TableFault::Memory) => Err(Fault::Memory),
-        Err(fault) => Err(Fault::Table(fault)),
     }
 }

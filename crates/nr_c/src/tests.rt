@@ -1,10 +1,11 @@
 //! Each call once with ample memory, by values from catalogues and by hand.
 
 use crate::crossing::{NrSettings, NrTx};
+use crate::entries::NrEntry;
 use crate::numbers::{NrPlan, nr_crc, nr_plan};
 use crate::receiving::nr_receive;
 use crate::sending::nr_send;
-use crate::table::{NrReport, nr_table_check};
+use crate::table::{NrReport, nr_table_check, nr_table_entries};
 use std::alloc::{AllocError, Global};
 use std::fmt::Write;
 use std::test::Fail;
@@ -52,6 +53,23 @@ pub(crate) fn practice(alloc: Global) -> Result<Vec<u8>, AllocError> {
         put(&mut text, row, 10 + row, 0)?;
     }
     Ok(text.into_bytes())
+}
+
+/// An entry of no table.
+const NO_ENTRY: NrEntry = NrEntry {
+    graph: 7,
+    row: 7,
+    col: 7,
+    values: [7; 8],
+};
+
+/// The entries of the practice table.
+pub(crate) fn entries(alloc: Global) -> Result<[NrEntry; 105], AllocError> {
+    let text = practice(alloc)?;
+    let mut entries = [NO_ENTRY; 105];
+    let mut count = 0;
+    nr_table_entries(alloc, &text, &mut entries, &mut count);
+    Ok(entries)
 }
 
 /// A transmission of every code block on one layer.
@@ -147,11 +165,44 @@ fn judges(rt: HostRuntime) -> Result<(), Fail> {
     Ok(())
 }
 
+// The practice table's first row is 0, and its last column 51.
+#[test]
+fn lists(rt: HostRuntime) -> Result<(), Fail> {
+    let text = practice(rt.alloc())?;
+    let mut count = 7;
+    let mut short = [NO_ENTRY; 104];
+    assert_eq!(rt;
+        nr_table_entries(rt.alloc(), b"2".as_slice(), &mut short, &mut count),
+        22
+    );
+    assert_eq!(rt; (count, short[0].graph), (7, 7));
+    assert_eq!(rt;
+        nr_table_entries(rt.alloc(), &text, &mut short, &mut count),
+        2
+    );
+    assert_eq!(rt; (count, short[0].graph), (105, 7));
+    let mut long = [NO_ENTRY; 106];
+    assert_eq!(rt;
+        nr_table_entries(rt.alloc(), &text, &mut long, &mut count),
+        2
+    );
+    assert_eq!(rt; (count, long[0].graph), (105, 7));
+    let mut entries = [NO_ENTRY; 105];
+    assert_eq!(rt;
+        nr_table_entries(rt.alloc(), &text, &mut entries, &mut count),
+        0
+    );
+    let (first, last) = (entries[0], entries[104]);
+    assert_eq!(rt; (count, first.graph, first.row, first.col), (105, 2, 0, 0));
+    assert_eq!(rt; (last.graph, last.row, last.col), (2, 41, 51));
+    Ok(())
+}
+
 // By hand from the practice table's rows: the information columns of octet 01 with its CRC are 0 1 1 0 2 1, and the parity
 // columns begin with 0 3. The first two columns are not sent, nor are the fillers.
 #[test]
 fn sends(rt: HostRuntime) -> Result<(), Fail> {
-    let table = practice(rt.alloc())?;
+    let table = entries(rt.alloc())?;
     let mut out = [7; 24];
     let tx = on_one_layer(0, 24, 1);
     assert_eq!(rt;
@@ -169,6 +220,17 @@ fn sends(rt: HostRuntime) -> Result<(), Fail> {
         ),
         50
     );
+    assert_eq!(rt;
+        nr_send(
+            rt.alloc(),
+            &[table[1], table[0]],
+            &PLAIN,
+            &[1],
+            &tx,
+            &mut out
+        ),
+        31
+    );
     assert_eq!(rt; out, [7; 24]);
     assert_eq!(rt; nr_send(rt.alloc(), &table, &PLAIN, &[1], &tx, &mut out), 0);
     assert_eq!(rt;
@@ -184,7 +246,7 @@ fn sends(rt: HostRuntime) -> Result<(), Fail> {
 // the second heard whole, and of the third ones are heard where zeros were before.
 #[test]
 fn receives(rt: HostRuntime) -> Result<(), Fail> {
-    let table = practice(rt.alloc())?;
+    let table = entries(rt.alloc())?;
     let txs = [
         on_one_layer(0, 8, 1),
         on_one_layer(0, 184, 1),
@@ -224,7 +286,7 @@ fn receives(rt: HostRuntime) -> Result<(), Fail> {
 // Too little room for the outcomes, for what is left, and for the block; a place too few, and one too many.
 #[test]
 fn receives_nothing(rt: HostRuntime) -> Result<(), Fail> {
-    let table = practice(rt.alloc())?;
+    let table = entries(rt.alloc())?;
     let txs = [on_one_layer(0, 184, 1)];
     let heard = [0; 185];
     for (outcome_count, left_count, octets, places, status) in [
