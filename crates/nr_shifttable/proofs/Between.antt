@@ -1,8 +1,10 @@
 -- Between the start of a row and that of the next stand the row's entries, and so of a column.
 use Rattle.std.proofs.Common.{◌≡◌, ◌≢◌, ℕ, ◌+◌, ◌-◌, ◌<◌, ◌≤◌, ◌==◌, nat_lt, nat_le, true, false, List, [], length, get_or, set, take, drop, sym, subst, ◌∙◌, below_more, get_or-set_other, get_or-set_same, arith}
 use Rattle.std.specs.Prelude.{slice_index}
-use Rattle.std.specs.List.{filter, All}
-use Rattle.std.specs.List.Sorted.{IsPartitionPoint}
+use Rattle.std.specs.List.{filter, All, AllWithin}
+use Rattle.std.specs.List.Sorted.{IsNonDecreasingBy, IsPartitionPoint}
+use Rattle.std.proofs.lemmas.List.{get_or_default}
+use Rattle.std.proofs.lemmas.Bool.{ltb-true}
 use Rattle.std.proofs.lemmas.Bool.Decides.{nat_tests}
 use Rattle.nr_shifttable.specs.declared.entry.Entry.{Entry}
 use Rattle.nr_shifttable.specs.Accepted.{row_of, column_of, Ascending}
@@ -31,6 +33,38 @@ starts-more key es starts i start room here before =
     below_more (λ k. IsStart key es k (slice_index (set starts i start) k)) i
     (λ k lt. let ne : k ≢ i = omega arith in subst (IsStart key es k) (sym (get_or-set_other starts i k start 0 ne)) (before k lt))
     (subst (IsStart key es i) (sym (get_or-set_same starts i start 0 room)) here)
+
+-- a start is found where all before it are below the key, and the entry at it is not
+pub start-from : (key : Entry → ℕ) (es : List Entry) (i start : ℕ) → start ≤ length es → IsNonDecreasingBy key es
+    → AllWithin (λ e. key e < i) es 0 start → (d : Entry) → (start < length es → i ≤ key (get_or es start d)) → IsStart key es i start
+start-from key es i start within up before e here = record {
+  within = within;
+  point = (
+    (λ k d a b. below (key (get_or es k d)) (before k d a b)),
+    (λ k d a b.
+        let room : start < length es = omega arith in
+        let first : i ≤ key (get_or es start d) = subst (λ x. i ≤ key x) (get_or_default es start e d room) (here room) in
+        let rise = up start k d a b in
+        above (key (get_or es k d)) (omega arith)),
+  );
+}
+  where
+    below : (a : ℕ) → a < i → nat_lt a i ≡ true
+    below a lt = grind (arith, nat_tests)
+
+    above : (a : ℕ) → i ≤ a → nat_lt a i ≡ false
+    above a le = grind (arith, nat_tests)
+
+-- one more entry below the key
+pub within-more : (key : Entry → ℕ) (es : List Entry) (i n : ℕ) → n < length es → AllWithin (λ e. key e < i) es 0 n → (d : Entry) → key (get_or es n d) < i → AllWithin (λ e. key e < i) es 0 (n + 1)
+within-more key es i n room before e here k d a b = below_more (λ j. key (get_or es j d) < i) n (λ j lt. before j d (omega arith) lt) (subst (λ x. key x < i) (get_or_default es n e d room) here) k b
+
+-- what is before the start of a key is below the next key
+pub start-before : (key : Entry → ℕ) (es : List Entry) (i start : ℕ) → IsStart key es i start → AllWithin (λ e. key e < i + 1) es 0 start
+start-before key es i start is k d a b = below (key (get_or es k d)) (is.point.0 k d a b)
+  where
+    below : (a : ℕ) → nat_lt a i ≡ true → a < i + 1
+    below a h = let lt : a < i = ltb-true a i h in omega arith
 
 -- past the last row or column no entry stands
 pub no_row : (es : List Entry) (i : ℕ) → 46 ≤ i → All (λ e. e.row < 46) es → row_of es i ≡ []

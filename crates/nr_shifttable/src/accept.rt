@@ -5,7 +5,7 @@ ghost use Rattle.nr_shifttable.specs.Accepted.{Ascending, is_zero, zero_at, lone
 
 use crate::entry::Entry;
 use crate::fault::TableFault;
-use crate::sorted::{row_of, tail, values_at};
+use crate::sorted::{Sorted, values_in};
 use nr_graphpick::Graph;
 
 // Whether the values are 0 in all sets.
@@ -82,43 +82,40 @@ fn rows_agree(
 // Whether the first parity column, `n`, stands in rows 0 and 3 and in one of rows 1 and 2, with
 // values that agree.
 #[tactic(auto, unfolding(crate::specs::Accepted::first_column_ok))]
-fn first_column_ok(n: u32, entries: &[Entry]) -> bool
-    requires { Ascending 0 entries.now }
+fn first_column_ok(n: u32, entries: &Sorted) -> bool
     ensures { result ≡ first_column_ok n entries.now }
 {
     rows_agree(
-        values_at(entries, 0, n),
-        values_at(entries, 1, n),
-        values_at(entries, 2, n),
-        values_at(entries, 3, n),
+        values_in(entries.row(0), n),
+        values_in(entries.row(1), n),
+        values_in(entries.row(2), n),
+        values_in(entries.row(3), n),
     )
 }
 
 // Whether rows 0 to 3 have the double diagonal of zeros in columns `n + 1` to `n + 3`, and nothing
 // else there and above.
 #[tactic(auto, unfolding(crate::specs::Accepted::diagonals_ok))]
-fn diagonals_ok(n: u32, entries: &[Entry]) -> bool
-    requires order { Ascending 0 entries.now }
-    requires few { n ≤ 22 }
+fn diagonals_ok(n: u32, entries: &Sorted) -> bool
+    requires { n ≤ 22 }
     ensures { result ≡ diagonals_ok n entries.now }
 {
-    lone_zero(n + 1, tail(entries, 0, n + 1))
-        && zero_pair(n + 1, tail(entries, 1, n + 1))
-        && zero_pair(n + 2, tail(entries, 2, n + 1))
-        && lone_zero(n + 3, tail(entries, 3, n + 1))
+    lone_zero(n + 1, entries.tail(0, n + 1))
+        && zero_pair(n + 1, entries.tail(1, n + 1))
+        && zero_pair(n + 2, entries.tail(2, n + 1))
+        && lone_zero(n + 3, entries.tail(3, n + 1))
 }
 
 // Whether each row from 4 on that has an entry has, from column `n + 4` on, zeros at its own column
 // alone.
 #[tactic(auto, unfolding(crate::specs::Accepted::extension_ok))]
-fn extension_ok(n: u32, rows: u32, entries: &[Entry]) -> bool
-    requires order { Ascending 0 entries.now }
+fn extension_ok(n: u32, rows: u32, entries: &Sorted) -> bool
     requires few { n ≤ 22 }
     requires rows { rows ≤ 46 }
     ensures { result ≡ extension_ok n rows entries.now }
 {
     for row in 4..rows {
-        if !row_of(entries, row).is_empty() && !lone_zero(n + row, tail(entries, row, n + 4)) {
+        if !entries.row(row).is_empty() && !lone_zero(n + row, entries.tail(row, n + 4)) {
             return false;
         }
     }
@@ -127,32 +124,31 @@ fn extension_ok(n: u32, rows: u32, entries: &[Entry]) -> bool
 
 // Whether each row from 4 on has an entry.
 #[tactic(auto, unfolding(crate::specs::Accepted::rows_present))]
-fn rows_present(rows: u32, entries: &[Entry]) -> bool
-    requires { Ascending 0 entries.now }
+fn rows_present(rows: u32, entries: &Sorted) -> bool
     ensures { result ≡ rows_present rows entries.now }
 {
     for row in 4..rows {
-        if row_of(entries, row).is_empty() {
+        if entries.row(row).is_empty() {
             return false;
         }
     }
     true
 }
 
-/// Judges the entries of one base graph, in ascending order. A table need not have the graph, so no
-/// entry at all is well.
+/// Judges the entries of one base graph. A table need not have the graph, so no entry at all is
+/// well.
 ///
 /// # Errors
 ///
 /// In this order: `Core`, `Extension`, `MissingRow`.
 #[tactic(auto, unfolding(crate::specs::Accepted::graph_checked))]
-pub(crate) fn check(graph: Graph, entries: &[Entry]) -> Result<(), TableFault>
-    requires { Ascending 0 entries.now }
-    ensures { result ≡ graph_checked graph entries.now }
+pub(crate) fn check(graph: Graph, entries: &Sorted) -> Result<(), TableFault>
+    ensures order { Ascending 0 entries.now }
+    ensures value { result ≡ graph_checked graph entries.now }
 {
     let n = graph.info_cols();
     let rows = graph.rows();
-    if entries.is_empty() {
+    if entries.entries().is_empty() {
         return Ok(());
     }
     if !(first_column_ok(n, entries) && diagonals_ok(n, entries)) {

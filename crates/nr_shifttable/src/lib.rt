@@ -7,9 +7,15 @@
 #![tactic(auto)]
 
 mod accept;
+#[cfg(test)]
+mod cut_tests;
+#[cfg(test)]
+mod entries_tests;
 mod entry;
 mod fault;
 mod fields;
+#[cfg(test)]
+mod fields_tests;
 mod items;
 pub mod laws;
 mod listed;

@@ -4,7 +4,6 @@ ghost use Rattle.std.specs.Prelude.{◌≡◌, None};
 
 use crate::entry::{Entry, Item};
 use crate::fault::TableFault;
-use crate::fields::{numeral, short_number, stripped};
 use crate::items::read_items;
 use crate::records::Records;
 use crate::source::{Broken, Endless, Feed, ReadFault, Source, read_to_end};
@@ -12,6 +11,7 @@ use crate::table::Table;
 use csv::ByteRecord;
 use nr_graphpick::Graph;
 use std::alloc::Global;
+use std::process::Abort;
 use std::test::Fail;
 
 /// A source that gives one octet a pull but fails at one pull, and counts its pulls.
@@ -53,24 +53,37 @@ fn failing_at(fail: u32) -> Failing
     }
 }
 
+/// Why a source is not read to its end.
+fn fault_of(alloc: Global, source: &mut Endless, limit: usize) -> Option<ReadFault> {
+    read_to_end(alloc, source, limit).err()
+}
+
 // A source that never ends is refused at the first octet too many.
 #[test]
 fn endless_sources(rt: HostRuntime) {
     for limit in [0, 1, 5, 70_000] {
         let mut source = Endless::new();
-        let read = read_to_end(rt.alloc(), &mut source, limit);
-        assert_eq!(rt; read.err(), Some(ReadFault::TooLong));
-        assert_eq!(rt; u64::from(source.pulls()), limit as u64 + 1);
+        let fault = fault_of(rt.alloc(), &mut source, limit);
+        assert!(rt; fault == Some(ReadFault::TooLong), "limit {limit}");
+        assert!(rt;
+            u64::from(source.pulls()) == limit as u64 + 1,
+            "limit {limit}"
+        );
     }
+}
+
+/// Why a table is not read.
+fn table_fault_of(alloc: Global, source: &mut Endless) -> Option<TableFault> {
+    Table::read(alloc, source).err()
 }
 
 // A table file has at most 4,194,304 octets.
 #[test]
 fn an_endless_table_is_too_long(rt: HostRuntime) {
     let mut source = Endless::new();
-    let answer = Table::read(rt.alloc(), &mut source);
-    assert_eq!(rt; answer.err(), Some(TableFault::TooLong));
-    assert_eq!(rt; source.pulls(), 4_194_305);
+    let fault = table_fault_of(rt.alloc(), &mut source);
+    assert!(rt; fault == Some(TableFault::TooLong));
+    assert!(rt; source.pulls() == 4_194_305);
 }
 
 // After a failure the source is pulled no more.
@@ -79,30 +92,35 @@ fn failing_sources(rt: HostRuntime) {
     for fail in 1..10 {
         let mut source = failing_at(fail);
         let read = read_to_end(rt.alloc(), &mut source, 100);
-        assert_eq!(rt; read.err(), Some(ReadFault::Broken));
-        assert_eq!(rt; source.pulls, fail);
+        assert!(rt; read.err() == Some(ReadFault::Broken), "pull {fail}");
+        assert!(rt; source.pulls == fail, "pull {fail}");
     }
 }
 
-#[test]
-fn numerals(rt: HostRuntime) {
-    for (most, text, want) in [
-        (10, "0", Some(0)),
-        (10, "9999999999", Some(9_999_999_999)),
-        (10, "0000000007", Some(7)),
-        (10, "12345678901", None),
-        (10, "", None),
-        (10, "-1", None),
-        (3, "255", Some(255)),
-        (2, "255", None),
-        (20, "18446744073709551615", Some(18_446_744_073_709_551_615)),
-        (20, "99999999999999999999", Some(99_999_999_999_999_999_999)),
-    ] {
-        assert_eq!(rt; numeral(most, text.as_bytes()), want, "{text}");
-    }
-    assert_eq!(rt; short_number(b"0065535"), Some(65535));
-    assert_eq!(rt; short_number(b"00000065535"), None);
-    assert_eq!(rt; stripped(b" \t1 2 "), b"1 2".as_slice());
+/// Takes a record, which is to be there or not.
+fn take_row(
+    rt: &impl Abort,
+    records: &mut Records,
+    row: &mut ByteRecord,
+    there: bool,
+) -> Result<(), Fail> {
+    assert!(rt; records.next(row)? == there);
+    Ok(())
+}
+
+/// That a record has so many fields, and this one as its last.
+fn ends_in(rt: &impl Abort, row: &ByteRecord, fields: usize, last: &[u8]) {
+    assert!(rt; row.len() == fields && row.get(fields.saturating_sub(1)) == Some(last));
+}
+
+/// Takes all records of the text below.
+fn take_rows(rt: &impl Abort, records: &mut Records, row: &mut ByteRecord) -> Result<(), Fail> {
+    take_row(rt, records, row, true)?;
+    ends_in(rt, row, 2, b"b");
+    take_row(rt, records, row, true)?;
+    ends_in(rt, row, 1, b"c,d");
+    take_row(rt, records, row, false)?;
+    take_row(rt, records, row, false)
 }
 
 // Records of any length, a blank line between two of them, and a quoted comma.
@@ -110,18 +128,25 @@ fn numerals(rt: HostRuntime) {
 fn records(rt: HostRuntime) -> Result<(), Fail> {
     let mut records = Records::new(rt.alloc(), b"a,b\n\r\n\"c,d\"\n");
     let mut row = ByteRecord::new(rt.alloc());
-    assert!(rt; records.next(&mut row)?);
-    assert_eq!(rt; (row.len(), row.get(1)), (2, Some(b"b".as_slice())));
-    assert!(rt; records.next(&mut row)?);
-    assert_eq!(rt; (row.len(), row.get(0)), (1, Some(b"c,d".as_slice())));
-    assert!(rt; !records.next(&mut row)?);
-    assert!(rt; !records.next(&mut row)?);
+    take_rows(&rt, &mut records, &mut row)
+}
+
+/// What is read of a feed of "shift", which is it or a fault.
+fn read_shift(
+    rt: &impl Abort,
+    alloc: Global,
+    feed: &mut Feed,
+    limit: usize,
+) -> Result<(), ReadFault>
+    requires { feed.old.failed ≡ 0 }
+{
+    let octets = read_to_end(alloc, feed, limit)?;
+    assert!(rt; octets.as_slice() == b"shift".as_slice());
     Ok(())
 }
 
 #[test]
 fn feeds(rt: HostRuntime) -> Result<(), Fail> {
-    let text = b"shift".as_slice();
     for (step, fail, limit, want) in [
         (1, 0, 5, Ok(())),
         (2, 0, 6, Ok(())),
@@ -133,25 +158,30 @@ fn feeds(rt: HostRuntime) -> Result<(), Fail> {
         (1, 7, 5, Ok(())),
         (2, 3, 5, Err(ReadFault::Broken)),
     ] {
-        let mut feed = Feed::new(Vec::from_slice(rt.alloc(), text)?, step, fail);
-        match read_to_end(rt.alloc(), &mut feed, limit) {
-            Ok(octets) => assert!(rt; want == Ok(()) && octets.as_slice() == text),
-            Err(fault) => assert!(rt; want == Err(fault)),
-        }
+        let mut feed = Feed::new(Vec::from_slice(rt.alloc(), b"shift")?, step, fail);
+        let said = read_shift(&rt, rt.alloc(), &mut feed, limit);
+        assert!(rt; said == want, "step {step} fail {fail}");
     }
     Ok(())
+}
+
+/// Pulls four times at a feed of "abc" that gives two octets a pull and fails at its third.
+fn pull_all(rt: &impl Abort, feed: &mut Feed)
+    requires { feed.old.failed ≡ 0 }
+{
+    let mut buf = [0; 8];
+    assert!(rt; feed.pull(&mut buf) == Ok(2));
+    assert!(rt; feed.pull(&mut buf) == Ok(1));
+    assert!(rt; buf[0] == b'c');
+    assert!(rt; feed.pull(&mut buf) == Err(Broken));
+    assert!(rt; feed.pull(&mut buf) == Err(Broken));
 }
 
 // A feed gives at most a step a pull, and goes on failing once it has failed.
 #[test]
 fn pulls(rt: HostRuntime) -> Result<(), Fail> {
     let mut feed = Feed::new(Vec::from_slice(rt.alloc(), b"abc")?, 2, 3);
-    let mut buf = [0; 8];
-    assert_eq!(rt; feed.pull(&mut buf), Ok(2));
-    assert_eq!(rt; feed.pull(&mut buf), Ok(1));
-    assert_eq!(rt; buf[0], b'c');
-    assert_eq!(rt; feed.pull(&mut buf), Err(Broken));
-    assert_eq!(rt; feed.pull(&mut buf), Err(Broken));
+    pull_all(&rt, &mut feed);
     Ok(())
 }
 
@@ -161,6 +191,19 @@ fn items(alloc: Global, text: &str) -> Result<Vec<Item>, TableFault> {
         return Err(TableFault::TooLong);
     }
     read_items(alloc, octets)
+}
+
+/// That a text gives this item alone.
+fn accepted(rt: &impl Abort, alloc: Global, text: &str, one: Item) {
+    match items(alloc, text) {
+        Ok(items) => assert!(rt; items.as_slice() == [one].as_slice(), "{text}"),
+        Err(fault) => assert!(rt; false, "{fault} at {text}"),
+    }
+}
+
+/// That a text is refused by this fault.
+fn is_refused(rt: &impl Abort, alloc: Global, text: &str, want: TableFault) {
+    assert!(rt; items(alloc, text).err() == Some(want), "{text}");
 }
 
 // Headers, blank lines, ends of lines, quotes, blanks round fields, leading zeros, and a byte order
@@ -192,11 +235,13 @@ fn accepted_records(rt: HostRuntime) {
         "\u{feff}1,45,67,1,2,3,4,5,6,7,65535",
         "\u{feff}graph,,,,,,,,,,\n1,45,67,1,2,3,4,5,6,7,65535",
     ] {
-        match items(rt.alloc(), text) {
-            Ok(items) => assert!(rt; items.as_slice() == [one].as_slice(), "{text}"),
-            Err(fault) => assert!(rt; false, "{fault} at {text}"),
-        }
+        accepted(&rt, rt.alloc(), text, one);
     }
+}
+
+/// How many items a text gives.
+fn count(alloc: Global, text: &str) -> Result<usize, TableFault> {
+    Ok(items(alloc, text)?.len())
 }
 
 // No record, and the same row and column in both base graphs.
@@ -211,10 +256,7 @@ fn counts_of_items(rt: HostRuntime) {
             4,
         ),
     ] {
-        match items(rt.alloc(), text) {
-            Ok(items) => assert_eq!(rt; items.len(), want, "{text}"),
-            Err(fault) => assert!(rt; false, "{fault} at {text}"),
-        }
+        assert!(rt; count(rt.alloc(), text) == Ok(want), "{text}");
     }
 }
 
@@ -242,7 +284,7 @@ fn refused_records(rt: HostRuntime) {
         ("Graph,,,,,,,,,,", TableFault::Number(1)),
         ("3,0,0,0,0,0,0,0,0,0,x", TableFault::Number(1)),
     ] {
-        assert_eq!(rt; items(rt.alloc(), text).err(), Some(want), "{text}");
+        is_refused(&rt, rt.alloc(), text, want);
     }
 }
 
@@ -271,8 +313,14 @@ fn refused_places(rt: HostRuntime) {
         ),
         ("2,0,0,0,0,0,0,0,0,0,65536\n2,0", TableFault::Range(1)),
     ] {
-        assert_eq!(rt; items(rt.alloc(), text).err(), Some(want), "{text}");
+        is_refused(&rt, rt.alloc(), text, want);
     }
+}
+
+/// That this is the text of a fault.
+fn says(rt: &impl Abort, alloc: Global, fault: TableFault, want: &str) -> Result<(), Fail> {
+    assert!(rt; fault.to_string(alloc)?.as_str() == want, "{want}");
+    Ok(())
 }
 
 #[test]
@@ -291,7 +339,7 @@ fn texts(rt: HostRuntime) -> Result<(), Fail> {
         (TableFault::TooLong, "TooLong"),
         (TableFault::Memory, "Memory"),
     ] {
-        assert_eq!(rt; fault.to_string(rt.alloc())?.as_str(), want);
+        says(&rt, rt.alloc(), fault, want)?;
     }
     Ok(())
 }

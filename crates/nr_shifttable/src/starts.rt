@@ -1,9 +1,10 @@
 //! Where the entries of each row and of each column begin.
 
-ghost use Rattle.std.specs.Prelude.{◌≡◌, ◌+◌, ◌<◌};
+ghost use Rattle.std.specs.Prelude.{◌≡◌, ◌+◌, ◌<◌, ◌≤◌, length};
+ghost use Rattle.std.specs.List.{AllWithin};
 ghost use Rattle.std.specs.List.Sorted.{IsNonDecreasingBy};
 ghost use Rattle.nr_shifttable.specs.Accepted.{row_of, column_of, Ascending};
-ghost use Rattle.nr_shifttable.specs.Orders.{AreRowStarts, AreColumnStarts};
+ghost use Rattle.nr_shifttable.specs.Orders.{IsStart, AreRowStarts, AreColumnStarts};
 
 use crate::entry::Entry;
 
@@ -13,17 +14,48 @@ pub(crate) const ROWS: usize = 47;
 /// One more than a base graph has columns at most.
 pub(crate) const COLS: usize = 69;
 
+// Where the entries from a row on begin, of entries in ascending order: not before `from`.
+fn row_start(entries: &[Entry], from: usize, row: usize) -> usize
+    requires order { Ascending 0 entries.now }
+    requires within { from ≤ length entries.now }
+    requires before { AllWithin (λ e. e.row < row) entries.now 0 from }
+    ensures { IsStart (λ e. e.row) entries.now row result }
+{
+    for start in from..entries.len() {
+        if row <= usize::from(entries[start].row) {
+            return start;
+        }
+    }
+    entries.len()
+}
+
 /// Of each row, how many entries stand in the rows before it, of entries in ascending order.
 pub(crate) fn row_starts(entries: &[Entry]) -> [usize; ROWS]
     requires { Ascending 0 entries.now }
     ensures { AreRowStarts 47 entries.now result }
 {
     let mut starts = [0; ROWS];
+    let mut start = 0;
     for row in 0..ROWS {
-        let start = entries.partition_point(|entry| usize::from(entry.row) < row);
+        start = row_start(entries, start, row);
         starts[row] = start;
     }
     starts
+}
+
+// Where the entries from a column on begin, of entries whose columns do not fall: not before `from`.
+fn col_start(entries: &[Entry], from: usize, col: usize) -> usize
+    requires order { IsNonDecreasingBy (λ e. e.col) entries.now }
+    requires within { from ≤ length entries.now }
+    requires before { AllWithin (λ e. e.col < col) entries.now 0 from }
+    ensures { IsStart (λ e. e.col) entries.now col result }
+{
+    for start in from..entries.len() {
+        if col <= usize::from(entries[start].col) {
+            return start;
+        }
+    }
+    entries.len()
 }
 
 /// Of each column, how many entries stand in the columns before it, of entries whose columns do
@@ -33,8 +65,9 @@ pub(crate) fn col_starts(entries: &[Entry]) -> [usize; COLS]
     ensures { AreColumnStarts 69 entries.now result }
 {
     let mut starts = [0; COLS];
+    let mut start = 0;
     for col in 0..COLS {
-        let start = entries.partition_point(|entry| usize::from(entry.col) < col);
+        start = col_start(entries, start, col);
         starts[col] = start;
     }
     starts

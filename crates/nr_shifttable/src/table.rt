@@ -137,8 +137,8 @@ impl Table {
         if one.entries().is_empty() && two.entries().is_empty() {
             return Err(TableFault::Empty);
         }
-        check(Graph::One, one.entries())?;
-        check(Graph::Two, two.entries())?;
+        check(Graph::One, &one)?;
+        check(Graph::Two, &two)?;
         Ok(Table { one, two })
     }
 

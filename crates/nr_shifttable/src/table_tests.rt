@@ -1,5 +1,7 @@
 //! Practice tables, accepted and refused.
 
+ghost use Rattle.std.specs.Prelude.{◌<◌};
+
 use crate::entry::{Entry, Item};
 use crate::fault::TableFault;
 use crate::source::Feed;
@@ -7,12 +9,11 @@ use crate::table::Table;
 use nr_graphpick::Graph;
 use std::alloc::Global;
 use std::fmt::Write;
-use std::ops::Range;
 use std::process::Abort;
 use std::test::Fail;
 
 /// An item of base graph 2, with one value in all sets.
-fn item(row: u16, col: u16, value: u16) -> Item {
+pub(crate) fn item(row: u16, col: u16, value: u16) -> Item {
     Item {
         graph: Graph::Two,
         entry: Entry {
@@ -25,7 +26,7 @@ fn item(row: u16, col: u16, value: u16) -> Item {
 
 /// A small table for base graph 2: in rows 0 to 3 the even or the odd information columns, in each
 /// row from 4 on one information column, rotated by the row's number.
-fn practice(alloc: Global) -> Result<Vec<Item>, Fail> {
+pub(crate) fn practice(alloc: Global) -> Result<Vec<Item>, Fail> {
     let mut items = Vec::new(alloc);
     for row in 0..4 {
         for k in 0..5 {
@@ -49,7 +50,7 @@ fn practice(alloc: Global) -> Result<Vec<Item>, Fail> {
 }
 
 /// The table file of a list of items.
-fn text_of(alloc: Global, items: &[Item]) -> Result<Vec<u8>, Fail> {
+pub(crate) fn text_of(alloc: Global, items: &[Item]) -> Result<Vec<u8>, Fail> {
     let mut text = String::new(alloc);
     for item in items {
         let entry = item.entry;
@@ -62,111 +63,183 @@ fn text_of(alloc: Global, items: &[Item]) -> Result<Vec<u8>, Fail> {
     Ok(text.into_bytes())
 }
 
-/// What the reader answers to a table file of these items.
-fn read(alloc: Global, items: &[Item]) -> Result<Result<Table, TableFault>, Fail> {
-    let mut feed = Feed::new(text_of(alloc, items)?, 4096, 0);
-    Ok(Table::read(alloc, &mut feed))
+/// What the reader answers to a table file of these octets.
+fn answer_to(alloc: Global, text: Vec<u8>) -> Result<Table, TableFault> {
+    let mut feed = Feed::new(text, 4096, 0);
+    Table::read(alloc, &mut feed)
+}
+
+/// Why a table file of these octets is refused.
+pub(crate) fn fault_of_text(alloc: Global, text: Vec<u8>) -> Option<TableFault> {
+    answer_to(alloc, text).err()
+}
+
+/// The table of a table file of these items.
+fn read(alloc: Global, items: &[Item]) -> Result<Table, Fail> {
+    Ok(answer_to(alloc, text_of(alloc, items)?)?)
+}
+
+/// Why a table file of these items is refused.
+fn fault_of(alloc: Global, items: &[Item]) -> Result<Option<TableFault>, Fail> {
+    Ok(fault_of_text(alloc, text_of(alloc, items)?))
 }
 
 /// The first items.
-fn front(items: &[Item], count: usize) -> &[Item] {
+pub(crate) fn front(items: &[Item], count: usize) -> &[Item] {
     &items[..count.min(items.len())]
 }
 
-/// The practice table with one value changed or added.
-fn with(alloc: Global, items: &[Item], extra: Item) -> Result<Vec<Item>, Fail> {
-    let mut more = Vec::from_slice(alloc, items)?;
-    more.retain(|item| item.entry.row != extra.entry.row || item.entry.col != extra.entry.col);
-    more.push(extra)?;
-    Ok(more)
+/// Changes or adds one value of a table.
+pub(crate) fn change(items: &mut Vec<Item>, extra: Item) -> Result<(), Fail> {
+    items.retain(|item| item.entry.row != extra.entry.row || item.entry.col != extra.entry.col);
+    items.push(extra)?;
+    Ok(())
+}
+
+/// That the entries of a row stand in these columns.
+fn has_columns(rt: &impl Abort, table: &Table, row: u32, cols: &[u16]) {
+    let entries = table.row_entries(Graph::Two, row);
+    assert!(rt; entries.len() == cols.len());
+    for (entry, col) in entries.iter().zip(cols) {
+        assert!(rt; entry.col == *col);
+    }
+}
+
+/// That the entries of a column stand in these rows.
+fn has_rows(rt: &impl Abort, table: &Table, col: u32, rows: &[u16]) {
+    let entries = table.col_entries(Graph::Two, col);
+    assert!(rt; entries.len() == rows.len());
+    for (entry, row) in entries.iter().zip(rows) {
+        assert!(rt; entry.row == *row);
+    }
+}
+
+/// That a table has this value at a place, or none.
+fn has_value(rt: &impl Abort, table: &Table, place: (Graph, u32, u32), set: u32, want: Option<u16>)
+    requires { set < 8 }
+{
+    let (graph, row, col) = place;
+    let value = table.shift(graph, row, col, set);
+    assert!(rt; value == want, "{graph} {row} {col}: {value:?}");
+}
+
+/// How many entries a table is to have of both base graphs.
+pub(crate) fn has_entries(rt: &impl Abort, table: &Table, ones: u32, twos: u32) {
+    assert!(rt; table.entries(Graph::One) == ones && table.entries(Graph::Two) == twos);
+    assert!(rt; table.has(Graph::One) == (ones != 0) && table.has(Graph::Two) == (twos != 0));
+}
+
+/// That a table is the practice table.
+fn is_practice(rt: &impl Abort, table: &Table) {
+    has_entries(rt, table, 0, 105);
+    has_value(rt, table, (Graph::Two, 17, 7), 3, Some(17));
+    has_value(rt, table, (Graph::Two, 17, 8), 3, None);
+    has_value(rt, table, (Graph::Two, 2, 10), 4, Some(1));
+    has_value(rt, table, (Graph::One, 17, 7), 3, None);
+    has_columns(rt, table, 2, &[0, 2, 4, 6, 8, 10, 12, 13]);
+    has_rows(rt, table, 0, &[0, 2, 10, 20, 30, 40]);
+    has_columns(rt, table, 42, &[]);
+}
+
+/// Reads the items of the practice table.
+fn read_practice(rt: &impl Abort, alloc: Global, items: &[Item]) -> Result<(), Fail> {
+    let table = read(alloc, items)?;
+    is_practice(rt, &table);
+    Ok(())
 }
 
 #[test]
 fn practice_table(rt: HostRuntime) -> Result<(), Fail> {
-    let alloc = rt.alloc();
-    let mut items = practice(alloc)?;
-    for _ in 0..2 {
-        let table = read(alloc, &items)??;
-        assert_eq!(rt; table.entries(Graph::Two), 105);
-        assert_eq!(rt; table.entries(Graph::One), 0);
-        assert!(rt; table.has(Graph::Two));
-        assert!(rt; !table.has(Graph::One));
-        assert_eq!(rt; table.shift(Graph::Two, 17, 7, 3), Some(17));
-        assert_eq!(rt; table.shift(Graph::Two, 17, 8, 3), None);
-        assert_eq!(rt; table.shift(Graph::Two, 2, 10, 4), Some(1));
-        assert_eq!(rt; table.shift(Graph::One, 17, 7, 3), None);
-        let mut cols = Vec::new(alloc);
-        for entry in table.row_entries(Graph::Two, 2) {
-            cols.push(entry.col)?;
-        }
-        assert_eq!(rt; cols.as_slice(), [0, 2, 4, 6, 8, 10, 12, 13].as_slice());
-        let mut rows = Vec::new(alloc);
-        for entry in table.col_entries(Graph::Two, 0) {
-            rows.push(entry.row)?;
-        }
-        assert_eq!(rt; rows.as_slice(), [0, 2, 10, 20, 30, 40].as_slice());
-        assert!(rt; table.row_entries(Graph::Two, 42).is_empty());
-        items.reverse();
-    }
+    let mut items = practice(rt.alloc())?;
+    read_practice(&rt, rt.alloc(), &items)?;
+    items.reverse();
+    read_practice(&rt, rt.alloc(), &items)
+}
+
+/// Reads the practice table with one value more, in row 1.
+fn read_rotated(rt: &impl Abort, alloc: Global, items: &[Item]) -> Result<(), Fail> {
+    let table = read(alloc, items)?;
+    has_entries(rt, &table, 0, 106);
+    has_value(rt, &table, (Graph::Two, 1, 0), 7, Some(1));
     Ok(())
 }
 
 #[test]
 fn accepted_tables(rt: HostRuntime) -> Result<(), Fail> {
-    let alloc = rt.alloc();
-    let practice = practice(alloc)?;
-    let rotated = with(alloc, &practice, item(1, 0, 1))?;
-    let equal = with(alloc, &rotated, item(2, 10, 0))?;
-    let odd_first = with(alloc, &equal, item(0, 10, 1))?;
-    for items in [&rotated, &equal, &odd_first] {
-        let table = read(alloc, items)??;
-        assert_eq!(rt; table.entries(Graph::Two), 106);
-        assert_eq!(rt; table.shift(Graph::Two, 1, 0, 7), Some(1));
+    let mut items = practice(rt.alloc())?;
+    for extra in [item(1, 0, 1), item(2, 10, 0), item(0, 10, 1)] {
+        change(&mut items, extra)?;
+        read_rotated(&rt, rt.alloc(), &items)?;
     }
     Ok(())
+}
+
+/// Why the practice table with one value changed or added is refused.
+fn fault_with(alloc: Global, extra: Item) -> Result<Option<TableFault>, Fail> {
+    let mut items = practice(alloc)?;
+    change(&mut items, extra)?;
+    fault_of(alloc, &items)
 }
 
 #[test]
 fn refused_tables(rt: HostRuntime) -> Result<(), Fail> {
-    let alloc = rt.alloc();
-    let practice = practice(alloc)?;
-    let mut three = item(2, 10, 1);
-    three.entry.values[4] = 2;
-    let two_values = with(alloc, &practice, item(3, 10, 1))?;
-    let three_values = with(alloc, &two_values, three)?;
-    let below_core = with(alloc, &practice, item(0, 14, 0))?;
-    let rotated_diagonal = with(alloc, &practice, item(1, 12, 3))?;
-    let twice_first = with(alloc, &practice, item(1, 10, 0))?;
-    let other_column = with(alloc, &practice, item(4, 15, 0))?;
-    let rotated_own = with(alloc, &practice, item(9, 19, 1))?;
-    let without_last = front(&practice, 103);
-    for (items, fault) in [
-        (three_values.as_slice(), TableFault::Core(Graph::Two)),
-        (below_core.as_slice(), TableFault::Core(Graph::Two)),
-        (rotated_diagonal.as_slice(), TableFault::Core(Graph::Two)),
-        (twice_first.as_slice(), TableFault::Core(Graph::Two)),
-        (other_column.as_slice(), TableFault::Extension(Graph::Two)),
-        (rotated_own.as_slice(), TableFault::Extension(Graph::Two)),
-        (without_last, TableFault::MissingRow(Graph::Two)),
-        (front(&practice, 28), TableFault::Core(Graph::Two)),
-        (front(&practice, 29), TableFault::MissingRow(Graph::Two)),
-        (front(&practice, 104), TableFault::Extension(Graph::Two)),
-        (front(&practice, 0), TableFault::Empty),
+    for (extra, fault) in [
+        (item(0, 14, 0), TableFault::Core(Graph::Two)),
+        (item(1, 12, 3), TableFault::Core(Graph::Two)),
+        (item(1, 10, 0), TableFault::Core(Graph::Two)),
+        (item(4, 15, 0), TableFault::Extension(Graph::Two)),
+        (item(9, 19, 1), TableFault::Extension(Graph::Two)),
     ] {
-        assert_eq!(rt;
-            read(alloc, items)?.err(),
-            Some(fault),
-            "{} items",
-            items.len()
-        );
+        let said = fault_with(rt.alloc(), extra)?;
+        assert!(rt; said == Some(fault), "{extra:?}");
     }
     Ok(())
 }
 
+// Three values in one set of the first parity column.
 #[test]
-fn both_graphs(rt: HostRuntime) -> Result<(), Fail> {
-    let alloc = rt.alloc();
-    let mut items = practice(alloc)?;
+fn three_values(rt: HostRuntime) -> Result<(), Fail> {
+    let mut items = practice(rt.alloc())?;
+    let mut three = item(2, 10, 1);
+    three.entry.values[4] = 2;
+    change(&mut items, item(3, 10, 1))?;
+    change(&mut items, three)?;
+    let fault = fault_of(rt.alloc(), &items)?;
+    assert!(rt; fault == Some(TableFault::Core(Graph::Two)));
+    Ok(())
+}
+
+/// Why the first items of the practice table are refused.
+fn fault_of_front(alloc: Global, count: usize) -> Result<Option<TableFault>, Fail> {
+    let items = practice(alloc)?;
+    fault_of(alloc, front(&items, count))
+}
+
+#[test]
+fn refused_fronts(rt: HostRuntime) -> Result<(), Fail> {
+    for (count, fault) in [
+        (0, TableFault::Empty),
+        (28, TableFault::Core(Graph::Two)),
+        (29, TableFault::MissingRow(Graph::Two)),
+        (103, TableFault::MissingRow(Graph::Two)),
+        (104, TableFault::Extension(Graph::Two)),
+    ] {
+        let said = fault_of_front(rt.alloc(), count)?;
+        assert!(rt; said == Some(fault), "{count} items");
+    }
+    Ok(())
+}
+
+/// An item of base graph 1, with zeros in all sets.
+pub(crate) fn of_one(row: u16, col: u16) -> Item {
+    Item {
+        graph: Graph::One,
+        ..item(row, col, 0)
+    }
+}
+
+/// Adds the parity columns of rows 0 to 3 of base graph 1.
+pub(crate) fn add_core(items: &mut Vec<Item>) -> Result<(), Fail> {
     for (row, col) in [
         (0, 22),
         (0, 23),
@@ -178,107 +251,34 @@ fn both_graphs(rt: HostRuntime) -> Result<(), Fail> {
         (3, 22),
         (3, 25),
     ] {
-        items.push(Item {
-            graph: Graph::One,
-            ..item(row, col, 0)
-        })?;
+        items.push(of_one(row, col))?;
     }
-    let few = read(alloc, &items)?.err();
-    assert_eq!(rt; few, Some(TableFault::MissingRow(Graph::One)));
+    Ok(())
+}
+
+/// Adds the parity columns of the other rows of base graph 1.
+pub(crate) fn add_extension(items: &mut Vec<Item>) -> Result<(), Fail> {
     for row in 4..46 {
-        let own = item(row, 22 + row, 0);
-        items.push(Item {
-            graph: Graph::One,
-            ..own
-        })?;
-    }
-    let table = read(alloc, &items)??;
-    assert_eq!(rt; table.entries(Graph::One), 51);
-    assert_eq!(rt; table.entries(Graph::Two), 105);
-    assert_eq!(rt; table.shift(Graph::One, 45, 67, 0), Some(0));
-    assert_eq!(rt; table.shift(Graph::Two, 45, 67, 0), None);
-    Ok(())
-}
-
-// Files that were cut within their last record, or just behind it.
-#[test]
-fn cut_files(rt: HostRuntime) -> Result<(), Fail> {
-    let alloc = rt.alloc();
-    let practice = practice(alloc)?;
-    let cases: [(&[u8], Option<TableFault>); 3] = [
-        (b"2,41,51,0,0,0,0,0,0,0,0", None),
-        (b"2,41,51,0,0,0,0,0,0,0", Some(TableFault::Csv(105))),
-        (b"2,41,51,0,0,0,0,0,0,0,", Some(TableFault::Number(105))),
-    ];
-    for (last, want) in cases {
-        let mut text = text_of(alloc, front(&practice, 104))?;
-        text.extend_from_slice(last)?;
-        let answer = Table::read(alloc, &mut Feed::new(text, 4096, 0));
-        assert_eq!(rt; answer.err(), want, "ending {last:?}");
+        items.push(of_one(row, 22 + row))?;
     }
     Ok(())
 }
 
-/// What the reader answers to the beginning of the practice table that has so many whole records
-/// and a line of so many commas, with so many digits behind the last of them.
-fn cut_answer(records: u32, commas: u32, digits: u32) -> Option<TableFault> {
-    let whole = match (commas, digits) {
-        (0, 0) => records,
-        (10, 0) => return Some(TableFault::Number(records.saturating_add(1))),
-        (10, _) => records.saturating_add(1),
-        _ if records == 0 => return Some(TableFault::Fields),
-        _ => return Some(TableFault::Csv(records.saturating_add(1))),
-    };
-    match whole {
-        0 => Some(TableFault::Empty),
-        1..=28 => Some(TableFault::Core(Graph::Two)),
-        105 => None,
-        // The last row lacks its own column.
-        _ if whole % 2 == 0 => Some(TableFault::Extension(Graph::Two)),
-        _ => Some(TableFault::MissingRow(Graph::Two)),
-    }
-}
-
-/// Reads the beginnings of the practice table's file that have so many octets.
-fn read_beginnings(rt: &impl Abort, alloc: Global, lengths: Range<usize>) -> Result<(), Fail> {
-    let text = text_of(alloc, &practice(alloc)?)?;
-    let (mut records, mut commas, mut digits) = (0u32, 0u32, 0u32);
-    for (at, octet) in text.iter().enumerate() {
-        if lengths.contains(&at) {
-            let mut feed = Feed::new(Vec::from_slice(alloc, &text[..at])?, 4096, 0);
-            let answer = Table::read(alloc, &mut feed).err();
-            assert_eq!(rt;
-                answer,
-                cut_answer(records, commas, digits),
-                "the first {at} octets"
-            );
-        }
-        (records, commas, digits) = match *octet {
-            b'\n' => (records.saturating_add(1), 0, 0),
-            b',' => (records, commas.saturating_add(1), 0),
-            _ => (records, commas, digits.saturating_add(1)),
-        };
-    }
-    assert_eq!(rt; (text.len(), records), (2677, 105));
+/// Reads a table of both base graphs.
+fn read_both(rt: &impl Abort, alloc: Global, items: &[Item]) -> Result<(), Fail> {
+    let table = read(alloc, items)?;
+    has_entries(rt, &table, 51, 105);
+    has_value(rt, &table, (Graph::One, 45, 67), 0, Some(0));
+    has_value(rt, &table, (Graph::Two, 45, 67), 0, None);
     Ok(())
 }
 
 #[test]
-fn beginnings_of_the_core(rt: HostRuntime) -> Result<(), Fail> {
-    read_beginnings(&rt, rt.alloc(), 0..700)
-}
-
-#[test]
-fn beginnings_of_the_first_rows(rt: HostRuntime) -> Result<(), Fail> {
-    read_beginnings(&rt, rt.alloc(), 700..1400)
-}
-
-#[test]
-fn beginnings_of_the_middle_rows(rt: HostRuntime) -> Result<(), Fail> {
-    read_beginnings(&rt, rt.alloc(), 1400..2100)
-}
-
-#[test]
-fn beginnings_of_the_last_rows(rt: HostRuntime) -> Result<(), Fail> {
-    read_beginnings(&rt, rt.alloc(), 2100..2677)
+fn both_graphs(rt: HostRuntime) -> Result<(), Fail> {
+    let mut items = practice(rt.alloc())?;
+    add_core(&mut items)?;
+    let few = fault_of(rt.alloc(), &items)?;
+    assert!(rt; few == Some(TableFault::MissingRow(Graph::One)));
+    add_extension(&mut items)?;
+    read_both(&rt, rt.alloc(), &items)
 }

@@ -1,7 +1,5 @@
-use Rattle.std.proofs.Common.{◌==◌, length, sym, ap, ◌∙◌}
+use Rattle.std.proofs.Common.{◌==◌, length, sym}
 use Rattle.std.proofs.lemmas.Bool.{and_left, and_right}
-use Rattle.nr_graphpick.specs.declared.Graph.TheVariants.{One, Two}
-use Rattle.nr_shifttable.specs.Accepted.{graph_checked}
 use Rattle.nr_shifttable.proofs.Order.{made-table}
 use Rattle.nr_shifttable.proofs.table.Table.from_items.Goals as goal
 use Rattle.nr_shifttable.proofs.table.Table.from_items.Goals.{else-is_empty-via-then-is_empty+else-is_empty-2, else-is_empty-via-else-is_empty}
@@ -11,23 +9,23 @@ invariant_of-result c =
     made-table c.args.items.now c.in_ok-one.one c.in_ok-two.two c.requires.in_range
     c.in_ok-one.ensures
     c.in_ok-two.ensures
-    c.entries-2.ensures.order c.entries-3.ensures.order
+    c.in_ok-check.ensures.order c.in_ok-check-2.ensures.order
     (elim c.else-is_empty.branch [
       | else-is_empty-via-then-is_empty+else-is_empty-2 w ↦ and_right (length c.in_ok-one.one == 0) (length c.in_ok-two.two == 0) (cc)
       | else-is_empty-via-else-is_empty w ↦ and_left (length c.in_ok-one.one == 0) (length c.in_ok-two.two == 0) (cc)
     ])
-    (sym (c.in_ok-check.ensures ∙ ap (graph_checked One) c.entries-2.ensures.value))
-    (sym (c.in_ok-check-2.ensures ∙ ap (graph_checked Two) c.entries-3.ensures.value))
+    (sym (c.in_ok-check.ensures.value))
+    (sym (c.in_ok-check-2.ensures.value))
 
 pub returns-clause-table : goal.returns-clause-table
 returns-clause-table c =
     made-table c.args.items.now c.in_ok-one.one c.in_ok-two.two c.requires.in_range
     c.in_ok-one.ensures
     c.in_ok-two.ensures
-    c.entries-2.ensures.order c.entries-3.ensures.order
+    c.in_ok-check.ensures.order c.in_ok-check-2.ensures.order
     (elim c.else-is_empty.branch [
       | else-is_empty-via-then-is_empty+else-is_empty-2 w ↦ and_right (length c.in_ok-one.one == 0) (length c.in_ok-two.two == 0) (cc)
       | else-is_empty-via-else-is_empty w ↦ and_left (length c.in_ok-one.one == 0) (length c.in_ok-two.two == 0) (cc)
     ])
-    (sym (c.in_ok-check.ensures ∙ ap (graph_checked One) c.entries-2.ensures.value))
-    (sym (c.in_ok-check-2.ensures ∙ ap (graph_checked Two) c.entries-3.ensures.value))
+    (sym (c.in_ok-check.ensures.value))
+    (sym (c.in_ok-check-2.ensures.value))

@@ -1,0 +1,16 @@
+use Rattle.std.proofs.Common.{[], arith}
+use Rattle.nr_shifttable.specs.declared.entry.Entry.{Entry}
+use Rattle.nr_shifttable.proofs.Between.{start-from, within-more}
+use Rattle.nr_shifttable.proofs.starts.col_start.Goals as goal
+
+pub loop-start-preserved : goal.loop-start-preserved
+loop-start-preserved c =
+    within-more (λ (e : Entry). e.col) c.args.entries.now c.args.col c.loop-start.start (omega arith) c.loop-start.invariant (record { row = 0; col = 0; values = [] }) (omega arith)
+
+pub returns-then-col-from : goal.returns-then-col-from
+returns-then-col-from c =
+    start-from (λ (e : Entry). e.col) c.args.entries.now c.args.col c.loop-start.start (omega arith) c.requires.order c.loop-start.invariant (record { row = 0; col = 0; values = [] }) (λ _. omega arith)
+
+pub returns : goal.returns
+returns c =
+    start-from (λ (e : Entry). e.col) c.args.entries.now c.args.col _ (omega arith) c.requires.order (λ k d a b. c.loop-start.invariant k d a (omega arith)) (record { row = 0; col = 0; values = [] }) (λ lt. absurd (omega arith))
