@@ -10,7 +10,7 @@ use Rattle.nr_bitvec.specs.Bit.{◌⊕◌}
 use Rattle.nr_bitvec.specs.Packed.{place, IsClear}
 use Rattle.nr_bitvec.proofs.BitFacts.{place_of, place_past}
 use Rattle.nr_lifting.specs.Rings.{is_set, marked}
-use Rattle.nr_lifting.proofs.LaneViews.{min_bits, place-lt, sum_bits}
+use Rattle.nr_lifting.proofs.LaneViews.{min_bits, place-lt, rest_bits, sum_bits}
 
 -- The places of the first n words are those that G gives them, and the others are the old ones.
 pub record IsMade (n : ℕ) (G : ℕ → ℕ) (now old : List ℕ) : Type 0 where
@@ -89,14 +89,6 @@ module _ (n : ℕ) (now old lane : List ℕ) (few : length old ≤ n) where
 
   less : IsMade n (λ t. min (place old t) (1 - place lane t)) now old → (t : ℕ) → place now t ≡ min (place old t) (1 - place lane t)
   less h = whole n (λ t. min (place old t) (1 - place lane t)) now old h few (λ t out. omega (arith, none_old t out))
-
-  rest_bits : (a b : ℕ) → a < 2 → b < 2 → (min a (1 - b) == 1) ≡ ((a == 1) && not (b == 1))
-  rest_bits zero zero h k = refl
-  rest_bits zero (suc zero) h k = refl
-  rest_bits (suc zero) zero h k = refl
-  rest_bits (suc zero) (suc zero) h k = refl
-  rest_bits (suc (suc a)) b h k = absurd (omega (arith, h))
-  rest_bits a (suc (suc b)) h k = absurd (omega (arith, k))
 
   pub without_all : IsMade n (λ t. min (place old t) (1 - place lane t)) now old → (t : ℕ) → is_set now t ≡ (is_set old t && not (is_set lane t))
   without_all h t = ap (λ m. m == 1) (less h t) ∙ rest_bits (place old t) (place lane t) (place-lt old t) (place-lt lane t)

@@ -1,5 +1,5 @@
 -- What the calls of a lane do to the list that it is seen as.
-use Rattle.std.proofs.Common.{◌≡◌, ℕ, ◌+◌, ◌/◌, ◌%◌, ◌<◌, ◌==◌, zero, suc, min, max, false, ◌&&◌, ◌||◌, List, replicate, refl, ap, sym, ◌∙◌, inl, inr, get_or, arith}
+use Rattle.std.proofs.Common.{◌≡◌, ℕ, ◌+◌, ◌-◌, ◌/◌, ◌%◌, ◌<◌, ◌==◌, zero, suc, min, max, not, false, ◌&&◌, ◌||◌, List, replicate, refl, ap, sym, ◌∙◌, inl, inr, get_or, arith}
 use Rattle.std.proofs.lemmas.Nat.Bits.{bit_at-zero, bit_at-lt}
 use Rattle.std.proofs.lemmas.Bool.{cases_lt}
 use Rattle.std.proofs.lemmas.List.{get_or-replicate, get_or_past, length-replicate}
@@ -37,6 +37,14 @@ min_bits (suc zero) zero h k = refl
 min_bits (suc zero) (suc zero) h k = refl
 min_bits (suc (suc a)) b h k = absurd (omega (arith, h))
 min_bits a (suc (suc b)) h k = absurd (omega (arith, k))
+
+pub rest_bits : (a b : ℕ) → a < 2 → b < 2 → (min a (1 - b) == 1) ≡ ((a == 1) && not (b == 1))
+rest_bits zero zero h k = refl
+rest_bits zero (suc zero) h k = refl
+rest_bits (suc zero) zero h k = refl
+rest_bits (suc zero) (suc zero) h k = refl
+rest_bits (suc (suc a)) b h k = absurd (omega (arith, h))
+rest_bits a (suc (suc b)) h k = absurd (omega (arith, k))
 
 -- ---- the calls
 

@@ -1,5 +1,5 @@
 -- Blocks that rings keep, as the list that they are seen as.
-use Rattle.std.proofs.Common.{◌≡◌, ◌≢◌, ℕ, ◌+◌, ◌*◌, ◌/◌, ◌%◌, ◌^◌, ◌<◌, ◌≤◌, ◌==◌, ◌&&◌, ◌||◌, Bool, true, false, not, List, [], ◌∷◌, ◌++◌, length, get_or, set, map, replicate, refl, sym, ap, ◌∙◌, subst, inl, inr, arith, length-set, get_or-set_same, get_or-set_other}
+use Rattle.std.proofs.Common.{◌≡◌, ◌≢◌, ℕ, ◌+◌, ◌-◌, ◌*◌, ◌/◌, ◌%◌, ◌^◌, ◌<◌, ◌≤◌, ◌==◌, ◌&&◌, ◌||◌, min, Bool, true, false, not, List, [], ◌∷◌, ◌++◌, length, get_or, set, map, replicate, refl, sym, ap, ◌∙◌, subst, inl, inr, arith, length-set, get_or-set_same, get_or-set_other}
 use Rattle.std.specs.List.{range_with_len}
 use Rattle.std.specs.Int.{bit_at}
 use Rattle.std.specs.Int.RustNames.{bit_and}
@@ -9,11 +9,12 @@ use Rattle.std.proofs.lemmas.Nat.{mod_below, div_below, div-mul-add, mod-mul-add
 use Rattle.std.proofs.lemmas.Nat.Bits.{bit_at-zero, shr_and_one}
 use Rattle.std.proofs.lemmas.List.{get_or_past, get_or-replicate, length-replicate, replicate-append-replicate}
 use Rattle.std.proofs.lemmas.List.FromFn.{length-map-range_with_len, get_or-map-range_with_len}
-use Rattle.nr_bitvec.specs.Bit.{bit}
+use Rattle.nr_bitvec.specs.Bit.{◌⊕◌, bit}
 use Rattle.nr_bitvec.specs.Packed.{place, IsClear}
 use Rattle.nr_bitvec.proofs.Places.{same_from_bits}
+use Rattle.nr_lifting.specs.Lane.{AddsPlaces}
 use Rattle.nr_lifting.specs.Rings.{AreRings, BlockBits, IsRing, GainsTwice, IsTurned, block_bits, is_set, lane_marks, ring_bit}
-use Rattle.nr_lifting.proofs.LaneViews.{max_bits, place-lt, place-zeros}
+use Rattle.nr_lifting.proofs.LaneViews.{max_bits, place-lt, place-zeros, rest_bits, sum_bits}
 use Rattle.nr_lifting.proofs.Turns.{mod_small}
 
 -- what a function makes of the numbers below n z, by block and lane
@@ -77,6 +78,23 @@ module _ (z : ℕ) (some : 0 < z) where
       → (t : ℕ) → t < z → is_set lane t ≡ bit (block_bits z rings).items (j * z + (t + turn) % z)
   lane_read rings j turn lane turned t below =
       ap (λ n. n == 1) (turned t below) ∙ sym (bit_in rings j ((t + turn) % z) (mod_below (t + turn) z some))
+
+  -- a lane gains a block, and what it has and a block lacks
+  pub lane_gains : (rings : List (List ℕ)) (j turn : ℕ) (sum old : List ℕ) → AddsPlaces z sum old (get_or rings j []) turn
+      → (t : ℕ) → t < z → is_set sum t ≡ is_set old t ⊕ bit (block_bits z rings).items (j * z + (t + turn) % z)
+  lane_gains rings j turn sum old adds t below =
+      let u = (t + turn) % z in
+      ap (λ n. n == 1) (adds t below)
+      ∙ sum_bits (place old t) (place (get_or rings j []) u) (place-lt old t) (place-lt (get_or rings j []) u)
+      ∙ ap (λ b. is_set old t ⊕ b) (sym (bit_in rings j u (mod_below (t + turn) z some)))
+
+  pub lane_lacks : (rings : List (List ℕ)) (j turn : ℕ) (rest lane : List ℕ) → ((t : ℕ) → t < z → place rest t ≡ min (place lane t) (1 - place (get_or rings j []) ((t + turn) % z)))
+      → (t : ℕ) → t < z → is_set rest t ≡ (is_set lane t && not (bit (block_bits z rings).items (j * z + (t + turn) % z)))
+  lane_lacks rings j turn rest lane less t below =
+      let u = (t + turn) % z in
+      ap (λ n. n == 1) (less t below)
+      ∙ rest_bits (place lane t) (place (get_or rings j []) u) (place-lt lane t) (place-lt (get_or rings j []) u)
+      ∙ ap (λ b. is_set lane t && not b) (sym (bit_in rings j u (mod_below (t + turn) z some)))
 
   -- ---- writes
 

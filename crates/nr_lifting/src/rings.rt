@@ -1,11 +1,11 @@
 //! Blocks of bits that are kept twice over in words of 64, so that a word of any rotation is read in one piece, and the
 //! rotations of blocks that are kept once.
 
-ghost use Rattle.std.specs.Prelude.{◌≡◌, ℕ, ◌+◌, ◌*◌, ◌/◌, ◌%◌, ◌^◌, ◌<◌, ◌≤◌, ◌==◌, ◌&&◌, ◌||◌, not, false, length, replicate, IfOk};
+ghost use Rattle.std.specs.Prelude.{◌≡◌, ℕ, ◌+◌, ◌-◌, ◌*◌, ◌/◌, ◌%◌, ◌^◌, ◌<◌, ◌≤◌, ◌==◌, ◌&&◌, ◌||◌, min, not, false, length, replicate, IfOk};
 ghost use Rattle.std.specs.Int.{bit_at};
-ghost use Rattle.nr_bitvec.specs.Bit.{bit};
+ghost use Rattle.nr_bitvec.specs.Bit.{◌⊕◌, bit};
 ghost use Rattle.nr_bitvec.specs.Packed.{place, IsClear};
-ghost use Rattle.nr_lifting.specs.Lane.{IsTurnedWord};
+ghost use Rattle.nr_lifting.specs.Lane.{AddsPlaces, IsTurnedWord};
 ghost use Rattle.nr_lifting.specs.Rings.{GainsTwice, IsRing, IsTurned, is_set, lane_marks};
 
 use crate::lane::{turned_word, wrapped_word};
@@ -61,11 +61,58 @@ pub fn turn_lane(words: &[u64; 6], size: usize, p: usize) -> [u64; 6]
     ensures turned { IsTurned size result words.now p }
     ensures clear { IsClear result size }
 {
+    if size <= 64 {
+        return one_word(turned_word(words, size, 0, p));
+    }
     let mut lane = [0; 6];
     for i in 0..size.div_ceil(64) {
         lane[i] = turned_word(words, size, i, p);
     }
     lane
+}
+
+// A lane whose first word is `word`, with no bit after it.
+fn one_word(word: u64) -> [u64; 6]
+    ensures first { (t : ℕ) → t < 64 → place result t ≡ bit_at word t }
+    ensures rest { (t : ℕ) → 64 ≤ t → place result t ≡ 0 }
+{
+    let mut lane = [0; 6];
+    lane[0] = word;
+    lane
+}
+
+// Adds the block of a ring, at most 384 bits, to a lane, modulo two, rotated by `p`.
+fn add_ring(sum: &mut [u64; 6], ring: &[u64], size: usize, p: usize)
+    requires turn { p < size }
+    requires few { size ≤ 384 }
+    requires ring { IsRing size ring.now }
+    requires clear { IsClear sum.old size }
+    ensures sum { AddsPlaces size sum.new sum.old ring.now p }
+    ensures clear { IsClear sum.new size }
+{
+    for i in 0..size.div_ceil(64) {
+        sum[i] ^= ring_word(ring, size, i, p);
+    }
+}
+
+// The bits of a lane that the block of a ring, at most 384 bits and rotated by `p`, lacks.
+fn lane_less_ring(lane: &[u64; 6], ring: &[u64], size: usize, p: usize) -> [u64; 6]
+    requires turn { p < size }
+    requires few { size ≤ 384 }
+    requires ring { IsRing size ring.now }
+    requires clear { IsClear lane.now size }
+    ensures less { (t : ℕ) → t < size
+        → place result t ≡ min (place lane.now t) (1 - place ring.now ((t + p) % size)) }
+    ensures clear { IsClear result size }
+{
+    if size <= 64 {
+        return one_word(lane[0] & !ring_word(ring, size, 0, p));
+    }
+    let mut rest = *lane;
+    for i in 0..size.div_ceil(64) {
+        rest[i] &= !ring_word(ring, size, i, p);
+    }
+    rest
 }
 
 // The block of a ring, at most 384 bits, rotated by `p`: its bit t is bit (t + p) mod `size` of the ring's.
@@ -76,6 +123,9 @@ fn ring_lane(ring: &[u64], size: usize, p: usize) -> [u64; 6]
     ensures turned { IsTurned size result ring.now p }
     ensures clear { IsClear result size }
 {
+    if size <= 64 {
+        return one_word(ring_word(ring, size, 0, p));
+    }
     let mut lane = [0; 6];
     for i in 0..size.div_ceil(64) {
         lane[i] = ring_word(ring, size, i, p);
@@ -141,6 +191,21 @@ impl Rings {
         window(&self.rings[p / self.size], t / 64, t % 64) & 1 == 1
     }
 
+    /// The bits from bit `p` of all on, the first of them lowest, as many as its block has from there and a word takes;
+    /// and how many these are.
+    pub fn word_from(&self, p: usize) -> (u64, usize)
+        requires { p < length self.now.items }
+        ensures bits { (j : ℕ) → j < result.1
+            → (bit_at result.0 j == 1) ≡ bit self.now.items (p + j) }
+        ensures some { 0 < result.1 }
+        ensures few { result.1 ≤ 64 }
+        ensures inside { p + result.1 ≤ length self.now.items }
+    {
+        let t = p % self.size;
+        let word = window(&self.rings[p / self.size], t / 64, t % 64);
+        (word, (self.size - t).min(64))
+    }
+
     /// Block `j`, rotated by `turn`: its bit t is bit (t + `turn`) modulo the size of the block's.
     pub fn lane(&self, j: usize, turn: usize) -> [u64; 6]
         requires block { (j + 1) * self.now.lanes ≤ length self.now.items }
@@ -150,6 +215,32 @@ impl Rings {
         ensures clear { IsClear result self.now.lanes }
     {
         ring_lane(&self.rings[j], self.size, turn)
+    }
+
+    /// Adds block `j`, rotated by `turn`, to a lane, modulo two: its bit t gains bit (t + `turn`) modulo the size of the
+    /// block's.
+    pub fn add_turned(&self, j: usize, turn: usize, sum: &mut [u64; 6])
+        requires block { (j + 1) * self.now.lanes ≤ length self.now.items }
+        requires turn { turn < self.now.lanes }
+        requires clear { IsClear sum.old self.now.lanes }
+        ensures bits { (t : ℕ) → t < self.now.lanes → is_set sum.new t
+            ≡ is_set sum.old t ⊕ bit self.now.items (j * self.now.lanes + (t + turn) % self.now.lanes) }
+        ensures clear { IsClear sum.new self.now.lanes }
+    {
+        add_ring(sum, &self.rings[j], self.size, turn);
+    }
+
+    /// The bits of a lane that block `j`, rotated by `turn`, lacks: those t whose bit (t + `turn`) modulo the size is a
+    /// zero of the block's.
+    pub fn lacking(&self, j: usize, turn: usize, lane: &[u64; 6]) -> [u64; 6]
+        requires block { (j + 1) * self.now.lanes ≤ length self.now.items }
+        requires turn { turn < self.now.lanes }
+        requires clear { IsClear lane.now self.now.lanes }
+        ensures bits { (t : ℕ) → t < self.now.lanes → is_set result t
+            ≡ (is_set lane.now t && not (bit self.now.items (j * self.now.lanes + (t + turn) % self.now.lanes))) }
+        ensures clear { IsClear result self.now.lanes }
+    {
+        lane_less_ring(lane, &self.rings[j], self.size, turn)
     }
 
     /// Sets the bits of block `j` where a lane has a one.

@@ -128,13 +128,17 @@ fn keeps_blocks(rt: HostRuntime) -> Result<(), Fail> {
     rings.join(1, &ones);
     assert!(rt; rings.get(5) && !rings.get(4));
     assert_eq!(rt; rings.lane(1, 2), ones);
+    let (word, count) = rings.word_from(3);
+    assert_eq!(rt; (word & 0b11, count), (0, 2));
+    let (word, count) = rings.word_from(7);
+    assert_eq!(rt; (word & 0b111, count), (0b111, 3));
     rings.clear(1);
     assert!(rt; !rings.get(5));
     Ok(())
 }
 
 // By hand: the first of two blocks of five counts is all twos, and a rotation by two brings the ones at places 0 and 2
-// of a block to its counts 3 and 0. The second block stays as it is.
+// of a block to its counts 3 and 0. The second block stays as it is. A rotation by one brings the ones to 4 and 1.
 #[test]
 fn lowers_a_block(rt: HostRuntime) -> Result<(), Fail> {
     let mut marks = Rings::new(rt.alloc(), 2, 5)?;
@@ -143,8 +147,12 @@ fn lowers_a_block(rt: HostRuntime) -> Result<(), Fail> {
     counts.fill(0, 2);
     counts.fill(1, 1);
     counts.lower(0, &marks, 1, 2);
-    assert_eq!(rt; counts.ones(0), [0b01001, 0, 0, 0, 0, 0]);
+    let mut ones = counts.ones(0);
+    assert_eq!(rt; ones, [0b01001, 0, 0, 0, 0, 0]);
     assert_eq!(rt; counts.ones(1), [0b11111, 0, 0, 0, 0, 0]);
+    assert_eq!(rt; marks.lacking(1, 2, &ones), [0; 6]);
+    marks.add_turned(1, 1, &mut ones);
+    assert_eq!(rt; ones, [0b11011, 0, 0, 0, 0, 0]);
     Ok(())
 }
 

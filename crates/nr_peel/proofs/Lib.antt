@@ -23,6 +23,7 @@ pub mod Tallies
 pub mod Held
 pub mod Told
 pub mod OneTold
+pub mod Quotients
 pub mod Remaining
 pub mod Judged
 pub mod RowEntries

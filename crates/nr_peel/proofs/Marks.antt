@@ -47,13 +47,11 @@ no_steps step u n order none =
 
 module _ (z j v : ℕ) (some : 0 < z) where
   -- the rows of a lane whose positions the block lacks
-  pub lacking : (ones there lane : List ℕ) (K : ℕ → Bool) → IsClear ones z → ((t : ℕ) → is_set lane t ≡ (is_set ones t && not (is_set there t)))
-      → ((t : ℕ) → t < z → is_set there t ≡ K (j * z + (t + v % z) % z)) → (t : ℕ) → is_set lane t ≡ lacks z j v ones K t
-  lacking ones there lane K clear is read t = elim (cases_lt t z) [
-    | inl below ↦ is t ∙ ap (λ b. is_set ones t && not b) (read t below)
-    | inr past ↦
-        is t ∙ ap (λ b. b && not (is_set there t)) (past_clear ones z t clear past)
-        ∙ sym (ap (λ b. b && not (K (one_at z t j v))) (past_clear ones z t clear past))
+  pub lacking : (ones lane : List ℕ) (K : ℕ → Bool) → IsClear ones z → IsClear lane z
+      → ((t : ℕ) → t < z → is_set lane t ≡ (is_set ones t && not (K (j * z + (t + v % z) % z)))) → (t : ℕ) → is_set lane t ≡ lacks z j v ones K t
+  lacking ones lane K clear lane_clear is t = elim (cases_lt t z) [
+    | inl below ↦ is t below
+    | inr past ↦ past_clear lane z t lane_clear past ∙ sym (ap (λ b. b && not (K (one_at z t j v))) (past_clear ones z t clear past))
   ]
 
   -- a lane that is turned back marks its rows' positions

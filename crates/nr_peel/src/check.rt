@@ -10,7 +10,7 @@ ghost use Rattle.nr_peel.specs.State.{lifted_checks};
 ghost use Rattle.nr_peel.specs.declared.fix.Fix.{Fix};
 
 use crate::fix::Fix;
-use crate::lifted::Lifted;
+use crate::lifted::{Lifted, reciprocal};
 use nr_bitvec::Bits;
 use nr_segment::Plan;
 use nr_shifttable::Table;
@@ -83,7 +83,11 @@ pub fn check_order(table: &Table, plan: &Plan, known: &mut Bits, steps: &[Fix]) 
 {
     // Each table is an accepted one, so that its parity checks are sound.
     tables_are_sound(table);
-    let lifted = Lifted { table, plan: *plan };
+    let lifted = Lifted {
+        table,
+        plan: *plan,
+        reciprocal: reciprocal(plan.z),
+    };
     for step in steps {
         if !accepts(&lifted, known, *step) {
             return false;
@@ -174,7 +178,11 @@ pub fn check_stuck(table: &Table, plan: &Plan, given: &Bits, set: &[u32]) -> boo
 {
     // Each table is an accepted one, so that its parity checks are sound.
     tables_are_sound(table);
-    let lifted = Lifted { table, plan: *plan };
+    let lifted = Lifted {
+        table,
+        plan: *plan,
+        reciprocal: reciprocal(plan.z),
+    };
     let size = plan.graph.cols() * plan.z;
     if !is_beside(size, given, set) {
         return false;

@@ -16,7 +16,7 @@ ghost use Rattle.nr_peel.specs.Sweeps.{AreLanes, CountsOf, IsBlockSought, counte
 
 use crate::fix::Fix;
 use crate::lifted::Lifted;
-use nr_lifting::{Planes, Rings, add_lane, common, lane_count, turn_lane, without};
+use nr_lifting::{Planes, Rings, common, lane_count, turn_lane};
 use nr_shifttable::Entry;
 use std::alloc::{AllocError, Global};
 
@@ -31,8 +31,7 @@ pub(crate) fn row_sum(bits: &Rings, lifted: &Lifted<'_>, row: &[Entry]) -> [u64;
     let mut sum = [0; 6];
     for entry in row {
         let turn = lifted.turn(entry);
-        let lane = bits.lane(usize::from(entry.col), turn as usize);
-        add_lane(&mut sum, &lane);
+        bits.add_turned(usize::from(entry.col), turn as usize, &mut sum);
     }
     sum
 }
@@ -179,7 +178,7 @@ impl Lanes {
         let size = lifted.plan.z;
         let turn = lifted.turn(entry);
         let col = usize::from(entry.col);
-        let lane = without(ones, &self.known.lane(col, turn as usize));
+        let lane = self.known.lacking(col, turn as usize, ones);
         if lane_count(&lane) != 0 {
             push_lane(&mut self.order, entry, size, turn, &lane);
             let back = (size - turn) % size;

@@ -1,6 +1,6 @@
 //! Where the entries of a base graph lie in the lifted matrix of a plan.
 
-ghost use Rattle.std.specs.Prelude.{◌≡◌, ◌+◌, ◌*◌, ◌%◌, ◌<◌, ◌≤◌};
+ghost use Rattle.std.specs.Prelude.{◌≡◌, ◌+◌, ◌*◌, ◌/◌, ◌%◌, ◌^◌, ◌<◌, ◌≤◌};
 ghost use Rattle.nr_shifttable.specs.Accepted.{column_of, entries_in, row_of};
 ghost use Rattle.nr_shifttable.specs.Tails.{value_in};
 ghost use Rattle.nr_ldpcenc.specs.Rows.{one_at};
@@ -8,12 +8,34 @@ ghost use Rattle.nr_ldpcenc.specs.Rows.{one_at};
 use nr_segment::Plan;
 use nr_shifttable::{Entry, Table};
 
-// A table, and the plan by which it is lifted.
+// What a number is multiplied by where it would be divided by a lifting size, which takes longer: the high half of the
+// product is the quotient.
+pub(crate) fn reciprocal(z: u32) -> u64
+    requires { 0 < z }
+    ensures { result ≡ 2 ^ 32 / z + 1 }
+{
+    (1u64 << 32) / u64::from(z) + 1
+}
+
+// What is left of a value after it is divided by a lifting size.
+fn remainder(value: u16, z: u32, reciprocal: u64) -> u32
+    requires some { 0 < z }
+    requires few { z ≤ 384 }
+    requires inverse { reciprocal ≡ 2 ^ 32 / z + 1 }
+    ensures { result ≡ value % z }
+{
+    let whole = (u64::from(value) * reciprocal) >> 32;
+    u32::from(value) - whole as u32 * z
+}
+
+// A table, and the plan by which it is lifted, with the reciprocal of its lifting size.
 #[derive(Clone, Copy)]
 pub(crate) struct Lifted<'t> {
     pub(crate) table: &'t Table,
     pub(crate) plan: Plan,
+    pub(crate) reciprocal: u64,
     pub(crate) ghost in_sets: { plan.set < 8 },
+    pub(crate) ghost inverse: { reciprocal ≡ 2 ^ 32 / plan.z + 1 },
 }
 
 impl<'t> Lifted<'t> {
@@ -23,7 +45,11 @@ impl<'t> Lifted<'t> {
         ensures small { result < self.now.plan.z }
         ensures size { self.now.plan.z ≤ 384 }
     {
-        u32::from(entry.values[self.plan.set as usize]) % self.plan.z
+        remainder(
+            entry.values[self.plan.set as usize],
+            self.plan.z,
+            self.reciprocal,
+        )
     }
 
     // The position that row `lane` of an entry's block has.

@@ -1,6 +1,7 @@
 //! The peeler of one code block.
 
-ghost use Rattle.std.specs.Prelude.{◌≡◌, ◌<◌, ◌≤◌, ◌↔◌, false, true, IfOk, IsErrOf, length, slice_set};
+ghost use Rattle.std.specs.Prelude.{◌≡◌, ℕ, ◌+◌, ◌<◌, ◌≤◌, ◌↔◌, ◌==◌, false, true, unwrap_or, IfOk, IsErrOf, length, slice_set};
+ghost use Rattle.std.specs.Int.{bit_at};
 ghost use Rattle.nr_bitvec.specs.Bit.{bit};
 ghost use Rattle.nr_segment.specs.CodeBlock.{numbers};
 ghost use Rattle.nr_shifttable.specs.Accepted.{has_graph};
@@ -26,7 +27,7 @@ ghost use Rattle.nr_peel.specs.Peeling.{
 
 use crate::fix::Fix;
 use crate::learner::Learner;
-use crate::lifted::Lifted;
+use crate::lifted::{Lifted, reciprocal};
 use nr_bitvec::Bits;
 use nr_ldpcenc::EncFault;
 use nr_segment::Plan;
@@ -69,7 +70,11 @@ impl<'t> Peeler<'t> {
         if !table.has(plan.graph) {
             return Err(EncFault::NoGraph);
         }
-        let lifted = Lifted { table, plan: *plan };
+        let lifted = Lifted {
+            table,
+            plan: *plan,
+            reciprocal: reciprocal(plan.z),
+        };
         match Learner::new(alloc, &lifted) {
             Ok(learner) => Ok(Peeler { lifted, learner }),
             Err(_) => Err(EncFault::Memory),
@@ -122,6 +127,20 @@ impl<'t> Peeler<'t> {
         } else {
             None
         }
+    }
+
+    /// The bits of the positions from `pos` on, the first of them lowest, and zero for one that isn't known; and how many
+    /// positions these are: as many as their block of Zc positions has from there, at most 64.
+    pub fn bits_from(&self, pos: u32) -> (u64, u32)
+        requires { pos < (checks_for self.now).size }
+        ensures bits { (j : ℕ) → j < result.1
+            → (bit_at result.0 j == 1) ≡ unwrap_or (known_at self.now (pos + j)) false }
+        ensures some { 0 < result.1 }
+        ensures few { result.1 ≤ 64 }
+        ensures peeled { IsPeeled self.now }
+    {
+        let (word, count) = self.learner.sweep.lanes.bits.word_from(pos as usize);
+        (word, count as u32)
     }
 
     /// How many positions below K' aren't known. They are counted as they become known, so this takes the same time

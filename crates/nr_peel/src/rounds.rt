@@ -8,7 +8,7 @@ ghost use Rattle.nr_peel.specs.Closure.{closure, round, stands};
 ghost use Rattle.nr_peel.specs.Rounds.{CountsMarks, HasLanes, counts_one, is_counted_once, row_in, some_counts_one, some_lacks_one};
 ghost use Rattle.nr_peel.specs.State.{lifted_checks};
 
-use crate::lifted::Lifted;
+use crate::lifted::{Lifted, reciprocal};
 use nr_bitvec::Bits;
 use nr_lifting::tally_block;
 use nr_segment::Plan;
@@ -162,7 +162,11 @@ pub fn close(alloc: Global, table: &Table, plan: &Plan, known: &mut Bits) -> Res
 {
     // Each table is an accepted one, so that its parity checks are sound.
     tables_are_sound(table);
-    let lifted = Lifted { table, plan: *plan };
+    let lifted = Lifted {
+        table,
+        plan: *plan,
+        reciprocal: reciprocal(plan.z),
+    };
     let mut tally = Tally::new(alloc, plan.z)?;
     let mut unknown = Bits::zeros(alloc, plan.graph.cols() * plan.z)?;
     'rounds: while go_round(&lifted, &mut unknown, &mut tally, known) {}

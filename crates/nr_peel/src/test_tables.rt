@@ -5,6 +5,7 @@ ghost use Rattle.nr_graphpick.specs.Graph.{cols_of};
 
 use crate::{Fix, Peeler, check_order, check_stuck};
 use nr_bitvec::Bits;
+use nr_bitvec::words::low_bits;
 use nr_graphpick::Graph;
 use nr_segment::Plan;
 use nr_shifttable::{Feed, Table};
@@ -120,6 +121,16 @@ pub(crate) fn size_of(plan: &Plan) -> u32
 pub(crate) fn known(peeler: &Peeler<'_>, pos: u32) -> Option<bool> {
     if (pos as usize) < peeler.given().len() {
         peeler.known(pos)
+    } else {
+        None
+    }
+}
+
+/// The bits from a position on that the code has, and how many these are.
+pub(crate) fn bits_from(peeler: &Peeler<'_>, pos: u32) -> Option<(u64, u32)> {
+    if (pos as usize) < peeler.given().len() {
+        let (word, count) = peeler.bits_from(pos);
+        Some((low_bits(word, count as usize), count))
     } else {
         None
     }

@@ -1,6 +1,6 @@
 //! Peelers over a practice table, beside what comes out by hand.
 
-use crate::test_tables::{is_order, is_stuck, known, learn, learn_all, practice};
+use crate::test_tables::{bits_from, is_order, is_stuck, known, learn, learn_all, practice};
 use crate::{Fix, Peeler};
 use nr_bitvec::Bits;
 use nr_graphpick::Graph;
@@ -159,6 +159,11 @@ fn check_whole(
     for pos in 0..208 {
         assert_eq!(rt; known(peeler, pos), Some(word_bit(pos)), "position {pos}");
     }
+    assert_eq!(rt;
+        bits_from(peeler, 10),
+        Some((0b10, 2)),
+        "the last two of column 2's digit 1"
+    );
     assert!(rt; 420 <= peeler.touches() && peeler.touches() <= 840);
     assert!(rt; is_order(table, plan, peeler.given(), peeler.order())?);
     assert!(rt; is_changed_order(alloc, table, plan, peeler, 208)?);

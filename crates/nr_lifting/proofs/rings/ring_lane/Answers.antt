@@ -1,15 +1,30 @@
-use Rattle.std.proofs.Common.{◌*◌, ◌/◌, ◌%◌, refl, ap, ◌∙◌, inl, inr, arith}
+use Rattle.std.proofs.Common.{◌<◌, ◌+◌, ◌*◌, ◌/◌, ◌%◌, refl, ap, ◌∙◌, inl, inr, arith}
 use Rattle.std.proofs.lemmas.Bool.{cases_lt}
 use Rattle.std.specs.Int.{bit_at}
+use Rattle.nr_bitvec.specs.Packed.{place}
 use Rattle.nr_lifting.proofs.LaneViews.{place-zeros}
 use Rattle.nr_lifting.proofs.LaneWords.{written_more}
 use Rattle.nr_lifting.proofs.rings.ring_lane.Goals as goal
+
+-- one word
+pub returns-then-size-le64-clause-turned : goal.returns-then-size-le64-clause-turned
+returns-then-size-le64-clause-turned c = λ t below.
+    let short : t < 64 = omega (arith, below, c.if-size-le64.true) in
+    c.one_word.ensures.first t short
+    ∙ c.ring_word.ensures.turned t short (omega (arith, below))
+    ∙ ap (λ n. place c.args.ring.now ((n + c.args.p) % c.args.size)) (omega arith)
+
+pub returns-then-size-le64-clause-clear : goal.returns-then-size-le64-clause-clear
+returns-then-size-le64-clause-clear c = λ t past. elim (cases_lt t 64) [
+  | inl short ↦ c.one_word.ensures.first t short ∙ c.ring_word.ensures.clear t (omega (arith, past))
+  | inr out ↦ c.one_word.ensures.rest t out
+]
 
 -- the next word is read
 pub loop-i-preserved : goal.loop-i-preserved
 loop-i-preserved c =
     written_more _ _ _ _ _ _ _ c.loop-i.invariant (omega arith) refl
-    c.ring_word.ensures.turned (λ j _ past. c.ring_word.ensures.clear j past)
+    c.ring_word-in-loop-i.ensures.turned (λ j _ past. c.ring_word-in-loop-i.ensures.clear j past)
 
 pub returns-clause-turned : goal.returns-clause-turned
 returns-clause-turned c = λ t below. c.loop-i.invariant.done t (omega (arith, below)) below

@@ -14,7 +14,7 @@ use Rattle.nr_peel.proofs.Words.{words_agree}
 use Rattle.nr_peel.proofs.check.check_order.Goals as goal
 
 pub invariant_of-lifted : goal.invariant_of-lifted
-invariant_of-lifted c = record { in_sets = in_sets c.args.plan.now }
+invariant_of-lifted c = record { in_sets = in_sets c.args.plan.now; inverse = c.reciprocal.ensures }
 
 pub loop-step-preserved : goal.loop-step-preserved
 loop-step-preserved c =

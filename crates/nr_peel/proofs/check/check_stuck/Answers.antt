@@ -8,7 +8,7 @@ use Rattle.nr_peel.proofs.Sets.{in_sets}
 use Rattle.nr_peel.proofs.check.check_stuck.Goals as goal
 
 pub invariant_of-lifted : goal.invariant_of-lifted
-invariant_of-lifted c = record { in_sets = in_sets c.args.plan.now }
+invariant_of-lifted c = record { in_sets = in_sets c.args.plan.now; inverse = c.reciprocal.ensures }
 
 pub never_one-requires : goal.never_one-requires
 never_one-requires c = (c.is_beside.ensures.0 c.if-not-is_beside.false).rising

@@ -1,9 +1,8 @@
-use Rattle.std.proofs.Common.{[], get_or, take, sym, ap, ◌∙◌}
+use Rattle.std.proofs.Common.{[], get_or, sym, ap, ◌∙◌}
 use Rattle.nr_bitvec.specs.Bit.{◌⊕◌, bit}
-use Rattle.nr_lifting.specs.Rings.{is_set}
 use Rattle.nr_shifttable.specs.declared.entry.Entry.{Entry}
-use Rattle.nr_ldpcenc.specs.Parity.{parity}
-use Rattle.nr_ldpcenc.specs.Rows.{positions}
+use Rattle.nr_shifttable.specs.Tails.{value_in}
+use Rattle.nr_ldpcenc.specs.Rows.{one_at}
 use Rattle.nr_peel.proofs.Sums.{summed_more}
 use Rattle.nr_peel.proofs.lanes.row_sum.Goals as goal
 
@@ -15,13 +14,14 @@ loop-entry-preserved c =
     let i = c.loop-entry.entry-index in
     let e = get_or c.args.row.now i none in
     let B = bit c.args.bits.now.items in
-    let read = rw (c.requires.same, c.from.ensures, c.turn-turn.ensures.value) at c.lane-lane.ensures.bits in
-    let clear = rw c.requires.same at c.lane-lane.ensures.clear in
+    let added = rw (c.requires.same, c.from.ensures, c.turn-turn.ensures.value) at c.add_turned.ensures.bits in
     record {
       sums = λ t below.
-          c.add_lane.ensures.bits t
-          ∙ ap (λ b. b ⊕ is_set c.lane-lane.result t) (c.loop-entry.invariant.sums t below)
-          ∙ ap (λ b. parity B (take i (positions l.plan.set l.plan.z t c.args.row.now)) ⊕ b) (read t below)
+          added t below
+          ∙ ap (λ b. b ⊕ B (one_at l.plan.z t e.col (value_in l.plan.set e))) (c.loop-entry.invariant.sums t below)
           ∙ sym (summed_more B l.plan.set l.plan.z t i c.args.row.now none c.loop-entry-test.true);
-      clear = c.add_lane.ensures.clear l.plan.z c.loop-entry.invariant.clear clear;
+      clear = rw c.requires.same at c.add_turned.ensures.clear;
     }
+
+pub add_turned-requires-clause-clear : goal.add_turned-requires-clause-clear
+add_turned-requires-clause-clear c = rw c.requires.same c.loop-entry.invariant.clear

@@ -11,7 +11,7 @@ use Rattle.nr_peel.proofs.Sets.{in_sets}
 use Rattle.nr_peel.proofs.rounds.close.Goals as goal
 
 pub invariant_of-lifted : goal.invariant_of-lifted
-invariant_of-lifted c = record { in_sets = in_sets c.args.plan.now }
+invariant_of-lifted c = record { in_sets = in_sets c.args.plan.now; inverse = c.reciprocal.ensures }
 
 pub rounds-init : goal.rounds-init
 rounds-init c =

@@ -1,4 +1,5 @@
-use Rattle.std.proofs.Common.{◌≡◌, ℕ, ◌==◌, ◌&&◌, ◌||◌, Bool, true, false, refl, sym, ap, ◌∙◌}
+use Rattle.std.proofs.Common.{◌≡◌, ℕ, ◌==◌, ◌&&◌, ◌||◌, Bool, true, false, not, refl, sym, ap, ◌∙◌, inl, inr}
+use Rattle.std.proofs.lemmas.Bool.{cases_eq, ne_eqb, false≢true}
 use Rattle.nr_bitvec.specs.Bit.{bit}
 use Rattle.nr_peel.specs.State.{lifted_checks}
 use Rattle.nr_peel.proofs.OneTold.{one_clear, one_marks, one_told}
@@ -52,3 +53,39 @@ returns-else-value c =
     (sym c.get.ensures ∙ c.if-not-get.true) (λ p. known p ∙ ap (λ b. bit old.known.items p || b) (marks p)) (λ p. fresh p ∙ ap (λ b. bit old.fresh.items p || b) (marks p))
     (λ p. with_zero (bit old.bits.items p) (pos == p) c.args.value c.if-value.false) refl
     c.join.ensures.long refl c.join-then-not-get.ensures.long c.join.ensures.lanes refl c.join-then-not-get.ensures.lanes
+
+none_new : (K : ℕ → Bool) (pos p : ℕ) → K pos ≡ true → ((pos == p) && not (K p)) ≡ false
+none_new K pos p known = elim (cases_eq pos p) [
+  | inl e ↦ ap (λ b. (pos == p) && not b) (ap K (sym e) ∙ known) ∙ not_both (pos == p)
+  | inr apart ↦ ap (λ b. b && not (K p)) (ne_eqb pos p apart)
+]
+  where
+    not_both : (b : Bool) → (b && not true) ≡ false
+    not_both true = refl
+    not_both false = refl
+
+or_none : (a b : Bool) → b ≡ false → a ≡ (a || b)
+or_none true b e = refl
+or_none false b e = sym e
+
+or_known : (a b : Bool) → a ≡ true → a ≡ (a || b)
+or_known true b e = refl
+or_known false b e = absurd (false≢true e)
+
+-- a position that was known
+pub returns-else-not-get : goal.returns-else-not-get
+returns-else-not-get c =
+    let old = c.args.self.now in
+    let K = bit old.known.items in
+    let pos = c.args.pos in
+    let known : K pos ≡ true = sym c.get.ensures ∙ c.if-not-get.false in
+    record {
+      known = λ p. elim (cases_eq pos p) [
+        | inl e ↦ or_known (K p) (pos == p) (ap K (sym e) ∙ known)
+        | inr apart ↦ or_none (K p) (pos == p) (ne_eqb pos p apart)
+      ];
+      fresh = λ p. or_none (bit old.fresh.items p) ((pos == p) && not (K p)) (none_new K pos p known);
+      bits = λ p. or_none (bit old.bits.items p) (((pos == p) && not (K p)) && c.args.value) (ap (λ b. b && c.args.value) (none_new K pos p known));
+      order = refl;
+      lanes = c.requires.lanes;
+    }

@@ -13,15 +13,19 @@ pub push_lane-requires-clause-room : goal.push_lane-requires-clause-room
 push_lane-requires-clause-room c =
     let l = c.args.lifted.now in
     let e = c.args.entry.now in
-    let read = rw (c.requires.same, c.from-col.ensures, c.turn-turn.ensures.value) at c.lane.ensures.bits in
-    let lane = lacking l.plan.z e.col (value_in l.plan.set e) (omega (arith, c.turn-turn.ensures.small)) c.args.ones.now c.lane.result c.without-lane.result (bit c.args.self.now.known.items) c.requires.clear c.without-lane.ensures.bits read in
-    omega (arith, c.requires.room, marked-same (is_set c.without-lane.result) (lacks l.plan.z e.col (value_in l.plan.set e) c.args.ones.now (bit c.args.self.now.known.items)) l.plan.z (λ t _. lane t))
+    let read = rw (c.requires.same, c.from-col.ensures, c.turn-turn.ensures.value) at c.lacking-lane.ensures.bits in
+    let lane_clear = rw c.requires.same at c.lacking-lane.ensures.clear in
+    let lane = lacking l.plan.z e.col (value_in l.plan.set e) (omega (arith, c.turn-turn.ensures.small)) c.args.ones.now c.lacking-lane.result (bit c.args.self.now.known.items) c.requires.clear lane_clear read in
+    omega (arith, c.requires.room, marked-same (is_set c.lacking-lane.result) (lacks l.plan.z e.col (value_in l.plan.set e) c.args.ones.now (bit c.args.self.now.known.items)) l.plan.z (λ t _. lane t))
+
+pub lacking-lane-requires-clause-clear : goal.lacking-lane-requires-clause-clear
+lacking-lane-requires-clause-clear c = rw c.requires.same c.requires.clear
 
 pub turn_lane-marks-requires-clause-clear : goal.turn_lane-marks-requires-clause-clear
-turn_lane-marks-requires-clause-clear c = c.without-lane.ensures.clear c.args.lifted.now.plan.z c.requires.clear
+turn_lane-marks-requires-clause-clear c = rw c.requires.same at c.lacking-lane.ensures.clear
 
 pub turn_lane-bits-requires-clause-clear : goal.turn_lane-bits-requires-clause-clear
-turn_lane-bits-requires-clause-clear c = c.common.ensures.clear c.args.lifted.now.plan.z (c.without-lane.ensures.clear c.args.lifted.now.plan.z c.requires.clear)
+turn_lane-bits-requires-clause-clear c = c.common.ensures.clear c.args.lifted.now.plan.z (rw c.requires.same at c.lacking-lane.ensures.clear)
 
 pub join-requires-clause-clear : goal.join-requires-clause-clear
 join-requires-clause-clear c = rw c.requires.same c.turn_lane-marks.ensures.clear
@@ -41,11 +45,12 @@ returns-then-lane_count-ne0 c =
     let some : 0 < z = omega (arith, c.turn-turn.ensures.small) in
     let K = bit c.args.self.now.known.items in
     let u = lacks z e.col v c.args.ones.now K in
-    let read = rw (c.requires.same, c.from-col.ensures, c.turn-turn.ensures.value) at c.lane.ensures.bits in
-    let lane = lacking z e.col v some c.args.ones.now c.lane.result c.without-lane.result K c.requires.clear c.without-lane.ensures.bits read in
-    let marks_turned : IsTurned z c.turn_lane-marks.result c.without-lane.result ((z - v % z) % z) = rw (sym c.turn-turn.ensures.value) c.turn_lane-marks.ensures.turned in
+    let read = rw (c.requires.same, c.from-col.ensures, c.turn-turn.ensures.value) at c.lacking-lane.ensures.bits in
+    let lane_clear = rw c.requires.same at c.lacking-lane.ensures.clear in
+    let lane = lacking z e.col v some c.args.ones.now c.lacking-lane.result K c.requires.clear lane_clear read in
+    let marks_turned : IsTurned z c.turn_lane-marks.result c.lacking-lane.result ((z - v % z) % z) = rw (sym c.turn-turn.ensures.value) c.turn_lane-marks.ensures.turned in
     let bits_turned : IsTurned z c.turn_lane-bits.result c.common.result ((z - v % z) % z) = rw (sym c.turn-turn.ensures.value) c.turn_lane-bits.ensures.turned in
-    let marks = turned_marks z e.col v some c.turn_lane-marks.result c.without-lane.result u marks_turned lane in
+    let marks = turned_marks z e.col v some c.turn_lane-marks.result c.lacking-lane.result u marks_turned lane in
     let both : (t : ℕ) → is_set c.common.result t ≡ (u t && is_set c.args.sums.now t) = λ t. c.common.ensures.bits t ∙ ap (λ b. b && is_set c.args.sums.now t) (lane t) in
     let set = turned_marks z e.col v some c.turn_lane-bits.result c.common.result (λ t. u t && is_set c.args.sums.now t) bits_turned both in
     let known = rw (c.requires.same, c.from-col.ensures) at c.join.ensures.joined in
@@ -58,7 +63,7 @@ returns-then-lane_count-ne0 c =
       order =
           c.push_lane.ensures.steps
           ∙ ap (λ xs. c.args.self.now.order.items ++ xs)
-          (steps_same (turned_step z e.row e.col c.turn-turn.result) (turned_step z e.row e.col (v % z)) (is_set c.without-lane.result) u z (λ t _. ap (λ n. turned_step z e.row e.col n t) c.turn-turn.ensures.value) (λ t _. lane t));
+          (steps_same (turned_step z e.row e.col c.turn-turn.result) (turned_step z e.row e.col (v % z)) (is_set c.lacking-lane.result) u z (λ t _. ap (λ n. turned_step z e.row e.col n t) c.turn-turn.ensures.value) (λ t _. lane t));
       capacity = c.push_lane.ensures.capacity;
       known_long = c.join.ensures.long;
       fresh_long = c.join-then-lane_count-ne0.ensures.long;
@@ -77,11 +82,12 @@ returns-else-lane_count-ne0 c =
     let some : 0 < z = omega (arith, c.turn-turn.ensures.small) in
     let K = bit c.args.self.now.known.items in
     let u = lacks z e.col v c.args.ones.now K in
-    let read = rw (c.requires.same, c.from-col.ensures, c.turn-turn.ensures.value) at c.lane.ensures.bits in
-    let lane = lacking z e.col v some c.args.ones.now c.lane.result c.without-lane.result K c.requires.clear c.without-lane.ensures.bits read in
-    let clear = c.without-lane.ensures.clear z c.requires.clear in
-    let count : marked (is_set c.without-lane.result) z ≡ 0 = sym (c.lane_count.ensures.marked z clear) ∙ omega (arith, c.if-lane_count-ne0.false) in
-    let none : (t : ℕ) → u t ≡ false = λ t. sym (lane t) ∙ none_marked c.without-lane.result z clear count t in
+    let read = rw (c.requires.same, c.from-col.ensures, c.turn-turn.ensures.value) at c.lacking-lane.ensures.bits in
+    let lane_clear = rw c.requires.same at c.lacking-lane.ensures.clear in
+    let lane = lacking z e.col v some c.args.ones.now c.lacking-lane.result K c.requires.clear lane_clear read in
+    let clear = lane_clear in
+    let count : marked (is_set c.lacking-lane.result) z ≡ 0 = sym (c.lane_count.ensures.marked z clear) ∙ omega (arith, c.if-lane_count-ne0.false) in
+    let none : (t : ℕ) → u t ≡ false = λ t. sym (lane t) ∙ none_marked c.lacking-lane.result z clear count t in
     let unset : (t : ℕ) → (u t && is_set c.args.sums.now t) ≡ false = λ t. ap (λ b. b && is_set c.args.sums.now t) (none t) in
     record {
       known = λ p. marks_none z e.col v some u (bit c.args.self.now.known.items p) p none;

@@ -8,11 +8,11 @@ use Rattle.nr_peel.proofs.Sets.{in_sets}
 use Rattle.nr_peel.proofs.peeler.Peeler.new.Goals as goal
 
 pub invariant_of-lifted : goal.invariant_of-lifted
-invariant_of-lifted c = record { in_sets = in_sets c.args.plan.now }
+invariant_of-lifted c = record { in_sets = in_sets c.args.plan.now; inverse = c.reciprocal.ensures }
 
 pub returns-in-Ok-clause-started : goal.returns-in-Ok-clause-started
 returns-in-Ok-clause-started c =
-    let l : Lifted = record { table = c.args.table; plan = c.args.plan.now; in_sets = in_sets c.args.plan.now } in
+    let l : Lifted = record { table = c.args.table; plan = c.args.plan.now; reciprocal = c.reciprocal.result; in_sets = in_sets c.args.plan.now; inverse = c.reciprocal.ensures } in
     let f = c.in-Ok.ensures in
     let s = f.learner.sweep in
     record {
@@ -30,7 +30,7 @@ returns-in-Ok-clause-started c =
 
 pub returns-in-Ok-clause-left : goal.returns-in-Ok-clause-left
 returns-in-Ok-clause-left c =
-    let l : Lifted = record { table = c.args.table; plan = c.args.plan.now; in_sets = in_sets c.args.plan.now } in
+    let l : Lifted = record { table = c.args.table; plan = c.args.plan.now; reciprocal = c.reciprocal.result; in_sets = in_sets c.args.plan.now; inverse = c.reciprocal.ensures } in
     let started = returns-in-Ok-clause-started c in
     fresh_left (learner_view l c.in-Ok.learner) c.args.plan.now.b c.has.ensures.table (sym c.has.ensures.value ∙ c.if-not-has.false) c.args.plan.now.sound started.given started.peeled
     (omega (arith, started.peeled.known_long, c.args.plan.now.sound.held, fillers_fit l))
