@@ -3,6 +3,7 @@ use Rattle.std.proofs.Common.{◌≡◌, ◌≢◌, ℕ, zero, suc, ◌+◌, ◌
 use Rattle.std.specs.Int.{bit_at}
 use Rattle.std.proofs.lemmas.Bool.{cases_eq, cases_lt}
 use Rattle.std.proofs.lemmas.Grind.{get_or-set_at}
+use Rattle.std.proofs.lemmas.Nat.{div-mul-add, mod-mul-add}
 use Rattle.std.proofs.lemmas.List.{get_or-append_right, get_or-drop, get_or-replicate, get_or-set_other, get_or-take, get_or_append_left, get_or_default, length-drop, length-take-le, same_lists}
 use Rattle.nr_bitvec.specs.Bit.{bit}
 use Rattle.nr_crcattach.specs.Crc.{crc_of, high_first}
@@ -125,20 +126,29 @@ pub k-fits : (g : Graph) (p : Numbers) → p.k ≡ info_cols_of g * p.z → p.k 
 k-fits One p columns = omega (arith, columns)
 k-fits Two p columns = omega (arith, columns)
 
--- one bit more is read
-pub read-more : (p : Numbers) (ps : List Peeling) (xs ys : List Bool) (n : ℕ) (v : Bool) → ys ≡ set xs n v → n < length xs
+-- a word of bits more is read, of one code block
+pub read-more : (p : Numbers) (ps : List Peeling) (xs ys : List Bool) (n count word : ℕ) → 0 < share p
     → ((i : ℕ) → i < n → IsRead p ps xs i)
-    → ((d : Peeling) → v ≡ known_bit (get_or ps (n / share p) d) (n % share p))
-    → (i : ℕ) → i < n + 1 → IsRead p ps ys i
-read-more p ps xs ys n v ys-is inside read one i below d = ⊎_elim
-    (λ (here : i ≡ n).
-    ap (λ zs. bit zs i) ys-is ∙ get_or-set_at xs n i v false here inside ∙ one d
-    ∙ ap (λ j. known_bit (get_or ps (j / share p) d) (j % share p)) (sym here))
-    (λ (there : i ≢ n).
-    ap (λ zs. bit zs i) ys-is
-    ∙ get_or-set_other xs n i v false there
-    ∙ read i (omega (arith, below, there)) d)
-    (cases_eq i n)
+    → n % share p + count ≤ share p
+    → ((j : ℕ) (d : Peeling) → j < count → (bit_at word j == 1) ≡ known_bit (get_or ps (n / share p) d) (n % share p + j))
+    → ((t : ℕ) → t < count → bit ys (n + t) ≡ (bit_at word t == 1))
+    → ((t : ℕ) → t < n → bit ys t ≡ bit xs t)
+    → (i : ℕ) → i < n + count → IsRead p ps ys i
+read-more p ps xs ys n count word some read one-block known within before i below d = ⊎_elim
+    (λ (low : i < n). before i low ∙ read i low d)
+    (λ (high : n ≤ i).
+    let s : ℕ = share p in
+    let j : ℕ = i - n in
+    let few : j < count = omega (arith, below, high) in
+    let small : n % s + j < s = omega (arith, few, one-block) in
+    let split : n / s * s + (n % s + j) ≡ i = omega (arith, high) in
+    let block : i / s ≡ n / s = ap (λ m. m / s) (sym split) ∙ div-mul-add (n / s) s (n % s + j) small in
+    let place : i % s ≡ n % s + j = ap (λ m. m % s) (sym split) ∙ mod-mul-add (n / s) s (n % s + j) small in
+    let there : n + j ≡ i = omega (arith, high) in
+    ap (bit ys) (sym there) ∙ within j few ∙ known j d few
+    ∙ ap (λ m. known_bit (get_or ps m d) (n % s + j)) (sym block)
+    ∙ ap (known_bit (get_or ps (i / s) d)) (sym place))
+    (cases_lt i n)
 
 -- one word of bits more is copied
 pub copied-more : (n i word count : ℕ) (from xs ys : List Bool) → count ≡ min (n - 64 * i) 64 → 64 * i < n

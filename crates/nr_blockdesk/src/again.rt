@@ -1,6 +1,6 @@
 //! Encoding a transport block again, in memory that is there, and comparing it with what was heard.
 
-ghost use Rattle.std.specs.Prelude.{◌≡◌, ℕ, true, false, ◌+◌, ◌^◌, ◌<◌, ◌≤◌, IsTrue, length};
+ghost use Rattle.std.specs.Prelude.{◌≡◌, ℕ, true, false, ◌+◌, ◌-◌, ◌^◌, ◌<◌, ◌≤◌, Bool, IsTrue, List, length};
 ghost use Rattle.nr_bitvec.specs.Bit.{bit};
 ghost use Rattle.nr_crcattach.specs.Attachment.{attached};
 ghost use Rattle.nr_crcattach.specs.Crc.{crc_of};
@@ -30,26 +30,21 @@ pub(crate) fn attach_in_room(block: &Bits, list: &mut Bits)
     let poly = Poly::of_block(block.len());
     let check = crc(poly, block);
     list.clear();
-    for i in 0..block.len() {
-        list.push_in_room(block.get(i));
-    }
+    list.extend_range(block, 0, block.len());
     for place in (0..poly.degree()).rev() {
         list.push_in_room(check >> place & 1 == 1);
     }
 }
 
-// Bit `k` of code block `r` with its fillers, where `check` is the CRC24B of its bits of the transport block.
-fn code_bit(plan: &Plan, list: &Bits, r: u32, check: u32, k: u32) -> bool
-    requires whole { length list.now.items ≡ plan.now.b }
-    requires block { r < plan.now.c }
-    requires inside { k < plan.now.k }
-    requires check { check ≡ crc_of B24 (shared_bits (numbers plan.now) list.now.items r) }
-    ensures { result ≡ bit (code_block (numbers plan.now) list.now.items r) k }
+// Bit `k` of code block `r` with its fillers, behind its bits of the transport block, of which `check` is the CRC24B.
+fn tail_bit(plan: &Plan, check: u32, k: u32) -> bool
+    requires behind { plan.now.kdash - plan.now.l ≤ k }
+    ensures { (bits : List Bool) (r : ℕ) → length bits ≡ plan.now.b → r < plan.now.c → k < plan.now.k
+        → check ≡ crc_of B24 (shared_bits (numbers plan.now) bits r)
+        → result ≡ bit (code_block (numbers plan.now) bits r) k }
 {
     code_blocks_are_long();
-    if k < plan.kdash - plan.l {
-        list.get(part(plan, r, k) as usize)
-    } else if k < plan.kdash {
+    if k < plan.kdash {
         check >> (plan.kdash - 1 - k) & 1 == 1
     } else {
         false
@@ -67,10 +62,15 @@ fn encode_in(table: &Table, plan: &Plan, list: &Bits, r: u32, word: &mut Word)
     ensures long { length word.new ≡ positions_of plan.now }
 {
     code_blocks_are_long();
-    let share = plan.kdash - plan.l;
-    let check = crc_range(Poly::B24, list, part(plan, r, 0) as usize, share as usize);
-    for k in 0..plan.k {
-        word.set(k as usize, code_bit(plan, list, r, check, k));
+    let share = (plan.kdash - plan.l) as usize;
+    let start = part(plan, r, 0) as usize;
+    let check = crc_range(Poly::B24, list, start, share);
+    for i in 0..share.div_ceil(64) {
+        let at = 64 * i;
+        word.put(at, (share - at).min(64), list.window(start + at));
+    }
+    for k in share as u32..plan.k {
+        word.set(k as usize, tail_bit(plan, check, k));
     }
     fill(table, plan, word);
 }
@@ -81,17 +81,7 @@ fn agrees(store: &Store, word: &Word) -> bool
     ensures fits { result ≡ true → Fits store.now (bit word.now) }
     ensures misfits { result ≡ false → Fits store.now (bit word.now) → ⊥ }
 {
-    if store.clash() {
-        return false;
-    }
-    for pos in 0..store.positions() {
-        if let Some(bit) = store.heard(pos) {
-            if word.get(pos as usize) != bit {
-                return false;
-            }
-        }
-    }
-    true
+    !store.clash() && store.fits(word.bits())
 }
 
 // Encodes a transport block with its CRC, and answers whether its codewords have every first bit, and no position was

@@ -56,9 +56,14 @@ pub(crate) fn candidate(plan: &Plan, peelers: &[Peeler<'_>], mut list: Bits) -> 
         → IsRead (numbers plan.now) peelers.now result.items i }
 {
     let share = plan.kdash - plan.l;
-    for i in 0..list.len() as u32 {
-        let peeler = &peelers[(i / share) as usize];
-        list.set(i as usize, peeler.known(i % share).unwrap_or(false));
+    let len = list.len() as u32;
+    let mut i = 0;
+    while i < len {
+        let k = i % share;
+        let (word, count) = peelers[(i / share) as usize].bits_from(k);
+        let count = count.min(share - k).min(len - i);
+        list.put(i as usize, count as usize, word);
+        i += count;
     }
     list
 }

@@ -8,7 +8,7 @@ use Rattle.std.proofs.lemmas.List.{get_or-set_same, get_or-set_other, get_or_pas
 use Rattle.std.proofs.lemmas.List.FromFn.{get_or-map-range_with_len, length-map-range_with_len}
 use Rattle.nr_bitvec.specs.Bit.{bit}
 use Rattle.nr_harqbuf.specs.Positions.{kept, kept_at}
-use Rattle.nr_harqbuf.specs.Record.{Heardbits, first_at, first_heard, with_hearing, record_of, clashes}
+use Rattle.nr_harqbuf.specs.Record.{HasFirsts, Heardbits, first_at, first_heard, with_hearing, record_of, clashes}
 
 pub length-kept : (heard value : List Bool) → length (kept heard value) ≡ length heard
 length-kept heard value = length-map-range_with_len (kept_at heard value) 0 (length heard)
@@ -25,6 +25,25 @@ kept-at heard value p = ⊎_elim inside past (cases_lt p (length heard))
         let e : bit heard p ≡ false = get_or_past heard p false le in
         let long : length (kept heard value) ≤ p = omega (arith, length-kept heard value) in
         get_or_past (kept heard value) p None long ∙ sym (ap (λ b. cond b (Some (bit value p)) None) e)
+
+-- a word has the first bits where it has the bit that the masks say at each position that they mark
+pub firsts-by-masks : (heard value : List Bool) (clash : Bool) (w : ℕ → Bool)
+    → ((p : ℕ) → bit heard p ≡ true → w p ≡ bit value p) → HasFirsts (record { first = kept heard value; clash = clash }) w
+firsts-by-masks heard value clash w are p b first = go (bit heard p) refl
+  where
+    go : (h : Bool) → bit heard p ≡ h → w p ≡ b
+    go true e =
+        let same : Some (bit value p) ≡ Some b = sym (kept-at heard value p ∙ ap (λ h. cond h (Some (bit value p)) None) e) ∙ first in
+        let value-is : bit value p ≡ b = cc in
+        are p e ∙ value-is
+    go false e =
+        let bad : None ≡ Some b = sym (kept-at heard value p ∙ ap (λ h. cond h (Some (bit value p)) None) e) ∙ first in
+        cc
+
+pub masks-by-firsts : (heard value : List Bool) (clash : Bool) (w : ℕ → Bool)
+    → HasFirsts (record { first = kept heard value; clash = clash }) w → (p : ℕ) → bit heard p ≡ true → w p ≡ bit value p
+masks-by-firsts heard value clash w has p e =
+    has p (bit value p) (kept-at heard value p ∙ ap (λ h. cond h (Some (bit value p)) None) e)
 
 -- a bit is kept where none was
 pub kept-set : (heard value : List Bool) (p : ℕ) (b : Bool) → p < length heard → length value ≡ length heard

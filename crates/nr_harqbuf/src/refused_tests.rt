@@ -19,7 +19,6 @@ fn makes_a_store(rt: HostRuntime) -> Result<(), Fail> {
         assert!(rt; again.is_ok_and(|store| store.positions() == 208 && !store.clash()));
     }
     let store = answer?;
-    assert_eq!(rt; store.positions(), 208);
-    assert!(rt; !store.clash());
+    assert!(rt; store.positions() == 208 && !store.clash());
     Ok(())
 }

@@ -1,11 +1,12 @@
 //! The store of one code block.
 
-ghost use Rattle.std.specs.Prelude.{◌≡◌, ℕ, ◌<◌, ◌&&◌, not, [], length, IfOk};
+ghost use Rattle.std.specs.Prelude.{◌≡◌, ℕ, ◌<◌, ◌&&◌, ◌↔◌, not, [], length, IfOk, IsTrue};
 ghost use Rattle.nr_bitvec.specs.Bit.{bit};
 ghost use Rattle.nr_segment.specs.CodeBlock.{positions_of};
 ghost use Rattle.nr_harqbuf.specs.Masks.{merged};
-ghost use Rattle.nr_harqbuf.specs.Record.{first_at, is_heard, record_of, with_hearing};
+ghost use Rattle.nr_harqbuf.specs.Record.{HasFirsts, first_at, is_heard, record_of, with_hearing};
 
+use crate::masks::agrees;
 use nr_bitvec::Bits;
 use nr_segment::Plan;
 use std::alloc::{AllocError, Global};
@@ -102,6 +103,13 @@ impl Store {
         } else {
             None
         }
+    }
+
+    /// Whether a word of the code has every bit that was heard first. Takes no memory.
+    pub fn fits(&self, word: &Bits) -> bool
+        ensures { IsTrue result ↔ HasFirsts self.now (bit word.now.items) }
+    {
+        agrees(&self.heard, &self.value, word)
     }
 
     /// How many positions the codeword has.

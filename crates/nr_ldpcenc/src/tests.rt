@@ -223,12 +223,10 @@ fn fills_by_hand(rt: &impl Abort, alloc: Global, table: &Table, plan: &Plan) -> 
     Ok(())
 }
 
-/// Puts the ten information columns by hand, and ones in every third place behind them.
+/// Puts the ten information columns by hand, the lowest bit first, and ones in every third place behind them.
 fn begin(word: &mut Word) {
-    for (column, digit) in DIGITS[..10].iter().enumerate() {
-        for (t, weight) in [8, 4, 2, 1].iter().enumerate() {
-            put(word, column * 4 + t, digit & weight != 0);
-        }
+    if word.len() == 208 {
+        word.put(0, 40, 0x84_0880);
     }
     for i in 40..208 {
         put(word, i, i % 3 == 0);

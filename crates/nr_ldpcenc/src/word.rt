@@ -1,6 +1,7 @@
 //! The words that a code block is encoded into.
 
-ghost use Rattle.std.specs.Prelude.{◌≡◌, ℕ, ◌^◌, ◌<◌, ◌≤◌, false, IfOk, IsTrue, length, replicate, slice_set, take};
+ghost use Rattle.std.specs.Prelude.{◌≡◌, ℕ, ◌+◌, ◌^◌, ◌<◌, ◌≤◌, ◌==◌, false, IfOk, IsTrue, length, replicate, slice_set, take};
+ghost use Rattle.std.specs.Int.{bit_at};
 ghost use Rattle.nr_bitvec.specs.Bit.{bit};
 ghost use Rattle.nr_ldpcenc.specs.Codeword.{completed, IsWordOf};
 ghost use Rattle.nr_ldpcenc.specs.Rows.{plan_checks};
@@ -73,6 +74,19 @@ impl Word {
         ensures { self.new ≡ slice_set self.old i value }
     {
         self.bits.set(i, value);
+    }
+
+    /// Puts the `count` lowest bits of `bits`, at most 64, in the places of the bits from bit `at` on, the lowest first,
+    /// which the word has. Takes no memory.
+    pub fn put(&mut self, at: usize, count: usize, bits: u64)
+        requires count { count ≤ 64 }
+        requires inside { at + count ≤ length self.old }
+        ensures within { (t : ℕ) → t < count → bit self.new (at + t) ≡ (bit_at bits t == 1) }
+        ensures before { (t : ℕ) → t < at → bit self.new t ≡ bit self.old t }
+        ensures after { (t : ℕ) → at + count ≤ t → bit self.new t ≡ bit self.old t }
+        ensures long { length self.new ≡ length self.old }
+    {
+        self.bits.put(at, count, bits);
     }
 
     // Puts a list of bits at the start.

@@ -5,8 +5,8 @@ use Rattle.nr_crcattach.specs.Crc.{high_first}
 use Rattle.nr_blockdesk.proofs.Encoding.{high_first-next, length-high_first}
 use Rattle.nr_blockdesk.proofs.again.attach_in_room.Goals as goal
 
-pub push_in_room-requires-in-loop-place : goal.push_in_room-requires-in-loop-place
-push_in_room-requires-in-loop-place c =
+pub push_in_room-requires : goal.push_in_room-requires
+push_in_room-requires c =
     let inv = c.loop-place.invariant in
     let all = ap length inv.items in
     let added = length-append c.loop-place.list.items (high_first c.loop-place.place c.crc-check.result) in
@@ -20,7 +20,7 @@ loop-place-preserved c =
     let below = c.loop-place.place - 1 in
     let coded : (bit_and (check / 2 ^ below) 1 == 1) ≡ (bit_at check below == 1) = ap (λ n. n == 1) (shr_and_one check below) in
     let place : suc below ≡ c.loop-place.place = omega (arith, c.loop-place-test.true) in
-    let pushed = c.push_in_room-in-loop-place.ensures in
+    let pushed = c.push_in_room.ensures in
     let longer = ap length pushed.items in
     let added = length-append old ((bit_and (check / 2 ^ below) 1 == 1) ∷ []) in
     record {

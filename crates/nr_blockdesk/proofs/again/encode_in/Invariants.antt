@@ -1,9 +1,15 @@
 -- The bits so far are those of the code block with its fillers.
-use Rattle.std.proofs.Common.{◌≡◌, ℕ, ◌<◌, length}
+use Rattle.std.proofs.Common.{◌≡◌, ℕ, ◌*◌, ◌<◌, drop, length, min}
 use Rattle.nr_bitvec.specs.Bit.{bit}
 use Rattle.nr_segment.specs.Plan.{word_size}
 use Rattle.nr_segment.specs.CodeBlock.{code_block, numbers}
 use Rattle.nr_blockdesk.proofs.again.encode_in.Given as goal
+
+abbrev pub invariant-loop-i : goal.invariant-loop-i
+invariant-loop-i l = record {
+  long : length l.word ≡ word_size l.plan.graph (numbers l.plan);
+  same : (q : ℕ) → q < min (64 * l.i) l.share → bit l.word q ≡ bit (drop l.start l.list.items) q;
+}
 
 abbrev pub invariant-loop-k : goal.invariant-loop-k
 invariant-loop-k l = record {

@@ -1,6 +1,7 @@
-use Rattle.std.proofs.Common.{ℕ, ◌-◌, ◌*◌, ◌/◌, ◌%◌, ◌<◌, length, ap, ◌∙◌, false, arith}
-use Rattle.std.specs.Prelude.{unwrap_or}
-use Rattle.std.proofs.lemmas.List.{get_or_read, length-set}
+use Rattle.std.proofs.Common.{◌≡◌, ℕ, ◌+◌, ◌-◌, ◌*◌, ◌/◌, ◌%◌, ◌<◌, ◌≤◌, ◌==◌, length, ap, ◌∙◌, arith}
+use Rattle.std.specs.Int.{bit_at}
+use Rattle.std.proofs.lemmas.List.{get_or_read}
+use Rattle.std.proofs.lemmas.Nat.{mod_below}
 use Rattle.std.proofs.Math.Nat.{div-lt_iff_lt-mul}
 use Rattle.nr_peel.specs.Peeling.{Peeling}
 use Rattle.nr_segment.specs.CodeBlock.{numbers}
@@ -12,19 +13,24 @@ pub loop-i-preserved : goal.loop-i-preserved
 loop-i-preserved c =
     let plan = c.args.plan.now in
     let s : ℕ = plan.kdash - plan.l in
-    let i = c.loop-i.i in
+    let n = c.loop-i.i in
+    let count = c.min-count.result in
     let inv = c.loop-i.invariant in
     let elem = c.index-peelers-i.result in
-    let here : i < length c.loop-i.list.items = omega (arith, inv.long, c.loop-i-test.true) in
-    let low : i < plan.c * s = omega (arith, plan.sound.shared, c.requires.inside, inv.long, here) in
-    let block : i / s < plan.c = (div-lt_iff_lt-mul {k = s} {x = i} {y = plan.c} (omega (arith, plan.sound.checked))).1 low in
-    let inside : i / s < length c.args.peelers.now = omega (arith, block, c.requires.all) in
+    let here : n < length c.loop-i.list.items = omega (arith, inv.long, c.len-len.ensures.value, c.loop-i-test.true) in
+    let low : n < plan.c * s = omega (arith, plan.sound.shared, c.requires.inside, inv.long, here) in
+    let some : 0 < s = omega (arith, plan.sound.checked) in
+    let block : n / s < plan.c = (div-lt_iff_lt-mul {k = s} {x = n} {y = plan.c} some).1 low in
+    let inside : n / s < length c.args.peelers.now = omega (arith, block, c.requires.all) in
+    let small : n % s < s = mod_below n s some in
     record {
-      long = ap length c.set.ensures.items ∙ length-set c.loop-i.list.items i c.unwrap_or.result ∙ inv.long;
-      read = read-more (numbers plan) c.args.peelers.now c.loop-i.list.items c.set.new.self.items i c.unwrap_or.result
-          c.set.ensures.items here inv.read
-          (λ (d : Peeling). c.unwrap_or.ensures ∙ ap (λ o. unwrap_or o false) c.known.ensures.value
-          ∙ ap (λ (p : Peeling). known_bit p (i % s)) (get_or_read c.args.peelers.now (i / s) elem inside c.index-peelers-i.is d));
+      long = c.put.ensures.long ∙ inv.long;
+      below = omega (arith, c.min-count.ensures, c.loop-i-test.true);
+      read = read-more (numbers plan) c.args.peelers.now c.loop-i.list.items c.put.new.self.items n count c.bits_from-word.result.0 some inv.read
+          (omega (arith, small, c.min.ensures, c.min-count.ensures))
+          (λ (j : ℕ) (d : Peeling) few. c.bits_from-word.ensures.bits j (omega (arith, few, c.min.ensures, c.min-count.ensures))
+          ∙ ap (λ (p : Peeling). known_bit p (n % s + j)) (get_or_read c.args.peelers.now (n / s) elem inside c.index-peelers-i.is d))
+          c.put.ensures.within c.put.ensures.before;
     }
 
 pub returns-clause-read : goal.returns-clause-read
