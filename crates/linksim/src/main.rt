@@ -35,6 +35,7 @@ use std::rt::{Env, Files};
 use std::{env, io};
 
 fn main(rt: HostRuntime) -> ExitCode {
+    keep_freed_memory(rt.alloc());
     let ending = ending_of(&rt, &mut Outgoing::new(&rt));
     let errors = rt.stderr();
     ExitCode::from(tell(
@@ -43,6 +44,16 @@ fn main(rt: HostRuntime) -> ExitCode {
         &mut Outgoing::new(&rt),
         &mut Outgoing::new(&errors),
     ))
+}
+
+// A piece of memory as large as the C library takes for one that its heap may get from now on: 31 MiB.
+const LARGE_PIECE: usize = 31 << 20;
+
+// Takes a large piece of memory and gives it back, without touching it. From then on the C library (glibc) keeps up to twice
+// as much that was freed at the end of its heap. Otherwise what a transmission frees goes back to the system, and the next one
+// gets it anew, page by page. Where the piece is refused, nothing is lost but time.
+fn keep_freed_memory(alloc: Global) {
+    let _ = Vec::<u8>::with_capacity(alloc, LARGE_PIECE);
 }
 
 // Does what the words of the command line ask for, and answers how it ended.
@@ -91,29 +102,62 @@ fn perform<R: Files + Input + AllocGlobal, O: Sink>(
     match job {
         Job::Cut(rate2048, path) => cut(rt.alloc(), rate2048, &mut source_of(rt, &path), out),
         Job::Check(path) => check(rt.alloc(), &mut source_of(rt, &path), out),
-        Job::Send(files) => send(
-            rt.alloc(),
-            &mut source_of(rt, &files.table),
-            &mut source_of(rt, &files.settings),
-            &mut source_of(rt, &files.blocks),
-            &mut source_of(rt, &files.schedule),
-            out,
-        ),
-        Job::Run(files) => run(
-            rt.alloc(),
-            &mut source_of(rt, &files.table),
-            &mut source_of(rt, &files.settings),
-            &mut source_of(rt, &files.blocks),
-            &mut source_of(rt, &files.schedule),
-            out,
-        ),
-        Job::Audit(files) => audit(
-            rt.alloc(),
-            &mut source_of(rt, &files.table),
-            &mut source_of(rt, &files.settings),
-            &mut source_of(rt, &files.blocks),
-            &mut source_of(rt, &files.schedule),
-            out,
-        ),
+        Job::Send(files) => send_files(rt, &files, out),
+        Job::Run(files) => run_files(rt, &files, out),
+        Job::Audit(files) => audit_files(rt, &files, out),
     }
+}
+
+// `send` over the four files.
+fn send_files<R: Files + Input + AllocGlobal, O: Sink>(
+    rt: &R,
+    files: &crate::job::Files,
+    out: &mut O,
+) -> Result<(), RunFault>
+    requires { O.failures out.old < 2 ^ 32 }
+{
+    send(
+        rt.alloc(),
+        &mut source_of(rt, &files.table),
+        &mut source_of(rt, &files.settings),
+        &mut source_of(rt, &files.blocks),
+        &mut source_of(rt, &files.schedule),
+        out,
+    )
+}
+
+// `run` over the four files.
+fn run_files<R: Files + Input + AllocGlobal, O: Sink>(
+    rt: &R,
+    files: &crate::job::Files,
+    out: &mut O,
+) -> Result<(), RunFault>
+    requires { O.failures out.old < 2 ^ 32 }
+{
+    run(
+        rt.alloc(),
+        &mut source_of(rt, &files.table),
+        &mut source_of(rt, &files.settings),
+        &mut source_of(rt, &files.blocks),
+        &mut source_of(rt, &files.schedule),
+        out,
+    )
+}
+
+// `audit` over the four files.
+fn audit_files<R: Files + Input + AllocGlobal, O: Sink>(
+    rt: &R,
+    files: &crate::job::Files,
+    out: &mut O,
+) -> Result<(), RunFault>
+    requires { O.failures out.old < 2 ^ 32 }
+{
+    audit(
+        rt.alloc(),
+        &mut source_of(rt, &files.table),
+        &mut source_of(rt, &files.settings),
+        &mut source_of(rt, &files.blocks),
+        &mut source_of(rt, &files.schedule),
+        out,
+    )
 }
