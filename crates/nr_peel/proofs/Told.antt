@@ -96,9 +96,9 @@ module _ (z j : ℕ) (some : 0 < z) (old now : Lanes) (H V : ℕ → Bool) (h : 
   N = news H old
 
   -- the lane of what is given and isn't known marks what is new in the column
-  pub lane_new : (told there lane : List ℕ) → ((t : ℕ) → t < z → is_set told t ≡ H (j * z + t)) → ((t : ℕ) → t < z → is_set there t ≡ bit now.known.items (j * z + (t + 0) % z))
-      → ((t : ℕ) → is_set lane t ≡ (is_set told t && not (is_set there t))) → (p : ℕ) → lane_marks z j (is_set lane) p ≡ in_column z N j p
-  lane_new told there lane told_is there_is lane_is p = go (p / z == j) refl
+  pub lane_new : (told lane : List ℕ) → ((t : ℕ) → t < z → is_set told t ≡ H (j * z + t))
+      → ((t : ℕ) → t < z → is_set lane t ≡ (is_set told t && not (bit now.known.items (j * z + (t + 0) % z)))) → (p : ℕ) → lane_marks z j (is_set lane) p ≡ in_column z N j p
+  lane_new told lane told_is lane_is p = go (p / z == j) refl
     where
       small : p % z < z
       small = mod_below p z some
@@ -123,8 +123,8 @@ module _ (z j : ℕ) (some : 0 < z) (old now : Lanes) (H V : ℕ → Bool) (h : 
           let turned : (p % z + 0) % z ≡ p % z = mod_low (p % z + 0) z (omega (arith, small)) ∙ omega arith in
           let past : nat_lt (p / z) j ≡ false = le-ltb (p / z) j (omega (arith, column)) in
           let before : bit now.known.items p ≡ bit old.known.items p = h.known p ∙ ap (λ b. bit old.known.items p || (N p && b)) past ∙ ap (λ b. bit old.known.items p || b) (and_false (N p)) ∙ or_false (bit old.known.items p) in
-          lane_is (p % z) ∙ ap (λ b. b && not (is_set there (p % z))) (told_is (p % z) small ∙ ap H at)
-          ∙ ap (λ b. H p && not b) (there_is (p % z) small ∙ ap (λ m. bit now.known.items (j * z + m)) turned ∙ ap (bit now.known.items) at ∙ before)
+          lane_is (p % z) small ∙ ap (λ b. b && not (bit now.known.items (j * z + (p % z + 0) % z))) (told_is (p % z) small ∙ ap H at)
+          ∙ ap (λ b. H p && not b) (ap (λ m. bit now.known.items (j * z + m)) turned ∙ ap (bit now.known.items) at ∙ before)
           ∙ sym (and_true (N p))
 
   -- the column's new positions are given

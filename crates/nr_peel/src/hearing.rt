@@ -12,7 +12,7 @@ use crate::lanes::Lanes;
 use crate::lifted::Lifted;
 use nr_bitvec::Bits;
 use nr_bitvec::words::low_bits;
-use nr_lifting::{common, lane_count, without};
+use nr_lifting::{common, lane_count};
 
 // The block of `size` bits of a list from bit `from` on.
 fn read_lane(bits: &Bits, from: usize, size: usize) -> [u64; 6]
@@ -49,7 +49,7 @@ impl Lanes {
         let size = lifted.plan.z as usize;
         for j in 0..lifted.plan.graph.cols() as usize {
             let told = read_lane(heard, j * size, size);
-            let lane = without(&told, &self.known.lane(j, 0));
+            let lane = self.known.lacking(j, 0, &told);
             if lane_count(&lane) != 0 {
                 let bits = common(&lane, &read_lane(values, j * size, size));
                 self.known.join(j, &lane);

@@ -13,19 +13,26 @@ use Rattle.nr_peel.proofs.lanes.Lanes.hear.Goals.{else-lane_count-ne0, then-lane
 pub loop-j-init : goal.loop-j-init
 loop-j-init c = told_none c.args.lifted.now.plan.z (news (bit c.args.heard.now.items) c.args.self.now) (bit c.args.values.now.items) c.args.self.now
 
-pub lane-requires-clause-block : goal.lane-requires-clause-block
-lane-requires-clause-block c =
+pub lacking-lane-requires-clause-block : goal.lacking-lane-requires-clause-block
+lacking-lane-requires-clause-block c =
     let p = c.args.lifted.now.plan in
     let below : c.loop-j.j < cols_of p.graph = omega arith in
     rw (c.loop-j.invariant.known_lanes, c.loop-j.invariant.known_long, c.requires.lanes.known_lanes, c.requires.lanes.known_long) (mul-le-mul_right p.z (omega (arith, below)))
 
-pub lane-requires-clause-turn : goal.lane-requires-clause-turn
-lane-requires-clause-turn c = rw (c.loop-j.invariant.known_lanes, c.requires.lanes.known_lanes) c.args.lifted.now.plan.sound.size_some
+pub lacking-lane-requires-clause-turn : goal.lacking-lane-requires-clause-turn
+lacking-lane-requires-clause-turn c = rw (c.loop-j.invariant.known_lanes, c.requires.lanes.known_lanes) c.args.lifted.now.plan.sound.size_some
+
+pub lacking-lane-requires-clause-clear : goal.lacking-lane-requires-clause-clear
+lacking-lane-requires-clause-clear c = rw (c.loop-j.invariant.known_lanes, c.requires.lanes.known_lanes) c.read_lane-told.ensures.clear
+
+pub join-requires-then-lane_count-ne0-clause-clear : goal.join-requires-then-lane_count-ne0-clause-clear
+join-requires-then-lane_count-ne0-clause-clear c =
+    rw (c.loop-j.invariant.fresh_lanes, c.requires.lanes.fresh_lanes) (rw (c.loop-j.invariant.known_lanes, c.requires.lanes.known_lanes) at c.lacking-lane.ensures.clear)
 
 pub join-requires-then-lane_count-ne0-2-clause-clear : goal.join-requires-then-lane_count-ne0-2-clause-clear
 join-requires-then-lane_count-ne0-2-clause-clear c =
     let z = c.args.lifted.now.plan.z in
-    rw (c.loop-j.invariant.bits_lanes, c.requires.lanes.bits_lanes) (c.common-bits.ensures.clear z (c.without-lane.ensures.clear z c.read_lane-told.ensures.clear))
+    rw (c.loop-j.invariant.bits_lanes, c.requires.lanes.bits_lanes) (c.common-bits.ensures.clear z (rw (c.loop-j.invariant.known_lanes, c.requires.lanes.known_lanes) at c.lacking-lane.ensures.clear))
 
 -- the next column is given
 pub loop-j-preserved : goal.loop-j-preserved
@@ -41,9 +48,9 @@ loop-j-preserved c =
     let known_lanes : now.known.lanes ≡ z = inv.known_lanes ∙ c.requires.lanes.known_lanes in
     let bits_lanes : now.bits.lanes ≡ z = inv.bits_lanes ∙ c.requires.lanes.bits_lanes in
     let fresh_lanes : now.fresh.lanes ≡ z = inv.fresh_lanes ∙ c.requires.lanes.fresh_lanes in
-    let there = rw known_lanes at c.lane.ensures.bits in
-    let clear = c.without-lane.ensures.clear z c.read_lane-told.ensures.clear in
-    let marks = lane_new z j some old now H V inv c.read_lane-told.result c.lane.result c.without-lane.result c.read_lane-told.ensures.bits there c.without-lane.ensures.bits in
+    let lacks = rw known_lanes at c.lacking-lane.ensures.bits in
+    let clear = rw known_lanes at c.lacking-lane.ensures.clear in
+    let marks = lane_new z j some old now H V inv c.read_lane-told.result c.lacking-lane.result c.read_lane-told.ensures.bits lacks in
     elim c.if-lane_count-ne0.branch [
       | then-lane_count-ne0 w ↦
           let known = rw known_lanes at w.join.ensures.joined in
@@ -51,11 +58,11 @@ loop-j-preserved c =
           let bits = rw bits_lanes at w.join-then-lane_count-ne0-2.ensures.joined in
           rw w.self-is
           (told_next z j some old now H V inv (record { known = w.join.new.self; bits = w.join-then-lane_count-ne0-2.new.self; fresh = w.join-then-lane_count-ne0.new.self; order = now.order })
-          c.without-lane.result w.common-bits.result w.read_lane.result marks w.common-bits.ensures.bits w.read_lane.ensures.bits known fresh bits refl
+          c.lacking-lane.result w.common-bits.result w.read_lane.result marks w.common-bits.ensures.bits w.read_lane.ensures.bits known fresh bits refl
           w.join.ensures.long w.join-then-lane_count-ne0-2.ensures.long w.join-then-lane_count-ne0.ensures.long w.join.ensures.lanes w.join-then-lane_count-ne0-2.ensures.lanes w.join-then-lane_count-ne0.ensures.lanes)
       | else-lane_count-ne0 w ↦
-          let count : marked (is_set c.without-lane.result) z ≡ 0 = sym (c.lane_count.ensures.marked z clear) ∙ omega (arith, w.if-lane_count-ne0.false) in
-          rw w.self-is (told_skip z j some old now H V inv c.without-lane.result marks (none_marked c.without-lane.result z clear count))
+          let count : marked (is_set c.lacking-lane.result) z ≡ 0 = sym (c.lane_count.ensures.marked z clear) ∙ omega (arith, w.if-lane_count-ne0.false) in
+          rw w.self-is (told_skip z j some old now H V inv c.lacking-lane.result marks (none_marked c.lacking-lane.result z clear count))
     ]
 
 pub returns : goal.returns
