@@ -8,6 +8,7 @@ pub mod Kept
 pub mod Judged
 pub mod Order
 pub mod Parity
+pub mod Placed
 pub mod Places
 pub mod RecordFacts
 pub mod Shape

@@ -7,6 +7,7 @@
 #![tactic(auto)]
 
 mod accept;
+mod by_columns;
 #[cfg(test)]
 mod cut_tests;
 #[cfg(test)]
