@@ -1,6 +1,7 @@
 //! What crosses between C and the chain: settings, transmissions, and bits as octets.
 
-ghost use Rattle.std.specs.Prelude.{◌≡◌, ◌*◌, ◌<◌, ◌≤◌, ◌^◌, length};
+ghost use Rattle.std.specs.Prelude.{◌≡◌, ℕ, ◌*◌, ◌<◌, ◌≤◌, ◌^◌, length, slice_index_or};
+ghost use Rattle.std.specs.Int.{bit_at};
 ghost use Rattle.nr_c.specs.Crossing.{AreBits, AreOctets, digit, settings_of, tx_of};
 
 use nr_bitvec::Bits;
@@ -77,8 +78,22 @@ pub(crate) fn write_bits(bits: &Bits, out: &mut [u8])
     requires { length out.old ≡ length bits.now.items }
     ensures { AreBits bits.now.items out.new }
 {
-    for (m, octet) in out.iter_mut().enumerate() {
-        *octet = bits.get(m) as u8;
+    // A list has at most 2^24 bits, as `len` says: so no place overflows.
+    let len = bits.len();
+    for i in 0..len.div_ceil(64) {
+        let at = 64 * i;
+        write_word(bits.window(at), &mut out[at..len.min(at + 64)]);
+    }
+}
+
+// Writes an octet for each bit of a word, the lowest first, for as many bits as there are octets.
+fn write_word(word: u64, out: &mut [u8])
+    ensures { (k : ℕ) → k < length out.new → slice_index_or out.new k 0 ≡ bit_at word k }
+{
+    let mut rest = word;
+    for octet in out.iter_mut() {
+        *octet = (rest & 1) as u8;
+        rest >>= 1;
     }
 }
 
