@@ -1,6 +1,6 @@
 -- Entries of a caller and the items that they are: which ones are placed, and which table they are.
 use Rattle.std.proofs.Common.{◌≡◌, ◌≢◌, ◌⊎◌, inl, inr, refl, sym, ap, ◌∙◌, ℕ, suc, ◌+◌, ◌≤◌, ◌&&◌, drop, set, add-one, drop-cons, below_more, get_or-set_other, get_or-set_same, nat_lt, Bool, true, false, not, if◌then◌else◌, Option, Some, None, Result, Ok, Err, List, [], ◌∷◌, length, map, length-append, is_ok, get_or, ◌<◌, arith}
-use Rattle.std.specs.Prelude.{slice_get}
+use Rattle.std.specs.Prelude.{IfErr, IsErrOf, slice_get}
 use Rattle.std.proofs.lemmas.List.{length-map, get_or-map, drop_all}
 use Rattle.std.proofs.lemmas.Option.{slice_get-get_or}
 use Rattle.std.specs.List.{list_all}
@@ -63,26 +63,34 @@ nothing-left n past = refl
 pub left-end : (n past : ℕ) (es : List NrEntry) (i : ℕ) → length es ≤ i → are_left n past (drop i es) ≡ true
 left-end n past es i at_end = ap (are_left n past) (drop_all i es at_end) ∙ nothing-left n past
 
--- of items whose places are well, what is said of their table
-joined : (p : Result (Unit {0}) EntriesFault) (a : Result Entries TableFault) → is_ok p ≡ true
+-- an item's fault is one of entries, if that of the items behind it is
+step-fault : (room low : Bool) (n : ℕ) (rest : Result (Unit {0}) EntriesFault) (e : EntriesFault) → (rest ≡ Err e → fault_of e ≡ fault.Entries)
+    → (if not room then Err (kept.Range n) else (if low then Err (kept.Order n) else rest)) ≡ Err e → fault_of e ≡ fault.Entries
+step-fault false low n rest e behind is = let range : kept.Range n ≡ e = cc in sym (ap fault_of range)
+step-fault true true n rest e behind is = let order : kept.Order n ≡ e = cc in sym (ap fault_of order)
+step-fault true false n rest e behind is = behind is
+
+-- a fault of places is one of entries
+places-fault : (n past : ℕ) (xs : List Item) (e : EntriesFault) → places_from n past xs ≡ Err e → fault_of e ≡ fault.Entries
+unfolding places_from
+places-fault n past [] e is = cc
+places-fault n past (x ∷ xs) e is =
+    step-fault (has_room x) (nat_lt (item_key x) past) n (places_from (n + 1) (item_key x + 1) xs) e (places-fault (n + 1) (item_key x + 1) xs e) is
+
+-- of items, what is said of their table where their places are judged first
+joined : (p : Result (Unit {0}) EntriesFault) (a : Result Entries TableFault) → ((e : EntriesFault) → p ≡ Err e → fault_of e ≡ fault.Entries)
     → (demanded fault.Entries (is_ok p) >>= λ _. with_fault fault.Table a) ≡ with_fault fault_of (p >>= λ _. with_fault kept.Table a)
-joined (Ok u) (Ok t) placed = refl
-joined (Ok u) (Err e) placed = refl
-joined (Err e) a placed = cc
+joined (Ok u) (Ok t) faults = refl
+joined (Ok u) (Err e) faults = refl
+joined (Err e) a faults = ap (λ f. Err f) (sym (faults e refl))
 
--- the test of both parts, where it holds
-split : (b c : Bool) → (b && c) ≡ true → (b ≡ true) × (c ≡ true)
-split true true is = (refl, refl)
-split true false is = cc
-split false c is = cc
-
--- entries that are placed say what their items say
-pub placed-said : (es : List NrEntry) → are_placed es ≡ true → table_by es ≡ with_fault fault_of (entries_said (map item_of es))
+-- entries whose base graphs are 1 and 2 say what their items say
+pub graphs-said : (es : List NrEntry) → list_all has_graph es ≡ true → table_by es ≡ with_fault fault_of (entries_said (map item_of es))
 unfolding table_by entries_said
-placed-said es placed =
-    let both : (list_all has_graph es ≡ true) × (is_ok (places_said (map item_of es)) ≡ true) = split (list_all has_graph es) (is_ok (places_said (map item_of es))) placed in
-    ap (λ b. demanded fault.Entries (b && is_ok (places_said (map item_of es))) >>= λ _. with_fault fault.Table (accepted (table_of (map item_of es)))) both.0
-    ∙ joined (places_said (map item_of es)) (accepted (table_of (map item_of es))) both.1
+graphs-said es graphs =
+    let items = map item_of es in
+    ap (λ b. demanded fault.Entries (b && is_ok (places_said items)) >>= λ _. with_fault fault.Table (accepted (table_of items))) graphs
+    ∙ joined (places_said items) (accepted (table_of items)) (places-fault 1 0 items)
 
 -- an item is that of its entry
 back : (g : Graph) (e : Entry) → item_of (entry_of (record { graph = g; entry = e })) ≡ record { graph = g; entry = e }
@@ -107,21 +115,10 @@ graphs-back (x ∷ xs) =
     let rest : list_all has_graph (map entry_of xs) ≡ true = graphs-back xs in
     grind arith
 
--- what a step answers that is not refused was not refused before
-was_ok : (p : Result (Unit {0}) EntriesFault) (a : Result Entries EntriesFault) (t : Entries) → (p >>= λ _. a) ≡ Ok t → is_ok p ≡ true
-was_ok (Ok u) a t is = refl
-was_ok (Err e) a t is = cc
-
 -- the entries of items that are a table are that table
 pub kept-listed : (xs : List Item) (t : Entries) → entries_said xs ≡ Ok t → table_by (map entry_of xs) ≡ Ok t
-unfolding entries_said
 kept-listed xs t is =
-    let items : map item_of (map entry_of xs) ≡ xs = items-back xs in
-    let ok : is_ok (places_said (map item_of (map entry_of xs))) ≡ true =
-    ap (λ l. is_ok (places_said l)) items ∙ was_ok (places_said xs) (with_fault kept.Table (accepted (table_of xs))) t is in
-    let placed : are_placed (map entry_of xs) ≡ true =
-    ap (λ b. b && is_ok (places_said (map item_of (map entry_of xs)))) (graphs-back xs) ∙ ok in
-    placed-said (map entry_of xs) placed ∙ ap (λ l. with_fault fault_of (entries_said l)) items ∙ ap (with_fault fault_of) is
+    graphs-said (map entry_of xs) (graphs-back xs) ∙ ap (λ l. with_fault fault_of (entries_said l)) (items-back xs) ∙ ap (with_fault fault_of) is
 
 -- how many items a table lists
 pub listed-length : (t : Entries) → length (items_listed t) ≡ length t.one + length t.two
@@ -159,17 +156,44 @@ pub unplaced : (es : List NrEntry) → are_placed es ≡ false → table_by es �
 unfolding table_by
 unplaced es is = ap (λ b. demanded fault.Entries b >>= λ _. with_fault fault.Table (accepted (table_of (map item_of es)))) is
 
--- what is said of placed entries, by what is said of their items
-pub answered : (es : List NrEntry) (items : List Item) (said : Result Entries EntriesFault) → are_placed es ≡ true
+-- nor are those one of whose base graphs is neither 1 nor 2
+pub graphless : (es : List NrEntry) → list_all has_graph es ≡ false → table_by es ≡ Err fault.Entries
+graphless es is = unplaced es (ap (λ b. b && is_ok (places_said (map item_of es))) is)
+
+-- what is told of entries for which memory was refused
+refused-by : (es : List NrEntry) (placed : Bool) (f : Fault) → are_placed es ≡ placed → f ≡ (if placed then fault.Memory else fault.Entries)
+    → (f ≡ fault.Memory) ⊎ (table_by es ≡ Err f)
+refused-by es true f placed is = inl is
+refused-by es false f placed is = inr (unplaced es placed ∙ ap (λ g. Err g) (sym is))
+
+pub without_memory : (es : List NrEntry) (f : Fault) → f ≡ (if are_placed es then fault.Memory else fault.Entries)
+    → (f ≡ fault.Memory) ⊎ (table_by es ≡ Err f)
+without_memory es f is = refused-by es (are_placed es) f refl is
+
+-- what is said of entries whose base graphs are 1 and 2, by what is said of their items
+pub answered : (es : List NrEntry) (items : List Item) (said : Result Entries EntriesFault) → list_all has_graph es ≡ true
     → items ≡ map item_of es → entries_said items ≡ said → table_by es ≡ with_fault fault_of said
-answered es items said placed same is =
-    placed-said es placed ∙ ap (λ l. with_fault fault_of (entries_said l)) (sym same) ∙ ap (with_fault fault_of) is
+answered es items said graphs same is =
+    graphs-said es graphs ∙ ap (λ l. with_fault fault_of (entries_said l)) (sym same) ∙ ap (with_fault fault_of) is
 
 -- the same of a fault, unless memory ran out
-pub refused : (es : List NrEntry) (items : List Item) (e : EntriesFault) (f : Fault) → are_placed es ≡ true → items ≡ map item_of es
+pub refused : (es : List NrEntry) (items : List Item) (e : EntriesFault) (f : Fault) → list_all has_graph es ≡ true → items ≡ map item_of es
     → ((e ≡ kept.Memory) ⊎ (entries_said items ≡ Err e)) → f ≡ fault_of e → (f ≡ fault.Memory) ⊎ (table_by es ≡ Err f)
-refused es items e f placed same (inl memory) is = inl (is ∙ ap fault_of memory)
-refused es items e f placed same (inr said) is = inr (answered es items (Err e) placed same said ∙ ap (λ g. Err g) (sym is))
+refused es items e f graphs same (inl memory) is = inl (is ∙ ap fault_of memory)
+refused es items e f graphs same (inr said) is = inr (answered es items (Err e) graphs same said ∙ ap (λ g. Err g) (sym is))
+
+-- a fault of the places is told, whatever memory there is
+told : (T : Type 0) (p : Result (Unit {0}) EntriesFault) (e : EntriesFault) → ((x : EntriesFault) → p ≡ Err x → fault_of x ≡ fault.Entries)
+    → is_ok p ≡ false → IfErr p (λ x. IsErrOf {T = T} (Err e) x) → fault_of e ≡ fault.Entries
+told T (Ok u) e faults wrong is = cc
+told T (Err x) e faults wrong is = let same : e ≡ x = cc in ap fault_of same ∙ faults x refl
+
+pub misplaced : (T : Type 0) (es : List NrEntry) (items : List Item) (e : EntriesFault) → list_all has_graph es ≡ true → items ≡ map item_of es
+    → are_placed es ≡ false → IfErr (places_said items) (λ x. IsErrOf {T = T} (Err e) x) → fault_of e ≡ fault.Entries
+misplaced T es items e graphs same wrong is =
+    let at_fault : is_ok (places_said items) ≡ false =
+    ap (λ l. is_ok (places_said l)) same ∙ sym (ap (λ b. b && is_ok (places_said (map item_of es))) graphs) ∙ wrong in
+    told T (places_said items) e (places-fault 1 0 items) at_fault is
 
 -- a table lists few items
 pub listed-few : (t : Entries) → IsTable t → length (items_listed t) ≤ 6256

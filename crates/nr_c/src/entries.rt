@@ -1,6 +1,7 @@
 //! The entries of a shift table, as a caller keeps them: the table is read from its text once.
 
 ghost use Rattle.std.specs.Prelude.{◌≡◌, ◌+◌, ◌^◌, ◌<◌, ◌≤◌, ◌&&◌, nat_lt, not, false, Err, IfOk, IfSome, Some, None, if◌then◌else◌, map};
+ghost use Rattle.std.specs.List.{list_all};
 ghost use Rattle.nr_graphpick.specs.Refusal.{Gives};
 ghost use Rattle.nr_shifttable.specs.Accepted.{IsTable};
 ghost use Rattle.nr_shifttable.specs.Listed.{has_room, item_key};
@@ -131,16 +132,37 @@ fn items_of(alloc: Global, entries: &[NrEntry]) -> Result<Vec<Item>, AllocError>
     Ok(items)
 }
 
-// The shift table of entries.
+// Whether each entry's base graph is 1 or 2.
+fn have_graphs(entries: &[NrEntry]) -> bool
+    ensures { result ≡ list_all has_graph entries.now }
+{
+    entries.iter().all(|entry| entry.has_graph())
+}
+
+// What is told of entries for whose items memory was refused: a fault of the entries comes before want of memory.
+fn refused(entries: &[NrEntry]) -> Fault
+    ensures { result ≡ (if are_placed entries.now then Fault.Memory else Fault.Entries) }
+{
+    if are_placed(entries) {
+        Fault::Memory
+    } else {
+        Fault::Entries
+    }
+}
+
+// The shift table of entries. `of_entries` judges the places of their items, so they are judged here only where memory
+// for the items was refused.
 pub(crate) fn table_by(alloc: Global, entries: &[NrEntry]) -> Result<Table, Fault>
     ensures table { IfOk result IsTable }
     ensures said { Gives Fault.Memory (λ table. table) result (table_by entries.now) }
     ensures placed { are_placed entries.now ≡ false → result ≡ Err Fault.Entries }
 {
-    if !are_placed(entries) {
+    let Ok(items) = items_of(alloc, entries) else {
+        return Err(refused(entries));
+    };
+    if !have_graphs(entries) {
         return Err(Fault::Entries);
     }
-    let items = items_of(alloc, entries)?;
     match Table::of_entries(alloc, &items) {
         Ok(table) => Ok(table),
         Err(fault) => Err(fault_of(fault)),
