@@ -1,5 +1,5 @@
 -- What is kept from round to round: rows fix positions, and then the counts follow.
-use Rattle.std.proofs.Common.{◌≡◌, ◌≢◌, ℕ, ◌+◌, ◌-◌, ◌*◌, ◌/◌, ◌%◌, ◌^◌, ◌<◌, ◌≤◌, ◌==◌, ◌||◌, ◌&&◌, nat_lt, Bool, true, false, not, cond, List, [], ◌∷◌, ◌++◌, length, refl, sym, ap, ◌∙◌, inl, inr, arith, length-append}
+use Rattle.std.proofs.Common.{◌≡◌, ◌≢◌, ℕ, ◌+◌, ◌-◌, ◌*◌, ◌/◌, ◌%◌, ◌^◌, ◌<◌, ◌≤◌, ◌||◌, ◌&&◌, Bool, true, false, not, cond, List, [], ◌∷◌, ◌++◌, length, refl, sym, ap, ◌∙◌, inl, inr, arith, length-append}
 use Rattle.std.specs.Prelude.{count_by, slice_index, sum, vec_capacity}
 use Rattle.std.proofs.lemmas.Bool.{and_from, and_parts, cases_lt, eq-eqb, false≢true, true≢false}
 use Rattle.std.proofs.lemmas.List.{get_or_past}
@@ -11,7 +11,6 @@ use Rattle.nr_peel.specs.Certificates.{accepts, after_steps, all_accepted, is_fi
 use Rattle.nr_peel.specs.Closure.{Within}
 use Rattle.nr_peel.specs.Settled.{CatchesUp, HasNoFresh, IsHeld, Keeps, Reaches}
 use Rattle.nr_peel.specs.Sweeps.{AreLanes, AreSought, CountsOf, Fixes, counted_in, has_count, searched_pairs}
-use Rattle.nr_peel.specs.Touches.{all_pairs, spent_pairs}
 use Rattle.nr_peel.specs.declared.fix.Fix.{Fix}
 use Rattle.nr_peel.specs.declared.lanes.Lanes.{Lanes}
 use Rattle.nr_peel.specs.declared.sweep.Sweep.{Sweep}

@@ -37,3 +37,15 @@ pub mod Viewed
 pub mod Blank
 pub mod Joined
 pub mod Learned
+pub mod Gains
+pub mod Walk
+pub mod Lowered
+pub mod CounterTies
+pub mod LeftCount
+pub mod Searched
+pub mod Fixing
+pub mod Settling
+pub mod Built
+pub mod Giving
+pub mod Positions
+pub mod Working

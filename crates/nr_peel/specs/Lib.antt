@@ -12,3 +12,7 @@ pub mod Settled
 pub mod Starts
 pub mod Swept
 pub mod Learning
+pub mod Counters
+pub mod Taken
+pub mod ByPosition
+pub mod Work

@@ -1,6 +1,7 @@
 //! What a peeler holds, and how positions are given to it: one or many at a time, and then all that follows is fixed.
 
-ghost use Rattle.std.specs.Prelude.{◌≡◌, ◌≢◌, ℕ, ◌==◌, ◌||◌, ◌<◌, ◌≤◌, true, IfOk, length, slice_index, slice_set};
+ghost use Rattle.std.specs.Prelude.{◌≡◌, ◌≢◌, ℕ, ◌+◌, ◌==◌, ◌||◌, ◌<◌, ◌≤◌, true, IfOk, length, slice_index, slice_set};
+ghost use Rattle.std.specs.Int.{bit_at};
 ghost use Rattle.nr_bitvec.specs.Bit.{bit};
 ghost use Rattle.nr_segment.specs.CodeBlock.{numbers};
 ghost use Rattle.nr_shifttable.specs.Accepted.{IsTable};
@@ -8,6 +9,7 @@ ghost use Rattle.nr_peel.specs.Learning.{IsFilled, IsLearner, Learns};
 ghost use Rattle.nr_peel.specs.Peeling.{fillers, left_of};
 ghost use Rattle.nr_peel.specs.Settled.{HasNoFresh, IsHeld, Keeps};
 ghost use Rattle.nr_peel.specs.State.{lifted_checks};
+ghost use Rattle.nr_peel.specs.Taken.{bit_where};
 
 use crate::lifted::Lifted;
 use crate::sweep::Sweep;
@@ -15,7 +17,7 @@ use nr_bitvec::Bits;
 use std::alloc::{AllocError, Global};
 
 // The fillers of a plan, marked.
-fn filler_marks(alloc: Global, lifted: &Lifted<'_>) -> Result<Bits, AllocError>
+pub(crate) fn filler_marks(alloc: Global, lifted: &Lifted<'_>) -> Result<Bits, AllocError>
     ensures { IfOk result (λ b. b.items ≡ fillers (lifted_checks lifted.now) (numbers lifted.now.plan)) }
 {
     let mut marks = Bits::zeros(alloc, lifted.plan.graph.cols() * lifted.plan.z)?;
@@ -108,5 +110,32 @@ impl Learner {
         self.given.set(pos as usize, true);
         self.sweep.lanes.hear_one(lifted, pos, value);
         self.go_on(lifted);
+    }
+
+    // The bit of a position, if it is known.
+    pub(crate) fn known(&self, pos: usize) -> Option<bool>
+        requires known { pos < length self.now.sweep.lanes.known.items }
+        requires bits { pos < length self.now.sweep.lanes.bits.items }
+        ensures { result ≡ bit_where self.now.sweep.lanes.known.items
+            self.now.sweep.lanes.bits.items pos }
+    {
+        let lanes = &self.sweep.lanes;
+        if lanes.known.get(pos) {
+            Some(lanes.bits.get(pos))
+        } else {
+            None
+        }
+    }
+
+    // The bits from a position on, the first of them lowest, and how many these are.
+    pub(crate) fn bits_from(&self, pos: usize) -> (u64, u32)
+        requires { pos < length self.now.sweep.lanes.bits.items }
+        ensures bits { (j : ℕ) → j < result.1
+            → (bit_at result.0 j == 1) ≡ bit self.now.sweep.lanes.bits.items (pos + j) }
+        ensures some { 0 < result.1 }
+        ensures few { result.1 ≤ 64 }
+    {
+        let (word, count) = self.sweep.lanes.bits.word_from(pos);
+        (word, count as u32)
     }
 }

@@ -3,15 +3,21 @@
 //! positions at a time, `Peeler::learn` one.
 //! Its contract (specs/Peeling.antt): what is known is the closure of what was given (specs/Closure.antt); each fix is a
 //! step that can be checked; each pair of a row and a known position of it was visited once or twice.
-//! It works on words: a column of positions of the base graph is a block of bits, a row of blocks a block of counts, and
-//! all rows of a round are taken before the counts fall (specs/Sweeps.antt, specs/Settled.antt).
-//! A peeler holds three rings of bits (known, bit, and known but not yet counted), which take 96 octets for each column
-//! of the base graph each, seven bits for each row's count, a bit for each position that was given, and 6 octets for
-//! each row's step: at the largest lifting size at most 6.5 octets a position. All are taken in `Peeler::new`. `close` is
-//! the plain peeler by rounds. Stands on nr_bitvec, nr_graphpick, nr_lifting, nr_segment, nr_shifttable and nr_ldpcenc.
+//! From lifting size 32 on it works by words: a column of positions of the base graph is a block of bits, a row of blocks
+//! a block of counts, and all rows of a round are taken before the counts fall (specs/Sweeps.antt, specs/Settled.antt).
+//! At smaller ones, whose blocks fill less than half a word, it works position by position: a row that comes to one
+//! unknown position is listed, and fixes it when its turn comes (specs/ByPosition.antt, specs/Counters.antt).
+//! By words it holds three rings of bits (known, bit, and known but not yet counted), which take 96 octets for each
+//! column of the base graph each, seven bits for each row's count, a bit for each position that was given, and 6 octets
+//! for each row's step: at the largest lifting size at most 6.5 octets a position. Position by position it holds three
+//! lists of bits (given, known, bit), and for each row 9 octets: its count, its place in the list of rows and its step:
+//! at most 7.7 octets a position. All are taken in `Peeler::new`. `close` is the plain peeler by rounds. Stands on
+//! nr_bitvec, nr_graphpick, nr_lifting, nr_segment, nr_shifttable and nr_ldpcenc.
 #![tactic(auto)]
 
+mod by_position;
 mod check;
+mod counters;
 mod fix;
 mod hearing;
 mod lanes;
@@ -24,6 +30,7 @@ mod rounds;
 mod settle;
 mod sweep;
 mod unknown;
+mod work;
 
 pub use check::{check_order, check_stuck};
 pub use fix::Fix;

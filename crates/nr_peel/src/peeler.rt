@@ -26,8 +26,8 @@ ghost use Rattle.nr_peel.specs.Peeling.{
 };
 
 use crate::fix::Fix;
-use crate::learner::Learner;
 use crate::lifted::{Lifted, reciprocal};
+use crate::work::Work;
 use nr_bitvec::Bits;
 use nr_ldpcenc::EncFault;
 use nr_segment::Plan;
@@ -40,18 +40,18 @@ use std::marker::Model;
 #[derive(Drop)]
 pub struct Peeler<'t> {
     lifted: Lifted<'t>,
-    learner: Learner,
+    work: Work,
 }
 
 impl<'t> Model for Peeler<'t> {
     ghost use Rattle.nr_peel.specs.Peeling.{Peeling};
-    ghost use Rattle.nr_peel.specs.Learning.{IsLearner, learner_view};
+    ghost use Rattle.nr_peel.specs.Work.{IsWork, work_view};
 
     ghost Value = { Peeling };
 
-    ghost view = { λ a. learner_view a.lifted a.learner };
+    ghost view = { λ a. work_view a.lifted a.work };
 
-    ghost invariant = { λ a. IsLearner a.lifted a.learner };
+    ghost invariant = { λ a. IsWork a.lifted a.work };
 }
 
 impl<'t> Peeler<'t> {
@@ -75,8 +75,8 @@ impl<'t> Peeler<'t> {
             plan: *plan,
             reciprocal: reciprocal(plan.z),
         };
-        match Learner::new(alloc, &lifted) {
-            Ok(learner) => Ok(Peeler { lifted, learner }),
+        match Work::new(alloc, &lifted) {
+            Ok(work) => Ok(Peeler { lifted, work }),
             Err(_) => Err(EncFault::Memory),
         }
     }
@@ -93,12 +93,12 @@ impl<'t> Peeler<'t> {
         ensures words { KeepsWords pos value self.old self.new }
         ensures peeled { IsPeeled self.new }
     {
-        self.learner.learn(&self.lifted, pos, value);
+        self.work.learn(&self.lifted, pos, value);
     }
 
     /// Gives all positions that `heard` marks; those that weren't known take the bits of `values`, and all that follows
-    /// is fixed, block of rows by block of rows. Takes no memory. Where each marked position was known it reads and
-    /// writes words of 64 positions, and no more.
+    /// is fixed. Takes no memory. Where each marked position was known it goes over the positions once, from lifting size
+    /// 32 on by words of 64 of them.
     pub fn learn_all(&mut self, heard: &Bits, values: &Bits)
         requires heard { length heard.now.items ≡ (checks_for self.old).size }
         requires values { length values.now.items ≡ (checks_for self.old).size }
@@ -111,7 +111,7 @@ impl<'t> Peeler<'t> {
             self.old self.new }
         ensures peeled { IsPeeled self.new }
     {
-        self.learner.learn_all(&self.lifted, heard, values);
+        self.work.learn_all(&self.lifted, heard, values);
     }
 
     /// The bit of a position, if it is known.
@@ -120,17 +120,11 @@ impl<'t> Peeler<'t> {
         ensures value { result ≡ known_at self.now pos }
         ensures peeled { IsPeeled self.now }
     {
-        let pos = pos as usize;
-        let lanes = &self.learner.sweep.lanes;
-        if lanes.known.get(pos) {
-            Some(lanes.bits.get(pos))
-        } else {
-            None
-        }
+        self.work.known(pos as usize)
     }
 
     /// The bits of the positions from `pos` on, the first of them lowest, and zero for one that isn't known; and how many
-    /// positions these are: as many as their block of Zc positions has from there, at most 64.
+    /// positions these are: at least one, and at most 64.
     pub fn bits_from(&self, pos: u32) -> (u64, u32)
         requires { pos < (checks_for self.now).size }
         ensures bits { (j : ℕ) → j < result.1
@@ -139,8 +133,7 @@ impl<'t> Peeler<'t> {
         ensures few { result.1 ≤ 64 }
         ensures peeled { IsPeeled self.now }
     {
-        let (word, count) = self.learner.sweep.lanes.bits.word_from(pos as usize);
-        (word, count as u32)
+        self.work.bits_from(pos as usize)
     }
 
     /// How many positions below K' aren't known. They are counted as they become known, so this takes the same time
@@ -149,7 +142,7 @@ impl<'t> Peeler<'t> {
         ensures value { result ≡ left_of self.now.numbers.kdash self.now.known }
         ensures peeled { IsPeeled self.now }
     {
-        self.learner.left
+        self.work.left()
     }
 
     /// How many visits there were of a row and a position of it: with n the number of pairs of a row and a known
@@ -160,7 +153,7 @@ impl<'t> Peeler<'t> {
         ensures few { result ≤ most_visits self.now }
         ensures peeled { IsPeeled self.now }
     {
-        self.learner.sweep.touches
+        self.work.touches()
     }
 
     /// The positions that were given, marked: the fillers and those learned.
@@ -168,7 +161,7 @@ impl<'t> Peeler<'t> {
         ensures value { result.now.items ≡ self.now.given }
         ensures peeled { IsPeeled self.now }
     {
-        &self.learner.given
+        self.work.given()
     }
 
     /// The steps that fixed positions, in turn. Where no position below K' is left they are a fix order from the
@@ -180,7 +173,7 @@ impl<'t> Peeler<'t> {
             → IsFixOrder (checks_for self.now) self.now.numbers.kdash
             (bit self.now.given) self.now.order }
     {
-        &self.learner.sweep.lanes.order
+        self.work.order()
     }
 
     /// All positions that aren't known, ascending. Where a position below K' is left they are a stopping set beside
@@ -195,7 +188,7 @@ impl<'t> Peeler<'t> {
         ensures stops { IfOk result (λ v. StopsWhereLeft self.now v.items) }
         ensures largest { IfOk result (λ v. HasEachStopping self.now v.items) }
     {
-        let positions = self.learner.sweep.lanes.unknown(&self.lifted)?;
+        let positions = self.work.unknown(&self.lifted)?;
         Ok(positions)
     }
 }

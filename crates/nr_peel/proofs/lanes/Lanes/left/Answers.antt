@@ -1,8 +1,7 @@
 use Rattle.std.proofs.Common.{◌≡◌, ◌+◌, ◌-◌, ◌*◌, ◌/◌, ◌≤◌, ◌<◌, ℕ, length, sym, ap, ◌∙◌, arith}
 use Rattle.std.proofs.Math.Nat.{mul-le-mul_right}
-use Rattle.nr_bitvec.specs.Bit.{bit}
 use Rattle.nr_graphpick.specs.Graph.{cols_of, info_cols_of}
-use Rattle.nr_lifting.specs.Rings.{is_set, marked}
+use Rattle.nr_lifting.specs.Rings.{is_set}
 use Rattle.nr_lifting.proofs.LaneBits.{marked-le}
 use Rattle.nr_peel.specs.Peeling.{left_of}
 use Rattle.nr_peel.specs.declared.lifted.Lifted.{Lifted}

@@ -1,4 +1,4 @@
-use Rattle.std.proofs.Common.{ℕ, ◌==◌, true, length, refl, sym, ap, ◌∙◌, arith}
+use Rattle.std.proofs.Common.{◌==◌, true, length, refl, ap, ◌∙◌, arith}
 use Rattle.std.proofs.lemmas.List.{length-set}
 use Rattle.nr_bitvec.specs.Bit.{bit}
 use Rattle.nr_bitvec.specs.BitList.{BitList}

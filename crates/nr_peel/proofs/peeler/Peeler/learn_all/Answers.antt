@@ -1,8 +1,8 @@
-use Rattle.nr_peel.proofs.Learned.{learner_peeled}
+use Rattle.nr_peel.proofs.Working.{work_peeled}
 use Rattle.nr_peel.proofs.peeler.Peeler.learn_all.Goals as goal
 
 pub returns-clause-words : goal.returns-clause-words
-returns-clause-words c = λ w meets agree are. c.learn_all.ensures.words w (rw (← c.self.view_is) at meets) (rw (← c.self.view_is) at agree) are
+returns-clause-words c = λ w meets agree are. c.learn_all.ensures.takes.words w (rw (← c.self.view_is) at meets) (rw (← c.self.view_is) at agree) are
 
 pub returns-clause-peeled : goal.returns-clause-peeled
-returns-clause-peeled c = learner_peeled c.self.inside.lifted c.learn_all.new.self c.learn_all.ensures.learner
+returns-clause-peeled c = work_peeled c.self.inside.lifted c.learn_all.new.self c.learn_all.ensures.work

@@ -1,9 +1,8 @@
 use Rattle.std.proofs.Common.{refl, sym, ◌∙◌, arith}
-use Rattle.nr_peel.specs.Learning.{learner_view}
+use Rattle.nr_peel.specs.Work.{work_view}
 use Rattle.nr_peel.specs.declared.lifted.Lifted.{Lifted}
 use Rattle.nr_peel.proofs.Filled.{fillers_fit}
 use Rattle.nr_peel.proofs.Fresh.{fresh_left}
-use Rattle.nr_peel.proofs.Learned.{learner_peeled}
 use Rattle.nr_peel.proofs.Sets.{in_sets}
 use Rattle.nr_peel.proofs.peeler.Peeler.new.Goals as goal
 
@@ -12,25 +11,19 @@ invariant_of-lifted c = record { in_sets = in_sets c.args.plan.now; inverse = c.
 
 pub returns-in-Ok-clause-started : goal.returns-in-Ok-clause-started
 returns-in-Ok-clause-started c =
-    let l : Lifted = record { table = c.args.table; plan = c.args.plan.now; reciprocal = c.reciprocal.result; in_sets = in_sets c.args.plan.now; inverse = c.reciprocal.ensures } in
     let f = c.in-Ok.ensures in
-    let s = f.learner.sweep in
     record {
       table = refl;
       graph = refl;
       numbers = refl;
-      given = f.given;
-      words = f.words;
-      peeled = learner_peeled l c.in-Ok.learner (record {
-        sweep = record { table = s.table; given_long = s.given_long; held = s.held; no_fresh = s.no_fresh; settled = s.settled; reaches = s.reaches };
-        fillers = f.learner.fillers;
-        counted = f.learner.counted;
-      });
+      given = f.filled.given;
+      words = f.filled.words;
+      peeled = f.peeled;
     }
 
 pub returns-in-Ok-clause-left : goal.returns-in-Ok-clause-left
 returns-in-Ok-clause-left c =
     let l : Lifted = record { table = c.args.table; plan = c.args.plan.now; reciprocal = c.reciprocal.result; in_sets = in_sets c.args.plan.now; inverse = c.reciprocal.ensures } in
     let started = returns-in-Ok-clause-started c in
-    fresh_left (learner_view l c.in-Ok.learner) c.args.plan.now.b c.has.ensures.table (sym c.has.ensures.value ∙ c.if-not-has.false) c.args.plan.now.sound started.given started.peeled
+    fresh_left (work_view l c.in-Ok.work) c.args.plan.now.b c.has.ensures.table (sym c.has.ensures.value ∙ c.if-not-has.false) c.args.plan.now.sound started.given started.peeled
     (omega (arith, started.peeled.known_long, c.args.plan.now.sound.held, fillers_fit l))

@@ -1,7 +1,7 @@
-use Rattle.std.proofs.Common.{◌≡◌, ◌*◌, ◌∙◌, refl, length, arith}
+use Rattle.std.proofs.Common.{◌∙◌, refl, arith}
 use Rattle.nr_peel.specs.State.{lifted_checks}
 use Rattle.nr_peel.proofs.Held.{known_counted, enough_fresh, falls_all}
-use Rattle.std.specs.Prelude.{count_by, ℕ}
+use Rattle.std.specs.Prelude.{count_by}
 use Rattle.nr_bitvec.specs.Bit.{bit}
 use Rattle.nr_peel.proofs.sweep.Sweep.lower.Goals as goal
 

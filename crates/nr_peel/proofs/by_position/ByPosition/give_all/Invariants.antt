@@ -1,0 +1,12 @@
+use Rattle.nr_bitvec.specs.Bit.{bit}
+use Rattle.nr_peel.specs.ByPosition.{Gives, IsBusy}
+use Rattle.nr_peel.specs.State.{lifted_checks}
+use Rattle.nr_peel.proofs.Giving.{first}
+use Rattle.nr_peel.proofs.by_position.ByPosition.give_all.Given as goal
+
+-- the list's positions so far are given
+abbrev pub invariant-loop-pos : goal.invariant-loop-pos
+invariant-loop-pos l = record {
+  busy : IsBusy (lifted_checks l.lifted) l.lifted.plan.kdash l.self;
+  gives : Gives (first (bit l.heard.items) l.pos) (bit l.values.items) l.initial.self l.self;
+}

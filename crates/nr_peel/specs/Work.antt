@@ -1,0 +1,64 @@
+-- What a peeler holds, whichever way it works.
+use Rattle.std.specs.Prelude.{ℕ, Bool, List}
+use Rattle.nr_segment.specs.CodeBlock.{numbers}
+use Rattle.nr_peel.specs.ByPosition.{IsByPosition}
+use Rattle.nr_peel.specs.Learning.{IsLearner}
+use Rattle.nr_peel.specs.Peeling.{IsPeeled, Peeling}
+use Rattle.nr_peel.specs.Taken.{HasFillers}
+use Rattle.nr_peel.specs.declared.fix.Fix.{Fix}
+use Rattle.nr_peel.specs.declared.lifted.Lifted.{Lifted}
+use Rattle.nr_peel.specs.declared.work.Work.{Work}
+use Rattle.nr_peel.specs.declared.work.Work.TheVariants.{Positions, Words}
+
+-- the positions that were given, and those that are known
+abbrev pub given_in : Work → List Bool
+given_in (Words s) = s.given.items
+given_in (Positions s) = s.given.items
+
+abbrev pub known_in : Work → List Bool
+known_in (Words s) = s.sweep.lanes.known.items
+known_in (Positions s) = s.known.items
+
+-- the bits of the known positions
+abbrev pub bits_in : Work → List Bool
+bits_in (Words s) = s.sweep.lanes.bits.items
+bits_in (Positions s) = s.bits.items
+
+-- the steps that fixed positions
+abbrev pub order_in : Work → List Fix
+order_in (Words s) = s.sweep.lanes.order.items
+order_in (Positions s) = s.order.items
+
+-- the count of visits
+abbrev pub touches_in : Work → ℕ
+touches_in (Words s) = s.sweep.touches
+touches_in (Positions s) = s.counters.touches
+
+-- the count of what is left
+abbrev pub left_in : Work → ℕ
+left_in (Words s) = s.left
+left_in (Positions s) = s.left
+
+-- what it is seen as
+abbrev pub work_view : Lifted → Work → Peeling
+work_view l w = record {
+  table = l.table.now;
+  graph = l.plan.graph;
+  numbers = numbers l.plan;
+  given = given_in w;
+  known = known_in w;
+  bits = bits_in w;
+  order = order_in w;
+  touches = touches_in w;
+}
+
+-- what is true between calls
+abbrev pub IsWork : Lifted → Work → Type 0
+IsWork l (Words s) = IsLearner l s
+IsWork l (Positions s) = IsByPosition l s
+
+-- the same, where the fillers alone were given
+pub record IsBegun (l : Lifted) (w : Work) : Type 0 where
+  pub work : IsWork l w
+  pub peeled : IsPeeled (work_view l w)
+  pub filled : HasFillers l (work_view l w)
