@@ -145,6 +145,10 @@ module _ (c : Checks) (a d : ByPosition) (pos : ℕ) (v : Bool) (w : IsWorking c
           other true e = absurd (ne (sym (eqb-true pos q e)))
           other false e = or_false (bit a.given.items q)
 
+-- what is given is known
+pub given_known : (c : Checks) (s : ByPosition) → IsWorking c s → Within (bit s.given.items) (bit s.known.items)
+given_known c s w p h = w.reached p ∙ or_left (bit s.given.items p) (is_fixed_by s.order.items p) h
+
 -- each row that has one unknown position stays listed
 pub listed_after : (hits : ℕ → ℕ) (a d : Counters) → IsListed a → IsLowered hits a d → IsListed d
 listed_after hits a d listed low k one = ⊎_elim (λ e. low.kept k (listed k e)) (λ l. l) (low.listed k one)
@@ -210,16 +214,36 @@ gives_more H V n a b d there one two =
     (cases_below p n (omega (arith, ltb-true p (n + 1) parts.1)))))
     (gives_then (first H n) V n (V n) a b d one two refl)
 
-pub gives_skip : (H V : ℕ → Bool) (n : ℕ) (a b : ByPosition) → H n ≡ false → Gives (first H n) V a b → Gives (first H (n + 1)) V a b
-gives_skip H V n a b out one =
-    gives_same (first H n) (first H (n + 1)) V a b
-    (λ p. same_truth (first H n p) (first H (n + 1) p)
-    (λ f. let parts = and_parts (H p) (nat_lt p n) f in and_from (H p) (nat_lt p (n + 1)) parts.0 (lt-ltb p (n + 1) (omega (arith, ltb-true p n parts.1))))
-    (λ h. let parts = and_parts (H p) (nat_lt p (n + 1)) h in
-    ⊎_elim (λ l. and_from (H p) (nat_lt p n) parts.0 (lt-ltb p n l))
-    (λ e. absurd (true≢false (sym parts.0 ∙ ap H e ∙ out)))
-    (cases_below p n (omega (arith, ltb-true p (n + 1) parts.1)))))
-    one
+-- positions up to m that aren't in the set, or were given
+pub gives_jump : (H V : ℕ → Bool) (n m : ℕ) (a b : ByPosition) → n ≤ m → Within (bit a.given.items) (bit a.known.items) → ((p : ℕ) → n ≤ p → p < m → H p ≡ true → bit b.given.items p ≡ true)
+    → Gives (first H n) V a b → Gives (first H m) V a b
+gives_jump H V n m a b le within past one = record {
+  given = λ p. one.given p ∙ same (bit a.given.items p) (first H n p) (first H m p) (more p) (before p);
+  known = λ p. one.known p ∙ same (bit a.known.items p) (first H n p) (first H m p) (more p) (λ h out. within p (before p h out));
+  bits = one.bits;
+  taken = λ p h out. taken p h out (first H n p) refl;
+}
+  where
+    same : (x u v : Bool) → (u ≡ true → v ≡ true) → (v ≡ true → u ≡ false → x ≡ true) → (x || u) ≡ (x || v)
+    same true u v f g = refl
+    same false true v f g = sym (f refl)
+    same false false true f g = g refl refl
+    same false false false f g = refl
+
+    more : (p : ℕ) → first H n p ≡ true → first H m p ≡ true
+    more p h = let parts = and_parts (H p) (nat_lt p n) h in and_from (H p) (nat_lt p m) parts.0 (lt-ltb p m (omega (arith, le, ltb-true p n parts.1)))
+
+    before : (p : ℕ) → first H m p ≡ true → first H n p ≡ false → bit a.given.items p ≡ true
+    before p h out =
+        let parts = and_parts (H p) (nat_lt p m) h in
+        elim (cases_lt p n) [
+          | inl low ↦ absurd (true≢false (sym (and_from (H p) (nat_lt p n) parts.0 (lt-ltb p n low)) ∙ out))
+          | inr high ↦ sym (one.given p ∙ ap (λ b. bit a.given.items p || b) out ∙ or_false (bit a.given.items p)) ∙ past p high (ltb-true p m parts.1) parts.0
+        ]
+
+    taken : (p : ℕ) → first H m p ≡ true → bit a.known.items p ≡ false → (u : Bool) → first H n p ≡ u → bit b.bits.items p ≡ V p
+    taken p h out true e = one.taken p e out
+    taken p h out false e = absurd (true≢false (sym (within p (before p h e)) ∙ out))
 
 -- when all of a list's positions are given
 pub gives_all : (heard : List Bool) (V : ℕ → Bool) (n : ℕ) (a d : ByPosition) → length heard ≤ n → Gives (first (bit heard) n) V a d → Gives (bit heard) V a d

@@ -49,3 +49,4 @@ pub mod Built
 pub mod Giving
 pub mod Positions
 pub mod Working
+pub mod Wanted

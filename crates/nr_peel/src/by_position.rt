@@ -194,7 +194,8 @@ impl ByPosition {
         }
     }
 
-    // All positions that `heard` marks are given, before any that follows is fixed.
+    // All positions that `heard` marks are given, before any that follows is fixed. Words of positions that need not be
+    // given are passed over.
     fn give_all(&mut self, lifted: &Lifted<'_>, heard: &Bits, values: &Bits)
         requires table { IsTable lifted.now.table.now }
         requires busy { IsBusy (lifted_checks lifted.now) lifted.now.plan.kdash self.old }
@@ -203,9 +204,18 @@ impl ByPosition {
         ensures busy { IsBusy (lifted_checks lifted.now) lifted.now.plan.kdash self.new }
         ensures gives { Gives (bit heard.now.items) (bit values.now.items) self.old self.new }
     {
-        for pos in 0..lifted.plan.graph.cols() * lifted.plan.z {
-            if heard.get(pos as usize) {
-                self.give(lifted, pos, values.get(pos as usize));
+        let size = lifted.plan.graph.cols() * lifted.plan.z;
+        let mut pos = 0;
+        'positions: while pos < size {
+            let at = pos as usize;
+            // Those that were given have taken their bits before.
+            let word = heard.window(at) & !self.given.window(at);
+            if word == 0 {
+                pos += 64;
+            } else {
+                let next = pos + word.trailing_zeros();
+                self.give(lifted, next, values.get(next as usize));
+                pos = next + 1;
             }
         }
     }

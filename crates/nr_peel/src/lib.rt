@@ -3,9 +3,9 @@
 //! positions at a time, `Peeler::learn` one.
 //! Its contract (specs/Peeling.antt): what is known is the closure of what was given (specs/Closure.antt); each fix is a
 //! step that can be checked; each pair of a row and a known position of it was visited once or twice.
-//! From lifting size 32 on it works by words: a column of positions of the base graph is a block of bits, a row of blocks
+//! From lifting size 20 on it works by words: a column of positions of the base graph is a block of bits, a row of blocks
 //! a block of counts, and all rows of a round are taken before the counts fall (specs/Sweeps.antt, specs/Settled.antt).
-//! At smaller ones, whose blocks fill less than half a word, it works position by position: a row that comes to one
+//! At smaller ones, whose blocks fill less than a third of a word, it works position by position: a row that comes to one
 //! unknown position is listed, and fixes it when its turn comes (specs/ByPosition.antt, specs/Counters.antt).
 //! By words it holds three rings of bits (known, bit, and known but not yet counted), which take 96 octets for each
 //! column of the base graph each, seven bits for each row's count, a bit for each position that was given, and 6 octets

@@ -97,8 +97,8 @@ impl<'t> Peeler<'t> {
     }
 
     /// Gives all positions that `heard` marks; those that weren't known take the bits of `values`, and all that follows
-    /// is fixed. Takes no memory. Where each marked position was known it goes over the positions once, from lifting size
-    /// 32 on by words of 64 of them.
+    /// is fixed. Takes no memory. Where each marked position was given before it reads and writes words of 64 positions,
+    /// and no more.
     pub fn learn_all(&mut self, heard: &Bits, values: &Bits)
         requires heard { length heard.now.items ≡ (checks_for self.old).size }
         requires values { length values.now.items ≡ (checks_for self.old).size }

@@ -156,12 +156,12 @@ fn check_graph(
     Ok(())
 }
 
-/// The lifting sizes are 64, 384, 320, 56, 288, 11, 208 and 15 for base graph 1, and 128, 384, 80, 7, 144, 176, 26 and
-/// 240 for base graph 2.
+/// The lifting sizes are 32, 384, 320, 56, 288, 11, 208 and 30 for base graph 1, and 128, 384, 80, 7, 144, 176, 26 and
+/// 240 for base graph 2: 7 and 11 are peeled position by position, the others by words.
 #[test]
 fn as_rounds_and_as_shown(rt: HostRuntime) -> Result<(), Fail> {
     let alloc = rt.alloc();
-    let one = [1400, 8440, 7030, 1230, 6330, 240, 4570, 320];
+    let one = [700, 8440, 7030, 1230, 6330, 240, 4570, 650];
     check_graph(
         &rt,
         alloc,

@@ -1,6 +1,8 @@
 //! Peelers over a practice table, beside what comes out by hand.
 
-use crate::test_tables::{bits_from, is_order, is_stuck, known, learn, learn_all, practice};
+use crate::test_tables::{
+    bits_from, is_order, is_stuck, known, learn, learn_all, practice, size_of,
+};
 use crate::{Fix, Peeler};
 use nr_bitvec::Bits;
 use nr_graphpick::Graph;
@@ -47,10 +49,10 @@ fn hear_all(alloc: Global, peeler: &mut Peeler<'_>, from: u32, to: u32) -> Resul
     Ok(())
 }
 
-/// The positions of columns of seven or four places.
+/// The positions of columns of at most 32 places.
 fn positions(alloc: Global, z: u32, columns: &[u32]) -> Result<Vec<u32>, Fail> {
     let mut positions = Vec::new(alloc);
-    for pos in 0..364 {
+    for pos in 0..1664 {
         if columns.contains(&(pos / z.max(1))) {
             positions.push(pos)?;
         }
@@ -160,9 +162,9 @@ fn check_whole(
         assert_eq!(rt; known(peeler, pos), Some(word_bit(pos)), "position {pos}");
     }
     assert_eq!(rt;
-        bits_from(peeler, 10),
-        Some((0b10, 2)),
-        "the last two of column 2's digit 1"
+        bits_from(peeler, 206),
+        Some((0b1, 2)),
+        "the last two of the last digit, 2"
     );
     assert!(rt; 420 <= peeler.touches() && peeler.touches() <= 840);
     assert!(rt; is_order(table, plan, peeler.given(), peeler.order())?);
@@ -234,8 +236,8 @@ fn check_needed(
 }
 
 /// Gives the word of zeros but for some positions.
-fn hear_but(peeler: &mut Peeler<'_>, but: &[u32]) {
-    for pos in 0..364 {
+fn hear_but(peeler: &mut Peeler<'_>, plan: &Plan, but: &[u32]) {
+    for pos in 0..size_of(plan) {
         if !but.contains(&pos) {
             learn(peeler, pos, false);
         }
@@ -246,18 +248,20 @@ fn hear_but(peeler: &mut Peeler<'_>, but: &[u32]) {
 /// 1 has two.
 fn check_columns(rt: &impl Abort, alloc: Global, table: &Table, plan: &Plan) -> Result<(), Fail> {
     let mut peeler = Peeler::new(alloc, table, plan)?;
-    let set = positions(alloc, 7, &[0, 11, 12, 20, 30, 40, 50])?;
-    hear_but(&mut peeler, &set);
-    assert_eq!(rt; peeler.left(), 7);
+    let set = positions(alloc, plan.z, &[0, 11, 12, 20, 30, 40, 50])?;
+    hear_but(&mut peeler, plan, &set);
+    assert_eq!(rt; peeler.left(), plan.z);
     assert!(rt; is_its_set(table, plan, &peeler, &set)?);
     check_needed(rt, alloc, table, plan, peeler.given(), &set)
 }
 
+/// Position by position at lifting sizes 4 and 7, and by words at 32.
 #[test]
 fn practice_words(rt: HostRuntime) -> Result<(), Fail> {
     let alloc = rt.alloc();
     let table = practice(alloc)?;
     assert!(rt; lacks_graph(alloc, &table, &plan(Graph::One, 24)?));
     check_word(&rt, alloc, &table, &plan(Graph::Two, 24)?)?;
-    check_columns(&rt, alloc, &table, &plan(Graph::Two, 40)?)
+    check_columns(&rt, alloc, &table, &plan(Graph::Two, 40)?)?;
+    check_columns(&rt, alloc, &table, &plan(Graph::Two, 250)?)
 }

@@ -1,3 +1,4 @@
+use Rattle.std.proofs.Common.{◌+◌, ◌-◌, ◌≤◌}
 use Rattle.nr_bitvec.specs.Bit.{bit}
 use Rattle.nr_peel.specs.ByPosition.{Gives, IsBusy}
 use Rattle.nr_peel.specs.State.{lifted_checks}
@@ -5,8 +6,11 @@ use Rattle.nr_peel.proofs.Giving.{first}
 use Rattle.nr_peel.proofs.by_position.ByPosition.give_all.Given as goal
 
 -- the list's positions so far are given
-abbrev pub invariant-loop-pos : goal.invariant-loop-pos
-invariant-loop-pos l = record {
+abbrev pub invariant-positions : goal.invariant-positions
+invariant-positions l = record {
   busy : IsBusy (lifted_checks l.lifted) l.lifted.plan.kdash l.self;
   gives : Gives (first (bit l.heard.items) l.pos) (bit l.values.items) l.initial.self l.self;
 }
+
+abbrev pub decreases-positions : goal.decreases-positions
+decreases-positions l = l.size - l.pos
