@@ -133,12 +133,14 @@ static void sweep(const char *name, uint32_t (*call)(void), uint32_t due) {
     printf("%s: %lu growths refused\n", name, growths);
 }
 
-/* What is refused before any growth, with no memory at all. */
-static void refused_first(const char *name, uint32_t (*call)(void), uint32_t due) {
-    uint32_t status = refusing(call, 1, (unsigned long)-1);
-    if (status != due || met) {
-        printf("%s: status %u after %lu growths\n", name, (unsigned)status, met);
-        wrong += 1;
+/* What is refused with no memory at all as with memory to spare, after so many growths at most. */
+static void refused_first(const char *name, uint32_t (*call)(void), uint32_t due, unsigned long growths) {
+    for (unsigned long from = 0; from < 2; from++) {
+        uint32_t status = refusing(call, from, from ? (unsigned long)-1 : 0);
+        if (status != due || met > growths || held || (due != NR_TOO_LONG && !is_filled(&rooms, sizeof rooms))) {
+            printf("%s: status %u after %lu growths, %ld blocks held\n", name, (unsigned)status, met, held);
+            wrong += 1;
+        }
     }
 }
 
@@ -161,12 +163,12 @@ int main(int count, char **words) {
     sweep("nr_codeword", codeword, NR_OK);
     sweep("nr_send", send, NR_OK);
     sweep("nr_receive", receive, NR_OK);
-    refused_first("nr_table_check", check_long_table, NR_TOO_LONG);
-    refused_first("nr_table_entries", list_long, NR_TOO_LONG);
-    refused_first("nr_codeword", code_unplaced, NR_ENTRIES);
-    refused_first("nr_send", send_unplaced, NR_ENTRIES);
-    refused_first("nr_receive", receive_unplaced, NR_ENTRIES);
-    refused_first("nr_receive", receive_many, NR_MANY);
+    refused_first("nr_table_check", check_long_table, NR_TOO_LONG, 0);
+    refused_first("nr_table_entries", list_long, NR_TOO_LONG, 0);
+    refused_first("nr_codeword", code_unplaced, NR_ENTRIES, 1);
+    refused_first("nr_send", send_unplaced, NR_ENTRIES, 1);
+    refused_first("nr_receive", receive_unplaced, NR_ENTRIES, 1);
+    refused_first("nr_receive", receive_many, NR_MANY, 0);
     printf("%d wrong\n", wrong);
     return wrong != 0;
 }
