@@ -1,7 +1,8 @@
 -- Items in ascending order are the items of their table.
-use Rattle.std.proofs.Common.{◌≡◌, ℕ, zero, suc, ◌+◌, ◌-◌, ◌*◌, ◌<◌, ◌≤◌, ◌==◌, nat_lt, Bool, true, false, cond, not, ◌&&◌, List, [], ◌∷◌, ◌++◌, length, get_or, map, refl, sym, ap, subst, ◌∙◌, append_assoc, arith}
+use Rattle.std.proofs.Common.{◌≡◌, ℕ, zero, suc, ◌+◌, ◌-◌, ◌*◌, ◌<◌, ◌≤◌, ◌==◌, nat_lt, Bool, true, false, cond, not, ◌&&◌, List, [], ◌∷◌, ◌++◌, length, get_or, take, drop, map, refl, sym, ap, subst, ◌∙◌, append_assoc, arith}
 use Rattle.std.specs.Prelude.{Result, Ok, Err}
 use Rattle.std.specs.List.{All, fold}
+use Rattle.std.specs.List.Sorted.{IsPartitionedBy, IsPartitionPoint}
 use Rattle.std.proofs.lemmas.Bool.{ltb-true, ltb-false, lt-ltb, le-ltb}
 use Rattle.std.proofs.lemmas.List.{append-nil}
 use Rattle.std.proofs.lemmas.List.Elements.{All-nil, All-cons, All-head, All-tail, All-push, All-weaker}
@@ -14,12 +15,13 @@ use Rattle.nr_shifttable.specs.declared.fault.TableFault.{TableFault}
 use Rattle.nr_shifttable.specs.declared.fault.TableFault.TheVariants.{Empty}
 use Rattle.nr_shifttable.specs.declared.fault.EntriesFault.TheVariants as fault
 use Rattle.nr_shifttable.specs.Accepted.{Entries, entry_place, with_entry, entries_for, table_of, Ascending, IsInRange, graph_checked, accepted, IsTable}
-use Rattle.nr_shifttable.specs.Items.{Apart}
+use Rattle.nr_shifttable.specs.Items.{Apart, graph_eq}
 use Rattle.nr_shifttable.specs.Listed.{item_key, has_room, places_from, places_said, entries_said, item_in_graph, items_listed}
 use Rattle.nr_shifttable.specs.Orders.{key_of}
 use Rattle.nr_graphpick.specs.Refusal.{◌>>=◌}
 use Rattle.nr_shifttable.proofs.Places.{keys-apart}
 use Rattle.nr_shifttable.proofs.ItemLaws.{both-true}
+use Rattle.nr_shifttable.proofs.Slices.{filter_within}
 
 -- each item is within its base graph and past those before it, and the first is not below `past`
 abbrev pub Ascend : ℕ → List Item → Type 0
@@ -107,6 +109,57 @@ no-ones past (x ∷ xs) up far = by x.graph x.entry up (let le = up.1 in no-ones
     by One e up next = let short = low-key e.row e.col up.0 in let le = up.1 in absurd (omega arith)
     by Two e up next = next
 
+-- past them all items are of base graph 2, so no item of base graph 1 stands behind one of base graph 2
+all-twos : (past : ℕ) (items : List Item) → Ascend past items → 4096 ≤ past → All (λ x. graph_eq x.graph One ≡ false) items
+all-twos past [] up far = All-nil (λ x. graph_eq x.graph One ≡ false)
+all-twos past (x ∷ xs) up far = by x.graph x.entry up (let le = up.1 in all-twos (item_key x + 1) xs up.2 (omega arith))
+  where
+    IsTwo : Item → Type 0
+    IsTwo = λ x. graph_eq x.graph One ≡ false
+
+    by : (g : Graph) (e : Entry) → Ascend past (record { graph = g; entry = e } ∷ xs) → All IsTwo xs → All IsTwo (record { graph = g; entry = e } ∷ xs)
+    by One e up next = let short = low-key e.row e.col up.0 in let le = up.1 in absurd (omega arith)
+    by Two e up next = All-cons IsTwo (record { graph = Two; entry = e }) xs refl next
+
+pub ones-first : (past : ℕ) (items : List Item) → Ascend past items → IsPartitionedBy (λ x. graph_eq x.graph One) items
+ones-first past [] up = λ i j d le lt is. absurd (omega arith)
+ones-first past (x ∷ xs) up = by x.graph x.entry up (ones-first (item_key x + 1) xs up.2) (all-twos (item_key x + 1) xs up.2)
+  where
+    p : Item → Bool
+    p = λ x. graph_eq x.graph One
+
+    apart : true ≡ false → ⊥
+    apart e = cc
+
+    by : (g : Graph) (e : Entry) → Ascend past (record { graph = g; entry = e } ∷ xs) → IsPartitionedBy p xs → (4096 ≤ key_of g e.row e.col + 1 → All (λ x. p x ≡ false) xs)
+        → IsPartitionedBy p (record { graph = g; entry = e } ∷ xs)
+    by g e up rest twos zero zero d le lt is = is
+    by g e up rest twos (suc i) zero d le lt is = absurd (omega arith)
+    by g e up rest twos (suc i) (suc j) d le lt is = rest i j d (omega arith) (omega arith) is
+    by One e up rest twos zero (suc j) d le lt is = refl
+    by Two e up rest twos zero (suc j) d le lt is = let other = twos (omega arith) j d (omega arith) in absurd (apart (sym is ∙ other))
+
+module _ (items : List Item) (k : ℕ) (within : k ≤ length items) (point : IsPartitionPoint (λ x. graph_eq x.graph One ≡ true) (λ x. graph_eq x.graph One ≡ false) items k) where
+  -- where those of base graph 1 end, the items of both are parted
+  pub ones-are : map (λ i. i.entry) (take k items) ≡ entries_for One items
+  ones-are =
+      let all : k ≡ k - 0 = omega arith in
+      ap (λ l. map (λ i. i.entry) l)
+      (ap (λ n. take n items) all ∙ filter_within (λ x. graph_eq x.graph One) items 0 k (omega arith) within (λ i d a b. absurd (omega arith)) point.0 point.1)
+
+  pub twos-are : map (λ i. i.entry) (take (length items - k) (drop k items)) ≡ entries_for Two items
+  twos-are = ap (λ l. map (λ i. i.entry) l)
+      (filter_within (λ x. graph_eq x.graph Two) items k (length items) within (omega arith)
+      (λ i d a b. not-two (get_or items i d).graph (point.0 i d a b)) (λ i d a b. two (get_or items i d).graph (point.1 i d a b)) (λ i d a b. absurd (omega arith)))
+    where
+      not-two : (g : Graph) → graph_eq g One ≡ true → graph_eq g Two ≡ false
+      not-two One e = refl
+      not-two Two e = cc
+
+      two : (g : Graph) → graph_eq g One ≡ false → graph_eq g Two ≡ true
+      two One e = cc
+      two Two e = refl
+
 -- the entries of both base graphs, with their base graphs, are the items
 pub items-are : (past : ℕ) (items : List Item) → Ascend past items → map (item_in_graph One) (entries_for One items) ++ map (item_in_graph Two) (entries_for Two items) ≡ items
 items-are past [] up = refl
@@ -122,7 +175,7 @@ items-are past (x ∷ xs) up = by x.graph x.entry up (items-are (item_key x + 1)
         ∙ ap (λ l. item_in_graph Two e ∷ l) (ap (λ l. map (item_in_graph One) l ++ twos) (sym none) ∙ next)
 
 -- the entries that they give to each base graph ascend
-ones-ascend : (low past : ℕ) (items : List Item) → Ascend past items → low ≤ past → Ascending low (entries_for One items)
+pub ones-ascend : (low past : ℕ) (items : List Item) → Ascend past items → low ≤ past → Ascending low (entries_for One items)
 ones-ascend low past [] up le = tt
 ones-ascend low past (x ∷ xs) up le = by x.graph x.entry up (λ l h. ones-ascend l (item_key x + 1) xs up.2 h) (no-ones (item_key x + 1) xs up.2)
   where
@@ -131,7 +184,7 @@ ones-ascend low past (x ∷ xs) up le = by x.graph x.entry up (λ l h. ones-asce
     by One e up next none = let first = up.1 in (omega arith, ltb-true e.col 68 (both-true (nat_lt e.row 46) (nat_lt e.col 68) up.0).1, next (entry_place e + 1) (omega arith))
     by Two e up next none = subst (Ascending low) (sym (none (omega arith))) tt
 
-twos-ascend : (low past : ℕ) (items : List Item) → Ascend past items → low ≤ past - 4096 → Ascending low (entries_for Two items)
+pub twos-ascend : (low past : ℕ) (items : List Item) → Ascend past items → low ≤ past - 4096 → Ascending low (entries_for Two items)
 twos-ascend low past [] up le = tt
 twos-ascend low past (x ∷ xs) up le =
     let first = up.1 in
@@ -144,6 +197,13 @@ twos-ascend low past (x ∷ xs) up le =
         let first = up.1 in
         let short = ltb-true e.col 52 (both-true (nat_lt e.row 42) (nat_lt e.col 52) up.0).1 in
         (omega arith, omega arith, next (omega arith))
+
+-- so their table is these entries
+pub parted-table : (items : List Item) (one two : List Entry) → Ascend 0 items → one ≡ entries_for One items → two ≡ entries_for Two items → table_of items ≡ record { one = one; two = two }
+parted-table items one two up ones twos =
+    let ones' : fold with_entry [] (entries_for One items) ≡ one = fold-same 0 (entries_for One items) (ones-ascend 0 0 items up (omega arith)) ∙ sym ones in
+    let twos' : fold with_entry [] (entries_for Two items) ≡ two = fold-same 0 (entries_for Two items) (twos-ascend 0 0 items up (omega arith)) ∙ sym twos in
+    λ i. record { one = ones' i; two = twos' i }
 
 -- a table of items that ascend lists them
 pub ascend-listed : (items : List Item) → Ascend 0 items → items_listed (table_of items) ≡ items

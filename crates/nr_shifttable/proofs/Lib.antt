@@ -19,3 +19,4 @@ mod Converse
 mod Written
 mod Faults
 mod RecordOrder
+mod ColumnStarts

@@ -1,13 +1,16 @@
 //! The places of items that a caller kept.
 
-ghost use Rattle.std.specs.Prelude.{◌≡◌, ◌<◌, All, OnOk, length};
+ghost use Rattle.std.specs.Prelude.{◌≡◌, ◌-◌, ◌<◌, ◌≤◌, All, Ok, OnOk, drop, length, map, take};
 ghost use Rattle.std.specs.Bool.{OnTrue};
+ghost use Rattle.nr_graphpick.specs.declared.Graph.TheVariants.{One, Two};
+ghost use Rattle.nr_shifttable.specs.Accepted.{entries_for};
 ghost use Rattle.nr_shifttable.specs.Items.{IsInside};
 ghost use Rattle.nr_shifttable.specs.Listed.{has_room, places_from, places_said};
 
 use crate::entry::Item;
 use crate::fault::EntriesFault;
 use crate::items::place_key;
+use nr_graphpick::Graph;
 
 /// Judges the places of items, item by item: each is within its base graph, and past the one before
 /// it.
@@ -34,6 +37,17 @@ pub(crate) fn judge_places(items: &[Item]) -> Result<(), EntriesFault>
         past = key + 1;
     }
     Ok(())
+}
+
+/// How many of the items are of base graph 1. The items ascend, so that these are the first.
+pub(crate) fn ones_in(items: &[Item]) -> usize
+    requires { places_said items.now ≡ Ok tt }
+    ensures bound { result ≤ length items.now }
+    ensures ones { map (λ i. i.entry) (take result items.now) ≡ entries_for One items.now }
+    ensures twos { map (λ i. i.entry) (take (length items.now - result) (drop result items.now))
+        ≡ entries_for Two items.now }
+{
+    items.partition_point(|item| item.graph == Graph::One)
 }
 
 // Whether an item's row and column are those of its base graph.

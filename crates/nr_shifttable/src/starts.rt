@@ -2,7 +2,6 @@
 
 ghost use Rattle.std.specs.Prelude.{◌≡◌, ◌+◌, ◌<◌, ◌≤◌, length};
 ghost use Rattle.std.specs.List.{AllWithin};
-ghost use Rattle.std.specs.List.Sorted.{IsNonDecreasingBy};
 ghost use Rattle.nr_shifttable.specs.Accepted.{row_of, column_of, Ascending};
 ghost use Rattle.nr_shifttable.specs.Orders.{IsStart, AreRowStarts, AreColumnStarts};
 
@@ -39,36 +38,6 @@ pub(crate) fn row_starts(entries: &[Entry]) -> [usize; ROWS]
     for row in 0..ROWS {
         start = row_start(entries, start, row);
         starts[row] = start;
-    }
-    starts
-}
-
-// Where the entries from a column on begin, of entries whose columns do not fall: not before `from`.
-fn col_start(entries: &[Entry], from: usize, col: usize) -> usize
-    requires order { IsNonDecreasingBy (λ e. e.col) entries.now }
-    requires within { from ≤ length entries.now }
-    requires before { AllWithin (λ e. e.col < col) entries.now 0 from }
-    ensures { IsStart (λ e. e.col) entries.now col result }
-{
-    for start in from..entries.len() {
-        if col <= usize::from(entries[start].col) {
-            return start;
-        }
-    }
-    entries.len()
-}
-
-/// Of each column, how many entries stand in the columns before it, of entries whose columns do
-/// not fall.
-pub(crate) fn col_starts(entries: &[Entry]) -> [usize; COLS]
-    requires { IsNonDecreasingBy (λ e. e.col) entries.now }
-    ensures { AreColumnStarts 69 entries.now result }
-{
-    let mut starts = [0; COLS];
-    let mut start = 0;
-    for col in 0..COLS {
-        start = col_start(entries, start, col);
-        starts[col] = start;
     }
     starts
 }

@@ -1,17 +1,18 @@
 //! The accepted table of shift values.
 
-ghost use Rattle.std.specs.Prelude.{◌≡◌, ◌↔◌, ◌⊎◌, ◌+◌, ◌^◌, ◌<◌, ◌≤◌, All, IfErr, IfOk, IfSome, IsErrOf, length, option_map, slice_get, slice_index};
+ghost use Rattle.std.specs.Prelude.{◌≡◌, ◌↔◌, ◌⊎◌, ◌+◌, ◌^◌, ◌<◌, ◌≤◌, All, IfErr, IfOk, IfSome, IsErrOf, Ok, length, option_map, slice_get, slice_index};
 ghost use Rattle.nr_shifttable.specs.Accepted.{entries_in, has_graph, row_of, column_of, value_at, TellsTable, table_of, table_said, accepted, ColumnsAscend, RowsAscend, IsInRange, IsTable};
 ghost use Rattle.nr_shifttable.specs.Items.{Apart, IsInside};
 ghost use Rattle.nr_shifttable.specs.Listed.{entries_said, items_listed, places_said};
 ghost use Rattle.nr_shifttable.specs.Source.{KeepsCount, TellsFailure};
+ghost use Rattle.nr_graphpick.specs.declared.Graph.TheVariants.{One, Two};
 ghost use Rattle.nr_graphpick.specs.Refusal.{Gives};
 
 use crate::accept::check;
 use crate::entry::{Entry, Item};
 use crate::fault::{EntriesFault, TableFault};
 use crate::items::read_items;
-use crate::listed::judge_places;
+use crate::listed::{judge_places, ones_in};
 use crate::sorted::{Sorted, values_in};
 use crate::source::{ReadFault, Source, read_to_end};
 use nr_graphpick::Graph;
@@ -111,7 +112,7 @@ impl Table {
         ensures said { Gives EntriesFault.Memory (λ t. t) result (entries_said items.now) }
     {
         judge_places(items)?;
-        match Table::from_items(alloc, items) {
+        match Table::of_ascending(alloc, items) {
             Ok(table) => Ok(table),
             Err(TableFault::Memory) => Err(EntriesFault::Memory),
             Err(fault) => Err(EntriesFault::Table(fault)),
@@ -125,7 +126,6 @@ impl Table {
     /// In this order: `Empty`, where there is no item; then, for each base graph that has an entry,
     /// base graph 1 first, `Core`, `Extension` and `MissingRow`. `Memory` comes where a growth is
     /// refused.
-    #[tactic(auto, unfolding(crate::specs::Accepted::accepted))]
     pub(crate) fn from_items(alloc: Global, items: &[Item]) -> Result<Table, TableFault>
         requires apart { Apart items.now }
         requires in_range { All IsInside items.now }
@@ -134,6 +134,31 @@ impl Table {
     {
         let one = Sorted::new(alloc, Graph::One, items)?;
         let two = Sorted::new(alloc, Graph::Two, items)?;
+        Table::of_sorted(one, two)
+    }
+
+    // The same of items that ascend, those of base graph 1 first, which need no sorting.
+    fn of_ascending(alloc: Global, items: &[Item]) -> Result<Table, TableFault>
+        requires ascending { places_said items.now ≡ Ok tt }
+        requires in_range { All IsInside items.now }
+        ensures table { IfOk result IsTable }
+        ensures said { Gives TableFault.Memory (λ t. t) result (accepted (table_of items.now)) }
+    {
+        let ones = ones_in(items);
+        let one = Sorted::of_ascending(alloc, &items[..ones])?;
+        let two = Sorted::of_ascending(alloc, &items[ones..])?;
+        Table::of_sorted(one, two)
+    }
+
+    // The table of the entries of both base graphs, judged.
+    #[tactic(auto, unfolding(crate::specs::Accepted::accepted))]
+    fn of_sorted(one: Sorted, two: Sorted) -> Result<Table, TableFault>
+        requires ones { All (IsInRange One) one }
+        requires twos { All (IsInRange Two) two }
+        ensures table { IfOk result IsTable }
+        ensures said { Gives TableFault.Memory (λ t. t) result
+            (accepted (record { one = one; two = two })) }
+    {
         if one.entries().is_empty() && two.entries().is_empty() {
             return Err(TableFault::Empty);
         }

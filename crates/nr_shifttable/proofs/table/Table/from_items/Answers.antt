@@ -1,31 +1,12 @@
-use Rattle.std.proofs.Common.{◌==◌, length, sym}
-use Rattle.std.proofs.lemmas.Bool.{and_left, and_right}
-use Rattle.nr_shifttable.proofs.Order.{made-table}
+use Rattle.std.proofs.Common.{sym, subst}
+use Rattle.std.specs.List.{All}
+use Rattle.nr_graphpick.specs.declared.Graph.TheVariants.{One, Two}
+use Rattle.nr_shifttable.specs.Accepted.{IsInRange}
+use Rattle.nr_shifttable.proofs.Order.{table-range}
 use Rattle.nr_shifttable.proofs.table.Table.from_items.Goals as goal
-use Rattle.nr_shifttable.proofs.table.Table.from_items.Goals.{else-is_empty-via-then-is_empty+else-is_empty-2, else-is_empty-via-else-is_empty}
 
-pub invariant_of-result : goal.invariant_of-result
-invariant_of-result c =
-    made-table c.args.items.now c.in_ok-one.one c.in_ok-two.two c.requires.in_range
-    c.in_ok-one.ensures
-    c.in_ok-two.ensures
-    c.in_ok-check.ensures.order c.in_ok-check-2.ensures.order
-    (elim c.else-is_empty.branch [
-      | else-is_empty-via-then-is_empty+else-is_empty-2 w ↦ and_right (length c.in_ok-one.one == 0) (length c.in_ok-two.two == 0) (cc)
-      | else-is_empty-via-else-is_empty w ↦ and_left (length c.in_ok-one.one == 0) (length c.in_ok-two.two == 0) (cc)
-    ])
-    (sym (c.in_ok-check.ensures.value))
-    (sym (c.in_ok-check-2.ensures.value))
+pub of_sorted-requires-clause-ones : goal.of_sorted-requires-clause-ones
+of_sorted-requires-clause-ones c = subst (All (IsInRange One)) (sym c.in_ok-one.ensures) (table-range One c.args.items.now c.requires.in_range)
 
-pub returns-clause-table : goal.returns-clause-table
-returns-clause-table c =
-    made-table c.args.items.now c.in_ok-one.one c.in_ok-two.two c.requires.in_range
-    c.in_ok-one.ensures
-    c.in_ok-two.ensures
-    c.in_ok-check.ensures.order c.in_ok-check-2.ensures.order
-    (elim c.else-is_empty.branch [
-      | else-is_empty-via-then-is_empty+else-is_empty-2 w ↦ and_right (length c.in_ok-one.one == 0) (length c.in_ok-two.two == 0) (cc)
-      | else-is_empty-via-else-is_empty w ↦ and_left (length c.in_ok-one.one == 0) (length c.in_ok-two.two == 0) (cc)
-    ])
-    (sym (c.in_ok-check.ensures.value))
-    (sym (c.in_ok-check-2.ensures.value))
+pub of_sorted-requires-clause-twos : goal.of_sorted-requires-clause-twos
+of_sorted-requires-clause-twos c = subst (All (IsInRange Two)) (sym c.in_ok-two.ensures) (table-range Two c.args.items.now c.requires.in_range)
