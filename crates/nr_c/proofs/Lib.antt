@@ -1,3 +1,4 @@
 mod Columns
+mod Digits
 mod Outcomes
 mod Placed

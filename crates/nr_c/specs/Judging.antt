@@ -1,7 +1,5 @@
 -- What judging a shift table tells, and what is listed of one.
 use Rattle.std.specs.Prelude.{◌≡◌, ◌⊎◌, ℕ, ◌==◌, if◌then◌else◌, Result, Ok, Err, List, length, map}
-use Rattle.nr_graphpick.specs.declared.Graph.{Graph}
-use Rattle.nr_graphpick.specs.declared.Graph.TheVariants.{One, Two}
 use Rattle.nr_shifttable.specs.Accepted.{Entries}
 use Rattle.nr_shifttable.specs.declared.fault.TableFault.{TableFault}
 use Rattle.nr_shifttable.specs.declared.fault.TableFault.TheVariants as table

@@ -7,6 +7,10 @@ ghost use Rattle.nr_c.specs.Crossing.{AreBits, AreOctets, digit, settings_of, tx
 use nr_bitvec::Bits;
 use nr_blockdesk::{Settings, Tx};
 use nr_ratematch::Mask;
+use std::simd::prelude::*;
+
+// What each bit of an octet weighs, the lowest first.
+const PLACES: [u8; 8] = [1, 2, 4, 8, 16, 32, 64, 128];
 
 /// What both ends of a link are set to.
 #[repr(C)]
@@ -79,20 +83,34 @@ pub(crate) fn write_bits(bits: &Bits, out: &mut [u8])
     ensures { AreBits bits.now.items out.new }
 {
     // A list has at most 2^24 bits, as `len` says: so no place overflows.
-    let len = bits.len();
-    for i in 0..len.div_ceil(64) {
+    let whole = bits.len() / 64;
+    for i in 0..whole {
         let at = 64 * i;
-        write_word(bits.window(at), &mut out[at..len.min(at + 64)]);
+        write_word(bits.window(at), &mut out[at..at + 64]);
     }
+    write_word(bits.window(64 * whole), &mut out[64 * whole..]);
 }
 
-// Writes an octet for each bit of a word, the lowest first, for as many bits as there are octets.
+// An octet for each of the lowest eight bits of a word.
+fn digits_of(word: u64) -> u8x8
+    ensures { (k : ℕ) → k < 8 → slice_index_or result k 0 ≡ bit_at word k }
+{
+    let octet = (word & 255) as u8;
+    (u8x8::splat(octet) & u8x8::from_array(PLACES)).simd_min(u8x8::splat(1))
+}
+
+// Writes an octet for each bit of a word, the lowest first, for as many bits as there are octets: eight at a turn.
 fn write_word(word: u64, out: &mut [u8])
     ensures { (k : ℕ) → k < length out.new → slice_index_or out.new k 0 ≡ bit_at word k }
 {
     let mut rest = word;
-    for octet in out.iter_mut() {
-        *octet = (rest & 1) as u8;
+    let whole = out.len() / 8;
+    for i in 0..whole {
+        digits_of(rest).copy_to_slice(&mut out[8 * i..]);
+        rest >>= 8;
+    }
+    for i in 8 * whole..out.len() {
+        out[i] = (rest & 1) as u8;
         rest >>= 1;
     }
 }

@@ -1,7 +1,7 @@
 //! Masks of what is heard at once: one list of bits marks the positions of the codeword that were heard, another has
 //! the bits heard there.
 
-ghost use Rattle.std.specs.Prelude.{◌≡◌, ℕ, ◌+◌, ◌≤◌, ◌||◌, ◌↔◌, Bool, true, length, IsTrue};
+ghost use Rattle.std.specs.Prelude.{◌≡◌, ℕ, ◌+◌, ◌≤◌, ◌||◌, ◌↔◌, Bool, not, true, false, length, IsTrue};
 ghost use Rattle.nr_bitvec.specs.Bit.{bit};
 ghost use Rattle.nr_harqbuf.specs.Masks.{says, word_says};
 
@@ -25,6 +25,8 @@ pub fn merge_word(
     requires both { length value.old.items ≡ length heard.old.items }
     ensures says { IsTrue result → (p : ℕ) (b : Bool) → says heard.new.items value.new.items p b
         ≡ (says heard.old.items value.old.items p b || word_says at count now bits p b) }
+    ensures agree { IsTrue result ↔ ((p : ℕ) (b : Bool) → word_says at count now bits p b ≡ true
+        → says heard.old.items value.old.items p (not b) ≡ false) }
     ensures heard { length heard.new.items ≡ length heard.old.items }
     ensures value { length value.new.items ≡ length value.old.items }
 {

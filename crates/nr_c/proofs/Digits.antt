@@ -1,0 +1,60 @@
+-- The lowest eight bits of a word, lane by lane, and where they are put.
+use Rattle.std.proofs.Common.{◌≡◌, ℕ, zero, suc, ◌+◌, ◌-◌, ◌*◌, ◌/◌, ◌^◌, ◌<◌, ◌≤◌, nat_lt, Bool, true, false, if◌then◌else◌, List, [], ◌∷◌, length, get_or, bit_and, ap, sym, ◌∙◌, arith, refl}
+use Rattle.std.specs.Int.{bit_at}
+use Rattle.std.proofs.lemmas.Bool.{le-ltb, ltb-false, ltb-true}
+use Rattle.std.proofs.lemmas.Nat.{shr-shr, pow_pos}
+use Rattle.std.proofs.lemmas.Nat.Bits.{and_pow, bit_at_and, bit_at_ones, bit_at-lt, shr_and_one}
+use Rattle.std.proofs.lemmas.Simd.{get_or-put_chunk_at, get_or-put_chunk_below}
+use Rattle.std.specs.Simd.Lanes.{put_chunk}
+use lib.Lanes.{top}
+
+-- the lesser of a lane and 1, as the lanes find it
+abbrev lesser : ℕ → ℕ
+lesser v = if top 7 (if nat_lt v 1 then 255 else 0) then v else 1
+
+lesser-pos : (v : ℕ) → 0 < v → lesser v ≡ 1
+lesser-pos v pos = ap (λ b. if top 7 (if b then 255 else 0) then v else 1) (le-ltb v 1 pos)
+
+lesser-bit : (v b p : ℕ) → v ≡ b * p → b < 2 → 0 < p → lesser v ≡ b
+lesser-bit v zero p is small pos = ap lesser {x = v} {y = 0} (omega (arith, is))
+lesser-bit v (suc zero) p is small pos = lesser-pos v (omega (arith, is, pos))
+lesser-bit v (suc (suc b)) p is small pos = omega (arith, small)
+
+lane : (word k : ℕ) → k < 8 → lesser (bit_and (bit_and word 255) (2 ^ k)) ≡ bit_at word k
+lane word k below =
+    lesser-bit (bit_and (bit_and word 255) (2 ^ k)) (bit_at (bit_and word 255) k) (2 ^ k) (and_pow (bit_and word 255) k) (bit_at-lt (bit_and word 255) k) (pow_pos k)
+    ∙ bit_at_and word 255 k ∙ omega (arith, bit_at_ones 8 k below, bit_at-lt word k)
+
+-- the eight lanes
+pub eight_lanes : (word k : ℕ) → k < 8 → get_or (lesser (bit_and (bit_and word 255) 1) ∷ lesser (bit_and (bit_and word 255) 2) ∷ lesser (bit_and (bit_and word 255) 4) ∷ lesser (bit_and (bit_and word 255) 8)
+    ∷ lesser (bit_and (bit_and word 255) 16) ∷ lesser (bit_and (bit_and word 255) 32) ∷ lesser (bit_and (bit_and word 255) 64) ∷ lesser (bit_and (bit_and word 255) 128) ∷ []) k 0 ≡ bit_at word k
+eight_lanes word zero below = lane word 0 below
+eight_lanes word (suc zero) below = lane word 1 below
+eight_lanes word (suc (suc zero)) below = lane word 2 below
+eight_lanes word (suc (suc (suc zero))) below = lane word 3 below
+eight_lanes word (suc (suc (suc (suc zero)))) below = lane word 4 below
+eight_lanes word (suc (suc (suc (suc (suc zero))))) below = lane word 5 below
+eight_lanes word (suc (suc (suc (suc (suc (suc zero)))))) below = lane word 6 below
+eight_lanes word (suc (suc (suc (suc (suc (suc (suc zero))))))) below = lane word 7 below
+eight_lanes word (suc (suc (suc (suc (suc (suc (suc (suc k)))))))) below = omega (arith, below)
+
+-- a bit of a word that was shifted
+bit_further : (word n k : ℕ) → bit_at (word / 2 ^ n) k ≡ bit_at word (n + k)
+bit_further word n k = sym (shr_and_one (word / 2 ^ n) k) ∙ ap (λ v. bit_and v 1) (shr-shr word n k) ∙ shr_and_one word (n + k)
+
+-- eight octets more
+pub eight_more : (word rest i : ℕ) (out eight : List ℕ) → rest ≡ word / 2 ^ (8 * i) → length eight ≡ 8 → 8 * i + 8 ≤ length out → ((k : ℕ) → k < 8 → get_or eight k 0 ≡ bit_at rest k)
+    → ((k : ℕ) → k < 8 * i → get_or out k 0 ≡ bit_at word k) → (k : ℕ) → k < 8 * (i + 1) → get_or (put_chunk (8 * i) out eight) k 0 ≡ bit_at word k
+eight_more word rest i out eight left long within each so_far k below = by (nat_lt k (8 * i)) refl
+  where
+    by : (b : Bool) → nat_lt k (8 * i) ≡ b → get_or (put_chunk (8 * i) out eight) k 0 ≡ bit_at word k
+    by true e =
+        let before : k < 8 * i = omega (arith, ltb-true k (8 * i) e) in
+        get_or-put_chunk_below (8 * i) out eight k 0 before ∙ so_far k before
+    by false e =
+        let j : ℕ = k - 8 * i in
+        let at : 8 * i + j ≡ k = omega (arith, ltb-false k (8 * i) e) in
+        let lt : j < 8 = omega (arith, ltb-false k (8 * i) e, below) in
+        ap (λ m. get_or (put_chunk (8 * i) out eight) m 0) (sym at)
+        ∙ get_or-put_chunk_at (8 * i) out eight j 0 (omega (arith, lt, long)) (omega (arith, within, long))
+        ∙ each j lt ∙ ap (λ v. bit_at v j) left ∙ bit_further word (8 * i) j ∙ ap (bit_at word) at
