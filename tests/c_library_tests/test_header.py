@@ -1,4 +1,4 @@
-"""nr.h against the sources of nr_c, which the proofs are of: calls, structs and statuses; and what the libraries show."""
+"""nr.h against the sources of nr_c and of its entries, which the proofs are of: calls, structs and statuses; and what the libraries show."""
 
 import re
 import unittest
@@ -7,6 +7,8 @@ import built
 
 HEADER = re.sub(r"/\*.*?\*/", "", (built.C / "nr.h").read_text(), flags=re.DOTALL)
 SOURCES = "".join(path.read_text() for path in sorted((built.ROOT / "crates" / "nr_c" / "src").glob("**/*.rt")))
+# An entry as a caller keeps it is a struct of nr_shifttable, which nr_c names NrEntry.
+ENTRIES = (built.ROOT / "crates" / "nr_shifttable" / "src" / "entry.rt").read_text()
 NAMES = ["nr_fault_name"]
 
 # How C writes what Rattle passes.
@@ -39,12 +41,14 @@ def exports():
 
 
 def structs():
-    """The fields of nr_c's structs, as C declares them."""
+    """The fields of the structs that nr_c's exports take, as C declares them: a struct within another is its fields."""
     found = {}
-    for name, body in re.findall(r"#\[repr\(C\)\]\n(?:#[^\n]*\n)*pub struct (\w+) \{(.*?)\n\}", SOURCES, flags=re.DOTALL):
-        fields = re.findall(r"pub (\w+): (?:\[(\w+); (\d+)\]|(\w+)),", body)
-        found[name] = [f"{ITEMS[many or one]} {field}{f'[{count}]' if many else ''}" for field, many, count, one in fields]
-    return found
+    for name, body in re.findall(r"#\[repr\(C\)\]\n(?:#[^\n]*\n)*pub struct (\w+) \{(.*?)\n\}", ENTRIES + SOURCES, flags=re.DOTALL):
+        found[name] = []
+        for field, many, count, one in re.findall(r"pub (\w+): (?:\[(\w+); (\d+)\]|(\w+)),", body):
+            found[name] += found.get(one) or [f"{ITEMS[many or one]} {field}{f'[{count}]' if many else ''}"]
+    named = dict(re.findall(r"pub use nr_shifttable::(\w+) as (\w+);", SOURCES))
+    return {named.get(name, name): fields for name, fields in found.items() if name in named or name.startswith("Nr")}
 
 
 def statuses():

@@ -14,7 +14,7 @@ use Rattle.nr_c.specs.Entries.{table_by}
 use Rattle.nr_c.specs.Numbers.{planned_said}
 use Rattle.nr_c.specs.Statuses.{status_of}
 use Rattle.nr_c.specs.declared.coded.Coded.{Coded}
-use Rattle.nr_c.specs.declared.entries.NrEntry.{NrEntry}
+use Rattle.nr_shifttable.specs.declared.entry.KeptEntry.{KeptEntry}
 use Rattle.nr_c.specs.declared.fault.Fault.{Fault}
 use Rattle.nr_c.specs.declared.fault.Fault.TheVariants as fault
 
@@ -48,11 +48,11 @@ coded_by table rate2048 a octets = do
   Ok (record { plan = p.plan; word = codeword table p.graph p.plan bits })
 
 -- the same, by a shift table's entries
-unfoldable pub coded_said : List NrEntry → ℕ → ℕ → List ℕ → Result Codeword Fault
+unfoldable pub coded_said : List KeptEntry → ℕ → ℕ → List ℕ → Result Codeword Fault
 coded_said entries rate2048 a octets = table_by entries >>= λ table. coded_by table rate2048 a octets
 
 -- the same, where there is room for N octets
-abbrev pub coded_into_said : List NrEntry → ℕ → ℕ → List ℕ → ℕ → Result Codeword Fault
+abbrev pub coded_into_said : List KeptEntry → ℕ → ℕ → List ℕ → ℕ → Result Codeword Fault
 coded_into_said entries rate2048 a octets room = do
   coded ← coded_said entries rate2048 a octets
   fits ← demanded fault.Room (coded.plan.n == room)

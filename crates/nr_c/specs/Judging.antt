@@ -1,12 +1,11 @@
 -- What judging a shift table tells, and what is listed of one.
-use Rattle.std.specs.Prelude.{◌≡◌, ◌⊎◌, ℕ, ◌==◌, if◌then◌else◌, Result, Ok, Err, List, length, map}
+use Rattle.std.specs.Prelude.{◌≡◌, ◌⊎◌, ℕ, ◌==◌, if◌then◌else◌, Result, Ok, Err, List, length}
 use Rattle.nr_shifttable.specs.Accepted.{Entries}
 use Rattle.nr_shifttable.specs.declared.fault.TableFault.{TableFault}
 use Rattle.nr_shifttable.specs.declared.fault.TableFault.TheVariants as table
-use Rattle.nr_shifttable.specs.Listed.{items_listed}
-use Rattle.nr_c.specs.Entries.{entry_of, graph_number}
+use Rattle.nr_shifttable.specs.Listed.{graph_number, kept_listed}
 use Rattle.nr_c.specs.Statuses.{table_status}
-use Rattle.nr_c.specs.declared.entries.NrEntry.{NrEntry}
+use Rattle.nr_shifttable.specs.declared.entry.KeptEntry.{KeptEntry}
 use Rattle.nr_c.specs.declared.table.NrReport.{NrReport}
 
 -- the place of a fault: the number of a record or of a base graph; 0 where it has none
@@ -38,28 +37,24 @@ judged_status (Err e) = table_status e
 abbrev pub Reports : ℕ → NrReport → NrReport → Result Entries TableFault → Type 0
 Reports status old new said = ((status ≡ judged_status said) × (new ≡ report_of said)) ⊎ ((status ≡ 1) × (new ≡ old))
 
--- the entries of a table
-abbrev pub entries_of : Entries → List NrEntry
-entries_of t = map entry_of (items_listed t)
-
 -- a caller's places: for entries, and for how many there are
 pub record Listing : Type 0 where
-  pub room : List NrEntry
+  pub room : List KeptEntry
   pub count : ℕ
 
-abbrev pub listing : List NrEntry → ℕ → Listing
+abbrev pub listing : List KeptEntry → ℕ → Listing
 listing room count = record { room = room; count = count }
 
 -- the number that a call answers which lists a table for a room of so many entries: 2, where the table has more or fewer
 abbrev pub listed_status : ℕ → Result Entries TableFault → ℕ
-listed_status room (Ok t) = if length (entries_of t) == room then 0 else 2
+listed_status room (Ok t) = if length (kept_listed t) == room then 0 else 2
 listed_status room (Err e) = table_status e
 
 -- what it leaves in its places: how many entries the table has, and them where the room has their length; of a refused table
 -- nothing
 abbrev pub listed : Listing → Result Entries TableFault → Listing
 listed old (Ok t) =
-    record { room = if length (entries_of t) == length old.room then entries_of t else old.room; count = length (entries_of t) }
+    record { room = if length (kept_listed t) == length old.room then kept_listed t else old.room; count = length (kept_listed t) }
 listed old (Err e) = old
 
 -- What a call that lists leaves in its places. Where memory runs out they are as they were.

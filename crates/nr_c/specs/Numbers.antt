@@ -13,7 +13,7 @@ use Rattle.nr_segment.specs.Plan.{Numbers, plan_of}
 use Rattle.nr_segment.specs.declared.numbers.Plan.{Plan}
 use Rattle.nr_blockdesk.specs.Link.{demanded, is_size}
 use Rattle.nr_blockdesk.specs.declared.fault.DeskFault.TheVariants as desk
-use Rattle.nr_c.specs.Entries.{graph_number}
+use Rattle.nr_shifttable.specs.Listed.{graph_number}
 use Rattle.nr_c.specs.declared.fault.Fault.{Fault}
 use Rattle.nr_c.specs.declared.fault.Fault.TheVariants as fault
 use Rattle.nr_c.specs.declared.numbers.NrPlan.{NrPlan}

@@ -13,7 +13,7 @@ use Rattle.nr_c.specs.Crossing.{tx_of}
 use Rattle.nr_c.specs.Entries.{table_by}
 use Rattle.nr_c.specs.Findings.{Findings, findings, has_room}
 use Rattle.nr_c.specs.declared.crossing.NrTx.{NrTx}
-use Rattle.nr_c.specs.declared.entries.NrEntry.{NrEntry}
+use Rattle.nr_shifttable.specs.declared.entry.KeptEntry.{KeptEntry}
 use Rattle.nr_c.specs.declared.fault.Fault.{Fault}
 use Rattle.nr_c.specs.declared.fault.Fault.TheVariants as fault
 use Rattle.nr_c.specs.declared.findings.Room.{Room}
@@ -46,14 +46,14 @@ receive_by table settings a ts octets =
     with_fault fault.Desk (link_said table settings a) >>= λ link. heard_said link [] ts octets
 
 -- the same of at most 256, by a shift table's entries
-unfoldable pub receive_said : List NrEntry → Settings → ℕ → List NrTx → List ℕ → Result Findings Fault
+unfoldable pub receive_said : List KeptEntry → Settings → ℕ → List NrTx → List ℕ → Result Findings Fault
 receive_said entries settings a ts octets = do
   few ← demanded fault.Many (nat_le (length ts) 256)
   table ← table_by entries
   receive_by table settings a ts octets
 
 -- the same, where there is room for what is found
-abbrev pub receive_into_said : List NrEntry → Settings → ℕ → List NrTx → List ℕ → Room → Result Findings Fault
+abbrev pub receive_into_said : List KeptEntry → Settings → ℕ → List NrTx → List ℕ → Room → Result Findings Fault
 receive_into_said entries settings a ts octets room = do
   found ← receive_said entries settings a ts octets
   fits ← demanded fault.Room (has_room room found)

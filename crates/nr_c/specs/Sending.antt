@@ -11,7 +11,7 @@ use Rattle.nr_blockdesk.specs.declared.tx.Tx.{Tx}
 use Rattle.nr_c.specs.Crossing.{AreBits}
 use Rattle.nr_c.specs.Entries.{table_by}
 use Rattle.nr_c.specs.Statuses.{status_of}
-use Rattle.nr_c.specs.declared.entries.NrEntry.{NrEntry}
+use Rattle.nr_shifttable.specs.declared.entry.KeptEntry.{KeptEntry}
 use Rattle.nr_c.specs.declared.fault.Fault.{Fault}
 use Rattle.nr_c.specs.declared.fault.Fault.TheVariants as fault
 
@@ -23,11 +23,11 @@ send_by table settings octets tx = do
   with_fault fault.Desk (sent_said sender.link tx sender.block)
 
 -- the same, by a shift table's entries
-unfoldable pub send_said : List NrEntry → Settings → List ℕ → Tx → Result (List Bool) Fault
+unfoldable pub send_said : List KeptEntry → Settings → List ℕ → Tx → Result (List Bool) Fault
 send_said entries settings octets tx = table_by entries >>= λ table. send_by table settings octets tx
 
 -- the same, where there is room for so many
-abbrev pub send_into_said : List NrEntry → Settings → List ℕ → Tx → ℕ → Result (List Bool) Fault
+abbrev pub send_into_said : List KeptEntry → Settings → List ℕ → Tx → ℕ → Result (List Bool) Fault
 send_into_said entries settings octets tx room = do
   bits ← send_said entries settings octets tx
   fits ← demanded fault.Room (length bits == room)

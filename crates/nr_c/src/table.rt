@@ -1,11 +1,11 @@
 //! Judging the text of a shift table, and reading its entries.
 
-ghost use Rattle.std.specs.Prelude.{◌≡◌, ◌<◌, Ok, length, map};
+ghost use Rattle.std.specs.Prelude.{◌≡◌, ◌<◌, Ok, length};
 ghost use Rattle.nr_graphpick.specs.Refusal.{with_fault};
 ghost use Rattle.nr_shifttable.specs.Accepted.{table_said};
-ghost use Rattle.nr_shifttable.specs.Listed.{items_listed};
-ghost use Rattle.nr_c.specs.Entries.{entry_of, graph_number, table_by};
-ghost use Rattle.nr_c.specs.Judging.{Lists, Reports, entries_of, fault_place, listed, listed_status, listing};
+ghost use Rattle.nr_shifttable.specs.Listed.{graph_number, kept_listed};
+ghost use Rattle.nr_c.specs.Entries.{table_by};
+ghost use Rattle.nr_c.specs.Judging.{Lists, Reports, fault_place, listed, listed_status, listing};
 
 use crate::entries::NrEntry;
 use crate::fault::{Fault, table_status};
@@ -106,8 +106,8 @@ fn list(table: &Table, out: &mut [NrEntry], count: &mut usize) -> u32
 
 // Writes the entries of a table.
 fn write_entries(table: &Table, out: &mut [NrEntry])
-    requires { length out.old ≡ length (items_listed table.now) }
-    ensures { out.new ≡ entries_of table.now }
+    requires { length out.old ≡ length (kept_listed table.now) }
+    ensures { out.new ≡ kept_listed table.now }
 {
     // A sound table has few entries, so that each number of one fits.
     tables_are_sound(table);

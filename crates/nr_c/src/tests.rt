@@ -6,6 +6,7 @@ use crate::numbers::{NrPlan, nr_crc, nr_plan};
 use crate::receiving::nr_receive;
 use crate::sending::nr_send;
 use crate::table::{NrReport, nr_table_check, nr_table_entries};
+use nr_shifttable::Entry;
 use std::alloc::{AllocError, Global};
 use std::fmt::Write;
 use std::test::Fail;
@@ -58,9 +59,11 @@ pub(crate) fn practice(alloc: Global) -> Result<Vec<u8>, AllocError> {
 /// An entry of no table.
 const NO_ENTRY: NrEntry = NrEntry {
     graph: 7,
-    row: 7,
-    col: 7,
-    values: [7; 8],
+    entry: Entry {
+        row: 7,
+        col: 7,
+        values: [7; 8],
+    },
 };
 
 /// The entries of the practice table.
@@ -193,8 +196,11 @@ fn lists(rt: HostRuntime) -> Result<(), Fail> {
         0
     );
     let (first, last) = (entries[0], entries[104]);
-    assert_eq!(rt; (count, first.graph, first.row, first.col), (105, 2, 0, 0));
-    assert_eq!(rt; (last.graph, last.row, last.col), (2, 41, 51));
+    assert_eq!(rt;
+        (count, first.graph, first.entry.row, first.entry.col),
+        (105, 2, 0, 0)
+    );
+    assert_eq!(rt; (last.graph, last.entry.row, last.entry.col), (2, 41, 51));
     Ok(())
 }
 

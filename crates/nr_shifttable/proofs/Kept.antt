@@ -1,25 +1,25 @@
 -- Items in ascending order are the items of their table.
-use Rattle.std.proofs.Common.{◌≡◌, ℕ, zero, suc, ◌+◌, ◌-◌, ◌*◌, ◌<◌, ◌≤◌, ◌==◌, nat_lt, Bool, true, false, cond, not, ◌&&◌, List, [], ◌∷◌, ◌++◌, length, get_or, take, drop, map, refl, sym, ap, subst, ◌∙◌, append_assoc, arith}
+use Rattle.std.proofs.Common.{◌≡◌, ℕ, zero, suc, ◌+◌, ◌-◌, ◌*◌, ◌<◌, ◌≤◌, ◌==◌, nat_lt, Bool, true, false, cond, not, ◌&&◌, ◌||◌, List, [], ◌∷◌, ◌++◌, length, get_or, take, drop, map, refl, sym, ap, subst, ◌∙◌, append_assoc, arith}
 use Rattle.std.specs.Prelude.{Result, Ok, Err}
-use Rattle.std.specs.List.{All, fold}
+use Rattle.std.specs.List.{All, filter, fold}
 use Rattle.std.specs.List.Sorted.{IsPartitionedBy, IsPartitionPoint}
-use Rattle.std.proofs.lemmas.Bool.{ltb-true, ltb-false, lt-ltb, le-ltb}
-use Rattle.std.proofs.lemmas.List.{append-nil}
+use Rattle.std.proofs.lemmas.Bool.{eqb-true, ltb-true, ltb-false, lt-ltb, le-ltb}
+use Rattle.std.proofs.lemmas.List.{append-nil, get_or-map, length-map}
 use Rattle.std.proofs.lemmas.List.Elements.{All-nil, All-cons, All-head, All-tail, All-push, All-weaker}
 use Rattle.nr_graphpick.specs.declared.Graph.{Graph}
 use Rattle.nr_graphpick.specs.declared.Graph.TheVariants.{One, Two}
 use Rattle.nr_graphpick.specs.Graph.{rows_of, cols_of}
 use Rattle.nr_shifttable.specs.declared.entry.Entry.{Entry}
 use Rattle.nr_shifttable.specs.declared.entry.Item.{Item}
+use Rattle.nr_shifttable.specs.declared.entry.KeptEntry.{KeptEntry}
 use Rattle.nr_shifttable.specs.declared.fault.TableFault.{TableFault}
 use Rattle.nr_shifttable.specs.declared.fault.TableFault.TheVariants.{Empty}
 use Rattle.nr_shifttable.specs.declared.fault.EntriesFault.TheVariants as fault
 use Rattle.nr_shifttable.specs.Accepted.{Entries, entry_place, with_entry, entries_for, table_of, Ascending, IsInRange, graph_checked, accepted, IsTable}
-use Rattle.nr_shifttable.specs.Items.{Apart, graph_eq}
-use Rattle.nr_shifttable.specs.Listed.{item_key, has_room, places_from, places_said, entries_said, item_in_graph, items_listed}
+use Rattle.nr_shifttable.specs.Items.{graph_eq}
+use Rattle.nr_shifttable.specs.Listed.{item_key, has_room, graph_number, kept_of, has_graph, item_of, is_within, places_from, places_said, entries_said, item_in_graph, items_listed, kept_listed}
 use Rattle.nr_shifttable.specs.Orders.{key_of}
 use Rattle.nr_graphpick.specs.Refusal.{◌>>=◌}
-use Rattle.nr_shifttable.proofs.Places.{keys-apart}
 use Rattle.nr_shifttable.proofs.ItemLaws.{both-true}
 use Rattle.nr_shifttable.proofs.Slices.{filter_within}
 
@@ -28,48 +28,66 @@ abbrev pub Ascend : ℕ → List Item → Type 0
 Ascend past [] = Unit {0}
 Ascend past (x ∷ xs) = (has_room x ≡ true) × (past ≤ item_key x) × Ascend (item_key x + 1) xs
 
--- so it is where nothing is said against their places, and only there
-pub said-ascend : (k past : ℕ) (items : List Item) → places_from k past items ≡ Ok tt → Ascend past items
+-- so it is where nothing is said against the places of entries, and only there
+pub said-ascend : (k past : ℕ) (es : List KeptEntry) → places_from k past es ≡ Ok tt → Ascend past (map item_of es)
 unfolding places_from
 said-ascend k past [] said = tt
-said-ascend k past (x ∷ xs) said = by (has_room x) (nat_lt (item_key x) past) refl refl said (said-ascend (k + 1) (item_key x + 1) xs)
+said-ascend k past (e ∷ es) said = by (is_within e) (nat_lt (item_key (item_of e)) past) refl refl said (said-ascend (k + 1) (item_key (item_of e) + 1) es)
   where
-    by : (room below : Bool) → has_room x ≡ room → nat_lt (item_key x) past ≡ below
-        → cond (not room) (Err (fault.Range k)) (cond below (Err (fault.Order k)) (places_from (k + 1) (item_key x + 1) xs)) ≡ Ok tt
-        → (places_from (k + 1) (item_key x + 1) xs ≡ Ok tt → Ascend (item_key x + 1) xs) → Ascend past (x ∷ xs)
+    by : (within below : Bool) → is_within e ≡ within → nat_lt (item_key (item_of e)) past ≡ below
+        → cond (not within) (Err (fault.Range k)) (cond below (Err (fault.Order k)) (places_from (k + 1) (item_key (item_of e) + 1) es)) ≡ Ok tt
+        → (places_from (k + 1) (item_key (item_of e) + 1) es ≡ Ok tt → Ascend (item_key (item_of e) + 1) (map item_of es)) → Ascend past (item_of e ∷ map item_of es)
     by false below a b said next = cc said
     by true true a b said next = cc said
-    by true false a b said next = (a, ltb-false (item_key x) past b, next said)
+    by true false a b said next = ((both-true (has_graph e) (has_room (item_of e)) a).1, ltb-false (item_key (item_of e)) past b, next said)
 
-pub ascend-said : (k past : ℕ) (items : List Item) → Ascend past items → places_from k past items ≡ Ok tt
+pub ascend-said : (k past : ℕ) (items : List Item) → Ascend past items → places_from k past (map kept_of items) ≡ Ok tt
 unfolding places_from
 ascend-said k past [] up = refl
-ascend-said k past (x ∷ xs) up =
-    let rest = ascend-said (k + 1) (item_key x + 1) xs up.2 in
-    let above = le-ltb (item_key x) past up.1 in
-    rw (up.0, above) rest
-
--- all of them from a key on
-ascend-all : (past : ℕ) (items : List Item) → Ascend past items → All (λ x. past ≤ item_key x) items
-ascend-all past [] up = All-nil (λ x. past ≤ item_key x)
-ascend-all past (x ∷ xs) up =
-    let first = up.1 in
-    All-cons (λ y. past ≤ item_key y) x xs first
-    (All-weaker (λ y. item_key x + 1 ≤ item_key y) (λ y. past ≤ item_key y) (λ y le. omega arith) xs (ascend-all (item_key x + 1) xs up.2))
-
--- so no two stand at one place
-pub ascend-apart : (past : ℕ) (items : List Item) → Ascend past items → Apart items
-ascend-apart past [] up = λ i j d less within. absurd (omega arith)
-ascend-apart past (x ∷ xs) up = pairs (ascend-all (item_key x + 1) xs up.2) (ascend-apart (item_key x + 1) xs up.2)
+ascend-said k past (x ∷ xs) up = by x.graph x.entry up (ascend-said (k + 1) (item_key x + 1) xs up.2)
   where
-    pairs : All (λ y. item_key x + 1 ≤ item_key y) xs → Apart xs → Apart (x ∷ xs)
-    pairs after rest zero zero d less within = absurd (omega arith)
-    pairs after rest zero (suc j) d less within =
-        let le = after j d (omega arith) in
-        let y : Item = get_or xs j d in
-        keys-apart x.graph y.graph x.entry.row y.entry.row x.entry.col y.entry.col (omega arith)
-    pairs after rest (suc i) zero d less within = absurd (omega arith)
-    pairs after rest (suc i) (suc j) d less within = rest i j d (omega arith) (omega arith)
+    by : (g : Graph) (e : Entry) → Ascend past (record { graph = g; entry = e } ∷ xs) → places_from (k + 1) (key_of g e.row e.col + 1) (map kept_of xs) ≡ Ok tt
+        → places_from k past (kept_of (record { graph = g; entry = e }) ∷ map kept_of xs) ≡ Ok tt
+    by One e up rest = let above = le-ltb (key_of One e.row e.col) past up.1 in rw (up.0, above) rest
+    by Two e up rest = let above = le-ltb (key_of Two e.row e.col) past up.1 in rw (up.0, above) rest
+
+-- an item is that of what is kept of it, and what is kept is that of its item, where its base graph is 1 or 2
+item-back : (g : Graph) (e : Entry) → item_of (kept_of (record { graph = g; entry = e })) ≡ record { graph = g; entry = e }
+item-back One e = refl
+item-back Two e = refl
+
+pub items-back : (xs : List Item) → map item_of (map kept_of xs) ≡ xs
+items-back [] = refl
+items-back (x ∷ xs) =
+    let first : item_of (kept_of x) ≡ x = item-back x.graph x.entry in
+    let rest : map item_of (map kept_of xs) ≡ xs = items-back xs in
+    cc
+
+kept-back : (e : KeptEntry) → has_graph e ≡ true → kept_of (item_of e) ≡ e
+kept-back e has = ap numbered (number (e.graph == 1) (e.graph == 2) refl refl has)
+  where
+    numbered : ℕ → KeptEntry
+    numbered = λ g. record { graph = g; entry = e.entry }
+
+    number : (one two : Bool) → (e.graph == 1) ≡ one → (e.graph == 2) ≡ two → (one || two) ≡ true → graph_number (cond one One Two) ≡ e.graph
+    number true two a b has = sym (eqb-true e.graph 1 a)
+    number false true a b has = sym (eqb-true e.graph 2 b)
+    number false false a b has = cc has
+
+all-back : (k past : ℕ) (es : List KeptEntry) → places_from k past es ≡ Ok tt → map kept_of (map item_of es) ≡ es
+unfolding places_from
+all-back k past [] said = refl
+all-back k past (e ∷ es) said = by (is_within e) (nat_lt (item_key (item_of e)) past) refl said (all-back (k + 1) (item_key (item_of e) + 1) es)
+  where
+    by : (within below : Bool) → is_within e ≡ within
+        → cond (not within) (Err (fault.Range k)) (cond below (Err (fault.Order k)) (places_from (k + 1) (item_key (item_of e) + 1) es)) ≡ Ok tt
+        → (places_from (k + 1) (item_key (item_of e) + 1) es ≡ Ok tt → map kept_of (map item_of es) ≡ es) → kept_of (item_of e) ∷ map kept_of (map item_of es) ≡ e ∷ es
+    by false below a said next = cc said
+    by true true a said next = cc said
+    by true false a said next =
+        let first : kept_of (item_of e) ≡ e = kept-back e (both-true (has_graph e) (has_room (item_of e)) a).0 in
+        let rest : map kept_of (map item_of es) ≡ es = next said in
+        cc
 
 -- an insertion past all entries goes behind them
 with_entry-last : (acc : List Entry) (e : Entry) → All (λ x. entry_place x < entry_place e) acc → with_entry acc e ≡ acc ++ e ∷ []
@@ -139,26 +157,57 @@ ones-first past (x ∷ xs) up = by x.graph x.entry up (ones-first (item_key x + 
     by One e up rest twos zero (suc j) d le lt is = refl
     by Two e up rest twos zero (suc j) d le lt is = let other = twos (omega arith) j d (omega arith) in absurd (apart (sym is ∙ other))
 
-module _ (items : List Item) (k : ℕ) (within : k ≤ length items) (point : IsPartitionPoint (λ x. graph_eq x.graph One ≡ true) (λ x. graph_eq x.graph One ≡ false) items k) where
-  -- where those of base graph 1 end, the items of both are parted
-  pub ones-are : map (λ i. i.entry) (take k items) ≡ entries_for One items
+-- entries that were kept are of base graph 1 by their number
+one-is : (e : KeptEntry) → graph_eq (item_of e).graph One ≡ (e.graph == 1)
+one-is e = by (e.graph == 1)
+  where
+    by : (one : Bool) → graph_eq (cond one One Two) One ≡ one
+    by true = refl
+    by false = refl
+
+pub kept-ones-first : (es : List KeptEntry) → Ascend 0 (map item_of es) → IsPartitionedBy (λ e. e.graph == 1) es
+kept-ones-first es up i j d le lt is =
+    let long = length-map es item_of in
+    let here : i < length es = omega (arith, le, lt) in
+    sym (one-is (get_or es i d))
+    ∙ ap (λ x. graph_eq x.graph One) (sym (get_or-map item_of es i d (item_of d) here))
+    ∙ ones-first 0 (map item_of es) up i j (item_of d) le (omega (arith, lt, long))
+    (ap (λ x. graph_eq x.graph One) (get_or-map item_of es j d (item_of d) lt) ∙ one-is (get_or es j d) ∙ is)
+
+ones-of : (es : List KeptEntry) → entries_for One (map item_of es) ≡ map (λ (e : KeptEntry). e.entry) (filter (λ e. e.graph == 1) es)
+ones-of [] = refl
+ones-of (e ∷ es) = by (e.graph == 1) (ones-of es)
+  where
+    by : (one : Bool) → entries_for One (map item_of es) ≡ map (λ (e : KeptEntry). e.entry) (filter (λ x. x.graph == 1) es)
+        → map (λ i. i.entry) (cond (graph_eq (cond one One Two) One) (item_in_graph (cond one One Two) e.entry ∷ filter (λ x. graph_eq x.graph One) (map item_of es)) (filter (λ x. graph_eq x.graph One) (map item_of es)))
+        ≡ map (λ (e : KeptEntry). e.entry) (cond one (e ∷ filter (λ x. x.graph == 1) es) (filter (λ x. x.graph == 1) es))
+    by true rest = ap (λ l. e.entry ∷ l) rest
+    by false rest = rest
+
+twos-of : (es : List KeptEntry) → entries_for Two (map item_of es) ≡ map (λ (e : KeptEntry). e.entry) (filter (λ e. not (e.graph == 1)) es)
+twos-of [] = refl
+twos-of (e ∷ es) = by (e.graph == 1) (twos-of es)
+  where
+    by : (one : Bool) → entries_for Two (map item_of es) ≡ map (λ (e : KeptEntry). e.entry) (filter (λ x. not (x.graph == 1)) es)
+        → map (λ i. i.entry) (cond (graph_eq (cond one One Two) Two) (item_in_graph (cond one One Two) e.entry ∷ filter (λ x. graph_eq x.graph Two) (map item_of es)) (filter (λ x. graph_eq x.graph Two) (map item_of es)))
+        ≡ map (λ (e : KeptEntry). e.entry) (cond (not one) (e ∷ filter (λ x. not (x.graph == 1)) es) (filter (λ x. not (x.graph == 1)) es))
+    by true rest = rest
+    by false rest = ap (λ l. e.entry ∷ l) rest
+
+module _ (es : List KeptEntry) (k : ℕ) (within : k ≤ length es) (point : IsPartitionPoint (λ e. (e.graph == 1) ≡ true) (λ e. (e.graph == 1) ≡ false) es k) where
+  -- where those of base graph 1 end, the entries of both are parted
+  pub ones-are : map (λ (e : KeptEntry). e.entry) (take k es) ≡ entries_for One (map item_of es)
   ones-are =
       let all : k ≡ k - 0 = omega arith in
-      ap (λ l. map (λ i. i.entry) l)
-      (ap (λ n. take n items) all ∙ filter_within (λ x. graph_eq x.graph One) items 0 k (omega arith) within (λ i d a b. absurd (omega arith)) point.0 point.1)
+      ap (map (λ (e : KeptEntry). e.entry))
+      (ap (λ n. take n es) all ∙ filter_within (λ e. e.graph == 1) es 0 k (omega arith) within (λ i d a b. absurd (omega arith)) point.0 point.1)
+      ∙ sym (ones-of es)
 
-  pub twos-are : map (λ i. i.entry) (take (length items - k) (drop k items)) ≡ entries_for Two items
-  twos-are = ap (λ l. map (λ i. i.entry) l)
-      (filter_within (λ x. graph_eq x.graph Two) items k (length items) within (omega arith)
-      (λ i d a b. not-two (get_or items i d).graph (point.0 i d a b)) (λ i d a b. two (get_or items i d).graph (point.1 i d a b)) (λ i d a b. absurd (omega arith)))
-    where
-      not-two : (g : Graph) → graph_eq g One ≡ true → graph_eq g Two ≡ false
-      not-two One e = refl
-      not-two Two e = cc
-
-      two : (g : Graph) → graph_eq g One ≡ false → graph_eq g Two ≡ true
-      two One e = cc
-      two Two e = refl
+  pub twos-are : map (λ (e : KeptEntry). e.entry) (take (length es - k) (drop k es)) ≡ entries_for Two (map item_of es)
+  twos-are = ap (map (λ (e : KeptEntry). e.entry))
+      (filter_within (λ e. not (e.graph == 1)) es k (length es) within (omega arith)
+      (λ i d a b. ap not (point.0 i d a b)) (λ i d a b. ap not (point.1 i d a b)) (λ i d a b. absurd (omega arith)))
+      ∙ sym (twos-of es)
 
 -- the entries of both base graphs, with their base graphs, are the items
 pub items-are : (past : ℕ) (items : List Item) → Ascend past items → map (item_in_graph One) (entries_for One items) ++ map (item_in_graph Two) (entries_for Two items) ≡ items
@@ -225,11 +274,10 @@ accepted-same t u e = by ((length t.one == 0) && (length t.two == 0)) (graph_che
     by false (Ok x) (Err d) e = cc e
     by false (Ok x) (Ok y) e = cc e
 
-pub said-apart : (items : List Item) → places_said items ≡ Ok tt → Apart items
-said-apart items said = ascend-apart 0 items (said-ascend 1 0 items said)
-
-pub kept-listed : (items : List Item) (t : Entries) → places_said items ≡ Ok tt → accepted (table_of items) ≡ Ok t → items_listed t ≡ items
-kept-listed items t said judged = ap items_listed (sym (accepted-same (table_of items) t judged)) ∙ ascend-listed items (said-ascend 1 0 items said)
+pub kept-listed : (es : List KeptEntry) (t : Entries) → places_said es ≡ Ok tt → accepted (table_of (map item_of es)) ≡ Ok t → kept_listed t ≡ es
+kept-listed es t said judged =
+    ap (map kept_of) (ap items_listed (sym (accepted-same (table_of (map item_of es)) t judged)) ∙ ascend-listed (map item_of es) (said-ascend 1 0 es said))
+    ∙ all-back 1 0 es said
 
 -- and back: the entries of a base graph in ascending order, with their base graph, ascend as items
 ascend-from : (low past : ℕ) (items : List Item) → low ≤ past → Ascend past items → Ascend low items
@@ -286,6 +334,6 @@ listed-table t table =
     let twos = ap (fold with_entry []) (twos-listed t.one t.two) ∙ fold-same 0 t.two table.two in
     λ i. record { one = ones i; two = twos i }
 
-pub listed-kept : (t : Entries) → IsTable t → entries_said (items_listed t) ≡ Ok t
+pub listed-kept : (t : Entries) → IsTable t → entries_said (kept_listed t) ≡ Ok t
 unfolding entries_said
-listed-kept t table = rw (ascend-said 1 0 (items_listed t) (listed-ascend t table), listed-table t table, table.accepted) refl
+listed-kept t table = rw (ascend-said 1 0 (items_listed t) (listed-ascend t table), items-back (items_listed t), listed-table t table, table.accepted) refl

@@ -1,11 +1,11 @@
-//! Tables of items that a caller kept, and a table's items by their numbers.
+//! Tables of entries that a caller kept, and a table's items by their numbers.
 
-use crate::entry::{Entry, Item};
+use crate::entry::{Entry, Item, KeptEntry};
 use crate::fault::{EntriesFault, TableFault};
 use crate::table::Table;
 use crate::table_tests::{add_core, add_extension, front, has_entries, item, of_one, practice};
 use nr_graphpick::Graph;
-use std::alloc::Global;
+use std::alloc::{AllocError, Global};
 use std::process::Abort;
 use std::test::Fail;
 
@@ -19,6 +19,23 @@ fn lists(rt: &impl Abort, table: &Table, items: &[Item]) {
     assert!(rt; table.item(n).is_none() && table.item(4_294_967_295).is_none());
 }
 
+/// Items, as a caller keeps them.
+pub(crate) fn kept(alloc: Global, items: &[Item]) -> Result<Vec<KeptEntry>, AllocError> {
+    let mut kept = Vec::new(alloc);
+    for item in items {
+        kept.push(KeptEntry::of(item))?;
+    }
+    Ok(kept)
+}
+
+/// The table of items, kept.
+pub(crate) fn table_of(alloc: Global, items: &[Item]) -> Result<Table, EntriesFault> {
+    match kept(alloc, items) {
+        Ok(entries) => Table::of_entries(alloc, &entries),
+        Err(AllocError) => Err(EntriesFault::Memory),
+    }
+}
+
 /// Makes a table of items, with so many entries of each base graph.
 fn keep(
     rt: &impl Abort,
@@ -27,7 +44,7 @@ fn keep(
     ones: u32,
     twos: u32,
 ) -> Result<(), EntriesFault> {
-    let table = Table::of_entries(alloc, items)?;
+    let table = table_of(alloc, items)?;
     has_entries(rt, &table, ones, twos);
     lists(rt, &table, items);
     Ok(())
@@ -77,7 +94,7 @@ fn keeps_both(rt: HostRuntime) -> Result<(), Fail> {
 /// That a table of both base graphs has this item at a number, or none.
 fn both_has(rt: &impl Abort, alloc: Global, n: u32, want: Option<Item>) -> Result<(), Fail> {
     let items = both(alloc)?;
-    let table = Table::of_entries(alloc, &items)?;
+    let table = table_of(alloc, &items)?;
     assert!(rt; table.item(n) == want, "item {n}");
     Ok(())
 }
@@ -103,7 +120,7 @@ fn items_by_number(rt: HostRuntime) -> Result<(), Fail> {
 
 /// Why a table of items is refused.
 fn fault_of(alloc: Global, items: &[Item]) -> Option<EntriesFault> {
-    Table::of_entries(alloc, items).err()
+    table_of(alloc, items).err()
 }
 
 /// An item of a base graph at a row and a column.
@@ -171,6 +188,16 @@ fn places_in_order(rt: HostRuntime) {
     ] {
         let want = EntriesFault::Table(TableFault::Core(graph));
         are_refused(&rt, rt.alloc(), first, second, want);
+    }
+}
+
+// A base graph is 1 or 2.
+#[test]
+fn refused_graphs(rt: HostRuntime) {
+    let good = KeptEntry::of(&item(0, 0, 0));
+    for graph in [0, 3, 65535] {
+        let fault = Table::of_entries(rt.alloc(), &[good, KeptEntry { graph, ..good }]).err();
+        assert!(rt; fault == Some(EntriesFault::Range(2)), "{graph}");
     }
 }
 

@@ -1,10 +1,14 @@
 //! Entries of a shift table, and items: entries with the base graph that they belong to.
 
+ghost use Rattle.std.specs.Prelude.{◌≡◌};
+ghost use Rattle.nr_shifttable.specs.Listed.{kept_of};
+
 use nr_graphpick::Graph;
 
 /// One entry of a base graph's shift table (TS 38.212 clause 5.3.2, Tables 5.3.2-2 and 5.3.2-3):
 /// the row and the column that it stands in, counted from 0, and its shift value for each
 /// lifting-size set 0..7.
+#[repr(C)]
 #[derive(Clone, Copy, Debug, PartialEq, Eq)]
 pub struct Entry {
     pub row: u16,
@@ -18,4 +22,31 @@ pub struct Entry {
 pub struct Item {
     pub graph: Graph,
     pub entry: Entry,
+}
+
+/// An entry as a caller keeps it, with the number of its base graph: 22 octets without padding, in the
+/// layout of C.
+#[repr(C)]
+#[derive(Clone, Copy, Debug, PartialEq, Eq)]
+pub struct KeptEntry {
+    /// The base graph: 1 or 2.
+    pub graph: u16,
+    /// The entry.
+    pub entry: Entry,
+}
+
+impl KeptEntry {
+    /// An item, as a caller keeps it.
+    pub fn of(item: &Item) -> KeptEntry
+        ensures { result ≡ kept_of item.now }
+    {
+        let graph = match item.graph {
+            Graph::One => 1,
+            Graph::Two => 2,
+        };
+        KeptEntry {
+            graph,
+            entry: item.entry,
+        }
+    }
 }

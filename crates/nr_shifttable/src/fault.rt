@@ -52,20 +52,21 @@ pub enum TableFault {
     Memory,
 }
 
-/// Why items that a caller kept are refused. Its text is the variant's name with the number that the
+/// Why entries that a caller kept are refused. Its text is the variant's name with the number that the
 /// variant carries, or the text of the table's fault.
 ///
-/// The items are judged one by one, each by `Range` and `Order` in this order; then their table by
+/// The entries are judged one by one, each by `Range` and `Order` in this order; then their table by
 /// `Table`. `Memory` comes where a growth is refused, and never in place of `Range` or `Order`.
 #[derive(Clone, Copy, Debug, PartialEq, Eq, Error)]
 pub enum EntriesFault {
-    /// The row or the column of the item of this number, from 1, is not one of its base graph.
+    /// The base graph of the entry of this number, from 1, is neither 1 nor 2, or has not its row or its
+    /// column.
     #[error("Range {0}")]
     Range(u32),
-    /// The item of this number, from 1, does not stand past the one before it.
+    /// The entry of this number, from 1, does not stand past the one before it.
     #[error("Order {0}")]
     Order(u32),
-    /// The table of the items is refused: `Empty`, `Core`, `Extension` or `MissingRow`.
+    /// The table of the entries is refused: `Empty`, `Core`, `Extension` or `MissingRow`.
     #[error("{0}")]
     Table(TableFault),
     /// A growth was refused.

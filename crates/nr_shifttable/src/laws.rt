@@ -18,7 +18,7 @@ pub fn tables_are_sound(table: &Table)
 }
 
 /// What is listed of a table by `Table::item`, as its items 0, 1 and so on, is accepted by
-/// `Table::of_entries`, unless memory is refused, and gives the same table.
+/// `Table::of_entries` as `KeptEntry::of` has it, unless memory is refused, and gives the same table.
 pub fn listed_are_kept()
     ensures { ListedAreKept }
 {}

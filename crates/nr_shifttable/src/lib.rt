@@ -32,7 +32,7 @@ mod table;
 #[cfg(test)]
 mod table_tests;
 
-pub use entry::{Entry, Item};
+pub use entry::{Entry, Item, KeptEntry};
 pub use fault::{EntriesFault, TableFault};
 pub use fields::{numeral, short_number, stripped};
 pub use records::Records;

@@ -1,36 +1,33 @@
-//! The places of items that a caller kept.
+//! The places of entries that a caller kept.
 
-ghost use Rattle.std.specs.Prelude.{◌≡◌, ◌-◌, ◌<◌, ◌≤◌, All, Ok, OnOk, drop, length, map, take};
-ghost use Rattle.std.specs.Bool.{OnTrue};
+ghost use Rattle.std.specs.Prelude.{◌≡◌, ◌-◌, ◌^◌, ◌<◌, ◌≤◌, All, IfSome, None, Ok, OnOk, Some, drop, if◌then◌else◌, length, map, take};
 ghost use Rattle.nr_graphpick.specs.declared.Graph.TheVariants.{One, Two};
 ghost use Rattle.nr_shifttable.specs.Accepted.{entries_for};
 ghost use Rattle.nr_shifttable.specs.Items.{IsInside};
-ghost use Rattle.nr_shifttable.specs.Listed.{has_room, places_from, places_said};
+ghost use Rattle.nr_shifttable.specs.Listed.{has_room, is_within, item_in_graph, item_key, item_of, places_from, places_said};
 
-use crate::entry::Item;
+use crate::entry::{Entry, KeptEntry};
 use crate::fault::EntriesFault;
 use crate::items::place_key;
 use nr_graphpick::Graph;
 
-/// Judges the places of items, item by item: each is within its base graph, and past the one before
-/// it.
+/// Judges the places of entries, one by one: each is within its base graph, and past the one before it.
 ///
 /// # Errors
 ///
-/// For the first item that has one, `Range` or `Order`, in this order, with its number from 1.
+/// For the first entry that has one, `Range` or `Order`, in this order, with its number from 1.
 #[tactic(auto, unfolding(crate::specs::Listed::places_from))]
-pub(crate) fn judge_places(items: &[Item]) -> Result<(), EntriesFault>
-    ensures said { result ≡ places_said items.now }
-    ensures inside { OnOk result (All IsInside items.now) }
+pub(crate) fn judge_places(entries: &[KeptEntry]) -> Result<(), EntriesFault>
+    ensures said { result ≡ places_said entries.now }
+    ensures inside { OnOk result (All (λ e. IsInside (item_of e)) entries.now) }
 {
     let mut number = 0;
     let mut past = 0;
-    for item in items {
+    for entry in entries {
         number += 1;
-        if !has_room(item) {
+        let Some(key) = key_within(entry) else {
             return Err(EntriesFault::Range(number));
-        }
-        let key = place_key(item.graph, item.entry.row, item.entry.col);
+        };
         if key < past {
             return Err(EntriesFault::Order(number));
         }
@@ -39,24 +36,45 @@ pub(crate) fn judge_places(items: &[Item]) -> Result<(), EntriesFault>
     Ok(())
 }
 
-/// How many of the items are of base graph 1. The items ascend, so that these are the first.
-pub(crate) fn ones_in(items: &[Item]) -> usize
-    requires { places_said items.now ≡ Ok tt }
-    ensures bound { result ≤ length items.now }
-    ensures ones { map (λ i. i.entry) (take result items.now) ≡ entries_for One items.now }
-    ensures twos { map (λ i. i.entry) (take (length items.now - result) (drop result items.now))
-        ≡ entries_for Two items.now }
+// The key of an entry's place, if its base graph is 1 or 2 and has its row and its column.
+fn key_within(kept: &KeptEntry) -> Option<u32>
+    ensures key { result
+        ≡ (if is_within kept.now then Some (item_key (item_of kept.now)) else None) }
+    ensures inside { IfSome result (λ key. IsInside (item_of kept.now)) }
+    ensures few { IfSome result (λ key. key < 2 ^ 24) }
 {
-    items.partition_point(|item| item.graph == Graph::One)
+    match kept.graph {
+        1 => key_in(Graph::One, &kept.entry),
+        2 => key_in(Graph::Two, &kept.entry),
+        _ => None,
+    }
 }
 
-// Whether an item's row and column are those of its base graph.
-fn has_room(item: &Item) -> bool
-    ensures test { result ≡ has_room item.now }
-    ensures inside { OnTrue result (IsInside item.now) }
+// The key of an entry's place in a base graph, if that has its row and its column.
+fn key_in(graph: Graph, entry: &Entry) -> Option<u32>
+    ensures key { let item = item_in_graph graph entry.now in result
+        ≡ (if has_room item then Some (item_key item) else None) }
+    ensures inside { IfSome result (λ key. IsInside (item_in_graph graph entry.now)) }
+    ensures few { IfSome result (λ key. key < 2 ^ 24) }
 {
-    values_fit(item.entry.values);
-    u32::from(item.entry.row) < item.graph.rows() && u32::from(item.entry.col) < item.graph.cols()
+    values_fit(entry.values);
+    if u32::from(entry.row) < graph.rows() && u32::from(entry.col) < graph.cols() {
+        Some(place_key(graph, entry.row, entry.col))
+    } else {
+        None
+    }
+}
+
+/// How many of the entries are of base graph 1. The entries ascend, so that these are the first.
+pub(crate) fn ones_in(entries: &[KeptEntry]) -> usize
+    requires { places_said entries.now ≡ Ok tt }
+    ensures bound { result ≤ length entries.now }
+    ensures ones { map (λ e. e.entry) (take result entries.now)
+        ≡ entries_for One (map item_of entries.now) }
+    ensures twos { map (λ e. e.entry) (take (length entries.now - result) (drop result entries.now))
+        ≡ entries_for Two (map item_of entries.now) }
+{
+    entries.partition_point(|entry| entry.graph == 1)
 }
 
 // That values are eight, each of 16 bits, as their type has them.

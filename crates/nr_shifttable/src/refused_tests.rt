@@ -2,6 +2,7 @@
 //! refused, and first makes the call again: where memory is there, the answer is the true one.
 //! `tests/refused-growths` refuses the growths, one after another.
 
+use crate::entries_tests::table_of;
 use crate::entry::Item;
 use crate::fault::{EntriesFault, TableFault};
 use crate::records::Records;
@@ -87,7 +88,7 @@ fn reads_a_table(rt: HostRuntime) -> Result<(), Fail> {
 
 // Makes a table of the items of a small one.
 fn keep(rt: &impl Abort, alloc: Global, items: &[Item]) -> Result<(), EntriesFault> {
-    let table = Table::of_entries(alloc, items)?;
+    let table = table_of(alloc, items)?;
     assert!(rt; table.entries(Graph::Two) == 47 && table.item(46) == Some(item(41, 51, 0)));
     Ok(())
 }

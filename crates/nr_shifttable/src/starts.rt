@@ -29,41 +29,34 @@ fn row_start(entries: &[Entry], from: usize, row: usize) -> usize
 }
 
 /// Of each row, how many entries stand in the rows before it, of entries in ascending order.
-pub(crate) fn row_starts(entries: &[Entry]) -> [usize; ROWS]
-    requires { Ascending 0 entries.now }
+pub(crate) fn row_starts(entries: &[Entry]) -> [u16; ROWS]
+    requires order { Ascending 0 entries.now }
+    requires few { length entries.now ≤ 3128 }
     ensures { AreRowStarts 47 entries.now result }
 {
     let mut starts = [0; ROWS];
     let mut start = 0;
     for row in 0..ROWS {
         start = row_start(entries, start, row);
-        starts[row] = start;
+        starts[row] = start as u16;
     }
     starts
 }
 
 /// The entries of a row.
-pub(crate) fn row_between<'a>(
-    entries: &'a [Entry],
-    starts: &[usize; ROWS],
-    row: usize,
-) -> &'a [Entry]
+pub(crate) fn row_between<'a>(entries: &'a [Entry], starts: &[u16; ROWS], row: usize) -> &'a [Entry]
     requires starts { AreRowStarts 47 entries.now starts.now }
     requires row { row + 1 < 47 }
     ensures { result.now ≡ row_of entries.now row }
 {
-    &entries[starts[row]..starts[row + 1]]
+    &entries[usize::from(starts[row])..usize::from(starts[row + 1])]
 }
 
 /// The entries of a column.
-pub(crate) fn col_between<'a>(
-    entries: &'a [Entry],
-    starts: &[usize; COLS],
-    col: usize,
-) -> &'a [Entry]
+pub(crate) fn col_between<'a>(entries: &'a [Entry], starts: &[u16; COLS], col: usize) -> &'a [Entry]
     requires starts { AreColumnStarts 69 entries.now starts.now }
     requires col { col + 1 < 69 }
     ensures { result.now ≡ column_of entries.now col }
 {
-    &entries[starts[col]..starts[col + 1]]
+    &entries[usize::from(starts[col])..usize::from(starts[col + 1])]
 }

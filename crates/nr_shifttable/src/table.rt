@@ -1,15 +1,15 @@
 //! The accepted table of shift values.
 
-ghost use Rattle.std.specs.Prelude.{◌≡◌, ◌↔◌, ◌⊎◌, ◌+◌, ◌^◌, ◌<◌, ◌≤◌, All, IfErr, IfOk, IfSome, IsErrOf, Ok, length, option_map, slice_get, slice_index};
+ghost use Rattle.std.specs.Prelude.{◌≡◌, ◌↔◌, ◌⊎◌, ◌+◌, ◌^◌, ◌<◌, ◌≤◌, All, IfErr, IfOk, IfSome, IsErrOf, Ok, length, map, option_map, slice_get, slice_index};
 ghost use Rattle.nr_shifttable.specs.Accepted.{entries_in, has_graph, row_of, column_of, value_at, TellsTable, table_of, table_said, accepted, ColumnsAscend, RowsAscend, IsInRange, IsTable};
 ghost use Rattle.nr_shifttable.specs.Items.{Apart, IsInside};
-ghost use Rattle.nr_shifttable.specs.Listed.{entries_said, items_listed, places_said};
+ghost use Rattle.nr_shifttable.specs.Listed.{entries_said, item_of, items_listed, kept_listed, places_said};
 ghost use Rattle.nr_shifttable.specs.Source.{KeepsCount, TellsFailure};
 ghost use Rattle.nr_graphpick.specs.declared.Graph.TheVariants.{One, Two};
 ghost use Rattle.nr_graphpick.specs.Refusal.{Gives};
 
 use crate::accept::check;
-use crate::entry::{Entry, Item};
+use crate::entry::{Entry, Item, KeptEntry};
 use crate::fault::{EntriesFault, TableFault};
 use crate::items::read_items;
 use crate::listed::{judge_places, ones_in};
@@ -93,26 +93,26 @@ impl Table {
         Table::from_items(alloc, &items)
     }
 
-    /// The table of items that a caller kept, judged: the entries of both base graphs in ascending
+    /// The table of entries that a caller kept, judged: the entries of both base graphs in ascending
     /// order, those of base graph 1 before those of base graph 2, and each graph's by row and then by
     /// column. `item` lists a table's.
     ///
     /// # Errors
     ///
-    /// For the first item that has one, `Range`, where its row or column is not one of its base graph,
-    /// or `Order`, where it does not stand past the item before it, in this order, with its number from
-    /// 1; then `Table` with `Empty`, where there is no item, or, for each base graph that has an entry,
-    /// base graph 1 first, with `Core`, `Extension` or `MissingRow`. `Memory` comes where a growth is
-    /// refused, and never in place of `Range` or `Order`.
+    /// For the first entry that has one, `Range`, where its base graph is neither 1 nor 2 or has not its
+    /// row or its column, or `Order`, where it does not stand past the entry before it, in this order, with
+    /// its number from 1; then `Table` with `Empty`, where there is no entry, or, for each base graph that
+    /// has an entry, base graph 1 first, with `Core`, `Extension` or `MissingRow`. `Memory` comes where a
+    /// growth is refused, and never in place of `Range` or `Order`.
     #[tactic(auto, unfolding(crate::specs::Listed::entries_said))]
-    pub fn of_entries(alloc: Global, items: &[Item]) -> Result<Table, EntriesFault>
+    pub fn of_entries(alloc: Global, entries: &[KeptEntry]) -> Result<Table, EntriesFault>
         ensures table { IfOk result IsTable }
-        ensures placed { IfErr (places_said items.now) (λ fault. IsErrOf result fault) }
-        ensures listed { IfOk result (λ t. items_listed t ≡ items.now) }
-        ensures said { Gives EntriesFault.Memory (λ t. t) result (entries_said items.now) }
+        ensures placed { IfErr (places_said entries.now) (λ fault. IsErrOf result fault) }
+        ensures listed { IfOk result (λ t. kept_listed t ≡ entries.now) }
+        ensures said { Gives EntriesFault.Memory (λ t. t) result (entries_said entries.now) }
     {
-        judge_places(items)?;
-        match Table::of_ascending(alloc, items) {
+        judge_places(entries)?;
+        match Table::of_ascending(alloc, entries) {
             Ok(table) => Ok(table),
             Err(TableFault::Memory) => Err(EntriesFault::Memory),
             Err(fault) => Err(EntriesFault::Table(fault)),
@@ -137,16 +137,17 @@ impl Table {
         Table::of_sorted(one, two)
     }
 
-    // The same of items that ascend, those of base graph 1 first, which need no sorting.
-    fn of_ascending(alloc: Global, items: &[Item]) -> Result<Table, TableFault>
-        requires ascending { places_said items.now ≡ Ok tt }
-        requires in_range { All IsInside items.now }
+    // The table of entries that ascend, those of base graph 1 first: they need no sorting.
+    fn of_ascending(alloc: Global, entries: &[KeptEntry]) -> Result<Table, TableFault>
+        requires ascending { places_said entries.now ≡ Ok tt }
+        requires in_range { All (λ e. IsInside (item_of e)) entries.now }
         ensures table { IfOk result IsTable }
-        ensures said { Gives TableFault.Memory (λ t. t) result (accepted (table_of items.now)) }
+        ensures said { Gives TableFault.Memory (λ t. t) result
+            (accepted (table_of (map item_of entries.now))) }
     {
-        let ones = ones_in(items);
-        let one = Sorted::of_ascending(alloc, &items[..ones])?;
-        let two = Sorted::of_ascending(alloc, &items[ones..])?;
+        let ones = ones_in(entries);
+        let one = Sorted::of_ascending(alloc, &entries[..ones])?;
+        let two = Sorted::of_ascending(alloc, &entries[ones..])?;
         Table::of_sorted(one, two)
     }
 
@@ -234,7 +235,7 @@ impl Table {
 
     /// The table's item of this number, from 0: its entries in ascending order, those of base graph 1
     /// before those of base graph 2, and each graph's by row and then by column. `None` past the last
-    /// one. `of_entries` makes the same table of all items.
+    /// one. `of_entries` makes the same table of all items, as `KeptEntry::of` has them.
     pub fn item(&self, n: u32) -> Option<Item>
         ensures table { IsTable self.now }
         ensures value { result ≡ slice_get (items_listed self.now) n }

@@ -1,10 +1,10 @@
-use Rattle.std.proofs.Common.{ap, ◌∙◌}
-use Rattle.nr_shifttable.specs.Listed.{items_listed}
+use Rattle.std.proofs.Common.{ap, ◌∙◌, Ok}
+use Rattle.nr_shifttable.specs.Listed.{kept_listed}
 use Rattle.nr_c.specs.Entries.{table_by}
-use Rattle.nr_c.proofs.Placed.{kept-listed}
+use Rattle.nr_c.proofs.Placed.{answered}
 use Rattle.nr_c.proofs.table.list.Goals as goal
 
 pub returns-clause-kept : goal.returns-clause-kept
 returns-clause-kept c = λ _.
     ap table_by c.write_entries.ensures
-    ∙ kept-listed (items_listed c.args.table.now) c.args.table.now (c.listed_are_kept.ensures c.args.table.now c.tables_are_sound.ensures)
+    ∙ answered (kept_listed c.args.table.now) (Ok c.args.table.now) (c.listed_are_kept.ensures c.args.table.now c.tables_are_sound.ensures)
