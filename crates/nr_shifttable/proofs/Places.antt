@@ -14,7 +14,7 @@ rows-apart : (n r s c d : ℕ) → n + 68 * r + c < n + 68 * s + d → ((r == s)
 rows-apart n r s c d lt = grind (arith, nat_tests)
 
 -- items at one place have one key
-pub keys-apart : (g h : Graph) (r s c d : ℕ) → key_of g r c < key_of h s d → (graph_eq g h && (r == s) && (c == d)) ≡ false
+keys-apart : (g h : Graph) (r s c d : ℕ) → key_of g r c < key_of h s d → (graph_eq g h && (r == s) && (c == d)) ≡ false
 keys-apart One One r s c d lt = rows-apart 0 r s c d lt
 keys-apart One Two r s c d lt = refl
 keys-apart Two One r s c d lt = refl

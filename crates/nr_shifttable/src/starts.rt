@@ -1,4 +1,5 @@
-//! Where the entries of each row and of each column begin.
+//! Where the entries of each row and of each column begin. A base graph has 46 rows and 68 columns
+//! at most, 3,128 places, so that a start has 16 bits.
 
 ghost use Rattle.std.specs.Prelude.{◌≡◌, ◌+◌, ◌<◌, ◌≤◌, length};
 ghost use Rattle.std.specs.List.{AllWithin};
