@@ -7,7 +7,7 @@ use Rattle.std.proofs.lemmas.Slice.Zip.{get_or-zip, length-zip}
 use Rattle.nr_bitvec.specs.Bit.{bit}
 use Rattle.nr_blockdesk.specs.ReceiverLaws.{arrived_bit}
 use Rattle.nr_blockdesk.specs.declared.heard.Heard.{Heard}
-use Rattle.example_link.specs.Delivery.{arrived_at, heard_of, is_lost, marks}
+use Rattle.example_link.specs.Delivery.{arrived_at, heard_in, is_lost, marks}
 use Rattle.example_link.specs.declared.delivery.Attempt.{Attempt}
 
 -- a place for each bit
@@ -32,6 +32,6 @@ heard-more x sent m old new lost b value whole inside so_far pushed is at_mark a
 
 -- all of them
 pub heard-all : (x : Attempt) (sent : List Bool) (m : ℕ) (heard : List Heard) → length sent ≡ x.tx.g → length sent ≤ m
-    → heard ≡ map arrived_at (take m (zip (marks x) sent)) → heard ≡ heard_of x sent
+    → heard ≡ map arrived_at (take m (zip (marks x) sent)) → heard ≡ heard_in x sent
 heard-all x sent m heard whole done so_far =
     so_far ∙ ap (map arrived_at) (take_all m (zip (marks x) sent) (omega (arith, long x sent whole)))

@@ -20,7 +20,7 @@ use Rattle.nr_blockdesk.specs.declared.heard.Heard.{Heard}
 use Rattle.nr_blockdesk.specs.declared.outcome.Outcome.{Outcome}
 use Rattle.nr_blockdesk.specs.declared.settings.Settings.{Settings}
 use Rattle.nr_blockdesk.specs.declared.tx.Tx.{Tx}
-use Rattle.example_link.specs.Delivery.{arrivals, heard_of, is_lost, marked, round_said, taken_said}
+use Rattle.example_link.specs.Delivery.{arrivals, heard_in, is_lost, with_marks, round_said, taken_said}
 use Rattle.example_link.specs.declared.delivery.Attempt.{Attempt}
 
 -- process p has heard a list of receptions over a link since it began, and this is their outcome
@@ -96,14 +96,14 @@ taken-stops link (y ∷ xs) ys x e all is =
 
 -- what arrives in one attempt
 abbrev pub arrival : Link → List Bool → Attempt → Reception
-arrival link block x = reception x.tx (heard_of x (sent link x.tx block))
+arrival link block x = reception x.tx (heard_in x (sent link x.tx block))
 
 -- what arrives in the attempts so far, and in one more, and in those that are left
 pub arrivals-more : (link : Link) (block : List Bool) (xs : List Attempt) (i : ℕ) (d : Attempt) → i < length xs → arrivals link block (take (i + 1) xs) ≡ arrivals link block (take i xs) ++ arrival link block (get_or xs i d) ∷ []
 arrivals-more link block xs i d inside =
     ap (arrivals link block) (take_more xs i d inside)
-    ∙ ap (arrived link block) (map-append marked (take i xs) (get_or xs i d ∷ []))
-    ∙ map-append _ (map marked (take i xs)) (marked (get_or xs i d) ∷ [])
+    ∙ ap (arrived link block) (map-append with_marks (take i xs) (get_or xs i d ∷ []))
+    ∙ map-append _ (map with_marks (take i xs)) (with_marks (get_or xs i d) ∷ [])
 
 arrivals-split : (link : Link) (block : List Bool) (xs : List Attempt) (i : ℕ) (d : Attempt) → i < length xs → (ys : List Reception) × (arrivals link block xs ≡ arrivals link block (take i xs) ++ arrival link block (get_or xs i d) ∷ ys)
 arrivals-split link block [] i d inside = absurd (omega (arith, inside))
@@ -174,9 +174,9 @@ sent-bits all link tx own block bits same said =
     (ap length both.1 ∙ all link tx own both.0, both.1 ∙ ap (sent link tx) same)
 
 -- what a process takes up is what arrives
-pub taken-up : AcceptedSendAll → (link : Link) (x : Attempt) (own block bits : List Bool) (heard places : List Heard) → own ≡ block → sent_said link x.tx own ≡ Ok bits → heard ≡ heard_of x bits → places ≡ heard → reception x.tx places ≡ arrival link block x
+pub taken-up : AcceptedSendAll → (link : Link) (x : Attempt) (own block bits : List Bool) (heard places : List Heard) → own ≡ block → sent_said link x.tx own ≡ Ok bits → heard ≡ heard_in x bits → places ≡ heard → reception x.tx places ≡ arrival link block x
 taken-up all link x own block bits heard places same said is read =
-    ap (reception x.tx) (read ∙ is ∙ ap (heard_of x) (sent-bits all link x.tx own block bits same said).1)
+    ap (reception x.tx) (read ∙ is ∙ ap (heard_in x) (sent-bits all link x.tx own block bits same said).1)
 
 unsent-of : (r : Result (List ℕ) DeskFault) (bits : List Bool) (e : DeskFault) → ◌≡◌ {A = Result (List Bool) DeskFault} (r >>= λ lengths. Ok bits) (Err e) → r ≡ Err e
 unsent-of (Ok lengths) bits e is = absurd (cc)
@@ -202,16 +202,16 @@ module _ (table : Entries) (settings : Settings) (block : List Bool) (attempts :
   said-unsent own e is inside had (inr refused) =
       said-untaken e is inside had (inr (unsent link (arrival link block (get_or attempts i d)) own e refused))
 
--- accepted attempts are marked transmissions that both ends accept
+-- accepted attempts are with_marks transmissions that both ends accept
 marked-one : (link : Link) (x : Reception) → IsAccepted link x → IsOk (tx_said link x.tx)
 marked-one link x accepted =
     let said = bind-ok (tx_said link x.tx) _ accepted.0 accepted.1 in
     subst IsOk (sym said.1) refl
 
-marked-all : (link : Link) (block : List Bool) (xs : List Attempt) → All (IsAccepted link) (arrivals link block xs) → All (IsMarked link) (map marked xs)
+marked-all : (link : Link) (block : List Bool) (xs : List Attempt) → All (IsAccepted link) (arrivals link block xs) → All (IsMarked link) (map with_marks xs)
 marked-all link block [] all = All-nil (IsMarked link)
 marked-all link block (x ∷ xs) all =
-    All-cons (IsMarked link) (marked x) (map marked xs)
+    All-cons (IsMarked link) (with_marks x) (map with_marks xs)
     (marked-one link (arrival link block x) (All-head (IsAccepted link) (arrival link block x) (arrivals link block xs) all), length-map-range_with_len (is_lost x) 0 x.tx.g)
     (marked-all link block xs (All-tail (IsAccepted link) (arrival link block x) (arrivals link block xs) all))
 
@@ -222,11 +222,11 @@ module _ (table : Entries) (settings : Settings) (block : List Bool) (attempts :
       said-linked table settings block attempts sender.link (Ok tt) (sender-made table settings block sender made).0 (taken-all sender.link (arrivals sender.link block attempts) had.heard.accepted)
       ∙ ap Ok (sym had.outcome)
 
-  safe-all : EndsAreSafe → IsTable table → IsSafeOverErasures sender.link block (map marked attempts)
+  safe-all : EndsAreSafe → IsTable table → IsSafeOverErasures sender.link block (map with_marks attempts)
   safe-all ends accepted =
       let both = sender-made table settings block sender made in
-      subst (λ own. IsSafeOverErasures sender.link own (map marked attempts)) both.1
-      (ends table settings block sender sender.link (map marked attempts) accepted made both.0 (marked-all sender.link block attempts had.heard.accepted)).safe
+      subst (λ own. IsSafeOverErasures sender.link own (map with_marks attempts)) both.1
+      (ends table settings block sender sender.link (map with_marks attempts) accepted made both.0 (marked-all sender.link block attempts had.heard.accepted)).safe
 
   pub sent-one : EndsAreSafe → IsTable table → (x : List Bool) → verdict answer ≡ delivered x → x ≡ block
   sent-one ends accepted x told = (safe-all ends accepted).sent_one x (sym had.outcome ∙ told)

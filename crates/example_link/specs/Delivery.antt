@@ -22,20 +22,20 @@ abbrev pub marks : Attempt → List Bool
 marks x = map (is_lost x) (range_with_len 0 x.tx.g)
 
 -- a transmission, and its marks
-abbrev pub marked : Attempt → Tx × List Bool
-marked x = (x.tx, marks x)
+abbrev pub with_marks : Attempt → Tx × List Bool
+with_marks x = (x.tx, marks x)
 
 -- what arrives of a bit, with its place's mark
 abbrev pub arrived_at : Bool × Bool → Heard
 arrived_at at = arrived_bit at.0 at.1
 
 -- what arrives of the bits that are sent
-abbrev pub heard_of : Attempt → List Bool → List Heard
-heard_of x sent = map arrived_at (zip (marks x) sent)
+abbrev pub heard_in : Attempt → List Bool → List Heard
+heard_in x sent = map arrived_at (zip (marks x) sent)
 
 -- what arrives of a transport block in all attempts
 abbrev pub arrivals : Link → List Bool → List Attempt → List Reception
-arrivals link block attempts = arrived link block (map marked attempts)
+arrivals link block attempts = arrived link block (map with_marks attempts)
 
 -- nothing, where a receiver takes all of these, or the first fault
 unfoldable pub taken_said : Link → List Reception → Result (Unit {0}) DeskFault

@@ -6,7 +6,7 @@ ghost use Rattle.nr_shifttable.specs.Accepted.{IsTable};
 ghost use Rattle.nr_blockdesk.specs.Outcome.{contradiction, delivered};
 ghost use Rattle.nr_blockdesk.specs.ReceiverLaws.{arrived_bit};
 ghost use Rattle.nr_blockdesk.specs.Receiving.{verdict};
-ghost use Rattle.example_link.specs.Delivery.{heard_of, is_lost, round_said};
+ghost use Rattle.example_link.specs.Delivery.{heard_in, is_lost, round_said};
 
 use nr_bitvec::Bits;
 use nr_blockdesk::{
@@ -83,7 +83,7 @@ pub fn deliver(
 // What arrives of the bits sent, place by place.
 fn through_burst(alloc: Global, attempt: &Attempt, sent: &Bits) -> Result<Vec<Heard>, AllocError>
     requires { length sent.now.items ≡ attempt.now.tx.g }
-    ensures { IfOk result (λ heard. heard.items ≡ heard_of attempt.now sent.now.items) }
+    ensures { IfOk result (λ heard. heard.items ≡ heard_in attempt.now sent.now.items) }
 {
     let count = sent.len();
     let mut heard = Vec::with_capacity(alloc, count)?;

@@ -23,9 +23,9 @@ refused_by (job_faults.Help text) = Help text
 refused_by job_faults.Memory = Refused faults.Memory
 
 -- how a command's answer ends
-abbrev pub ended_by : {T : Type 0} → Result T RunFault → Ending
-ended_by (Ok done) = Done
-ended_by (Err fault) = Refused fault
+abbrev pub ending_by : {T : Type 0} → Result T RunFault → Ending
+ending_by (Ok done) = Done
+ending_by (Err fault) = Refused fault
 
 -- how it ends where so many puts of its help failed: help that cannot be written is a refusal
 abbrev pub ended_at : Ending → ℕ → Ending

@@ -53,9 +53,9 @@ impl From<JobFault> for Ending {
 
 impl From<Result<(), RunFault>> for Ending {
     ghost use Rattle.std.specs.Prelude.{◌≡◌};
-    ghost use Rattle.linksim.specs.Ending.{ended_by};
+    ghost use Rattle.linksim.specs.Ending.{ending_by};
 
-    ghost from_gives = { λ outcome ending. ending ≡ ended_by outcome };
+    ghost from_gives = { λ outcome ending. ending ≡ ending_by outcome };
 
     fn from(outcome: Result<(), RunFault>) -> Ending {
         match outcome {

@@ -14,7 +14,7 @@ use Rattle.nr_shifttable.specs.declared.fault.EntriesFault.TheVariants as kept
 use Rattle.nr_shifttable.specs.declared.fault.TableFault.{TableFault}
 use Rattle.nr_shifttable.specs.Accepted.{Entries, IsTable, accepted, table_of}
 use Rattle.nr_shifttable.proofs.Order.{entries-few}
-use Rattle.nr_shifttable.specs.Listed.{entries_said, is_within, item_key, item_of, items_listed, kept_of, places_from, places_said}
+use Rattle.nr_shifttable.specs.Listed.{entries_said, is_placed, item_key, item_kept, items_listed, kept_of, places_from, places_said}
 use Rattle.nr_blockdesk.specs.Link.{demanded}
 use Rattle.nr_c.specs.Entries.{are_placed, fault_of, table_by}
 use Rattle.nr_shifttable.specs.declared.entry.KeptEntry.{KeptEntry}
@@ -37,7 +37,7 @@ places-fault : (n past : ℕ) (es : List KeptEntry) (f : EntriesFault) → place
 unfolding places_from
 places-fault n past [] f is = cc
 places-fault n past (e ∷ es) f is =
-    step-fault (is_within e) (nat_lt (item_key (item_of e)) past) n (places_from (n + 1) (item_key (item_of e) + 1) es) f (places-fault (n + 1) (item_key (item_of e) + 1) es f) is
+    step-fault (is_placed e) (nat_lt (item_key (item_kept e)) past) n (places_from (n + 1) (item_key (item_kept e) + 1) es) f (places-fault (n + 1) (item_key (item_kept e) + 1) es f) is
 
 -- how many items a table lists
 pub listed-length : (t : Entries) → length (items_listed t) ≡ length t.one + length t.two

@@ -12,7 +12,7 @@ use Rattle.nr_blockdesk.specs.declared.fault.DeskFault.TheVariants as desk
 use Rattle.nr_c.specs.Crossing.{digit}
 use Rattle.nr_c.specs.Entries.{table_by}
 use Rattle.nr_c.specs.Numbers.{planned_said}
-use Rattle.nr_c.specs.Statuses.{status_of}
+use Rattle.nr_c.specs.Statuses.{fault_number}
 use Rattle.nr_c.specs.declared.coded.Coded.{Coded}
 use Rattle.nr_shifttable.specs.declared.entry.KeptEntry.{KeptEntry}
 use Rattle.nr_c.specs.declared.fault.Fault.{Fault}
@@ -70,4 +70,4 @@ pub record AreCoded (c : Codeword) (octets : List ℕ) : Type 0 where
 -- What a call leaves in a room for d: its octets, where it answers 0. Where it does not, the room is as it was.
 abbrev pub Codes : ℕ → List ℕ → List ℕ → Result Codeword Fault → Type 0
 Codes status old new (Ok c) = ((status ≡ 0) × AreCoded c new) ⊎ ((status ≡ 1) × (new ≡ old))
-Codes status old new (Err e) = ((status ≡ status_of e) ⊎ (status ≡ 1)) × (new ≡ old)
+Codes status old new (Err e) = ((status ≡ fault_number e) ⊎ (status ≡ 1)) × (new ≡ old)

@@ -9,8 +9,8 @@ use Rattle.nr_c.specs.declared.crossing.NrSettings.{NrSettings}
 use Rattle.nr_c.specs.declared.crossing.NrTx.{NrTx}
 
 -- settings: a limit of 0 is none
-abbrev pub settings_of : NrSettings → Settings
-settings_of s = record { rate2048 = s.rate2048; lbrm = if s.lbrm == 0 then None else Some s.lbrm }
+abbrev pub settings_in : NrSettings → Settings
+settings_in s = record { rate2048 = s.rate2048; lbrm = if s.lbrm == 0 then None else Some s.lbrm }
 
 -- a transmission: every code block is scheduled where `some` is 0
 abbrev pub tx_of : NrTx → Tx

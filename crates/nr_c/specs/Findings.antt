@@ -8,7 +8,7 @@ use Rattle.nr_blockdesk.specs.Link.{Link}
 use Rattle.nr_blockdesk.specs.Outcome.{Verdict, contradiction, delivered, left, open_still, outcome_of}
 use Rattle.nr_blockdesk.specs.Receiving.{verdict}
 use Rattle.nr_c.specs.Crossing.{AreOctets}
-use Rattle.nr_c.specs.Statuses.{status_of}
+use Rattle.nr_c.specs.Statuses.{fault_number}
 use Rattle.nr_c.specs.declared.fault.Fault.{Fault}
 use Rattle.nr_c.specs.declared.findings.Found.{Found}
 use Rattle.nr_c.specs.declared.findings.Room.{Room}
@@ -71,7 +71,7 @@ IsHandedUp (delivered block) old new = AreOctets block new
 IsHandedUp contradiction old new = new ≡ old
 
 -- what is found stands in a caller's places
-pub record IsWritten (f : Findings) (old new : Places) : Type 0 where
+pub record AreWritten (f : Findings) (old new : Places) : Type 0 where
   pub outcomes : new.outcomes ≡ f.outcomes
   pub left : new.left ≡ f.left
   pub block : IsHandedUp f.last old.block new.block
@@ -79,5 +79,5 @@ pub record IsWritten (f : Findings) (old new : Places) : Type 0 where
 -- What a call that receives leaves in its caller's places: what is found, where it answers 0. Where it does not, they are as
 -- they were.
 abbrev pub Decides : ℕ → Places → Places → Result Findings Fault → Type 0
-Decides status old new (Ok f) = ((status ≡ 0) × IsWritten f old new) ⊎ ((status ≡ 1) × (new ≡ old))
-Decides status old new (Err e) = ((status ≡ status_of e) ⊎ (status ≡ 1)) × (new ≡ old)
+Decides status old new (Ok f) = ((status ≡ 0) × AreWritten f old new) ⊎ ((status ≡ 1) × (new ≡ old))
+Decides status old new (Err e) = ((status ≡ fault_number e) ⊎ (status ≡ 1)) × (new ≡ old)

@@ -10,7 +10,7 @@ use Rattle.nr_blockdesk.specs.declared.settings.Settings.{Settings}
 use Rattle.nr_blockdesk.specs.declared.tx.Tx.{Tx}
 use Rattle.nr_c.specs.Crossing.{AreBits}
 use Rattle.nr_c.specs.Entries.{table_by}
-use Rattle.nr_c.specs.Statuses.{status_of}
+use Rattle.nr_c.specs.Statuses.{fault_number}
 use Rattle.nr_shifttable.specs.declared.entry.KeptEntry.{KeptEntry}
 use Rattle.nr_c.specs.declared.fault.Fault.{Fault}
 use Rattle.nr_c.specs.declared.fault.Fault.TheVariants as fault
@@ -23,17 +23,17 @@ send_by table settings octets tx = do
   with_fault fault.Desk (sent_said sender.link tx sender.block)
 
 -- the same, by a shift table's entries
-unfoldable pub send_said : List KeptEntry → Settings → List ℕ → Tx → Result (List Bool) Fault
-send_said entries settings octets tx = table_by entries >>= λ table. send_by table settings octets tx
+unfoldable pub send_call_said : List KeptEntry → Settings → List ℕ → Tx → Result (List Bool) Fault
+send_call_said entries settings octets tx = table_by entries >>= λ table. send_by table settings octets tx
 
 -- the same, where there is room for so many
 abbrev pub send_into_said : List KeptEntry → Settings → List ℕ → Tx → ℕ → Result (List Bool) Fault
 send_into_said entries settings octets tx room = do
-  bits ← send_said entries settings octets tx
+  bits ← send_call_said entries settings octets tx
   fits ← demanded fault.Room (length bits == room)
   Ok bits
 
 -- What a call leaves in a room for bits: them, where it answers 0. Where it does not, the room is as it was.
 abbrev pub Answers : ℕ → List ℕ → List ℕ → Result (List Bool) Fault → Type 0
 Answers status old new (Ok bits) = ((status ≡ 0) × AreBits bits new) ⊎ ((status ≡ 1) × (new ≡ old))
-Answers status old new (Err e) = ((status ≡ status_of e) ⊎ (status ≡ 1)) × (new ≡ old)
+Answers status old new (Err e) = ((status ≡ fault_number e) ⊎ (status ≡ 1)) × (new ≡ old)

@@ -60,22 +60,22 @@ desk_status (desk.Rm e) = rate_status e
 desk_status desk.Length = 56
 
 -- of any call
-abbrev pub status_of : Fault → ℕ
-status_of fault.Memory = 1
-status_of fault.Room = 2
-status_of fault.Many = 3
-status_of fault.Poly = 4
-status_of fault.Bit = 5
-status_of fault.Entries = 31
-status_of (fault.Table e) = table_status e
-status_of (fault.Desk e) = desk_status e
+abbrev pub fault_number : Fault → ℕ
+fault_number fault.Memory = 1
+fault_number fault.Room = 2
+fault_number fault.Many = 3
+fault_number fault.Poly = 4
+fault_number fault.Bit = 5
+fault_number fault.Entries = 31
+fault_number (fault.Table e) = table_status e
+fault_number (fault.Desk e) = desk_status e
 
 -- What a call that takes no memory leaves in its place: the answer, where it answers 0. Where it does not, it is as it was.
-abbrev pub Tells : {X : Type 0} → ℕ → X → X → Result X Fault → Type 0
-Tells status old new (Ok x) = (status ≡ 0) × (new ≡ x)
-Tells status old new (Err e) = (status ≡ status_of e) × (new ≡ old)
+abbrev pub TellsStatus : {X : Type 0} → ℕ → X → X → Result X Fault → Type 0
+TellsStatus status old new (Ok x) = (status ≡ 0) × (new ≡ x)
+TellsStatus status old new (Err e) = (status ≡ fault_number e) × (new ≡ old)
 
 -- the same of a call that may want memory where nothing refuses it
 abbrev pub Leaves : {X : Type 0} → ℕ → X → X → Result X Fault → Type 0
 Leaves status old new (Ok x) = ((status ≡ 0) × (new ≡ x)) ⊎ ((status ≡ 1) × (new ≡ old))
-Leaves status old new (Err e) = (status ≡ status_of e) × (new ≡ old)
+Leaves status old new (Err e) = (status ≡ fault_number e) × (new ≡ old)

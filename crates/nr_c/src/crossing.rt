@@ -2,7 +2,7 @@
 
 ghost use Rattle.std.specs.Prelude.{◌≡◌, ℕ, ◌*◌, ◌<◌, ◌≤◌, ◌^◌, length, slice_index_or};
 ghost use Rattle.std.specs.Int.{bit_at};
-ghost use Rattle.nr_c.specs.Crossing.{AreBits, AreOctets, digit, settings_of, tx_of};
+ghost use Rattle.nr_c.specs.Crossing.{AreBits, AreOctets, digit, settings_in, tx_of};
 
 use nr_bitvec::Bits;
 use nr_blockdesk::{Settings, Tx};
@@ -25,7 +25,7 @@ pub struct NrSettings {
 impl NrSettings {
     // The settings that these are.
     pub(crate) fn settings(&self) -> Settings
-        ensures { result ≡ settings_of self.now }
+        ensures { result ≡ settings_in self.now }
     {
         let lbrm = if self.lbrm == 0 {
             None

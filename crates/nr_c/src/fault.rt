@@ -1,7 +1,7 @@
 //! Why a call is refused, and the number that it answers then.
 
 ghost use Rattle.std.specs.Prelude.{◌≡◌};
-ghost use Rattle.nr_c.specs.Statuses.{block_status, desk_status, plan_status, rate_status, status_of, table_status};
+ghost use Rattle.nr_c.specs.Statuses.{block_status, desk_status, plan_status, rate_status, fault_number, table_status};
 
 use nr_blockdesk::DeskFault;
 use nr_graphpick::PickFault;
@@ -34,7 +34,7 @@ pub enum Fault {
 impl Fault {
     // The number of the fault, as it is answered to C.
     pub(crate) fn status(self) -> u32
-        ensures { result ≡ status_of self }
+        ensures { result ≡ fault_number self }
     {
         match self {
             Fault::Memory => 1,

@@ -2,7 +2,7 @@
 
 ghost use Rattle.std.specs.Prelude.{◌≡◌, true};
 ghost use Rattle.nr_blockdesk.specs.Receiving.{verdict};
-ghost use Rattle.nr_c.specs.Findings.{IsWritten, block_fits, findings_of, has_room, outcome_number, places, room_in};
+ghost use Rattle.nr_c.specs.Findings.{AreWritten, block_fits, findings_of, has_room, outcome_number, places, room_in};
 
 use crate::crossing::write_octets;
 use nr_blockdesk::Outcome;
@@ -38,7 +38,7 @@ impl Found {
     pub(crate) fn write(&self, outcomes: &mut [u32], left: &mut [u32], block: &mut [u8])
         requires { has_room (room_in (places outcomes.old left.old block.old))
             (findings_of self.now) ≡ true }
-        ensures { IsWritten (findings_of self.now) (places outcomes.old left.old block.old)
+        ensures { AreWritten (findings_of self.now) (places outcomes.old left.old block.old)
             (places outcomes.new left.new block.new) }
     {
         outcomes.copy_from_slice(&self.outcomes);

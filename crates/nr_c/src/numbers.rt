@@ -4,7 +4,7 @@ ghost use Rattle.std.specs.Prelude.{◌≡◌, IfOk, MatchResult, Ok, Err};
 ghost use Rattle.nr_crcattach.specs.Attachment.{attached_length};
 ghost use Rattle.nr_segment.specs.CodeBlock.{numbers};
 ghost use Rattle.nr_c.specs.Numbers.{crc_said, plan_said, planned, planned_said, poly_of, shown};
-ghost use Rattle.nr_c.specs.Statuses.{Leaves, Tells};
+ghost use Rattle.nr_c.specs.Statuses.{Leaves, TellsStatus};
 
 use crate::fault::Fault;
 use crate::table::graph_number;
@@ -76,7 +76,7 @@ impl NrPlan {
 /// to 2048; 45 `Uneven`, where the code blocks would not have equally many bits. `out` is as it was then.
 #[unsafe(no_mangle)]
 pub extern "C" fn nr_plan(rate2048: u32, a: u32, out: &mut NrPlan) -> u32
-    ensures { Tells result out.old out.new (plan_said rate2048 a) }
+    ensures { TellsStatus result out.old out.new (plan_said rate2048 a) }
 {
     match plan_on(rate2048, a) {
         Ok(plan) => {

@@ -1,9 +1,9 @@
 //! How a transmission shares its bits out to the code blocks, and the circular buffer that they are selected from.
 
 ghost use Rattle.std.specs.Prelude.{◌≡◌, length, IfOk, MatchResult, Ok, Err};
-ghost use Rattle.nr_c.specs.Crossing.{settings_of, tx_of};
+ghost use Rattle.nr_c.specs.Crossing.{settings_in, tx_of};
 ghost use Rattle.nr_c.specs.Rates.{buffer_told, shares_into_said, shares_said};
-ghost use Rattle.nr_c.specs.Statuses.{Tells};
+ghost use Rattle.nr_c.specs.Statuses.{TellsStatus};
 
 use crate::crossing::{NrSettings, NrTx};
 use crate::fault::Fault;
@@ -34,7 +34,7 @@ pub struct NrBuffer {
 /// transport block is scheduled; 2 `Room`, where `out` does not have C entries. `out` is as it was then.
 #[unsafe(no_mangle)]
 pub extern "C" fn nr_lengths(rate2048: u32, a: u32, tx: &NrTx, out: &mut [u32]) -> u32
-    ensures { Tells result out.old out.new
+    ensures { TellsStatus result out.old out.new
         (shares_into_said rate2048 a (tx_of tx.now) (length out.old)) }
 {
     match shares_into(rate2048, a, &tx.tx(), out.len()) {
@@ -92,7 +92,7 @@ fn shares(rate2048: u32, a: u32, tx: &Tx) -> Result<ArrayVec<u32, MOST_BLOCKS>, 
 /// keeps no bit; 50 `Rv`, where `rv` is above 3. `out` is as it was then.
 #[unsafe(no_mangle)]
 pub extern "C" fn nr_buffer(settings: &NrSettings, a: u32, rv: u32, out: &mut NrBuffer) -> u32
-    ensures { Tells result out.old out.new (buffer_told (settings_of settings.now) a rv) }
+    ensures { TellsStatus result out.old out.new (buffer_told (settings_in settings.now) a rv) }
 {
     match buffer_on(settings.settings(), a, rv) {
         Ok(buffer) => {

@@ -8,7 +8,7 @@ ghost use Rattle.nr_blockdesk.specs.Heard.{IsRecordOf};
 ghost use Rattle.nr_blockdesk.specs.Link.{IsLink, link_said};
 ghost use Rattle.nr_blockdesk.specs.Outcome.{outcome_of};
 ghost use Rattle.nr_blockdesk.specs.Receiving.{RefusesAs, verdict};
-ghost use Rattle.nr_c.specs.Crossing.{settings_of, tx_of};
+ghost use Rattle.nr_c.specs.Crossing.{settings_in, tx_of};
 ghost use Rattle.nr_c.specs.Entries.{are_placed};
 ghost use Rattle.nr_c.specs.Findings.{Decides, findings_of, has_room, lefts, outcome_number, outcomes_of, places, room_in};
 ghost use Rattle.nr_c.specs.Receiving.{heard_octet, heard_said, one_more_said, receive_by, receive_into_said, receive_said};
@@ -56,7 +56,7 @@ pub extern "C" fn nr_receive(
 ) -> u32
     ensures said { Decides result (places outcomes.old left.old block.old)
         (places outcomes.new left.new block.new)
-        (receive_into_said table.now (settings_of settings.now) a txs.now heard.now
+        (receive_into_said table.now (settings_in settings.now) a txs.now heard.now
         (room_in (places outcomes.old left.old block.old))) }
     ensures many { 256 < length txs.now → result ≡ 3 }
     ensures placed { length txs.now ≤ 256 → are_placed table.now ≡ false → result ≡ 31 }

@@ -6,9 +6,9 @@ ghost use Rattle.nr_graphpick.specs.Refusal.{Gives, with_fault};
 ghost use Rattle.nr_blockdesk.specs.Link.{demanded};
 ghost use Rattle.nr_blockdesk.specs.Sent.{sending_said, sent_said};
 ghost use Rattle.nr_blockdesk.specs.declared.fault.DeskFault.TheVariants as desk;
-ghost use Rattle.nr_c.specs.Crossing.{settings_of, tx_of};
+ghost use Rattle.nr_c.specs.Crossing.{settings_in, tx_of};
 ghost use Rattle.nr_c.specs.Entries.{are_placed};
-ghost use Rattle.nr_c.specs.Sending.{Answers, send_by, send_into_said, send_said};
+ghost use Rattle.nr_c.specs.Sending.{Answers, send_by, send_into_said, send_call_said};
 
 use crate::crossing::{NrSettings, NrTx, write_bits};
 use crate::entries::{NrEntry, table_by};
@@ -41,7 +41,7 @@ pub extern "C" fn nr_send(
     out: &mut [u8],
 ) -> u32
     ensures said { Answers result out.old out.new (send_into_said table.now
-        (settings_of settings.now) block.now (tx_of tx.now) (length out.old)) }
+        (settings_in settings.now) block.now (tx_of tx.now) (length out.old)) }
     ensures placed { are_placed table.now ≡ false → result ≡ 31 }
 {
     match send_into(
@@ -82,7 +82,7 @@ fn send_into(
 }
 
 // The bits of a transmission.
-#[tactic(auto, unfolding(crate::specs::Sending::send_said))]
+#[tactic(auto, unfolding(crate::specs::Sending::send_call_said))]
 fn send(
     alloc: Global,
     table: &[NrEntry],
@@ -91,7 +91,7 @@ fn send(
     tx: &Tx,
 ) -> Result<Bits, Fault>
     ensures said { Gives Fault.Memory (λ bits. bits.items) result
-        (send_said table.now settings block.now tx.now) }
+        (send_call_said table.now settings block.now tx.now) }
     ensures placed { are_placed table.now ≡ false → result ≡ Err Fault.Entries }
 {
     let table = table_by(alloc, table)?;

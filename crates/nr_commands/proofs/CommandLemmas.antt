@@ -1,6 +1,6 @@
 -- What commands answer, step by step.
 use Rattle.std.proofs.Common.{◌≡◌, ◌≢◌, ℕ, ◌⊎◌, inl, inr, Result, Ok, Err, IsOkAnd, IsErr, List, ap, sym, ◌∙◌, refl, subst, Option}
-use Rattle.nr_commands.specs.Command.{Delivers, IsOfBlock, Writes}
+use Rattle.nr_commands.specs.Command.{Delivers, IsBlockFault, Writes}
 use Rattle.nr_files.specs.Reading.{FailsAs}
 use Rattle.nr_graphpick.specs.Refusal.{with_fault}
 use Rattle.nr_commands.proofs.WrittenLemmas.{writes_refused}
@@ -30,12 +30,12 @@ delivers-refused {X} old r exit e said is same unput given =
     subst (λ (s : Result X RunFault). Delivers old old s said) (sym (is ∙ ap Err same)) (delivers-err X old e said unput given)
 
 -- a fault of a transport block is no other fault
-pub of_block-other : (e told : RunFault) → IsOfBlock e → (IsOfBlock told → ⊥) → e ≢ told
-of_block-other e told is other same = other (subst IsOfBlock same is)
+pub of_block-other : (e told : RunFault) → IsBlockFault e → (IsBlockFault told → ⊥) → e ≢ told
+of_block-other e told is other same = other (subst IsBlockFault same is)
 
-pub of_block-seen : {X E : Type 0} (r : Result X E) (seen : E → RunFault) (e : RunFault) → ((x : E) → IsOfBlock (seen x)) → with_fault seen r ≡ Err e → IsOfBlock e
+pub of_block-seen : {X E : Type 0} (r : Result X E) (seen : E → RunFault) (e : RunFault) → ((x : E) → IsBlockFault (seen x)) → with_fault seen r ≡ Err e → IsBlockFault e
 of_block-seen (Ok x) seen e all is = absurd (cc)
-of_block-seen (Err x) seen e all is = let same : seen x ≡ e = cc in subst IsOfBlock same (all x)
+of_block-seen (Err x) seen e all is = let same : seen x ≡ e = cc in subst IsBlockFault same (all x)
 
 -- a call that writes has no other fault than Write and Memory
 pub writes-told : {X : Type 0} (old new : Option (List ℕ)) (r : Result X RunFault) (said : Result (List ℕ) RunFault) (told : RunFault) (before after : ℕ) → IsOkAnd said (λ text. Writes old new r text) → told ≢ Write → told ≢ Memory → after ≡ before → FailsAs told r before after

@@ -31,6 +31,6 @@ Judges (Ok done) said = IsOk said
 Judges (Err e) said = said ≡ Err e
 
 -- the fault is that of a transport block
-abbrev pub IsOfBlock : RunFault → Type 0
-IsOfBlock (fault.Desk number e) = Unit {0}
-IsOfBlock e = ⊥
+abbrev pub IsBlockFault : RunFault → Type 0
+IsBlockFault (fault.Desk number e) = Unit {0}
+IsBlockFault e = ⊥

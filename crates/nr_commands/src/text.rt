@@ -8,7 +8,7 @@ ghost use Rattle.nr_segment.specs.Plan.{plan_of};
 ghost use Rattle.nr_graphpick.specs.Refusal.{with_fault};
 ghost use Rattle.nr_files.specs.Blocks.{IsBlockLength};
 ghost use Rattle.nr_files.specs.Reading.{FailsAs};
-ghost use Rattle.nr_commands.specs.Command.{IsOfBlock, Judges, Writes};
+ghost use Rattle.nr_commands.specs.Command.{IsBlockFault, Judges, Writes};
 ghost use Rattle.nr_commands.specs.CutText.{planned_lines, block_lines, lines_from};
 
 use crate::cut_lines::{attached_line, block_line, code_line};
@@ -67,7 +67,7 @@ fn plan_for(number: u32, graph: Graph, b: u32) -> Result<Plan, RunFault>
 fn judge_block(rate2048: u32, number: u32, octets: &[u8]) -> Result<(), RunFault>
     requires { IsBlockLength (length octets.now) }
     ensures said { Judges result (block_lines rate2048 number octets.now) }
-    ensures of_block { IfErr result IsOfBlock }
+    ensures of_block { IfErr result IsBlockFault }
 {
     attachment_lengthens();
     let a = 8 * octets.len() as u32;
@@ -84,7 +84,7 @@ pub fn judge(rate2048: u32, blocks: &[Vec<u8>]) -> Result<(), RunFault>
     requires few { length blocks.now ≤ 256 }
     requires sizes { All (λ block. IsBlockLength (length block.items)) blocks.now }
     ensures said { Judges result (lines_from rate2048 1 (map (λ block. block.items) blocks.now)) }
-    ensures of_block { IfErr result IsOfBlock }
+    ensures of_block { IfErr result IsBlockFault }
 {
     for (index, block) in blocks.iter().enumerate() {
         judge_block(rate2048, index as u32 + 1, block)?;

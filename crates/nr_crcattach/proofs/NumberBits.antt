@@ -1,11 +1,12 @@
 -- The bits of a number, in both orders.
-use Rattle.std.proofs.Common.{◌≡◌, ℕ, ◌+◌, ◌*◌, ◌/◌, ◌%◌, ◌^◌, ◌<◌, ◌≤◌, ◌==◌, zero, suc, Bool, false, List, [], ◌∷◌, ◌++◌, length, take, drop, get_or, refl, sym, ◌∙◌, ap, arith, append_assoc, append-nil}
+use Rattle.std.proofs.Common.{◌≡◌, ℕ, ◌+◌, ◌*◌, ◌/◌, ◌%◌, ◌^◌, ◌<◌, ◌≤◌, ◌==◌, zero, suc, Bool, false, List, [], ◌∷◌, ◌++◌, length, map, take, drop, get_or, refl, sym, ◌∙◌, ap, arith, append_assoc, append-nil}
 use Rattle.std.specs.Int.{bit_at, reverse_bits_onto}
+use Rattle.std.specs.List.{range_with_len}
 use Rattle.std.proofs.lemmas.List.{drop_more}
 use Rattle.std.proofs.lemmas.Nat.{shr-shr}
 use Rattle.std.proofs.lemmas.Nat.Bits.{bit_at_cat_low, bit_at_lowest}
+use Rattle.nr_bitvec.specs.BitList.{low_first}
 use Rattle.nr_crcattach.specs.Crc.{high_first}
-use Rattle.nr_crcattach.specs.Octets.{low_first}
 
 -- the higher bits stand before the lower ones
 pub high_first-split : (j k v : ℕ) → high_first (j + k) v ≡ high_first j (v / 2 ^ k) ++ high_first k v
@@ -37,6 +38,21 @@ high_first-last j a b is_digit =
     ∙ ap (λ v. high_first j v ++ high_first 1 (a * 2 + b)) up
     ∙ ap (λ d. high_first j a ++ (d == 1) ∷ []) low
 
+-- from the second bit on a number's bits are those of its half
+low_bits-half : (n a v : ℕ) → map (λ j. bit_at v j == 1) (range_with_len (a + 1) n) ≡ map (λ j. bit_at (v / 2) j == 1) (range_with_len a n)
+low_bits-half zero a v = refl
+low_bits-half (suc n) a v =
+    let half : v / 2 ≡ v / 2 ^ 1 = omega arith in
+    let next : 1 + a ≡ a + 1 = omega arith in
+    let same : bit_at (v / 2) a ≡ bit_at v (a + 1) = ap (λ q. q % 2) (ap (λ m. m / 2 ^ a) half ∙ shr-shr v 1 a ∙ ap (λ k. v / 2 ^ k) next) in
+    ap (λ b. (b == 1) ∷ map (λ j. bit_at v j == 1) (range_with_len (a + 1 + 1) n)) (sym same)
+    ∙ ap (λ bits. (bit_at (v / 2) a == 1) ∷ bits) (low_bits-half n (a + 1) v)
+
+-- the lowest bit stands first, and behind it those of the half
+low_first-suc : (n v : ℕ) → low_first (suc n) v ≡ (bit_at v 0 == 1) ∷ low_first n (v / 2)
+unfolding low_first
+low_first-suc n v = ap (λ bits. (bit_at v 0 == 1) ∷ bits) (low_bits-half n 0 v)
+
 -- bits taken lowest first and put behind others are the number's turned round
 pub high_first-reversed : (j k n a : ℕ) → high_first (j + k) (reverse_bits_onto k n a) ≡ high_first j a ++ low_first k n
 unfolding reverse_bits_onto low_first
@@ -50,6 +66,7 @@ high_first-reversed j (suc k) n a =
     ∙ high_first-reversed (j + 1) k (n / 2) (a * 2 + n % 2)
     ∙ ap (λ bits. bits ++ low_first k (n / 2)) last
     ∙ append_assoc (high_first j a) ((bit_at n 0 == 1) ∷ []) (low_first k (n / 2))
+    ∙ ap (λ bits. high_first j a ++ bits) (sym (low_first-suc k n))
 
 -- n bits of a word that stand in a list from a place on
 low_first-listed : (n j at word : ℕ) (bits : List Bool) → ((i : ℕ) → i < 64 → (bit_at word i == 1) ≡ get_or bits (at + i) false) → j + n ≤ 64 → at + (j + n) ≤ length bits
@@ -65,7 +82,7 @@ low_first-listed (suc n) j at word bits same short inside =
     ap (low_first n) down ∙ low_first-listed n (j + 1) at word bits same (omega arith) (omega arith) ∙ ap (λ m. take n (drop m bits)) (sym next) in
     let both : (bit_at (word / 2 ^ j) 0 == 1) ∷ low_first n (word / 2 ^ j / 2) ≡ get_or bits (at + j) false ∷ take n (drop (at + j + 1) bits) =
     ap (λ b. b ∷ low_first n (word / 2 ^ j / 2)) first ∙ ap (λ r. get_or bits (at + j) false ∷ r) rest in
-    both ∙ ap (take (suc n)) (sym (drop_more bits (at + j) false (omega arith)))
+    low_first-suc n (word / 2 ^ j) ∙ both ∙ ap (take (suc n)) (sym (drop_more bits (at + j) false (omega arith)))
 
 -- the bits of a window are those of the list
 pub low_first-window : (at word : ℕ) (bits : List Bool) → ((i : ℕ) → i < 64 → (bit_at word i == 1) ≡ get_or bits (at + i) false) → at + 64 ≤ length bits

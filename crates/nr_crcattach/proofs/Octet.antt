@@ -5,9 +5,10 @@ use Rattle.std.proofs.lemmas.List.FromFn.{get_or-map-range_with_len}
 use Rattle.std.proofs.lemmas.Nat.{and_mask, mod_below, pow_pos, shl-shr, shl_whole, shr-shr, shr_below, shr_split, xor_lt}
 use Rattle.std.proofs.lemmas.Nat.Bits.{bit_at-lt, bit_at_xor}
 use lib.Bits.{xor_self, xor_zero_l, xor_zero_r}
+use Rattle.nr_bitvec.specs.BitList.{low_first}
 use Rattle.nr_crcattach.specs.declared.Poly.{Poly}
 use Rattle.nr_crcattach.specs.Crc.{degree, times_d, rho, residue, high_first}
-use Rattle.nr_crcattach.specs.Octets.{Continues, low_first, octet_residues, octet_tables}
+use Rattle.nr_crcattach.specs.Octets.{Continues, octet_residues, octet_tables}
 use Rattle.nr_crcattach.proofs.Check.{length-high_first, residue-own}
 use Rattle.nr_crcattach.proofs.Generators.{degree-le}
 use Rattle.nr_crcattach.proofs.NumberBits.{high_first-low, high_first-reversed, high_first-split}

@@ -1,14 +1,8 @@
 -- A check by octets and words.
-use Rattle.std.specs.Prelude.{◌≡◌, ℕ, ◌+◌, ◌*◌, ◌/◌, ◌==◌, zero, suc, ◌++◌, Bool, List, [], ◌∷◌, map}
-use Rattle.std.specs.Int.{bit_at}
+use Rattle.std.specs.Prelude.{◌≡◌, ℕ, ◌+◌, ◌*◌, ◌++◌, Bool, List, map}
 use Rattle.std.specs.List.{range_with_len}
 use Rattle.nr_crcattach.specs.declared.Poly.{Poly}
 use Rattle.nr_crcattach.specs.Crc.{crc_of, degree, high_first, residue}
-
--- the n lowest bits of a number, lowest first
-unfoldable pub low_first : ℕ → ℕ → List Bool
-low_first zero v = []
-low_first (suc n) v = (bit_at v 0 == 1) ∷ low_first n (v / 2)
 
 -- the remainder of each octet times D^(L + s), in the order of the octets' numbers
 unfoldable pub octet_residues : Poly → ℕ → List ℕ

@@ -1,8 +1,9 @@
 //! A check 64 bits at a turn, by the remainders of their eight octets.
 
 ghost use Rattle.std.specs.Prelude.{◌≡◌, ◌<◌, ◌^◌};
+ghost use Rattle.nr_bitvec.specs.BitList.{low_first};
 ghost use Rattle.nr_crcattach.specs.Crc.{degree, high_first};
-ghost use Rattle.nr_crcattach.specs.Octets.{Continues, low_first};
+ghost use Rattle.nr_crcattach.specs.Octets.{Continues};
 ghost use Rattle.nr_crcattach.specs.declared.Poly.{Poly};
 
 use crate::Poly;

@@ -11,7 +11,7 @@ use Rattle.nr_shifttable.specs.Records.{Record, records_of}
 use Rattle.nr_files.specs.PlaceLists.{below}
 use Rattle.nr_files.specs.Columns.{has_column, is_schedule_header, is_width}
 use Rattle.nr_files.specs.Rounds.{round_of}
-use Rattle.nr_files.specs.Schedule.{EachGoesOn, GoesOn, IsPlaced, Timetable, block_in, erasure_at, flip_at, fresh_at, fresh_block, is_of_block, mask_at, number_at, process_at, schedule_of, schedule_said, transmission_of, transmissions_from}
+use Rattle.nr_files.specs.Schedule.{EachGoesOn, GoesOn, IsPlaced, Timetable, block_in, erasure_at, flip_at, fresh_at, fresh_block, is_of_block, mask_at, number_in_field, process_at, schedule_of, schedule_said, transmission_of, transmissions_from}
 use Rattle.nr_files.specs.declared.schedule.ScheduleFault.{ScheduleFault}
 use Rattle.nr_files.specs.declared.schedule.ScheduleFault.TheVariants as fault
 use Rattle.nr_files.specs.declared.schedule.Transmission.{Transmission}
@@ -97,11 +97,11 @@ transmission_of-in blocks width k before r few =
     holds_if _ (not (length r == width)) _ _ (λ other. tt) (λ same.
     holds_if _ (nat_lt 4097 k) _ _ (λ many. tt) (λ last.
     let long : length r ≡ width = grind (arith, nat_tests) in
-    holds_then _ (number_at k r (codes "block")) _ (λ number number_is.
-    holds_then _ (number_at k r (codes "rv")) _ (λ rv rv_is.
-    holds_then _ (number_at k r (codes "g")) _ (λ g g_is.
-    holds_then _ (number_at k r (codes "qm")) _ (λ qm qm_is.
-    holds_then _ (number_at k r (codes "nl")) _ (λ nl nl_is.
+    holds_then _ (number_in_field k r (codes "block")) _ (λ number number_is.
+    holds_then _ (number_in_field k r (codes "rv")) _ (λ rv rv_is.
+    holds_then _ (number_in_field k r (codes "g")) _ (λ g g_is.
+    holds_then _ (number_in_field k r (codes "qm")) _ (λ qm qm_is.
+    holds_then _ (number_in_field k r (codes "nl")) _ (λ nl nl_is.
     holds_then _ (block_in k blocks number) _ (λ block block_is.
     holds_then _ (erasure_at k r) _ (λ erasure erasure_is.
     holds_then _ (flip_at k r) _ (λ flip flip_is.

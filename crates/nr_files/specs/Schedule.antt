@@ -23,8 +23,8 @@ said_or without read None = Ok without
 said_or without read (Some text) = read text
 
 -- a number of 32 bits, in at most ten digits
-abbrev pub number_at : ℕ → Record → List ℕ → Result ℕ ScheduleFault
-number_at k r name =
+abbrev pub number_in_field : ℕ → Record → List ℕ → Result ℕ ScheduleFault
+number_in_field k r name =
     or_fault (fault.Number k) (option_and_then (λ text. below 4294967296 (short_number text)) (field r name))
 
 -- the number of one of the blocks, from 1
@@ -76,11 +76,11 @@ transmission_of blocks width k before r =
     if not (length r == width) then Err (fault.Csv k)
     else if nat_lt 4097 k then Err fault.TooMany
     else do
-      number ← number_at k r (codes "block")
-      rv ← number_at k r (codes "rv")
-      g ← number_at k r (codes "g")
-      qm ← number_at k r (codes "qm")
-      nl ← number_at k r (codes "nl")
+      number ← number_in_field k r (codes "block")
+      rv ← number_in_field k r (codes "rv")
+      g ← number_in_field k r (codes "g")
+      qm ← number_in_field k r (codes "qm")
+      nl ← number_in_field k r (codes "nl")
       block ← block_in k blocks number
       erasure ← erasure_at k r
       flip ← flip_at k r

@@ -5,9 +5,9 @@ use Rattle.nr_shifttable.specs.Accepted.{Entries, table_said}
 use Rattle.nr_shifttable.specs.declared.fault.TableFault.{TableFault}
 use Rattle.nr_shifttable.specs.declared.fault.TableFault.TheVariants as table_fault
 use Rattle.nr_files.specs.Blocks.{blocks_said}
-use Rattle.nr_commands.specs.Command.{IsOfBlock, Writes}
+use Rattle.nr_commands.specs.Command.{IsBlockFault, Writes}
 use Rattle.nr_commands.specs.Faults.{blocks_refusal, schedule_refusal, settings_refusal, table_refusal}
-use Rattle.nr_linkcommands.specs.Inputs.{AreSaid, Given, HasNoFault, HaveNoFault, IsFoundIn, OfSaid, Says, senders_from}
+use Rattle.nr_linkcommands.specs.Inputs.{AreInputsOf, Given, HasNoFault, HaveNoFault, IsFoundIn, OfSaid, Says, senders_from}
 use Rattle.nr_files.specs.Schedule.{schedule_said}
 use Rattle.nr_files.specs.Settings.{settings_said}
 use Rattle.nr_files.specs.declared.blocks.BlocksFault.{BlocksFault}
@@ -58,7 +58,7 @@ found_schedule blocks e t s b d old new fails before said = λ other.
     (says (schedule_said (length blocks)) schedule_fault.Memory e d (λ is. cc) (said (kept schedule_fault.Read e old new other fails)))
 
 -- files that were read have no fault
-pub none_found : (given : Given) (t s b d : Option (List ℕ)) → AreSaid given t s b d → HaveNoFault t s b d
+pub none_found : (given : Given) (t s b d : Option (List ℕ)) → AreInputsOf given t s b d → HaveNoFault t s b d
 none_found given t s b d are = record {
   table = no_fault table_said given.table t are.table;
   settings = no_fault settings_said given.settings s are.settings;
@@ -68,7 +68,7 @@ none_found given t s b d are = record {
 }
 
 -- the fault of a transport block
-pub found_block : (given : Given) (e : RunFault) (t s b d : Option (List ℕ)) → AreSaid given t s b d → (e ≢ faults.Memory → IsOfBlock e) → (e ≡ faults.Memory) ⊎ (senders_from given.table given.settings 1 given.blocks ≡ Err e) → IsFoundIn e t s b d
+pub found_block : (given : Given) (e : RunFault) (t s b d : Option (List ℕ)) → AreInputsOf given t s b d → (e ≢ faults.Memory → IsBlockFault e) → (e ≡ faults.Memory) ⊎ (senders_from given.table given.settings 1 given.blocks ≡ Err e) → IsFoundIn e t s b d
 found_block given faults.Memory t s b d are of_block said = tt
 found_block given (faults.Desk n e) t s b d are of_block said =
     let refused : senders_from given.table given.settings 1 given.blocks ≡ Err (faults.Desk n e) = ⊎_elim (λ is. absurd (cc)) (λ same. same) said in (
@@ -80,7 +80,7 @@ found_block given (faults.Desk n e) t s b d are of_block said =
 found_block given e t s b d are of_block said = absurd (of_block (λ is. cc))
 
 -- the fault of a call that writes, once the files were read
-pub found_written : {X : Type 0} (r : Result X RunFault) (old new : Option (List ℕ)) (text : List ℕ) (given : Given) (t s b d : Option (List ℕ)) → AreSaid given t s b d → Writes old new r text → IfErr r (λ e. IsFoundIn e t s b d)
+pub found_written : {X : Type 0} (r : Result X RunFault) (old new : Option (List ℕ)) (text : List ℕ) (given : Given) (t s b d : Option (List ℕ)) → AreInputsOf given t s b d → Writes old new r text → IfErr r (λ e. IsFoundIn e t s b d)
 found_written (Ok x) old new text given t s b d are writes = tt
 found_written (Err faults.Write) old new text given t s b d are writes = none_found given t s b d are
 found_written (Err faults.Memory) old new text given t s b d are writes = tt
@@ -91,6 +91,6 @@ pub found_err : {X : Type 0} (r : Result X RunFault) (exit e : RunFault) (t s b 
 found_err r exit e t s b d is same found = rw (is, same) found
 
 -- what holds where an answer is Ok
-pub sound_ok : {X E : Type 0} (r : Result X E) (given : Given) (t s b d : Option (List ℕ)) → AreSaid given t s b d → IfOk r (λ x. HaveNoFault t s b d)
+pub sound_ok : {X E : Type 0} (r : Result X E) (given : Given) (t s b d : Option (List ℕ)) → AreInputsOf given t s b d → IfOk r (λ x. HaveNoFault t s b d)
 sound_ok (Ok x) given t s b d are = none_found given t s b d are
 sound_ok (Err e) given t s b d are = tt

@@ -4,7 +4,7 @@ use Rattle.nr_graphpick.specs.Refusal.{◌>>=◌}
 use Rattle.nr_blockdesk.specs.Sent.{Sending}
 use Rattle.nr_files.specs.Reading.{FailsAs}
 use Rattle.nr_files.specs.Schedule.{Timetable}
-use Rattle.nr_commands.specs.Command.{Delivers, IsOfBlock, Writes}
+use Rattle.nr_commands.specs.Command.{Delivers, IsBlockFault, Writes}
 use Rattle.nr_commands.specs.declared.fault.RunFault.{RunFault}
 use Rattle.nr_commands.specs.declared.fault.RunFault.TheVariants.{Memory, Write}
 use Rattle.nr_commands.proofs.CommandLemmas.{delivers-refused, writes-told}
@@ -41,7 +41,7 @@ pub refused-text : (X : Type 0) (old : Option (List ℕ)) (e : RunFault) (said :
 refused-text X old e said unput given = delivers-refused {X = X} old (Err e) e e said refl refl unput given
 
 -- no file failed where a transport block is refused, or once they were read
-pub unread-block : (X : Type 0) (e told : RunFault) (old new : ℕ) → (e ≢ Memory → IsOfBlock e) → told ≢ Memory → (IsOfBlock told → ⊥) → new ≡ old → FailsAs {X = X} told (Err e) old new
+pub unread-block : (X : Type 0) (e told : RunFault) (old new : ℕ) → (e ≢ Memory → IsBlockFault e) → told ≢ Memory → (IsBlockFault told → ⊥) → new ≡ old → FailsAs {X = X} told (Err e) old new
 unread-block X e told old new of_block memory other same = inr (of_block_or_memory e told of_block memory other, same)
 
 pub unread-written : {X : Type 0} (before after : Option (List ℕ)) (r : Result X RunFault) (text : List ℕ) (told : RunFault) (old new : ℕ) → Writes before after r text → told ≢ Write → told ≢ Memory → new ≡ old → FailsAs told r old new

@@ -7,7 +7,7 @@ use Rattle.nr_shifttable.specs.Accepted.{Entries, table_said}
 use Rattle.nr_shifttable.specs.declared.fault.TableFault.{TableFault}
 use Rattle.nr_shifttable.specs.declared.fault.TableFault.TheVariants as table_fault
 use Rattle.nr_files.specs.Blocks.{blocks_said}
-use Rattle.nr_commands.specs.Command.{IsOfBlock, Writes}
+use Rattle.nr_commands.specs.Command.{IsBlockFault, Writes}
 use Rattle.nr_commands.specs.Faults.{blocks_refusal, schedule_refusal, settings_refusal, table_refusal}
 use Rattle.nr_linkcommands.specs.Inputs.{Given, HasNoFault, IsFirst, LeavesLater, OfFour, files_said, inputs_said, sender_said, senders_from}
 use Rattle.nr_files.specs.Schedule.{Timetable, schedule_said}
@@ -165,9 +165,9 @@ pub inputs_said-ready : (t s b d : List ℕ) (given : Given) (senders : List Sen
 inputs_said-ready t s b d given senders first is = inputs_senders t s b d given (Ok senders) first is
 
 -- a fault of a transport block is no other fault but want of memory
-pub of_block_or_memory : (e told : RunFault) → (e ≢ faults.Memory → IsOfBlock e) → told ≢ faults.Memory → (IsOfBlock told → ⊥) → e ≢ told
+pub of_block_or_memory : (e told : RunFault) → (e ≢ faults.Memory → IsBlockFault e) → told ≢ faults.Memory → (IsBlockFault told → ⊥) → e ≢ told
 of_block_or_memory e told of_block memory other same =
-    other (subst IsOfBlock same (of_block (λ is. memory (sym same ∙ is))))
+    other (subst IsBlockFault same (of_block (λ is. memory (sym same ∙ is))))
 
 -- a file that was read has no fault
 pub sound_table : {X : Type 0} (r : Result X TableFault) (file : Option (List ℕ)) (table : Entries) → IfSome file (λ text. IsErrOf r table_fault.Read ⊎ (table_said text ≡ Ok table)) → (IsErrOf r table_fault.Read → ⊥) → HasNoFault table_said file
@@ -218,13 +218,13 @@ pub later_err : {X S B D : Type 0} (r : Result X RunFault) (exit e : RunFault) (
 later_err r exit e s s_new b b_new d d_new is same later = rw (is, same) later
 
 -- a fault of a transport block, or of what is written, comes after the four files
-pub first_block : (e : RunFault) (t s b : Option (List ℕ)) → (e ≢ faults.Memory → IsOfBlock e) → IsFirst e t s b
+pub first_block : (e : RunFault) (t s b : Option (List ℕ)) → (e ≢ faults.Memory → IsBlockFault e) → IsFirst e t s b
 first_block (faults.Settings e) t s b of_block = absurd (of_block (λ is. cc))
 first_block (faults.Blocks e) t s b of_block = absurd (of_block (λ is. cc))
 first_block (faults.Schedule e) t s b of_block = absurd (of_block (λ is. cc))
 first_block e t s b of_block = tt
 
-pub later_block : {S B D : Type 0} (e : RunFault) (s s_new : S) (b b_new : B) (d d_new : D) → (e ≢ faults.Memory → IsOfBlock e) → LeavesLater e s s_new b b_new d d_new
+pub later_block : {S B D : Type 0} (e : RunFault) (s s_new : S) (b b_new : B) (d d_new : D) → (e ≢ faults.Memory → IsBlockFault e) → LeavesLater e s s_new b b_new d d_new
 later_block (faults.Table e) s s_new b b_new d d_new of_block = absurd (of_block (λ is. cc))
 later_block (faults.Settings e) s s_new b b_new d d_new of_block = absurd (of_block (λ is. cc))
 later_block (faults.Blocks e) s s_new b b_new d d_new of_block = absurd (of_block (λ is. cc))

@@ -38,8 +38,8 @@ abbrev pub after : {X : Type 0} → Used X → Option (List ℕ)
 after u = u.octets u.new
 
 -- it did not fail in the call
-abbrev pub IsSound : {X : Type 0} → Used X → Type 0
-IsSound u = u.failures u.new ≡ u.failures u.old
+abbrev pub HasNotFailed : {X : Type 0} → Used X → Type 0
+HasNotFailed u = u.failures u.new ≡ u.failures u.old
 
 -- this fault is answered exactly where it failed
 abbrev pub FailsBy : {X Y E : Type 0} → E → Result Y E → Used X → Type 0
@@ -49,7 +49,7 @@ FailsBy told result u = FailsAs told result (u.failures u.old) (u.failures u.new
 pub record IsOverFourFiles {T S B D O X : Type 0} (said : List ℕ → List ℕ → List ℕ → List ℕ → Result (List ℕ) RunFault)
     (result : Result X RunFault) (t : Used T) (s : Used S) (b : Used B) (d : Used D) (out : Used O) : Type 0 where
   -- where no Source failed, the text that is said of their octets is delivered
-  pub text : IsSound t → IsSound s → IsSound b → IsSound d → OfFour (before t) (before s) (before b) (before d)
+  pub text : HasNotFailed t → HasNotFailed s → HasNotFailed b → HasNotFailed d → OfFour (before t) (before s) (before b) (before d)
       (λ table settings blocks schedule. Delivers (before out) (after out) result (said table settings blocks schedule))
   -- a refusal writes nothing
   pub untouched : IsErr result → result ≢ Err faults.Write → result ≢ Err faults.Memory → after out ≡ before out

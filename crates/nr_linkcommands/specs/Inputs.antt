@@ -86,7 +86,7 @@ OfSaid said file holds = IfSome file (λ octets. IfOk (said octets) holds)
 
 -- Each of four files says this, where its octets are known: what one says does not hang on those after it, and a
 -- schedule is one for as many blocks as there are.
-pub record AreSaid (given : Given) (t s b d : Option (List ℕ)) : Type 0 where
+pub record AreInputsOf (given : Given) (t s b d : Option (List ℕ)) : Type 0 where
   pub table : Says table_said (Ok given.table) t
   pub settings : Says settings_said (Ok given.settings) s
   pub blocks : Says blocks_said (Ok given.blocks) b

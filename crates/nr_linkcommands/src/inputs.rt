@@ -6,8 +6,8 @@ ghost use Rattle.nr_graphpick.specs.Refusal.{Gives};
 ghost use Rattle.nr_shifttable.specs.Accepted.{IsTable};
 ghost use Rattle.nr_files.specs.Blocks.{IsBlockLength};
 ghost use Rattle.nr_files.specs.Reading.{FailsAs};
-ghost use Rattle.nr_commands.specs.Command.{IsOfBlock};
-ghost use Rattle.nr_linkcommands.specs.Inputs.{AreSaid, IsFirst, IsFoundIn, LeavesLater, OfFour, files_said, given_by, sender_said, senders_from};
+ghost use Rattle.nr_commands.specs.Command.{IsBlockFault};
+ghost use Rattle.nr_linkcommands.specs.Inputs.{AreInputsOf, IsFirst, IsFoundIn, LeavesLater, OfFour, files_said, given_by, sender_said, senders_from};
 ghost use Rattle.nr_files.specs.Schedule.{HasBlock, IsTimetable, timetable_by};
 
 use nr_bitvec::Bits;
@@ -72,7 +72,7 @@ pub fn read<T: Source, S: Source, B: Source, D: Source>(
         (B.failures blocks.old) (B.failures blocks.new) }
     ensures schedule { FailsAs (RunFault.Schedule ScheduleFault.Read) result
         (D.failures schedule.old) (D.failures schedule.new) }
-    ensures files { IfOk result (λ inputs. AreSaid (given_by inputs) (T.remaining table.old)
+    ensures files { IfOk result (λ inputs. AreInputsOf (given_by inputs) (T.remaining table.old)
         (S.remaining settings.old) (B.remaining blocks.old) (D.remaining schedule.old)) }
     ensures found { IfErr result (λ e. IsFoundIn e (T.remaining table.old)
         (S.remaining settings.old) (B.remaining blocks.old) (D.remaining schedule.old)) }
@@ -107,7 +107,7 @@ pub fn senders(alloc: Global, inputs: &Inputs) -> Result<Vec<Sender>, RunFault>
         (map (λ block. block.items) inputs.now.blocks.items)) }
     ensures each { IfOk result
         (λ senders. length senders.items ≡ length inputs.now.blocks.items) }
-    ensures of_block { IfErr result (λ e. e ≢ RunFault.Memory → IsOfBlock e) }
+    ensures of_block { IfErr result (λ e. e ≢ RunFault.Memory → IsBlockFault e) }
 {
     let mut senders = Vec::new(alloc);
     for (index, block) in inputs.blocks.iter().enumerate() {
@@ -134,7 +134,7 @@ fn sender<'t>(
     requires { IsBlockLength (length octets.now) }
     ensures said { Gives RunFault.Memory (λ sender. sender) result
         (sender_said table.entry.now settings number octets.now) }
-    ensures of_block { IfErr result (λ e. e ≢ RunFault.Memory → IsOfBlock e) }
+    ensures of_block { IfErr result (λ e. e ≢ RunFault.Memory → IsBlockFault e) }
 {
     let bits = Bits::from_bytes(alloc, octets)?;
     match Sender::new(alloc, table, settings, &bits) {

@@ -12,7 +12,7 @@ use Rattle.nr_ldpcenc.specs.Rows.{Checks}
 use Rattle.nr_peel.specs.ByPosition.{IsBlank}
 use Rattle.nr_peel.specs.Closure.{stands}
 use Rattle.nr_peel.specs.Certificates.{all_accepted}
-use Rattle.nr_peel.specs.Counters.{IsStart}
+use Rattle.nr_peel.specs.Counters.{AreAtStart}
 use Rattle.nr_peel.specs.Peeling.{left_of}
 use Rattle.nr_peel.specs.State.{lifted_checks}
 use Rattle.nr_peel.specs.Touches.{all_pairs, row_length, sum_below}
@@ -82,7 +82,7 @@ module _ (c : Checks) (counts ready : List ℕ) (n d : ℕ) (b : IsBuilt c count
 
 -- the counters of all rows
 pub built_start : (l : Lifted) (s : Counters) → IsTable l.table.now → s.touches ≡ 0 → IsBuilt (lifted_checks l) s.counts.items s.ready.items (rows_of l.plan.graph * l.plan.z)
-    → rows_of l.plan.graph * l.plan.z ≤ vec_capacity s.ready → IsStart (lifted_checks l) s
+    → rows_of l.plan.graph * l.plan.z ≤ vec_capacity s.ready → AreAtStart (lifted_checks l) s
 unfolding all_pairs
 built_start l s table untouched b room = record {
   untouched = untouched;
@@ -99,7 +99,7 @@ built_start l s table untouched b room = record {
     past k le one = absurd (omega (arith, get_or_past s.counts.items k 0 (omega (arith, b.long)), one))
 
 -- the state with which nothing is known
-pub blank_state : (c : Checks) (n : ℕ) (s : ByPosition) → n ≤ c.size → IsStart c s.counters → s.given.items ≡ replicate c.size false → s.known.items ≡ replicate c.size false → s.bits.items ≡ replicate c.size false
+pub blank_state : (c : Checks) (n : ℕ) (s : ByPosition) → n ≤ c.size → AreAtStart c s.counters → s.given.items ≡ replicate c.size false → s.known.items ≡ replicate c.size false → s.bits.items ≡ replicate c.size false
     → s.order.items ≡ [] → c.rows * c.lanes ≤ vec_capacity s.order → s.left ≡ n → IsBlank c n s
 blank_state c n s le start given known bits order room left = record {
   busy = record {

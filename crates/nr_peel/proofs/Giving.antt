@@ -5,7 +5,7 @@ use Rattle.std.proofs.lemmas.Bool.{and_from, and_parts, cases_eq, cases_lt, eqb-
 use Rattle.std.proofs.lemmas.List.{get_or_past, get_or-set_same, get_or-set_other, length-set}
 use Rattle.nr_bitvec.specs.Bit.{bit}
 use Rattle.nr_ldpcenc.specs.Rows.{Checks}
-use Rattle.nr_peel.specs.ByPosition.{Gives, IsWorking}
+use Rattle.nr_peel.specs.ByPosition.{GivesMarks, IsWorking}
 use Rattle.nr_peel.specs.Closure.{Within}
 use Rattle.nr_peel.specs.Certificates.{is_fixed_by, with_position}
 use Rattle.nr_peel.specs.Counters.{AreTied, IsListed, IsLowered}
@@ -61,7 +61,7 @@ module _ (c : Checks) (a d : ByPosition) (pos : ℕ) (v : Bool) (w : IsWorking c
   taken_known : bit d.known.items pos ≡ true
   taken_known = known_is pos ∙ or_right (bit a.known.items pos) (pos == pos) (eq-eqb pos pos refl)
 
-  pub take_gives : Gives (λ p. pos == p) (λ p. v) a d
+  pub take_gives : GivesMarks (λ p. pos == p) (λ p. v) a d
   take_gives = record {
     given = given_is;
     known = known_is;
@@ -105,7 +105,7 @@ module _ (c : Checks) (a d : ByPosition) (pos : ℕ) (v : Bool) (w : IsWorking c
   marked_is : (q : ℕ) → bit d.given.items q ≡ with_position (bit a.given.items) pos q
   marked_is q = ap (λ l. bit l q) given ∙ bit-mark a.given.items pos (omega (arith, lt, w.given_long)) q
 
-  pub given_gives : Gives (λ p. pos == p) (λ p. v) a d
+  pub given_gives : GivesMarks (λ p. pos == p) (λ p. v) a d
   given_gives = record {
     given = marked_is;
     known = λ q. ap (λ b. bit b.items q) known ∙ sym (already (bit a.known.items q) (pos == q) (λ e. ap (bit a.known.items) (sym (eqb-true pos q e)) ∙ there));
@@ -159,7 +159,7 @@ listed_after hits a d listed low k one = ⊎_elim (λ e. low.kept k (listed k e)
 abbrev pub first : (ℕ → Bool) → ℕ → ℕ → Bool
 first H n p = H p && nat_lt p n
 
-gives_same : (H K V : ℕ → Bool) (a d : ByPosition) → ((p : ℕ) → H p ≡ K p) → Gives H V a d → Gives K V a d
+gives_same : (H K V : ℕ → Bool) (a d : ByPosition) → ((p : ℕ) → H p ≡ K p) → GivesMarks H V a d → GivesMarks K V a d
 gives_same H K V a d same g = record {
   given = λ p. g.given p ∙ ap (λ b. bit a.given.items p || b) (same p);
   known = λ p. g.known p ∙ ap (λ b. bit a.known.items p || b) (same p);
@@ -167,7 +167,7 @@ gives_same H K V a d same g = record {
   taken = λ p h out. g.taken p (same p ∙ h) out;
 }
 
-gives_then : (H V : ℕ → Bool) (n : ℕ) (v : Bool) (a b d : ByPosition) → Gives H V a b → Gives (λ p. n == p) (λ p. v) b d → v ≡ V n → Gives (λ p. H p || (n == p)) V a d
+gives_then : (H V : ℕ → Bool) (n : ℕ) (v : Bool) (a b d : ByPosition) → GivesMarks H V a b → GivesMarks (λ p. n == p) (λ p. v) b d → v ≡ V n → GivesMarks (λ p. H p || (n == p)) V a d
 gives_then H V n v a b d one two is = record {
   given = λ p. two.given p ∙ ap (λ x. x || (n == p)) (one.given p) ∙ assoc (bit a.given.items p) (H p) (n == p);
   known = λ p. two.known p ∙ ap (λ x. x || (n == p)) (one.known p) ∙ assoc (bit a.known.items p) (H p) (n == p);
@@ -185,7 +185,7 @@ gives_then H V n v a b d one two is = record {
         let at : (n == p) ≡ true = ap (λ b. b || (n == p)) (sym e) ∙ h in
         two.taken p at (one.known p ∙ ap (λ b. bit a.known.items p || b) e ∙ or_false (bit a.known.items p) ∙ out) ∙ is ∙ ap V (eqb-true n p at)
 
-pub gives_none : (H V : ℕ → Bool) (s : ByPosition) → Gives (first H 0) V s s
+pub gives_none : (H V : ℕ → Bool) (s : ByPosition) → GivesMarks (first H 0) V s s
 gives_none H V s = record {
   given = λ p. sym (ap (λ b. bit s.given.items p || b) (none p) ∙ or_false (bit s.given.items p));
   known = λ p. sym (ap (λ b. bit s.known.items p || b) (none p) ∙ or_false (bit s.known.items p));
@@ -200,7 +200,7 @@ gives_none H V s = record {
         never true = refl
         never false = refl
 
-pub gives_more : (H V : ℕ → Bool) (n : ℕ) (a b d : ByPosition) → H n ≡ true → Gives (first H n) V a b → Gives (λ p. n == p) (λ p. V n) b d → Gives (first H (n + 1)) V a d
+pub gives_more : (H V : ℕ → Bool) (n : ℕ) (a b d : ByPosition) → H n ≡ true → GivesMarks (first H n) V a b → GivesMarks (λ p. n == p) (λ p. V n) b d → GivesMarks (first H (n + 1)) V a d
 gives_more H V n a b d there one two =
     gives_same (λ p. first H n p || (n == p)) (first H (n + 1)) V a d
     (λ p. same_truth (first H n p || (n == p)) (first H (n + 1) p)
@@ -216,7 +216,7 @@ gives_more H V n a b d there one two =
 
 -- positions up to m that aren't in the set, or were given
 pub gives_jump : (H V : ℕ → Bool) (n m : ℕ) (a b : ByPosition) → n ≤ m → Within (bit a.given.items) (bit a.known.items) → ((p : ℕ) → n ≤ p → p < m → H p ≡ true → bit b.given.items p ≡ true)
-    → Gives (first H n) V a b → Gives (first H m) V a b
+    → GivesMarks (first H n) V a b → GivesMarks (first H m) V a b
 gives_jump H V n m a b le within past one = record {
   given = λ p. one.given p ∙ same (bit a.given.items p) (first H n p) (first H m p) (more p) (before p);
   known = λ p. one.known p ∙ same (bit a.known.items p) (first H n p) (first H m p) (more p) (λ h out. within p (before p h out));
@@ -246,7 +246,7 @@ gives_jump H V n m a b le within past one = record {
     taken p h out false e = absurd (true≢false (sym (within p (before p h e)) ∙ out))
 
 -- when all of a list's positions are given
-pub gives_all : (heard : List Bool) (V : ℕ → Bool) (n : ℕ) (a d : ByPosition) → length heard ≤ n → Gives (first (bit heard) n) V a d → Gives (bit heard) V a d
+pub gives_all : (heard : List Bool) (V : ℕ → Bool) (n : ℕ) (a d : ByPosition) → length heard ≤ n → GivesMarks (first (bit heard) n) V a d → GivesMarks (bit heard) V a d
 gives_all heard V n a d long g = gives_same (first (bit heard) n) (bit heard) V a d (λ p. elim (cases_lt p n) [
   | inl below ↦ ap (λ b. bit heard p && b) (lt-ltb p n below) ∙ whole (bit heard p)
   | inr past ↦ ap (λ b. b && nat_lt p n) (get_or_past heard p false (omega (arith, long, past))) ∙ sym (get_or_past heard p false (omega (arith, long, past)))

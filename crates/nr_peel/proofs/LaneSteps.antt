@@ -10,9 +10,10 @@ use Rattle.nr_shifttable.specs.Tails.{value_in}
 use Rattle.nr_ldpcenc.specs.Rows.{Checks, Meets, one_at, unrotate}
 use Rattle.nr_peel.specs.Closure.{IsOnlyMissing, Within, any_below, fixes, stands}
 use Rattle.nr_peel.specs.Certificates.{accepts, is_fixed_by}
-use Rattle.nr_peel.specs.Lanes.{Takes, lacks, marks_of, steps_below, turned_step}
+use Rattle.nr_peel.specs.Lanes.{TakesLane, lacks, marks_of, steps_below, turned_step}
 use Rattle.nr_peel.specs.State.{lifted_checks}
-use Rattle.nr_peel.specs.Sweeps.{AreLanes, Fixes, HasBits}
+use Rattle.nr_peel.specs.Peeling.{HasBits}
+use Rattle.nr_peel.specs.Sweeps.{AreLanes, Fixes}
 use Rattle.nr_peel.specs.declared.fix.Fix.{Fix}
 use Rattle.nr_peel.specs.declared.lanes.Lanes.{Lanes}
 use Rattle.nr_peel.specs.declared.lifted.Lifted.{Lifted}
@@ -97,7 +98,7 @@ module _ (z j v : ℕ) (some : 0 < z) (u : ℕ → Bool) where
 
 -- ---- an entry is taken
 
-module _ (l : Lifted) (i : ℕ) (e : Entry) (ones sums : List ℕ) (K : ℕ → Bool) (a d : Lanes) (took : Takes l e ones sums a d) (lanes : AreLanes (lifted_checks l) a) where
+module _ (l : Lifted) (i : ℕ) (e : Entry) (ones sums : List ℕ) (K : ℕ → Bool) (a d : Lanes) (took : TakesLane l e ones sums a d) (lanes : AreLanes (lifted_checks l) a) where
   abbrev c : Checks
   c = lifted_checks l
 
@@ -157,7 +158,7 @@ module _ (l : Lifted) (i : ℕ) (e : Entry) (ones sums : List ℕ) (K : ℕ → 
     fixed_is : (p : ℕ) → marks_of z e.col v u p ≡ is_fixed_by (steps_below (turned_step z e.row e.col (v % z)) u z) p
     fixed_is p = sym (marks_fixed z e.col v some u e.row p)
 
-    new_bit : (right : (w : ℕ → Bool) → Meets c w → HasBits a w → (t : ℕ) → t < z → u t ≡ true → w (at t) ≡ is_set sums t) (p : ℕ) → marks_of z e.col v u p ≡ true → (w : ℕ → Bool) → Meets c w → HasBits a w → w p ≡ bit d.bits.items p
+    new_bit : (right : (w : ℕ → Bool) → Meets c w → HasBits a.known.items a.bits.items w → (t : ℕ) → t < z → u t ≡ true → w (at t) ≡ is_set sums t) (p : ℕ) → marks_of z e.col v u p ≡ true → (w : ℕ → Bool) → Meets c w → HasBits a.known.items a.bits.items w → w p ≡ bit d.bits.items p
     new_bit right p h w meets has =
         let t = unrotate z v (p % z) in
         let below : t < z = mod_below (p % z + (z - v % z)) z some in
@@ -168,7 +169,7 @@ module _ (l : Lifted) (i : ℕ) (e : Entry) (ones sums : List ℕ) (K : ℕ → 
         sym (ap w place) ∙ right w meets has t below parts.1 ∙ sym (took.bits p ∙ or_only (bit a.bits.items p) (marks_of z e.col v (λ t. u t && is_set sums t) p) zero ∙ sum)
 
     -- what an entry's block fixes, with as many steps as rows marked it
-    pub take_fixes : ((w : ℕ → Bool) → Meets c w → HasBits a w → (t : ℕ) → t < z → u t ≡ true → w (at t) ≡ is_set sums t) → (f : Fixes c K a d) × (length f.steps ≡ marked u z)
+    pub take_fixes : ((w : ℕ → Bool) → Meets c w → HasBits a.known.items a.bits.items w → (t : ℕ) → t < z → u t ≡ true → w (at t) ≡ is_set sums t) → (f : Fixes c K a d) × (length f.steps ≡ marked u z)
     take_fixes right = (
       record {
         steps = steps_below (turned_step z e.row e.col (v % z)) u z;

@@ -10,11 +10,11 @@ use Rattle.nr_ldpcenc.specs.Rows.{Checks}
 use Rattle.nr_peel.specs.Certificates.{all_accepted, is_fixed_by}
 use Rattle.nr_peel.specs.Hearing.{Hears}
 use Rattle.nr_peel.specs.Learning.{IsFilled, IsLearner, Learns, learner_view}
-use Rattle.nr_peel.specs.Peeling.{IsPeeled, fillers, left_of}
+use Rattle.nr_peel.specs.Peeling.{HasBits, IsPeeled, fillers, left_of}
 use Rattle.nr_peel.specs.Settled.{HasNoFresh, IsHeld, Keeps, Reaches}
 use Rattle.nr_peel.specs.Starts.{IsBlankSweep}
 use Rattle.nr_peel.specs.State.{lifted_checks}
-use Rattle.nr_peel.specs.Sweeps.{AreLanes, HasBits, counted_in, has_count}
+use Rattle.nr_peel.specs.Sweeps.{AreLanes, counted_in, has_count}
 use Rattle.nr_peel.specs.declared.lanes.Lanes.{Lanes}
 use Rattle.nr_peel.specs.declared.learner.Learner.{Learner}
 use Rattle.nr_peel.specs.declared.lifted.Lifted.{Lifted}
@@ -46,7 +46,7 @@ module _ (c : Checks) (H V : ℕ → Bool) (a d : Lanes) (lanes : AreLanes c a) 
       new false true true v x y z = absurd (true≢false y)
       new false true false v x y z = refl
 
-  heard_words : (w : ℕ → Bool) → HasBits a w → ((p : ℕ) → H p ≡ true → w p ≡ V p) → HasBits d w
+  heard_words : (w : ℕ → Bool) → HasBits a.known.items a.bits.items w → ((p : ℕ) → H p ≡ true → w p ≡ V p) → HasBits d.known.items d.bits.items w
   heard_words w has are p e = go (bit a.known.items p) refl
     where
       go : (b : Bool) → bit a.known.items p ≡ b → w p ≡ bit d.bits.items p

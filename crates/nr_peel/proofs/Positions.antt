@@ -6,11 +6,11 @@ use Rattle.std.proofs.lemmas.List.{get_or_default, same_lists}
 use Rattle.nr_bitvec.specs.Bit.{bit}
 use Rattle.nr_segment.specs.CodeBlock.{numbers}
 use Rattle.nr_ldpcenc.specs.Rows.{Checks}
-use Rattle.nr_peel.specs.ByPosition.{Gives, Grows, HasKnown, IsBlank, IsByPosition, IsWorking, position_view}
+use Rattle.nr_peel.specs.ByPosition.{GivesMarks, Grows, IsBlank, IsByPosition, IsWorking, position_view}
 use Rattle.nr_peel.specs.Closure.{AreSound, Within, closure}
 use Rattle.nr_peel.specs.Certificates.{is_fixed_by}
 use Rattle.nr_peel.specs.Counters.{IsSettled}
-use Rattle.nr_peel.specs.Peeling.{IsPeeled, fillers}
+use Rattle.nr_peel.specs.Peeling.{HasBits, IsPeeled, fillers}
 use Rattle.nr_peel.specs.State.{lifted_checks}
 use Rattle.nr_peel.specs.Taken.{HasFillers, TakesUp}
 use Rattle.nr_peel.specs.declared.by_position.ByPosition.{ByPosition}
@@ -52,7 +52,7 @@ position_peeled l s h =
     }
 
 -- a word that has the known bits, and those of the positions that are given
-given_words : (H V : ℕ → Bool) (a d : ByPosition) → Gives H V a d → (w : ℕ → Bool) → HasKnown a w → ((p : ℕ) → H p ≡ true → w p ≡ V p) → HasKnown d w
+given_words : (H V : ℕ → Bool) (a d : ByPosition) → GivesMarks H V a d → (w : ℕ → Bool) → HasBits a.known.items a.bits.items w → ((p : ℕ) → H p ≡ true → w p ≡ V p) → HasBits d.known.items d.bits.items w
 given_words H V a d g w has are p e = go (bit a.known.items p) refl
   where
     go : (b : Bool) → bit a.known.items p ≡ b → w p ≡ bit d.bits.items p
@@ -62,7 +62,7 @@ given_words H V a d g w has are p e = go (bit a.known.items p) refl
         are p given ∙ sym (g.taken p given k)
 
 -- what follows from positions that were given
-pub taken_up : (l : Lifted) (H V : ℕ → Bool) (a b d : ByPosition) → Gives H V a b → Grows (lifted_checks l) b d → TakesUp H V (position_view l a) (position_view l d)
+pub taken_up : (l : Lifted) (H V : ℕ → Bool) (a b d : ByPosition) → GivesMarks H V a b → Grows (lifted_checks l) b d → TakesUp H V (position_view l a) (position_view l d)
 taken_up l H V a b d g grows = record {
   given = λ p. ap (λ v. bit v p) grows.given ∙ g.given p;
   known = λ p e. grows.known p (g.known p ∙ or_left (bit a.known.items p) (H p) e);
@@ -72,7 +72,7 @@ taken_up l H V a b d g grows = record {
 }
 
 -- what follows from the fillers alone
-pub filled_up : (l : Lifted) (V : ℕ → Bool) (n : ℕ) (a b d : ByPosition) → ((p : ℕ) → V p ≡ false) → IsBlank (lifted_checks l) n a → Gives (bit (fillers (lifted_checks l) (numbers l.plan))) V a b
+pub filled_up : (l : Lifted) (V : ℕ → Bool) (n : ℕ) (a b d : ByPosition) → ((p : ℕ) → V p ≡ false) → IsBlank (lifted_checks l) n a → GivesMarks (bit (fillers (lifted_checks l) (numbers l.plan))) V a b
     → Grows (lifted_checks l) b d → IsWorking (lifted_checks l) d → HasFillers l (position_view l d)
 filled_up l V n a b d zeros blank g grows w =
     let c = lifted_checks l in

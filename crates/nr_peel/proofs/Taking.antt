@@ -17,9 +17,10 @@ use Rattle.nr_ldpcenc.specs.Parity.{parity}
 use Rattle.nr_ldpcenc.specs.Rows.{Checks, Meets, one_at, positions}
 use Rattle.nr_peel.specs.Closure.{AreSound, IsOnlyMissing, Within, stands}
 use Rattle.nr_peel.specs.Certificates.{is_fixed_by}
-use Rattle.nr_peel.specs.Lanes.{Takes, lacks}
+use Rattle.nr_peel.specs.Lanes.{TakesLane, lacks}
 use Rattle.nr_peel.specs.State.{lifted_checks}
-use Rattle.nr_peel.specs.Sweeps.{AreLanes, CountsOf, Fixes, HasBits, IsBlockSought, counted_in, has_count}
+use Rattle.nr_peel.specs.Peeling.{HasBits}
+use Rattle.nr_peel.specs.Sweeps.{AreLanes, CountsOf, Fixes, IsBlockSought, counted_in, has_count}
 use Rattle.nr_peel.specs.Touches.{sum_below}
 use Rattle.nr_peel.specs.declared.lanes.Lanes.{Lanes}
 use Rattle.nr_peel.specs.declared.lifted.Lifted.{Lifted}
@@ -126,7 +127,7 @@ module _ (l : Lifted) (i : ℕ) (ones : List ℕ) (a : Lanes) (table : IsTable l
     pub taking_room : length m.order.items + marked (lacks z e.col (value_in set e) ones (bit m.known.items)) z ≤ length a.order.items + marked (is_set ones) z
     taking_room = omega (arith, ap length so_far.fixes.order, length-append a.order.items so_far.fixes.steps, so_far.few, lacking_more, lacking_most (n + 1))
 
-    module _ (sums : List ℕ) (d : Lanes) (took : Takes l e ones sums m d) (sums_are : (t : ℕ) → t < z → is_set sums t ≡ parity (bit a.bits.items) (positions set z t row)) where
+    module _ (sums : List ℕ) (d : Lanes) (took : TakesLane l e ones sums m d) (sums_are : (t : ℕ) → t < z → is_set sums t ≡ parity (bit a.bits.items) (positions set z t row)) where
       row_is : e.row ≡ i
       row_is = eqb-true e.row i (filter_passes (λ (x : Entry). x.row == i) (entries_in l.plan.graph l.table.now) n none within_row)
 
@@ -142,7 +143,7 @@ module _ (l : Lifted) (i : ℕ) (ones : List ℕ) (a : Lanes) (table : IsTable l
       unknown_before : (p : ℕ) → bit m.known.items p ≡ false → bit a.known.items p ≡ false
       unknown_before p h = (neither (bit a.known.items p) (is_fixed_by so_far.fixes.steps p) (sym (so_far.fixes.known p) ∙ h)).0
 
-      right : (w : ℕ → Bool) → Meets c w → HasBits m w → (t : ℕ) → t < z → lacks z e.col (value_in set e) ones (bit m.known.items) t ≡ true → w (at t) ≡ is_set sums t
+      right : (w : ℕ → Bool) → Meets c w → HasBits m.known.items m.bits.items w → (t : ℕ) → t < z → lacks z e.col (value_in set e) ones (bit m.known.items) t ≡ true → w (at t) ≡ is_set sums t
       right w meets has t below h =
           let out : bit m.known.items (at t) ≡ false = unnot (bit m.known.items (at t)) (and_parts (is_set ones t) (not (bit m.known.items (at t))) h).1 in
           forced_bit w (bit a.bits.items) K (at t) (c.row i t) (sound.distinct i t block below) (meets i t block below) (only t below h) (lanes.blank (at t) (unknown_before (at t) out))

@@ -2,13 +2,12 @@
 use Rattle.std.specs.Prelude.{◌≡◌, ℕ, ◌+◌, ◌*◌, ◌^◌, ◌<◌, ◌≤◌, ◌||◌, Bool, true, false, length, sum, vec_capacity}
 use Rattle.nr_bitvec.specs.Bit.{bit}
 use Rattle.nr_lifting.specs.Rings.{marked}
-use Rattle.nr_segment.specs.CodeBlock.{numbers}
 use Rattle.nr_shifttable.specs.Accepted.{IsTable}
 use Rattle.nr_ldpcenc.specs.Rows.{Checks, Meets}
 use Rattle.nr_peel.specs.Certificates.{all_accepted, is_fixed_by}
 use Rattle.nr_peel.specs.Counters.{AreTied, IsListed, IsSettled}
-use Rattle.nr_peel.specs.Peeling.{Peeling, left_of}
-use Rattle.nr_peel.specs.State.{lifted_checks}
+use Rattle.nr_peel.specs.Peeling.{HasBits, Peeling, left_of}
+use Rattle.nr_peel.specs.State.{lifted_checks, seen_of}
 use Rattle.nr_peel.specs.Sweeps.{has_count}
 use Rattle.nr_peel.specs.Taken.{HasFillers}
 use Rattle.nr_peel.specs.Touches.{all_pairs, spent_pairs}
@@ -34,16 +33,12 @@ pub record IsWorking (c : Checks) (s : ByPosition) : Type 0 where
 abbrev pub IsCounted : ℕ → ByPosition → Type 0
 IsCounted n s = s.left ≡ left_of n s.known.items
 
--- a word has the bits that are known
-abbrev pub HasKnown : ByPosition → (ℕ → Bool) → Type 0
-HasKnown s w = (p : ℕ) → bit s.known.items p ≡ true → w p ≡ bit s.bits.items p
-
 -- what is known after what was: no known bit is lost, and each word that meets every row and had the known bits has them
 pub record Grows (c : Checks) (old new : ByPosition) : Type 0 where
   pub given : new.given.items ≡ old.given.items
   pub known : (p : ℕ) → bit old.known.items p ≡ true → bit new.known.items p ≡ true
   pub bits : (p : ℕ) → bit old.known.items p ≡ true → bit new.bits.items p ≡ bit old.bits.items p
-  pub words : (w : ℕ → Bool) → Meets c w → HasKnown old w → HasKnown new w
+  pub words : (w : ℕ → Bool) → Meets c w → HasBits old.known.items old.bits.items w → HasBits new.known.items new.bits.items w
 
 -- n visits were made, and nothing else has changed
 pub record IsVisited (n : ℕ) (old new : ByPosition) : Type 0 where
@@ -69,7 +64,7 @@ pub record IsBlank (c : Checks) (n : ℕ) (s : ByPosition) : Type 0 where
   pub known : (p : ℕ) → bit s.known.items p ≡ false
 
 -- The positions of a set H are given: those that weren't known are, with the bits V. What follows is not yet fixed.
-pub record Gives (H V : ℕ → Bool) (old new : ByPosition) : Type 0 where
+pub record GivesMarks (H V : ℕ → Bool) (old new : ByPosition) : Type 0 where
   pub given : (p : ℕ) → bit new.given.items p ≡ (bit old.given.items p || H p)
   pub known : (p : ℕ) → bit new.known.items p ≡ (bit old.known.items p || H p)
   pub bits : (p : ℕ) → bit old.known.items p ≡ true → bit new.bits.items p ≡ bit old.bits.items p
@@ -77,16 +72,7 @@ pub record Gives (H V : ℕ → Bool) (old new : ByPosition) : Type 0 where
 
 -- what it is seen as
 abbrev pub position_view : Lifted → ByPosition → Peeling
-position_view l s = record {
-  table = l.table.now;
-  graph = l.plan.graph;
-  numbers = numbers l.plan;
-  given = s.given.items;
-  known = s.known.items;
-  bits = s.bits.items;
-  order = s.order.items;
-  touches = s.counters.touches;
-}
+position_view l s = seen_of l s.given.items s.known.items s.bits.items s.order.items s.counters.touches
 
 -- what is true between calls: no row has exactly one unknown position
 pub record IsByPosition (l : Lifted) (s : ByPosition) : Type 0 where

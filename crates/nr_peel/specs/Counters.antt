@@ -45,7 +45,7 @@ pub record Follows (old new : Counters) : Type 0 where
   pub weight : length new.ready.items + count_by (nat_lt 1) new.counts.items ≡ length old.ready.items + count_by (nat_lt 1) old.counts.items
 
 -- counters with which nothing is known
-pub record IsStart (c : Checks) (s : Counters) : Type 0 where
+pub record AreAtStart (c : Checks) (s : Counters) : Type 0 where
   pub untouched : s.touches ≡ 0
   pub counted : (i t : ℕ) → i < c.rows → t < c.lanes → slice_index s.counts.items (i * c.lanes + t) ≡ length (c.row i t)
   pub long : length s.counts.items ≡ c.rows * c.lanes

@@ -32,7 +32,7 @@ hits set z j M i t e = (e.row == i) && M (one_at z t j (value_in set e))
 
 -- The rows of a lane fixed the positions of an entry's block that weren't known, to the bits of another lane: nothing
 -- else has changed.
-pub record Takes (l : Lifted) (e : Entry) (ones sums : List ℕ) (old new : Lanes) : Type 0 where
+pub record TakesLane (l : Lifted) (e : Entry) (ones sums : List ℕ) (old new : Lanes) : Type 0 where
   pub known : (p : ℕ) → bit new.known.items p ≡ (bit old.known.items p || marks_of l.plan.z e.col (value_in l.plan.set e) (lacks l.plan.z e.col (value_in l.plan.set e) ones (bit old.known.items)) p)
   pub fresh : (p : ℕ) → bit new.fresh.items p ≡ (bit old.fresh.items p || marks_of l.plan.z e.col (value_in l.plan.set e) (lacks l.plan.z e.col (value_in l.plan.set e) ones (bit old.known.items)) p)
   pub bits : (p : ℕ) → bit new.bits.items p ≡ (bit old.bits.items p || marks_of l.plan.z e.col (value_in l.plan.set e) (λ t. lacks l.plan.z e.col (value_in l.plan.set e) ones (bit old.known.items) t && is_set sums t) p)

@@ -4,9 +4,8 @@ use Rattle.nr_bitvec.specs.Bit.{bit}
 use Rattle.nr_segment.specs.CodeBlock.{numbers}
 use Rattle.nr_ldpcenc.specs.Codeword.{filler}
 use Rattle.nr_ldpcenc.specs.Rows.{Meets}
-use Rattle.nr_peel.specs.Peeling.{GivesAll, KeepsAllWords, KeepsBits, KeepsKnown, Peeling, TakesAll, fillers, left_of}
+use Rattle.nr_peel.specs.Peeling.{GivesAll, HasBits, KeepsAllWords, KeepsBits, KeepsKnown, Peeling, TakesAll, fillers, left_of}
 use Rattle.nr_peel.specs.State.{lifted_checks}
-use Rattle.nr_peel.specs.Sweeps.{HasBits}
 use Rattle.nr_peel.specs.Swept.{IsSettledSweep, sweep_view}
 use Rattle.nr_peel.specs.declared.learner.Learner.{Learner}
 use Rattle.nr_peel.specs.declared.lifted.Lifted.{Lifted}
@@ -34,4 +33,4 @@ pub record Learns (l : Lifted) (H V : ℕ → Bool) (old new : Learner) : Type 0
 pub record IsFilled (l : Lifted) (s : Learner) : Type 0 where
   pub learner : IsLearner l s
   pub given : s.given.items ≡ fillers (lifted_checks l) (numbers l.plan)
-  pub words : (w : ℕ → Bool) → Meets (lifted_checks l) w → ((q : ℕ) → filler l.plan.kdash l.plan.k q ≡ true → w q ≡ false) → HasBits s.sweep.lanes w
+  pub words : (w : ℕ → Bool) → Meets (lifted_checks l) w → ((q : ℕ) → filler l.plan.kdash l.plan.k q ≡ true → w q ≡ false) → HasBits s.sweep.lanes.known.items s.sweep.lanes.bits.items w

@@ -28,9 +28,12 @@ pub record Peeling : Type 0 where
 abbrev pub checks_for : Peeling → Checks
 checks_for s = block_checks s.table s.graph s.numbers
 
--- the bit of a position, if it is known
+-- the bit of a position, if it is among those that are known
+abbrev pub bit_where : List Bool → List Bool → ℕ → Option Bool
+bit_where known bits p = if bit known p then Some (bit bits p) else None
+
 abbrev pub known_at : Peeling → ℕ → Option Bool
-known_at s p = if bit s.known p then Some (bit s.bits p) else None
+known_at s p = bit_where s.known s.bits p
 
 -- the fillers of a code block, as marks
 abbrev pub fillers : Checks → Numbers → List Bool
@@ -48,9 +51,12 @@ unknown_in known = filter (λ p. not (bit known p)) (range_with_len 0 (length kn
 abbrev pub most_visits : Peeling → ℕ
 most_visits s = 2 * (s.numbers.z * length (entries_in s.graph s.table))
 
--- a word has the bits that are known
+-- a word has the bits of the positions that are known
+abbrev pub HasBits : List Bool → List Bool → (ℕ → Bool) → Type 0
+HasBits known bits w = (p : ℕ) → bit known p ≡ true → w p ≡ bit bits p
+
 abbrev pub AgreesWith : Peeling → (ℕ → Bool) → Type 0
-AgreesWith s w = (p : ℕ) → bit s.known p ≡ true → w p ≡ bit s.bits p
+AgreesWith s w = HasBits s.known s.bits w
 
 -- what was known stays known
 abbrev pub KeepsKnown : Peeling → Peeling → Type 0

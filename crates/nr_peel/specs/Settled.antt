@@ -4,7 +4,8 @@ use Rattle.nr_bitvec.specs.Bit.{bit}
 use Rattle.nr_lifting.specs.Rings.{marked}
 use Rattle.nr_ldpcenc.specs.Rows.{Checks, Meets}
 use Rattle.nr_peel.specs.Certificates.{all_accepted, is_fixed_by}
-use Rattle.nr_peel.specs.Sweeps.{AreLanes, CountsOf, HasBits, counted_in, has_count}
+use Rattle.nr_peel.specs.Peeling.{HasBits}
+use Rattle.nr_peel.specs.Sweeps.{AreLanes, CountsOf, counted_in, has_count}
 use Rattle.nr_peel.specs.Touches.{all_pairs, spent_pairs}
 use Rattle.nr_peel.specs.declared.lanes.Lanes.{Lanes}
 use Rattle.nr_peel.specs.declared.sweep.Sweep.{Sweep}
@@ -51,5 +52,5 @@ pub record Reaches (c : Checks) (G : ℕ → Bool) (s : Lanes) : Type 0 where
 pub record Keeps (c : Checks) (old new : Lanes) : Type 0 where
   pub known : (p : ℕ) → bit old.known.items p ≡ true → bit new.known.items p ≡ true
   pub bits : (p : ℕ) → bit old.known.items p ≡ true → bit new.bits.items p ≡ bit old.bits.items p
-  pub words : (w : ℕ → Bool) → Meets c w → HasBits old w → HasBits new w
+  pub words : (w : ℕ → Bool) → Meets c w → HasBits old.known.items old.bits.items w → HasBits new.known.items new.bits.items w
   pub reaches : (G : ℕ → Bool) → Reaches c G old → Reaches c G new

@@ -1,6 +1,23 @@
--- The parity checks of a lifted table.
+-- The parity checks of a lifted table, and what is seen of a peeler of its code.
+use Rattle.std.specs.Prelude.{ℕ, Bool, List}
+use Rattle.nr_segment.specs.CodeBlock.{numbers}
 use Rattle.nr_ldpcenc.specs.Rows.{plan_checks, Checks}
+use Rattle.nr_peel.specs.Peeling.{Peeling}
+use Rattle.nr_peel.specs.declared.fix.Fix.{Fix}
 use Rattle.nr_peel.specs.declared.lifted.Lifted.{Lifted}
 
 abbrev pub lifted_checks : Lifted → Checks
 lifted_checks l = plan_checks l.table.now l.plan
+
+-- the positions that were given and those that are known, their bits, the steps that fixed positions, and the count of visits
+abbrev pub seen_of : Lifted → List Bool → List Bool → List Bool → List Fix → ℕ → Peeling
+seen_of l given known bits order touches = record {
+  table = l.table.now;
+  graph = l.plan.graph;
+  numbers = numbers l.plan;
+  given = given;
+  known = known;
+  bits = bits;
+  order = order;
+  touches = touches;
+}

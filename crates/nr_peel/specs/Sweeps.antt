@@ -5,6 +5,7 @@ use Rattle.nr_lifting.specs.Rings.{marked}
 use Rattle.nr_ldpcenc.specs.Rows.{Checks, Meets}
 use Rattle.nr_peel.specs.Certificates.{all_accepted, is_fixed_by}
 use Rattle.nr_peel.specs.Closure.{Within}
+use Rattle.nr_peel.specs.Peeling.{HasBits}
 use Rattle.nr_peel.specs.Touches.{row_length, sum_below}
 use Rattle.nr_peel.specs.declared.fix.Fix.{Fix}
 use Rattle.nr_peel.specs.declared.lanes.Lanes.{Lanes}
@@ -29,10 +30,6 @@ searched_below c counts n = sum_below (λ k. if has_count 1 counts k then row_le
 unfoldable pub searched_pairs : Checks → List ℕ → ℕ
 searched_pairs c counts = searched_below c counts (c.rows * c.lanes)
 
--- a word has the bits that are known
-abbrev pub HasBits : Lanes → (ℕ → Bool) → Type 0
-HasBits s w = (p : ℕ) → bit s.known.items p ≡ true → w p ≡ bit s.bits.items p
-
 -- each has a place for each position; unknown positions have no bit, and fresh ones are known
 pub record AreLanes (c : Checks) (s : Lanes) : Type 0 where
   pub known_long : length s.known.items ≡ c.size
@@ -54,7 +51,7 @@ pub record Fixes (c : Checks) (K : ℕ → Bool) (old new : Lanes) : Type 0 wher
   pub missing : (p : ℕ) → is_fixed_by steps p ≡ true → bit old.known.items p ≡ false
   pub accepted : (S : ℕ → Bool) → Within K S → all_accepted c S steps ≡ true
   pub kept : (p : ℕ) → bit old.known.items p ≡ true → bit new.bits.items p ≡ bit old.bits.items p
-  pub words : (w : ℕ → Bool) → Meets c w → HasBits old w → HasBits new w
+  pub words : (w : ℕ → Bool) → Meets c w → HasBits old.known.items old.bits.items w → HasBits new.known.items new.bits.items w
   pub lanes : AreLanes c new
   pub capacity : vec_capacity new.order ≡ vec_capacity old.order
 

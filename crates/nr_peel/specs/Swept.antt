@@ -1,11 +1,10 @@
 -- What peeling by lanes comes to.
 use Rattle.std.specs.Prelude.{◌≡◌, ◌≢◌, ℕ, Bool, List, length, slice_index}
 use Rattle.nr_bitvec.specs.Bit.{bit}
-use Rattle.nr_segment.specs.CodeBlock.{numbers}
 use Rattle.nr_shifttable.specs.Accepted.{IsTable}
 use Rattle.nr_peel.specs.Peeling.{Peeling}
 use Rattle.nr_peel.specs.Settled.{HasNoFresh, IsHeld, Reaches}
-use Rattle.nr_peel.specs.State.{lifted_checks}
+use Rattle.nr_peel.specs.State.{lifted_checks, seen_of}
 use Rattle.nr_peel.specs.declared.lifted.Lifted.{Lifted}
 use Rattle.nr_peel.specs.declared.sweep.Sweep.{Sweep}
 
@@ -20,13 +19,4 @@ pub record IsSettledSweep (l : Lifted) (given : List Bool) (s : Sweep) : Type 0 
 
 -- what it is seen as
 abbrev pub sweep_view : Lifted → List Bool → Sweep → Peeling
-sweep_view l given s = record {
-  table = l.table.now;
-  graph = l.plan.graph;
-  numbers = numbers l.plan;
-  given = given;
-  known = s.lanes.known.items;
-  bits = s.lanes.bits.items;
-  order = s.lanes.order.items;
-  touches = s.touches;
-}
+sweep_view l given s = seen_of l given s.lanes.known.items s.lanes.bits.items s.lanes.order.items s.touches

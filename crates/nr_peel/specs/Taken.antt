@@ -1,16 +1,11 @@
 -- What becomes of positions that are given to a peeler, whichever way it works.
-use Rattle.std.specs.Prelude.{◌≡◌, ℕ, Bool, true, false, if◌then◌else◌, List, Option, Some, None}
-use Rattle.nr_bitvec.specs.Bit.{bit}
+use Rattle.std.specs.Prelude.{◌≡◌, ℕ, Bool, true, false}
 use Rattle.nr_segment.specs.CodeBlock.{numbers}
 use Rattle.nr_ldpcenc.specs.Codeword.{filler}
 use Rattle.nr_ldpcenc.specs.Rows.{Meets}
 use Rattle.nr_peel.specs.Peeling.{AgreesWith, GivesAll, KeepsAllWords, KeepsBits, KeepsKnown, Peeling, TakesAll, fillers}
 use Rattle.nr_peel.specs.State.{lifted_checks}
 use Rattle.nr_peel.specs.declared.lifted.Lifted.{Lifted}
-
--- the bit of a position, if it is known
-abbrev pub bit_where : List Bool → List Bool → ℕ → Option Bool
-bit_where known bits p = if bit known p then Some (bit bits p) else None
 
 -- the positions of a set H are given, and those that weren't known take the bits V
 pub record TakesUp (H V : ℕ → Bool) (old new : Peeling) : Type 0 where

@@ -1,9 +1,9 @@
 -- What a peeler holds, whichever way it works.
 use Rattle.std.specs.Prelude.{ℕ, Bool, List}
-use Rattle.nr_segment.specs.CodeBlock.{numbers}
 use Rattle.nr_peel.specs.ByPosition.{IsByPosition}
 use Rattle.nr_peel.specs.Learning.{IsLearner}
 use Rattle.nr_peel.specs.Peeling.{IsPeeled, Peeling}
+use Rattle.nr_peel.specs.State.{seen_of}
 use Rattle.nr_peel.specs.Taken.{HasFillers}
 use Rattle.nr_peel.specs.declared.fix.Fix.{Fix}
 use Rattle.nr_peel.specs.declared.lifted.Lifted.{Lifted}
@@ -41,16 +41,7 @@ left_in (Positions s) = s.left
 
 -- what it is seen as
 abbrev pub work_view : Lifted → Work → Peeling
-work_view l w = record {
-  table = l.table.now;
-  graph = l.plan.graph;
-  numbers = numbers l.plan;
-  given = given_in w;
-  known = known_in w;
-  bits = bits_in w;
-  order = order_in w;
-  touches = touches_in w;
-}
+work_view l w = seen_of l (given_in w) (known_in w) (bits_in w) (order_in w) (touches_in w)
 
 -- what is true between calls
 abbrev pub IsWork : Lifted → Work → Type 0

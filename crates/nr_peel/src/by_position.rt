@@ -8,12 +8,12 @@ ghost use Rattle.nr_shifttable.specs.Accepted.{IsTable, column_of, entries_in};
 ghost use Rattle.nr_shifttable.specs.Tails.{value_in};
 ghost use Rattle.nr_ldpcenc.specs.Parity.{parity};
 ghost use Rattle.nr_ldpcenc.specs.Rows.{one_at};
-ghost use Rattle.nr_peel.specs.ByPosition.{Gives, Grows, IsBlank, IsBusy, IsByPosition, IsCounted, IsNew, IsVisited, IsWorking, position_view};
+ghost use Rattle.nr_peel.specs.ByPosition.{GivesMarks, Grows, IsBlank, IsBusy, IsByPosition, IsCounted, IsNew, IsVisited, IsWorking, position_view};
 ghost use Rattle.nr_peel.specs.Closure.{IsOnlyMissing};
 ghost use Rattle.nr_peel.specs.Counters.{AreTied, Follows, IsListed, IsLowered, IsSettled, holder};
-ghost use Rattle.nr_peel.specs.Peeling.{unknown_in};
+ghost use Rattle.nr_peel.specs.Peeling.{bit_where, unknown_in};
 ghost use Rattle.nr_peel.specs.State.{lifted_checks};
-ghost use Rattle.nr_peel.specs.Taken.{TakesUp, bit_where};
+ghost use Rattle.nr_peel.specs.Taken.{TakesUp};
 
 use crate::counters::Counters;
 use crate::fix::Fix;
@@ -43,7 +43,7 @@ impl ByPosition {
     {
         let mut state = ByPosition::blank(alloc, lifted)?;
         let fillers = filler_marks(alloc, lifted)?;
-        // Each takes its bit from a list, which has zeros alone.
+        // A filler's bit is zero (TS 38.212, 5.3.2).
         let zeros = Bits::zeros(alloc, lifted.plan.graph.cols() * lifted.plan.z)?;
         state.give_all(lifted, &fillers, &zeros);
         state.settle(lifted);
@@ -185,7 +185,7 @@ impl ByPosition {
         requires busy { IsBusy (lifted_checks lifted.now) lifted.now.plan.kdash self.old }
         requires inside { pos < (lifted_checks lifted.now).size }
         ensures busy { IsBusy (lifted_checks lifted.now) lifted.now.plan.kdash self.new }
-        ensures gives { Gives (λ p. pos == p) (λ p. value) self.old self.new }
+        ensures gives { GivesMarks (λ p. pos == p) (λ p. value) self.old self.new }
         ensures given { self.new.given.items ≡ slice_set self.old.given.items pos true }
     {
         self.given.set(pos as usize, true);
@@ -202,7 +202,7 @@ impl ByPosition {
         requires heard { length heard.now.items ≡ (lifted_checks lifted.now).size }
         requires values { length values.now.items ≡ (lifted_checks lifted.now).size }
         ensures busy { IsBusy (lifted_checks lifted.now) lifted.now.plan.kdash self.new }
-        ensures gives { Gives (bit heard.now.items) (bit values.now.items) self.old self.new }
+        ensures gives { GivesMarks (bit heard.now.items) (bit values.now.items) self.old self.new }
     {
         let size = lifted.plan.graph.cols() * lifted.plan.z;
         let mut pos = 0;

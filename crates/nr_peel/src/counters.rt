@@ -2,7 +2,7 @@
 
 ghost use Rattle.std.specs.Prelude.{◌≡◌, ◌+◌, ◌*◌, ◌^◌, ◌<◌, ◌≤◌, ℕ, if◌then◌else◌, ◌==◌, All, IfOk, count_by, length, slice_index, sum};
 ghost use Rattle.nr_shifttable.specs.Accepted.{IsTable};
-ghost use Rattle.nr_peel.specs.Counters.{HasRoom, IsLowered, IsStart, holder};
+ghost use Rattle.nr_peel.specs.Counters.{HasRoom, IsLowered, AreAtStart, holder};
 ghost use Rattle.nr_peel.specs.State.{lifted_checks};
 
 use crate::lifted::Lifted;
@@ -39,7 +39,7 @@ impl Counters {
     // The counters with which nothing is known, and the rows that have one position in all.
     pub(crate) fn new(alloc: Global, lifted: &Lifted<'_>) -> Result<Counters, AllocError>
         requires { IsTable lifted.now.table.now }
-        ensures { IfOk result (IsStart (lifted_checks lifted.now)) }
+        ensures { IfOk result (AreAtStart (lifted_checks lifted.now)) }
     {
         let z = lifted.plan.z;
         let rows = lifted.plan.graph.rows() * z;

@@ -9,7 +9,7 @@ ghost use Rattle.nr_shifttable.specs.Accepted.{IsTable};
 ghost use Rattle.nr_shifttable.specs.Tails.{value_in};
 ghost use Rattle.nr_ldpcenc.specs.Parity.{parity};
 ghost use Rattle.nr_ldpcenc.specs.Rows.{positions};
-ghost use Rattle.nr_peel.specs.Lanes.{Takes, hits, lacks, steps_below, turned_step};
+ghost use Rattle.nr_peel.specs.Lanes.{TakesLane, hits, lacks, steps_below, turned_step};
 ghost use Rattle.nr_peel.specs.Starts.{AreBlank};
 ghost use Rattle.nr_peel.specs.State.{lifted_checks};
 ghost use Rattle.nr_peel.specs.Sweeps.{AreLanes, CountsOf, IsBlockSought, counted_in, has_count};
@@ -173,7 +173,7 @@ impl Lanes {
         requires room { length self.old.order.items
             + marked (lacks lifted.now.plan.z entry.now.col (value_in lifted.now.plan.set entry.now)
             ones.now (bit self.old.known.items)) lifted.now.plan.z ≤ vec_capacity self.old.order }
-        ensures { Takes lifted.now entry.now ones.now sums.now self.old self.new }
+        ensures { TakesLane lifted.now entry.now ones.now sums.now self.old self.new }
     {
         let size = lifted.plan.z;
         let turn = lifted.turn(entry);

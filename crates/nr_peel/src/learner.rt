@@ -6,10 +6,9 @@ ghost use Rattle.nr_bitvec.specs.Bit.{bit};
 ghost use Rattle.nr_segment.specs.CodeBlock.{numbers};
 ghost use Rattle.nr_shifttable.specs.Accepted.{IsTable};
 ghost use Rattle.nr_peel.specs.Learning.{IsFilled, IsLearner, Learns};
-ghost use Rattle.nr_peel.specs.Peeling.{fillers, left_of};
+ghost use Rattle.nr_peel.specs.Peeling.{bit_where, fillers, left_of};
 ghost use Rattle.nr_peel.specs.Settled.{HasNoFresh, IsHeld, Keeps};
 ghost use Rattle.nr_peel.specs.State.{lifted_checks};
-ghost use Rattle.nr_peel.specs.Taken.{bit_where};
 
 use crate::lifted::Lifted;
 use crate::sweep::Sweep;

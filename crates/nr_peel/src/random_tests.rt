@@ -138,16 +138,23 @@ fn check_size(
     Ok(())
 }
 
-/// Code blocks of a base graph: two small ones by single positions, and one of each set of sizes by many at a time.
+/// Code blocks of a base graph: two small ones by single positions; by many at a time one of each set of sizes, one of
+/// the largest size that is peeled position by position, and one of the smallest that is peeled by words.
 fn check_graph(
     rt: &impl Abort,
     alloc: Global,
     table: &Table,
     graph: Graph,
+    between: [u32; 2],
     sizes: [u32; 8],
 ) -> Result<(), Fail> {
     check_size(rt, alloc, table, &plan(graph, 40)?, true)?;
     check_size(rt, alloc, table, &plan(graph, sizes[7])?, true)?;
+    for side in 0..2 {
+        let plan = plan(graph, between[side])?;
+        assert_eq!(rt; plan.z, [18, 20][side]);
+        check_size(rt, alloc, table, &plan, false)?;
+    }
     for set in 0..8 {
         let plan = plan(graph, sizes[set])?;
         assert_eq!(rt; plan.set as usize, set);
@@ -157,7 +164,7 @@ fn check_graph(
 }
 
 /// The lifting sizes are 32, 384, 320, 56, 288, 11, 208 and 30 for base graph 1, and 128, 384, 80, 7, 144, 176, 26 and
-/// 240 for base graph 2: 7 and 11 are peeled position by position, the others by words.
+/// 240 for base graph 2: 7 and 11 are peeled position by position, as 18 is, the others by words, as 20 is.
 #[test]
 fn as_rounds_and_as_shown(rt: HostRuntime) -> Result<(), Fail> {
     let alloc = rt.alloc();
@@ -167,6 +174,7 @@ fn as_rounds_and_as_shown(rt: HostRuntime) -> Result<(), Fail> {
         alloc,
         &made_up(alloc, Graph::One, 46, 22)?,
         Graph::One,
+        [390, 430],
         one,
     )?;
     let two = [1275, 3830, 790, 40, 1435, 1750, 150, 2390];
@@ -175,6 +183,7 @@ fn as_rounds_and_as_shown(rt: HostRuntime) -> Result<(), Fail> {
         alloc,
         &made_up(alloc, Graph::Two, 42, 10)?,
         Graph::Two,
+        [100, 115],
         two,
     )
 }

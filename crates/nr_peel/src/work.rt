@@ -4,9 +4,9 @@ ghost use Rattle.std.specs.Prelude.{◌≡◌, ◌+◌, ◌<◌, ◌≤◌, ◌=
 ghost use Rattle.std.specs.Int.{bit_at};
 ghost use Rattle.nr_bitvec.specs.Bit.{bit};
 ghost use Rattle.nr_shifttable.specs.Accepted.{IsTable};
-ghost use Rattle.nr_peel.specs.Peeling.{unknown_in};
+ghost use Rattle.nr_peel.specs.Peeling.{bit_where, unknown_in};
 ghost use Rattle.nr_peel.specs.State.{lifted_checks};
-ghost use Rattle.nr_peel.specs.Taken.{TakesUp, bit_where};
+ghost use Rattle.nr_peel.specs.Taken.{TakesUp};
 ghost use Rattle.nr_peel.specs.Work.{
   IsBegun,
   IsWork,

@@ -9,7 +9,7 @@ use Rattle.nr_graphpick.specs.declared.Graph.{Graph}
 use Rattle.nr_graphpick.specs.declared.Graph.TheVariants.{One, Two}
 use Rattle.nr_lifting.specs.Sizes.{sizes, is_in, least_size, set_index}
 use Rattle.nr_segment.specs.declared.numbers.SegFault.TheVariants.{Short, Long, Uneven}
-use Rattle.nr_segment.specs.Plan.{check_bits, block_count, total_bits, block_bits, info_columns, lifting_size, numbers_of, plan_of, Numbers, IsSound}
+use Rattle.nr_segment.specs.Plan.{check_bits, block_count, total_bits, kdash_of, info_columns, lifting_size, numbers_of, plan_of, Numbers, IsSound}
 use Rattle.nr_segment.proofs.SizeSearch.{least_size-holds, least_size-half, least_size-listed, least_size-some, listed-most, set_index-some}
 
 -- an option that has a value has the one that it is unwrapped to
@@ -85,7 +85,7 @@ several-blocks most b c kb cols most_some b_some many few covers spread wide nar
 
 -- with base graph 1
 shared-one : (b : ℕ) → 24 ≤ b → b ≤ 1310744 → total_bits One b % block_count One b ≡ 0
-    → IsShared b (check_bits One b) (block_count One b) (block_bits One b) (info_columns One b) 22
+    → IsShared b (check_bits One b) (block_count One b) (kdash_of One b) (info_columns One b) 22
 shared-one b least most even = go (nat_le b 8448) refl even
   where
     go : (one : Bool) → nat_le b 8448 ≡ one
@@ -110,7 +110,7 @@ columns-two-range b = (grind (arith, nat_tests), grind (arith, nat_tests))
 
 -- with base graph 2
 shared-two : (b : ℕ) → 24 ≤ b → b ≤ 1310744 → total_bits Two b % block_count Two b ≡ 0
-    → IsShared b (check_bits Two b) (block_count Two b) (block_bits Two b) (info_columns Two b) 10
+    → IsShared b (check_bits Two b) (block_count Two b) (kdash_of Two b) (info_columns Two b) 10
 shared-two b least most even = go (nat_le b 3840) refl even
   where
     go : (one : Bool) → nat_le b 3840 ≡ one
@@ -130,7 +130,7 @@ shared-two b least most even = go (nat_le b 3840) refl even
 
 -- the bits are shared out so with either base graph
 pub shared : (graph : Graph) (b : ℕ) → 24 ≤ b → b ≤ 1310744 → total_bits graph b % block_count graph b ≡ 0
-    → IsShared b (check_bits graph b) (block_count graph b) (block_bits graph b) (info_columns graph b) (info_cols_of graph)
+    → IsShared b (check_bits graph b) (block_count graph b) (kdash_of graph b) (info_columns graph b) (info_cols_of graph)
 shared One b least most even = shared-one b least most even
 shared Two b least most even = shared-two b least most even
 
@@ -139,10 +139,10 @@ share : (b c kdash l : ℕ) → l < kdash → c * kdash ≡ b + c * l → c * (k
 share b c kdash l checked total = let less : c * kdash - c * l ≡ b = omega arith in mul-sub c kdash l ∙ less
 
 -- Zc is the least size for K' bits in Kb columns
-pub size-found : (graph : Graph) (b : ℕ) → block_bits graph b ≤ info_columns graph b * 384
-    → least_size (info_columns graph b) (block_bits graph b) ≡ Some (lifting_size graph b)
+pub size-found : (graph : Graph) (b : ℕ) → kdash_of graph b ≤ info_columns graph b * 384
+    → least_size (info_columns graph b) (kdash_of graph b) ≡ Some (lifting_size graph b)
 unfolding lifting_size
-size-found graph b spread = some-unwrap_or _ (least_size-some (info_columns graph b) (block_bits graph b) spread)
+size-found graph b spread = some-unwrap_or _ (least_size-some (info_columns graph b) (kdash_of graph b) spread)
 
 -- a size that holds bits is not zero
 size-positive : (kb need z : ℕ) → need ≤ kb * z → 24 ≤ need → 0 < z
@@ -156,22 +156,22 @@ coded-most Two z most = omega arith
 
 -- the numbers are sound where the bits are shared out
 sound-numbers : (graph : Graph) (b : ℕ) → 24 ≤ b → b ≤ 1310744
-    → IsShared b (check_bits graph b) (block_count graph b) (block_bits graph b) (info_columns graph b) (info_cols_of graph)
+    → IsShared b (check_bits graph b) (block_count graph b) (kdash_of graph b) (info_columns graph b) (info_cols_of graph)
     → IsSound graph b (numbers_of graph b)
 unfolding numbers_of
 sound-numbers graph b least most s =
-    let found : least_size (info_columns graph b) (block_bits graph b) ≡ Some (lifting_size graph b) =
+    let found : least_size (info_columns graph b) (kdash_of graph b) ≡ Some (lifting_size graph b) =
     size-found graph b s.spread in
     let listed : is_in (lifting_size graph b) sizes ≡ true = least_size-listed _ _ _ found in
-    let holds : block_bits graph b ≤ info_columns graph b * lifting_size graph b = least_size-holds _ _ _ found in
+    let holds : kdash_of graph b ≤ info_columns graph b * lifting_size graph b = least_size-holds _ _ _ found in
     let narrow : info_columns graph b * lifting_size graph b ≤ info_cols_of graph * lifting_size graph b =
     mul-le-mul_right (lifting_size graph b) s.narrow in
     let cols : info_cols_of graph * lifting_size graph b ≤ 22 * lifting_size graph b =
     mul-le-mul_right (lifting_size graph b) s.cols_most in
     let size_most : lifting_size graph b ≤ 384 = listed-most (lifting_size graph b) listed in
-    let low : info_columns graph b < block_bits graph b = omega arith in
-    let half : 2 * lifting_size graph b < block_bits graph b =
-    least_size-half (info_columns graph b) (block_bits graph b) (lifting_size graph b) s.wide low found in
+    let low : info_columns graph b < kdash_of graph b = omega arith in
+    let half : 2 * lifting_size graph b < kdash_of graph b =
+    least_size-half (info_columns graph b) (kdash_of graph b) (lifting_size graph b) s.wide low found in
     record {
       least = least;
       most = most;
@@ -179,10 +179,10 @@ sound-numbers graph b least most s =
       few = s.few;
       several = s.several;
       checked = s.checked;
-      shared = share b (block_count graph b) (block_bits graph b) (check_bits graph b) s.checked s.total;
+      shared = share b (block_count graph b) (kdash_of graph b) (check_bits graph b) s.checked s.total;
       listed = listed;
       set_is = some-unwrap_or _ (set_index-some (lifting_size graph b) listed);
-      size_some = size-positive (info_columns graph b) (block_bits graph b) (lifting_size graph b) holds s.least;
+      size_some = size-positive (info_columns graph b) (kdash_of graph b) (lifting_size graph b) holds s.least;
       size_most = size_most;
       columns = refl;
       coded = refl;

@@ -26,8 +26,8 @@ abbrev pub total_bits : Graph → ℕ → ℕ
 total_bits graph b = b + block_count graph b * check_bits graph b
 
 -- K', the bits of each code block
-abbrev pub block_bits : Graph → ℕ → ℕ
-block_bits graph b = total_bits graph b / block_count graph b
+abbrev pub kdash_of : Graph → ℕ → ℕ
+kdash_of graph b = total_bits graph b / block_count graph b
 
 -- Kb, the number of columns that K' bits are spread over
 abbrev pub info_columns : Graph → ℕ → ℕ
@@ -37,7 +37,7 @@ info_columns Two b =
 
 -- Zc, the least lifting size with which Kb columns hold K' bits
 unfoldable pub lifting_size : Graph → ℕ → ℕ
-lifting_size graph b = unwrap_or (least_size (info_columns graph b) (block_bits graph b)) 0
+lifting_size graph b = unwrap_or (least_size (info_columns graph b) (kdash_of graph b)) 0
 
 -- the numbers of a plan, by their names in TS 38.212; kdash is K'
 pub record Numbers : Type 0 where
@@ -55,7 +55,7 @@ unfoldable pub numbers_of : Graph → ℕ → Numbers
 numbers_of graph b = record {
   l = check_bits graph b;
   c = block_count graph b;
-  kdash = block_bits graph b;
+  kdash = kdash_of graph b;
   kb = info_columns graph b;
   z = lifting_size graph b;
   set = unwrap_or (set_index (lifting_size graph b)) 0;

@@ -17,7 +17,7 @@ use Rattle.nr_shifttable.specs.declared.fault.TableFault.TheVariants.{Empty}
 use Rattle.nr_shifttable.specs.declared.fault.EntriesFault.TheVariants as fault
 use Rattle.nr_shifttable.specs.Accepted.{Entries, entry_place, with_entry, entries_for, table_of, Ascending, IsInRange, graph_checked, accepted, IsTable}
 use Rattle.nr_shifttable.specs.Items.{graph_eq}
-use Rattle.nr_shifttable.specs.Listed.{item_key, has_room, graph_number, kept_of, has_graph, item_of, is_within, places_from, places_said, entries_said, item_in_graph, items_listed, kept_listed}
+use Rattle.nr_shifttable.specs.Listed.{item_key, is_of_graph, graph_number, kept_of, names_graph, item_kept, is_placed, places_from, places_said, entries_said, item_in_graph, items_listed, kept_listed}
 use Rattle.nr_shifttable.specs.Orders.{key_of}
 use Rattle.nr_graphpick.specs.Refusal.{◌>>=◌}
 use Rattle.nr_shifttable.proofs.ItemLaws.{both-true}
@@ -26,20 +26,20 @@ use Rattle.nr_shifttable.proofs.Slices.{filter_within}
 -- each item is within its base graph and past those before it, and the first is not below `past`
 abbrev pub Ascend : ℕ → List Item → Type 0
 Ascend past [] = Unit {0}
-Ascend past (x ∷ xs) = (has_room x ≡ true) × (past ≤ item_key x) × Ascend (item_key x + 1) xs
+Ascend past (x ∷ xs) = (is_of_graph x ≡ true) × (past ≤ item_key x) × Ascend (item_key x + 1) xs
 
 -- so it is where nothing is said against the places of entries, and only there
-pub said-ascend : (k past : ℕ) (es : List KeptEntry) → places_from k past es ≡ Ok tt → Ascend past (map item_of es)
+pub said-ascend : (k past : ℕ) (es : List KeptEntry) → places_from k past es ≡ Ok tt → Ascend past (map item_kept es)
 unfolding places_from
 said-ascend k past [] said = tt
-said-ascend k past (e ∷ es) said = by (is_within e) (nat_lt (item_key (item_of e)) past) refl refl said (said-ascend (k + 1) (item_key (item_of e) + 1) es)
+said-ascend k past (e ∷ es) said = by (is_placed e) (nat_lt (item_key (item_kept e)) past) refl refl said (said-ascend (k + 1) (item_key (item_kept e) + 1) es)
   where
-    by : (within below : Bool) → is_within e ≡ within → nat_lt (item_key (item_of e)) past ≡ below
-        → cond (not within) (Err (fault.Range k)) (cond below (Err (fault.Order k)) (places_from (k + 1) (item_key (item_of e) + 1) es)) ≡ Ok tt
-        → (places_from (k + 1) (item_key (item_of e) + 1) es ≡ Ok tt → Ascend (item_key (item_of e) + 1) (map item_of es)) → Ascend past (item_of e ∷ map item_of es)
+    by : (within below : Bool) → is_placed e ≡ within → nat_lt (item_key (item_kept e)) past ≡ below
+        → cond (not within) (Err (fault.Range k)) (cond below (Err (fault.Order k)) (places_from (k + 1) (item_key (item_kept e) + 1) es)) ≡ Ok tt
+        → (places_from (k + 1) (item_key (item_kept e) + 1) es ≡ Ok tt → Ascend (item_key (item_kept e) + 1) (map item_kept es)) → Ascend past (item_kept e ∷ map item_kept es)
     by false below a b said next = cc said
     by true true a b said next = cc said
-    by true false a b said next = ((both-true (has_graph e) (has_room (item_of e)) a).1, ltb-false (item_key (item_of e)) past b, next said)
+    by true false a b said next = ((both-true (names_graph e) (is_of_graph (item_kept e)) a).1, ltb-false (item_key (item_kept e)) past b, next said)
 
 pub ascend-said : (k past : ℕ) (items : List Item) → Ascend past items → places_from k past (map kept_of items) ≡ Ok tt
 unfolding places_from
@@ -52,18 +52,18 @@ ascend-said k past (x ∷ xs) up = by x.graph x.entry up (ascend-said (k + 1) (i
     by Two e up rest = let above = le-ltb (key_of Two e.row e.col) past up.1 in rw (up.0, above) rest
 
 -- an item is that of what is kept of it, and what is kept is that of its item, where its base graph is 1 or 2
-item-back : (g : Graph) (e : Entry) → item_of (kept_of (record { graph = g; entry = e })) ≡ record { graph = g; entry = e }
+item-back : (g : Graph) (e : Entry) → item_kept (kept_of (record { graph = g; entry = e })) ≡ record { graph = g; entry = e }
 item-back One e = refl
 item-back Two e = refl
 
-pub items-back : (xs : List Item) → map item_of (map kept_of xs) ≡ xs
+pub items-back : (xs : List Item) → map item_kept (map kept_of xs) ≡ xs
 items-back [] = refl
 items-back (x ∷ xs) =
-    let first : item_of (kept_of x) ≡ x = item-back x.graph x.entry in
-    let rest : map item_of (map kept_of xs) ≡ xs = items-back xs in
+    let first : item_kept (kept_of x) ≡ x = item-back x.graph x.entry in
+    let rest : map item_kept (map kept_of xs) ≡ xs = items-back xs in
     cc
 
-kept-back : (e : KeptEntry) → has_graph e ≡ true → kept_of (item_of e) ≡ e
+kept-back : (e : KeptEntry) → names_graph e ≡ true → kept_of (item_kept e) ≡ e
 kept-back e has = ap numbered (number (e.graph == 1) (e.graph == 2) refl refl has)
   where
     numbered : ℕ → KeptEntry
@@ -74,19 +74,19 @@ kept-back e has = ap numbered (number (e.graph == 1) (e.graph == 2) refl refl ha
     number false true a b has = sym (eqb-true e.graph 2 b)
     number false false a b has = cc has
 
-all-back : (k past : ℕ) (es : List KeptEntry) → places_from k past es ≡ Ok tt → map kept_of (map item_of es) ≡ es
+all-back : (k past : ℕ) (es : List KeptEntry) → places_from k past es ≡ Ok tt → map kept_of (map item_kept es) ≡ es
 unfolding places_from
 all-back k past [] said = refl
-all-back k past (e ∷ es) said = by (is_within e) (nat_lt (item_key (item_of e)) past) refl said (all-back (k + 1) (item_key (item_of e) + 1) es)
+all-back k past (e ∷ es) said = by (is_placed e) (nat_lt (item_key (item_kept e)) past) refl said (all-back (k + 1) (item_key (item_kept e) + 1) es)
   where
-    by : (within below : Bool) → is_within e ≡ within
-        → cond (not within) (Err (fault.Range k)) (cond below (Err (fault.Order k)) (places_from (k + 1) (item_key (item_of e) + 1) es)) ≡ Ok tt
-        → (places_from (k + 1) (item_key (item_of e) + 1) es ≡ Ok tt → map kept_of (map item_of es) ≡ es) → kept_of (item_of e) ∷ map kept_of (map item_of es) ≡ e ∷ es
+    by : (within below : Bool) → is_placed e ≡ within
+        → cond (not within) (Err (fault.Range k)) (cond below (Err (fault.Order k)) (places_from (k + 1) (item_key (item_kept e) + 1) es)) ≡ Ok tt
+        → (places_from (k + 1) (item_key (item_kept e) + 1) es ≡ Ok tt → map kept_of (map item_kept es) ≡ es) → kept_of (item_kept e) ∷ map kept_of (map item_kept es) ≡ e ∷ es
     by false below a said next = cc said
     by true true a said next = cc said
     by true false a said next =
-        let first : kept_of (item_of e) ≡ e = kept-back e (both-true (has_graph e) (has_room (item_of e)) a).0 in
-        let rest : map kept_of (map item_of es) ≡ es = next said in
+        let first : kept_of (item_kept e) ≡ e = kept-back e (both-true (names_graph e) (is_of_graph (item_kept e)) a).0 in
+        let rest : map kept_of (map item_kept es) ≡ es = next said in
         cc
 
 -- an insertion past all entries goes behind them
@@ -158,52 +158,52 @@ ones-first past (x ∷ xs) up = by x.graph x.entry up (ones-first (item_key x + 
     by Two e up rest twos zero (suc j) d le lt is = let other = twos (omega arith) j d (omega arith) in absurd (apart (sym is ∙ other))
 
 -- entries that were kept are of base graph 1 by their number
-one-is : (e : KeptEntry) → graph_eq (item_of e).graph One ≡ (e.graph == 1)
+one-is : (e : KeptEntry) → graph_eq (item_kept e).graph One ≡ (e.graph == 1)
 one-is e = by (e.graph == 1)
   where
     by : (one : Bool) → graph_eq (cond one One Two) One ≡ one
     by true = refl
     by false = refl
 
-pub kept-ones-first : (es : List KeptEntry) → Ascend 0 (map item_of es) → IsPartitionedBy (λ e. e.graph == 1) es
+pub kept-ones-first : (es : List KeptEntry) → Ascend 0 (map item_kept es) → IsPartitionedBy (λ e. e.graph == 1) es
 kept-ones-first es up i j d le lt is =
-    let long = length-map es item_of in
+    let long = length-map es item_kept in
     let here : i < length es = omega (arith, le, lt) in
     sym (one-is (get_or es i d))
-    ∙ ap (λ x. graph_eq x.graph One) (sym (get_or-map item_of es i d (item_of d) here))
-    ∙ ones-first 0 (map item_of es) up i j (item_of d) le (omega (arith, lt, long))
-    (ap (λ x. graph_eq x.graph One) (get_or-map item_of es j d (item_of d) lt) ∙ one-is (get_or es j d) ∙ is)
+    ∙ ap (λ x. graph_eq x.graph One) (sym (get_or-map item_kept es i d (item_kept d) here))
+    ∙ ones-first 0 (map item_kept es) up i j (item_kept d) le (omega (arith, lt, long))
+    (ap (λ x. graph_eq x.graph One) (get_or-map item_kept es j d (item_kept d) lt) ∙ one-is (get_or es j d) ∙ is)
 
-ones-of : (es : List KeptEntry) → entries_for One (map item_of es) ≡ map (λ (e : KeptEntry). e.entry) (filter (λ e. e.graph == 1) es)
+ones-of : (es : List KeptEntry) → entries_for One (map item_kept es) ≡ map (λ (e : KeptEntry). e.entry) (filter (λ e. e.graph == 1) es)
 ones-of [] = refl
 ones-of (e ∷ es) = by (e.graph == 1) (ones-of es)
   where
-    by : (one : Bool) → entries_for One (map item_of es) ≡ map (λ (e : KeptEntry). e.entry) (filter (λ x. x.graph == 1) es)
-        → map (λ i. i.entry) (cond (graph_eq (cond one One Two) One) (item_in_graph (cond one One Two) e.entry ∷ filter (λ x. graph_eq x.graph One) (map item_of es)) (filter (λ x. graph_eq x.graph One) (map item_of es)))
+    by : (one : Bool) → entries_for One (map item_kept es) ≡ map (λ (e : KeptEntry). e.entry) (filter (λ x. x.graph == 1) es)
+        → map (λ i. i.entry) (cond (graph_eq (cond one One Two) One) (item_in_graph (cond one One Two) e.entry ∷ filter (λ x. graph_eq x.graph One) (map item_kept es)) (filter (λ x. graph_eq x.graph One) (map item_kept es)))
         ≡ map (λ (e : KeptEntry). e.entry) (cond one (e ∷ filter (λ x. x.graph == 1) es) (filter (λ x. x.graph == 1) es))
     by true rest = ap (λ l. e.entry ∷ l) rest
     by false rest = rest
 
-twos-of : (es : List KeptEntry) → entries_for Two (map item_of es) ≡ map (λ (e : KeptEntry). e.entry) (filter (λ e. not (e.graph == 1)) es)
+twos-of : (es : List KeptEntry) → entries_for Two (map item_kept es) ≡ map (λ (e : KeptEntry). e.entry) (filter (λ e. not (e.graph == 1)) es)
 twos-of [] = refl
 twos-of (e ∷ es) = by (e.graph == 1) (twos-of es)
   where
-    by : (one : Bool) → entries_for Two (map item_of es) ≡ map (λ (e : KeptEntry). e.entry) (filter (λ x. not (x.graph == 1)) es)
-        → map (λ i. i.entry) (cond (graph_eq (cond one One Two) Two) (item_in_graph (cond one One Two) e.entry ∷ filter (λ x. graph_eq x.graph Two) (map item_of es)) (filter (λ x. graph_eq x.graph Two) (map item_of es)))
+    by : (one : Bool) → entries_for Two (map item_kept es) ≡ map (λ (e : KeptEntry). e.entry) (filter (λ x. not (x.graph == 1)) es)
+        → map (λ i. i.entry) (cond (graph_eq (cond one One Two) Two) (item_in_graph (cond one One Two) e.entry ∷ filter (λ x. graph_eq x.graph Two) (map item_kept es)) (filter (λ x. graph_eq x.graph Two) (map item_kept es)))
         ≡ map (λ (e : KeptEntry). e.entry) (cond (not one) (e ∷ filter (λ x. not (x.graph == 1)) es) (filter (λ x. not (x.graph == 1)) es))
     by true rest = rest
     by false rest = ap (λ l. e.entry ∷ l) rest
 
 module _ (es : List KeptEntry) (k : ℕ) (within : k ≤ length es) (point : IsPartitionPoint (λ e. (e.graph == 1) ≡ true) (λ e. (e.graph == 1) ≡ false) es k) where
   -- where those of base graph 1 end, the entries of both are parted
-  pub ones-are : map (λ (e : KeptEntry). e.entry) (take k es) ≡ entries_for One (map item_of es)
+  pub ones-are : map (λ (e : KeptEntry). e.entry) (take k es) ≡ entries_for One (map item_kept es)
   ones-are =
       let all : k ≡ k - 0 = omega arith in
       ap (map (λ (e : KeptEntry). e.entry))
       (ap (λ n. take n es) all ∙ filter_within (λ e. e.graph == 1) es 0 k (omega arith) within (λ i d a b. absurd (omega arith)) point.0 point.1)
       ∙ sym (ones-of es)
 
-  pub twos-are : map (λ (e : KeptEntry). e.entry) (take (length es - k) (drop k es)) ≡ entries_for Two (map item_of es)
+  pub twos-are : map (λ (e : KeptEntry). e.entry) (take (length es - k) (drop k es)) ≡ entries_for Two (map item_kept es)
   twos-are = ap (map (λ (e : KeptEntry). e.entry))
       (filter_within (λ e. not (e.graph == 1)) es k (length es) within (omega arith)
       (λ i d a b. ap not (point.0 i d a b)) (λ i d a b. ap not (point.1 i d a b)) (λ i d a b. absurd (omega arith)))
@@ -274,9 +274,9 @@ accepted-same t u e = by ((length t.one == 0) && (length t.two == 0)) (graph_che
     by false (Ok x) (Err d) e = cc e
     by false (Ok x) (Ok y) e = cc e
 
-pub kept-listed : (es : List KeptEntry) (t : Entries) → places_said es ≡ Ok tt → accepted (table_of (map item_of es)) ≡ Ok t → kept_listed t ≡ es
+pub kept-listed : (es : List KeptEntry) (t : Entries) → places_said es ≡ Ok tt → accepted (table_of (map item_kept es)) ≡ Ok t → kept_listed t ≡ es
 kept-listed es t said judged =
-    ap (map kept_of) (ap items_listed (sym (accepted-same (table_of (map item_of es)) t judged)) ∙ ascend-listed (map item_of es) (said-ascend 1 0 es said))
+    ap (map kept_of) (ap items_listed (sym (accepted-same (table_of (map item_kept es)) t judged)) ∙ ascend-listed (map item_kept es) (said-ascend 1 0 es said))
     ∙ all-back 1 0 es said
 
 -- and back: the entries of a base graph in ascending order, with their base graph, ascend as items
@@ -284,7 +284,7 @@ ascend-from : (low past : ℕ) (items : List Item) → low ≤ past → Ascend p
 ascend-from low past [] le up = tt
 ascend-from low past (x ∷ xs) le up = let first = up.1 in (up.0, omega arith, up.2)
 
-in-room : (g : Graph) (e : Entry) → IsInRange g e → has_room (item_in_graph g e) ≡ true
+in-room : (g : Graph) (e : Entry) → IsInRange g e → is_of_graph (item_in_graph g e) ≡ true
 in-room g e inside = rw (lt-ltb e.row (rows_of g) inside.row, lt-ltb e.col (cols_of g) inside.col) refl
 
 twos-placed : (past low : ℕ) (es : List Entry) → past ≤ low + 4096 → Ascending low es → All (IsInRange Two) es → Ascend past (map (item_in_graph Two) es)

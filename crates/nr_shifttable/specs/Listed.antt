@@ -17,8 +17,8 @@ abbrev pub item_key : Item → ℕ
 item_key x = key_of x.graph x.entry.row x.entry.col
 
 -- an item's row and column are those of its base graph
-abbrev pub has_room : Item → Bool
-has_room x = nat_lt x.entry.row (rows_of x.graph) && nat_lt x.entry.col (cols_of x.graph)
+abbrev pub is_of_graph : Item → Bool
+is_of_graph x = nat_lt x.entry.row (rows_of x.graph) && nat_lt x.entry.col (cols_of x.graph)
 
 abbrev pub item_in_graph : Graph → Entry → Item
 item_in_graph g e = record { graph = g; entry = e }
@@ -35,25 +35,25 @@ abbrev pub kept_of : Item → KeptEntry
 kept_of x = record { graph = graph_number x.graph; entry = x.entry }
 
 -- its base graph is 1 or 2
-abbrev pub has_graph : KeptEntry → Bool
-has_graph e = (e.graph == 1) || (e.graph == 2)
+abbrev pub names_graph : KeptEntry → Bool
+names_graph e = (e.graph == 1) || (e.graph == 2)
 
 -- the item that it is then
-abbrev pub item_of : KeptEntry → Item
-item_of e = item_in_graph (if e.graph == 1 then One else Two) e.entry
+abbrev pub item_kept : KeptEntry → Item
+item_kept e = item_in_graph (if e.graph == 1 then One else Two) e.entry
 
 -- it is one of its base graph
-abbrev pub is_within : KeptEntry → Bool
-is_within e = has_graph e && has_room (item_of e)
+abbrev pub is_placed : KeptEntry → Bool
+is_placed e = names_graph e && is_of_graph (item_kept e)
 
 -- What entries say of their places, from entry k on, where the keys of those before it are all below `past`: nothing,
 -- or of the first entry with a fault that it is outside its base graph, or else that it does not stand past those before it.
 unfoldable pub places_from : ℕ → ℕ → List KeptEntry → Result (Unit {0}) EntriesFault
 places_from k past [] = Ok tt
 places_from k past (e ∷ es) =
-    if not (is_within e) then Err (fault.Range k)
-    else if nat_lt (item_key (item_of e)) past then Err (fault.Order k)
-    else places_from (k + 1) (item_key (item_of e) + 1) es
+    if not (is_placed e) then Err (fault.Range k)
+    else if nat_lt (item_key (item_kept e)) past then Err (fault.Order k)
+    else places_from (k + 1) (item_key (item_kept e) + 1) es
 
 -- of all entries of a list, whose first is number 1
 abbrev pub places_said : List KeptEntry → Result (Unit {0}) EntriesFault
@@ -61,7 +61,7 @@ places_said es = places_from 1 0 es
 
 -- what entries that a caller kept say: their table, or the first fault
 unfoldable pub entries_said : List KeptEntry → Result Entries EntriesFault
-entries_said es = places_said es >>= λ _. with_fault fault.Table (accepted (table_of (map item_of es)))
+entries_said es = places_said es >>= λ _. with_fault fault.Table (accepted (table_of (map item_kept es)))
 
 -- the items of a table, in ascending order, and the same as a caller keeps them
 abbrev pub items_listed : Entries → List Item

@@ -4,7 +4,7 @@ ghost use Rattle.std.specs.Prelude.{◌≡◌, ◌-◌, ◌^◌, ◌<◌, ◌≤
 ghost use Rattle.nr_graphpick.specs.declared.Graph.TheVariants.{One, Two};
 ghost use Rattle.nr_shifttable.specs.Accepted.{entries_for};
 ghost use Rattle.nr_shifttable.specs.Items.{IsInside};
-ghost use Rattle.nr_shifttable.specs.Listed.{has_room, is_within, item_in_graph, item_key, item_of, places_from, places_said};
+ghost use Rattle.nr_shifttable.specs.Listed.{is_of_graph, is_placed, item_in_graph, item_key, item_kept, places_from, places_said};
 
 use crate::entry::{Entry, KeptEntry};
 use crate::fault::EntriesFault;
@@ -19,7 +19,7 @@ use nr_graphpick::Graph;
 #[tactic(auto, unfolding(crate::specs::Listed::places_from))]
 pub(crate) fn judge_places(entries: &[KeptEntry]) -> Result<(), EntriesFault>
     ensures said { result ≡ places_said entries.now }
-    ensures inside { OnOk result (All (λ e. IsInside (item_of e)) entries.now) }
+    ensures inside { OnOk result (All (λ e. IsInside (item_kept e)) entries.now) }
 {
     let mut number = 0;
     let mut past = 0;
@@ -39,8 +39,8 @@ pub(crate) fn judge_places(entries: &[KeptEntry]) -> Result<(), EntriesFault>
 // The key of an entry's place, if its base graph is 1 or 2 and has its row and its column.
 fn key_within(kept: &KeptEntry) -> Option<u32>
     ensures key { result
-        ≡ (if is_within kept.now then Some (item_key (item_of kept.now)) else None) }
-    ensures inside { IfSome result (λ key. IsInside (item_of kept.now)) }
+        ≡ (if is_placed kept.now then Some (item_key (item_kept kept.now)) else None) }
+    ensures inside { IfSome result (λ key. IsInside (item_kept kept.now)) }
     ensures few { IfSome result (λ key. key < 2 ^ 24) }
 {
     match kept.graph {
@@ -53,7 +53,7 @@ fn key_within(kept: &KeptEntry) -> Option<u32>
 // The key of an entry's place in a base graph, if that has its row and its column.
 fn key_in(graph: Graph, entry: &Entry) -> Option<u32>
     ensures key { let item = item_in_graph graph entry.now in result
-        ≡ (if has_room item then Some (item_key item) else None) }
+        ≡ (if is_of_graph item then Some (item_key item) else None) }
     ensures inside { IfSome result (λ key. IsInside (item_in_graph graph entry.now)) }
     ensures few { IfSome result (λ key. key < 2 ^ 24) }
 {
@@ -70,9 +70,9 @@ pub(crate) fn ones_in(entries: &[KeptEntry]) -> usize
     requires { places_said entries.now ≡ Ok tt }
     ensures bound { result ≤ length entries.now }
     ensures ones { map (λ e. e.entry) (take result entries.now)
-        ≡ entries_for One (map item_of entries.now) }
+        ≡ entries_for One (map item_kept entries.now) }
     ensures twos { map (λ e. e.entry) (take (length entries.now - result) (drop result entries.now))
-        ≡ entries_for Two (map item_of entries.now) }
+        ≡ entries_for Two (map item_kept entries.now) }
 {
     entries.partition_point(|entry| entry.graph == 1)
 }

@@ -3,7 +3,7 @@
 ghost use Rattle.std.specs.Prelude.{◌≡◌, ◌↔◌, ◌⊎◌, ◌+◌, ◌^◌, ◌<◌, ◌≤◌, All, IfErr, IfOk, IfSome, IsErrOf, Ok, length, map, option_map, slice_get, slice_index};
 ghost use Rattle.nr_shifttable.specs.Accepted.{entries_in, has_graph, row_of, column_of, value_at, TellsTable, table_of, table_said, accepted, ColumnsAscend, RowsAscend, IsInRange, IsTable};
 ghost use Rattle.nr_shifttable.specs.Items.{Apart, IsInside};
-ghost use Rattle.nr_shifttable.specs.Listed.{entries_said, item_of, items_listed, kept_listed, places_said};
+ghost use Rattle.nr_shifttable.specs.Listed.{entries_said, item_kept, items_listed, kept_listed, places_said};
 ghost use Rattle.nr_shifttable.specs.Source.{KeepsCount, TellsFailure};
 ghost use Rattle.nr_graphpick.specs.declared.Graph.TheVariants.{One, Two};
 ghost use Rattle.nr_graphpick.specs.Refusal.{Gives};
@@ -140,10 +140,10 @@ impl Table {
     // The table of entries that ascend, those of base graph 1 first: they need no sorting.
     fn of_ascending(alloc: Global, entries: &[KeptEntry]) -> Result<Table, TableFault>
         requires ascending { places_said entries.now ≡ Ok tt }
-        requires in_range { All (λ e. IsInside (item_of e)) entries.now }
+        requires in_range { All (λ e. IsInside (item_kept e)) entries.now }
         ensures table { IfOk result IsTable }
         ensures said { Gives TableFault.Memory (λ t. t) result
-            (accepted (table_of (map item_of entries.now))) }
+            (accepted (table_of (map item_kept entries.now))) }
     {
         let ones = ones_in(entries);
         let one = Sorted::of_ascending(alloc, &entries[..ones])?;

@@ -4,7 +4,7 @@ ghost use Rattle.std.specs.Prelude.{◌≡◌, ◌≤◌, ◌==◌, ◌&&◌, if
 ghost use Rattle.csv.specs.Records.{fields_of};
 ghost use Rattle.nr_graphpick.specs.Refusal.{Gives};
 ghost use Rattle.nr_files.specs.Rounds.{round_of};
-ghost use Rattle.nr_files.specs.Schedule.{block_in, erasure_at, flip_at, fresh_at, fresh_block, mask_at, number_at, process_at, transmission_of};
+ghost use Rattle.nr_files.specs.Schedule.{block_in, erasure_at, flip_at, fresh_at, fresh_block, mask_at, number_in_field, process_at, transmission_of};
 
 use super::columns::field;
 use super::{PROCESSES, ScheduleFault, Transmission};
@@ -42,11 +42,11 @@ pub(crate) fn transmission_of(
     if number > LAST_RECORD {
         return Err(ScheduleFault::TooMany);
     }
-    let block = number_at(number, row, b"block")?;
-    let rv = number_at(number, row, b"rv")?;
-    let g = number_at(number, row, b"g")?;
-    let qm = number_at(number, row, b"qm")?;
-    let nl = number_at(number, row, b"nl")?;
+    let block = number_in_field(number, row, b"block")?;
+    let rv = number_in_field(number, row, b"rv")?;
+    let g = number_in_field(number, row, b"g")?;
+    let qm = number_in_field(number, row, b"qm")?;
+    let nl = number_in_field(number, row, b"nl")?;
     let block = block_in(number, blocks, block)?;
     let erasure = erasure_at(alloc, number, row)?;
     let flip = flip_at(alloc, number, row)?;
@@ -73,8 +73,8 @@ pub(crate) fn transmission_of(
 }
 
 // The number that a record's field says in the column of this name.
-fn number_at(number: u32, row: &ByteRecord, name: &[u8]) -> Result<u32, ScheduleFault>
-    ensures { result ≡ number_at number (fields_of row.now) name.now }
+fn number_in_field(number: u32, row: &ByteRecord, name: &[u8]) -> Result<u32, ScheduleFault>
+    ensures { result ≡ number_in_field number (fields_of row.now) name.now }
 {
     match field(row, name).and_then(short_word) {
         Some(value) => Ok(value),

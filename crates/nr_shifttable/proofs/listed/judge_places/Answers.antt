@@ -3,7 +3,7 @@ use Rattle.std.proofs.lemmas.Grind.{common_steps}
 use Rattle.std.proofs.lemmas.List.Elements.{All-more}
 use Rattle.nr_shifttable.specs.declared.entry.KeptEntry.{KeptEntry}
 use Rattle.nr_shifttable.specs.Items.{IsInside}
-use Rattle.nr_shifttable.specs.Listed.{item_of, places_from}
+use Rattle.nr_shifttable.specs.Listed.{item_kept, places_from}
 use Rattle.nr_shifttable.proofs.listed.judge_places.Goals as goal
 
 pub loop-entry-preserved : goal.loop-entry-preserved
@@ -12,7 +12,7 @@ loop-entry-preserved c =
     let first : KeptEntry = record { graph = 0; entry = record { row = 0; col = 0; values = [] } } in
     record {
       said = grind (arith, common_steps);
-      inside = All-more (λ e. IsInside (item_of e)) c.args.entries.now c.loop-entry.entry-index first c.loop-entry-test.true c.loop-entry.invariant.inside c.in-Some.ensures.inside;
+      inside = All-more (λ e. IsInside (item_kept e)) c.args.entries.now c.loop-entry.entry-index first c.loop-entry-test.true c.loop-entry.invariant.inside c.in-Some.ensures.inside;
       few = omega arith;
       short = omega (arith, c.in-Some.ensures.few);
     }

@@ -1,14 +1,14 @@
 use Rattle.std.proofs.Common.{◌≡◌, ◌+◌, ◌^◌, ◌≤◌, drop, take}
 use Rattle.std.specs.List.{All}
 use Rattle.nr_shifttable.specs.Items.{IsInside}
-use Rattle.nr_shifttable.specs.Listed.{item_of, places_from, places_said}
+use Rattle.nr_shifttable.specs.Listed.{item_kept, places_from, places_said}
 use Rattle.nr_shifttable.proofs.listed.judge_places.Given as goal
 
 -- what is left says what all say; each entry before it is within its base graph and has a key of its own
 abbrev pub invariant-loop-entry : goal.invariant-loop-entry
 invariant-loop-entry l = record {
   said : places_from (l.number + 1) l.past (drop l.entry-index l.entries) ≡ places_said l.entries;
-  inside : All (λ e. IsInside (item_of e)) (take l.entry-index l.entries);
+  inside : All (λ e. IsInside (item_kept e)) (take l.entry-index l.entries);
   few : l.number ≤ l.past;
   short : l.past ≤ 2 ^ 24;
 }

@@ -1,6 +1,6 @@
 use Rattle.std.proofs.Common.{◌+◌, ◌-◌, ◌≤◌}
 use Rattle.nr_bitvec.specs.Bit.{bit}
-use Rattle.nr_peel.specs.ByPosition.{Gives, IsBusy}
+use Rattle.nr_peel.specs.ByPosition.{GivesMarks, IsBusy}
 use Rattle.nr_peel.specs.State.{lifted_checks}
 use Rattle.nr_peel.proofs.Giving.{first}
 use Rattle.nr_peel.proofs.by_position.ByPosition.give_all.Given as goal
@@ -9,7 +9,7 @@ use Rattle.nr_peel.proofs.by_position.ByPosition.give_all.Given as goal
 abbrev pub invariant-positions : goal.invariant-positions
 invariant-positions l = record {
   busy : IsBusy (lifted_checks l.lifted) l.lifted.plan.kdash l.self;
-  gives : Gives (first (bit l.heard.items) l.pos) (bit l.values.items) l.initial.self l.self;
+  gives : GivesMarks (first (bit l.heard.items) l.pos) (bit l.values.items) l.initial.self l.self;
 }
 
 abbrev pub decreases-positions : goal.decreases-positions
