@@ -73,7 +73,8 @@ fn octets_of_columns() -> [u8; 200] {
 // The 24 bits are octet 01 and its CRC, 1021. 296 bits at the full rate want base graph 1.
 #[test]
 fn codes(rt: HostRuntime) -> Result<(), Fail> {
-    let table = entries(rt.alloc())?;
+    let alloc = rt.alloc();
+    let table = entries(alloc)?;
     let mut bits = [0; 24];
     for at in [7, 11, 18, 23] {
         bits[at] = 1;
@@ -86,28 +87,15 @@ fn codes(rt: HostRuntime) -> Result<(), Fail> {
         (8, 24, 199, 2),
     ] {
         assert_eq!(rt;
-            nr_codeword(
-                rt.alloc(),
-                &table,
-                2048,
-                a,
-                &bits[..count],
-                &mut out[..room]
-            ),
+            nr_codeword(alloc, &table, 2048, a, &bits[..count], &mut out[..room]),
             status
         );
     }
     let mut other = bits;
     other[3] = 2;
-    assert_eq!(rt;
-        nr_codeword(rt.alloc(), &table, 2048, 8, &other, &mut out),
-        5
-    );
-    assert_eq!(rt; out.iter().all(|octet| *octet == 7), true);
-    assert_eq!(rt;
-        nr_codeword(rt.alloc(), &table, 2048, 8, &bits, &mut out),
-        0
-    );
+    assert_eq!(rt; nr_codeword(alloc, &table, 2048, 8, &other, &mut out), 5);
+    assert!(rt; out.iter().all(|octet| *octet == 7));
+    assert_eq!(rt; nr_codeword(alloc, &table, 2048, 8, &bits, &mut out), 0);
     let wanted = octets_of_columns();
     for n in 0..200 {
         assert_eq!(rt; out[n], wanted[n], "bit {n}");

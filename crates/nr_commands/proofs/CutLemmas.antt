@@ -1,10 +1,7 @@
 -- What `cut` says of a blocks file, step by step.
-use Rattle.std.proofs.Common.{◌≡◌, ◌≢◌, ℕ, ◌⊎◌, inl, inr, Bool, true, false, cond, Result, Ok, Err, List, [], ◌∷◌, ap, ◌∙◌, refl}
-use Rattle.std.specs.Prelude.{◌+◌, ◌==◌, ◌%◌, nat_lt, not, length}
-use Rattle.std.specs.List.{list_all}
-use Rattle.std.specs.Char.{is_ascii_hexdigit}
-use Rattle.nr_graphpick.specs.Refusal.{◌>>=◌, with_fault, Gives}
-use Rattle.nr_files.specs.Blocks.{without_last, parts_of, block_said, blocks_from, blocks_said}
+use Rattle.std.proofs.Common.{◌≡◌, ◌≢◌, ℕ, ◌⊎◌, inl, inr, Ok, Err, List, ap, refl}
+use Rattle.nr_graphpick.specs.Refusal.{◌>>=◌, with_fault}
+use Rattle.nr_files.specs.Blocks.{blocks_said}
 use Rattle.nr_commands.specs.CutText.{lines_from, cut_said}
 use Rattle.nr_commands.specs.Faults.{blocks_refusal}
 use Rattle.nr_commands.specs.declared.fault.RunFault.TheVariants.{Blocks, Memory, Write}

@@ -1,5 +1,5 @@
 -- What a command does to its Sink, and how its answer tells of failures.
-use Rattle.std.specs.Prelude.{◌≡◌, ◌≢◌, ℕ, ◌+◌, ◌⊎◌, List, Option, Result, Ok, Err, IsOk, IsOkAnd}
+use Rattle.std.specs.Prelude.{◌≡◌, ℕ, ◌⊎◌, List, Option, Result, Ok, Err, IsOk, IsOkAnd}
 use Rattle.nr_commands.specs.Written.{with_text, WritesPrefix}
 use Rattle.nr_commands.specs.declared.fault.RunFault.{RunFault}
 use Rattle.nr_commands.specs.declared.fault.RunFault.TheVariants as fault

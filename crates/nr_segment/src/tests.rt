@@ -39,8 +39,7 @@ fn plans(rt: HostRuntime) -> Result<(), Fail> {
         ),
     ] {
         let made = plan(graph, b)?;
-        assert_eq!(rt; made.graph, graph);
-        assert_eq!(rt; made.b, b);
+        assert_eq!(rt; (made.graph, made.b), (graph, b));
         assert_eq!(rt;
             [
                 made.l, made.c, made.kdash, made.kb, made.z, made.set, made.k, made.n

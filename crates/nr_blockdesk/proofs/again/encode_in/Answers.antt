@@ -1,5 +1,4 @@
-use Rattle.std.proofs.Common.{◌≡◌, ℕ, ◌+◌, ◌-◌, ◌*◌, ◌<◌, ◌≤◌, ◌==◌, drop, take, length, sym, ap, ◌∙◌, false, arith}
-use Rattle.std.specs.Int.{bit_at}
+use Rattle.std.proofs.Common.{◌≡◌, ℕ, ◌+◌, ◌-◌, ◌*◌, ◌<◌, ◌≤◌, drop, take, length, sym, ap, ◌∙◌, false, arith}
 use Rattle.std.proofs.lemmas.List.{get_or-drop, length-set}
 use Rattle.nr_bitvec.specs.Bit.{bit}
 use Rattle.nr_crcattach.specs.Crc.{crc_of}

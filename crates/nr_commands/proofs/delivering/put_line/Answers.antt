@@ -1,4 +1,3 @@
-use Rattle.std.proofs.Common.{sym, ◌∙◌}
 use Rattle.std.proofs.lemmas.Result.{err_from_is_err_and}
 use Rattle.nr_commands.proofs.WrittenLemmas.{writes_none}
 use Rattle.nr_commands.proofs.delivering.put_line.Goals as goal

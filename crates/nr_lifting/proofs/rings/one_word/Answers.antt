@@ -1,6 +1,4 @@
 use Rattle.std.proofs.Common.{replicate, ◌∙◌, arith}
-use Rattle.std.specs.Int.{bit_at}
-use Rattle.nr_bitvec.specs.Packed.{place}
 use Rattle.nr_bitvec.proofs.Places.{place-set_same, place-set_other}
 use Rattle.nr_lifting.proofs.LaneViews.{place-zeros}
 use Rattle.nr_lifting.proofs.rings.one_word.Goals as goal

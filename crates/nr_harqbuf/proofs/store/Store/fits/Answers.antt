@@ -1,7 +1,4 @@
-use Rattle.std.proofs.Common.{◌≡◌, true, false, refl, sym, ap, ◌∙◌, cond}
-use Rattle.std.specs.Prelude.{Some, None}
 use Rattle.nr_bitvec.specs.Bit.{bit}
-use Rattle.nr_harqbuf.specs.Record.{HasFirsts, Heardbits}
 use Rattle.nr_harqbuf.proofs.Keeping.{firsts-by-masks, masks-by-firsts}
 use Rattle.nr_harqbuf.proofs.store.Store.fits.Goals as goal
 
