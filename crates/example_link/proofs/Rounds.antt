@@ -202,7 +202,7 @@ module _ (table : Entries) (settings : Settings) (block : List Bool) (attempts :
   said-unsent own e is inside had (inr refused) =
       said-untaken e is inside had (inr (unsent link (arrival link block (get_or attempts i d)) own e refused))
 
--- accepted attempts are with_marks transmissions that both ends accept
+-- accepted attempts are marked transmissions that both ends accept
 marked-one : (link : Link) (x : Reception) → IsAccepted link x → IsOk (tx_said link x.tx)
 marked-one link x accepted =
     let said = bind-ok (tx_said link x.tx) _ accepted.0 accepted.1 in
