@@ -14,12 +14,12 @@ use Rattle.nr_blockdesk.specs.Processing.{BeginsAt, Processing, TakesAt, process
 use Rattle.nr_blockdesk.specs.ReceiverLaws.{EndsAreSafe, IsMarked, IsSafeOverErasures, arrived}
 use Rattle.nr_blockdesk.specs.Receiving.{Receiving, verdict}
 use Rattle.nr_blockdesk.specs.Sent.{AcceptedSendAll, Sending, sending_said, sent, sent_said, tx_said}
-use Rattle.nr_blockdesk.specs.declared.fault.DeskFault.{DeskFault}
-use Rattle.nr_blockdesk.specs.declared.fault.DeskFault.TheVariants as fault
+use Rattle.nr_transmission.specs.declared.fault.DeskFault.{DeskFault}
+use Rattle.nr_transmission.specs.declared.fault.DeskFault.TheVariants as fault
 use Rattle.nr_blockdesk.specs.declared.heard.Heard.{Heard}
 use Rattle.nr_blockdesk.specs.declared.outcome.Outcome.{Outcome}
-use Rattle.nr_blockdesk.specs.declared.settings.Settings.{Settings}
-use Rattle.nr_blockdesk.specs.declared.tx.Tx.{Tx}
+use Rattle.nr_transmission.specs.declared.settings.Settings.{Settings}
+use Rattle.nr_transmission.specs.declared.tx.Tx.{Tx}
 use Rattle.example_link.specs.Delivery.{arrivals, heard_in, is_lost, with_marks, round_said, taken_said}
 use Rattle.example_link.specs.declared.delivery.Attempt.{Attempt}
 

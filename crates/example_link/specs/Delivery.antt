@@ -7,10 +7,10 @@ use Rattle.nr_blockdesk.specs.Explains.{Reception, reception_said}
 use Rattle.nr_blockdesk.specs.Link.{Link, link_said}
 use Rattle.nr_blockdesk.specs.Outcome.{Verdict, outcome_of}
 use Rattle.nr_blockdesk.specs.ReceiverLaws.{arrived, arrived_bit}
-use Rattle.nr_blockdesk.specs.declared.fault.DeskFault.{DeskFault}
+use Rattle.nr_transmission.specs.declared.fault.DeskFault.{DeskFault}
 use Rattle.nr_blockdesk.specs.declared.heard.Heard.{Heard}
-use Rattle.nr_blockdesk.specs.declared.settings.Settings.{Settings}
-use Rattle.nr_blockdesk.specs.declared.tx.Tx.{Tx}
+use Rattle.nr_transmission.specs.declared.settings.Settings.{Settings}
+use Rattle.nr_transmission.specs.declared.tx.Tx.{Tx}
 use Rattle.example_link.specs.declared.delivery.Attempt.{Attempt}
 
 -- a place is in the burst

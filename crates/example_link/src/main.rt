@@ -4,8 +4,6 @@
 #![tactic(auto)]
 
 pub mod delivery;
-#[cfg(test)]
-mod delivery_tests;
 
 use crate::delivery::{Attempt, Told, deliver};
 use nr_bitvec::Bits;

@@ -1,37 +1,23 @@
 //! The data coding chain of 5G NR's shared channels (3GPP TS 38.212, Release 15) as a program: `cut` shows what the
 //! standard makes of each transport block up to its code blocks, `check` judges a shift table file, `send` writes the bits
 //! sent, `run` what a receiver makes of them over a link that loses bits, and `audit` why.
-//! `job` reads the command line; the five commands work over any Source and Sink; `tell` says how a run ends.
-//! Their contract: what they write is a stated function of the octets that they read, or nothing is written and the
-//! fault is that function's; a failing Sink has a first part of the text.
-//! Stands on the crates of this repository, with `clap` for the command line, `csv` and `toml` for files, `rand_pcg` for
-//! drawn erasures and `thiserror` for faults.
+//! `job` reads the command line (nr_job); the five commands work over any Source and Sink (nr_commands, nr_linkcommands);
+//! `tell` says how a run ends (nr_ends). Their contract: what they write is a stated function of the octets that they read,
+//! or nothing is written and the fault is that function's; a failing Sink has a first part of the text.
+//! Here they are put together.
 #![tactic(auto)]
 
 ghost use Rattle.std.specs.Prelude.{◌≡◌, ◌^◌, ◌<◌, drop, IfOk};
 ghost use Rattle.std.specs.Vec.Iter.{into_iter_items};
 
-pub mod command_line;
-pub mod ending;
-pub mod job;
-#[cfg(test)]
-mod practice;
-#[cfg(test)]
-mod program_tests;
-#[cfg(test)]
-mod refused_tests;
-pub mod streams;
-
-use crate::command_line::job;
-use crate::ending::{Ending, tell};
-use crate::job::{Job, JobFault};
-use crate::streams::{Outgoing, source_of};
 pub use nr_commands::{RunFault, Sink, Tape, check, cut};
+use nr_ends::{Ending, Outgoing, source_of, tell};
+pub use nr_job::{Files, Job, JobFault, job};
 pub use nr_linkcommands::{audit, run, send};
 use std::alloc::{AllocError, Global};
 use std::env::Args;
 use std::process::ExitCode;
-use std::rt::{Env, Files};
+use std::rt::{Env, Files as Opens};
 use std::{env, io};
 
 fn main(rt: HostRuntime) -> ExitCode {
@@ -57,7 +43,7 @@ fn keep_freed_memory(alloc: Global) {
 }
 
 // Does what the words of the command line ask for, and answers how it ended.
-fn ending_of<R: Env + Files + Input + AllocGlobal, O: Sink>(rt: &R, out: &mut O) -> Ending
+fn ending_of<R: Env + Opens + Input + AllocGlobal, O: Sink>(rt: &R, out: &mut O) -> Ending
     requires { O.failures out.old < 2 ^ 32 }
 {
     match words(rt).and_then(|words| job(rt.alloc(), &words)) {
@@ -92,7 +78,7 @@ fn later_words(alloc: Global, line: Args) -> Result<Vec<String>, AllocError>
 }
 
 // Does the job: from the file or standard input that it names, to the Sink.
-fn perform<R: Files + Input + AllocGlobal, O: Sink>(
+fn perform<R: Opens + Input + AllocGlobal, O: Sink>(
     rt: &R,
     job: Job,
     out: &mut O,
@@ -102,62 +88,37 @@ fn perform<R: Files + Input + AllocGlobal, O: Sink>(
     match job {
         Job::Cut(rate2048, path) => cut(rt.alloc(), rate2048, &mut source_of(rt, &path), out),
         Job::Check(path) => check(rt.alloc(), &mut source_of(rt, &path), out),
-        Job::Send(files) => send_files(rt, &files, out),
-        Job::Run(files) => run_files(rt, &files, out),
-        Job::Audit(files) => audit_files(rt, &files, out),
+        Job::Send(files) => over_files(rt, FilesCommand::Send, &files, out),
+        Job::Run(files) => over_files(rt, FilesCommand::Run, &files, out),
+        Job::Audit(files) => over_files(rt, FilesCommand::Audit, &files, out),
     }
 }
 
-// `send` over the four files.
-fn send_files<R: Files + Input + AllocGlobal, O: Sink>(
-    rt: &R,
-    files: &crate::job::Files,
-    out: &mut O,
-) -> Result<(), RunFault>
-    requires { O.failures out.old < 2 ^ 32 }
-{
-    send(
-        rt.alloc(),
-        &mut source_of(rt, &files.table),
-        &mut source_of(rt, &files.settings),
-        &mut source_of(rt, &files.blocks),
-        &mut source_of(rt, &files.schedule),
-        out,
-    )
+// A command over the four files of a schedule.
+#[derive(Clone, Copy)]
+enum FilesCommand {
+    Send,
+    Run,
+    Audit,
 }
 
-// `run` over the four files.
-fn run_files<R: Files + Input + AllocGlobal, O: Sink>(
+// Does the command over the four files.
+fn over_files<R: Opens + Input + AllocGlobal, O: Sink>(
     rt: &R,
-    files: &crate::job::Files,
+    command: FilesCommand,
+    files: &Files,
     out: &mut O,
 ) -> Result<(), RunFault>
     requires { O.failures out.old < 2 ^ 32 }
 {
-    run(
-        rt.alloc(),
-        &mut source_of(rt, &files.table),
-        &mut source_of(rt, &files.settings),
-        &mut source_of(rt, &files.blocks),
-        &mut source_of(rt, &files.schedule),
-        out,
-    )
-}
-
-// `audit` over the four files.
-fn audit_files<R: Files + Input + AllocGlobal, O: Sink>(
-    rt: &R,
-    files: &crate::job::Files,
-    out: &mut O,
-) -> Result<(), RunFault>
-    requires { O.failures out.old < 2 ^ 32 }
-{
-    audit(
-        rt.alloc(),
-        &mut source_of(rt, &files.table),
-        &mut source_of(rt, &files.settings),
-        &mut source_of(rt, &files.blocks),
-        &mut source_of(rt, &files.schedule),
-        out,
-    )
+    let alloc = rt.alloc();
+    let table = &mut source_of(rt, &files.table);
+    let settings = &mut source_of(rt, &files.settings);
+    let blocks = &mut source_of(rt, &files.blocks);
+    let schedule = &mut source_of(rt, &files.schedule);
+    match command {
+        FilesCommand::Send => send(alloc, table, settings, blocks, schedule, out),
+        FilesCommand::Run => run(alloc, table, settings, blocks, schedule, out),
+        FilesCommand::Audit => audit(alloc, table, settings, blocks, schedule, out),
+    }
 }

@@ -8,10 +8,6 @@
 mod laws;
 mod octets;
 mod packed;
-#[cfg(test)]
-mod refused_tests;
-#[cfg(test)]
-mod tests;
 pub mod words;
 
 pub use laws::octets_round_trip;

@@ -10,10 +10,10 @@ use Rattle.nr_blockdesk.specs.Link.{link_said}
 use Rattle.nr_blockdesk.specs.Outcome.{Verdict, outcome_of}
 use Rattle.nr_blockdesk.specs.Processing.{BeginsAt, Processing, TakesAt, process, with_process}
 use Rattle.nr_blockdesk.specs.Receiving.{Receiving, RefusesAs, verdict}
-use Rattle.nr_blockdesk.specs.declared.fault.DeskFault.{DeskFault}
-use Rattle.nr_blockdesk.specs.declared.fault.DeskFault.TheVariants as fault
+use Rattle.nr_transmission.specs.declared.fault.DeskFault.{DeskFault}
+use Rattle.nr_transmission.specs.declared.fault.DeskFault.TheVariants as fault
 use Rattle.nr_blockdesk.specs.declared.outcome.Outcome.{Outcome}
-use Rattle.nr_blockdesk.specs.declared.settings.Settings.{Settings}
+use Rattle.nr_transmission.specs.declared.settings.Settings.{Settings}
 
 -- The rounds of one process.
 module _ (table : Entries) (settings : Settings) (p : ℕ) where

@@ -10,10 +10,10 @@ use Rattle.nr_blockdesk.specs.Explains.{IsAccepted, reception}
 use Rattle.nr_blockdesk.specs.Link.{IsBlock, IsLink, Link, LinksAreSound, demanded, link_said}
 use Rattle.nr_blockdesk.specs.ReceiverLaws.{AreEnds, EndsAreSafe, ErasuresAreSafe, IsMarked, arrived, arrived_bit}
 use Rattle.nr_blockdesk.specs.Sent.{AcceptedSendAll, Sending, sent, tx_said}
-use Rattle.nr_blockdesk.specs.declared.fault.DeskFault.{DeskFault}
-use Rattle.nr_blockdesk.specs.declared.fault.DeskFault.TheVariants as fault
+use Rattle.nr_transmission.specs.declared.fault.DeskFault.{DeskFault}
+use Rattle.nr_transmission.specs.declared.fault.DeskFault.TheVariants as fault
 use Rattle.nr_blockdesk.specs.declared.heard.Heard.{Heard}
-use Rattle.nr_blockdesk.specs.declared.tx.Tx.{Tx}
+use Rattle.nr_transmission.specs.declared.tx.Tx.{Tx}
 use Rattle.nr_blockdesk.proofs.Links.{bind-ok, link-blocks, ok-same}
 
 -- what arrives of a marked transmission is as much as was sent

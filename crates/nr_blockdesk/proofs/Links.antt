@@ -15,9 +15,9 @@ use Rattle.nr_segment.specs.Plan.{Numbers, plan_of}
 use Rattle.nr_segment.specs.declared.numbers.SegFault.{SegFault}
 use Rattle.nr_shifttable.specs.Accepted.{Entries, has_graph}
 use Rattle.nr_blockdesk.specs.Link.{IsLink, Link, LinksAreSound, WordsArePlain, demanded, is_size, link_of, link_said, word}
-use Rattle.nr_blockdesk.specs.declared.settings.Settings.{Settings}
-use Rattle.nr_blockdesk.specs.declared.fault.DeskFault.{DeskFault}
-use Rattle.nr_blockdesk.specs.declared.fault.DeskFault.TheVariants as fault
+use Rattle.nr_transmission.specs.declared.settings.Settings.{Settings}
+use Rattle.nr_transmission.specs.declared.fault.DeskFault.{DeskFault}
+use Rattle.nr_transmission.specs.declared.fault.DeskFault.TheVariants as fault
 
 pub ok-same : {X : Type 0} {x y : X} → ◌≡◌ {A = Result X DeskFault} (Ok x) (Ok y) → x ≡ y
 ok-same e = cc e

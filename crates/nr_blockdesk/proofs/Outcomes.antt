@@ -11,7 +11,7 @@ use Rattle.nr_blockdesk.specs.Outcome.{all_fixed, blocks_of, contradiction, deli
 use Rattle.nr_blockdesk.specs.ReceiverLaws.{DeliveredIsOnly, ErasuresAreSafe, ExplainedIsDelivered, ExplainedNeverContradicts, OneExplains, arrived, arrived_bit}
 use Rattle.nr_blockdesk.specs.Sent.{sent}
 use Rattle.nr_blockdesk.specs.declared.heard.Heard.{Heard}
-use Rattle.nr_blockdesk.specs.declared.tx.Tx.{Tx}
+use Rattle.nr_transmission.specs.declared.tx.Tx.{Tx}
 use Rattle.nr_blockdesk.proofs.Found.{blocks_long, find_passes, is_long, none_passes}
 use Rattle.nr_blockdesk.proofs.Tested.{range_all}
 

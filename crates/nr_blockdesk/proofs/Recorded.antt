@@ -18,7 +18,7 @@ use Rattle.nr_blockdesk.specs.Link.{IsLink, Link, demanded, word}
 use Rattle.nr_blockdesk.specs.Outcome.{ExplainedBy}
 use Rattle.nr_blockdesk.specs.ReceiverLaws.{ExplainsByRecord}
 use Rattle.nr_blockdesk.specs.Sent.{AcceptedAreMatched, IsMatched, Matching, SentBitsAreAt, block_at, matching, position_at, sent, tx_said}
-use Rattle.nr_blockdesk.specs.declared.fault.DeskFault.TheVariants as fault
+use Rattle.nr_transmission.specs.declared.fault.DeskFault.TheVariants as fault
 use Rattle.nr_blockdesk.proofs.Explained.{IsOf, IsOwned, all-first, all-others, explained-fits, fits, fits-explained}
 use Rattle.nr_blockdesk.proofs.Links.{bind-ok, demanded-ok}
 use Rattle.nr_blockdesk.proofs.Tested.{all-at, flat_all, given_all, holds_if, range_all}

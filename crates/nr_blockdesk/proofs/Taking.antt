@@ -20,10 +20,10 @@ use Rattle.nr_blockdesk.specs.Hearing.{heard_bit}
 use Rattle.nr_blockdesk.specs.Link.{IsLink, Link, demanded}
 use Rattle.nr_blockdesk.specs.Receiving.{HearsPart, IsDesk, IsTied, part_hearing, part_hearings, peeling_of, piece}
 use Rattle.nr_blockdesk.specs.Sent.{AcceptedAreMatched, IsMatched, Matching, PartsAreAt, block_at, matching, position_at, tx_said, tx_said_of}
-use Rattle.nr_blockdesk.specs.declared.fault.DeskFault.TheVariants as fault
+use Rattle.nr_transmission.specs.declared.fault.DeskFault.TheVariants as fault
 use Rattle.nr_blockdesk.specs.declared.heard.Heard.{Heard}
 use Rattle.nr_blockdesk.specs.declared.heard.Heard.TheVariants as kind
-use Rattle.nr_blockdesk.specs.declared.tx.Tx.{Tx}
+use Rattle.nr_transmission.specs.declared.tx.Tx.{Tx}
 use Rattle.nr_blockdesk.proofs.Hears.{range-split}
 use Rattle.nr_blockdesk.proofs.Links.{bind-ok, never-bind, never-demanded}
 use Rattle.nr_blockdesk.proofs.Sends.{tx-never_memory}

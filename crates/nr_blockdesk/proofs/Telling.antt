@@ -18,7 +18,7 @@ use Rattle.nr_blockdesk.specs.Hearing.{heard_bit, tells}
 use Rattle.nr_blockdesk.specs.Receiving.{part_hearing, part_hearings}
 use Rattle.nr_blockdesk.specs.Telling.{bit_tells, place_tells, row_tells}
 use Rattle.nr_blockdesk.specs.declared.heard.Heard.{Heard}
-use Rattle.nr_blockdesk.specs.declared.tx.Tx.{Tx}
+use Rattle.nr_transmission.specs.declared.tx.Tx.{Tx}
 use Rattle.nr_blockdesk.proofs.Hears.{range-split}
 
 -- two tests are one where each follows from the other

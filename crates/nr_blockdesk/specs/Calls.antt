@@ -7,9 +7,9 @@ use Rattle.nr_blockdesk.specs.Link.{Link, link_said}
 use Rattle.nr_blockdesk.specs.Outcome.{Verdict, outcome_of}
 use Rattle.nr_blockdesk.specs.Processing.{Processing, process}
 use Rattle.nr_blockdesk.specs.Receiving.{Receiving}
-use Rattle.nr_blockdesk.specs.declared.fault.DeskFault.{DeskFault}
-use Rattle.nr_blockdesk.specs.declared.fault.DeskFault.TheVariants as fault
-use Rattle.nr_blockdesk.specs.declared.settings.Settings.{Settings}
+use Rattle.nr_transmission.specs.declared.fault.DeskFault.{DeskFault}
+use Rattle.nr_transmission.specs.declared.fault.DeskFault.TheVariants as fault
+use Rattle.nr_transmission.specs.declared.settings.Settings.{Settings}
 
 -- A call on a process: it begins with blocks of a bits, or takes up a reception. A call that is refused for memory is
 -- none.

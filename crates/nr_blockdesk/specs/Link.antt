@@ -11,9 +11,9 @@ use Rattle.nr_segment.specs.CodeBlock.{code_bits, numbers}
 use Rattle.nr_segment.specs.Plan.{Numbers, plan_of}
 use Rattle.nr_segment.specs.declared.numbers.Plan.{Plan}
 use Rattle.nr_shifttable.specs.Accepted.{Entries, has_graph, IsTable}
-use Rattle.nr_blockdesk.specs.declared.fault.DeskFault.{DeskFault}
-use Rattle.nr_blockdesk.specs.declared.fault.DeskFault.TheVariants as fault
-use Rattle.nr_blockdesk.specs.declared.settings.Settings.{Settings}
+use Rattle.nr_transmission.specs.declared.fault.DeskFault.{DeskFault}
+use Rattle.nr_transmission.specs.declared.fault.DeskFault.TheVariants as fault
+use Rattle.nr_transmission.specs.declared.settings.Settings.{Settings}
 
 -- a transport block has whole octets, 8 to 1,310,720 bits of them
 abbrev pub is_size : ℕ → Bool

@@ -6,10 +6,10 @@ use Rattle.nr_blockdesk.specs.Heard.{IsRecordOf}
 use Rattle.nr_blockdesk.specs.Link.{IsBlock, link_said}
 use Rattle.nr_blockdesk.specs.Outcome.{contradiction, delivered, outcome_of}
 use Rattle.nr_blockdesk.specs.Receiving.{Receiving, RefusesAs, verdict}
-use Rattle.nr_blockdesk.specs.declared.fault.DeskFault.{DeskFault}
-use Rattle.nr_blockdesk.specs.declared.fault.DeskFault.TheVariants as fault
+use Rattle.nr_transmission.specs.declared.fault.DeskFault.{DeskFault}
+use Rattle.nr_transmission.specs.declared.fault.DeskFault.TheVariants as fault
 use Rattle.nr_blockdesk.specs.declared.outcome.Outcome.{Outcome}
-use Rattle.nr_blockdesk.specs.declared.settings.Settings.{Settings}
+use Rattle.nr_transmission.specs.declared.settings.Settings.{Settings}
 
 -- what contracts see of `Processes`: the shift table, the settings, and the receiver of each process that has begun
 pub record Processing : Type 0 where

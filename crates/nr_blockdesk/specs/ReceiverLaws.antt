@@ -11,8 +11,8 @@ use Rattle.nr_blockdesk.specs.Outcome.{ExplainedBy, all_fixed, contradiction, de
 use Rattle.nr_blockdesk.specs.Sent.{Sending, sending_said, sent, tx_said}
 use Rattle.nr_blockdesk.specs.declared.heard.Heard.{Heard}
 use Rattle.nr_blockdesk.specs.declared.heard.Heard.TheVariants as heard
-use Rattle.nr_blockdesk.specs.declared.settings.Settings.{Settings}
-use Rattle.nr_blockdesk.specs.declared.tx.Tx.{Tx}
+use Rattle.nr_transmission.specs.declared.settings.Settings.{Settings}
+use Rattle.nr_transmission.specs.declared.tx.Tx.{Tx}
 
 -- which transport blocks explain all that arrived can be read off the record
 abbrev pub ExplainsByRecord : Type 0

@@ -23,7 +23,7 @@ use Rattle.nr_blockdesk.specs.declared.heard.Heard.{Heard}
 use Rattle.nr_blockdesk.specs.declared.outcome.Outcome.{Outcome}
 use Rattle.nr_blockdesk.specs.declared.outcome.Outcome.TheVariants as outcome
 use Rattle.nr_blockdesk.specs.declared.told.Told.{Told}
-use Rattle.nr_blockdesk.specs.declared.tx.Tx.{Tx}
+use Rattle.nr_transmission.specs.declared.tx.Tx.{Tx}
 
 -- what contracts see of a `Receiver`: the link, and the record and the peeler of each code block
 pub record Receiving : Type 0 where

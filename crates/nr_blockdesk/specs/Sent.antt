@@ -9,10 +9,10 @@ use Rattle.nr_ratematch.specs.Lengths.{IsShared, lengths_said, scheduled}
 use Rattle.nr_ratematch.specs.Selection.{Circular, IsCircular, IsSent, place_of, selected}
 use Rattle.nr_shifttable.specs.Accepted.{Entries}
 use Rattle.nr_blockdesk.specs.Link.{Link, IsLink, demanded, link_said, word, words_of}
-use Rattle.nr_blockdesk.specs.declared.fault.DeskFault.{DeskFault}
-use Rattle.nr_blockdesk.specs.declared.fault.DeskFault.TheVariants as fault
-use Rattle.nr_blockdesk.specs.declared.settings.Settings.{Settings}
-use Rattle.nr_blockdesk.specs.declared.tx.Tx.{Tx}
+use Rattle.nr_transmission.specs.declared.fault.DeskFault.{DeskFault}
+use Rattle.nr_transmission.specs.declared.fault.DeskFault.TheVariants as fault
+use Rattle.nr_transmission.specs.declared.settings.Settings.{Settings}
+use Rattle.nr_transmission.specs.declared.tx.Tx.{Tx}
 
 -- E_r, how many bits of each of c code blocks a transmission sends, or its first fault
 unfoldable pub tx_said_of : ℕ → Tx → Result (List ℕ) DeskFault

@@ -9,7 +9,7 @@ use Rattle.nr_blockdesk.specs.Explains.{heard_at}
 use Rattle.nr_blockdesk.specs.Hearing.{heard_bit, tells}
 use Rattle.nr_blockdesk.specs.declared.heard.Heard.{Heard}
 use Rattle.nr_blockdesk.specs.declared.told.Told.{Told}
-use Rattle.nr_blockdesk.specs.declared.tx.Tx.{Tx}
+use Rattle.nr_transmission.specs.declared.tx.Tx.{Tx}
 
 -- place j of a word of marks and a word of bits tells this bit
 abbrev pub bit_tells : ℕ → ℕ → ℕ → Bool → Bool

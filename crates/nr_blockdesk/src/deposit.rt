@@ -12,9 +12,9 @@ ghost use Rattle.nr_blockdesk.specs.Telling.{IsUntold, bit_tells, row_tells};
 
 use crate::heard::Heard;
 use crate::told::Told;
-use crate::tx::Tx;
 use nr_harqbuf::merge_word;
 use nr_ratematch::Buffer;
+use nr_transmission::Tx;
 
 // Marks of those of `count` places, each `step` behind the one before it, that aren't erased, and their bits: the first
 // place lowest. Which they are is not branched on, since no processor foresees it.

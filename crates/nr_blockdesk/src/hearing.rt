@@ -14,11 +14,9 @@ ghost use Rattle.nr_blockdesk.specs.Receiving.{AllTell, AreWords, HearsAll, Hear
 ghost use Rattle.nr_blockdesk.specs.Telling.{IsUntold};
 
 use crate::deposit::deposit;
-use crate::fault::DeskFault;
 use crate::heard::Heard;
 use crate::sender::judge;
 use crate::told::Told;
-use crate::tx::Tx;
 use arrayvec::ArrayVec;
 use nr_harqbuf::{Store, agrees, record_continues, record_merges};
 use nr_interleave::seat;
@@ -26,6 +24,7 @@ use nr_ldpcenc::Word;
 use nr_peel::Peeler;
 use nr_ratematch::Buffer;
 use nr_segment::Plan;
+use nr_transmission::{DeskFault, Tx};
 
 // E_r of each code block, or the first cause against what was heard of a transmission. Takes no memory.
 pub(crate) fn judge_heard(

@@ -2,13 +2,12 @@
 //! A `Sender` encodes a transport block once and sends its bits for any transmission: `send` answers `sent` of the block
 //! and the transmission (specs/Sent.antt), whatever was sent before. A `Receiver` keeps the record of all that arrived
 //! (specs/Heard.antt), and `take` answers its outcome (specs/Outcome.antt): a delivered block is the only one possible.
-//! Stands on every layer below it, with `thiserror` for the fault and `arrayvec` for the lengths.
+//! Stands on every layer below it, with `arrayvec` for the lengths.
 #![tactic(auto)]
 
 mod again;
 mod candidate;
 mod deposit;
-mod fault;
 mod heard;
 mod hearing;
 mod laws;
@@ -18,16 +17,14 @@ mod processes;
 mod receiver;
 mod receiver_laws;
 mod sender;
-mod settings;
 mod told;
-mod tx;
 
-pub use fault::DeskFault;
 pub use heard::Heard;
 pub use laws::{
     accepted_are_matched, accepted_send_all, links_are_sound, parts_are_at, sent_bits_are_at,
     sent_is_long, words_are_plain,
 };
+pub use nr_transmission::{DeskFault, Settings, Tx};
 pub use outcome::Outcome;
 pub use processes::{Processes, processes_are_apart};
 pub use receiver::Receiver;
@@ -37,26 +34,3 @@ pub use receiver_laws::{
     nothing_leaves_all, one_explains, outcomes_are_exact, outcomes_settle,
 };
 pub use sender::Sender;
-pub use settings::Settings;
-pub use tx::Tx;
-
-#[cfg(test)]
-mod certificate_tests;
-#[cfg(test)]
-mod contradiction_tests;
-#[cfg(test)]
-mod delivery_tests;
-#[cfg(test)]
-mod practice;
-#[cfg(test)]
-mod processes_tests;
-#[cfg(test)]
-mod receiver_tests;
-#[cfg(test)]
-mod refused_tests;
-#[cfg(test)]
-mod repetition_tests;
-#[cfg(test)]
-mod tests;
-#[cfg(test)]
-mod touches_tests;

@@ -4,14 +4,13 @@ ghost use Rattle.std.specs.Prelude.{◌≡◌, ◌^◌, ◌<◌, IfOk, MatchResu
 ghost use Rattle.nr_crcattach.specs.Attachment.{attached_length};
 ghost use Rattle.nr_blockdesk.specs.Link.{IsLink, is_size, link_of, link_said};
 
-use crate::fault::DeskFault;
 use crate::laws::links_are_sound;
-use crate::settings::Settings;
 use nr_crcattach::attached_len;
 use nr_graphpick::pick;
 use nr_ratematch::Buffer;
 use nr_segment::{Plan, plan};
 use nr_shifttable::Table;
+use nr_transmission::{DeskFault, Settings};
 
 // The most bits of a transport block.
 const MOST_BITS: u32 = 1_310_720;

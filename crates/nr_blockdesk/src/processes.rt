@@ -7,14 +7,12 @@ ghost use Rattle.nr_blockdesk.specs.Link.{link_said};
 ghost use Rattle.nr_blockdesk.specs.Processing.{BeginsAt, TakesAt, process};
 ghost use Rattle.nr_blockdesk.specs.Receiving.{RefusesAs, verdict};
 
-use crate::fault::DeskFault;
 use crate::heard::Heard;
 use crate::outcome::Outcome;
 use crate::receiver::Receiver;
-use crate::settings::Settings;
-use crate::tx::Tx;
 use arrayvec::ArrayVec;
 use nr_shifttable::Table;
+use nr_transmission::{DeskFault, Settings, Tx};
 use std::alloc::Global;
 use std::marker::Model;
 

@@ -16,7 +16,6 @@ ghost use Rattle.nr_blockdesk.specs.Receiving.{AreWords, IsDecided, RefusesAs, p
 
 use crate::again::{attach_in_room, explains};
 use crate::candidate::{Standing, all_known, candidate, copy_bits};
-use crate::fault::DeskFault;
 use crate::heard::Heard;
 use crate::hearing::{hear, judge_heard};
 use crate::laws::{accepted_are_matched, parts_are_at, words_are_plain};
@@ -25,9 +24,7 @@ use crate::outcome::Outcome;
 use crate::receiver_laws::{
     delivered_is_only, explained_is_delivered, explained_never_contradicts, explains_by_record,
 };
-use crate::settings::Settings;
 use crate::told::Told;
-use crate::tx::Tx;
 use nr_bitvec::Bits;
 use nr_cbconcat::places_have_one_owner;
 use nr_crcattach::attachment_lengthens;
@@ -37,6 +34,7 @@ use nr_peel::Peeler;
 use nr_ratematch::Buffer;
 use nr_segment::{Plan, code_blocks_are_long, plans_are_sound};
 use nr_shifttable::Table;
+use nr_transmission::{DeskFault, Settings, Tx};
 use std::alloc::{AllocError, Global};
 use std::marker::Model;
 

@@ -11,11 +11,8 @@ ghost use Rattle.nr_segment.specs.CodeBlock.{numbers};
 ghost use Rattle.nr_blockdesk.specs.Link.{code_bits_of, link_of, link_said, word, words_of};
 ghost use Rattle.nr_blockdesk.specs.Sent.{matching_of, sending_said, sent_of, sent_said, tx_said, tx_said_of};
 
-use crate::fault::DeskFault;
 use crate::laws::words_are_plain;
 use crate::link::agree;
-use crate::settings::Settings;
-use crate::tx::Tx;
 use arrayvec::ArrayVec;
 use nr_bitvec::Bits;
 use nr_crcattach::{attach, attachment_lengthens};
@@ -24,6 +21,7 @@ use nr_ldpcenc::{Word, encode};
 use nr_ratematch::{Buffer, lengths, select_onto};
 use nr_segment::{Plan, code_blocks_are_long, cut, plans_are_sound};
 use nr_shifttable::Table;
+use nr_transmission::{DeskFault, Settings, Tx};
 use std::alloc::{AllocError, Global};
 use std::marker::Model;
 

@@ -1,22 +1,219 @@
 //! The data coding chain of NR's shared channels (3GPP TS 38.212, Release 15) for callers in C: a static library.
-//! Each export answers a status, 0 or the number of its first fault (specs/Statuses.antt), and has no `requires`: it tests
-//! all that it is given, and what it writes is a stated function of that; a refusal writes nothing. A slice is a pointer
-//! and a length, a `Global` no argument; no memory outlives a call. A shift table is entries that the caller keeps. The main
-//! contracts are those of `nr_send` and `nr_receive`. Stands on nr_blockdesk for both ends of a link, and on the layers below it.
+//! Each export answers a status, 0 or the number of its first fault (nr_calls/specs/Statuses.antt), and has no `requires`: its
+//! body in nr_calls tests all that it is given, and what it writes is a stated function of that; a refusal writes nothing. A
+//! slice is a pointer and a length, a `Global` no argument; no memory outlives a call. A shift table is entries that the caller
+//! keeps. The main contracts are those of `nr_send` and `nr_receive`. Stands on nr_calls, which has the bodies.
 #![tactic(auto)]
 
-mod coded;
-pub mod coding;
-#[cfg(test)]
-mod coding_tests;
-pub mod crossing;
-pub mod entries;
-pub mod fault;
-mod findings;
-pub mod numbers;
-pub mod rates;
-pub mod receiving;
-pub mod sending;
-pub mod table;
-#[cfg(test)]
-mod tests;
+ghost use Rattle.std.specs.Prelude.{◌≡◌, ◌<◌, ◌≤◌, false, length};
+ghost use Rattle.nr_graphpick.specs.Refusal.{with_fault};
+ghost use Rattle.nr_shifttable.specs.Accepted.{table_said};
+ghost use Rattle.nr_calls.specs.Coding.{Codes, coded_into_said};
+ghost use Rattle.nr_calls.specs.Crossing.{settings_in, tx_of};
+ghost use Rattle.nr_calls.specs.Entries.{are_placed, table_by};
+ghost use Rattle.nr_calls.specs.Findings.{Decides, places, room_in};
+ghost use Rattle.nr_calls.specs.Judging.{Lists, Reports, listing};
+ghost use Rattle.nr_calls.specs.Numbers.{crc_said, plan_said};
+ghost use Rattle.nr_calls.specs.Rates.{buffer_told, shares_into_said};
+ghost use Rattle.nr_calls.specs.Receiving.{receive_into_said};
+ghost use Rattle.nr_calls.specs.Sending.{Answers, send_into_said};
+ghost use Rattle.nr_calls.specs.Statuses.{Leaves, TellsStatus};
+
+use nr_calls::crossing::{NrSettings, NrTx};
+use nr_calls::entries::NrEntry;
+use nr_calls::fault::Fault;
+use nr_calls::numbers::NrPlan;
+use nr_calls::rates::NrBuffer;
+use nr_calls::table::NrReport;
+use std::alloc::Global;
+
+/// Judges the shift table of a text (TS 38.212, 5.3.2: the columns of Tables 5.3.2-2 and 5.3.2-3), and writes what it
+/// tells to `out`, whether the table is accepted or refused.
+///
+/// # Errors
+///
+/// 30 `TooLong`, where the text has more than 4,194,304 octets; record by record 21 `Csv`, 22 `Fields`, 23 `Number`, 24
+/// `Range`, 25 `Twice`; 29 `Empty`; for each base graph that has an entry 26 `Core`, 27 `Extension`, 28 `MissingRow`.
+/// 1, where memory is refused, never in place of 30: `out` is as it was then.
+#[unsafe(no_mangle)]
+pub extern "C" fn nr_table_check(alloc: Global, text: &[u8], out: &mut NrReport) -> u32
+    ensures said { Reports result out.old out.new (table_said text.now) }
+    ensures long { 4194304 < length text.now → result ≡ 30 }
+{
+    nr_calls::table::nr_table_check(alloc, text, out)
+}
+
+/// The entries of the shift table of a text, written to `out`, which has an entry for each, in the order in which the other
+/// calls take them: base graph 1 before base graph 2, then row by row, then by column (TS 38.212, 5.3.2). Writes to
+/// `count` how many they are, also where `out` has another length.
+///
+/// # Errors
+///
+/// In this order: 21 to 30, as `nr_table_check` has them; 2 `Room`, where `out` does not have so many entries: `out` is as
+/// it was then. 1, where memory is refused, never in place of 30. `out` and `count` are as they were with any but 2.
+#[unsafe(no_mangle)]
+pub extern "C" fn nr_table_entries(
+    alloc: Global,
+    text: &[u8],
+    out: &mut [NrEntry],
+    count: &mut usize,
+) -> u32
+    ensures said { Lists result (listing out.old count.old) (listing out.new count.new)
+        (table_said text.now) }
+    ensures kept { result ≡ 0
+        → table_by out.new ≡ with_fault Fault.Table (table_said text.now) }
+    ensures long { 4194304 < length text.now → result ≡ 30 }
+{
+    nr_calls::table::nr_table_entries(alloc, text, out, count)
+}
+
+/// The plan of a transport block of `a` bits at the code rate `rate2048` / 2048, written to `out` (TS 38.212, 5.2.2, 6.2.2
+/// and 7.2.2). Takes no memory.
+///
+/// # Errors
+///
+/// In this order: 40 `Size`, where `a` is not 8 to 1,310,720 in whole octets; 41 `RateRange`, where `rate2048` is not 1
+/// to 2048; 45 `Uneven`, where the code blocks would not have equally many bits. `out` is as it was then.
+#[unsafe(no_mangle)]
+pub extern "C" fn nr_plan(rate2048: u32, a: u32, out: &mut NrPlan) -> u32
+    ensures { TellsStatus result out.old out.new (plan_said rate2048 a) }
+{
+    nr_calls::numbers::nr_plan(rate2048, a, out)
+}
+
+/// The parity bits of octets, as a number of 24 or 16 bits, the first parity bit highest, written to `out` (TS 38.212,
+/// 5.1). `poly` is 0 for gCRC24A, 1 for gCRC24B, 2 for gCRC16; an octet is eight bits, the first most significant.
+///
+/// # Errors
+///
+/// In this order: 4 `Poly`, where `poly` is above 2; 3 `Many`, where there are more than 2,097,152 octets; 1, where memory
+/// is refused. `out` is as it was then.
+#[unsafe(no_mangle)]
+pub extern "C" fn nr_crc(alloc: Global, poly: u32, octets: &[u8], out: &mut u32) -> u32
+    ensures { Leaves result out.old out.new (crc_said poly octets.now) }
+{
+    nr_calls::numbers::nr_crc(alloc, poly, octets, out)
+}
+
+/// E_r, how many bits a transmission sends of each of the C code blocks of a transport block of `a` bits at the code rate
+/// `rate2048` / 2048, written to `out`, which has an entry for each code block (TS 38.212, 5.4.2.1). They are multiples of
+/// Qm, 0 where the code block is not scheduled, and together G. Takes no memory.
+///
+/// # Errors
+///
+/// In this order: 40 `Size`, 41 `RateRange` and 45 `Uneven`, as `nr_plan` has them; 50 `Rv`, where the redundancy version is
+/// above 3; 51 `Order`, where `qm` is none of 1, 2, 4, 6 and 8; 52 `Layers`, where `nl` is not 1 to 4; 53 `Total`, where `g`
+/// is not 1 to 4,194,304; 54 `Ragged`, where `g` is no multiple of `qm * nl`; 55 `NoneScheduled`, where no code block of the
+/// transport block is scheduled; 2 `Room`, where `out` does not have C entries. `out` is as it was then.
+#[unsafe(no_mangle)]
+pub extern "C" fn nr_lengths(rate2048: u32, a: u32, tx: &NrTx, out: &mut [u32]) -> u32
+    ensures { TellsStatus result out.old out.new
+        (shares_into_said rate2048 a (tx_of tx.now) (length out.old)) }
+{
+    nr_calls::rates::nr_lengths(rate2048, a, tx, out)
+}
+
+/// The circular buffer of each code block of a transport block of `a` bits, and where the redundancy version `rv` begins in
+/// it, written to `out` (TS 38.212, 5.4.2.1 and Table 5.4.2.1-2). Both count places of d, the N bits that `nr_codeword`
+/// writes. Takes no memory.
+///
+/// # Errors
+///
+/// In this order: 40 `Size`, 41 `RateRange` and 45 `Uneven`, as `nr_plan` has them; 47 `NoBuffer`, where the limited buffer
+/// keeps no bit; 50 `Rv`, where `rv` is above 3. `out` is as it was then.
+#[unsafe(no_mangle)]
+pub extern "C" fn nr_buffer(settings: &NrSettings, a: u32, rv: u32, out: &mut NrBuffer) -> u32
+    ensures { TellsStatus result out.old out.new (buffer_told (settings_in settings.now) a rv) }
+{
+    nr_calls::rates::nr_buffer(settings, a, rv, out)
+}
+
+/// The bits d that a code block is coded into (TS 38.212, 5.3.2), one to an octet of `out`, which has N octets: 0 and 1 are
+/// bits, and 2 is a filler, which is never sent. The code block is one of a transport block of `a` bits at the code rate
+/// `rate2048` / 2048; `bits` has its K' bits with its CRC, without fillers, an octet of 0 or 1 for each.
+///
+/// # Errors
+///
+/// In this order: of the shift table 31 `Entries`, 29 `Empty`, 26 `Core`, 27 `Extension`, 28 `MissingRow`, as `nr_send` has
+/// them; 40 `Size`, 41 `RateRange` and 45 `Uneven`, as `nr_plan` has them; 46 `Graph`, where the table lacks the base graph; 56
+/// `Length`, where `bits` does not have K' octets; 5 `Bit`, where one of them is neither 0 nor 1; 2 `Room`, where `out` does
+/// not have N octets; 1, want of memory, where it is met, never in place of 31. `out` is as it was then.
+#[unsafe(no_mangle)]
+pub extern "C" fn nr_codeword(
+    alloc: Global,
+    table: &[NrEntry],
+    rate2048: u32,
+    a: u32,
+    bits: &[u8],
+    out: &mut [u8],
+) -> u32
+    ensures said { Codes result out.old out.new
+        (coded_into_said table.now rate2048 a bits.now (length out.old)) }
+    ensures placed { are_placed table.now ≡ false → result ≡ 31 }
+{
+    nr_calls::coding::nr_codeword(alloc, table, rate2048, a, bits, out)
+}
+
+/// The bits that a transmission sends of a transport block, one to an octet of `out` (TS 38.212, 6.2 and 7.2). `block` has
+/// eight bits to an octet, the first most significant, and `out` G octets. It does not depend on what was sent before.
+///
+/// # Errors
+///
+/// In this order: 31 `Entries`, where an entry of the shift table is outside its base graph or does not stand past those
+/// before it; 29 `Empty`; for each base graph that has an entry 26 `Core`, 27 `Extension`, 28 `MissingRow`; of the block 40
+/// `Size`, 41 `RateRange`, 45 `Uneven`, 46 `Graph`, 47 `NoBuffer`; of the transmission 50 `Rv`, 51 `Order`, 52 `Layers`, 53
+/// `Total`, 54 `Ragged`, 55 `NoneScheduled`; 2 `Room`, where `out` does not have G octets; 1, want of memory, where it is
+/// met, never in place of 31. `out` is as it was then.
+#[unsafe(no_mangle)]
+pub extern "C" fn nr_send(
+    alloc: Global,
+    table: &[NrEntry],
+    settings: &NrSettings,
+    block: &[u8],
+    tx: &NrTx,
+    out: &mut [u8],
+) -> u32
+    ensures said { Answers result out.old out.new (send_into_said table.now
+        (settings_in settings.now) block.now (tx_of tx.now) (length out.old)) }
+    ensures placed { are_placed table.now ≡ false → result ≡ 31 }
+{
+    nr_calls::sending::nr_send(alloc, table, settings, block, tx, out)
+}
+
+/// What may be handed up of a transport block of `a` bits after each of the transmissions `txs`, of which `heard` has what
+/// was received, an octet for each place, one transmission after the other: 0 and 1 are bits, and any other octet is an
+/// erased place (TS 38.212, 5.4.2 and 5.5). Writes to `outcomes`, which has an entry for each transmission, the outcome of
+/// that transmission and those before it: 0, where a position below K' is left that isn't fixed; 1, where the one transport
+/// block that explains all is delivered; 2, where no transport block explains all. Writes to `left`, which has an entry for
+/// each of the C code blocks, how many positions below K' are left after the last transmission. Where the last outcome is 1
+/// the transport block goes to `block`, eight bits to an octet, the first most significant; else `block` is as it was.
+///
+/// # Errors
+///
+/// In this order: 3 `Many`, where there are more than 256 transmissions; of the shift table 31 `Entries`, 29 `Empty`, 26
+/// `Core`, 27 `Extension`, 28 `MissingRow`, as `nr_send` has them; of the block 40 `Size`, 41 `RateRange`, 45 `Uneven`, 46 `Graph`, 47 `NoBuffer`; for each
+/// transmission in turn 56 `Length`, where fewer than G octets are left, 50 `Rv`, 51 `Order`, 52 `Layers`, 53 `Total`, 54
+/// `Ragged`, 55 `NoneScheduled`; 56 `Length`, where octets are left over; 2 `Room`, where `outcomes` or `left` does not have
+/// so many entries, or a block is delivered at last and `block` does not have a / 8 octets; 1, want of memory, where it is
+/// met, never in place of 3 and 31. `outcomes`, `left` and `block` are as they were then.
+#[unsafe(no_mangle)]
+pub extern "C" fn nr_receive(
+    alloc: Global,
+    table: &[NrEntry],
+    settings: &NrSettings,
+    a: u32,
+    txs: &[NrTx],
+    heard: &[u8],
+    outcomes: &mut [u32],
+    left: &mut [u32],
+    block: &mut [u8],
+) -> u32
+    ensures said { Decides result (places outcomes.old left.old block.old)
+        (places outcomes.new left.new block.new)
+        (receive_into_said table.now (settings_in settings.now) a txs.now heard.now
+        (room_in (places outcomes.old left.old block.old))) }
+    ensures many { 256 < length txs.now → result ≡ 3 }
+    ensures placed { length txs.now ≤ 256 → are_placed table.now ≡ false → result ≡ 31 }
+{
+    nr_calls::receiving::nr_receive(alloc, table, settings, a, txs, heard, outcomes, left, block)
+}

@@ -49,8 +49,3 @@ pub fn owner(lengths: &[u32], m: u32) -> (u32, u32)
 pub fn places_have_one_owner()
     ensures { PlacesHaveOneOwner }
 {}
-
-#[cfg(test)]
-mod refused_tests;
-#[cfg(test)]
-mod tests;

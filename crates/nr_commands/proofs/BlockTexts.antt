@@ -5,7 +5,7 @@ use Rattle.std.proofs.Math.ListN.{get_or-map}
 use Rattle.std.specs.List.{range_with_len}
 use Rattle.nr_commands.specs.declared.fault.RunFault.{RunFault}
 use Rattle.nr_commands.specs.declared.fault.RunFault.TheVariants as fault
-use Rattle.nr_blockdesk.specs.declared.fault.DeskFault.TheVariants as desk
+use Rattle.nr_transmission.specs.declared.fault.DeskFault.TheVariants as desk
 use Rattle.nr_bitvec.specs.BitList.{bits_of, octet_bits}
 use Rattle.nr_graphpick.specs.Graph.{picked}
 use Rattle.nr_graphpick.specs.declared.Graph.{Graph}

@@ -12,7 +12,7 @@ use Rattle.nr_files.specs.Blocks.{blocks_said}
 use Rattle.nr_commands.specs.CutLines.{block_line, attached_line, code_line}
 use Rattle.nr_commands.specs.declared.fault.RunFault.{RunFault}
 use Rattle.nr_commands.specs.declared.fault.RunFault.TheVariants.{Blocks, Desk}
-use Rattle.nr_blockdesk.specs.declared.fault.DeskFault.TheVariants.{Pick, Seg}
+use Rattle.nr_transmission.specs.declared.fault.DeskFault.TheVariants.{Pick, Seg}
 
 -- the lines of a block of a bits: its plan, its bits with the CRC, and each code block from 0 on
 unfoldable pub planned_lines : ℕ → ℕ → Graph → Numbers → List Bool → List ℕ

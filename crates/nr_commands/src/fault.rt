@@ -4,9 +4,9 @@ ghost use Rattle.std.specs.Prelude.{◌≡◌};
 ghost use Rattle.nr_commands.specs.Faults.{blocks_refusal, schedule_refusal, settings_refusal, table_refusal};
 ghost use Rattle.nr_commands.specs.declared.fault.RunFault.TheVariants.{Memory};
 
-use nr_blockdesk::DeskFault;
 use nr_files::{BlocksFault, ScheduleFault, SettingsFault};
 use nr_shifttable::TableFault;
+use nr_transmission::DeskFault;
 use std::alloc::{AllocError, AllocFailed};
 use thiserror::Error;
 

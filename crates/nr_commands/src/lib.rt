@@ -2,7 +2,7 @@
 //! makes of each transport block up to its code blocks (6.2.1 to 6.2.3, 7.2.1 to 7.2.3), `check` judges a shift table.
 //! Their contract: at `Ok` the text that `cut_said` or `check_said` gives of the file's octets was written; a refusal
 //! writes nothing, and the fault is theirs; a failing `Sink` has a first part of the text (specs/Command.antt).
-//! Stands on nr_files for what is read, nr_blockdesk and the layers below it for the standard, `thiserror` for faults.
+//! Stands on nr_files for what is read, nr_transmission and the layers below it for the standard, `thiserror` for faults.
 #![tactic(auto)]
 
 mod check_lines;
@@ -22,8 +22,3 @@ pub use fault::RunFault;
 pub use hex::hex_line;
 pub use sink::{Sink, Tape, put_all};
 pub use text::{judge, write_blocks};
-
-#[cfg(test)]
-mod refused_tests;
-#[cfg(test)]
-mod tests;

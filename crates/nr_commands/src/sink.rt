@@ -128,37 +128,3 @@ impl Sink for Tape {
         Ok(count)
     }
 }
-
-#[cfg(test)]
-mod tests {
-    use super::*;
-
-    // Whether all of `abcdef` goes onto a new tape, and the tape afterwards.
-    fn written(alloc: Global, room: u32, step: u32, fail: u32) -> Result<(bool, Tape), AllocError>
-        requires { 0 < step }
-    {
-        let mut tape = Tape::new(alloc, room, step, fail)?;
-        let answer = put_all(&mut tape, b"abcdef");
-        Ok((answer == Ok(()), tape))
-    }
-
-    #[test]
-    fn text_is_written_until_the_tape_is_broken(rt: HostRuntime) -> Result<(), AllocError> {
-        let alloc = rt.alloc();
-        let cases = [
-            (written(alloc, 6, 6, 0)?, true, "abcdef"),
-            (written(alloc, 6, 4, 0)?, true, "abcdef"),
-            (written(alloc, 9, 1, 7)?, true, "abcdef"),
-            (written(alloc, 9, 1, 6)?, false, "abcde"),
-            (written(alloc, 6, 4, 2)?, false, "abcd"),
-            (written(alloc, 5, 2, 0)?, false, "abcde"),
-            (written(alloc, 6, 6, 1)?, false, ""),
-            (written(alloc, 0, 1, 0)?, false, ""),
-        ];
-        for ((all, tape), want_all, want) in &cases {
-            assert_eq!(rt; all, want_all, "at {want}");
-            assert_eq!(rt; tape.bytes(), want.as_bytes(), "at {want}");
-        }
-        Ok(())
-    }
-}

@@ -16,10 +16,10 @@ use crate::delivering::put_line;
 use crate::fault::RunFault;
 use crate::sink::Sink;
 use nr_bitvec::Bits;
-use nr_blockdesk::DeskFault;
 use nr_crcattach::{attach, attached_len, attachment_lengthens};
 use nr_graphpick::{Graph, pick};
 use nr_segment::{Plan, plan};
+use nr_transmission::DeskFault;
 use std::alloc::Global;
 
 // Writes the lines of block `number`, which has `a` bits, from its plan and its bits with the CRC.

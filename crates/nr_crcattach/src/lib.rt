@@ -206,8 +206,3 @@ pub fn residues_add()
     ensures power { PowersMultiply }
     ensures joined { JoinedListsAdd }
 {}
-
-#[cfg(test)]
-mod refused_tests;
-#[cfg(test)]
-mod tests;

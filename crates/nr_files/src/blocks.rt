@@ -185,6 +185,3 @@ pub fn read_blocks<B: Source>(alloc: Global, source: &mut B) -> Result<Vec<Vec<u
     };
     parse_blocks(alloc, &octets)
 }
-
-#[cfg(test)]
-mod tests;

@@ -156,6 +156,3 @@ fn ends_from(alloc: Global, ranges: &[PlaceRange], count: u32) -> Result<Vec<u32
     }
     Ok(ends)
 }
-
-#[cfg(test)]
-mod tests;

@@ -2,7 +2,7 @@
 //! the link erases or flips; and the rounds of a schedule's HARQ processes.
 //! `read_blocks`, `read_settings` and `read_schedule` read a file to its end: their clause `said` gives `blocks_said`,
 //! `settings_said` and `schedule_said` of its octets (specs/), and the clause `pulled` a failed pull.
-//! Stands on the desk for `Tx` and `Settings`, on nr_ratematch for masks and nr_shifttable for `Source`, with `csv` and
+//! Stands on nr_transmission for `Tx` and `Settings`, on nr_ratematch for masks and nr_shifttable for `Source`, with `csv` and
 //! `toml` for the files, `rand_pcg` for drawn erasures and `thiserror` for faults.
 #![tactic(auto)]
 
@@ -21,6 +21,3 @@ pub use schedule::{
     PROCESSES, Schedule, ScheduleFault, Transmission, parse_schedule, read_schedule,
 };
 pub use settings::{SettingsFault, parse_settings, read_settings};
-
-#[cfg(test)]
-mod refused_tests;

@@ -13,8 +13,8 @@ mod record;
 use crate::erasure::{Erasure, Places};
 use columns::{has_column, is_header};
 use csv::ByteRecord;
-use nr_blockdesk::Tx;
 use nr_shifttable::{ReadFault, Records, Source, read_to_end};
+use nr_transmission::Tx;
 use record::transmission_of;
 use std::alloc::{AllocError, AllocFailed, Global};
 use thiserror::Error;
@@ -222,6 +222,3 @@ fn read_records(alloc: Global, blocks: u32, text: &[u8]) -> Result<Schedule, Sch
         transmissions,
     })
 }
-
-#[cfg(test)]
-mod tests;

@@ -10,8 +10,8 @@ ghost use Rattle.nr_graphpick.specs.Refusal.{Gives};
 ghost use Rattle.nr_files.specs.Reading.{FailsAs};
 ghost use Rattle.nr_files.specs.Settings.{is_known, limit_of, number_in, settings_of, settings_said};
 
-use nr_blockdesk::Settings;
 use nr_shifttable::{ReadFault, Source, read_to_end};
+use nr_transmission::Settings;
 use std::alloc::Global;
 use thiserror::Error;
 use toml::{Table, Value};
@@ -147,6 +147,3 @@ pub fn read_settings<S: Source>(alloc: Global, source: &mut S) -> Result<Setting
     };
     parse_settings(alloc, &octets)
 }
-
-#[cfg(test)]
-mod tests;

@@ -14,8 +14,3 @@ mod store;
 pub use laws::{fits_by_record, record_continues, record_merges};
 pub use masks::{agrees, merge_word};
 pub use store::Store;
-
-#[cfg(test)]
-mod refused_tests;
-#[cfg(test)]
-mod tests;

@@ -80,8 +80,3 @@ fn by_places(qm: u32, bits: &Bits, spread: &mut Bits)
 pub fn seats_are_seating()
     ensures { SeatsAreSeating }
 {}
-
-#[cfg(test)]
-mod refused_tests;
-#[cfg(test)]
-mod tests;

@@ -21,10 +21,3 @@ pub use encoder::{encode, meets};
 pub use fault::EncFault;
 pub use laws::{codewords_are_plain, one_codeword};
 pub use word::{Word, fill};
-
-#[cfg(test)]
-mod refused_tests;
-#[cfg(test)]
-mod size_tests;
-#[cfg(test)]
-mod tests;

@@ -11,8 +11,6 @@ mod add;
 mod blocks;
 mod lane;
 mod lane_words;
-#[cfg(test)]
-mod plain;
 mod planes;
 mod rings;
 mod sizes;
@@ -25,8 +23,3 @@ pub use lane_words::{add_lane, common, lane_count, without};
 pub use planes::{Planes, lower_block, lower_word, ones_word};
 pub use rings::{Rings, join_ring, ring_word, turn_lane};
 pub use sizes::{SIZES, set_of, size_table, smallest};
-
-#[cfg(test)]
-mod refused_tests;
-#[cfg(test)]
-mod tests;

@@ -13,7 +13,7 @@ use Rattle.nr_linkcommands.specs.Inputs.{Given, HasNoFault, IsFirst, LeavesLater
 use Rattle.nr_files.specs.Schedule.{Timetable, schedule_said}
 use Rattle.nr_files.specs.Settings.{settings_said}
 use Rattle.nr_blockdesk.specs.Sent.{Sending}
-use Rattle.nr_blockdesk.specs.declared.settings.Settings.{Settings}
+use Rattle.nr_transmission.specs.declared.settings.Settings.{Settings}
 use Rattle.nr_files.specs.declared.settings.SettingsFault.{SettingsFault}
 use Rattle.nr_files.specs.declared.settings.SettingsFault.TheVariants as settings_fault
 use Rattle.nr_files.specs.declared.schedule.ScheduleFault.{ScheduleFault}

@@ -13,11 +13,11 @@ use Rattle.nr_blockdesk.specs.Explains.{IsAccepted, Reception, agrees, all_agree
 use Rattle.nr_blockdesk.specs.Link.{Link, demanded}
 use Rattle.nr_blockdesk.specs.ReceiverLaws.{arrived_bit}
 use Rattle.nr_blockdesk.specs.Sent.{AcceptedSendAll, Sending, sent, sent_said, tx_said}
-use Rattle.nr_blockdesk.specs.declared.fault.DeskFault.{DeskFault}
-use Rattle.nr_blockdesk.specs.declared.fault.DeskFault.TheVariants as fault
+use Rattle.nr_transmission.specs.declared.fault.DeskFault.{DeskFault}
+use Rattle.nr_transmission.specs.declared.fault.DeskFault.TheVariants as fault
 use Rattle.nr_blockdesk.specs.declared.heard.Heard.{Heard}
 use Rattle.nr_blockdesk.specs.declared.heard.Heard.TheVariants as heard
-use Rattle.nr_blockdesk.specs.declared.tx.Tx.{Tx}
+use Rattle.nr_transmission.specs.declared.tx.Tx.{Tx}
 use Rattle.nr_files.specs.Erasures.{erased_of, is_named}
 use Rattle.nr_linkcommands.specs.Hearing.{arrives_at, heard_through}
 use Rattle.nr_linkcommands.specs.RunText.{received, received_if, received_of}

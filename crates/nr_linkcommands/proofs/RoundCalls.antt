@@ -12,7 +12,7 @@ use Rattle.nr_blockdesk.specs.Calls.{Call, Round, begun_as, after_call, round_af
 use Rattle.nr_blockdesk.specs.Explains.{IsAccepted, Reception}
 use Rattle.nr_blockdesk.specs.Link.{Link, link_said}
 use Rattle.nr_blockdesk.specs.Sent.{AcceptedSendAll, Sending, sending_said}
-use Rattle.nr_blockdesk.specs.declared.settings.Settings.{Settings}
+use Rattle.nr_transmission.specs.declared.settings.Settings.{Settings}
 use Rattle.nr_linkcommands.specs.Inputs.{senders_from}
 use Rattle.nr_linkcommands.specs.RoundCalls.{RoundsAreCalls, calls_by, calls_of, given_if, round_given}
 use Rattle.nr_linkcommands.specs.RoundTexts.{sender_of}

@@ -10,9 +10,9 @@ use Rattle.nr_ratematch.specs.Selection.{buffer_said}
 use Rattle.nr_segment.specs.Plan.{plan_of}
 use Rattle.nr_blockdesk.specs.Link.{Link, LinksAreSound, demanded, is_size, link_said}
 use Rattle.nr_blockdesk.specs.Sent.{Sending}
-use Rattle.nr_blockdesk.specs.declared.fault.DeskFault.{DeskFault}
-use Rattle.nr_blockdesk.specs.declared.fault.DeskFault.TheVariants as fault
-use Rattle.nr_blockdesk.specs.declared.settings.Settings.{Settings}
+use Rattle.nr_transmission.specs.declared.fault.DeskFault.{DeskFault}
+use Rattle.nr_transmission.specs.declared.fault.DeskFault.TheVariants as fault
+use Rattle.nr_transmission.specs.declared.settings.Settings.{Settings}
 use Rattle.nr_linkcommands.specs.Ends.{IsLinked}
 use Rattle.nr_linkcommands.specs.Inputs.{sender_said, senders_from}
 use Rattle.nr_commands.specs.declared.fault.RunFault.TheVariants.{Desk}

@@ -9,8 +9,8 @@ use Rattle.nr_shifttable.specs.Accepted.{Entries}
 use Rattle.nr_blockdesk.specs.Link.{IsBlock, IsLink, Link, LinksAreSound, link_said}
 use Rattle.nr_blockdesk.specs.ReceiverLaws.{DeliveredIsOnly, ExplainedIsDelivered, ExplainedNeverContradicts}
 use Rattle.nr_blockdesk.specs.Sent.{AcceptedSendAll, Sending, sending_said}
-use Rattle.nr_blockdesk.specs.declared.fault.DeskFault.{DeskFault}
-use Rattle.nr_blockdesk.specs.declared.settings.Settings.{Settings}
+use Rattle.nr_transmission.specs.declared.fault.DeskFault.{DeskFault}
+use Rattle.nr_transmission.specs.declared.settings.Settings.{Settings}
 use Rattle.nr_linkcommands.specs.Inputs.{sender_said, senders_from}
 use Rattle.nr_files.specs.Rounds.{all_rounds, ended_by, ended_rounds, of_process, round_of, since_fresh}
 use Rattle.nr_linkcommands.specs.SafeRuns.{ErasuresAloneAreSafe, IsSafeRun, IsSafelyReceived, OnlyErases, RunsAreSafe}

@@ -9,7 +9,7 @@ use Rattle.nr_linkcommands.specs.SendLines.{answer_line, refusal_name, refused_l
 use Rattle.nr_linkcommands.specs.SendText.{line_by, transmission_line}
 use Rattle.nr_files.specs.Schedule.{HasBlock}
 use Rattle.nr_blockdesk.specs.Sent.{Sending, sent_said}
-use Rattle.nr_blockdesk.specs.declared.fault.DeskFault.{DeskFault}
+use Rattle.nr_transmission.specs.declared.fault.DeskFault.{DeskFault}
 use Rattle.nr_files.specs.declared.schedule.Transmission.{Transmission}
 use Rattle.nr_commands.proofs.WrittenLemmas.{some_at_end}
 

@@ -7,7 +7,7 @@ use Rattle.nr_blockdesk.specs.Link.{IsLink, Link, link_said}
 use Rattle.nr_blockdesk.specs.Outcome.{outcome_of}
 use Rattle.nr_blockdesk.specs.Receiving.{verdict}
 use Rattle.nr_blockdesk.specs.Sent.{Sending}
-use Rattle.nr_blockdesk.specs.declared.settings.Settings.{Settings}
+use Rattle.nr_transmission.specs.declared.settings.Settings.{Settings}
 use Rattle.nr_linkcommands.specs.RoundTexts.{sender_of}
 use Rattle.nr_files.specs.Rounds.{round_of}
 use Rattle.nr_linkcommands.specs.RunLines.{unfixed_blocks}

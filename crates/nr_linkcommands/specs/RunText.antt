@@ -7,7 +7,7 @@ use Rattle.nr_blockdesk.specs.Heard.{heard_record}
 use Rattle.nr_blockdesk.specs.Link.{Link}
 use Rattle.nr_blockdesk.specs.Outcome.{Verdict, contradiction, delivered, open_still, outcome_of}
 use Rattle.nr_blockdesk.specs.Sent.{Sending, sent_said}
-use Rattle.nr_blockdesk.specs.declared.fault.DeskFault.{DeskFault}
+use Rattle.nr_transmission.specs.declared.fault.DeskFault.{DeskFault}
 use Rattle.nr_linkcommands.specs.Hearing.{heard_through}
 use Rattle.nr_linkcommands.specs.SendLines.{refused_line, sent_line}
 use Rattle.nr_files.specs.declared.schedule.Transmission.{Transmission}

@@ -5,7 +5,7 @@ use Rattle.nr_blockdesk.specs.Explains.{Explains}
 use Rattle.nr_blockdesk.specs.Heard.{heard_record}
 use Rattle.nr_blockdesk.specs.Outcome.{all_fixed, contradiction, delivered, outcome_of}
 use Rattle.nr_blockdesk.specs.Sent.{Sending, sending_said}
-use Rattle.nr_blockdesk.specs.declared.settings.Settings.{Settings}
+use Rattle.nr_transmission.specs.declared.settings.Settings.{Settings}
 use Rattle.nr_files.specs.Erasures.{is_named}
 use Rattle.nr_linkcommands.specs.Inputs.{senders_from}
 use Rattle.nr_files.specs.Rounds.{all_rounds}

@@ -2,8 +2,8 @@
 use Rattle.std.specs.Prelude.{Bool, Err, List, Ok, Result, [], codes, ℕ, ◌++◌, ◌∷◌}
 use Rattle.std.specs.Fmt.{decimal}
 use Rattle.nr_commands.specs.Hex.{hex}
-use Rattle.nr_blockdesk.specs.declared.fault.DeskFault.{DeskFault}
-use Rattle.nr_blockdesk.specs.declared.fault.DeskFault.TheVariants as desk
+use Rattle.nr_transmission.specs.declared.fault.DeskFault.{DeskFault}
+use Rattle.nr_transmission.specs.declared.fault.DeskFault.TheVariants as desk
 use Rattle.nr_ratematch.specs.declared.fault.RmFault.{RmFault}
 use Rattle.nr_ratematch.specs.declared.fault.RmFault.TheVariants as rate
 

@@ -29,8 +29,3 @@ pub use run_laws::{erasures_alone_are_safe, lines_are_own, rounds_are_calls, run
 pub use run_lines::process_words;
 pub use running::run;
 pub use sending::send;
-
-#[cfg(test)]
-mod refused_tests;
-#[cfg(test)]
-mod tests;

@@ -36,12 +36,3 @@ pub use check::{check_order, check_stuck};
 pub use fix::Fix;
 pub use peeler::Peeler;
 pub use rounds::close;
-
-#[cfg(test)]
-mod random_tests;
-#[cfg(test)]
-mod refused_tests;
-#[cfg(test)]
-mod test_tables;
-#[cfg(test)]
-mod tests;

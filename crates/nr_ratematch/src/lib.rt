@@ -22,10 +22,3 @@ pub use laws::{buffers_are_circular, places_are_sent, selection_ends};
 pub use mask::Mask;
 pub use selection::{select, select_onto};
 pub use sharing::{MOST_BLOCKS, lengths, lengths_are_shared};
-
-#[cfg(test)]
-mod refused_tests;
-#[cfg(test)]
-mod sharing_tests;
-#[cfg(test)]
-mod tests;

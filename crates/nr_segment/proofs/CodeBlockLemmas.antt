@@ -22,7 +22,7 @@ length-high_first zero v = refl
 length-high_first (suc n) v = ap suc (length-high_first n v)
 
 -- the share of a code block is inside the transport block
-share-inside : (c s b r : ℕ) → c * s ≡ b → r < c → r * s + s ≤ b
+pub share-inside : (c s b r : ℕ) → c * s ≡ b → r < c → r * s + s ≤ b
 share-inside c s b r whole one =
     let next : r + 1 ≤ c = omega arith in
     let up : (r + 1) * s ≤ c * s = mul-le-mul_right s next in

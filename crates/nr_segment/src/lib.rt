@@ -14,8 +14,3 @@ mod segmentation;
 pub use code_block::{code_blocks_are_long, cut, join, join_puts_parts, join_undoes_cut, part};
 pub use numbers::{Plan, SegFault};
 pub use segmentation::{plan, plans_are_sound};
-
-#[cfg(test)]
-mod refused_tests;
-#[cfg(test)]
-mod tests;

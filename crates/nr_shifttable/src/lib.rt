@@ -8,29 +8,17 @@
 
 mod accept;
 mod by_columns;
-#[cfg(test)]
-mod cut_tests;
-#[cfg(test)]
-mod entries_tests;
 mod entry;
 mod fault;
 mod fields;
-#[cfg(test)]
-mod fields_tests;
 mod items;
 pub mod laws;
 mod listed;
-#[cfg(test)]
-mod reader_tests;
 mod records;
-#[cfg(test)]
-mod refused_tests;
 mod sorted;
 mod source;
 mod starts;
 mod table;
-#[cfg(test)]
-mod table_tests;
 
 pub use entry::{Entry, Item, KeptEntry};
 pub use fault::{EntriesFault, TableFault};

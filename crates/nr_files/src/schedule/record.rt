@@ -11,8 +11,8 @@ use super::{PROCESSES, ScheduleFault, Transmission};
 use crate::erasure::{Erasure, Places};
 use crate::places::{erasure_of, mask_of, places_of, short_word};
 use csv::ByteRecord;
-use nr_blockdesk::Tx;
 use nr_ratematch::Mask;
+use nr_transmission::Tx;
 use std::alloc::Global;
 
 // The last record that may be a transmission: a header and 4,096 transmissions.

@@ -6,11 +6,18 @@ use Rattle.nr_ratematch.specs.Lengths.{scheduled, lengths_said}
 use Rattle.nr_ratematch.proofs.LengthLemmas.{lengths-shared}
 use Rattle.nr_ratematch.proofs.sharing.lengths.Goals as goal
 
-pub returns-clause-shared : goal.returns-clause-shared
+pub returns-then-not-contains-clause-said : goal.returns-then-not-contains-clause-said
 unfolding lengths_said
+returns-then-not-contains-clause-said c = grind (arith, common_steps)
+
+pub returns-then-not-contains-2-clause-said : goal.returns-then-not-contains-2-clause-said
+unfolding lengths_said
+returns-then-not-contains-2-clause-said c = grind (arith, common_steps)
+
+pub returns-clause-said : goal.returns-clause-said
+unfolding lengths_said
+returns-clause-said c = grind (arith, common_steps)
+
+pub returns-clause-shared : goal.returns-clause-shared
 returns-clause-shared c =
-    let is_on = scheduled c.args.mask in
-    let blocks = c.args.plan.now.c in
-    let said : lengths_said is_on blocks c.args.g c.args.qm c.args.nl ≡ Ok c.shares.result.items =
-    grind (arith, common_steps) in
-    lengths-shared is_on blocks c.args.g c.args.qm c.args.nl c.shares.result.items said
+    lengths-shared (scheduled c.args.mask) c.args.plan.now.c c.args.g c.args.qm c.args.nl c.shares.result.items (returns-clause-said c)

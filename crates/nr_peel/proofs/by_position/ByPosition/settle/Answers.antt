@@ -1,4 +1,4 @@
-use Rattle.std.proofs.Common.{◌≡◌, length, refl, sym, ap, ◌∙◌}
+use Rattle.std.proofs.Common.{◌≡◌, length, refl, sym, ap, ◌∙◌, arith}
 use Rattle.std.specs.Prelude.{slice_index}
 use Rattle.std.proofs.lemmas.List.{get_or_read}
 use Rattle.nr_peel.specs.ByPosition.{Grows}
@@ -8,6 +8,34 @@ use Rattle.nr_peel.specs.declared.by_position.ByPosition.{ByPosition}
 use Rattle.nr_peel.proofs.Fixing.{grows_then}
 use Rattle.nr_peel.proofs.Settling.{IsPopped, listed_rest, listed_skip, popped_inside, popped_works}
 use Rattle.nr_peel.proofs.by_position.ByPosition.settle.Goals as goal
+
+pub index-requires : goal.index-requires
+index-requires c =
+    let a = c.rows.self in
+    let below = popped_inside a.counters.ready.items c.pop.new.self.items c.in-Some.row (length a.counters.counts.items) c.rows.invariant.working.tied.inside c.in-Some.ensures.items in
+    omega (arith, below, c.from.ensures)
+
+pub fix-requires-clause-working : goal.fix-requires-clause-working
+fix-requires-clause-working c =
+    let a = c.rows.self in
+    let rest : Counters = record { counts = a.counters.counts; ready = c.pop.new.self; touches = a.counters.touches } in
+    let d : ByPosition = record { given = a.given; known = a.known; bits = a.bits; counters = rest; order = a.order; left = a.left } in
+    let popped : IsPopped a d c.in-Some.row = record { given = refl; known = refl; bits = refl; order = refl; counts = refl; touches = refl; ready = c.in-Some.ensures.items; capacity = c.in-Some.ensures.capacity } in
+    popped_works (lifted_checks c.args.lifted.now) a d c.in-Some.row popped c.rows.invariant.working
+
+pub fix-requires-clause-inside : goal.fix-requires-clause-inside
+fix-requires-clause-inside c =
+    let a = c.rows.self in
+    let below = popped_inside a.counters.ready.items c.pop.new.self.items c.in-Some.row (length a.counters.counts.items) c.rows.invariant.working.tied.inside c.in-Some.ensures.items in
+    rw c.from-then-index-eq1.ensures below
+
+pub fix-requires-clause-one : goal.fix-requires-clause-one
+fix-requires-clause-one c =
+    let a = c.rows.self in
+    let row = c.in-Some.row in
+    let below = popped_inside a.counters.ready.items c.pop.new.self.items row (length a.counters.counts.items) c.rows.invariant.working.tied.inside c.in-Some.ensures.items in
+    let read : c.index.result.now ≡ slice_index a.counters.counts.items row = get_or_read a.counters.counts.items row c.index.result.now below (rw c.from.ensures at c.index.ensures) 0 in
+    rw c.from-then-index-eq1.ensures (sym read ∙ c.if-index-eq1.true)
 
 pub rows-preserved-then-index-eq1 : goal.rows-preserved-then-index-eq1
 rows-preserved-then-index-eq1 c =

@@ -1,5 +1,0 @@
-use Rattle.std.proofs.Common.{rules}
-use Rattle.linksim.proofs.ending.refusal_line.Goals as goal
-
-pub returns : goal.returns
-returns c = (c.first_line.result.now, c.first_line.ensures.one, search rules)

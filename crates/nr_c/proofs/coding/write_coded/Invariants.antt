@@ -1,7 +1,0 @@
-use Rattle.std.proofs.Common.{◌≡◌, ℕ, ◌<◌, get_or}
-use Rattle.nr_c.specs.Coding.{coded_octet, coded_of}
-use Rattle.nr_c.proofs.coding.write_coded.Given as goal
-
--- the octets so far
-abbrev pub invariant-loop-n : goal.invariant-loop-n
-invariant-loop-n l = (k : ℕ) → k < l.n → get_or l.out k 0 ≡ coded_octet (coded_of l.coded) k

@@ -1,5 +1,0 @@
-use Rattle.nr_c.proofs.Digits.{eight_lanes}
-use Rattle.nr_c.proofs.crossing.digits_of.Goals as goal
-
-pub returns : goal.returns
-returns c = eight_lanes c.args.word

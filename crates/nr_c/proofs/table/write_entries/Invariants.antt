@@ -1,8 +1,0 @@
-use Rattle.std.proofs.Common.{◌≡◌, ℕ, ◌<◌, get_or}
-use Rattle.nr_shifttable.specs.Listed.{kept_listed}
-use Rattle.nr_c.proofs.Placed.{no_entry}
-use Rattle.nr_c.proofs.table.write_entries.Given as goal
-
--- the entries so far
-abbrev pub invariant-loop-n : goal.invariant-loop-n
-invariant-loop-n l = (k : ℕ) → k < l.n → get_or l.out k no_entry ≡ get_or (kept_listed l.table) k no_entry

@@ -1,0 +1,65 @@
+-- The outcomes after each reception of a list, with one more; and what is left of each code block.
+use Rattle.std.proofs.Common.{◌≡◌, sym, ℕ, ◌+◌, ◌<◌, ◌++◌, ◌∷◌, [], List, length, map, take, ap, ◌∙◌, refl, zero, suc, arith}
+use Rattle.std.proofs.lemmas.List.{length-append, take-append-le}
+use Rattle.std.proofs.lemmas.List.FromFn.{map-range_with_len_more}
+use Rattle.std.proofs.Math.Seq.{take-append-add}
+use Rattle.std.specs.List.{range_with_len}
+use Rattle.std.specs.Prelude.{Result, Ok, Err}
+use Rattle.nr_graphpick.specs.Refusal.{◌>>=◌, with_fault}
+use Rattle.nr_harqbuf.specs.Record.{Heardbits}
+use Rattle.nr_blockdesk.specs.Explains.{Reception, reception_said}
+use Rattle.nr_blockdesk.specs.Link.{Link}
+use Rattle.nr_blockdesk.specs.Outcome.{Verdict, left, outcome_of}
+use Rattle.nr_transmission.specs.declared.fault.DeskFault.{DeskFault}
+use Rattle.nr_calls.specs.Findings.{outcome_number, outcomes_of}
+use Rattle.nr_calls.specs.Receiving.{one_more_said}
+use Rattle.nr_calls.specs.declared.fault.Fault.TheVariants as fault
+
+-- two functions that agree on the n numbers from a on give the same list of them
+map-same : (f g : ℕ → ℕ) (a n : ℕ) → ((k : ℕ) → k < a + n → f k ≡ g k) → map f (range_with_len a n) ≡ map g (range_with_len a n)
+map-same f g a zero same = refl
+map-same f g a (suc n) same =
+    let here : f a ≡ g a = same a (omega arith) in
+    let rest : map f (range_with_len (a + 1) n) ≡ map g (range_with_len (a + 1) n) = map-same f g (a + 1) n (λ k below. same k (omega arith)) in
+    cc
+
+-- one more reception adds its outcome
+pub outcomes_more : (link : Link) (list : List Reception) (x : Reception)
+    → outcomes_of link (list ++ x ∷ []) ≡ outcomes_of link list ++ outcome_number (outcome_of link (list ++ x ∷ [])) ∷ []
+outcomes_more link list x =
+    let number : List Reception → ℕ = λ l. outcome_number (outcome_of link l) in
+    let f : ℕ → ℕ = λ k. number (take (k + 1) (list ++ x ∷ [])) in
+    let g : ℕ → ℕ = λ k. number (take (k + 1) list) in
+    let n = length list in
+    let before : map f (range_with_len 0 n) ≡ map g (range_with_len 0 n) =
+    map-same f g 0 n (λ k below. ap number (take-append-le (k + 1) list (x ∷ []) (omega arith))) in
+    let last : f n ≡ number (list ++ x ∷ []) = ap number (take-append-add list (x ∷ []) 1) in
+    ap (λ m. map f (range_with_len 0 m)) (length-append list (x ∷ []))
+    ∙ map-range_with_len_more f 0 n n (omega arith)
+    ∙ ap (λ l. l ++ f n ∷ []) before
+    ∙ ap (λ v. map g (range_with_len 0 n) ++ v ∷ []) last
+
+-- a step that is not refused answers what follows it
+answered : (said : Result (List ℕ) DeskFault) (w v : Verdict) → (with_fault fault.Desk said >>= λ _. Ok w) ≡ Ok v → w ≡ v
+answered (Ok lengths) w v is = cc
+answered (Err e) w v is = cc
+
+-- the same, of what was heard of one more transmission
+pub outcomes_after : (link : Link) (list : List Reception) (x : Reception) (v : Verdict) (old new : List ℕ)
+    → one_more_said link list x ≡ Ok v → old ≡ outcomes_of link list → new ≡ old ++ outcome_number v ∷ []
+    → new ≡ outcomes_of link (list ++ x ∷ [])
+outcomes_after link list x v old new said before pushed =
+    let is : outcome_of link (list ++ x ∷ []) ≡ v = answered (reception_said link x) (outcome_of link (list ++ x ∷ [])) v said in
+    pushed
+    ∙ ap (λ l. l ++ outcome_number v ∷ []) before
+    ∙ ap (λ w. outcomes_of link list ++ outcome_number w ∷ []) (sym is)
+    ∙ sym (outcomes_more link list x)
+
+-- one more code block adds what is left of it
+pub lefts_more : (link : Link) (records : List Heardbits) (r n : ℕ) (old new : List ℕ) → old ≡ map (left link records) (range_with_len 0 r)
+    → new ≡ old ++ n ∷ [] → n ≡ left link records r → new ≡ map (left link records) (range_with_len 0 (r + 1))
+lefts_more link records r n old new before pushed is =
+    pushed
+    ∙ ap (λ l. l ++ n ∷ []) before
+    ∙ ap (λ v. map (left link records) (range_with_len 0 r) ++ v ∷ []) is
+    ∙ sym (map-range_with_len_more (left link records) 0 r r (omega arith))

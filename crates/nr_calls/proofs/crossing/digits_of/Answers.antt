@@ -1,0 +1,5 @@
+use Rattle.nr_calls.proofs.Digits.{eight_lanes}
+use Rattle.nr_calls.proofs.crossing.digits_of.Goals as goal
+
+pub returns : goal.returns
+returns c = eight_lanes c.args.word

@@ -1,0 +1,8 @@
+use Rattle.std.proofs.Common.{◌≡◌, ℕ, ◌*◌, ◌<◌, get_or, length}
+use Rattle.nr_bitvec.specs.Bit.{bit}
+use Rattle.nr_calls.specs.Crossing.{digit}
+use Rattle.nr_calls.proofs.crossing.write_bits.Given as goal
+
+-- the octets of the words so far
+abbrev pub invariant-loop-i : goal.invariant-loop-i
+invariant-loop-i l = (k : ℕ) → k < 64 * l.i → k < length l.bits.items → get_or l.out k 0 ≡ digit (bit l.bits.items k)

@@ -1,0 +1,17 @@
+use Rattle.std.proofs.Common.{◌≡◌, ℕ, ◌/◌, ◌*◌, ◌^◌, ◌<◌, get_or}
+use Rattle.std.specs.Int.{bit_at}
+use Rattle.nr_calls.proofs.crossing.write_word.Given as goal
+
+-- the octets of the bits so far, and the bits that are left
+abbrev pub invariant-loop-i : goal.invariant-loop-i
+invariant-loop-i l = record {
+  left : l.rest ≡ l.word / 2 ^ (8 * l.i);
+  so_far : (k : ℕ) → k < 8 * l.i → get_or l.out k 0 ≡ bit_at l.word k;
+}
+
+-- the same, an octet at a time
+abbrev pub invariant-loop-i-2 : goal.invariant-loop-i-2
+invariant-loop-i-2 l = record {
+  left : l.rest ≡ l.word / 2 ^ l.i;
+  so_far : (k : ℕ) → k < l.i → get_or l.out k 0 ≡ bit_at l.word k;
+}

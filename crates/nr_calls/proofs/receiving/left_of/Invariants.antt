@@ -1,0 +1,12 @@
+use Rattle.std.proofs.Common.{◌≡◌, ◌+◌, ◌≤◌, map}
+use Rattle.std.specs.Prelude.{vec_len, vec_capacity}
+use Rattle.std.specs.List.{range_with_len}
+use Rattle.nr_blockdesk.specs.Outcome.{left}
+use Rattle.nr_calls.proofs.receiving.left_of.Given as goal
+
+-- what is left of the code blocks so far
+abbrev pub invariant-loop-r : goal.invariant-loop-r
+invariant-loop-r l = record {
+  so_far : l.left.items ≡ map (left l.receiver.link l.receiver.heard) (range_with_len 0 l.r);
+  room : vec_len l.left + l.count ≤ vec_capacity l.left + l.r;
+}

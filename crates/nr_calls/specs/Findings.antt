@@ -1,0 +1,83 @@
+-- What is found over a list of receptions, and what a call leaves of it in its caller's places.
+use Rattle.std.specs.Prelude.{◌≡◌, ◌⊎◌, ℕ, ◌+◌, ◌*◌, ◌==◌, ◌&&◌, Bool, true, Result, Ok, Err, List, length, map, take}
+use Rattle.std.specs.List.{range_with_len}
+use Rattle.nr_harqbuf.specs.Record.{Heardbits}
+use Rattle.nr_blockdesk.specs.Explains.{Reception}
+use Rattle.nr_blockdesk.specs.Heard.{heard_record}
+use Rattle.nr_blockdesk.specs.Link.{Link}
+use Rattle.nr_blockdesk.specs.Outcome.{Verdict, contradiction, delivered, left, open_still, outcome_of}
+use Rattle.nr_blockdesk.specs.Receiving.{verdict}
+use Rattle.nr_calls.specs.Crossing.{AreOctets}
+use Rattle.nr_calls.specs.Statuses.{fault_number}
+use Rattle.nr_calls.specs.declared.fault.Fault.{Fault}
+use Rattle.nr_calls.specs.declared.findings.Found.{Found}
+use Rattle.nr_calls.specs.declared.findings.Room.{Room}
+
+-- the number of an outcome
+abbrev pub outcome_number : Verdict → ℕ
+outcome_number open_still = 0
+outcome_number (delivered block) = 1
+outcome_number contradiction = 2
+
+-- the number of the outcome after each reception of a list: of it and those before it
+abbrev pub outcomes_of : Link → List Reception → List ℕ
+outcomes_of link list = map (λ k. outcome_number (outcome_of link (take (k + 1) list))) (range_with_len 0 (length list))
+
+-- how many positions below K' of each code block aren't fixed
+abbrev pub lefts : Link → List Heardbits → List ℕ
+lefts link records = map (left link records) (range_with_len 0 link.plan.c)
+
+-- what is found over a list of receptions: the number of the outcome after each of them, how many positions below K' of
+-- each code block are left after the last, and the outcome then
+pub record Findings : Type 0 where
+  pub outcomes : List ℕ
+  pub left : List ℕ
+  pub last : Verdict
+
+abbrev pub findings : Link → List Reception → Findings
+findings link list = record { outcomes = outcomes_of link list; left = lefts link (heard_record link list); last = outcome_of link list }
+
+-- the same, of what a call has found
+abbrev pub findings_of : Found → Findings
+findings_of f = record { outcomes = f.outcomes.items; left = f.left.items; last = verdict f.last }
+
+-- a caller's places: for the outcomes, for what is left of each code block, and for the octets of a transport block
+pub record Places : Type 0 where
+  pub outcomes : List ℕ
+  pub left : List ℕ
+  pub block : List ℕ
+
+abbrev pub places : List ℕ → List ℕ → List ℕ → Places
+places outcomes left block = record { outcomes = outcomes; left = left; block = block }
+
+-- how much room they have
+abbrev pub room_in : Places → Room
+room_in p = record { outcomes = length p.outcomes; left = length p.left; block = length p.block }
+
+-- a block that is delivered fills so many octets
+abbrev pub block_fits : ℕ → Verdict → Bool
+block_fits octets (delivered block) = length block == 8 * octets
+block_fits octets open_still = true
+block_fits octets contradiction = true
+
+-- what is found fills the room
+abbrev pub has_room : Room → Findings → Bool
+has_room room f = (length f.outcomes == room.outcomes) && (length f.left == room.left) && block_fits room.block f.last
+
+-- a block that is delivered stands in its place; with any other outcome the place is as it was
+abbrev pub IsHandedUp : Verdict → List ℕ → List ℕ → Type 0
+IsHandedUp open_still old new = new ≡ old
+IsHandedUp (delivered block) old new = AreOctets block new
+IsHandedUp contradiction old new = new ≡ old
+
+-- what is found stands in a caller's places
+pub record AreWritten (f : Findings) (old new : Places) : Type 0 where
+  pub outcomes : new.outcomes ≡ f.outcomes
+  pub left : new.left ≡ f.left
+  pub block : IsHandedUp f.last old.block new.block
+
+-- What a call that receives leaves in its caller's places: what is found, where it answers 0. Where it does not, they are as
+-- they were.
+abbrev pub Decides : ℕ → Places → Places → Result Findings Fault → Type 0
+Decides status old new (Ok f) = ((status ≡ 0) × AreWritten f old new) ⊎ ((status ≡ 1) × (new ≡ old))
+Decides status old new (Err e) = ((status ≡ fault_number e) ⊎ (status ≡ 1)) × (new ≡ old)

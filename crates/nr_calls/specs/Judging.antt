@@ -1,0 +1,63 @@
+-- What judging a shift table tells, and what is listed of one.
+use Rattle.std.specs.Prelude.{◌≡◌, ◌⊎◌, ℕ, ◌==◌, if◌then◌else◌, Result, Ok, Err, List, length}
+use Rattle.nr_shifttable.specs.Accepted.{Entries}
+use Rattle.nr_shifttable.specs.declared.fault.TableFault.{TableFault}
+use Rattle.nr_shifttable.specs.declared.fault.TableFault.TheVariants as table
+use Rattle.nr_shifttable.specs.Listed.{graph_number, kept_listed}
+use Rattle.nr_calls.specs.Statuses.{table_status}
+use Rattle.nr_shifttable.specs.declared.entry.KeptEntry.{KeptEntry}
+use Rattle.nr_calls.specs.declared.table.NrReport.{NrReport}
+
+-- the place of a fault: the number of a record or of a base graph; 0 where it has none
+abbrev pub fault_place : TableFault → ℕ
+fault_place (table.Csv k) = k
+fault_place (table.Number k) = k
+fault_place (table.Range k) = k
+fault_place (table.Twice k) = k
+fault_place (table.Core graph) = graph_number graph
+fault_place (table.Extension graph) = graph_number graph
+fault_place (table.MissingRow graph) = graph_number graph
+fault_place table.Read = 0
+fault_place table.Fields = 0
+fault_place table.Empty = 0
+fault_place table.TooLong = 0
+fault_place table.Memory = 0
+
+-- how many entries an accepted table has of each base graph, and where a refused one has its fault
+abbrev pub report_of : Result Entries TableFault → NrReport
+report_of (Ok t) = record { one = length t.one; two = length t.two; place = 0 }
+report_of (Err e) = record { one = 0; two = 0; place = fault_place e }
+
+-- the number of a table's fault, and 0 for none
+abbrev pub judged_status : Result Entries TableFault → ℕ
+judged_status (Ok t) = 0
+judged_status (Err e) = table_status e
+
+-- What a call that judges leaves in its place: what is said of the table. Where memory runs out it is as it was.
+abbrev pub Reports : ℕ → NrReport → NrReport → Result Entries TableFault → Type 0
+Reports status old new said = ((status ≡ judged_status said) × (new ≡ report_of said)) ⊎ ((status ≡ 1) × (new ≡ old))
+
+-- a caller's places: for entries, and for how many there are
+pub record Listing : Type 0 where
+  pub room : List KeptEntry
+  pub count : ℕ
+
+abbrev pub listing : List KeptEntry → ℕ → Listing
+listing room count = record { room = room; count = count }
+
+-- the number that a call answers which lists a table for a room of so many entries: 2, where the table has more or fewer
+abbrev pub listed_status : ℕ → Result Entries TableFault → ℕ
+listed_status room (Ok t) = if length (kept_listed t) == room then 0 else 2
+listed_status room (Err e) = table_status e
+
+-- what it leaves in its places: how many entries the table has, and them where the room has their length; of a refused table
+-- nothing
+abbrev pub listed : Listing → Result Entries TableFault → Listing
+listed old (Ok t) =
+    record { room = if length (kept_listed t) == length old.room then kept_listed t else old.room; count = length (kept_listed t) }
+listed old (Err e) = old
+
+-- What a call that lists leaves in its places. Where memory runs out they are as they were.
+abbrev pub Lists : ℕ → Listing → Listing → Result Entries TableFault → Type 0
+Lists status old new said =
+    ((status ≡ listed_status (length old.room) said) × (new ≡ listed old said)) ⊎ ((status ≡ 1) × (new ≡ old))

@@ -1,0 +1,60 @@
+-- What receiving a transport block over its transmissions answers.
+use Rattle.std.specs.Prelude.{ℕ, ◌++◌, ◌==◌, nat_le, if◌then◌else◌, Result, Ok, Err, List, [], ◌∷◌, length, map, take, drop}
+use Rattle.nr_graphpick.specs.Refusal.{◌>>=◌, with_fault}
+use Rattle.nr_shifttable.specs.Accepted.{Entries}
+use Rattle.nr_blockdesk.specs.Explains.{Reception, reception, reception_said}
+use Rattle.nr_blockdesk.specs.Link.{Link, demanded, link_said}
+use Rattle.nr_blockdesk.specs.Outcome.{Verdict, outcome_of}
+use Rattle.nr_transmission.specs.declared.fault.DeskFault.TheVariants as desk
+use Rattle.nr_blockdesk.specs.declared.heard.Heard.{Heard}
+use Rattle.nr_blockdesk.specs.declared.heard.Heard.TheVariants as heard
+use Rattle.nr_transmission.specs.declared.settings.Settings.{Settings}
+use Rattle.nr_calls.specs.Crossing.{tx_of}
+use Rattle.nr_calls.specs.Entries.{table_by}
+use Rattle.nr_calls.specs.Findings.{Findings, findings, has_room}
+use Rattle.nr_calls.specs.declared.crossing.NrTx.{NrTx}
+use Rattle.nr_shifttable.specs.declared.entry.KeptEntry.{KeptEntry}
+use Rattle.nr_calls.specs.declared.fault.Fault.{Fault}
+use Rattle.nr_calls.specs.declared.fault.Fault.TheVariants as fault
+use Rattle.nr_calls.specs.declared.findings.Room.{Room}
+
+-- what an octet says was heard at a place: 0 and 1 are bits, any other number is nothing
+abbrev pub heard_octet : ℕ → Heard
+heard_octet o = if o == 0 then heard.Zero else (if o == 1 then heard.One else heard.Erased)
+
+-- a transmission, and the octets of its places
+abbrev pub arrival : NrTx → List ℕ → Reception
+arrival t octets = reception (tx_of t) (map heard_octet (take t.g octets))
+
+-- the outcome of a list of receptions and one more, or its fault
+abbrev pub one_more_said : Link → List Reception → Reception → Result Verdict Fault
+one_more_said link list x = with_fault fault.Desk (reception_said link x) >>= λ _. Ok (outcome_of link (list ++ x ∷ []))
+
+-- what is found over a list of receptions and then some more, whose places stand one transmission after the other, or the
+-- first fault
+unfoldable pub heard_said : Link → List Reception → List NrTx → List ℕ → Result Findings Fault
+heard_said link list [] [] = Ok (findings link list)
+heard_said link list [] (o ∷ octets) = Err (fault.Desk desk.Length)
+heard_said link list (t ∷ ts) octets =
+    demanded (fault.Desk desk.Length) (nat_le t.g (length octets)) >>= λ _.
+    with_fault fault.Desk (reception_said link (arrival t octets)) >>= λ _.
+    heard_said link (list ++ arrival t octets ∷ []) ts (drop t.g octets)
+
+-- what is found over some transmissions of a transport block of a bits, by a shift table, or the first fault
+unfoldable pub receive_by : Entries → Settings → ℕ → List NrTx → List ℕ → Result Findings Fault
+receive_by table settings a ts octets =
+    with_fault fault.Desk (link_said table settings a) >>= λ link. heard_said link [] ts octets
+
+-- the same of at most 256, by a shift table's entries
+unfoldable pub receive_said : List KeptEntry → Settings → ℕ → List NrTx → List ℕ → Result Findings Fault
+receive_said entries settings a ts octets = do
+  few ← demanded fault.Many (nat_le (length ts) 256)
+  table ← table_by entries
+  receive_by table settings a ts octets
+
+-- the same, where there is room for what is found
+abbrev pub receive_into_said : List KeptEntry → Settings → ℕ → List NrTx → List ℕ → Room → Result Findings Fault
+receive_into_said entries settings a ts octets room = do
+  found ← receive_said entries settings a ts octets
+  fits ← demanded fault.Room (has_room room found)
+  Ok found

@@ -1,0 +1,39 @@
+-- What sending a transport block answers.
+use Rattle.std.specs.Prelude.{◌≡◌, ◌⊎◌, ℕ, ◌==◌, nat_le, Bool, Result, Ok, Err, List, length}
+use Rattle.nr_bitvec.specs.BitList.{bits_of}
+use Rattle.nr_graphpick.specs.Refusal.{◌>>=◌, with_fault}
+use Rattle.nr_shifttable.specs.Accepted.{Entries}
+use Rattle.nr_blockdesk.specs.Link.{demanded}
+use Rattle.nr_blockdesk.specs.Sent.{sending_said, sent_said}
+use Rattle.nr_transmission.specs.declared.fault.DeskFault.TheVariants as desk
+use Rattle.nr_transmission.specs.declared.settings.Settings.{Settings}
+use Rattle.nr_transmission.specs.declared.tx.Tx.{Tx}
+use Rattle.nr_calls.specs.Crossing.{AreBits}
+use Rattle.nr_calls.specs.Entries.{table_by}
+use Rattle.nr_calls.specs.Statuses.{fault_number}
+use Rattle.nr_shifttable.specs.declared.entry.KeptEntry.{KeptEntry}
+use Rattle.nr_calls.specs.declared.fault.Fault.{Fault}
+use Rattle.nr_calls.specs.declared.fault.Fault.TheVariants as fault
+
+-- the bits that a transmission sends of a transport block of whole octets, by a shift table, or the first fault
+unfoldable pub send_by : Entries → Settings → List ℕ → Tx → Result (List Bool) Fault
+send_by table settings octets tx = do
+  short ← demanded (fault.Desk desk.Size) (nat_le (length octets) 163840)
+  sender ← with_fault fault.Desk (sending_said table settings (bits_of octets))
+  with_fault fault.Desk (sent_said sender.link tx sender.block)
+
+-- the same, by a shift table's entries
+unfoldable pub send_call_said : List KeptEntry → Settings → List ℕ → Tx → Result (List Bool) Fault
+send_call_said entries settings octets tx = table_by entries >>= λ table. send_by table settings octets tx
+
+-- the same, where there is room for so many
+abbrev pub send_into_said : List KeptEntry → Settings → List ℕ → Tx → ℕ → Result (List Bool) Fault
+send_into_said entries settings octets tx room = do
+  bits ← send_call_said entries settings octets tx
+  fits ← demanded fault.Room (length bits == room)
+  Ok bits
+
+-- What a call leaves in a room for bits: them, where it answers 0. Where it does not, the room is as it was.
+abbrev pub Answers : ℕ → List ℕ → List ℕ → Result (List Bool) Fault → Type 0
+Answers status old new (Ok bits) = ((status ≡ 0) × AreBits bits new) ⊎ ((status ≡ 1) × (new ≡ old))
+Answers status old new (Err e) = ((status ≡ fault_number e) ⊎ (status ≡ 1)) × (new ≡ old)

@@ -1,0 +1,143 @@
+//! Judging the text of a shift table, and reading its entries.
+
+ghost use Rattle.std.specs.Prelude.{◌≡◌, ◌≢◌, ◌<◌, Ok, length};
+ghost use Rattle.nr_graphpick.specs.Refusal.{with_fault};
+ghost use Rattle.nr_shifttable.specs.Accepted.{table_said};
+ghost use Rattle.nr_shifttable.specs.Listed.{graph_number, kept_listed};
+ghost use Rattle.nr_calls.specs.Entries.{table_by};
+ghost use Rattle.nr_calls.specs.Judging.{Lists, Reports, fault_place, judged_status, listed, listed_status, listing, report_of};
+
+use crate::entries::NrEntry;
+use crate::fault::{Fault, table_status};
+use nr_graphpick::Graph;
+use nr_shifttable::laws::{listed_are_kept, tables_are_sound};
+use nr_shifttable::{Table, TableFault};
+use std::alloc::Global;
+
+/// What judging a shift table tells.
+#[repr(C)]
+#[derive(Clone, Copy)]
+pub struct NrReport {
+    /// How many entries of base graph 1 an accepted table has; else 0.
+    pub one: u32,
+    /// How many entries of base graph 2 an accepted table has; else 0.
+    pub two: u32,
+    /// Of a refused table, the number of the record, counted from 1, at which 21, 23, 24 and 25 are met; the base
+    /// graph, 1 or 2, of 26 to 28; else 0.
+    pub place: u32,
+}
+
+/// Judges the shift table of a text, and writes what it tells to `out`: the body of nr_c's export of this name, which says
+/// what each status is.
+pub fn nr_table_check(alloc: Global, text: &[u8], out: &mut NrReport) -> u32
+    ensures said { Reports result out.old out.new (table_said text.now) }
+    ensures long { 4194304 < length text.now → result ≡ 30 }
+{
+    tell(Table::of_text(alloc, text), out)
+}
+
+// Writes what a judged table tells, and answers its number: 1 only for want of memory, which writes nothing.
+fn tell(judged: Result<Table, TableFault>, out: &mut NrReport) -> u32
+    ensures status { result ≡ judged_status judged }
+    ensures told { result ≢ 1 → out.new ≡ report_of judged }
+    ensures kept { result ≡ 1 → out.new ≡ out.old }
+{
+    match judged {
+        Ok(table) => {
+            let (one, two) = (table.entries(Graph::One), table.entries(Graph::Two));
+            *out = NrReport { one, two, place: 0 };
+            0
+        }
+        Err(TableFault::Memory) => 1,
+        Err(fault) => {
+            let place = fault_place(fault);
+            *out = NrReport {
+                one: 0,
+                two: 0,
+                place,
+            };
+            table_status(fault)
+        }
+    }
+}
+
+/// The entries of the shift table of a text, written to `out`, and how many they are: the body of nr_c's export of this name,
+/// which says what each status is.
+pub fn nr_table_entries(alloc: Global, text: &[u8], out: &mut [NrEntry], count: &mut usize) -> u32
+    ensures said { Lists result (listing out.old count.old) (listing out.new count.new)
+        (table_said text.now) }
+    ensures kept { result ≡ 0
+        → table_by out.new ≡ with_fault Fault.Table (table_said text.now) }
+    ensures long { 4194304 < length text.now → result ≡ 30 }
+{
+    list(Table::of_text(alloc, text), out, count)
+}
+
+// Writes what is listed of a judged table, and answers its number: 1 only for want of memory.
+fn list(judged: Result<Table, TableFault>, out: &mut [NrEntry], count: &mut usize) -> u32
+    ensures status { result ≡ listed_status (length out.old) judged }
+    ensures places { listing out.new count.new ≡ listed (listing out.old count.old) judged }
+    ensures kept { result ≡ 0 → table_by out.new ≡ with_fault Fault.Table judged }
+{
+    match judged {
+        Ok(table) => list_of(&table, out, count),
+        Err(fault) => table_status(fault),
+    }
+}
+
+// Writes how many entries a table has, and the entries where there is room for so many.
+fn list_of(table: &Table, out: &mut [NrEntry], count: &mut usize) -> u32
+    ensures status { result ≡ listed_status (length out.old) (Ok table.now) }
+    ensures places { listing out.new count.new
+        ≡ listed (listing out.old count.old) (Ok table.now) }
+    ensures kept { result ≡ 0 → table_by out.new ≡ Ok table.now }
+{
+    let wanted = table.entries(Graph::One) as usize + table.entries(Graph::Two) as usize;
+    *count = wanted;
+    if out.len() != wanted {
+        return Fault::Room.status();
+    }
+    write_entries(table, out);
+    listed_are_kept();
+    tables_are_sound(table);
+    0
+}
+
+// Writes the entries of a table.
+fn write_entries(table: &Table, out: &mut [NrEntry])
+    requires { length out.old ≡ length (kept_listed table.now) }
+    ensures { out.new ≡ kept_listed table.now }
+{
+    // A sound table has few entries, so that each number of one fits.
+    tables_are_sound(table);
+    for (n, entry) in out.iter_mut().enumerate() {
+        if let Some(item) = table.item(n as u32) {
+            *entry = NrEntry::of(&item);
+        }
+    }
+}
+
+// The place of a shift table's fault: the number of a record or of a base graph, or 0.
+fn fault_place(fault: TableFault) -> u32
+    ensures { result ≡ fault_place fault }
+{
+    match fault {
+        TableFault::Csv(record)
+        | TableFault::Number(record)
+        | TableFault::Range(record)
+        | TableFault::Twice(record) => record,
+        TableFault::Core(graph) | TableFault::Extension(graph) | TableFault::MissingRow(graph) =>
+            graph_number(graph),
+        _ => 0,
+    }
+}
+
+// The number of a base graph.
+pub(crate) fn graph_number(graph: Graph) -> u32
+    ensures { result ≡ graph_number graph }
+{
+    match graph {
+        Graph::One => 1,
+        Graph::Two => 2,
+    }
+}

@@ -1,0 +1,53 @@
+-- How the program ends.
+use Rattle.std.specs.Prelude.{◌≡◌, ◌≢◌, ℕ, suc, List, [], ◌∷◌, ◌++◌, All, Option, Result, Ok, Err, codes}
+use Rattle.std.specs.String.{string_bytes}
+use Rattle.nr_commands.specs.Written.{with_text}
+use Rattle.nr_ends.specs.declared.ending.Ending.{Ending}
+use Rattle.nr_ends.specs.declared.ending.Ending.TheVariants.{Done, Help, Refused, Usage}
+use Rattle.nr_commands.specs.declared.fault.RunFault.{RunFault}
+use Rattle.nr_commands.specs.declared.fault.RunFault.TheVariants as faults
+use Rattle.nr_job.specs.declared.jobs.JobFault.{JobFault}
+use Rattle.nr_job.specs.declared.jobs.JobFault.TheVariants as job_faults
+
+-- 0 where the job is done or help was asked for, 1 where the job is refused, 2 where the words ask for no job
+abbrev pub status_of : Ending → ℕ
+status_of Done = 0
+status_of (Help text) = 0
+status_of (Refused fault) = 1
+status_of (Usage text) = 2
+
+-- how words that ask for no job end
+abbrev pub refused_by : JobFault → Ending
+refused_by (job_faults.Usage text) = Usage text
+refused_by (job_faults.Help text) = Help text
+refused_by job_faults.Memory = Refused faults.Memory
+
+-- how a command's answer ends
+abbrev pub ending_by : {T : Type 0} → Result T RunFault → Ending
+ending_by (Ok done) = Done
+ending_by (Err fault) = Refused fault
+
+-- how it ends where so many puts of its help failed: help that cannot be written is a refusal
+abbrev pub ended_at : Ending → ℕ → Ending
+ended_at (Help text) (suc n) = Refused faults.Write
+ended_at ending n = ending
+
+-- what goes to standard output as it ends
+abbrev pub output_of : Ending → List ℕ
+output_of (Help text) = string_bytes text
+output_of _ = []
+
+-- no line end is among these
+abbrev pub IsOnOneLine : List ℕ → Type 0
+IsOnOneLine words = All (λ octet. octet ≢ 10) words
+
+-- the line of a refusal; which words stand for which fault is not said here
+abbrev pub IsRefusalLine : List ℕ → Type 0
+IsRefusalLine line = (words : List ℕ) × IsOnOneLine words × (line ≡ codes "linksim: refused: " ++ words ++ 10 ∷ [])
+
+-- what stands on standard error as it ends, and what stood there before: a refusal's line more, or the text that says
+-- how the program is used
+abbrev pub Complains : Ending → Option (List ℕ) → Option (List ℕ) → Type 0
+Complains (Refused fault) old new = (line : List ℕ) × IsRefusalLine line × (new ≡ with_text old line)
+Complains (Usage text) old new = new ≡ with_text old (string_bytes text)
+Complains _ old new = new ≡ old

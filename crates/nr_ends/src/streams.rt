@@ -1,0 +1,149 @@
+//! The Source and the Sinks that the program runs its commands on: a file or standard input, standard output and standard
+//! error. What they hold is not known to any contract; what is proved is that they keep the meaning of a Source and of a
+//! Sink.
+
+ghost use Rattle.std.specs.Prelude.{◌≡◌};
+ghost use Rattle.std.specs.Io.{ReadsAtMost};
+
+use nr_commands::{Sink, Tape};
+use nr_shifttable::{Broken, Source};
+use std::fs;
+use std::io::{ErrorKind, Read, Stderr};
+use std::rt::Files;
+
+// Where the octets of an `Incoming` come from.
+#[derive(Drop)]
+enum Origin<F: Drop, S: Drop> {
+    // Nothing was pulled yet.
+    Unopened,
+    File(F),
+    Standard(S),
+    // It was read to its end, and is closed.
+    Ended,
+    // It could not be opened or read.
+    Failed,
+}
+
+/// A Source over a file or standard input, whose octets are not known. It is opened at its first pull and closed at its
+/// end, so that opening takes its place in the order of reading, and no two are open at a time where one is read to
+/// its end after another. A read that a signal interrupts is tried again.
+#[derive(Drop)]
+pub struct Incoming<'r, R: Files + Input> {
+    rt: &'r R,
+    path: &'r str,
+    origin: Origin<R::File, R::Reader>,
+    failures: u64,
+}
+
+/// The Source of a path; `-` is standard input. One that cannot be opened is Broken at its first pull.
+pub fn source_of<'r, R: Files + Input>(rt: &'r R, path: &'r str) -> Incoming<'r, R>
+    ensures { ⟦<Incoming<'r, R> as Source>⟧.failures result ≡ 0 }
+{
+    Incoming {
+        rt,
+        path,
+        origin: Origin::Unopened,
+        failures: 0,
+    }
+}
+
+// Opens a path; `-` is standard input.
+fn opened<R: Files + Input>(rt: &R, path: &str) -> Origin<R::File, R::Reader> {
+    if path == "-" {
+        return Origin::Standard(rt.reader());
+    }
+    match fs::open(rt, path) {
+        Ok(file) => Origin::File(file),
+        Err(_) => Origin::Failed,
+    }
+}
+
+impl<'r, R: Files + Input> Source for Incoming<'r, R> {
+    ghost use Rattle.std.specs.Prelude.{None};
+
+    ghost remaining = { λ _. None };
+
+    ghost failures = { λ incoming. incoming.failures };
+
+    fn pull(&mut self, buf: &mut [u8]) -> Result<usize, Broken> {
+        if let Origin::Unopened = &self.origin {
+            self.origin = opened(self.rt, self.path);
+        }
+        let answer = match &mut self.origin {
+            Origin::File(file) => read_some(file, buf),
+            Origin::Standard(input) => read_some(input, buf),
+            Origin::Ended => Ok(0),
+            Origin::Unopened | Origin::Failed => Err(Broken),
+        };
+        match answer {
+            Ok(0) if !buf.is_empty() => self.origin = Origin::Ended,
+            Ok(_) => {}
+            Err(Broken) => {
+                self.origin = Origin::Failed;
+                self.failures += 1;
+            }
+        }
+        answer
+    }
+}
+
+/// Reads once, and again where a signal interrupts the read.
+///
+/// # Errors
+/// `Broken` where the read fails otherwise.
+pub fn read_some<I: Read>(input: &mut I, buf: &mut [u8]) -> Result<usize, Broken>
+    ensures { ReadsAtMost result buf.new }
+{
+    for _ in 0..u64::MAX {
+        match input.read(buf) {
+            Ok(count) => return Ok(count),
+            Err(error) if error.kind() == ErrorKind::Interrupted => {}
+            Err(_) => return Err(Broken),
+        }
+    }
+    Err(Broken)
+}
+
+/// A Sink over standard output or standard error, whose octets are not known. A write that a signal interrupts is tried again.
+#[derive(Drop)]
+pub struct Outgoing<'r, R> {
+    rt: &'r R,
+    failures: u64,
+}
+
+impl<'r, R: Print> Outgoing<'r, R> {
+    /// What `rt` prints to, with no failure yet.
+    pub fn new(rt: &'r R) -> Outgoing<'r, R>
+        ensures { ⟦<Outgoing<'r, R> as Sink>⟧.failures result ≡ 0 }
+    {
+        Outgoing { rt, failures: 0 }
+    }
+}
+
+/// What takes what the program complains of: standard error, or a Sink over memory in its place. Standard output is none, so
+/// that it cannot be taken for standard error.
+pub trait Complaints {}
+
+impl<'r> Complaints for Outgoing<'r, Stderr> {}
+
+impl Complaints for Tape {}
+
+impl<'r, R: Print> Sink for Outgoing<'r, R> {
+    ghost use Rattle.std.specs.Prelude.{None};
+
+    ghost written = { λ _. None };
+
+    ghost failures = { λ outgoing. outgoing.failures };
+
+    fn put(&mut self, buf: &[u8]) -> Result<usize, Broken> {
+        for _ in 0..u64::MAX {
+            match self.rt.write_some(buf) {
+                Ok(count) if count > 0 || buf.is_empty() => return Ok(count),
+                Err(error) if error.kind() == ErrorKind::Interrupted => {}
+                _ => break,
+            }
+        }
+        self.failures += 1;
+        Err(Broken)
+    }
+}

@@ -1,0 +1,269 @@
+//! What clap is told of the program and of each command.
+
+ghost use Rattle.std.specs.Prelude.{◌≡◌, false, IfOk};
+ghost use Rattle.clap.specs.Words.{app_of, new_app, rule_of, with_rule};
+ghost use Rattle.nr_job.specs.Commands.{check_app, cut_app, file_rule, files_app, rate_rule, with_files};
+ghost use Rattle.nr_job.specs.Jobs.{files_job, name_of};
+
+use crate::jobs::{Files, Job};
+use clap::{Arg, Command, value_parser};
+use std::alloc::{AllocError, Global};
+
+const VERSION: &str = "0.1.0";
+
+// The end of a command's help: an example, and the exit statuses.
+macro_rules! closing {
+    ($example:literal) => {
+        concat!(
+            "Example:\n  ",
+            $example,
+            "\n\nExit status: 0 done, 1 refused, 2 wrong usage"
+        )
+    };
+}
+
+// The whole program, for its help and for the faults of words that begin with no command.
+pub(super) fn program<'a>(alloc: Global) -> Result<Command<'a>, AllocError> {
+    let program = with_command(bare_program(alloc), cut_command(alloc));
+    let program = with_command(program, check_command(alloc));
+    let program = with_command(program, files_command(alloc, FilesCommand::Send));
+    let program = with_command(program, files_command(alloc, FilesCommand::Run));
+    with_command(program, files_command(alloc, FilesCommand::Audit))
+}
+
+// The program without its commands.
+fn bare_program<'a>(alloc: Global) -> Result<Command<'a>, AllocError> {
+    let program = named(
+        alloc,
+        "linksim",
+        "linksim",
+        "The data coding chain of 5G NR (3GPP TS 38.212)",
+        "No words at all ask for 'linksim cut --rate 2048 --blocks -'.\n\nExit status: 0 done, 1 refused, 2 wrong usage",
+    )?;
+    Ok(
+        program
+            .version(VERSION)
+            .no_binary_name(true)
+            .subcommand_required(true),
+    )
+}
+
+// Adds a command to the program, where there was memory for both.
+fn with_command<'a>(
+    program: Result<Command<'a>, AllocError>,
+    command: Result<Command<'a>, AllocError>,
+) -> Result<Command<'a>, AllocError> {
+    let (Ok(program), Ok(command)) = (program, command) else {
+        return Err(AllocError);
+    };
+    program.subcommand(command)
+}
+
+// A command without options: its word, the words that call it, what it does, and the end of its help.
+fn named<'a>(
+    alloc: Global,
+    word: &'a str,
+    call: &'a str,
+    about: &'a str,
+    end: &'a str,
+) -> Result<Command<'a>, AllocError>
+    ensures { IfOk result (λ c. app_of c ≡ new_app word.entry.now) }
+{
+    let command = Command::new(alloc, word)
+        .bin_name(call)?
+        .about(about)
+        .after_help(end);
+    Ok(command)
+}
+
+pub(super) fn cut_command<'a>(alloc: Global) -> Result<Command<'a>, AllocError>
+    ensures { IfOk result (λ c. app_of c ≡ cut_app) }
+{
+    let command = named(
+        alloc,
+        "cut",
+        "linksim cut",
+        "Attaches the CRC to each transport block and cuts it into code blocks",
+        closing!("echo 01 | linksim cut --rate 1024 --blocks -"),
+    )?;
+    let command = with_file(
+        alloc,
+        command,
+        "blocks",
+        "The transport blocks, one a line in hexadecimal (-: standard input)",
+    )?;
+    with_rate(alloc, command)
+}
+
+pub(super) fn check_command<'a>(alloc: Global) -> Result<Command<'a>, AllocError>
+    ensures { IfOk result (λ c. app_of c ≡ check_app) }
+{
+    let command = named(
+        alloc,
+        "check",
+        "linksim check",
+        "Checks a table of shift values",
+        closing!("linksim check --table examples/practice.csv"),
+    )?;
+    with_file(
+        alloc,
+        command,
+        "table",
+        "The shift table, as comma-separated values (-: standard input)",
+    )
+}
+
+// A command over four files.
+#[derive(Clone, Copy)]
+pub(super) enum FilesCommand {
+    Send,
+    Run,
+    Audit,
+}
+
+impl FilesCommand {
+    // The job of this command over these files.
+    pub(super) fn job(self, files: Files) -> Job
+        ensures { result ≡ files_job self files }
+    {
+        match self {
+            FilesCommand::Send => Job::Send(files),
+            FilesCommand::Run => Job::Run(files),
+            FilesCommand::Audit => Job::Audit(files),
+        }
+    }
+
+    // Its word.
+    fn word<'a>(self) -> &'a str
+        ensures { result.now ≡ name_of self }
+    {
+        match self {
+            FilesCommand::Send => "send",
+            FilesCommand::Run => "run",
+            FilesCommand::Audit => "audit",
+        }
+    }
+
+    // The words that call it.
+    fn call<'a>(self) -> &'a str {
+        match self {
+            FilesCommand::Send => "linksim send",
+            FilesCommand::Run => "linksim run",
+            FilesCommand::Audit => "linksim audit",
+        }
+    }
+
+    // What it does.
+    fn about<'a>(self) -> &'a str {
+        match self {
+            FilesCommand::Send => {
+                "Encodes each transport block and writes the bits of each transmission of a schedule"
+            }
+            FilesCommand::Run => {
+                "Sends and receives the transmissions of a schedule over a link that loses bits, and says what is delivered"
+            }
+            FilesCommand::Audit => {
+                "Says of each code block after a schedule in how many steps it is fixed, or why it is stuck"
+            }
+        }
+    }
+
+    // The end of its help.
+    fn end<'a>(self) -> &'a str {
+        match self {
+            FilesCommand::Send => {
+                closing!(
+                    "linksim send --table examples/practice.csv --settings examples/settings.toml --blocks examples/blocks.txt --schedule examples/schedule.csv"
+                )
+            }
+            FilesCommand::Run => {
+                closing!(
+                    "linksim run --table examples/practice.csv --settings examples/settings.toml --blocks examples/blocks.txt --schedule examples/losses.csv"
+                )
+            }
+            FilesCommand::Audit => {
+                closing!(
+                    "linksim audit --table examples/practice.csv --settings examples/settings.toml --blocks examples/blocks.txt --schedule examples/losses.csv"
+                )
+            }
+        }
+    }
+}
+
+// What clap is told of a command over four files.
+pub(super) fn files_command<'a>(
+    alloc: Global,
+    name: FilesCommand,
+) -> Result<Command<'a>, AllocError>
+    ensures { IfOk result (λ c. app_of c ≡ files_app (name_of name)) }
+{
+    let command = named(alloc, name.word(), name.call(), name.about(), name.end())?;
+    with_files(alloc, command)
+}
+
+// Adds the options of a command over four files.
+fn with_files<'a>(alloc: Global, command: Command<'a>) -> Result<Command<'a>, AllocError>
+    ensures { IfOk result (λ c. app_of c ≡ with_files (app_of command.entry)) }
+{
+    let command = with_file(
+        alloc,
+        command,
+        "table",
+        "The shift table, as comma-separated values (-: standard input)",
+    )?;
+    let command = with_file(
+        alloc,
+        command,
+        "settings",
+        "The code rate and the limit of the buffer, as TOML (-: standard input)",
+    )?;
+    let command = with_file(
+        alloc,
+        command,
+        "blocks",
+        "The transport blocks, one a line in hexadecimal (-: standard input)",
+    )?;
+    with_file(
+        alloc,
+        command,
+        "schedule",
+        "The transmissions, as comma-separated values (-: standard input)",
+    )
+}
+
+// Adds a required option, whose value is the path of a file.
+fn with_file<'a>(
+    alloc: Global,
+    command: Command<'a>,
+    name: &'a str,
+    help: &'a str,
+) -> Result<Command<'a>, AllocError>
+    ensures { IfOk result (λ c.
+        app_of c ≡ with_rule (app_of command.entry) (file_rule name.entry.now)) }
+{
+    let file = Arg::new(alloc, name)
+        .long(name)
+        .required(true)
+        .value_name("FILE")
+        .help(help);
+    command.arg(file)
+}
+
+fn with_rate<'a>(alloc: Global, command: Command<'a>) -> Result<Command<'a>, AllocError>
+    ensures { IfOk result (λ c. app_of c ≡ with_rule (app_of command.entry) rate_rule) }
+{
+    command.arg(rate_option(alloc))
+}
+
+// The option of the target code rate times 2048.
+fn rate_option<'a>(alloc: Global) -> Arg<'a>
+    ensures rule { rule_of result ≡ rate_rule }
+    ensures local { result.global ≡ false }
+{
+    Arg::new(alloc, "rate")
+        .long("rate")
+        .value_name("N")
+        .value_parser(value_parser!(u32).range(1..=2048))
+        .default_value("2048")
+        .help("Twice the target code rate x 1024 of the MCS tables; 0.5 is 1024")
+}
