@@ -1,0 +1,161 @@
+//! What the peelers of receivers show is accepted by its checkers: an order where no position below K' is left, and else
+//! where peeling is stuck. And how often a peeler visits pairs of rows and positions, where each place is heard in a
+//! transmission of its own.
+
+use crate::practice::{PLAIN, on_one_layer, practice};
+use crate::receptions::{
+    ALL, Arrival, End, First, HandedUp, NONE, Places, end_of_firsts, end_over,
+};
+use nr_blockdesk::{Settings, Tx};
+use nr_ratematch::Mask;
+use std::alloc::{AllocError, Global};
+use std::test::Fail;
+
+const MOST: Places<'static> = &[
+    (0, 32),
+    (47, 95),
+    (103, 165),
+    (173, 235),
+    (243, 305),
+    (313, 319),
+];
+
+const OF_ZEROS: &[&[First<'static>]] = &[
+    &[(320, NONE, NONE), (320, ALL, NONE)],
+    &[(1, ALL, NONE), (1, ALL, ALL)],
+    &[(320, ALL, NONE), (1, ALL, ALL)],
+    &[(320, ALL, &[(110, 110)])],
+    &[(320, MOST, NONE)],
+    &[(320, MOST, NONE), (320, &[(96, 96)], NONE)],
+];
+
+// 24 zeros: erased, and then sent whole; one position with both bits; sent whole, and then one more as the other bit; a
+// flipped parity bit; six columns erased, and then one position of them.
+#[test]
+fn zeros_are_certified(rt: HostRuntime) -> Result<(), Fail> {
+    for (case, firsts) in OF_ZEROS.iter().enumerate() {
+        let end = end_of_firsts(rt.alloc(), PLAIN, &[0; 3], firsts)?;
+        assert!(rt; end.accepted, "case {case}");
+    }
+    Ok(())
+}
+
+// The places where the words of two octets differ.
+const FLIPS: Places<'static> = &[
+    (3, 3),
+    (10, 10),
+    (15, 15),
+    (22, 23),
+    (26, 27),
+    (34, 34),
+    (38, 38),
+    (60, 60),
+    (67, 67),
+    (72, 72),
+    (76, 76),
+    (102, 102),
+    (105, 105),
+    (114, 114),
+    (118, 118),
+    (140, 140),
+    (147, 147),
+    (152, 152),
+    (156, 156),
+    (182, 182),
+];
+
+const ONE_BIT: Settings = Settings {
+    rate2048: 2048,
+    lbrm: Some(1),
+};
+
+const OF_AN_OCTET: &[(u8, Settings, &[First<'static>])] = &[
+    (0x01, PLAIN, &[]),
+    (0x01, PLAIN, &[(184, ALL, NONE)]),
+    (0x01, PLAIN, &[(24, ALL, NONE)]),
+    (0x01, PLAIN, &[(24, ALL, NONE), (28, &[(24, 27)], NONE)]),
+    (0x01, PLAIN, &[(6, &[(0, 0), (2, 2), (4, 5)], NONE)]),
+    (0x01, PLAIN, &[(184, ALL, FLIPS)]),
+    (0x01, PLAIN, &[(184, NONE, ALL)]),
+    (0x01, ONE_BIT, &[(4, ALL, NONE)]),
+    (0x80, PLAIN, &[(32, ALL, NONE)]),
+];
+
+// Octet 01: nothing; all of the buffer; four positions left, and then told; two places of six erased; 22 flips to the
+// word of another block; every place erased; a buffer of one bit. And a block whose first bit alone is a one.
+#[test]
+fn an_octet_is_certified(rt: HostRuntime) -> Result<(), Fail> {
+    for (case, (octet, settings, firsts)) in OF_AN_OCTET.iter().copied().enumerate() {
+        let end = end_of_firsts(rt.alloc(), settings, &[octet], firsts)?;
+        assert!(rt; end.accepted, "case {case}");
+    }
+    Ok(())
+}
+
+/// What comes of four bits of 3832 zeros at the rate 0.25.
+fn end_of_two_code_blocks(alloc: Global, mask: Mask, heard: Places<'_>) -> Result<End, Fail> {
+    let table = practice(alloc, 0, 1, false)?;
+    let quarter = Settings {
+        rate2048: 512,
+        lbrm: None,
+    };
+    let tx = Tx {
+        mask,
+        ..on_one_layer(0, 4, 4)
+    };
+    let flipped = NONE;
+    end_over(
+        alloc,
+        &table,
+        quarter,
+        &[0; 479],
+        &[Arrival { tx, heard, flipped }],
+    )
+}
+
+// 479 octets at the rate 0.25 are two code blocks. Nothing is heard of them; then four bits of the second, which alone is
+// scheduled.
+#[test]
+fn two_code_blocks_are_certified(rt: HostRuntime) -> Result<(), Fail> {
+    for (mask, heard) in [(Mask::All, NONE), (Mask::Only([2, 0, 0, 0, 0, 0]), ALL)] {
+        let end = end_of_two_code_blocks(rt.alloc(), mask, heard)?;
+        assert!(rt; (end.left, end.accepted) == (1952, true));
+    }
+    Ok(())
+}
+
+/// What comes of octet 01 of which each place of the buffer is heard in a transmission of its own.
+fn end_place_by_place(alloc: Global) -> Result<End, Fail> {
+    let table = practice(alloc, 0, 1, false)?;
+    let mut ranges = Vec::new(alloc);
+    for m in 0..184 {
+        ranges.push([(m, m)])?;
+    }
+    let mut arrivals = Vec::new(alloc);
+    for range in &ranges {
+        arrivals.push(Arrival {
+            tx: on_one_layer(0, 184, 1),
+            heard: range,
+            flipped: NONE,
+        })?;
+    }
+    end_over(alloc, &table, PLAIN, &[0x01], &arrivals)
+}
+
+// The table has 105 entries, so with four lanes 420 pairs.
+#[test]
+fn each_pair_is_visited_once_or_twice(rt: HostRuntime) -> Result<(), Fail> {
+    let end = end_place_by_place(rt.alloc())?;
+    assert!(rt; end.told == HandedUp::Delivered(0x01) && end.accepted);
+    assert!(rt; 420 <= end.touches && end.touches <= 840, "{}", end.touches);
+    Ok(())
+}
+
+// Octet 01 by 24 bits and then the last 4 of 28.
+#[test]
+fn a_block_in_two_parts_is_visited_840_times_at_most(rt: HostRuntime) -> Result<(), Fail> {
+    let firsts = [(24, ALL, NONE), (28, [(24, 27)].as_slice(), NONE)];
+    let end = end_of_firsts(rt.alloc(), PLAIN, &[0x01], &firsts)?;
+    assert!(rt; 420 <= end.touches && end.touches <= 840, "{}", end.touches);
+    Ok(())
+}

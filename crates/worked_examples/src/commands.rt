@@ -1,0 +1,162 @@
+//! The five commands over texts in memory. The values are worked by hand: under the practice table the word of block 01 has
+//! 52 columns of four bits, the parity columns being sums and rotations of the information columns.
+
+use crate::ends::{Command, End, ended};
+use nr_commands::{RunFault, Tape, cut};
+use nr_segment::SegFault;
+use nr_shifttable::Feed;
+use nr_transmission::DeskFault;
+use std::alloc::{AllocError, Global};
+use std::test::Fail;
+
+/// What a command writes under the practice table.
+fn written(alloc: Global, command: Command, blocks: &[u8], schedule: &[u8]) -> Result<Tape, Fail> {
+    let (answer, _, tape) = ended(alloc, command, blocks, schedule, (End::Output, 0))?;
+    answer?;
+    Ok(tape)
+}
+
+/// What `cut` makes of block 01.
+pub(crate) const CUT_01: &[u8] =
+    b"block 1 a 8 b 24 graph 2 c 1 l 0 kdash 24 kb 6 z 4 set 0 k 40 n 200\nattached 1 011021\ncode 1 0 011021\n";
+
+#[test]
+fn cut_shows_block_01(rt: HostRuntime) -> Result<(), Fail> {
+    let text = written(rt.alloc(), Command::Cut, b"01\n", b"")?;
+    assert_eq!(rt; text.bytes(), CUT_01);
+    Ok(())
+}
+
+// The text "123456789", whose check is known of each generator.
+#[test]
+fn cut_shows_the_check_of_nine_octets(rt: HostRuntime) -> Result<(), Fail> {
+    let text = written(rt.alloc(), Command::Cut, b"313233343536373839", b"")?;
+    let want: &[u8] = b"block 1 a 72 b 88 graph 2 c 1 l 0 kdash 88 kb 6 z 15 set 7 k 150 n 750\n\
+        attached 1 31323334353637383931c3\n\
+        code 1 0 31323334353637383931c3\n";
+    assert_eq!(rt; text.bytes(), want);
+    Ok(())
+}
+
+/// How `cut` ends at the code rate 0.25 with two blocks, of 1 and of 955 octets, and how much it wrote.
+fn cut_in_three(alloc: Global) -> Result<(Result<(), RunFault>, usize), AllocError> {
+    let mut text = Vec::from_slice(alloc, b"01\n")?;
+    text.resize(3 + 2 * 955, b'0')?;
+    let mut blocks = Feed::new(text, 4096, 0);
+    let mut tape = Tape::new(alloc, 4096, 4096, 0)?;
+    let answer = cut(alloc, 512, &mut blocks, &mut tape);
+    Ok((answer, tape.bytes().len()))
+}
+
+// 955 octets are 7664 bits with their CRC, and 7736 with those of three code blocks, which can't share them. Block 2 stops
+// block 1's lines too.
+#[test]
+fn cut_refuses_955_octets(rt: HostRuntime) -> Result<(), Fail> {
+    let fault = RunFault::Desk(2, DeskFault::Seg(SegFault::Uneven));
+    assert_eq!(rt; cut_in_three(rt.alloc())?, (Err(fault), 0));
+    Ok(())
+}
+
+#[test]
+fn check_counts_the_entries(rt: HostRuntime) -> Result<(), Fail> {
+    let text = written(rt.alloc(), Command::Check, b"", b"")?;
+    assert_eq!(rt; text.bytes(), b"graph 2 entries 105\n".as_slice());
+    Ok(())
+}
+
+// With its CRC the block is 011021. All of the buffer; 24 bits in four rows of six, read by columns; 40 bits from column
+// 45 on; and two transmissions that are refused.
+#[test]
+fn send_writes_block_01(rt: HostRuntime) -> Result<(), Fail> {
+    let schedule =
+        b"block,rv,g,qm,nl,erase\n1,0,184,1,1,-\n1,0,24,4,1,-\n1,3,40,1,1,-\n1,4,24,1,1,-\n1,0,30,4,1,-\n";
+    let text = written(rt.alloc(), Command::Send, b"01", schedule)?;
+    let want: &[u8] = b"sent 1 1 1021033022000008108800000240220000081088000002\n\
+        sent 2 1 000a51\n\
+        sent 3 1 8000002102\n\
+        refused 4 1 Rv\n\
+        refused 5 1 Ragged\n";
+    assert_eq!(rt; text.bytes(), want);
+    Ok(())
+}
+
+/// All of the buffer of a block whose codeword has 184 bits to be sent.
+const WHOLE: &[u8] = b"block,rv,g,qm,nl,erase\n1,0,184,1,1,-\n";
+
+#[test]
+fn run_delivers_block_01(rt: HostRuntime) -> Result<(), Fail> {
+    let text = written(rt.alloc(), Command::Run, b"01", WHOLE)?;
+    let want: &[u8] = b"sent 1 1 1021033022000008108800000240220000081088000002\n\
+        left 1 1 0 0\n\
+        block 1 delivered tx 1 failed 0 of 1 01\n\
+        total blocks 1 delivered 1 open 0 contradiction 0 codeblocks 1 failed 0\n";
+    assert_eq!(rt; text.bytes(), want);
+    Ok(())
+}
+
+// The steps fix the two columns that are never sent.
+#[test]
+fn audit_orders_block_01(rt: HostRuntime) -> Result<(), Fail> {
+    let text = written(rt.alloc(), Command::Audit, b"01", WHOLE)?;
+    assert_eq!(rt; text.bytes(), b"order 1 0 8\n".as_slice());
+    Ok(())
+}
+
+// 24 bits leave column 1 of block 01's word; 28, of which the first 24 are lost, then give column 12, and so all.
+const IN_TWO_PARTS: &[u8] = b"block,rv,g,qm,nl,erase\n1,0,24,1,1,-\n1,0,28,1,1,0-23\n";
+
+#[test]
+fn run_joins_what_two_transmissions_bring(rt: HostRuntime) -> Result<(), Fail> {
+    let text = written(rt.alloc(), Command::Run, b"01", IN_TWO_PARTS)?;
+    let want: &[u8] = b"sent 1 1 102103\n\
+        left 1 1 0 4\n\
+        sent 2 1 1021033\n\
+        left 2 1 0 0\n\
+        block 1 delivered tx 2 failed 0 of 1 01\n\
+        total blocks 1 delivered 1 open 0 contradiction 0 codeblocks 1 failed 0\n";
+    assert_eq!(rt; text.bytes(), want);
+    Ok(())
+}
+
+/// Four rounds of one HARQ process, each of two transmissions of 28 bits: the link erases the last four bits of the one and
+/// all others of the other.
+const TWO_BURSTS: &[u8] = b"block,rv,g,qm,nl,erase,flip,mask,process,fresh\n\
+    1,0,28,1,1,24-27,-,all,15,1\n1,0,28,1,1,24-27,-,all,15,0\n\
+    1,0,28,1,1,0-23,-,all,15,1\n1,0,28,1,1,0-23,-,all,15,0\n\
+    1,0,28,1,1,24-27,-,all,15,1\n1,0,28,1,1,0-23,-,all,15,0\n\
+    1,0,28,1,1,0-23,-,all,15,1\n1,0,28,1,1,24-27,-,all,15,0\n";
+
+// Neither burst alone fixes all, and both do in either order.
+#[test]
+fn run_joins_two_bursts_of_a_round(rt: HostRuntime) -> Result<(), Fail> {
+    let text = written(rt.alloc(), Command::Run, b"01", TWO_BURSTS)?;
+    let want: &[u8] = b"sent 1 1 1021033\nleft 1 1 0 4\n\
+        sent 2 1 1021033\nleft 2 1 0 4\n\
+        process 15 block 1 open tx 2 failed 1 of 1\n\
+        sent 3 1 1021033\nleft 3 1 0 24\n\
+        sent 4 1 1021033\nleft 4 1 0 24\n\
+        process 15 block 1 open tx 2 failed 1 of 1\n\
+        sent 5 1 1021033\nleft 5 1 0 4\n\
+        sent 6 1 1021033\nleft 6 1 0 0\n\
+        process 15 block 1 delivered tx 2 failed 0 of 1 01\n\
+        sent 7 1 1021033\nleft 7 1 0 24\n\
+        sent 8 1 1021033\nleft 8 1 0 0\n\
+        process 15 block 1 delivered tx 2 failed 0 of 1 01\n\
+        total rounds 4 delivered 2 open 2 contradiction 0 codeblocks 4 failed 2\n";
+    assert_eq!(rt; text.bytes(), want);
+    Ok(())
+}
+
+/// The first 24 bits of the buffer of block 01.
+const FIRST_BITS: &[u8] = b"block,rv,g,qm,nl,erase\n1,0,24,1,1,-\n";
+
+// Column 1, columns 12 and 13, and the rotations of column 1, which are columns 21, 31, 41 and 51.
+#[test]
+fn audit_names_the_stopping_set(rt: HostRuntime) -> Result<(), Fail> {
+    let text = written(rt.alloc(), Command::Audit, b"01", FIRST_BITS)?;
+    let want: &[u8] =
+        b"stuck 1 0 28 4 5 6 7 48 49 50 51 52 53 54 55 84 85 86 87 124 125 126 127 164 165 166 167 \
+        204 205 206 207\n";
+    assert_eq!(rt; text.bytes(), want);
+    Ok(())
+}

@@ -1,0 +1,259 @@
+//! Tables made of entries that a caller kept, and a table's items by their numbers.
+
+use crate::practice::practice_of_both;
+use nr_graphpick::Graph;
+use nr_shifttable::{EntriesFault, Entry, Item, KeptEntry, Table, TableFault};
+use std::alloc::Global;
+use std::test::Fail;
+
+// An entry that a caller keeps, with one value in all sets.
+fn kept(graph: u16, row: u16, col: u16, value: u16) -> KeptEntry {
+    let entry = Entry {
+        row,
+        col,
+        values: [value; 8],
+    };
+    KeptEntry { graph, entry }
+}
+
+// An item with one value in all sets.
+fn item(graph: Graph, row: u16, col: u16, value: u16) -> Option<Item> {
+    let entry = Entry {
+        row,
+        col,
+        values: [value; 8],
+    };
+    Some(Item { graph, entry })
+}
+
+// An item of the practice table of both base graphs.
+fn item_of_both(alloc: Global, n: u32) -> Result<Option<Item>, Fail> {
+    Ok(practice_of_both(alloc)?.item(n))
+}
+
+// Base graph 1 has 13, 13, 14 and 13 entries in rows 0 to 3, and base graph 2 has 7, 7, 8 and 7; each has two in each
+// later row.
+#[test]
+fn items_by_number(rt: HostRuntime) -> Result<(), Fail> {
+    for (n, want) in [
+        (12, item(Graph::One, 0, 23, 0)),
+        (39, item(Graph::One, 2, 25, 0)),
+        (53, item(Graph::One, 4, 4, 4)),
+        (136, item(Graph::One, 45, 67, 0)),
+        (137, item(Graph::Two, 0, 0, 0)),
+        (156, item(Graph::Two, 2, 10, 1)),
+        (241, item(Graph::Two, 41, 51, 0)),
+        (242, None),
+        (u32::MAX, None),
+    ] {
+        assert!(rt; item_of_both(rt.alloc(), n)? == want, "item {n}");
+    }
+    Ok(())
+}
+
+// All entries of a table, as a caller keeps them.
+fn kept_of(alloc: Global, table: &Table) -> Result<Vec<KeptEntry>, Fail> {
+    let mut entries = Vec::new(alloc);
+    for n in 0..1000 {
+        if let Some(item) = table.item(n) {
+            entries.push(KeptEntry::of(&item))?;
+        }
+    }
+    Ok(entries)
+}
+
+// A range of the entries of the practice table of both base graphs, as a caller keeps them, made a table.
+fn table_of(alloc: Global, from: usize, to: usize) -> Result<Result<Table, EntriesFault>, Fail> {
+    let entries = kept_of(alloc, &practice_of_both(alloc)?)?;
+    let to = to.min(entries.len());
+    Ok(Table::of_entries(alloc, &entries[from.min(to)..to]))
+}
+
+#[test]
+fn a_table_is_kept_by_its_entries(rt: HostRuntime) -> Result<(), Fail> {
+    let table = table_of(rt.alloc(), 0, 242)??;
+    assert!(rt; table.item(156) == item(Graph::Two, 2, 10, 1));
+    Ok(())
+}
+
+// How many entries of each base graph a table has that is made of a range.
+fn counts_of(alloc: Global, from: usize, to: usize) -> Result<(u32, u32), Fail> {
+    let table = table_of(alloc, from, to)??;
+    Ok((table.entries(Graph::One), table.entries(Graph::Two)))
+}
+
+#[test]
+fn each_base_graph_alone_is_kept_and_both(rt: HostRuntime) -> Result<(), Fail> {
+    for (from, to, want) in [
+        (0, 137, (137, 0)),
+        (137, 242, (0, 105)),
+        (0, 242, (137, 105)),
+    ] {
+        assert!(rt; counts_of(rt.alloc(), from, to)? == want);
+    }
+    Ok(())
+}
+
+// A table whose first entry has these values.
+fn with_values(alloc: Global, values: [u16; 8]) -> Result<Table, Fail> {
+    let mut entries = kept_of(alloc, &practice_of_both(alloc)?)?;
+    if let Some(first) = entries.first_mut() {
+        first.entry.values = values;
+    }
+    Ok(Table::of_entries(alloc, &entries)?)
+}
+
+#[test]
+fn an_entry_keeps_a_value_for_each_set(rt: HostRuntime) -> Result<(), Fail> {
+    let table = with_values(rt.alloc(), [1, 2, 3, 4, 5, 6, 7, 65535])?;
+    assert!(rt; table.item(0).map(|item| item.entry.values) == Some([1, 2, 3, 4, 5, 6, 7, 65535]));
+    Ok(())
+}
+
+// Why the first entries are refused.
+fn fault_of_front(alloc: Global, count: usize) -> Result<Option<EntriesFault>, Fail> {
+    Ok(table_of(alloc, 0, count)?.err())
+}
+
+// The core of base graph 1 has 53 entries, and that of base graph 2, behind 137 of base graph 1, has 29.
+#[test]
+fn entries_cut_off_are_refused(rt: HostRuntime) -> Result<(), Fail> {
+    for (count, fault) in [
+        (0, TableFault::Empty),
+        (52, TableFault::Core(Graph::One)),
+        (53, TableFault::MissingRow(Graph::One)),
+        (54, TableFault::Extension(Graph::One)),
+        (135, TableFault::MissingRow(Graph::One)),
+        (136, TableFault::Extension(Graph::One)),
+        (165, TableFault::Core(Graph::Two)),
+        (166, TableFault::MissingRow(Graph::Two)),
+        (240, TableFault::MissingRow(Graph::Two)),
+        (241, TableFault::Extension(Graph::Two)),
+    ] {
+        let want = Some(EntriesFault::Table(fault));
+        assert!(rt;
+            fault_of_front(rt.alloc(), count)? == want,
+            "{count} entries"
+        );
+    }
+    Ok(())
+}
+
+// Why entries are refused.
+fn fault_of(alloc: Global, entries: &[KeptEntry]) -> Option<EntriesFault> {
+    Table::of_entries(alloc, entries).err()
+}
+
+// Why zeros at two places are refused.
+fn fault_of_two(
+    alloc: Global,
+    first: (u16, u16, u16),
+    second: (u16, u16, u16),
+) -> Option<EntriesFault> {
+    let (first_graph, first_row, first_col) = first;
+    let (second_graph, second_row, second_col) = second;
+    let first = kept(first_graph, first_row, first_col, 0);
+    let second = kept(second_graph, second_row, second_col, 0);
+    fault_of(alloc, &[first, second])
+}
+
+// Base graph 1 has 46 rows and 68 columns, and base graph 2 has 42 and 52; there is no other. A range comes before an
+// order.
+#[test]
+fn entries_out_of_range(rt: HostRuntime) {
+    for (first, second, number) in [
+        ((2, 42, 0), (2, 42, 1), 1),
+        ((2, 0, 52), (2, 1, 0), 1),
+        ((1, 46, 0), (2, 0, 0), 1),
+        ((1, 0, 68), (1, 0, 68), 1),
+        ((2, 41, 51), (2, 42, 0), 2),
+        ((2, 41, 51), (2, 41, 52), 2),
+        ((1, 45, 67), (1, 46, 0), 2),
+        ((1, 45, 67), (1, 45, 68), 2),
+        ((1, 45, 67), (2, 0, 65535), 2),
+        ((2, 3, 5), (2, 2, 52), 2),
+        ((2, 0, 0), (0, 0, 0), 2),
+        ((2, 0, 0), (3, 0, 0), 2),
+        ((2, 0, 0), (65535, 0, 0), 2),
+    ] {
+        let said = fault_of_two(rt.alloc(), first, second);
+        assert!(rt;
+            said == Some(EntriesFault::Range(number)),
+            "{first:?} {second:?}"
+        );
+    }
+}
+
+#[test]
+fn entries_out_of_order(rt: HostRuntime) {
+    for (first, second) in [
+        ((2, 3, 5), (2, 3, 5)),
+        ((2, 3, 5), (2, 3, 4)),
+        ((2, 3, 5), (2, 2, 6)),
+        ((1, 1, 0), (1, 0, 67)),
+        ((2, 0, 0), (1, 0, 1)),
+        ((2, 41, 51), (1, 45, 67)),
+    ] {
+        let said = fault_of_two(rt.alloc(), first, second);
+        assert!(rt;
+            said == Some(EntriesFault::Order(2)),
+            "{first:?} {second:?}"
+        );
+    }
+}
+
+// Their tables have no parity columns.
+#[test]
+fn entries_in_order(rt: HostRuntime) {
+    for (first, second, graph) in [
+        ((2, 3, 5), (2, 3, 6), Graph::Two),
+        ((2, 3, 5), (2, 4, 0), Graph::Two),
+        ((1, 45, 67), (2, 0, 0), Graph::One),
+    ] {
+        let want = EntriesFault::Table(TableFault::Core(graph));
+        assert!(rt;
+            fault_of_two(rt.alloc(), first, second) == Some(want),
+            "{first:?} {second:?}"
+        );
+    }
+}
+
+#[test]
+fn an_order_comes_before_a_later_range(rt: HostRuntime) {
+    let said = fault_of(
+        rt.alloc(),
+        &[kept(2, 1, 1, 0), kept(2, 1, 0, 0), kept(2, 42, 0, 0)],
+    );
+    assert!(rt; said == Some(EntriesFault::Order(2)));
+}
+
+#[test]
+fn a_range_comes_before_a_later_order(rt: HostRuntime) {
+    let said = fault_of(
+        rt.alloc(),
+        &[kept(2, 1, 1, 0), kept(2, 42, 0, 0), kept(2, 1, 0, 0)],
+    );
+    assert!(rt; said == Some(EntriesFault::Range(2)));
+}
+
+#[test]
+fn the_third_entry_may_be_out_of_order(rt: HostRuntime) {
+    let said = fault_of(
+        rt.alloc(),
+        &[kept(2, 1, 0, 0), kept(2, 1, 1, 0), kept(2, 1, 1, 0)],
+    );
+    assert!(rt; said == Some(EntriesFault::Order(3)));
+}
+
+#[test]
+fn faults_of_entries_are_written_with_their_numbers(rt: HostRuntime) -> Result<(), Fail> {
+    for (fault, want) in [
+        (EntriesFault::Range(4_294_967_295), "Range 4294967295"),
+        (EntriesFault::Order(2), "Order 2"),
+        (EntriesFault::Table(TableFault::Core(Graph::One)), "Core 1"),
+        (EntriesFault::Memory, "Memory"),
+    ] {
+        assert!(rt; fault.to_string(rt.alloc())?.as_str() == want);
+    }
+    Ok(())
+}

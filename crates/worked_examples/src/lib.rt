@@ -1,0 +1,68 @@
+//! The worked cases of TS 38.212 and of this project's formats, each as a test of the call that it names. All wanted
+//! values come from the standard's text or were worked by hand, and none from these crates.
+//! This is the one crate with tests: a crate that has some is proved twice. Whatever is a text of a command stands in
+//! `tests/program_tests`, over the built program.
+#![tactic(auto)]
+
+#[cfg(test)]
+mod base_graphs;
+#[cfg(test)]
+mod bit_lists;
+#[cfg(test)]
+mod certificates;
+#[cfg(test)]
+mod codewords;
+#[cfg(test)]
+mod command_line;
+#[cfg(test)]
+mod commands;
+#[cfg(test)]
+mod concatenation;
+#[cfg(test)]
+mod crcs;
+#[cfg(test)]
+mod endings;
+#[cfg(test)]
+mod ends;
+#[cfg(test)]
+mod file_texts;
+#[cfg(test)]
+mod fix_orders;
+#[cfg(test)]
+mod hostile_ends;
+#[cfg(test)]
+mod interleaving;
+#[cfg(test)]
+mod kept_entries;
+#[cfg(test)]
+mod lifting_sizes;
+#[cfg(test)]
+mod peeling;
+#[cfg(test)]
+mod peeling_by_rounds;
+#[cfg(test)]
+mod practice;
+#[cfg(test)]
+mod processes;
+#[cfg(test)]
+mod rate_matching;
+#[cfg(test)]
+mod receivers;
+#[cfg(test)]
+mod receptions;
+#[cfg(test)]
+mod refused_growths;
+#[cfg(test)]
+mod segmentation;
+#[cfg(test)]
+mod shift_tables;
+#[cfg(test)]
+mod stores;
+#[cfg(test)]
+mod streams;
+#[cfg(test)]
+mod table_sources;
+#[cfg(test)]
+mod transport_blocks;
+#[cfg(test)]
+mod words_of_all_sizes;

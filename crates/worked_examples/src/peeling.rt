@@ -1,0 +1,236 @@
+//! Peelers over a practice table, beside what comes out by hand.
+
+ghost use Rattle.std.specs.Prelude.{◌≡◌, ◌*◌};
+ghost use Rattle.nr_graphpick.specs.Graph.{cols_of};
+
+use crate::codewords::WORD_01;
+use crate::practice::practice;
+use nr_bitvec::Bits;
+use nr_graphpick::Graph;
+use nr_ldpcenc::EncFault;
+use nr_peel::{Fix, Peeler, check_order, check_stuck};
+use nr_segment::{Plan, plan};
+use nr_shifttable::Table;
+use std::alloc::{AllocError, Global};
+use std::test::Fail;
+
+/// Positions from one up to another.
+pub(crate) type Range = (u32, u32);
+
+/// Whether a position is in one of these.
+fn is_in(ranges: &[Range], pos: u32) -> bool {
+    for (from, to) in ranges.iter().copied() {
+        if from <= pos && pos < to {
+            return true;
+        }
+    }
+    false
+}
+
+/// How many positions a word of a plan has.
+pub(crate) fn size_of(plan: &Plan) -> u32
+    ensures { result ≡ cols_of plan.now.graph * plan.now.z }
+{
+    plan.graph.cols() * plan.z
+}
+
+/// Marks of positions of a code block.
+pub(crate) fn marks_of(alloc: Global, plan: &Plan, ranges: &[Range]) -> Result<Bits, AllocError> {
+    let mut marks = Bits::zeros(alloc, size_of(plan).min(30_000))?;
+    for pos in 0..marks.len() {
+        if is_in(ranges, pos as u32) && pos < marks.len() {
+            marks.set(pos, true);
+        }
+    }
+    Ok(marks)
+}
+
+/// What is known of a position that the code has.
+pub(crate) fn known(peeler: &Peeler<'_>, pos: u32) -> Option<bool> {
+    if (pos as usize) < peeler.given().len() {
+        peeler.known(pos)
+    } else {
+        None
+    }
+}
+
+/// Gives a position that the code has.
+pub(crate) fn learn(peeler: &mut Peeler<'_>, pos: u32, value: bool) {
+    if (pos as usize) < peeler.given().len() {
+        peeler.learn(pos, value);
+    }
+}
+
+/// Gives marked positions of the code at a time.
+pub(crate) fn learn_all(peeler: &mut Peeler<'_>, heard: &Bits, values: &Bits) {
+    let size = peeler.given().len();
+    if heard.len() == size && values.len() == size {
+        peeler.learn_all(heard, values);
+    }
+}
+
+/// Whether the steps are a fix order from marked positions.
+pub(crate) fn is_order(
+    table: &Table,
+    plan: &Plan,
+    given: &Bits,
+    steps: &[Fix],
+) -> Result<bool, AllocError> {
+    let mut marks = given.try_clone()?;
+    Ok(marks.len() == size_of(plan) as usize && check_order(table, plan, &mut marks, steps))
+}
+
+/// Whether the positions are a stopping set beside marked positions.
+pub(crate) fn is_stuck(table: &Table, plan: &Plan, given: &Bits, set: &[u32]) -> bool {
+    given.len() == size_of(plan) as usize && check_stuck(table, plan, given, set)
+}
+
+/// Gives a range of positions of a word at a time.
+fn hear_range(
+    alloc: Global,
+    peeler: &mut Peeler<'_>,
+    plan: &Plan,
+    octets: &[u8],
+    range: Range,
+) -> Result<(), AllocError> {
+    let marks = marks_of(alloc, plan, &[range])?;
+    let word = Bits::from_bytes(alloc, &octets[..octets.len().min(26)])?;
+    learn_all(peeler, &marks, &word);
+    Ok(())
+}
+
+/// Gives ranges of positions of a word.
+fn hear(
+    alloc: Global,
+    peeler: &mut Peeler<'_>,
+    plan: &Plan,
+    octets: &[u8],
+    ranges: &[Range],
+) -> Result<(), AllocError> {
+    for range in ranges.iter().copied() {
+        hear_range(alloc, peeler, plan, octets, range)?;
+    }
+    Ok(())
+}
+
+/// A new peeler.
+pub(crate) fn new_peeler<'t>(
+    alloc: Global,
+    table: &'t Table,
+    plan: &Plan,
+) -> Result<Peeler<'t>, EncFault> {
+    Peeler::new(alloc, table, plan)
+}
+
+/// The peeler that was given these positions of the word of block 01.
+pub(crate) fn peeler_of<'t>(
+    alloc: Global,
+    table: &'t Table,
+    plan: &Plan,
+    ranges: &[Range],
+) -> Result<Peeler<'t>, Fail> {
+    let mut peeler = new_peeler(alloc, table, plan)?;
+    hear(alloc, &mut peeler, plan, &WORD_01, ranges)?;
+    Ok(peeler)
+}
+
+/// What a peeler knows: how many positions below K' are left, which positions are known, and the bits of these.
+type Knows = (u32, [u8; 26], [u8; 26]);
+
+/// What a peeler knows.
+fn knows(peeler: &Peeler<'_>) -> Knows {
+    let mut places = [0; 26];
+    let mut bits = [0; 26];
+    for pos in 0..208 {
+        let place = 128 >> (pos % 8);
+        match known(peeler, pos) {
+            Some(bit) => {
+                places[pos as usize / 8] |= place;
+                bits[pos as usize / 8] |= if bit { place } else { 0 };
+            }
+            None => {}
+        }
+    }
+    (peeler.left(), places, bits)
+}
+
+/// What a peeler knows that was given these positions of the word.
+fn knows_after(alloc: Global, ranges: &[Range]) -> Result<Knows, Fail> {
+    let table = practice(alloc, 0, 1, false)?;
+    let plan = plan(Graph::Two, 24)?;
+    Ok(knows(&peeler_of(alloc, &table, &plan, ranges)?))
+}
+
+// The fillers are columns 6 to 9, and each tenth column behind them is a copy of one.
+#[test]
+fn a_new_peeler_knows_fillers_and_their_copies(rt: HostRuntime) -> Result<(), Fail> {
+    let mut places = [0; 26];
+    for octet in [3, 4, 8, 9, 13, 14, 18, 19, 23, 24] {
+        places[octet] = 0xff;
+    }
+    assert!(rt; knows_after(rt.alloc(), &[])? == (24, places, [0; 26]));
+    Ok(())
+}
+
+/// Columns 2 to 5, 10 and 11.
+pub(crate) const PART: &[Range] = &[(8, 24), (40, 48)];
+
+/// And then all that is sent behind them.
+pub(crate) const WHOLE: &[Range] = &[(8, 24), (40, 48), (48, 208)];
+
+// Column 0 is fixed by its copies. Column 1 stands in rows 1, 11, 21, 31 and 41, each of which has another column that was
+// not heard: columns 1, 12, 13, 21, 31, 41 and 51 are left.
+#[test]
+fn the_first_24_bits_leave_7_columns(rt: HostRuntime) -> Result<(), Fail> {
+    let mut places = [0xff; 26];
+    let mut bits = WORD_01;
+    for octet in [0, 6, 10, 15, 20, 25] {
+        places[octet] = if octet == 6 { 0 } else { 0xf0 };
+        bits[octet] = 0;
+    }
+    assert!(rt; knows_after(rt.alloc(), PART)? == (4, places, bits));
+    Ok(())
+}
+
+#[test]
+fn all_that_is_sent_fixes_the_word(rt: HostRuntime) -> Result<(), Fail> {
+    assert!(rt; knows_after(rt.alloc(), WHOLE)? == (0, [0xff; 26], WORD_01));
+    Ok(())
+}
+
+/// The bits from position 206 on, how many these are, and how often a pair of a row and a position was visited.
+fn ends_of(peeler: &Peeler<'_>) -> (u64, u32, u64) {
+    if peeler.given().len() < 207 {
+        return (0, 0, 0);
+    }
+    let (bits, count) = peeler.bits_from(206);
+    (bits & 3, count, peeler.touches())
+}
+
+/// The same after all that is sent.
+fn ends_after_all(alloc: Global) -> Result<(u64, u32, u64), Fail> {
+    let table = practice(alloc, 0, 1, false)?;
+    let plan = plan(Graph::Two, 24)?;
+    Ok(ends_of(&peeler_of(alloc, &table, &plan, WHOLE)?))
+}
+
+// The last digit is 2, its last two bits 10. 105 entries at lifting size 4 are 420 pairs of a row and a position.
+#[test]
+fn the_last_bits_are_read_and_visits_are_bounded(rt: HostRuntime) -> Result<(), Fail> {
+    let (bits, count, touches) = ends_after_all(rt.alloc())?;
+    assert!(rt; bits == 1 && count == 2 && 420 <= touches && touches <= 840);
+    Ok(())
+}
+
+/// Why there is no peeler of base graph 1 over a table of base graph 2.
+fn without_graph_1(alloc: Global) -> Result<Option<EncFault>, Fail> {
+    let table = practice(alloc, 0, 1, false)?;
+    let plan = plan(Graph::One, 24)?;
+    Ok(new_peeler(alloc, &table, &plan).err())
+}
+
+#[test]
+fn a_peeler_wants_its_base_graph(rt: HostRuntime) -> Result<(), Fail> {
+    assert_eq!(rt; without_graph_1(rt.alloc())?, Some(EncFault::NoGraph));
+    Ok(())
+}

@@ -1,0 +1,179 @@
+//! The peeler beside plain rounds, and what shows its answers beside the checks: words of made-up tables of both base
+//! graphs, at sizes of each set, of which a part was heard, position by position or many positions at a time.
+
+use crate::peeling::{is_order, is_stuck, known, learn, learn_all, new_peeler, size_of};
+use crate::practice::{made_up, table_of};
+use nr_bitvec::Bits;
+use nr_graphpick::Graph;
+use nr_peel::{Peeler, close};
+use nr_segment::{Plan, plan};
+use nr_shifttable::Table;
+use std::alloc::{AllocError, Global};
+use std::test::Fail;
+
+/// Marks positions, each with the chance `share` of 256, and ones in all other places. With a larger share the same
+/// positions are marked, too.
+fn drawn(alloc: Global, size: u32, share: u64, seed: u64) -> Result<(Bits, Bits), AllocError> {
+    let mut marks = Bits::zeros(alloc, size.min(30_000))?;
+    let mut values = Bits::zeros(alloc, size.min(30_000))?;
+    let mut state = seed;
+    for pos in 0..marks.len() {
+        state = state
+            .wrapping_mul(6_364_136_223_846_793_005)
+            .wrapping_add(1_442_695_040_888_963_407);
+        let heard = state >> 56 < share;
+        if pos < marks.len() && pos < values.len() {
+            marks.set(pos, heard);
+            values.set(pos, !heard);
+        }
+    }
+    Ok((marks, values))
+}
+
+/// Gives marked positions of the word of zeros, one after another.
+fn hear_each(peeler: &mut Peeler<'_>, marks: &Bits) {
+    for pos in 0..marks.len() {
+        if marks.get(pos) {
+            learn(peeler, pos as u32, false);
+        }
+    }
+}
+
+/// Gives positions of the word of zeros, each with the chance `share` of 256: one after another, or first half of them
+/// at a time and then all of them. What the values have elsewhere is nothing to a peeler.
+fn hear(
+    alloc: Global,
+    peeler: &mut Peeler<'_>,
+    size: u32,
+    share: u64,
+    each: bool,
+) -> Result<(), AllocError> {
+    let seed = share.wrapping_add(7);
+    let (marks, values) = drawn(alloc, size, share, seed)?;
+    if each {
+        hear_each(peeler, &marks);
+        return Ok(());
+    }
+    let (half, turned) = drawn(alloc, size, share / 2, seed)?;
+    learn_all(peeler, &half, &turned);
+    learn_all(peeler, &marks, &values);
+    Ok(())
+}
+
+/// Whether rounds mark what the peeler knows, all of which is zero.
+fn is_as_rounds(
+    alloc: Global,
+    table: &Table,
+    plan: &Plan,
+    peeler: &Peeler<'_>,
+) -> Result<bool, AllocError> {
+    let mut marks = peeler.given().try_clone()?;
+    if marks.len() != size_of(plan) as usize {
+        return Ok(false);
+    }
+    close(alloc, table, plan, &mut marks)?;
+    for pos in 0..marks.len() {
+        let want = if marks.get(pos) { Some(false) } else { None };
+        if known(peeler, pos as u32) != want {
+            return Ok(false);
+        }
+    }
+    Ok(true)
+}
+
+/// Whether the checks accept the fix order, or the stopping set if positions are left.
+fn is_shown(table: &Table, plan: &Plan, peeler: &Peeler<'_>) -> Result<bool, AllocError> {
+    if peeler.left() == 0 {
+        is_order(table, plan, peeler.given(), peeler.order())
+    } else {
+        Ok(is_stuck(table, plan, peeler.given(), &peeler.stuck()?))
+    }
+}
+
+/// Peels a word of which a part was heard: whether it comes out whole, or none where rounds or the checks disagree.
+fn peeled(
+    alloc: Global,
+    table: &Table,
+    plan: &Plan,
+    share: u64,
+    each: bool,
+) -> Result<Option<bool>, Fail> {
+    let mut peeler = new_peeler(alloc, table, plan)?;
+    hear(alloc, &mut peeler, size_of(plan), share, each)?;
+    let agrees = is_as_rounds(alloc, table, plan, &peeler)? && is_shown(table, plan, &peeler)?;
+    Ok(agrees.then_some(peeler.left() == 0))
+}
+
+/// Peels eleven words of which ever more was heard: how many came out whole, how many didn't, and how many disagreed.
+fn count(alloc: Global, table: &Table, plan: &Plan, each: bool) -> Result<[u32; 3], Fail> {
+    let mut counts = [0u32; 3];
+    for step in 0..11u64 {
+        let kind = match peeled(alloc, table, plan, 25 * step + 6, each)? {
+            Some(true) => 0,
+            Some(false) => 1,
+            None => 2,
+        };
+        counts[kind] = counts[kind].saturating_add(1);
+    }
+    Ok(counts)
+}
+
+/// The lifting size of so many bits, and whether all words are as rounds and the checks say, some of them whole and some
+/// not.
+fn agrees(alloc: Global, graph: Graph, bits: u32, each: bool) -> Result<(u32, bool), Fail> {
+    let cells = made_up(alloc, graph, 2)?;
+    let table = table_of(alloc, &cells)?;
+    let plan = plan(graph, bits)?;
+    let [whole, stuck, other] = count(alloc, &table, &plan, each)?;
+    Ok((plan.z, whole > 0 && stuck > 0 && other == 0))
+}
+
+// Two small sizes position by position. Then many positions at a time: sizes of all eight sets, of which 7, 11 and 18 are
+// peeled position by position and the others by words.
+#[test]
+fn graph_1_is_peeled_as_by_rounds(rt: HostRuntime) -> Result<(), Fail> {
+    for (bits, z, each) in [
+        (40, 2, true),
+        (650, 30, true),
+        (390, 18, false),
+        (430, 20, false),
+        (700, 32, false),
+        (8440, 384, false),
+        (7030, 320, false),
+        (1230, 56, false),
+        (6330, 288, false),
+        (240, 11, false),
+        (4570, 208, false),
+        (650, 30, false),
+    ] {
+        assert!(rt;
+            agrees(rt.alloc(), Graph::One, bits, each)? == (z, true),
+            "{bits} bits"
+        );
+    }
+    Ok(())
+}
+
+#[test]
+fn graph_2_is_peeled_as_by_rounds(rt: HostRuntime) -> Result<(), Fail> {
+    for (bits, z, each) in [
+        (40, 7, true),
+        (2390, 240, true),
+        (100, 18, false),
+        (115, 20, false),
+        (1275, 128, false),
+        (3830, 384, false),
+        (790, 80, false),
+        (40, 7, false),
+        (1435, 144, false),
+        (1750, 176, false),
+        (150, 26, false),
+        (2390, 240, false),
+    ] {
+        assert!(rt;
+            agrees(rt.alloc(), Graph::Two, bits, each)? == (z, true),
+            "{bits} bits"
+        );
+    }
+    Ok(())
+}

@@ -1,0 +1,232 @@
+//! Processes over the practice table.
+
+use crate::practice::{PLAIN, on_one_layer, practice};
+use crate::receptions::{HandedUp, arrives, left_of, send, sender_of, told};
+use nr_bitvec::Bits;
+use nr_blockdesk::{DeskFault, Heard, Processes};
+use nr_shifttable::Table;
+use std::alloc::Global;
+use std::test::Fail;
+
+/// A call on a process.
+#[derive(Clone, Copy)]
+enum Call {
+    /// It begins with a transport block of so many bits.
+    Begin(u8, u32),
+    /// It hears of an octet, as of a redundancy version and G bits: from a place on, so many places.
+    Hear(u8, u8, (u32, u32), (usize, u32)),
+}
+
+use Call::{Begin, Hear};
+
+/// What is heard of the first bits of an octet, from a place on.
+fn places_of(
+    alloc: Global,
+    table: &Table,
+    octet: u8,
+    count: u32,
+    from: usize,
+) -> Result<Vec<Heard>, Fail> {
+    let block = Bits::from_bytes(alloc, &[octet])?;
+    let sender = sender_of(alloc, table, PLAIN, &block)?;
+    let bits = send(&sender, &on_one_layer(0, count, 1))?;
+    Ok(arrives(alloc, &bits, &[(from, usize::MAX)], &[])?)
+}
+
+/// What a call is answered: nothing where a process begins, or was to hear before it did.
+pub(crate) type Answer = Result<Option<HandedUp>, DeskFault>;
+
+/// What a process answers, if it has begun, to places of a redundancy version.
+pub(crate) fn takes(
+    processes: &mut Processes<'_>,
+    p: u8,
+    (rv, g): (u32, u32),
+    places: &[Heard],
+) -> Answer {
+    if p < 16 && processes.begun(p) {
+        let outcome = processes.take(p, &on_one_layer(rv, g, 1), places)?;
+        Ok(Some(told(&outcome)))
+    } else {
+        Ok(None)
+    }
+}
+
+/// A process begins.
+pub(crate) fn begins(processes: &mut Processes<'_>, p: u8, a: u32) -> Answer {
+    if p < 16 {
+        processes.begin(p, a)?;
+    }
+    Ok(None)
+}
+
+/// What a call is answered.
+fn answer(
+    alloc: Global,
+    table: &Table,
+    processes: &mut Processes<'_>,
+    call: Call,
+) -> Result<Answer, Fail> {
+    match call {
+        Begin(p, a) => Ok(begins(processes, p, a)),
+        Hear(p, octet, tx, (from, count)) => {
+            let places = places_of(alloc, table, octet, count, from)?;
+            Ok(takes(processes, p, tx, &places))
+        }
+    }
+}
+
+/// How many positions below K' of the first code block of a process are left, if it has begun.
+pub(crate) fn left(processes: &Processes<'_>, p: u8) -> Option<u32> {
+    if p < 16 {
+        let receiver = processes.receiver(p)?;
+        Some(left_of(receiver).0)
+    } else {
+        None
+    }
+}
+
+/// The answer to the last of some calls, and what is left then of processes 0 and 1, if they have begun.
+type After = (Answer, [Option<u32>; 2]);
+
+/// The same of new processes.
+fn after_over(alloc: Global, table: &Table, calls: &[Call]) -> Result<After, Fail> {
+    let mut processes = Processes::new(alloc, table, PLAIN);
+    let mut last = Ok(None);
+    for call in calls.iter().copied() {
+        last = answer(alloc, table, &mut processes, call)?;
+    }
+    Ok((last, [left(&processes, 0), left(&processes, 1)]))
+}
+
+/// The same over the practice table.
+fn after(alloc: Global, calls: &[Call]) -> Result<After, Fail> {
+    let table = practice(alloc, 0, 1, false)?;
+    after_over(alloc, &table, calls)
+}
+
+const TWO: [(Call, After); 8] = [
+    (Begin(0, 8), (Ok(None), [Some(24), None])),
+    (Begin(1, 8), (Ok(None), [Some(24), Some(24)])),
+    (
+        Hear(0, 0x01, (0, 24), (0, 24)),
+        (Ok(Some(HandedUp::Open)), [Some(4), Some(24)]),
+    ),
+    (
+        Hear(1, 0x80, (0, 24), (0, 24)),
+        (Ok(Some(HandedUp::Open)), [Some(4), Some(4)]),
+    ),
+    (
+        Hear(0, 0x01, (0, 28), (24, 28)),
+        (Ok(Some(HandedUp::Delivered(0x01))), [Some(0), Some(4)]),
+    ),
+    (Begin(0, 8), (Ok(None), [Some(24), Some(4)])),
+    (
+        Hear(0, 0x80, (0, 32), (0, 32)),
+        (Ok(Some(HandedUp::Delivered(0x80))), [Some(0), Some(4)]),
+    ),
+    (
+        Hear(1, 0x80, (0, 28), (24, 28)),
+        (Ok(Some(HandedUp::Delivered(0x80))), [Some(0), Some(0)]),
+    ),
+];
+
+const REFUSED: [(Call, After); 6] = [
+    (Begin(0, 8), (Ok(None), [Some(24), None])),
+    (
+        Hear(0, 0x01, (0, 24), (0, 24)),
+        (Ok(Some(HandedUp::Open)), [Some(4), None]),
+    ),
+    (Begin(0, 9), (Err(DeskFault::Size), [Some(4), None])),
+    (
+        Hear(0, 0x01, (4, 28), (0, 28)),
+        (Err(DeskFault::Rv), [Some(4), None]),
+    ),
+    (
+        Hear(0, 0x01, (0, 28), (0, 24)),
+        (Err(DeskFault::Length), [Some(4), None]),
+    ),
+    (
+        Hear(0, 0x01, (0, 28), (24, 28)),
+        (Ok(Some(HandedUp::Delivered(0x01))), [Some(0), None]),
+    ),
+];
+
+/// The index of the first of these calls that comes to something else.
+fn first_other(alloc: Global, list: &[(Call, After)]) -> Result<Option<usize>, Fail> {
+    let mut calls = Vec::new(alloc);
+    for (i, (call, wanted)) in list.iter().copied().enumerate() {
+        calls.push(call)?;
+        if after(alloc, &calls)? != wanted {
+            return Ok(Some(i));
+        }
+    }
+    Ok(None)
+}
+
+// By hand: 24 bits leave 4 of 24 information bits, which four more fix, and 32 bits leave none. What one process heard
+// is nothing to the other one, nor to itself once it began again.
+#[test]
+fn processes_are_kept_apart(rt: HostRuntime) -> Result<(), Fail> {
+    assert_eq!(rt; first_other(rt.alloc(), &TWO)?, None);
+    Ok(())
+}
+
+#[test]
+fn a_refused_call_leaves_what_was_heard(rt: HostRuntime) -> Result<(), Fail> {
+    assert_eq!(rt; first_other(rt.alloc(), &REFUSED)?, None);
+    Ok(())
+}
+
+/// Which of the processes have begun.
+fn which(processes: &Processes<'_>) -> [bool; 16] {
+    let mut begun = [false; 16];
+    for p in 0..16 {
+        begun[p] = processes.begun(p as u8);
+    }
+    begun
+}
+
+/// Begins new processes with so many bits each: why the last does not begin, and which have begun then.
+fn begun_over(alloc: Global, table: &Table, list: &[(u8, u32)]) -> (Answer, [bool; 16]) {
+    let mut processes = Processes::new(alloc, table, PLAIN);
+    let mut last = Ok(None);
+    for (p, a) in list.iter().copied() {
+        last = begins(&mut processes, p, a);
+    }
+    (last, which(&processes))
+}
+
+/// The same over the practice table.
+fn begun_of(alloc: Global, list: &[(u8, u32)]) -> Result<(Answer, [bool; 16]), Fail> {
+    let table = practice(alloc, 0, 1, false)?;
+    Ok(begun_over(alloc, &table, list))
+}
+
+#[test]
+fn no_process_has_begun(rt: HostRuntime) -> Result<(), Fail> {
+    assert!(rt; begun_of(rt.alloc(), &[])? == (Ok(None), [false; 16]));
+    Ok(())
+}
+
+#[test]
+fn each_process_begins_alone(rt: HostRuntime) -> Result<(), Fail> {
+    for p in 0..16 {
+        let mut one = [false; 16];
+        one[p] = true;
+        assert!(rt;
+            begun_of(rt.alloc(), &[(p as u8, 8)])? == (Ok(None), one),
+            "{p}"
+        );
+    }
+    Ok(())
+}
+
+// 296 bits at the full rate want base graph 1.
+#[test]
+fn a_refused_process_does_not_begin(rt: HostRuntime) -> Result<(), Fail> {
+    let mut last = [false; 16];
+    last[15] = true;
+    let answers = begun_of(rt.alloc(), &[(15, 8), (0, 296)])?;
+    assert!(rt; answers == (Err(DeskFault::Graph), last));
+    Ok(())
+}

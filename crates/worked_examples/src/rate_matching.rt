@@ -1,0 +1,280 @@
+//! Buffers, where their redundancy versions begin, and what these select; and the lengths of code blocks: by hand from
+//! TS 38.212, 5.4.2.1. A code block of 40 bits with base graph 2 has Zc 7 and N 350. Positions 0 to 13 are punctured,
+//! 40 to 69 are fillers. A limit of 200 bits keeps 300 of them, and one of 1 bit a single one.
+
+use nr_bitvec::Bits;
+use nr_graphpick::Graph;
+use nr_ldpcenc::Word;
+use nr_ratematch::{Buffer, Mask, RmFault, lengths, select};
+use nr_segment::plan;
+use std::alloc::Global;
+use std::test::Fail;
+
+/// The buffer of such a code block.
+fn buffer_of(lbrm: Option<u32>) -> Result<Buffer, Fail> {
+    let plan = plan(Graph::Two, 40)?;
+    Ok(Buffer::new(&plan, lbrm)?)
+}
+
+/// Ncb, and where the redundancy versions begin.
+fn starts_of(lbrm: Option<u32>) -> Result<(u32, [u32; 4]), Fail> {
+    let buffer = buffer_of(lbrm)?;
+    let mut starts = [0; 4];
+    for rv in 0..4 {
+        starts[rv] = buffer.start(rv as u32);
+    }
+    Ok((buffer.ncb(), starts))
+}
+
+#[test]
+fn limits_keep_350_or_300_bits_or_1(rt: HostRuntime) -> Result<(), Fail> {
+    for (lbrm, ncb, starts) in [
+        (None, 350, [0, 91, 175, 301]),
+        (Some(200), 300, [0, 77, 147, 252]),
+        (Some(1), 1, [0; 4]),
+        (Some(u32::MAX), 350, [0, 91, 175, 301]),
+    ] {
+        assert!(rt; starts_of(lbrm)? == (ncb, starts), "{ncb} bits are kept");
+    }
+    Ok(())
+}
+
+/// Why there is no buffer.
+fn no_buffer(lbrm: Option<u32>) -> Result<Option<RmFault>, Fail> {
+    let plan = plan(Graph::Two, 40)?;
+    Ok(Buffer::new(&plan, lbrm).err())
+}
+
+#[test]
+fn a_limit_of_0_bits_keeps_no_buffer(rt: HostRuntime) -> Result<(), Fail> {
+    assert_eq!(rt; no_buffer(Some(0))?, Some(RmFault::NoBuffer));
+    Ok(())
+}
+
+/// The position that a redundancy version's bit `k` has.
+fn place_of(lbrm: Option<u32>, rv: u32, k: u32) -> Result<u32, Fail> {
+    let buffer = buffer_of(lbrm)?;
+    Ok(buffer.place(rv.min(3), k))
+}
+
+#[test]
+fn places_go_round_without_fillers(rt: HostRuntime) -> Result<(), Fail> {
+    for (lbrm, rv, k, place) in [
+        (None, 0, 0, 14),
+        (None, 0, 25, 39),
+        (None, 0, 26, 70),
+        (None, 0, 319, 363),
+        (None, 0, 320, 14),
+        (None, 1, 0, 105),
+        (None, 3, 48, 363),
+        (None, 3, 49, 14),
+        (Some(200), 3, 0, 266),
+        (Some(200), 3, 47, 313),
+        (Some(200), 3, 48, 14),
+        (Some(1), 2, u32::MAX, 14),
+    ] {
+        assert_eq!(rt; place_of(lbrm, rv, k)?, place, "bit {k} of version {rv}");
+    }
+    Ok(())
+}
+
+/// The run of positions from a redundancy version's bit `k` on, at most so long.
+fn run_of(lbrm: Option<u32>, rv: u32, k: u32, most: u32) -> Result<(u32, u32), Fail> {
+    let buffer = buffer_of(lbrm)?;
+    Ok(buffer.run(rv.min(3), k, most.max(1)))
+}
+
+// 26 positions stand before the fillers, and 294 after them.
+#[test]
+fn runs_end_at_fillers_and_at_the_end(rt: HostRuntime) -> Result<(), Fail> {
+    for (lbrm, rv, k, most, run) in [
+        (None, 0, 0, 64, (14, 26)),
+        (None, 0, 25, 64, (39, 1)),
+        (None, 0, 26, 64, (70, 64)),
+        (None, 0, 26, u32::MAX, (70, 294)),
+        (None, 0, 319, 2, (363, 1)),
+        (None, 0, 320, 20, (14, 20)),
+        (Some(200), 3, 0, 64, (266, 48)),
+        (Some(1), 2, u32::MAX, 64, (14, 1)),
+    ] {
+        assert!(rt;
+            run_of(lbrm, rv, k, most)? == run,
+            "bit {k} of version {rv}"
+        );
+    }
+    Ok(())
+}
+
+/// Puts ones in the places of bits that the word has.
+fn put_ones(word: &mut Word, ones: &[usize]) {
+    for at in ones.iter().copied() {
+        if at < word.len() {
+            word.set(at, true);
+        }
+    }
+}
+
+/// The word of zeros but for ones at these positions.
+fn word_with(alloc: Global, ones: &[usize]) -> Result<Word, Fail> {
+    let plan = plan(Graph::Two, 40)?;
+    let mut word = Word::new(alloc, &plan)?;
+    put_ones(&mut word, ones);
+    Ok(word)
+}
+
+/// The bits that a redundancy version selects from it, 364 of them at most.
+fn selected(alloc: Global, lbrm: Option<u32>, word: &Word, rv: u32, e: u32) -> Result<Bits, Fail> {
+    let plan = plan(Graph::Two, 40)?;
+    let buffer = Buffer::new(&plan, lbrm)?;
+    if word.len() != (plan.graph.cols() * plan.z) as usize {
+        return Err(Fail::new("this is no word of the plan"));
+    }
+    Ok(select(alloc, &buffer, word, rv.min(3), e.min(364))?)
+}
+
+/// How many bits are selected, and the first of them, by its place, that is a one and should be a zero, or the other way
+/// round.
+fn first_other(
+    alloc: Global,
+    (lbrm, rv, e): (Option<u32>, u32, u32),
+    ones: &[usize],
+    at: &[usize],
+) -> Result<(usize, Option<usize>), Fail> {
+    let word = word_with(alloc, ones)?;
+    let bits = selected(alloc, lbrm, &word, rv, e)?;
+    for k in 0..bits.len() {
+        if bits.get(k) != at.contains(&k) {
+            return Ok((bits.len(), Some(k)));
+        }
+    }
+    Ok((bits.len(), None))
+}
+
+// Position 14 is the first one after the punctured ones, position 70 the first one after the fillers.
+#[test]
+fn the_first_32_bits_leave_out_fillers(rt: HostRuntime) -> Result<(), Fail> {
+    let other = first_other(rt.alloc(), (None, 0, 32), &[14, 40, 70], &[0, 26])?;
+    assert!(rt; other == (32, None));
+    Ok(())
+}
+
+// Position 363 is the last of the whole buffer, and 313 that of the limited one; 14 comes next. One bit goes round and
+// round.
+#[test]
+fn versions_go_on_past_the_end(rt: HostRuntime) -> Result<(), Fail> {
+    for (from, ones, at) in [
+        ((None, 1, 264), [105, 363, 14], [0, 258, 259]),
+        ((None, 2, 176), [189, 363, 14], [0, 174, 175]),
+        ((None, 3, 320), [315, 363, 14], [0, 48, 49]),
+        ((None, 3, 364), [315, 315, 315], [0, 320, 320]),
+        ((Some(200), 0, 270), [14, 313, 314], [0, 269, 269]),
+        ((Some(200), 3, 100), [266, 313, 14], [0, 47, 48]),
+        ((Some(1), 2, 3), [14, 14, 14], [0, 1, 2]),
+    ] {
+        let (count, other) = first_other(rt.alloc(), from, &ones, &at)?;
+        assert!(rt;
+            (count, other) == (from.2 as usize, None),
+            "version {}",
+            from.1
+        );
+    }
+    Ok(())
+}
+
+/// The lengths of at most three code blocks of base graph 2, or why there are none.
+fn shared(b: u32, (g, qm, nl): (u32, u32, u32), mask: Mask) -> Result<[u32; 3], RmFault> {
+    let Ok(plan) = plan(Graph::Two, b) else {
+        return Ok([9; 3]);
+    };
+    let lengths = lengths(&plan, g, qm, nl, mask)?;
+    let mut shared = [0; 3];
+    for (r, e) in lengths.iter().take(3).enumerate() {
+        shared[r] = *e;
+    }
+    Ok(shared)
+}
+
+/// The bits of two code blocks, and of three.
+const TWO: u32 = 3856;
+
+const THREE: u32 = 7656;
+
+// Of two code blocks the second has the longer length, of three the third.
+#[test]
+fn longer_lengths_come_last(rt: HostRuntime) {
+    for (b, way, lengths) in [
+        (TWO, (28, 4, 1), [12, 16, 0]),
+        (TWO, (4, 4, 1), [0, 4, 0]),
+        (TWO, (28, 2, 2), [12, 16, 0]),
+        (THREE, (28, 4, 1), [8, 8, 12]),
+    ] {
+        assert!(rt; shared(b, way, Mask::All) == Ok(lengths), "{b} bits");
+    }
+}
+
+#[test]
+fn lengths_are_refused(rt: HostRuntime) {
+    for (way, fault) in [
+        ((28, 3, 1), RmFault::Order),
+        ((28, 4, 5), RmFault::Layers),
+        ((0, 4, 1), RmFault::Total),
+        ((4_194_308, 4, 1), RmFault::Total),
+        ((30, 4, 1), RmFault::Ragged),
+    ] {
+        assert!(rt; shared(TWO, way, Mask::All) == Err(fault), "{fault}");
+    }
+}
+
+// The first and the third of three, and a fourth one that there is not.
+#[test]
+fn scheduled_code_blocks_share_the_bits(rt: HostRuntime) {
+    for (marks, g, answer) in [
+        (0b101, 28, Ok([12, 0, 16])),
+        (0b1000, 28, Err(RmFault::NoneScheduled)),
+        (0b1000, 30, Err(RmFault::Ragged)),
+    ] {
+        let mask = Mask::Only([marks, 0, 0, 0, 0, 0]);
+        assert!(rt;
+            shared(THREE, (g, 4, 1), mask) == answer,
+            "{g} bits of {marks}"
+        );
+    }
+}
+
+#[test]
+fn all_schedule_the_last_code_block(rt: HostRuntime) {
+    assert!(rt; Mask::All.has(343));
+}
+
+/// A mask of the code blocks 0 and 191.
+const ENDS: Mask = Mask::Only([1, 0, 1 << 63, 0, 0, 0]);
+
+#[test]
+fn a_mask_has_its_code_blocks_alone(rt: HostRuntime) {
+    for r in 0..344 {
+        assert!(rt; ENDS.has(r) == (r == 0 || r == 191), "code block {r}");
+    }
+}
+
+#[test]
+fn marks_make_a_mask(rt: HostRuntime) {
+    let mut marks = [false; 384];
+    marks[0] = true;
+    marks[191] = true;
+    assert!(rt; Mask::of_marks(&marks) == ENDS);
+}
+
+#[test]
+fn faults_of_rate_matching_are_written(rt: HostRuntime) -> Result<(), Fail> {
+    for (fault, name) in [
+        (RmFault::NoBuffer, "NoBuffer"),
+        (RmFault::Order, "Order"),
+        (RmFault::Layers, "Layers"),
+        (RmFault::Total, "Total"),
+        (RmFault::Ragged, "Ragged"),
+        (RmFault::NoneScheduled, "NoneScheduled"),
+    ] {
+        assert!(rt; fault.to_string(rt.alloc())?.as_str() == name, "{name}");
+    }
+    Ok(())
+}

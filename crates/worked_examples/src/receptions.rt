@@ -1,0 +1,235 @@
+//! What arrives of a transport block over a practice table, what its receiver answers, and whether the checkers accept what
+//! its peelers show.
+
+use crate::practice::{few_bits_of, on_one_layer, practice};
+use nr_bitvec::Bits;
+use nr_blockdesk::{DeskFault, Heard, Outcome, Receiver, Sender, Settings, Tx};
+use nr_peel::{check_order, check_stuck};
+use nr_segment::Plan;
+use nr_shifttable::Table;
+use std::alloc::{AllocError, Global};
+use std::test::Fail;
+
+/// Ranges of places, each by its first and its last place.
+pub(crate) type Places<'a> = &'a [(usize, usize)];
+
+pub(crate) const NONE: Places<'static> = &[];
+
+pub(crate) const ALL: Places<'static> = &[(0, usize::MAX)];
+
+/// A transmission, the places that are heard, and those that are flipped.
+#[derive(Clone, Copy)]
+pub(crate) struct Arrival<'a> {
+    pub(crate) tx: Tx,
+    pub(crate) heard: Places<'a>,
+    pub(crate) flipped: Places<'a>,
+}
+
+/// The first `g` bits of redundancy version 0, the places that are heard and those that are flipped.
+pub(crate) type First<'a> = (u32, Places<'a>, Places<'a>);
+
+/// What a receiver hands up: of a delivered block its first octet.
+#[derive(Clone, Copy, Debug, PartialEq, Eq)]
+pub(crate) enum HandedUp {
+    Open,
+    Delivered(u8),
+    Contradiction,
+}
+
+/// The same of an outcome.
+pub(crate) fn told(outcome: &Outcome) -> HandedUp {
+    match outcome {
+        Outcome::Open => HandedUp::Open,
+        Outcome::Delivered(block) => HandedUp::Delivered(block.octet(0)),
+        Outcome::Contradiction => HandedUp::Contradiction,
+    }
+}
+
+/// Whether a place is in one of these ranges.
+fn is_in(places: Places<'_>, m: usize) -> bool {
+    for (from, to) in places.iter().copied() {
+        if from <= m && m <= to {
+            return true;
+        }
+    }
+    false
+}
+
+/// What is heard of sent bits.
+pub(crate) fn arrives(
+    alloc: Global,
+    bits: &Bits,
+    heard: Places<'_>,
+    flipped: Places<'_>,
+) -> Result<Vec<Heard>, AllocError> {
+    let mut places = Vec::new(alloc);
+    for m in 0..bits.len() {
+        let place = if !is_in(heard, m) {
+            Heard::Erased
+        } else if bits.get(m) != is_in(flipped, m) {
+            Heard::One
+        } else {
+            Heard::Zero
+        };
+        places.push(place)?;
+    }
+    Ok(places)
+}
+
+/// What a receiver answers to what arrives of a transmission.
+fn hear(
+    alloc: Global,
+    sender: &Sender<'_>,
+    receiver: &mut Receiver<'_>,
+    arrival: &Arrival<'_>,
+) -> Result<HandedUp, Fail> {
+    let bits = send(sender, &arrival.tx)?;
+    let places = arrives(alloc, &bits, arrival.heard, arrival.flipped)?;
+    Ok(told(&receiver.take(&arrival.tx, &places)?))
+}
+
+/// Whether the checkers accept what the peeler of code block `r` shows.
+fn is_accepted(table: &Table, receiver: &Receiver<'_>, r: u32) -> Result<bool, AllocError> {
+    let plan = receiver.plan();
+    if r >= plan.c {
+        return Ok(false);
+    }
+    let peeler = receiver.peeler(r);
+    if peeler.given().len() != (plan.graph.cols() * plan.z) as usize {
+        return Ok(false);
+    }
+    if receiver.left(r) > 0 {
+        let set = peeler.stuck()?;
+        return Ok(check_stuck(table, plan, peeler.given(), &set));
+    }
+    let mut known = peeler.given().try_clone()?;
+    Ok(check_order(table, plan, &mut known, peeler.order()))
+}
+
+/// The same of every code block.
+fn are_accepted(table: &Table, receiver: &Receiver<'_>) -> Result<bool, AllocError> {
+    for r in 0..receiver.plan().c {
+        if !is_accepted(table, receiver, r)? {
+            return Ok(false);
+        }
+    }
+    Ok(true)
+}
+
+/// How many positions below K' are left of the first code block, and how often a pair of a row and a position of it was
+/// visited.
+pub(crate) fn left_of(receiver: &Receiver<'_>) -> (u32, u64) {
+    if receiver.plan().c == 0 {
+        return (0, 0);
+    }
+    (receiver.left(0), receiver.peeler(0).touches())
+}
+
+/// The sender of a block.
+pub(crate) fn sender_of<'t>(
+    alloc: Global,
+    table: &'t Table,
+    settings: Settings,
+    block: &Bits,
+) -> Result<Sender<'t>, DeskFault> {
+    Sender::new(alloc, table, settings, block)
+}
+
+/// The receiver of a block of `a` bits.
+pub(crate) fn receiver_of<'t>(
+    alloc: Global,
+    table: &'t Table,
+    settings: Settings,
+    a: u32,
+) -> Result<Receiver<'t>, DeskFault> {
+    Receiver::new(alloc, table, settings, a)
+}
+
+/// The bits that a sender sends.
+pub(crate) fn send(sender: &Sender<'_>, tx: &Tx) -> Result<Bits, DeskFault> {
+    sender.send(tx)
+}
+
+/// What comes of a list of transmissions: the last answer, what is left then and was visited of the first code block, and
+/// whether the checkers accept what is shown.
+#[derive(Clone, Copy)]
+pub(crate) struct End {
+    pub(crate) told: HandedUp,
+    pub(crate) left: u32,
+    pub(crate) touches: u64,
+    pub(crate) accepted: bool,
+}
+
+/// The last answer to a list of transmissions.
+fn hear_all(
+    alloc: Global,
+    sender: &Sender<'_>,
+    receiver: &mut Receiver<'_>,
+    arrivals: &[Arrival<'_>],
+) -> Result<HandedUp, Fail> {
+    let mut last = HandedUp::Open;
+    for arrival in arrivals {
+        last = hear(alloc, sender, receiver, arrival)?;
+    }
+    Ok(last)
+}
+
+/// What a receiver shows at last.
+fn end_at(table: &Table, receiver: &Receiver<'_>, told: HandedUp) -> Result<End, AllocError> {
+    let (left, touches) = left_of(receiver);
+    let accepted = are_accepted(table, receiver)?;
+    Ok(End {
+        told,
+        left,
+        touches,
+        accepted,
+    })
+}
+
+/// The same of a transport block that a new receiver hears.
+fn end_of(
+    alloc: Global,
+    table: &Table,
+    sender: &Sender<'_>,
+    settings: Settings,
+    arrivals: &[Arrival<'_>],
+) -> Result<End, Fail> {
+    let mut receiver = receiver_of(alloc, table, settings, sender.a())?;
+    let told = hear_all(alloc, sender, &mut receiver, arrivals)?;
+    Ok(end_at(table, &receiver, told)?)
+}
+
+/// The same of octets over a table.
+pub(crate) fn end_over(
+    alloc: Global,
+    table: &Table,
+    settings: Settings,
+    octets: &[u8],
+    arrivals: &[Arrival<'_>],
+) -> Result<End, Fail> {
+    let block = few_bits_of(alloc, octets)?;
+    let sender = sender_of(alloc, table, settings, &block)?;
+    end_of(alloc, table, &sender, settings, arrivals)
+}
+
+/// These first bits as arrivals.
+fn arrivals_of<'a>(alloc: Global, firsts: &[First<'a>]) -> Result<Vec<Arrival<'a>>, AllocError> {
+    let mut arrivals = Vec::new(alloc);
+    for (g, heard, flipped) in firsts.iter().copied() {
+        let tx = on_one_layer(0, g, 1);
+        arrivals.push(Arrival { tx, heard, flipped })?;
+    }
+    Ok(arrivals)
+}
+
+/// The same of octets over the practice table of base graph 2, of which first bits are sent.
+pub(crate) fn end_of_firsts(
+    alloc: Global,
+    settings: Settings,
+    octets: &[u8],
+    firsts: &[First<'_>],
+) -> Result<End, Fail> {
+    let table = practice(alloc, 0, 1, false)?;
+    let arrivals = arrivals_of(alloc, firsts)?;
+    end_over(alloc, &table, settings, octets, &arrivals)
+}

@@ -1,0 +1,161 @@
+//! Lists of bits that grow, code blocks that are joined or appended, and interleaving to a list of its own.
+
+use nr_bitvec::Bits;
+use nr_cbconcat::append;
+use nr_graphpick::Graph;
+use nr_interleave::spread;
+use nr_segment::{Plan, join, plan};
+use std::alloc::{AllocError, Global};
+use std::process::Abort;
+use std::test::Fail;
+
+// One word of bits, so that one bit more needs another.
+const OCTETS: [u8; 8] = [0x31, 0x32, 0x33, 0x34, 0x35, 0x36, 0x37, 0x38];
+
+// Whether memory is given, as it is where one growth alone was refused.
+fn has_memory(alloc: Global) -> bool {
+    Bits::with_room(alloc, 64).is_ok()
+}
+
+// That a list has the bits of those octets alone.
+fn is_as_before(rt: &impl Abort, bits: &Bits) {
+    assert!(rt; bits.len() == 64 && bits.octet(0) == 0x31 && bits.octet(56) == 0x38);
+}
+
+// Puts a one behind a short list.
+fn push_one(bits: &mut Bits) -> Result<(), AllocError> {
+    if bits.len() < 1000 {
+        bits.push(true)?;
+    }
+    Ok(())
+}
+
+// The same, again where it is refused.
+fn push_one_again(rt: &impl Abort, alloc: Global, bits: &mut Bits) -> Result<(), AllocError> {
+    let answer = push_one(bits);
+    if answer.is_err() {
+        is_as_before(rt, bits);
+        if has_memory(alloc) {
+            push_one(bits).expect(rt, "memory is there again");
+            ends_in_one(rt, bits);
+        }
+    }
+    answer
+}
+
+// The last seven bits of 38, and 1.
+fn ends_in_one(rt: &impl Abort, bits: &Bits) {
+    assert!(rt; bits.octet(57) == 0x71);
+}
+
+#[test]
+fn pushes(rt: HostRuntime) -> Result<(), AllocError> {
+    let mut bits = Bits::from_bytes(rt.alloc(), &OCTETS)?;
+    push_one_again(&rt, rt.alloc(), &mut bits)?;
+    ends_in_one(&rt, &bits);
+    Ok(())
+}
+
+// Puts a short list behind another.
+fn extend(bits: &mut Bits, more: &Bits) -> Result<(), AllocError> {
+    if bits.len() < 1000 && more.len() < 1000 {
+        bits.extend(more)?;
+    }
+    Ok(())
+}
+
+// The same by the call of code blocks.
+fn append_block(bits: &mut Bits, more: &Bits) -> Result<(), AllocError> {
+    if bits.len() < 1000 && more.len() < 1000 {
+        append(bits, more)?;
+    }
+    Ok(())
+}
+
+// The last four bits of 38 and the first four of 31.
+fn are_twice_the_octets(rt: &impl Abort, bits: &Bits) {
+    assert!(rt; bits.octet(60) == 0x83);
+}
+
+#[test]
+fn extends(rt: HostRuntime) -> Result<(), AllocError> {
+    let more = Bits::from_bytes(rt.alloc(), &OCTETS)?;
+    let mut bits = Bits::from_bytes(rt.alloc(), &OCTETS)?;
+    let answer = extend(&mut bits, &more);
+    if answer.is_err() {
+        is_as_before(&rt, &bits);
+        if has_memory(rt.alloc()) {
+            extend(&mut bits, &more).expect(&rt, "memory is there again");
+            are_twice_the_octets(&rt, &bits);
+        }
+    }
+    answer?;
+    are_twice_the_octets(&rt, &bits);
+    Ok(())
+}
+
+#[test]
+fn appends(rt: HostRuntime) -> Result<(), AllocError> {
+    let more = Bits::from_bytes(rt.alloc(), &OCTETS)?;
+    let mut bits = Bits::from_bytes(rt.alloc(), &OCTETS)?;
+    let answer = append_block(&mut bits, &more);
+    if answer.is_err() {
+        is_as_before(&rt, &bits);
+        if has_memory(rt.alloc()) {
+            append_block(&mut bits, &more).expect(&rt, "memory is there again");
+            are_twice_the_octets(&rt, &bits);
+        }
+    }
+    answer?;
+    are_twice_the_octets(&rt, &bits);
+    Ok(())
+}
+
+// Eight bits in four rows.
+fn spread_eight(alloc: Global, bits: &Bits) -> Result<Bits, AllocError> {
+    if bits.len() == 8 {
+        spread(alloc, 4, bits)
+    } else {
+        Err(AllocError)
+    }
+}
+
+// Rows 01, 11, 00 and 00 of the matrix, read column by column.
+#[test]
+fn spreads(rt: HostRuntime) -> Result<(), AllocError> {
+    let bits = Bits::from_bytes(rt.alloc(), &[0b0111_0000])?;
+    let answer = spread_eight(rt.alloc(), &bits);
+    if answer.is_err() && has_memory(rt.alloc()) {
+        let again = spread_eight(rt.alloc(), &bits);
+        assert!(rt; again.is_ok_and(|bits| bits.octet(0) == 0b0100_1100));
+    }
+    assert!(rt; answer?.octet(0) == 0b0100_1100);
+    Ok(())
+}
+
+// Joins two code blocks, where they have the plan's bits.
+fn join_two(alloc: Global, plan: &Plan, blocks: &[Bits; 2]) -> Result<Bits, AllocError> {
+    let long = plan.kdash as usize;
+    if plan.c == 2 && blocks[0].len() == long && blocks[1].len() == long {
+        join(alloc, plan, blocks)
+    } else {
+        Err(AllocError)
+    }
+}
+
+// 3856 bits with base graph 2 are two code blocks of 1952 bits, each with its CRC, which is zero for zeros.
+#[test]
+fn joins(rt: HostRuntime) -> Result<(), Fail> {
+    let two = plan(Graph::Two, 3856)?;
+    let blocks = [
+        Bits::zeros(rt.alloc(), 1952)?,
+        Bits::zeros(rt.alloc(), 1952)?,
+    ];
+    let answer = join_two(rt.alloc(), &two, &blocks);
+    if answer.is_err() && has_memory(rt.alloc()) {
+        let again = join_two(rt.alloc(), &two, &blocks);
+        assert!(rt; again.is_ok_and(|bits| bits.len() == 3856));
+    }
+    assert!(rt; answer?.len() == 3856);
+    Ok(())
+}

@@ -1,0 +1,273 @@
+//! What table files are read of: sources, their records and fields, and the practice table's file cut short.
+
+ghost use Rattle.std.specs.Prelude.{◌≡◌, ◌≤◌, None};
+
+use crate::practice::practice_text;
+use csv::ByteRecord;
+use nr_graphpick::Graph;
+use nr_shifttable::{
+    Broken, Endless, Feed, ReadFault, Records, Source, Table, TableFault, numeral, read_to_end,
+    short_number, stripped,
+};
+use std::alloc::Global;
+use std::process::Abort;
+use std::test::Fail;
+
+// Reads a source without end: why it is refused, and after how many pulls.
+fn read_endless(alloc: Global, limit: usize) -> (Option<ReadFault>, u32) {
+    let mut source = Endless::new();
+    let fault = read_to_end(alloc, &mut source, limit).err();
+    (fault, source.pulls())
+}
+
+// It is refused at the first octet too many.
+#[test]
+fn a_source_without_end_is_too_long(rt: HostRuntime) {
+    for (limit, pulls) in [(0, 1), (1, 2), (5, 6), (70_000, 70_001)] {
+        let said = read_endless(rt.alloc(), limit);
+        assert!(rt; said == (Some(ReadFault::TooLong), pulls), "limit {limit}");
+    }
+}
+
+// The same of a table file.
+fn read_endless_table(alloc: Global) -> (Option<TableFault>, u32) {
+    let mut source = Endless::new();
+    let fault = Table::read(alloc, &mut source).err();
+    (fault, source.pulls())
+}
+
+// A table file has at most 4,194,304 octets.
+#[test]
+fn a_table_without_end_is_too_long_after_4194305_pulls(rt: HostRuntime) {
+    assert!(rt; read_endless_table(rt.alloc()) == (Some(TableFault::TooLong), 4_194_305));
+}
+
+// A source without end that fails at one pull alone, and counts its pulls.
+#[derive(Drop)]
+struct Failing {
+    pulls: u32,
+    fail: u32,
+    failed: u64,
+}
+
+impl Source for Failing {
+    ghost remaining = { λ _. None };
+
+    ghost failures = { λ source. source.failed };
+
+    fn pull(&mut self, buf: &mut [u8]) -> Result<usize, Broken> {
+        self.pulls = self.pulls.saturating_add(1);
+        if self.pulls == self.fail {
+            self.failed += 1;
+            return Err(Broken);
+        }
+        match buf.first_mut() {
+            Some(octet) => {
+                *octet = b'1';
+                Ok(1)
+            }
+            None => Ok(0),
+        }
+    }
+}
+
+// Reads it: why it is refused, and after how many pulls.
+fn read_failing(alloc: Global, fail: u32) -> (Option<ReadFault>, u32) {
+    let mut source = Failing {
+        pulls: 0,
+        fail,
+        failed: 0,
+    };
+    let fault = read_to_end(alloc, &mut source, 100).err();
+    (fault, source.pulls)
+}
+
+#[test]
+fn a_source_that_failed_is_pulled_no_more(rt: HostRuntime) {
+    for fail in 1..10 {
+        let said = read_failing(rt.alloc(), fail);
+        assert!(rt; said == (Some(ReadFault::Broken), fail), "pull {fail}");
+    }
+}
+
+// Reads a feed of the octets of "shift": their number or the fault.
+fn read_shift(
+    alloc: Global,
+    step: u32,
+    fail: u32,
+    limit: usize,
+) -> Result<Result<usize, ReadFault>, Fail> {
+    let mut feed = Feed::new(Vec::from_slice(alloc, b"shift")?, step.max(1), fail);
+    Ok(read_to_end(alloc, &mut feed, limit).map(|octets| octets.len()))
+}
+
+// A feed gives at most a step a pull, and goes on failing once it has failed.
+#[test]
+fn feeds_are_read_to_their_ends(rt: HostRuntime) -> Result<(), Fail> {
+    for (step, fail, limit, want) in [
+        (1, 0, 5, Ok(5)),
+        (2, 0, 6, Ok(5)),
+        (9, 0, 5, Ok(5)),
+        (1, 0, 4, Err(ReadFault::TooLong)),
+        (9, 0, 4, Err(ReadFault::TooLong)),
+        (1, 1, 5, Err(ReadFault::Broken)),
+        (1, 6, 5, Err(ReadFault::Broken)),
+        (1, 7, 5, Ok(5)),
+        (2, 3, 5, Err(ReadFault::Broken)),
+    ] {
+        assert!(rt;
+            read_shift(rt.alloc(), step, fail, limit)? == want,
+            "step {step} fail {fail}"
+        );
+    }
+    Ok(())
+}
+
+// Takes the next record, if there is one: how many fields it has, and whether its last is this one.
+fn taken(
+    records: &mut Records,
+    row: &mut ByteRecord,
+    last: &[u8],
+) -> Result<Option<(usize, bool)>, Fail> {
+    if records.next(row)? {
+        let at = row.len().saturating_sub(1);
+        Ok(Some((row.len(), row.get(at) == Some(last))))
+    } else {
+        Ok(None)
+    }
+}
+
+// Records of any length, a blank line between two of them, and a quoted comma.
+#[test]
+fn the_records_of_a_text(rt: HostRuntime) -> Result<(), Fail> {
+    let mut records = Records::new(rt.alloc(), b"a,b\n\r\n\"c,d\"\n");
+    let mut row = ByteRecord::new(rt.alloc());
+    for (last, want) in [
+        ("b", Some((2, true))),
+        ("c,d", Some((1, true))),
+        ("", None),
+        ("", None),
+    ] {
+        assert!(rt;
+            taken(&mut records, &mut row, last.as_bytes())? == want,
+            "{last}"
+        );
+    }
+    Ok(())
+}
+
+// The number of a text of at most `most` digits.
+fn number_of(most: usize, text: &str) -> Option<u128> {
+    numeral(most.min(20), text.as_bytes())
+}
+
+#[test]
+fn numbers_that_digits_write(rt: HostRuntime) {
+    for (most, text, want) in [
+        (10, "0", Some(0)),
+        (10, "9999999999", Some(9_999_999_999)),
+        (10, "0000000007", Some(7)),
+        (10, "12345678901", None),
+        (10, "", None),
+        (10, "-1", None),
+        (3, "255", Some(255)),
+        (2, "255", None),
+        (20, "18446744073709551615", Some(18_446_744_073_709_551_615)),
+        (20, "99999999999999999999", Some(99_999_999_999_999_999_999)),
+    ] {
+        assert!(rt; number_of(most, text) == want, "{text}");
+    }
+}
+
+#[test]
+fn short_numbers_have_at_most_ten_digits(rt: HostRuntime) {
+    for (text, want) in [("0065535", Some(65535)), ("00000065535", None)] {
+        assert!(rt; short_number(text.as_bytes()) == want);
+    }
+}
+
+#[test]
+fn blanks_at_both_ends_are_stripped(rt: HostRuntime) {
+    assert!(rt; stripped(b" \t1 2 ") == b"1 2".as_slice());
+}
+
+// Why a table file of these octets is refused.
+fn fault_of(alloc: Global, text: &[u8]) -> Option<TableFault> {
+    Table::of_text(alloc, text).err()
+}
+
+// Why the practice table's file with this text in place of its last record is refused.
+fn fault_ending(alloc: Global, last: &str) -> Result<Option<TableFault>, Fail> {
+    let mut text = practice_text(alloc)?.into_bytes();
+    text.truncate(2677 - 24);
+    text.extend_from_slice(last.as_bytes())?;
+    Ok(fault_of(alloc, &text))
+}
+
+#[test]
+fn the_last_record_cut_short(rt: HostRuntime) -> Result<(), Fail> {
+    for (last, want) in [
+        ("2,41,51,0,0,0,0,0,0,0,0", None),
+        ("2,41,51,0,0,0,0,0,0,0", Some(TableFault::Csv(105))),
+        ("2,41,51,0,0,0,0,0,0,0,", Some(TableFault::Number(105))),
+    ] {
+        assert!(rt; fault_ending(rt.alloc(), last)? == want);
+    }
+    Ok(())
+}
+
+// What the reader answers to the beginning of the practice table's file that has so many whole records and a line of so
+// many commas, with so many digits behind the last of them.
+fn cut_answer(records: u32, commas: u32, digits: u32) -> Option<TableFault> {
+    let whole = match (commas, digits) {
+        (0, 0) => records,
+        (10, 0) => return Some(TableFault::Number(records.saturating_add(1))),
+        (10, _) => records.saturating_add(1),
+        _ if records == 0 => return Some(TableFault::Fields),
+        _ => return Some(TableFault::Csv(records.saturating_add(1))),
+    };
+    match whole {
+        0 => Some(TableFault::Empty),
+        1..=28 => Some(TableFault::Core(Graph::Two)),
+        105 => None,
+        // The last row lacks its own column.
+        _ if whole % 2 == 0 => Some(TableFault::Extension(Graph::Two)),
+        _ => Some(TableFault::MissingRow(Graph::Two)),
+    }
+}
+
+// Reads each beginning of a text, and compares with what is wanted. Answers how many records there are.
+fn read_beginnings(rt: &impl Abort, alloc: Global, text: &[u8]) -> u32 {
+    let (mut records, mut commas, mut digits) = (0_u32, 0_u32, 0_u32);
+    for (at, octet) in text.iter().enumerate() {
+        let want = cut_answer(records, commas, digits);
+        assert!(rt;
+            fault_of(alloc, &text[..at]) == want,
+            "the first {at} octets"
+        );
+        (records, commas, digits) = match *octet {
+            b'\n' => (records.saturating_add(1), 0, 0),
+            b',' => (records, commas.saturating_add(1), 0),
+            _ => (records, commas, digits.saturating_add(1)),
+        };
+    }
+    records
+}
+
+#[test]
+fn each_beginning_of_the_practice_table(rt: HostRuntime) -> Result<(), Fail> {
+    let text = practice_text(rt.alloc())?;
+    assert!(rt; read_beginnings(&rt, rt.alloc(), text.as_bytes()) == 105);
+    Ok(())
+}
+
+#[test]
+fn faults_of_tables_are_written_with_their_numbers(rt: HostRuntime) -> Result<(), Fail> {
+    for (fault, want) in [
+        (TableFault::Number(4_294_967_295), "Number 4294967295"),
+        (TableFault::Memory, "Memory"),
+    ] {
+        assert!(rt; fault.to_string(rt.alloc())?.as_str() == want);
+    }
+    Ok(())
+}
