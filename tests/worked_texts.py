@@ -25,10 +25,12 @@ COUNTING = bytes((place + 1) % 251 for place in range(479))
 # highest rate 37 octets take base graph 1.
 INPUTS = {
     "one.txt": "01\n",
+    "two.txt": "01\naf3c\n",
     "zeros.txt": "00" * 480 + "\n",
     "counting.txt": f"{COUNTING.hex()}\n" * 2,
     "short.txt": f"{COUNTING[:37].hex()}\n",
     "low.toml": "rate2048 = 512\n",
+    "limited.toml": "rate2048 = 1024\nlbrm = 9\n",
     "both.csv": both_graphs(),
     "short.csv": "block,rv,g,qm,nl,erase\n1,0,1056,4,1,-\n",
     # The bits behind the two punctured columns of both code blocks, and then all; and of the same block all, and then all
@@ -36,6 +38,10 @@ INPUTS = {
     "long.csv": "block,rv,g,qm,nl,erase,flip\n1,0,3072,1,1,-,-\n1,2,20544,8,4,-,-\n"
     "2,3,20544,6,2,-,-\n2,1,20544,4,1,-,10300\n",
     "fields.csv": "block,rv,g,qm,nl,erase,flip,mask\n1,0,8,1,1,pcg:42:7,0-3 5,all\n1,0,8,1,1,4 6-7,-,0\n",
+    # All of the buffer of block 01; 24 bits of it, by four a symbol; and places and code blocks by lists.
+    "whole.csv": "block,rv,g,qm,nl,erase\n1,0,184,1,1,-\n",
+    "symbols.csv": "block,rv,g,qm,nl,erase\n1,0,24,4,1,-\n",
+    "lists.csv": "block,rv,g,qm,nl,erase,flip,mask\n1,0,8,1,1,1-2 4,3,0 2\n1,1,8,1,1,pcg:1:7,-,all\n",
     "rounds.csv": "block,rv,g,qm,nl,erase,flip,mask,process,fresh\n1,0,24,1,1,-,-,all,0,1\n1,0,24,1,1,-,-,all,15,1\n"
     "1,0,28,1,1,0-23,-,all,0,0\n1,0,32,1,1,-,-,all,0,1\n",
 }
@@ -116,6 +122,11 @@ attached 1 011021
 code 1 0 011021
 """
 
+CUT_TWO = f"""{CUT_ONE}block 2 a 16 b 32 graph 2 c 1 l 0 kdash 32 kb 6 z 6 set 1 k 60 n 300
+attached 2 af3cfa9f
+code 2 0 af3cfa9f
+"""
+
 CUT_EXAMPLES = f"""{CUT_ONE}block 2 a 8 b 24 graph 2 c 1 l 0 kdash 24 kb 6 z 4 set 0 k 40 n 200
 attached 2 809188
 code 2 0 809188
@@ -164,6 +175,31 @@ FIELDS = {
     "run": "sent 1 1 10\nleft 1 1 0 16\nsent 2 1 10\nleft 2 1 0 16\nblock 1 open tx 2 failed 1 of 1\n"
     "total blocks 1 delivered 0 open 1 contradiction 0 codeblocks 1 failed 1\n",
     "audit": stuck([at for at in range(52) if at in range(10, 14) or at % 10 not in HEARD]),
+}
+
+# The two punctured columns are what peeling fixes.
+WHOLE_BITS = "1021033022000008108800000240220000081088000002"
+WHOLE = {
+    "send": f"sent 1 1 {WHOLE_BITS}\n",
+    "run": f"sent 1 1 {WHOLE_BITS}\nleft 1 1 0 0\nblock 1 delivered tx 1 failed 0 of 1 01\n"
+    "total blocks 1 delivered 1 open 0 contradiction 0 codeblocks 1 failed 0\n",
+    "audit": "order 1 0 8\n",
+}
+
+# 24 bits leave column 1, and with it columns 12 and 13 and the rotations of column 1.
+SYMBOLS = {
+    "send": "sent 1 1 000a51\n",
+    "run": "sent 1 1 000a51\nleft 1 1 0 4\nblock 1 open tx 1 failed 1 of 1\n"
+    "total blocks 1 delivered 0 open 1 contradiction 0 codeblocks 1 failed 1\n",
+    "audit": stuck([1, 12, 13, 21, 31, 41, 51]),
+}
+
+# A buffer of 13 bits, in which both versions begin with columns 2 and 3: five places of them are heard, and then all.
+LISTS = {
+    "send": FIELDS["send"],
+    "run": "sent 1 1 10\nleft 1 1 0 19\nsent 2 1 10\nleft 2 1 0 16\nblock 1 open tx 2 failed 1 of 1\n"
+    "total blocks 1 delivered 0 open 1 contradiction 0 codeblocks 1 failed 1\n",
+    "audit": FIELDS["audit"],
 }
 
 # 24 bits leave column 1, which the last four of 28 bits give, and 32 bits leave nothing.

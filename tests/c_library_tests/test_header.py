@@ -1,4 +1,5 @@
-"""nr.h against the sources of nr_c and of its entries, which the proofs are of: calls, structs and statuses; and what the libraries show."""
+"""nr.h against the sources that the proofs are of: nr_c's exports, the structs and statuses of nr_calls, and a table's
+entries; and what the libraries show."""
 
 import re
 import unittest
@@ -6,9 +7,11 @@ import unittest
 import built
 
 HEADER = re.sub(r"/\*.*?\*/", "", (built.C / "nr.h").read_text(), flags=re.DOTALL)
-SOURCES = "".join(path.read_text() for path in sorted((built.ROOT / "crates" / "nr_c" / "src").glob("**/*.rt")))
-# An entry as a caller keeps it is a struct of nr_shifttable, which nr_c names NrEntry.
-ENTRIES = (built.ROOT / "crates" / "nr_shifttable" / "src" / "entry.rt").read_text()
+CRATES = built.ROOT / "crates"
+EXPORTS = (CRATES / "nr_c" / "src" / "lib.rt").read_text()
+SOURCES = "".join(path.read_text() for path in sorted((CRATES / "nr_calls" / "src").glob("**/*.rt")))
+# An entry as a caller keeps it is a struct of nr_shifttable, which nr_calls names NrEntry.
+ENTRIES = (CRATES / "nr_shifttable" / "src" / "entry.rt").read_text()
 NAMES = ["nr_fault_name"]
 
 # How C writes what Rattle passes.
@@ -34,7 +37,7 @@ def parameter(name, kind):
 def exports():
     """The declarations of nr_c's exports, by name."""
     found = {}
-    for name, given in re.findall(r'pub extern "C" fn (\w+)\((.*?)\) -> u32', SOURCES, flags=re.DOTALL):
+    for name, given in re.findall(r'pub extern "C" fn (\w+)\((.*?)\) -> u32', EXPORTS, flags=re.DOTALL):
         pairs = re.findall(r"(\w+): ([^,]+)", given)
         found[name] = ",".join(parameter(it, kind.strip()) for it, kind in pairs if kind.strip() != "Global")
     return found
@@ -43,7 +46,8 @@ def exports():
 def structs():
     """The fields of the structs that nr_c's exports take, as C declares them: a struct within another is its fields."""
     found = {}
-    for name, body in re.findall(r"#\[repr\(C\)\]\n(?:#[^\n]*\n)*pub struct (\w+) \{(.*?)\n\}", ENTRIES + SOURCES, flags=re.DOTALL):
+    struct = r"#\[repr\(C\)\]\n(?:#[^\n]*\n)*pub struct (\w+) \{(.*?)\n\}"
+    for name, body in re.findall(struct, ENTRIES + SOURCES, flags=re.DOTALL):
         found[name] = []
         for field, many, count, one in re.findall(r"pub (\w+): (?:\[(\w+); (\d+)\]|(\w+)),", body):
             found[name] += found.get(one) or [f"{ITEMS[many or one]} {field}{f'[{count}]' if many else ''}"]

@@ -1,0 +1,69 @@
+"""Answers that were worked by hand from TS 38.212, and those of the catalogues of checks."""
+
+import unittest
+
+import built
+
+TABLE = built.table(built.PRACTICE.read_bytes())
+
+# Of the codeword of octet 01 under the practice table, from the third column on, each column's four bits: of the
+# information columns, 0 1 1 0 2 1 with the CRC, the last four; four columns of fillers; the parity columns 0 3 3 0;
+# and of row 4 on the information column of the row's number modulo 10, rotated to the left by that number.
+FILLER = None
+COLUMNS = [
+    *[1, 0, 2, 1, FILLER, FILLER, FILLER, FILLER, 0, 3, 3, 0],
+    *[2, 2, 0, 0, 0, 0, 0, 8, 1, 0, 8, 8, 0, 0, 0, 0, 0, 2, 4],
+    *[0, 2, 2, 0, 0, 0, 0, 0, 8, 1, 0, 8, 8, 0, 0, 0, 0, 0, 2],
+]
+
+
+def octets_of(column):
+    """What a codeword has for a column."""
+    return [2] * 4 if column is FILLER else [column >> bit & 1 for bit in (3, 2, 1, 0)]
+
+
+class ByHand(unittest.TestCase):
+    """One call a test."""
+
+    def test_crc(self):
+        """The text over which the catalogues give their values."""
+        for poly, check in enumerate([0xCDE703, 0x23EF52, 0x31C3]):
+            room = built.struct()
+            self.assertEqual(built.call("nr_crc", poly, b"123456789", room), 0)
+            self.assertEqual(room.numbers(), [check])
+
+    def test_lengths(self):
+        """3832 bits at the rate 0.25 have two code blocks, of which the second has the longer length (5.4.2.1)."""
+        room = built.Room(2, item=4)
+        self.assertEqual(built.call("nr_lengths", 512, 3832, built.tx(28, qm=4), room), 0)
+        self.assertEqual(room.numbers(), [12, 16])
+
+    def test_buffer(self):
+        """24 bits have 40 with their CRC, so that Zc is 7 and N 350. A limit of 200 bits keeps 300 (5.4.2.1)."""
+        cases = [(0, 1, [350, 91]), (0, 3, [350, 301]), (200, 2, [300, 147]), (1, 3, [1, 0])]
+        for lbrm, rv, wanted in cases:
+            room = built.struct(2)
+            self.assertEqual(built.call("nr_buffer", built.settings(2048, lbrm), 24, rv, room), 0)
+            self.assertEqual(room.numbers(), wanted, f"version {rv}, limit {lbrm}")
+
+    def test_codeword(self):
+        """The 24 bits are octet 01 and its CRC, 1021 in hexadecimal."""
+        bits = bytes(place in (7, 11, 18, 23) for place in range(24))
+        room = built.Room(200)
+        self.assertEqual(built.call("nr_codeword", TABLE, 2048, 8, bits, room), 0)
+        self.assertEqual(list(room.octets()), [octet for column in COLUMNS for octet in octets_of(column)])
+
+    def test_received(self):
+        """The codeword of zeros is zeros. A first transmission is erased, by octets of every kind; the second one is
+        heard whole; and the third one's ones contradict it."""
+        txs = [built.tx(8), built.tx(184), built.tx(8)]
+        heard = bytes([2, 3, 255, 2, 2, 2, 2, 2]) + bytes(184) + b"\1" * 8
+        for count, places, outcomes, left, block in [
+            (1, 8, [0], 24, b"\xa5"),
+            (2, 192, [0, 1], 0, b"\0"),
+            (3, 200, [0, 1, 2], 0, b"\xa5"),
+        ]:
+            found, open_places, room = built.Room(count, item=4), built.Room(1, item=4), built.Room(1)
+            given = built.settings(2048), 8, txs[:count], heard[:places]
+            self.assertEqual(built.call("nr_receive", TABLE, *given, found, open_places, room), 0)
+            self.assertEqual((found.numbers(), open_places.numbers(), room.octets()), (outcomes, [left], block))

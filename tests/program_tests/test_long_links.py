@@ -1,0 +1,74 @@
+"""Limited buffers, starting positions past a buffer's end, and code blocks that are sent one by one, against the other
+model: longer blocks than hands can work."""
+
+import dataclasses
+
+import chain
+from programs import Program, Row
+from texts import counted, eight, lines
+from worked_texts import both_graphs
+
+
+@dataclasses.dataclass(frozen=True)
+class Case:
+    """A link and what is sent over it, and how many of its blocks are delivered, open and contradictions."""
+
+    name: str
+    rate2048: int
+    lbrm: int
+    octets: int
+    transmissions: list
+    outcomes: tuple
+
+    def settings(self):
+        """The text of the settings."""
+        return lines(f"rate2048 = {self.rate2048}", *([f"lbrm = {self.lbrm}"] if self.lbrm else []))
+
+
+def by_starts(g, qm=2):
+    """A transmission from each starting position, of so many bits."""
+    return [chain.Tx(1, rv, g, qm) for rv in (1, 3, 2, 0)]
+
+
+def one_by_one(code_blocks, g):
+    """Each code block by itself, the last one first."""
+    return [chain.Tx(1, 0, g, 4, 1, mask=(r,)) for r in range(code_blocks - 1, -1, -1)]
+
+
+FLIP = frozenset([5])
+CASES = [
+    Case("a whole buffer from each start", 2048, None, 36, by_starts(600), (1, 0, 0)),
+    Case("few bits from each start", 2048, None, 36, by_starts(100), (0, 1, 0)),
+    Case("a buffer of 900 bits of 2000", 2048, 600, 36, by_starts(1000), (1, 0, 0)),
+    Case("a buffer that ends before what is missing", 2048, 200, 36, by_starts(1000), (0, 1, 0)),
+    Case("a buffer of half of two code blocks", 512, 7000, 479, by_starts(12_000), (1, 0, 0)),
+    Case("two code blocks one by one", 512, None, 479, one_by_one(2, 10_272), (1, 0, 0)),
+    Case(
+        "and then one flip of the first",
+        512,
+        None,
+        479,
+        [*one_by_one(2, 10_272), chain.Tx(1, 2, 400, 4, 1, flipped=FLIP, mask=(0,))],
+        (0, 0, 1),
+    ),
+    Case("base graph 1 by its starts", 2048, None, 37, by_starts(600), (1, 0, 0)),
+    Case("base graph 1 with a limit", 2048, 500, 37, by_starts(1000), (1, 0, 0)),
+    Case("four code blocks of Zc 384", 2048, None, 4000, [chain.Tx(1, 0, 4 * 26_000, 8, 2)], (1, 0, 0)),
+    Case("the second of four is left out", 2048, None, 4000, [chain.Tx(1, 0, 78_000, 8, 2, mask=(0, 2, 3))], (0, 1, 0)),
+]
+
+
+class LongLinks(Program):
+    """Against the model."""
+
+    def test_cases(self):
+        for case in CASES:
+            block = counted(case.octets)
+            link = case.rate2048, case.lbrm
+            wanted = chain.texts(both_graphs(), link, [bytes.fromhex(block)], case.transmissions)
+            counts = [wanted["run"].count(f"block 1 {it}") for it in ("delivered", "open", "contradiction")]
+            self.assertEqual(tuple(counts), case.outcomes, case.name)
+            schedule = eight(*map(chain.record, case.transmissions))
+            files = {"table": both_graphs(), "settings": case.settings(), "blocks": block, "schedule": schedule}
+            for command, text in wanted.items():
+                self.check(command, [Row(case.name, text, **files)])

@@ -1,0 +1,114 @@
+"""What `send` writes. The values are worked by hand: under the practice table parity columns are sums and rotations of
+columns that can be written down."""
+
+import functools
+import operator
+
+from programs import Program, Row
+from texts import ALL_OF_01, QUARTER_RATE, counted, eight, lines, six
+from worked_texts import both_graphs
+
+TWO_CODE_BLOCKS = "00" * 479
+ONE_BIT = "rate2048 = 2048\nlbrm = 1\n"
+
+# Block 01 with its CRC is 011021: Zc is 4, so each column of its codeword is a digit. All of the buffer; 24 bits in
+# four rows of six, read by columns; and 40 bits from column 45 on.
+ROWS = [
+    Row(
+        "whole, by four bits a symbol, from column 45, and refused twice",
+        lines(
+            f"sent 1 1 {ALL_OF_01}", "sent 2 1 000a51", "sent 3 1 8000002102", "refused 4 1 Rv", "refused 5 1 Ragged"
+        ),
+        schedule=six("1,0,184,1,1,-", "1,0,24,4,1,-", "1,3,40,1,1,-", "1,4,24,1,1,-", "1,0,30,4,1,-"),
+    ),
+    Row(
+        "two transmissions do not depend on one before them",
+        lines("sent 1 1 000a51", "sent 2 1 8000002102"),
+        schedule=six("1,0,24,4,1,-", "1,3,40,1,1,-"),
+    ),
+    Row("a header alone", ""),
+    Row("a buffer of one bit, which is a zero", "sent 1 1 0\n", settings=ONE_BIT, schedule=six("1,0,4,1,1,-")),
+    Row(
+        "the second of two code blocks alone, and then none",
+        lines("sent 1 1 0", "refused 2 1 NoneScheduled"),
+        settings=QUARTER_RATE,
+        blocks=TWO_CODE_BLOCKS,
+        schedule=eight("1,0,4,4,1,-,-,1", "1,0,4,4,1,-,-,2"),
+    ),
+]
+
+CAUSES = ["Rv", "Order", "Layers", "Total", "Ragged", "NoneScheduled"]
+
+# Each of the six causes, and where several hold the first one.
+REFUSED_TRANSMISSIONS = Row(
+    "the six causes, in their order",
+    lines(
+        *(f"refused {t} 1 {name}" for t, name in enumerate(CAUSES, 1)),
+        *(f"refused {t} 1 {name}" for t, name in enumerate(CAUSES[:5], 7)),
+        "refused 12 1 Total",
+        "sent 13 1 10210330",
+    ),
+    schedule=eight(
+        "1,4,24,1,1,-,-,all",
+        "1,0,24,3,1,-,-,all",
+        "1,0,24,1,5,-,-,all",
+        "1,0,0,1,1,-,-,all",
+        "1,0,30,4,1,-,-,all",
+        "1,0,24,1,1,-,-,1",
+        # From here on all later causes hold too.
+        "1,4,0,3,0,-,-,1",
+        "1,0,0,3,0,-,-,1",
+        "1,0,0,2,0,-,-,1",
+        "1,0,0,2,1,-,-,1",
+        "1,0,23,2,1,-,-,1",
+        "1,0,4194305,1,1,-,-,all",
+        "1,0,32,1,1,-,-,0",
+    ),
+)
+
+
+def digits(g, bits):
+    """The first g bits of a block whose bits behind the punctured columns begin with acff."""
+    return Row(f"{g} bits", f"sent 1 1 {bits}\n", blocks="00000acff0", schedule=six(f"1,0,{g},1,1,-"))
+
+
+# 40 bits have 56 with their CRC and Zc 10: the bits from 20 on are sent first. The last digit is filled with zeros.
+LAST_DIGITS = [
+    digits(1, "8"), digits(4, "a"), digits(5, "a8"), digits(6, "ac"), digits(8, "ac"), digits(9, "ac8"),
+    digits(12, "acf"), digits(13, "acf8"), digits(16, "acff"),
+]
+
+
+class Send(Program):
+    """Against the rows above."""
+
+    def test_rows(self):
+        self.check("send", ROWS)
+
+    def test_refused_transmissions(self):
+        self.check("send", [REFUSED_TRANSMISSIONS])
+
+    def test_the_last_digit(self):
+        self.check("send", LAST_DIGITS)
+
+    def test_all_places_twice(self):
+        """640 bits of block 000001 are the 320 that are ever sent, twice: with the CRC16 1021, in columns of seven."""
+        bits = f"{0x000001:024b}{0x1021:016b}".ljust(70, "0")
+        columns = [bits[7 * k : 7 * k + 7] for k in range(10)]
+        even, odd = (functools.reduce(operator.xor, (int(it, 2) for it in columns[k::2])) for k in range(2))
+        columns += [f"{it:07b}" for it in (0, even, even ^ odd, odd)]
+        for row in range(4, 42):
+            source, turn = columns[row % 10], row % 7
+            columns.append(source[turn:] + source[:turn])
+        sent = "".join(columns[2:])[:26] + "".join(columns[10:])
+        self.assertEqual(len(sent), 320)
+        text = f"sent 1 1 {int(sent, 2):080x}{int(sent, 2):080x}\n"
+        self.check("send", [Row("twice", text, blocks="000001", schedule=six("1,0,640,1,1,-"))])
+
+    def test_two_code_blocks(self):
+        """Of each of two code blocks the 1,536 bits behind the two punctured columns of 208: octets 52 to 243. CRC24B
+        ends them both, and CRC24A stands before it in the second one (5.1)."""
+        block = counted(479)
+        text = f"sent 1 1 {block[104:482]}638c87{block[586:]}0db8742077fa\n"
+        files = {"table": both_graphs(), "settings": QUARTER_RATE, "blocks": block}
+        self.check("send", [Row("octets", text, schedule=six("1,0,3072,1,1,-"), **files)])

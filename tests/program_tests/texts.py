@@ -1,0 +1,95 @@
+"""Texts of files that several tests have."""
+
+import pathlib
+
+EXAMPLES = pathlib.Path(__file__).resolve().parent.parent.parent / "examples"
+
+FULL_RATE = "rate2048 = 2048\n"
+QUARTER_RATE = "rate2048 = 512\n"
+
+HEADERS = {
+    6: "block,rv,g,qm,nl,erase",
+    7: "block,rv,g,qm,nl,erase,flip",
+    8: "block,rv,g,qm,nl,erase,flip,mask",
+    10: "block,rv,g,qm,nl,erase,flip,mask,process,fresh",
+}
+
+
+def lines(*each):
+    """A text of these lines."""
+    return "".join(line + "\n" for line in each)
+
+
+def six(*records):
+    """A schedule of six columns."""
+    return lines(HEADERS[6], *records)
+
+
+def seven(*records):
+    """A schedule of seven columns: the places that are flipped too."""
+    return lines(HEADERS[7], *records)
+
+
+def eight(*records):
+    """A schedule of eight columns: the code blocks that are scheduled too."""
+    return lines(HEADERS[8], *records)
+
+
+def ten(*records):
+    """A schedule of ten columns: HARQ processes with a fresh flag too."""
+    return lines(HEADERS[10], *records)
+
+
+# The practice table: 105 records of base graph 2, in ascending order: the four core rows, and for each further row two
+# entries. Each entry has one value in all sets.
+PRACTICE = (EXAMPLES / "practice.csv").read_text()
+RECORDS = PRACTICE.splitlines()
+
+
+def record(graph, row, column, *values):
+    """A record of a table, of eight values or of one value in all sets."""
+    eight_values = values if len(values) == 8 else values * 8
+    return ",".join(map(str, (graph, row, column, *eight_values)))
+
+
+def practice_with(*changes):
+    """The practice table with these records in place of those at their places, or behind all others."""
+    found = list(RECORDS)
+    for change in changes:
+        place = change.split(",")[:3]
+        found = [it for it in found if it.split(",")[:3] != place] + [change]
+    return lines(*found)
+
+
+# The parity columns of the core rows of base graph 1, and all that its shape asks for in them.
+ONE_CORE = [(0, 22), (0, 23), (1, 22), (1, 23), (1, 24), (2, 24), (2, 25), (3, 22), (3, 25)]
+ONE_CORE_RECORDS = [record(1, row, column, 0) for row, column in ONE_CORE]
+ONE_EXTENSION_RECORDS = [record(1, row, 22 + row, 0) for row in range(4, 46)]
+# A small table of base graph 1, with one information column in the core rows: 55 records.
+LEAST = lines(*(record(1, row, 0, 0) for row in range(4)), *ONE_CORE_RECORDS, *ONE_EXTENSION_RECORDS)
+
+# The bits that are ever sent of block 01 (184), and of the block 000000 (320).
+ALL_OF_01 = "1021033022000008108800000240220000081088000002"
+ALL_OF_ZEROS = "0" * 80
+
+# What `cut` makes of block 01.
+CUT_01 = lines(
+    "block 1 a 8 b 24 graph 2 c 1 l 0 kdash 24 kb 6 z 4 set 0 k 40 n 200", "attached 1 011021", "code 1 0 011021"
+)
+
+
+def stuck(columns, before="stuck 1 0", z=4):
+    """The line of a code block that is stuck on these columns of its codeword, each of z positions."""
+    positions = [z * column + at for column in columns for at in range(z)]
+    return f"{before} {len(positions)} {' '.join(map(str, positions))}"
+
+
+# Where 24 bits of block 01 were heard: column 1 is left, with it columns 12 and 13, and its rotations.
+WITHOUT_COLUMN_1 = [1, 12, 13, 21, 31, 41, 51]
+# Where nothing was heard: all but the fillers, which are columns 6 to 9, and their rotations.
+ALL_BUT_FILLERS = [column for column in range(52) if column in range(10, 14) or column % 10 < 6]
+
+
+def counted(count):
+    """So many octets 1, 2, .. 250, 0, 1, .. as hexadecimal."""
+    return bytes((place + 1) % 251 for place in range(count)).hex()
