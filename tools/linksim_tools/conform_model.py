@@ -1,0 +1,133 @@
+"""A model of the chain of TS 38.212, with one switch a mistake; without a switch it is what the program sends."""
+
+import dataclasses
+import re
+
+from linksim_tools import conform_code as code
+from linksim_tools import conform_match as match
+from linksim_tools import conform_plan as planning
+from linksim_tools.conform_mistakes import FIELDS, of_step
+
+PLANNED = of_step("graph") | of_step("segmentation")
+ATTACHING, CUTTING = of_step("crc"), of_step("crc") | of_step("codecrc")
+ENCODING = of_step("ldpc")
+
+
+@dataclasses.dataclass(frozen=True)
+class Case:
+    """What an encoder is given: the block as text of bits, the settings and one transmission."""
+
+    id: str
+    a: str
+    rate2048: int
+    lbrm: int | None = None
+    rv: int = 0
+    g: int = 1
+    qm: int = 1
+    nl: int = 1
+    mask: str = "all"
+
+
+def scheduled(mask, count):
+    """The code blocks that a mask such as `0 2-3` names, of so many."""
+    if mask == "all":
+        return list(range(count))
+    named = set()
+    for first, last in re.findall(r"([0-9]+)(?:-([0-9]+))?", mask):
+        named.update(range(int(first), min(int(last or first), count - 1) + 1))
+    return sorted(it for it in named if it < count)
+
+
+class Chain:
+    """All that stands between the block of a case and its sent bits, each thing by the name that an answer has for it.
+    What was computed for some switches is kept for others that do not touch it."""
+
+    def __init__(self, tables, case):
+        self.tables, self.case, self.kept = tables, case, {}
+
+    def once(self, name, wrong, compute):
+        """What was computed under this name with these switches, or is computed now."""
+        key = (name, wrong)
+        if key not in self.kept:
+            try:
+                self.kept[key] = compute()
+            except planning.Impossible as impossible:
+                self.kept[key] = impossible
+        if isinstance(self.kept[key], planning.Impossible):
+            raise self.kept[key]
+        return self.kept[key]
+
+    def attached(self, wrong):
+        used = wrong & ATTACHING
+        return self.once("attached", used, lambda: planning.attached(self.case.a, used))
+
+    def plan(self, wrong):
+        b = len(self.attached(wrong))
+        return planning.plan(len(self.case.a), b, self.case.rate2048, wrong & PLANNED)
+
+    def bits(self, wrong):
+        used = wrong & (CUTTING | PLANNED)
+        b, numbers = self.attached(used), self.plan(used)
+        return self.once("bits", used, lambda: planning.code_blocks(b, numbers, used & CUTTING))
+
+    def encoder(self, numbers, wrong):
+        """The encoder of a plan."""
+        graph = numbers["graph"]
+        if graph not in self.tables:
+            raise planning.Impossible("no table")
+        rows = self.tables[graph]
+        name = ("encoder", graph, numbers["z"], numbers["set"])
+        return self.once(name, wrong & ENCODING, lambda: code.Encoder(rows, *name[1:], wrong & ENCODING))
+
+    def d(self, wrong):
+        used = wrong & (CUTTING | PLANNED | ENCODING)
+
+        def compute():
+            numbers = self.plan(used)
+            encoder = self.encoder(numbers, used)
+            return [code.coded(encoder, numbers, bits, used & ENCODING) for bits in self.bits(used)]
+
+        return self.once("d", used, compute)
+
+    def Ncb(self, wrong):
+        numbers, case = self.plan(wrong), self.case
+        length = numbers["n"] + 2 * numbers["z"] * ("punctured-sent" in wrong)
+        return match.buffer_length(numbers, length, case.lbrm, len(self.scheduled(wrong)), wrong)
+
+    def k0(self, wrong):
+        return match.start(self.plan(wrong), self.Ncb(wrong), self.case.rv, wrong)
+
+    def scheduled(self, wrong):
+        found = scheduled("all" if "mask-ignored" in wrong else self.case.mask, self.plan(wrong)["c"])
+        if not found:
+            raise planning.Impossible("no code block is scheduled")
+        return found
+
+    def E(self, wrong):
+        case = self.case
+        return match.lengths(case.g, case.qm, case.nl, self.plan(wrong)["c"], self.scheduled(wrong), wrong)
+
+    def e(self, wrong):
+        def compute():
+            first, length = self.k0(wrong), self.Ncb(wrong)
+            return [match.selected(d, first, length, count, wrong) for d, count in zip(self.d(wrong), self.E(wrong))]
+
+        return self.once("e", wrong - of_step("interleaving") - of_step("concatenation"), compute)
+
+    def f(self, wrong):
+        used = wrong - of_step("concatenation")
+        return self.once("f", used, lambda: [match.spread(e, self.case.qm, used) for e in self.e(used)])
+
+    def graph(self, wrong):
+        return self.plan(wrong)["graph"]
+
+    def sent(self, wrong):
+        return match.joined(self.e(wrong), self.f(wrong), self.case.qm, wrong)
+
+    def value(self, field, wrong=frozenset()):
+        """What stands under a name of an answer."""
+        return getattr(self, field)(wrong)
+
+    def values(self, wrong=frozenset()):
+        """All of them by name."""
+        return {field: self.value(field, wrong) for field in FIELDS}
