@@ -49,5 +49,6 @@ def answers(folder, lines):
 
 
 def words_missing(line):
-    """The programs that a command names, of those that a machine may lack."""
-    return [name for name in ("xxd", "parallel", "awk", "man") if name in line.split() and not shutil.which(name)]
+    """The programs that a command needs, of those that a machine may lack."""
+    needed = {name: name for name in ("xxd", "parallel", "awk", "man", "cc")} | {"./planted": "cc"}
+    return [program for name, program in needed.items() if name in line.split() and not shutil.which(program)]

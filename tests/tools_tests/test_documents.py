@@ -8,7 +8,7 @@ import unittest
 import documents
 import shared
 
-PAGES = ["docs/tables.md", "docs/vectors.md", "docs/mistakes.md", "docs/curves.md"]
+PAGES = ["docs/tables.md", "docs/vectors.md", "docs/mistakes.md", "docs/curves.md", "docs/conformance.md"]
 
 
 class Documents(shared.InFolder):

@@ -1,0 +1,270 @@
+"""`tools/conform check`: forms of answers, statuses, first differences by hand, and answers that cannot be judged."""
+
+import json
+
+import conform_shared
+import shared
+from linksim_tools import conform_answers, conform_bits, conform_report, conform_steps
+from linksim_tools.packing import PACKINGS
+from linksim_tools.program import Failed
+
+
+def answer(name, *fields):
+    """A right answer to a case, of some of the names of its line."""
+    line = conform_shared.lines()[name]
+    return {"id": name} | {field: line[field] for field in fields}
+
+
+class Checked(shared.InFolder):
+    """A test with a file of answers."""
+
+    def answers(self, *answers):
+        """The path of a file of these answers."""
+        lines = [it if isinstance(it, str) else json.dumps(it) for it in answers]
+        return self.file("answers.jsonl", "".join(line + "\n" for line in lines))
+
+    def check(self, *answers, plain=False):
+        """The status and the lines of a check of these answers to a few cases."""
+        found = conform_answers.read(self.answers(*answers), conform_shared.few(), plain)
+        made = conform_report.judged(conform_shared.few(), found)
+        return conform_report.status(made), list(conform_report.text(made))
+
+    def first(self, *answers, **options):
+        """The lines of the first difference."""
+        status, lines = self.check(*answers, **options)
+        self.assertEqual(status, 1)
+        start = next(place for place, line in enumerate(lines) if line.startswith("first difference"))
+        end = next(place for place, line in enumerate(lines) if line.startswith("  cases that fail"))
+        return [line.strip() for line in lines[start:end]]
+
+
+class Right(Checked):
+    """Answers that agree, in every form."""
+
+    def numbers(self, step, lines):
+        """How many cases pass, fail and were not answered in a step."""
+        return [int(it) for it in next(line for line in lines if line.startswith(step)).split()[-3:]]
+
+    def test_the_suite_itself(self):
+        path = self.answers(*conform_shared.lines().values())
+        status, output, error = conform_shared.conform("check", conform_shared.suite_path(), path)
+        lines = output.splitlines()
+        self.assertEqual(error, "")
+        count = len(conform_shared.lines())
+        self.assertEqual((status, lines[-1]), (0, "all that was answered agrees"))
+        self.assertEqual([self.numbers(step, lines) for step, _ in conform_steps.STEPS.values()], [[count, 0, 0]] * 10)
+
+    def test_some_names_alone(self):
+        numbers = {"id": "kb-192", "k0": 0, "plan": {"z": 32}}
+        status, lines = self.check(answer("kb-560", "sent"), answer("kb-640", "plan"), numbers)
+        count = len(conform_shared.FEW)
+        self.assertEqual(status, 0)
+        self.assertEqual(self.numbers("concatenation", lines), [1, 0, count - 1])
+        self.assertEqual(self.numbers("segmentation", lines), [2, 0, count - 2])
+        self.assertEqual(self.numbers("base graph", lines), [1, 0, count - 1])
+        self.assertEqual(self.numbers("buffer and k0", lines), [1, 0, count - 1])
+
+    def test_nothing(self):
+        self.assertEqual(self.check()[0], 0)
+        self.assertEqual(self.check()[1][-1], "nothing was answered")
+
+    def test_forms(self):
+        name = "mask-hole"
+        right = conform_shared.suite().values[name]
+        for form, pack in PACKINGS.items():
+            def packed(text):
+                return {"count": len(text), form: pack(list(map(int, text)))}
+
+            value = {"id": name, "attached": packed(right["attached"]), "sent": packed(right["sent"])}
+            value |= {it: [packed(part) for part in right[it]] for it in ("bits", "e", "f")}
+            value |= {"E": right["E"], "d": right["d"]}
+            with self.subTest(form):
+                self.assertEqual(self.check(value)[0], 0)
+        one = conform_shared.suite().values["kb-560"]
+        single = {"id": "kb-560", "d": [None if bit == "-" else int(bit) for bit in one["d"][0]]}
+        single |= {"E": one["E"][0], "e": one["e"][0]}
+        self.assertEqual(self.check(single)[0], 0)
+
+    def test_plain(self):
+        right = conform_shared.suite().values["mask-hole"]
+        words = {"id": "mask-hole", **right["plan"]} | {name: right[name] for name in ("attached", "k0", "Ncb", "sent")}
+        words |= {name: ",".join(map(str, right[name])) for name in ("E", "bits", "d", "e", "f")}
+        status, lines = self.check(" ".join(f"{name} {value}" for name, value in words.items()), plain=True)
+        self.assertEqual(status, 0)
+        self.assertEqual(self.numbers("interleaving", lines)[0], 1)
+
+    def test_json_and_html(self):
+        page = self.folder / "report.html"
+        path = self.answers(*(conform_shared.lines()[name] for name in conform_shared.FEW))
+        status, output, _ = conform_shared.conform("check", conform_shared.few_path(), path, "--json", "--html", page)
+        self.assertEqual(status, 0)
+        made = json.loads(output)
+        self.assertEqual((made["first"], made["diagnosis"], made["steps"]["ldpc"]["fail"]), (None, [], 0))
+        self.assertIn("All that was answered agrees", page.read_text())
+
+
+class Differences(Checked):
+    """The first difference of each step, in the terms of its clause."""
+
+    def changed(self, name, field, place, r=0):
+        """A right answer to a case with one bit changed: of a code block or of the list."""
+        right = conform_shared.suite().values[name][field]
+        text = right if isinstance(right, str) else right[r]
+        text = text[:place] + {"0": "1", "1": "0", "-": "0"}[text[place]] + text[place + 1 :]
+        return {"id": name, field: text if isinstance(right, str) else right[:r] + [text] + right[r + 1 :]}
+
+    def test_crc(self):
+        lines = self.first(self.changed("kb-560", "attached", 546))
+        self.assertEqual(lines[0], "first difference, step CRC, in the smallest case that fails: kb-560")
+        self.assertRegex(lines[2], r"bit 546 is [01], right is [01]: parity bit p_2 of 16 \(5.1\)")
+        self.assertIn("bit a_5 of the block itself", self.first(self.changed("kb-560", "attached", 5))[2])
+
+    def test_plan(self):
+        lines = self.first({"id": "kb-560", "plan": {"graph": 1, "z": 64}})
+        self.assertEqual(lines[2], "base graph 1, right is 2: A = 544, R = 1024 / 2048 (6.2.2, 7.2.2)")
+        lines = self.first({"id": "kb-560", "plan": {"graph": 2, "z": 64, "set": 0, "kb": 8}})
+        wanted = ["Zc is 64, right is 72 (5.2.2, 5.3.2)", "the set index is 0, right is 4 (5.2.2, 5.3.2)"]
+        self.assertEqual(lines[2:], wanted)
+
+    def test_code_blocks(self):
+        plan = conform_shared.suite().values["mask-hole"]["plan"]
+        part = plan["kdash"] - 24
+        lines = self.first(self.changed("mask-hole", "bits", part + 3, r=1))
+        self.assertEqual(lines[3], "it is parity bit p_3 of the code block's CRC24B (5.1, 5.2.2)")
+        lines = self.first(self.changed("mask-hole", "bits", 7, r=2))
+        self.assertEqual(lines[3], f"it is bit b_{2 * part + 7} of the block with its CRC (5.2.2)")
+        self.assertIn("the bits of 1 code blocks, right is C = 3", self.first({"id": "mask-hole", "bits": ["01"]})[2])
+
+    def test_codeword(self):
+        z = 72
+        lines = self.first(self.changed("kb-560", "d", 3 * z + 11))
+        self.assertIn(f"column j = 5, bit t = 11 of Zc = {z}: bit {5 * z + 11} of the code block", lines[3])
+        lines = self.first(self.changed("kb-560", "d", 8 * z + 5))
+        self.assertIn(f"column j = 10, bit t = 5 of Zc = {z}; the sum of rows 0 to 3 fixes it", lines[3])
+        self.assertEqual(len(lines), 8)
+        for column, row in ((11, 0), (13, 2), (14, 4), (51, 41)):
+            lines = self.first(self.changed("kb-560", "d", (column - 2) * z + 1))
+            self.assertIn(f"column j = {column}, bit t = 1 of Zc = {z}; row {row} fixes it", lines[3])
+            entries = conform_shared.entries(2)
+            wanted = [f"{at}:{values[4] % z}" for (number, at), values in sorted(entries.items()) if number == row]
+            self.assertEqual(lines[4], f"row {row}, set 4, column:P = {' '.join(wanted)}")
+        lines = self.first(self.changed("kb-560", "d", 560 - 2 * z))
+        self.assertIn("bit 416 is 0, right is a filler", lines[2])
+
+    def test_buffer_and_lengths(self):
+        lines = self.first({"id": "limited-2-rv1", "Ncb": 70, "k0": 7})
+        self.assertRegex(lines[2], r"Ncb is 70, right is \d+: N = 350, TBS_LBRM = \d+, C = 1 \(5.4.2.1\)")
+        lines = self.first({"id": "limited-2-rv1", "k0": 8})
+        self.assertRegex(lines[2], r"k0 is 8, right is 7: rv = 1, Ncb = \d+, Zc = 7 \(Table 5.4.2.1-2\)")
+        lines = self.first({"id": "shares-zero", "E": [2, 0, 2]})
+        self.assertEqual(lines[2], "E of code block r = 0 is 2, right is 0 (5.4.2.1)")
+        self.assertIn("E of 2 code blocks, right is C = 3", self.first({"id": "shares-zero", "E": [2, 2]})[2])
+
+    def test_selection_and_interleaving(self):
+        right = conform_shared.suite().values["fillers-2"]
+        systematic = 40 - 2 * 7
+        lines = self.first(self.changed("fillers-2", "e", systematic))
+        self.assertIn(f"e_{systematic} is d_{70 - 14} (k0 = 0, Ncb = 350; 5.4.2.1): column j = 10, bit t = 0", lines[3])
+        columns = len(right["e"][0]) // 2
+        lines = self.first(self.changed("fillers-2", "f", 5))
+        self.assertIn(f"symbol 2, bit 1 of Qm = 2: f_5 is e_{columns + 2} (E / Qm = {columns}; 5.4.2.2)", lines[3])
+        count, = conform_shared.suite().values["limited-2-n"]["E"]
+        lines = self.first(self.changed("limited-2-n", "e", count - 1))
+        self.assertIn(", in round 3 (", lines[3])
+
+    def test_sent(self):
+        right = conform_shared.suite().values["mask-hole"]
+        lines = self.first(self.changed("mask-hole", "sent", right["E"][0] + 6))
+        self.assertEqual(lines[3], "it is f_6 of code block r = 2 (5.5)")
+        self.assertIn("symbol 1, bit 2 of Qm = 4: f_6 is e_", lines[4])
+
+    def test_too_few_and_too_many_bits(self):
+        right = conform_shared.suite().values["kb-560"]
+        lines = self.first({"id": "kb-560", "sent": right["sent"][:100]})
+        wanted = f"the bits sent: 100 bits, right are {len(right['sent'])}; the first 100 agree (5.5)"
+        self.assertEqual(lines[2], wanted)
+        lines = self.first({"id": "kb-560", "attached": right["attached"] + "01"})
+        wanted = "b, the block with its CRC: 562 bits, right are 560; the first 560 agree (6.2.1, 7.2.1)"
+        self.assertEqual(lines[2], wanted)
+        lines = self.first({"id": "kb-560", "d": "10"[int(right["d"][0][0])] + right["d"][0]})
+        self.assertEqual(lines[2], "d of code block r = 0: 3601 bits, right are 3600; the first 0 agree")
+        self.assertEqual(lines[3], "it is column j = 2, bit t = 0 of Zc = 72: bit 144 of the code block")
+
+
+class Unjudged(Checked):
+    """Answers that cannot be judged: one line that says why, and status 2."""
+
+    def refused(self, said, *lines, plain=False):
+        """These lines are refused in one line that ends so."""
+        path = self.answers(*lines)
+        with self.assertRaises(Failed) as refused:
+            conform_answers.read(path, conform_shared.few(), plain)
+        self.assertEqual(str(refused.exception), f"{path} line {len(lines)}: {said}")
+
+    def test_lines(self):
+        self.refused("not JSON: Expecting value: line 1 column 1 (char 0)", "attached")
+        self.refused("no JSON object", "[1]")
+        self.refused("no id", "{}")
+        self.refused("no id", '{"id": 3}')
+        self.refused("the suite has no case kb-9", '{"id": "kb-9"}')
+        self.refused("case kb-560 was answered before", '{"id": "kb-560"}', "", '{"id": "kb-560"}')
+        self.refused("case kb-560: a name that is none: bit", '{"id": "kb-560", "bit": 1}')
+
+    def test_a_long_line(self):
+        most = conform_shared.lines()
+        self.assertGreater(10_000_000, max(len(json.dumps(it)) for it in most.values()))
+        path = self.file("answers.jsonl", '{"id": "' + "x" * 10_000_000 + '"}\n')
+        status, _, error = conform_shared.conform("check", conform_shared.few_path(), path)
+        self.assertEqual(status, 2)
+        self.assertRegex(error, r"line 1: longer than \d+ octets, and no answer of this suite can be\n$")
+
+    def test_values(self):
+        for said, value in {
+            "attached says 24 bits, and its hex has 20": {"attached": {"count": 24, "hex": "01102"}},
+            "attached has other characters than hexadecimal digits": {"attached": {"count": 24, "hex": "0x1102"}},
+            "sent has other characters than 0, 1 and, for a filler, -": {"sent": "0102"},
+            "sent is no list of 0, 1 and, for a filler, null": {"sent": [0, 2]},
+            "e is no list of octets": {"e": {"count": 8, "octets": [256]}},
+            "e of code block 1 is no list of words such as 0x0a1b2c3d": {"e": ["", {"count": 8, "le32": ["0a"]}]},
+            "k0 is no whole number": {"k0": "0"},
+            "E is no whole number": {"E": [1.5]},
+            "k0 is not the same in all code blocks": {"k0": [0, 1]},
+            "plan.z is no whole number": {"plan": {"z": None}},
+            "codeblocks is no list of objects": {"codeblocks": {}},
+            "codeblocks is not in the order r = 0, 1, ..": {"codeblocks": [{"r": 1}]},
+            "codeblocks has a name that is none: x": {"codeblocks": [{"r": 0, "x": 1}]},
+            "codeblocks has d for some code blocks alone": {"codeblocks": [{"d": [0]}, {}]},
+        }.items():
+            with self.subTest(said):
+                self.refused("case kb-560: " + said, json.dumps({"id": "kb-560"} | value))
+        forms = ", ".join(f'"{name}"' for name in conform_bits.READERS)
+        said = f'case kb-560: f is no object of "count" and one of {forms}'
+        self.refused(said, '{"id": "kb-560", "f": {"hex": "00"}}')
+        said = "case kb-560: plan has other names than a, b, graph, c, l, kdash, kb, z, set, k, n"
+        self.refused(said, '{"id": "kb-560", "plan": 3}')
+
+    def test_plain(self):
+        self.refused("an odd number of words: each name has one value", "id kb-560 k0", plain=True)
+        self.refused("k0 is no whole number: -1", "id kb-560 k0 -1", plain=True)
+        self.refused("k0 stands there twice", "id kb-560 k0 1 k0 1", plain=True)
+        said = "case kb-560: sent has other characters than 0, 1 and, for a filler, -"
+        self.refused(said, "id kb-560 sent 0a", plain=True)
+        self.refused("case kb-560: a name that is none: rv", "id kb-560 rv 0", plain=True)
+
+    def test_files(self):
+        nowhere = "tools/conform: /nowhere cannot be read: No such file or directory\n"
+        path = self.answers("[1]")
+        status, output, error = conform_shared.conform("check", conform_shared.few_path(), path)
+        self.assertEqual((status, output, error), (2, "", f"tools/conform: {path} line 1: no JSON object\n"))
+        status, output, error = conform_shared.conform("check", conform_shared.few_path(), "/nowhere")
+        self.assertEqual((status, output, error), (2, "", nowhere))
+        status, _, error = conform_shared.conform("check", "/nowhere", "/nowhere")
+        self.assertEqual((status, error), (2, nowhere))
+        status, _, error = conform_shared.conform("check")
+        self.assertEqual(status, 2)
+        self.assertIn("usage:", error)
+        path = self.file("answers.jsonl", '{"id": "kb-560"}\n')
+        words = ["check", conform_shared.few_path(), path, "--html", "/nowhere/page.html"]
+        status, _, error = conform_shared.conform(*words)
+        said = "tools/conform: /nowhere/page.html cannot be written: No such file or directory\n"
+        self.assertEqual((status, error), (2, said))

@@ -1,0 +1,175 @@
+"""`tools/conform suite`: every point of the clauses has a case, and cases are what the program and other models say."""
+
+import json
+import os
+import unittest
+
+import conform_shared
+import encoder
+import shared
+from linksim_tools import conform_design, conform_points, conform_suite, program
+
+# The most cases of a profile.
+MOST = {"quick": 150, "full": 1200}
+
+
+class Points(unittest.TestCase):
+    """The design, which needs no program."""
+
+    def covered(self, profile):
+        """By case the points that it covers."""
+        return {case.id: conform_points.covered(case) for case in conform_design.designed(profile, 1)}
+
+    def test_names(self):
+        names = [point.name for part in conform_points.PARTS for point in part()]
+        self.assertEqual(len(names), len(set(names)))
+        self.assertEqual(set(names), set(conform_points.POINTS))
+
+    def test_every_point_has_a_case(self):
+        for profile, most in MOST.items():
+            found = self.covered(profile)
+            self.assertLessEqual(len(found), most)
+            document = (shared.ROOT / "docs" / "conformance.md").read_text()
+            self.assertTrue(f"| `{profile}` | {len(found)} |" in document)
+            self.assertTrue(all(found.values()))
+            wanted = {name for name, point in conform_points.POINTS.items() if profile == "full" or not point.long}
+            self.assertEqual(wanted - set().union(*found.values()), set(), profile)
+
+    def test_full_has_the_cases_of_quick(self):
+        self.assertLess(set(conform_design.designed("quick", 7)), set(conform_design.designed("full", 7)))
+
+    def test_long_blocks_stand_in_full_alone(self):
+        longest = {name: max(len(case.a) for case in conform_design.designed(name, 1)) for name in MOST}
+        self.assertGreater(longest["full"], 1_310_000)
+        self.assertLess(longest["quick"], 30_000)
+
+    def test_lifting_sizes(self):
+        sizes = conform_points.first_sizes()
+        self.assertEqual([z for graph, z in sizes if graph == 1][:3], [15, 16, 18])
+        missing = {2, 3, 5, 9, 13}
+        self.assertEqual({z for graph, z in sizes if graph == 2}, set(conform_points.planning.SIZES) - missing)
+
+    def test_command(self):
+        status, output, error = conform_shared.conform("points")
+        self.assertEqual((status, error), (0, ""))
+        lines = [line.split() for line in output.splitlines()]
+        self.assertEqual(lines[0][:3], ["point", "quick", "full"])
+        self.assertEqual([line[0] for line in lines[1:]], list(conform_points.POINTS))
+        self.assertTrue(all(int(line[2]) >= int(line[1]) and int(line[2]) > 0 for line in lines[1:]))
+
+
+class Suite(shared.InFolder):
+    """The suite as it is written."""
+
+    maxDiff = 1000
+
+    def test_head_and_order(self):
+        head, *cases = map(json.loads, conform_shared.suite_path().read_text().splitlines())
+        self.assertEqual((head["conform"], head["profile"], head["seed"], head["cases"]), (1, "quick", 1, len(cases)))
+        designed = conform_design.designed("quick", 1)
+        self.assertEqual([case["id"] for case in cases], [case.id for case in designed])
+        self.assertEqual([case["covers"] for case in cases], [conform_points.covered(case) for case in designed])
+
+    def test_a_case_is_a_vector(self):
+        for name in ("kb-560", "limited-floor", "mask-hole"):
+            case = conform_shared.lines()[name]
+            limit = f"lbrm = {case['lbrm']}\n" if case["lbrm"] is not None else ""
+            settings = self.file("settings.toml", f"rate2048 = {case['rate2048']}\n{limit}")
+            words = [f"--{key}={value}" for key, value in case["transmission"].items()]
+            blocks = self.file("blocks", case["a"]["hex"] + "\n")
+            files = ["--table", conform_shared.table(), "--settings", settings, "--blocks", blocks]
+            status, output, error = shared.tool("vectors", *files, *words)
+            self.assertEqual((status, error), (0, ""))
+            self.assertEqual(json.loads(output), {key: it for key, it in case.items() if key not in ("id", "covers")})
+            status, output, _ = conform_shared.conform("show", conform_shared.suite_path(), name)
+            self.assertEqual((status, json.loads(output)), (0, case))
+
+    def test_against_another_encoder(self):
+        suite = conform_shared.suite()
+        entries = {graph: conform_shared.entries(graph) for graph in (1, 2)}
+        for name in list(suite.cases)[::9]:
+            with self.subTest(name):
+                case, right = suite.cases[name], suite.values[name]
+                plan = right["plan"]
+                b = encoder.attached(list(map(int, case.a)))
+                self.assertEqual(right["attached"], "".join(map(str, b)))
+                for bits, d, count, e, f in zip(*(right[it] for it in ("bits", "d", "E", "e", "f"))):
+                    info = list(map(int, bits)) + [0] * (plan["k"] - plan["kdash"])
+                    columns = plan["k"] // plan["z"]
+                    word = encoder.codeword(entries[plan["graph"]], columns, plan["set"], plan["z"], info)
+                    word[plan["kdash"] : plan["k"]] = [None] * (plan["k"] - plan["kdash"])
+                    word = word[2 * plan["z"] :]
+                    self.assertEqual(d, "".join("-" if bit is None else str(bit) for bit in word))
+                    selected = encoder.selected(word, right["k0"], right["Ncb"], count)
+                    self.assertEqual(e, "".join(map(str, selected)))
+                    self.assertEqual(f, "".join(map(str, encoder.interleaved(selected, case.qm))))
+
+    def test_quick_is_quick(self):
+        before = os.times()
+        self.assertEqual(shared.tool("conform", "suite", "--table", conform_shared.table(), "--seed=9")[0], 0)
+        after = os.times()
+        used = [getattr(after, name) - getattr(before, name) for name in ("children_user", "children_system")]
+        self.assertLess(sum(used), 10)
+
+    def test_seeds_and_packings(self):
+        words = ["suite", "--table", shared.EXAMPLES / "practice.csv", "--seed=2", "--pack=le32"]
+        status, output, error = shared.tool("conform", *words)
+        self.assertEqual(status, 0)
+        self.assertIn("the table lacks base graph 1: ", error)
+        cases = [json.loads(line) for line in output.splitlines()[1:]]
+        other = conform_shared.lines()
+        self.assertTrue(all(case["plan"]["graph"] == 2 for case in cases))
+        self.assertTrue(all(case["attached"]["le32"][0].startswith("0x") for case in cases))
+        path = self.file("suite.jsonl", output)
+        read = conform_suite.read(path)
+        self.assertEqual([len(read.cases), read.profile], [len(cases), "quick"])
+        one = read.cases["limit-8-511"].a
+        self.assertNotEqual(int(one, 2), int(other["limit-8-511"]["a"]["hex"], 16))
+
+    def test_the_model_is_the_program_on_every_case(self):
+        """All cases of `full`; a suite is written only where the model has the program's bits."""
+        path, tables = conform_shared.table(), conform_suite.table_of(shared.program(), conform_shared.table())
+        cases = conform_suite.cases_of(tables, "full", 3)
+        self.assertEqual(len(cases), len(conform_design.designed("full", 3)))
+        count = sum(1 for _ in conform_suite.judged(shared.program(), path, tables, cases))
+        self.assertEqual(count, len(cases))
+
+    def test_another_model_is_no_suite(self):
+        tables = conform_suite.table_of(shared.program(), conform_shared.table())
+        tables[2][20] = [(column, tuple(value + 1 for value in values)) for column, values in tables[2][20]]
+        case = conform_shared.suite().cases["kb-560"]
+        with self.assertRaisesRegex(program.Failed, "case kb-560: d is not as the model has it"):
+            list(conform_suite.judged(shared.program(), conform_shared.table(), tables, [case]))
+
+
+class Refused(shared.InFolder):
+    """What is no suite, and no table."""
+
+    def refused(self, said, text):
+        words = ["check", self.file("suite.jsonl", text), self.file("answers.jsonl", "")]
+        status, output, error = conform_shared.conform(*words)
+        self.assertEqual((status, output, error.count("\n")), (2, "", 1))
+        self.assertIn(said, error)
+
+    def test_suites(self):
+        head, case = conform_shared.suite_path().read_text().splitlines()[:2]
+        self.refused("is no suite: its first line", "")
+        self.refused("line 1: not JSON", "suite\n")
+        self.refused("is no suite: its first line", case + "\n")
+        self.refused("line 2: no JSON object", head + "\n[]\n")
+        self.refused("line 2: no case of a suite: 'transmission'", head + '\n{"id": "x"}\n')
+        changed = json.loads(case) | {"plan": {"a": 8}}
+        self.refused("line 2: no case of a suite: 'b'", f"{head}\n{json.dumps(changed)}\n")
+        self.refused("no whole suite: it has 1 cases of", head + "\n" + case + "\n")
+        for table in (3, [], [[2, 0, 0]], json.loads(head)["table"][1:300], [[3] + [0] * 10]):
+            self.refused("has no table", json.dumps(json.loads(head) | {"table": table}) + "\n")
+
+    def test_tables_and_cases(self):
+        status, _, error = shared.tool("conform", "suite", "--table", "/nowhere")
+        self.assertEqual((status, error), (2, "tools/conform: linksim: refused: table Read\n"))
+        status, _, error = conform_shared.conform("suite", "--table", "/nowhere", "--program", "/nowhere")
+        self.assertEqual((status, error.count("no program at")), (2, 1))
+        status, _, error = conform_shared.conform("show", conform_shared.suite_path(), "none")
+        self.assertEqual((status, error), (2, f"tools/conform: {conform_shared.suite_path()} has no case none\n"))
+        status, _, error = conform_shared.conform("mistakes", "/nowhere")
+        self.assertEqual((status, error), (2, "tools/conform: /nowhere cannot be read: No such file or directory\n"))
