@@ -1,5 +1,7 @@
-/* The names of the statuses: nr_fault_name. */
+/* The names of the statuses, nr_fault_name; and the version, nr_version. */
 #include "nr.h"
+
+const char *nr_version(void) { return NR_VERSION; }
 
 const char *nr_fault_name(uint32_t status) {
     switch (status) {

@@ -23,7 +23,12 @@
 #include <stddef.h>
 #include <stdint.h>
 
-#define NR_VERSION "2.0.0"
+/* The project's version, which stands in the file VERSION; and the number of the library's interface, as in libnr.so.2. */
+#define NR_VERSION "0.1.0"
+#define NR_VERSION_MAJOR 0
+#define NR_VERSION_MINOR 1
+#define NR_VERSION_PATCH 0
+#define NR_INTERFACE 2
 
 #ifdef __cplusplus
 extern "C" {
@@ -73,6 +78,9 @@ enum NrStatus {
 /* The fault's name, as "NoBuffer" of NR_NO_BUFFER: the program linksim's, where it has the fault (docs/formats.md). It is "Ok" of 0,
    and "unknown" of a number that is no status. */
 const char *nr_fault_name(uint32_t status);
+
+/* The version of the library that is linked, as "0.1.0": NR_VERSION is that of the header. */
+const char *nr_version(void);
 
 /* What both ends of a link are set to. */
 typedef struct NrSettings {

@@ -309,6 +309,7 @@ def _load():
     octets, number, place = [ctypes.c_void_p, ctypes.c_size_t], ctypes.c_uint32, ctypes.c_void_p
     for name, takes in {
         "nr_fault_name": [number],
+        "nr_version": [],
         "nr_table_check": [*octets, place],
         "nr_table_entries": [*octets, *octets, place],
         "nr_plan": [number, number, place],
@@ -320,8 +321,9 @@ def _load():
         "nr_receive": [*octets, place, number, *[*octets] * 5],
     }.items():
         call = getattr(library, name)
-        call.argtypes, call.restype = takes, ctypes.c_char_p if name == "nr_fault_name" else number
+        call.argtypes, call.restype = takes, ctypes.c_char_p if name in ("nr_fault_name", "nr_version") else number
     return library
 
 
 _library = _load()
+__version__ = _library.nr_version().decode()

@@ -12,7 +12,9 @@ EXPORTS = (CRATES / "nr_c" / "src" / "lib.rt").read_text()
 SOURCES = "".join(path.read_text() for path in sorted((CRATES / "nr_calls" / "src").glob("**/*.rt")))
 # An entry as a caller keeps it is a struct of nr_shifttable, which nr_calls names NrEntry.
 ENTRIES = (CRATES / "nr_shifttable" / "src" / "entry.rt").read_text()
-NAMES = ["nr_fault_name"]
+# The calls that C has alone.
+NAMES = ["nr_fault_name", "nr_version"]
+VERSION = (built.ROOT / "VERSION").read_text().strip()
 
 # How C writes what Rattle passes.
 ITEMS = {"u8": "uint8_t", "u16": "uint16_t", "u32": "uint32_t", "u64": "uint64_t", "usize": "size_t"}
@@ -85,6 +87,14 @@ class Header(unittest.TestCase):
     def test_names(self):
         names = {name: number for number in range(1000) if (name := built.module().fault_name(number)) != "unknown"}
         self.assertEqual(names, statuses() | {"Ok": 0})
+
+    def test_version(self):
+        """The header, the library and the module have the version of the file VERSION, and the name has the interface."""
+        defined = dict(re.findall(r"#define (NR_VERSION\w*|NR_INTERFACE) (\S+)", HEADER))
+        numbers = [defined[f"NR_VERSION_{part}"] for part in ("MAJOR", "MINOR", "PATCH")]
+        self.assertEqual((defined["NR_VERSION"], ".".join(numbers)), (f'"{VERSION}"', VERSION))
+        self.assertEqual(built.module().__version__, VERSION)
+        self.assertEqual(f"libnr.so.{defined['NR_INTERFACE']}", built.LIBRARY.name)
 
 
 class Libraries(unittest.TestCase):

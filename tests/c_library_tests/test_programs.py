@@ -14,7 +14,7 @@ WRAPPED = [f"-Wl,--wrap={name}" for name in ("malloc", "calloc", "realloc", "fre
 SANITIZERS = ["-fsanitize=address,undefined", "-fno-sanitize-recover=all", "-g"]
 CMAKE = """cmake_minimum_required(VERSION 3.10)
 project(erasures C)
-find_package(nr REQUIRED)
+find_package(nr 2 REQUIRED)
 add_executable(erasures {example})
 target_link_libraries(erasures nr::{target})
 """
@@ -101,12 +101,16 @@ class Examples(InFolder):
         built.done(["make", "-C", built.C, f"NR_C={built.archive()}", f"OUT={self.folder / 'made'}", *words])
 
     def test_installed(self):
-        stage = self.folder / "stage"
+        stage = self.folder / "a stage"
         self.make("install", f"DESTDIR={stage}", "PREFIX=/usr")
         found = {str(path.relative_to(stage / "usr")) for path in stage.glob("**/*") if not path.is_dir()}
         names = ["libnr.a", "libnr.so", "libnr.so.2", "pkgconfig/nr.pc", "cmake/nr/nrConfig.cmake"]
+        names.append("cmake/nr/nrConfigVersion.cmake")
         self.assertEqual(found, {"include/nr.h", "share/nr/nr.py", *(f"lib/{name}" for name in names)})
         self.assertIn("prefix=/usr\n", (stage / "usr" / "lib" / "pkgconfig" / "nr.pc").read_text())
+        self.assertEqual((stage / "usr" / "lib" / "libnr.so.2").stat().st_mode & 0o777, 0o644)
+        self.make("uninstall", f"DESTDIR={stage}", "PREFIX=/usr")
+        self.assertEqual([path for path in stage.glob("**/*") if not path.is_dir()], [])
 
     def test_pkg_config(self):
         built.needs("pkg-config")

@@ -47,6 +47,12 @@ class Tools(unittest.TestCase):
 class Help(unittest.TestCase):
     """Against the help texts of the program."""
 
+    def test_version(self):
+        """The program and its man page have the version of the file VERSION."""
+        said = f"linksim {(shared.ROOT / 'VERSION').read_text()}"
+        self.assertEqual(shared.linksim("--version"), said)
+        self.assertIn(f'"{said.strip()}"', MANUAL.read_text().splitlines()[0])
+
     def test_help_is_understood(self):
         self.assertEqual(helps()["cut"], {"--blocks", "--rate", "-h", "--help"})
         self.assertEqual(helps()[""], {"-h", "--help", "-V", "--version"})
