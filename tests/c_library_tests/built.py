@@ -2,7 +2,7 @@
 
 import csv
 import ctypes
-import importlib.util
+import importlib
 import os
 import pathlib
 import shutil
@@ -92,10 +92,8 @@ def module():
     global _module
     if _module is None:
         os.environ["NR_LIBRARY"] = str(LIBRARY)
-        spec = importlib.util.spec_from_file_location("nr", C / "nr.py")
-        _module = importlib.util.module_from_spec(spec)
-        sys.modules["nr"] = _module
-        spec.loader.exec_module(_module)
+        sys.path.insert(0, str(C))
+        _module = importlib.import_module("nr")
     return _module
 
 

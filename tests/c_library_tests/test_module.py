@@ -67,7 +67,7 @@ class Module(unittest.TestCase):
         for text, said in [(b"", "Empty"), (PRACTICE + PRACTICE, "Twice 106"), (PRACTICE[:-1] + b"x\n", "Number 105")]:
             with self.assertRaises(self.nr.Fault) as raised:
                 self.nr.Table(text)
-            self.assertEqual(str(raised.exception), said)
+            self.assertEqual(str(raised.exception).partition(":")[0], said)
 
     def test_room(self):
         for room in [bytearray(104), array.array("B", bytes(104)), memoryview(bytearray(104)), (ctypes.c_ubyte * 104)()]:
@@ -108,7 +108,7 @@ class Module(unittest.TestCase):
         ]:
             with self.assertRaises(self.nr.Fault) as raised:
                 call()
-            self.assertEqual((raised.exception.status, str(raised.exception)), (status, name))
+            self.assertEqual((raised.exception.status, raised.exception.name), (status, name))
         with self.assertRaises(self.nr.Fault) as raised:
             self.nr.check_table(PRACTICE + b"3,0,0" + b",0" * 8)
         self.assertEqual((raised.exception.name, raised.exception.place), ("Range", 106))
@@ -122,7 +122,9 @@ class Module(unittest.TestCase):
             lambda: self.nr.send(self.table, [256], self.tx, **RATE),
         ]:
             self.assertRaises(ValueError, call)
-        for call in [lambda: self.nr.plan(8.0, **RATE), lambda: self.nr.crc("text"), lambda: self.nr.plan(8)]:
+        for call in [lambda: self.nr.plan(8.0, **RATE), lambda: self.nr.crc("text"), lambda: self.nr.plan(8),
+                     lambda: self.nr.Tx(104.0), lambda: self.nr.send(self.table, BLOCK, (104, 0, 2, 1, None), **RATE),
+                     lambda: self.nr.send(self.table, BLOCK, **RATE), lambda: self.nr.send(self.table, None, self.tx, **RATE)]:
             self.assertRaises(TypeError, call)
 
     def test_help(self):

@@ -106,7 +106,8 @@ class Examples(InFolder):
         found = {str(path.relative_to(stage / "usr")) for path in stage.glob("**/*") if not path.is_dir()}
         names = ["libnr.a", "libnr.so", "libnr.so.2", "pkgconfig/nr.pc", "cmake/nr/nrConfig.cmake"]
         names.append("cmake/nr/nrConfigVersion.cmake")
-        self.assertEqual(found, {"include/nr.h", "share/nr/nr.py", *(f"lib/{name}" for name in names)})
+        module = {f"share/nr/nr/{path.name}" for path in (built.C / "nr").iterdir() if path.suffix in (".py", ".typed")}
+        self.assertEqual(found, {"include/nr.h", *module, *(f"lib/{name}" for name in names)})
         self.assertIn("prefix=/usr\n", (stage / "usr" / "lib" / "pkgconfig" / "nr.pc").read_text())
         self.assertEqual((stage / "usr" / "lib" / "libnr.so.2").stat().st_mode & 0o777, 0o644)
         self.make("uninstall", f"DESTDIR={stage}", "PREFIX=/usr")

@@ -1,0 +1,87 @@
+"""What the calls take and answer."""
+
+from __future__ import annotations
+
+import enum
+import operator
+import typing
+
+
+class Outcome(enum.IntEnum):
+    """What may be handed up: OPEN, some bit is not fixed yet; DELIVERED, the one block that explains all that was heard;
+    CONTRADICTION, no block does."""
+
+    OPEN = 0
+    DELIVERED = 1
+    CONTRADICTION = 2
+
+
+class Plan(typing.NamedTuple):
+    """The numbers by which a transport block is cut into code blocks (5.2.2, 5.3.2): the base graph; B, bits with the CRC; L,
+    CRC bits of each code block; C, code blocks; K', bits of each; Kb; Zc and its set index; K, bits with fillers; N, coded."""
+
+    graph: int
+    b: int
+    l: int
+    c: int
+    kdash: int
+    kb: int
+    z: int
+    set: int
+    k: int
+    n: int
+
+
+class Report(typing.NamedTuple):
+    """How many entries an accepted shift table has of base graph 1 and of base graph 2."""
+
+    one: int
+    two: int
+
+
+class Buffer(typing.NamedTuple):
+    """The circular buffer of each code block (5.4.2.1): how many bits of d it keeps, and where a redundancy version begins."""
+
+    ncb: int
+    k0: int
+
+
+class Received(typing.NamedTuple):
+    """What receive() answers: the outcome after each transmission, in their order; how many of the K' bits of each code block
+    are not fixed after the last one; and the block's octets where it is delivered then, else None."""
+
+    outcomes: typing.List[Outcome]
+    left: typing.List[int]
+    block: typing.Optional[bytearray]
+
+    @property
+    def outcome(self) -> Outcome:
+        """The last outcome; OPEN before the first transmission."""
+        return self.outcomes[-1] if self.outcomes else Outcome.OPEN
+
+
+class _Fields(typing.NamedTuple):
+    g: int
+    rv: int
+    qm: int
+    nl: int
+    blocks: typing.Optional[typing.Tuple[int, ...]]
+
+
+class Tx(_Fields):
+    """How a transport block is sent once (5.4.2): G bits, a multiple of qm * nl, at most 4,194,304; the redundancy version 0 to
+    3; Qm bits a modulation symbol, 1, 2, 4, 6 or 8; 1 to 4 layers; and the numbers of the code blocks that are scheduled, from
+    0, or None for all. Any iterable of numbers does: it is read once, here."""
+
+    __slots__ = ()
+
+    def __new__(
+        cls, g: int, rv: int = 0, qm: int = 1, nl: int = 1, blocks: typing.Optional[typing.Iterable[int]] = None
+    ) -> Tx:
+        some = None if blocks is None else tuple(map(operator.index, blocks))
+        g, rv, qm, nl = map(operator.index, (g, rv, qm, nl))
+        return super().__new__(cls, g, rv, qm, nl, some)
+
+    @classmethod
+    def _make(cls, fields: typing.Iterable[typing.Any]) -> Tx:  # type: ignore[override]
+        return cls(*fields)

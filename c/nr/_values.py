@@ -1,0 +1,140 @@
+"""Python's values as the library takes them, and rooms for its answers."""
+
+from __future__ import annotations
+
+import ctypes
+import functools
+import operator
+import typing
+import warnings
+
+from ._faults import BIT, SIZE, Fault
+from ._library import PlanStruct, SettingsStruct, TxStruct, library
+from ._records import Tx
+
+if typing.TYPE_CHECKING:
+    from typing_extensions import Buffer as Readable
+
+    Octets = typing.Union[Readable, typing.Sequence[int]]
+else:
+    Octets = typing.Union[bytes, bytearray, memoryview, typing.Sequence[int]]
+
+# The code rate in 2048ths and in 1024ths: the MCS tables of TS 38.214 have 682.5 and 916.5 among the latter.
+Rate2048 = typing.Optional[int]
+Rate1024 = typing.Union[None, int, float]
+
+_DIGITS = bytes.maketrans(b"\0\1", b"01")
+
+
+def number(given: typing.SupportsIndex) -> int:
+    """A number that fits 32 bits: ctypes would drop the others' high bits."""
+    whole = operator.index(given)
+    if not 0 <= whole < 1 << 32:
+        raise ValueError(f"{whole} is not 0 to 4,294,967,295")
+    return whole
+
+
+def rate(rate2048: Rate2048, rate1024: Rate1024) -> int:
+    """The code rate in 2048ths, of the one of both that is given."""
+    if rate2048 is not None and rate1024 is None:
+        return number(rate2048)
+    if rate2048 is not None or rate1024 is None:
+        raise TypeError("one of rate2048 and rate1024 is wanted: the code rate in 2048ths or in 1024ths")
+    doubled = 2 * rate1024
+    if doubled != doubled // 1:
+        raise ValueError(f"rate1024 is {rate1024}, which is neither a whole number nor a half more than one")
+    return number(int(doubled))
+
+
+@functools.lru_cache(maxsize=256, typed=True)
+def settings(rate2048: Rate2048, rate1024: Rate1024, lbrm: int) -> SettingsStruct:
+    """The settings of a link. No call writes them, so that calls and threads may share them."""
+    return SettingsStruct(rate(rate2048, rate1024), number(lbrm))
+
+
+@functools.lru_cache(maxsize=256)
+def _tx_struct(tx: Tx) -> TxStruct:
+    given = TxStruct(rv=number(tx.rv), g=number(tx.g), qm=number(tx.qm), nl=number(tx.nl))
+    given.some = tx.blocks is not None
+    for block in tx.blocks or ():
+        if not 0 <= block < 384:
+            raise ValueError(f"code block {block} is not 0 to 383")
+        given.blocks[block // 64] |= 1 << block % 64
+    return given
+
+
+def tx_struct(tx: typing.Optional[Tx]) -> TxStruct:
+    """A transmission. No call writes it, so that calls and threads may share it."""
+    if not isinstance(tx, Tx):
+        raise TypeError(f"{type(tx).__name__} is no Tx: make one, as nr.Tx(g=300, qm=2)")
+    return _tx_struct(tx)
+
+
+def plan_struct(rate2048: int, a: int) -> PlanStruct:
+    """The numbers of a plan. Where there is none they are 0: the call that they are for tells then why."""
+    numbers = PlanStruct()
+    library.nr_plan(rate2048, a, ctypes.byref(numbers))
+    return numbers
+
+
+def view_of(given: Octets) -> memoryview:
+    """A buffer, whose items must be of one octet."""
+    view = memoryview(given)  # type: ignore[arg-type]
+    if view.itemsize != 1:
+        raise TypeError(f"items of {view.itemsize} octets: make them of one, as by .astype(numpy.uint8)")
+    return view
+
+
+def octets_of(given: Octets) -> bytes:
+    """The octets of a buffer, or of a list of numbers."""
+    if isinstance(given, bytes):
+        return given
+    return bytes(given) if isinstance(given, (list, tuple)) else view_of(given).tobytes()
+
+
+def whole_octets_of(given: Octets, callers: int = 1) -> bytes:
+    """The same, with a warning where they look like bits, for the caller so many calls above."""
+    octets = octets_of(given)
+    if not isinstance(given, (bytes, bytearray)):
+        warn_of_bits(octets, callers + 1)
+    return octets
+
+
+def warn_of_bits(octets: bytes, callers: int) -> None:
+    """Warns where each of eight octets or more is 0 or 1."""
+    if len(octets) > 7 and not octets.translate(None, b"\0\1"):
+        said = "octets are wanted, eight bits each, and all of these are 0 or 1: bits go to bits=, or through numpy.packbits"
+        warnings.warn(said, stacklevel=callers + 2)
+
+
+def packed(given: Octets) -> bytes:
+    """The octets of bits, which are items 0 or 1 of any whole type, the first bit of an octet highest."""
+    if isinstance(given, (bytes, list, tuple)):
+        bits = bytes(given)
+    else:
+        view = memoryview(given)  # type: ignore[arg-type]
+        bits = view.tobytes() if view.itemsize == 1 else bytes(memoryview(view.tobytes()).cast(view.format).tolist())
+    if bits.translate(None, b"\0\1"):
+        raise Fault(BIT)
+    if len(bits) % 8:
+        raise Fault(SIZE)
+    return int(bits.translate(_DIGITS) or b"0", 2).to_bytes(len(bits) // 8, "big")
+
+
+def block_of(block: typing.Optional[Octets], bits: typing.Optional[Octets]) -> bytes:
+    """The octets of a transport block, of the one of both that is given."""
+    if block is not None and bits is None:
+        return whole_octets_of(block, 2)
+    if block is not None or bits is None:
+        raise TypeError("one of block and bits is wanted: the transport block's octets or its bits")
+    return packed(bits)
+
+
+def room_of(given: typing.Any) -> ctypes.Array[ctypes.c_ubyte]:
+    """A buffer's octets, to be written: it must be one piece of memory that can be."""
+    view = view_of(given)
+    if view.readonly:
+        raise TypeError("a buffer that can't be written")
+    if not view.c_contiguous:
+        raise ValueError("a buffer in pieces can't be written: take one that is contiguous")
+    return (ctypes.c_ubyte * view.nbytes).from_buffer(given)
