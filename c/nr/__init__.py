@@ -12,6 +12,7 @@ Octets may be anything that has a buffer of items of one octet each: bytes, byte
 arrays of uint8, int8 or bool; or a list of numbers from 0 to 255. What a call gives back is a bytearray, over which
 numpy.frombuffer(.., numpy.uint8) makes an array without a copy; send() also writes into a room of yours. A call that is refused
 raises Fault, and has written nothing. The calls let other threads run, so a buffer must not change while one reads it.
+send_many() and receive_many() take many blocks at once, in the rows of an array.
 
 A transport block is octets, eight bits each; its bits, an item each, go to bits=. The code rate is rate2048=, in 2048ths, or
 rate1024=, as the MCS tables of TS 38.214 have it. Table, Tx, Fault and what the calls answer can be pickled.
@@ -26,13 +27,16 @@ import ctypes
 import typing
 
 from ._faults import LENGTH, Fault, fault_name, judge
-from ._library import BufferStruct, Entry, PlanStruct, ReportStruct, TxStruct, library
-from ._records import Buffer, Outcome, Plan, Received, Report, Tx
-from ._values import (Octets, Rate1024, Rate2048, block_of, number, octets_of, plan_struct, rate, room_of, settings, tx_struct,
-                      whole_octets_of)
+from ._library import BufferStruct, PlanStruct, TxStruct, library
+from ._many import receive_many, send_many
+from ._records import Buffer, Outcome, Plan, Received, ReceivedMany, Report, Tx
+from ._table import Table, check_table, entries_of
+from ._values import (MOST_BITS, Octets, Rate1024, Rate2048, block_of, number, octets_of, plan_struct, rate, room_of, settings,
+                      tx_struct, whole_octets_of)
 
-__all__ = ["Buffer", "CRC16", "CRC24A", "CRC24B", "ERASED", "FILLER", "Fault", "Outcome", "Plan", "Received", "Report", "Table", "Tx",
-           "buffer", "check_table", "codeword", "crc", "fault_name", "lengths", "plan", "receive", "send"]
+__all__ = ["Buffer", "CRC16", "CRC24A", "CRC24B", "ERASED", "FILLER", "Fault", "Outcome", "Plan", "Received", "ReceivedMany",
+           "Report", "Table", "Tx", "buffer", "check_table", "codeword", "crc", "fault_name", "lengths", "plan", "receive",
+           "receive_many", "send", "send_many"]
 
 __version__: str = library.nr_version().decode()
 
@@ -40,50 +44,7 @@ CRC24A, CRC24B, CRC16 = 0, 1, 2
 FILLER = 2  # a bit of a codeword that is never sent
 ERASED = 2  # a place at which nothing was heard; so is any number but 0 and 1
 
-_MOST_BITS = 1_310_720
 _Room = typing.TypeVar("_Room")
-
-
-class Table:
-    """A shift table, read from its text (docs/formats.md) once, for as many calls as you like; any number of threads may use it.
-    `one` and `two` are how many entries it has of base graph 1 and of base graph 2; len() is how many in all.
-
-    A text that is refused raises a Fault, as check_table() does. A Table is pickled by its entries, which each call judges."""
-
-    __slots__ = "one", "two", "_entries"
-
-    def __init__(self, text: Octets) -> None:
-        octets, count = octets_of(text), ctypes.c_size_t()
-        self.one, self.two = check_table(octets)
-        self._entries = (Entry * (self.one + self.two))()
-        judge(library.nr_table_entries(octets, len(octets), self._entries, len(self), ctypes.byref(count)))
-
-    def __len__(self) -> int:
-        return len(self._entries)
-
-    def __repr__(self) -> str:
-        return f"Table(one={self.one}, two={self.two})"
-
-    def __getstate__(self) -> typing.Tuple[int, int, bytes]:
-        return self.one, self.two, bytes(self._entries)
-
-    def __setstate__(self, state: typing.Tuple[int, int, bytes]) -> None:
-        self.one, self.two, octets = state
-        self._entries = (Entry * (self.one + self.two)).from_buffer_copy(octets)
-        if len(octets) != ctypes.sizeof(self._entries):
-            raise ValueError(f"{len(octets)} octets are not those of {len(self)} entries")
-
-
-def check_table(text: Octets) -> Report:
-    """Judges the text of a shift table, and answers how many entries it has, as a Report.
-
-    A Fault has in `place` the number of the record for Csv, Number, Range and Twice, the base graph for Core, Extension and
-    MissingRow, else 0."""
-    octets, report = octets_of(text), ReportStruct()
-    status = library.nr_table_check(octets, len(octets), ctypes.byref(report))
-    if status:
-        raise Fault(status, report.place)
-    return Report(report.one, report.two)
 
 
 def plan(a: int, *, rate2048: Rate2048 = None, rate1024: Rate1024 = None) -> Plan:
@@ -103,10 +64,10 @@ def crc(octets: Octets, poly: int = CRC24A) -> int:
 def codeword(table: Table, bits: Octets, a: int, *, rate2048: Rate2048 = None, rate1024: Rate1024 = None) -> bytearray:
     """The N bits d that a code block is coded into (5.3.2) by a Table, an octet each: 0, 1 or FILLER. The code block is one of a
     transport block of `a` bits; `bits` has its K' bits, its CRC with them, each an octet 0 or 1."""
-    entries, given, in2048ths = _entries(table), octets_of(bits), rate(rate2048, rate1024)
+    entries, given, in2048ths = entries_of(table), octets_of(bits), rate(rate2048, rate1024)
     coded = bytearray(plan_struct(in2048ths, number(a)).n)
-    room = room_of(coded)
-    judge(library.nr_codeword(*entries, in2048ths, a, given, len(given), room, len(room)))
+    first, room = room_of(coded)
+    judge(library.nr_codeword(*entries, in2048ths, a, given, len(given), ctypes.byref(first), room))
     return coded
 
 
@@ -147,36 +108,29 @@ def send(
     """The G bits that a Tx sends of a transport block's octets by a Table, each an octet 0 or 1: a bytearray, or `out` with
     them, which is a buffer of G octets that can be written. In place of the octets `bits` may have the block's bits, an item 0
     or 1 each: send(table, tx=tx, bits=..). `lbrm` is TBS_LBRM in bits, 0 for none."""
-    entries, octets, given = _entries(table), block_of(block, bits), tx_struct(tx)
+    entries, octets, given = entries_of(table), block_of(block, bits), tx_struct(tx)
     sent = bytearray(min(given.g, 1 << 22)) if out is None else out
-    room, link = room_of(sent), ctypes.byref(settings(rate2048, rate1024, lbrm))
-    judge(library.nr_send(*entries, link, octets, len(octets), ctypes.byref(given), room, len(room)))
+    (first, room), link = room_of(sent), ctypes.byref(settings(rate2048, rate1024, lbrm))
+    judge(library.nr_send(*entries, link, octets, len(octets), ctypes.byref(given), ctypes.byref(first), room))
     return sent
 
 
 def receive(
-    table: Table, a: int, receptions: typing.Iterable[typing.Tuple[Tx, Octets]], *, rate2048: Rate2048 = None, rate1024: Rate1024 = None,
-    lbrm: int = 0,
+    table: Table, a: int, receptions: typing.Iterable[typing.Tuple[Tx, Octets]], *, rate2048: Rate2048 = None,
+    rate1024: Rate1024 = None, lbrm: int = 0,
 ) -> Received:
     """What may be handed up of a transport block of `a` bits by a Table, as a Received. `receptions` are pairs, at most 256: a
     Tx, and what was heard at its G places, each an octet 0 or 1, or another one (ERASED) where nothing was."""
-    entries, pairs = _entries(table), [(tx_struct(tx), octets_of(places)) for tx, places in receptions]
+    entries, pairs = entries_of(table), [(tx_struct(tx), octets_of(places)) for tx, places in receptions]
     if any(tx.g != len(places) for tx, places in pairs):
         raise Fault(LENGTH)
     txs, heard = (TxStruct * len(pairs))(*(tx for tx, _ in pairs)), b"".join(places for _, places in pairs)
-    link, block = settings(rate2048, rate1024, lbrm), bytearray(min(number(a), _MOST_BITS) // 8)
+    link, block = settings(rate2048, rate1024, lbrm), bytearray(min(number(a), MOST_BITS) // 8)
     outcomes, left = (ctypes.c_uint32 * len(pairs))(), (ctypes.c_uint32 * plan_struct(link.rate2048, a).c)()
-    given, room = (ctypes.byref(link), a, txs, len(pairs), heard, len(heard)), room_of(block)
-    judge(library.nr_receive(*entries, *given, outcomes, len(outcomes), left, len(left), room, len(room)))
+    given, (first, room) = (ctypes.byref(link), a, txs, len(pairs), heard, len(heard)), room_of(block)
+    judge(library.nr_receive(*entries, *given, outcomes, len(outcomes), left, len(left), ctypes.byref(first), room))
     found = [Outcome(it) for it in outcomes]
     return Received(found, list(left), block if found and found[-1] == Outcome.DELIVERED else None)
-
-
-def _entries(table: Table) -> typing.Tuple[ctypes.Array[Entry], int]:
-    """The entries of a Table, and their count."""
-    if not isinstance(table, Table):
-        raise TypeError(f"{type(table).__name__} is no Table: make one of the text, by nr.Table(text)")
-    return table._entries, len(table)
 
 
 for _name in __all__:

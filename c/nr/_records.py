@@ -2,6 +2,7 @@
 
 from __future__ import annotations
 
+import array
 import enum
 import operator
 import typing
@@ -58,6 +59,16 @@ class Received(typing.NamedTuple):
     def outcome(self) -> Outcome:
         """The last outcome; OPEN before the first transmission."""
         return self.outcomes[-1] if self.outcomes else Outcome.OPEN
+
+
+class ReceivedMany(typing.NamedTuple):
+    """What receive_many() answers, row after row: the Outcome after each of a row's transmissions; how many of the K' bits of
+    each code block are not fixed after the last one; and the octets of each transport block, zeros where it is not delivered
+    then. numpy.frombuffer(.., numpy.uint32 or numpy.uint8).reshape(rows, -1) makes arrays of them without a copy."""
+
+    outcomes: array.array[int]
+    left: array.array[int]
+    blocks: bytearray
 
 
 class _Fields(typing.NamedTuple):

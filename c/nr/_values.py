@@ -23,6 +23,7 @@ else:
 Rate2048 = typing.Optional[int]
 Rate1024 = typing.Union[None, int, float]
 
+MOST_BITS = 1_310_720  # of a transport block
 _DIGITS = bytes.maketrans(b"\0\1", b"01")
 
 
@@ -130,11 +131,49 @@ def block_of(block: typing.Optional[Octets], bits: typing.Optional[Octets]) -> b
     return packed(bits)
 
 
-def room_of(given: typing.Any) -> ctypes.Array[ctypes.c_ubyte]:
-    """A buffer's octets, to be written: it must be one piece of memory that can be."""
+def room_of(given: typing.Any) -> typing.Tuple[ctypes.c_char, int]:
+    """A buffer's first octet, to be written with those behind it, and how many there are: one piece of memory that can be."""
     view = view_of(given)
     if view.readonly:
         raise TypeError("a buffer that can't be written")
     if not view.c_contiguous:
         raise ValueError("a buffer in pieces can't be written: take one that is contiguous")
-    return (ctypes.c_ubyte * view.nbytes).from_buffer(given)
+    return ctypes.c_char.from_buffer(given) if view.nbytes else ctypes.c_char(), view.nbytes
+
+
+class Rows(typing.NamedTuple):
+    """Rows of octets, one behind the other: the address of the first, how many they are, and the octets of each. `memory` is
+    what they stand in, which lives as long as this."""
+
+    address: int
+    rows: int
+    width: int
+    memory: object
+
+    @property
+    def end(self) -> int:
+        """The address behind the last one."""
+        return self.address + self.rows * self.width
+
+
+def rows_of(given: typing.Any) -> Rows:
+    """The rows of an array of two dimensions, or of a list of equally many octets each. They are read where they stand, but for a
+    list's, and for an array's that is in pieces or can't be written: of these a copy is made."""
+    if isinstance(given, (list, tuple)):
+        rows = [octets_of(row) for row in given]
+        if len(set(map(len, rows))) > 1:
+            raise ValueError("rows of different lengths: each has as many octets as the others")
+        return _rows_in(b"".join(rows), len(rows), len(rows[0]) if rows else 0)
+    view = view_of(given)
+    if view.ndim != 2:
+        raise TypeError(f"an array of {view.ndim} dimensions: two are wanted, with a row for each block")
+    count, width = view.shape or (0, 0)
+    if view.c_contiguous and not view.readonly:
+        first, _ = room_of(given)
+        return Rows(ctypes.addressof(first), count, width, first)
+    return _rows_in(view.tobytes(), count, width)
+
+
+def _rows_in(octets: bytes, count: int, width: int) -> Rows:
+    address = ctypes.cast(octets, ctypes.c_void_p).value  # type: ignore[arg-type]
+    return Rows(address or 0, count, width, octets)

@@ -99,7 +99,8 @@ def module():
 
 def for_python():
     """The environment of a Python program over the library."""
-    return {**os.environ, "NR_LIBRARY": str(LIBRARY), "PYTHONPATH": str(C), "PYTHONDONTWRITEBYTECODE": "1"}
+    found = os.pathsep.join(filter(None, [str(C), os.environ.get("PYTHONPATH")]))
+    return {**os.environ, "NR_LIBRARY": str(LIBRARY), "PYTHONPATH": found, "PYTHONDONTWRITEBYTECODE": "1"}
 
 
 class Tx(ctypes.Structure):

@@ -2,6 +2,7 @@
 
 import array
 import ctypes
+import importlib.util
 import inspect
 import re
 import sys
@@ -14,6 +15,7 @@ PRACTICE = built.PRACTICE.read_bytes()
 RATE = {"rate2048": 2048}
 BLOCK = b"123456789"
 PAGES = ["README.md", "docs/c-library.md"]
+SCRIPTS = re.compile(r"```python\n(.*?)```\n+```\n(.*?)```", re.DOTALL)
 
 
 class Module(unittest.TestCase):
@@ -137,9 +139,18 @@ class Module(unittest.TestCase):
 class Documents(unittest.TestCase):
     """The blocks ```python of the documents, as they stand there, from the repository's top."""
 
+    def check(self, over_numpy):
+        found = [it for page in PAGES for it in SCRIPTS.findall((built.ROOT / page).read_text())]
+        chosen = [(script, said) for script, said in found if ("import numpy" in script) == over_numpy]
+        self.assertTrue(chosen)
+        for script, said in chosen:
+            output = built.done([sys.executable, "-c", script], built.ROOT, built.for_python())
+            self.assertEqual(output.decode(), said)
+
     def test_pages(self):
-        for page in PAGES:
-            text = (built.ROOT / page).read_text()
-            for script, said in re.findall(r"```python\n(.*?)```\n+```\n(.*?)```", text, flags=re.DOTALL):
-                output = built.done([sys.executable, "-c", script], built.ROOT, built.for_python())
-                self.assertEqual(output.decode(), said)
+        self.check(False)
+
+    def test_pages_over_numpy(self):
+        if importlib.util.find_spec("numpy") is None:
+            self.skipTest("no numpy")
+        self.check(True)

@@ -1,0 +1,117 @@
+"""Many transport blocks by one call of the library each, read and written where they stand."""
+
+from __future__ import annotations
+
+import array
+import ctypes
+import typing
+
+from ._faults import LENGTH, ROOM, Fault
+from ._library import Entry, SettingsStruct, TxStruct, library
+from ._records import ReceivedMany, Tx
+from ._table import Table, entries_of
+from ._values import (MOST_BITS, Rate1024, Rate2048, Rows, number, packed, plan_struct, room_of, rows_of, settings, tx_struct,
+                      view_of, warn_of_bits)
+
+_Count = ctypes.c_size_t
+
+# The calls by functions of their own, which take the words as they stand: these are made once, and step from row to row.
+_send, _receive = library["nr_send"], library["nr_receive"]
+_send.restype = _receive.restype = ctypes.c_uint32
+
+
+def send_many(
+    table: Table, blocks: typing.Any = None, tx: typing.Optional[Tx] = None, *, bits: typing.Any = None, rate2048: Rate2048 = None,
+    rate1024: Rate1024 = None, lbrm: int = 0, out: typing.Any = None,
+) -> typing.Any:
+    """What send() gives of each of many transport blocks, by one Tx: a bytearray of G octets for the first block, then those of
+    the second, and so on; or `out` with them, which has a row of G octets for each. `blocks` is an array with a row of octets for
+    each block, or a list of blocks of equal length; in place of it `bits` may have a row of bits for each: send_many(table,
+    tx=tx, bits=..). A Fault is that of the first block that has one; those before it are written then."""
+    entries, rows, given = entries_of(table), _blocks_of(blocks, bits), tx_struct(tx)
+    g = min(given.g, 1 << 22)
+    sent = bytearray(rows.rows * g) if out is None else out
+    first = _first_of(sent, rows, g)
+    link, read, to = settings(rate2048, rate1024, lbrm), _at(rows.address), _at(ctypes.addressof(first))
+    words = *_head(entries, link), read, _Count(rows.width), ctypes.byref(given), to, _Count(g)
+    for _ in range(rows.rows):
+        status = _send(*words)
+        if status:
+            raise Fault(status)
+        read.value += rows.width
+        to.value += g
+    return sent
+
+
+def receive_many(
+    table: Table, a: int, txs: typing.Union[Tx, typing.Iterable[Tx]], heard: typing.Any, *, rate2048: Rate2048 = None,
+    rate1024: Rate1024 = None, lbrm: int = 0,
+) -> ReceivedMany:
+    """What receive() answers of each of many transport blocks of `a` bits, as a ReceivedMany. `txs` is the Tx of all, or a list of
+    at most 256 that each block was sent by; `heard` is an array, or a list, with a row for each block: the places of its first
+    transmission, then those of the second, and so on."""
+    entries, rows, octets = entries_of(table), rows_of(heard), min(number(a), MOST_BITS) // 8
+    structs = [tx_struct(tx) for tx in ([txs] if isinstance(txs, Tx) else txs)]
+    if rows.width != sum(tx.g for tx in structs) and rows.rows:
+        raise Fault(LENGTH)
+    link, listed = settings(rate2048, rate1024, lbrm), (TxStruct * len(structs))(*structs)
+    sent, c = len(structs), plan_struct(link.rate2048, a).c
+    outcomes, left = (array.array("I", bytes(4 * count * rows.rows)) for count in (sent, c))
+    found = ReceivedMany(outcomes, left, bytearray(rows.rows * octets))
+    firsts = [room_of(it)[0] for it in (memoryview(outcomes).cast("B"), memoryview(left).cast("B"), found.blocks)]
+    steps = rows.width, 4 * sent, 4 * c, octets
+    places = [_at(rows.address), *(_at(ctypes.addressof(first)) for first in firsts)]
+    counts = map(_Count, (rows.width, sent, c, octets))
+    words = *_head(entries, link), ctypes.c_uint32(a), listed, _Count(sent), *(it for pair in zip(places, counts) for it in pair)
+    for _ in range(rows.rows):
+        status = _receive(*words)
+        if status:
+            raise Fault(status)
+        for place, step in zip(places, steps):
+            place.value += step
+    return found
+
+
+def _at(address: int) -> typing.Any:
+    """An address that can be moved on."""
+    return ctypes.c_void_p(address)
+
+
+def _head(entries: typing.Tuple[ctypes.Array[Entry], int], link: SettingsStruct) -> typing.Tuple[typing.Any, ...]:
+    """What both calls are given first."""
+    return entries[0], _Count(entries[1]), ctypes.byref(link)
+
+
+def _blocks_of(blocks: typing.Any, bits: typing.Any) -> Rows:
+    """The rows of octets of the one of both that is given."""
+    if (blocks is None) == (bits is None):
+        raise TypeError("one of blocks and bits is wanted: the transport blocks' octets or their bits")
+    if bits is not None:
+        return rows_of([packed(row) for row in (bits if isinstance(bits, (list, tuple)) else _cut(bits))])
+    rows = rows_of(blocks)
+    first = blocks[0] if isinstance(blocks, (list, tuple)) and blocks else blocks
+    if not isinstance(first, (bytes, bytearray)):
+        warn_of_bits(ctypes.string_at(rows.address, rows.width if rows.rows else 0), 2)
+    return rows
+
+
+def _cut(bits: typing.Any) -> typing.List[typing.Any]:
+    """The rows of an array of bits, whose items are of any whole type."""
+    view = memoryview(bits)
+    if view.ndim != 2:
+        raise TypeError(f"an array of {view.ndim} dimensions: two are wanted, with a row for each block")
+    count, width = view.shape or (0, 0)
+    octets, size = view.tobytes(), width * view.itemsize
+    return [memoryview(octets[size * row : size * row + size]).cast(view.format) for row in range(count)]
+
+
+def _first_of(out: typing.Any, rows: Rows, g: int) -> ctypes.c_char:
+    """The first octet of a buffer that has a row of G octets for each block, apart from the blocks."""
+    first, room = room_of(out)
+    view = view_of(out)
+    if room != rows.rows * g or view.ndim == 2 and view.shape != (rows.rows, g):
+        raise Fault(ROOM)
+    at = ctypes.addressof(first)
+    if at < rows.end and rows.address < at + room:
+        raise ValueError("out overlaps the blocks: give it memory of its own")
+    return first

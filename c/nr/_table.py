@@ -1,0 +1,60 @@
+"""Shift tables."""
+
+from __future__ import annotations
+
+import ctypes
+import typing
+
+from ._faults import Fault, judge
+from ._library import Entry, ReportStruct, library
+from ._records import Report
+from ._values import Octets, octets_of
+
+
+class Table:
+    """A shift table, read from its text (docs/formats.md) once, for as many calls as you like; any number of threads may use it.
+    `one` and `two` are how many entries it has of base graph 1 and of base graph 2; len() is how many in all.
+
+    A text that is refused raises a Fault, as check_table() does. A Table is pickled by its entries, which each call judges."""
+
+    __slots__ = "one", "two", "_entries"
+
+    def __init__(self, text: Octets) -> None:
+        octets, count = octets_of(text), ctypes.c_size_t()
+        self.one, self.two = check_table(octets)
+        self._entries = (Entry * (self.one + self.two))()
+        judge(library.nr_table_entries(octets, len(octets), self._entries, len(self), ctypes.byref(count)))
+
+    def __len__(self) -> int:
+        return len(self._entries)
+
+    def __repr__(self) -> str:
+        return f"Table(one={self.one}, two={self.two})"
+
+    def __getstate__(self) -> typing.Tuple[int, int, bytes]:
+        return self.one, self.two, bytes(self._entries)
+
+    def __setstate__(self, state: typing.Tuple[int, int, bytes]) -> None:
+        self.one, self.two, octets = state
+        self._entries = (Entry * (self.one + self.two)).from_buffer_copy(octets)
+        if len(octets) != ctypes.sizeof(self._entries):
+            raise ValueError(f"{len(octets)} octets are not those of {len(self)} entries")
+
+
+def check_table(text: Octets) -> Report:
+    """Judges the text of a shift table, and answers how many entries it has, as a Report.
+
+    A Fault has in `place` the number of the record for Csv, Number, Range and Twice, the base graph for Core, Extension and
+    MissingRow, else 0."""
+    octets, report = octets_of(text), ReportStruct()
+    status = library.nr_table_check(octets, len(octets), ctypes.byref(report))
+    if status:
+        raise Fault(status, report.place)
+    return Report(report.one, report.two)
+
+
+def entries_of(table: Table) -> typing.Tuple[ctypes.Array[Entry], int]:
+    """The entries of a Table, and their count."""
+    if not isinstance(table, Table):
+        raise TypeError(f"{type(table).__name__} is no Table: make one of the text, by nr.Table(text)")
+    return table._entries, len(table)
