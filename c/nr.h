@@ -9,8 +9,9 @@
    Bits that are sent, and places that are heard, have an octet each.
 
    What each call promises is proved, and stands in docs/c-library.md. No proof sees what a caller passes; so these are yours:
-   - No pointer is null, also where the count behind it is 0, and each is aligned for its type. So many items can be read
-     there, and are set; where the pointer is not one to const they can be written too (and need not be set).
+   - No pointer is null, but one with the count 0 behind it may be: NULL, 0 is a list of no items. Each is aligned for its type.
+     So many items can be read there, and are set; where the pointer is not one to const they can be written too (and need not
+     be set).
    - What a call may write overlaps nothing else that it is given, and no other thread reads or writes it meanwhile.
    - malloc, realloc and free are of one allocator.
    - No call is made from a signal handler, nor in the forked child of a process with several threads; a thread that calls has
@@ -29,6 +30,13 @@
 #define NR_VERSION_MINOR 1
 #define NR_VERSION_PATCH 0
 #define NR_INTERFACE 2
+
+/* Before each call whose status is to be looked at: compilers warn where it is not. */
+#if defined(__GNUC__) || defined(__clang__)
+#define NR_CHECKED __attribute__((__warn_unused_result__))
+#else
+#define NR_CHECKED
+#endif
 
 #ifdef __cplusplus
 extern "C" {
@@ -125,7 +133,7 @@ typedef struct NrReport {
    but where memory is refused.
    Faults: TOO_LONG above 4,194,304 octets, whatever memory there is; record by record CSV, FIELDS, NUMBER, RANGE, TWICE; EMPTY;
    by base graph CORE, EXTENSION, MISSING_ROW; MEMORY. */
-uint32_t nr_table_check(const uint8_t *text, size_t text_len, NrReport *out);
+NR_CHECKED uint32_t nr_table_check(const uint8_t *text, size_t text_len, NrReport *out);
 
 /* An entry of a shift table (Tables 5.3.2-2 and 5.3.2-3): 22 octets, without padding. A table is a list of them that ascends: base
    graph 1 before base graph 2, then by row, then by column, each place once. */
@@ -137,19 +145,19 @@ typedef struct NrEntry {
 } NrEntry;
 
 /* The entries of the shift table of a text, in the order that the calls below take them in, and in `count` how many they are. `out`
-   has room for so many, no more and no fewer; where it has another length, `count` says how many are wanted, and `out` is not
-   written. No table has more than 5,312; those of Tables 5.3.2-2 and 5.3.2-3 have 316 and 197.
+   has room for so many, no more and no fewer; where it has another length, as of NULL, 0, `count` says how many are wanted, and
+   `out` is not written. No table has more than 5,312; those of Tables 5.3.2-2 and 5.3.2-3 have 316 and 197.
    Faults: as nr_table_check has them; ROOM. With any but ROOM `count` is not written either. */
-uint32_t nr_table_entries(const uint8_t *text, size_t text_len, NrEntry *out, size_t out_len, size_t *count);
+NR_CHECKED uint32_t nr_table_entries(const uint8_t *text, size_t text_len, NrEntry *out, size_t out_len, size_t *count);
 
 /* The plan of a transport block of `a` bits at the code rate rate2048 / 2048 (5.2.2, 6.2.2, 7.2.2). Takes no memory.
    Faults: SIZE, RATE_RANGE, UNEVEN. */
-uint32_t nr_plan(uint32_t rate2048, uint32_t a, NrPlan *out);
+NR_CHECKED uint32_t nr_plan(uint32_t rate2048, uint32_t a, NrPlan *out);
 
 /* E_r, how many bits a transmission sends of each code block of a transport block of `a` bits (5.4.2.1). `out` has room for C of
    them, no more and no fewer. Takes no memory.
    Faults: SIZE, RATE_RANGE, UNEVEN; RV, ORDER, LAYERS, TOTAL, RAGGED, NONE_SCHEDULED; ROOM. */
-uint32_t nr_lengths(uint32_t rate2048, uint32_t a, const NrTx *tx, uint32_t *out, size_t out_len);
+NR_CHECKED uint32_t nr_lengths(uint32_t rate2048, uint32_t a, const NrTx *tx, uint32_t *out, size_t out_len);
 
 /* The circular buffer of a code block, and where a redundancy version begins in it (5.4.2.1). */
 typedef struct NrBuffer {
@@ -159,7 +167,7 @@ typedef struct NrBuffer {
 
 /* The same buffer for each code block of a transport block of `a` bits, and where `rv` begins in it. Takes no memory.
    Faults: SIZE, RATE_RANGE, UNEVEN, NO_BUFFER, RV. */
-uint32_t nr_buffer(const NrSettings *settings, uint32_t a, uint32_t rv, NrBuffer *out);
+NR_CHECKED uint32_t nr_buffer(const NrSettings *settings, uint32_t a, uint32_t rv, NrBuffer *out);
 
 enum NrFiller { NR_FILLER = 2 };
 
@@ -167,21 +175,21 @@ enum NrFiller { NR_FILLER = 2 };
    never sent; `out` has room for N octets. `bits` has its K' bits with its CRC, without fillers, an octet of 0 or 1 each.
    Faults: ENTRIES, whatever memory there is; EMPTY; by base graph CORE, EXTENSION, MISSING_ROW; SIZE, RATE_RANGE, UNEVEN, GRAPH;
    LENGTH, where `bits` does not have K' octets; BIT; ROOM; MEMORY, where it is met. */
-uint32_t nr_codeword(const NrEntry *table, size_t table_len, uint32_t rate2048, uint32_t a, const uint8_t *bits, size_t bits_len,
-                     uint8_t *out, size_t out_len);
+NR_CHECKED uint32_t nr_codeword(const NrEntry *table, size_t table_len, uint32_t rate2048, uint32_t a, const uint8_t *bits,
+                                size_t bits_len, uint8_t *out, size_t out_len);
 
 enum NrPoly { NR_CRC24A = 0, NR_CRC24B = 1, NR_CRC16 = 2 };
 
 /* The parity bits of octets (5.1) as a number of 24 or 16 bits, the first parity bit highest.
    Faults: POLY; MANY above 2,097,152 octets; MEMORY. */
-uint32_t nr_crc(uint32_t poly, const uint8_t *octets, size_t octets_len, uint32_t *out);
+NR_CHECKED uint32_t nr_crc(uint32_t poly, const uint8_t *octets, size_t octets_len, uint32_t *out);
 
 /* The G bits, 0 or 1, that a transmission sends of a transport block (6.2, 7.2): with CRC, cut, encoded by the shift table
    (5.3.2), rate matched, interleaved and joined (5.4.2, 5.5). `out` has room for tx->g octets, no more and no fewer.
    Faults: of the table as nr_codeword has them; SIZE, RATE_RANGE, UNEVEN, GRAPH, NO_BUFFER; RV, ORDER, LAYERS, TOTAL, RAGGED,
    NONE_SCHEDULED; ROOM; MEMORY, where it is met. */
-uint32_t nr_send(const NrEntry *table, size_t table_len, const NrSettings *settings, const uint8_t *block, size_t block_len,
-                 const NrTx *tx, uint8_t *out, size_t out_len);
+NR_CHECKED uint32_t nr_send(const NrEntry *table, size_t table_len, const NrSettings *settings, const uint8_t *block,
+                            size_t block_len, const NrTx *tx, uint8_t *out, size_t out_len);
 
 /* What a place says was heard: a bit 0, a bit 1, or nothing (as any number above 1). */
 enum NrHeard { NR_ZERO = 0, NR_ONE = 1, NR_ERASED = 2 };
@@ -198,9 +206,9 @@ enum NrOutcome { NR_OPEN = 0, NR_DELIVERED = 1, NR_CONTRADICTION = 2 };
    Faults: MANY, whatever memory there is; of the table as nr_codeword has them; SIZE, RATE_RANGE, UNEVEN, GRAPH, NO_BUFFER; for
    each transmission in turn LENGTH, where fewer than g octets are left, RV, ORDER, LAYERS, TOTAL, RAGGED, NONE_SCHEDULED;
    LENGTH, where octets are left over; ROOM; MEMORY, where it is met. */
-uint32_t nr_receive(const NrEntry *table, size_t table_len, const NrSettings *settings, uint32_t a, const NrTx *txs,
-                    size_t txs_len, const uint8_t *heard, size_t heard_len, uint32_t *outcomes, size_t outcomes_len,
-                    uint32_t *left, size_t left_len, uint8_t *block, size_t block_len);
+NR_CHECKED uint32_t nr_receive(const NrEntry *table, size_t table_len, const NrSettings *settings, uint32_t a, const NrTx *txs,
+                               size_t txs_len, const uint8_t *heard, size_t heard_len, uint32_t *outcomes, size_t outcomes_len,
+                               uint32_t *left, size_t left_len, uint8_t *block, size_t block_len);
 
 #ifdef __cplusplus
 }

@@ -11,13 +11,12 @@ enum { G = 400, MOST = 4 };
 /* Reads the shift table of a file, once for all calls: its entries, in memory of their own, and how many they are. */
 static uint32_t read_table(const char *path, NrEntry **entries, size_t *count) {
     static uint8_t text[1 << 16];
-    NrEntry none;
     FILE *file = fopen(path, "rb");
     size_t length = file ? fread(text, 1, sizeof text, file) : 0;
     uint32_t status;
     if (file) fclose(file);
     /* A room for none: how many are wanted. */
-    status = nr_table_entries(text, length, &none, 0, count);
+    status = nr_table_entries(text, length, NULL, 0, count);
     if (status != NR_ROOM) return status;
     *entries = malloc(*count * sizeof **entries);
     return *entries ? nr_table_entries(text, length, *entries, *count, count) : NR_MEMORY;

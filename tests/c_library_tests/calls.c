@@ -149,6 +149,45 @@ static void receiving(void) {
     free(txs);
 }
 
+/* A list of no items may be NULL: where the table is read, coded and sent. */
+static void no_items(void) {
+    const uint8_t block[] = {1}, zeros[24] = {0};
+    NrTx tx = transmission(0, 24, 1);
+    NrReport report = {7, 7, 7};
+    size_t count = 7;
+    uint32_t parity = 7;
+    uint8_t *out = (uint8_t *)filled(200);
+    CHECK(nr_table_check(NULL, 0, &report) == NR_EMPTY && report.two == 0);
+    CHECK(nr_table_entries(NULL, 0, NULL, 0, &count) == NR_EMPTY && count == 7);
+    CHECK(nr_table_entries(text, text_len, NULL, 0, &count) == NR_ROOM && count == 105);
+    CHECK(nr_crc(NR_CRC24A, NULL, 0, &parity) == NR_OK && parity == 0);
+    CHECK(nr_lengths(2048, 8, &tx, NULL, 0) == NR_ROOM);
+    CHECK(nr_codeword(NULL, 0, 2048, 8, zeros, 24, out, 200) == NR_EMPTY);
+    CHECK(nr_codeword(table, table_len, 2048, 8, NULL, 0, out, 200) == NR_LENGTH);
+    CHECK(nr_codeword(table, table_len, 2048, 8, zeros, 24, NULL, 0) == NR_ROOM);
+    CHECK(nr_send(NULL, 0, &settings, block, 1, &tx, out, 24) == NR_EMPTY);
+    CHECK(nr_send(table, table_len, &settings, NULL, 0, &tx, out, 24) == NR_SIZE);
+    CHECK(nr_send(table, table_len, &settings, block, 1, &tx, NULL, 0) == NR_ROOM);
+    CHECK(is_filled(out, 200));
+    free(out);
+}
+
+/* The same where it is received: no transmission, and no room where none is wanted; a room that is wanted. */
+static void nothing_received(void) {
+    static const uint8_t erased[] = {2, 2, 2, 2}, zeros[32] = {0};
+    NrTx tx = transmission(0, 4, 1);
+    uint32_t outcome = 7, left = 7;
+    CHECK(nr_receive(NULL, 0, &settings, 8, &tx, 1, erased, 4, &outcome, 1, &left, 1, NULL, 0) == NR_EMPTY);
+    CHECK(nr_receive(table, table_len, &settings, 8, NULL, 0, erased, 1, NULL, 0, &left, 1, NULL, 0) == NR_LENGTH);
+    CHECK(nr_receive(table, table_len, &settings, 8, &tx, 1, NULL, 0, &outcome, 1, &left, 1, NULL, 0) == NR_LENGTH);
+    CHECK(nr_receive(table, table_len, &settings, 8, &tx, 1, erased, 4, NULL, 0, &left, 1, NULL, 0) == NR_ROOM);
+    CHECK(nr_receive(table, table_len, &settings, 8, &tx, 1, erased, 4, &outcome, 1, NULL, 0, NULL, 0) == NR_ROOM);
+    tx.g = 32;
+    CHECK(nr_receive(table, table_len, &settings, 8, &tx, 1, zeros, 32, &outcome, 1, &left, 1, NULL, 0) == NR_ROOM);
+    CHECK(outcome == 7 && left == 7);
+    CHECK(nr_receive(table, table_len, &settings, 8, NULL, 0, NULL, 0, NULL, 0, &left, 1, NULL, 0) == NR_OK && left == 24);
+}
+
 int main(int count, char **words) {
     text = text_of(count > 1 ? words[1] : NULL, &text_len);
     table = entries_of(text, text_len, &table_len);
@@ -159,6 +198,8 @@ int main(int count, char **words) {
     coding();
     sending();
     receiving();
+    no_items();
+    nothing_received();
     CHECK(!strcmp(nr_fault_name(NR_NONE_SCHEDULED), "NoneScheduled"));
     CHECK(!strcmp(nr_fault_name(1000), "unknown"));
     free(table);

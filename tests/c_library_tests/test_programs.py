@@ -2,6 +2,7 @@
 
 import os
 import pathlib
+import re
 import shutil
 import sys
 import tempfile
@@ -17,6 +18,19 @@ project(erasures C)
 find_package(nr 2 REQUIRED)
 add_executable(erasures {example})
 target_link_libraries(erasures nr::{target})
+"""
+
+DOCUMENT = """#include "{checked}"
+int main(int words_len, char **words) {{
+    size_t length;
+    uint8_t bits[300], block[9] = {{0}}, *text = text_of(words_len > 1 ? words[1] : NULL, &length);
+    NrSettings settings = {{2048, 0}};
+    NrTx tx = transmission(0, 300, 2);
+{lines}
+    printf("%u\\n", (unsigned)status);
+    free(text);
+    return wrong;
+}}
 """
 
 
@@ -77,6 +91,31 @@ class Programs(InFolder):
     def test_threads(self):
         output = built.done([self.compiled("threads.c", "-pthread"), self.both_graphs()])
         self.assertRegex(output.decode(), r"^4 threads, ")
+
+
+class Statuses(InFolder):
+    """That a status is looked at."""
+
+    def test_unused(self):
+        """A program that looks at no status gets a warning for each call, in C and in C++."""
+        header = (built.C / "nr.h").read_text()
+        calls = dict(re.findall(r"(?s)uint32_t (nr_\w+)\(([^)]*)\);", header))
+        self.assertIn("nr_send", calls)
+        lines = [f"    {name}({', '.join('0' for _ in given.split(','))});\n" for name, given in calls.items()]
+        (self.folder / "unused.c").write_text("#include <nr.h>\nint main(void) {\n" + "".join(lines) + "    return 0;\n}\n")
+        for words in [[built.compiler()], [shutil.which("c++") or built.compiler(), "-x", "c++"]]:
+            said = built.ran([*words, "-c", "-o", "unused.o", f"-I{built.C}", "unused.c"], self.folder)[1].decode()
+            self.assertEqual(said.count("[-Wunused-result]"), len(calls), said)
+
+    def test_the_document(self):
+        """The lines of C in docs/c-library.md, with a table and with a text that is none."""
+        page = (built.ROOT / "docs" / "c-library.md").read_text()
+        lines = re.search(r"(?s)```c\n(.*?)```", page)[1]
+        self.assertIn("nr_send", lines)
+        (self.folder / "document.c").write_text(DOCUMENT.format(checked=built.HERE / "checked.h", lines=lines))
+        program = self.compiled(self.folder / "document.c")
+        self.assertEqual(built.done([program, built.PRACTICE]), b"0\n")
+        self.assertEqual(built.done([program, built.ROOT / "README.md"]), b"refused: Fields\n22\n")
 
 
 class Examples(InFolder):
