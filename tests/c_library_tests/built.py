@@ -36,7 +36,10 @@ def use(archive, program):
         done(["ar", "x", path], objects)
     done([compiler(), "-O2", "-fPIC", "-c", C / "fault_name.c", "-o", objects / "fault_name.o"])
     members = sorted(objects.glob("*.o"))
-    done(["ar", "rcs", STATIC, *members])
+    # as c/Makefile does
+    done(["ld", "-r", "-o", FOLDER / "nr.o", *members])
+    done(["objcopy", "--wildcard", "--keep-global-symbol=nr_*", FOLDER / "nr.o"])
+    done(["ar", "rcs", STATIC, FOLDER / "nr.o"])
     script = f"-Wl,--version-script,{C / 'nr.map'}"
     done([compiler(), "-shared", "-Wl,-soname,libnr.so.2", script, "-Wl,--no-undefined", "-o", LIBRARY, *members])
     _calls = ctypes.CDLL(str(LIBRARY))

@@ -114,4 +114,6 @@ class Libraries(unittest.TestCase):
         self.assertLessEqual(self.symbols("--undefined-only", built.LIBRARY), allowed)
 
     def test_static(self):
-        self.assertLessEqual({*exports(), *NAMES, "rattle_alloc"}, self.symbols("--defined-only", built.STATIC))
+        shown = self.symbols("--extern-only", built.STATIC) - self.symbols("--undefined-only", built.STATIC)
+        self.assertEqual(shown, {*exports(), *NAMES})
+        self.assertIn("rattle_alloc", self.symbols("--defined-only", built.STATIC))

@@ -13,12 +13,6 @@ import built
 WARNINGS = ["-Wall", "-Wextra", "-pedantic", "-Werror"]
 WRAPPED = [f"-Wl,--wrap={name}" for name in ("malloc", "calloc", "realloc", "free")]
 SANITIZERS = ["-fsanitize=address,undefined", "-fno-sanitize-recover=all", "-g"]
-CMAKE = """cmake_minimum_required(VERSION 3.10)
-project(erasures C)
-find_package(nr 2 REQUIRED)
-add_executable(erasures {example})
-target_link_libraries(erasures nr::{target})
-"""
 
 DOCUMENT = """#include "{checked}"
 int main(int words_len, char **words) {{
@@ -167,14 +161,3 @@ class Examples(InFolder):
         self.make("install", f"PREFIX={self.folder}")
         environment = {**built.for_python(), "NR_LIBRARY": "", "PYTHONPATH": str(self.folder / "share" / "nr")}
         self.check(built.done([sys.executable, built.C / "examples" / "erasures.py", built.PRACTICE], environment=environment))
-
-    def test_cmake(self):
-        built.needs("cmake")
-        self.make("install", f"PREFIX={self.folder}")
-        for target in ["nr", "static"]:
-            source = self.folder / target
-            source.mkdir()
-            (source / "CMakeLists.txt").write_text(CMAKE.format(example=built.C / "examples" / "erasures.c", target=target))
-            built.done(["cmake", "-S", source, "-B", source / "build", f"-DCMAKE_PREFIX_PATH={self.folder}"])
-            built.done(["cmake", "--build", source / "build"])
-            self.check(built.done([source / "build" / "erasures", built.PRACTICE]))
