@@ -25,14 +25,15 @@ from __future__ import annotations
 
 import ctypes
 import typing
+from ctypes import byref
 
 from ._faults import LENGTH, Fault, fault_name, judge
 from ._library import BufferStruct, PlanStruct, TxStruct, library
 from ._many import receive_many, send_many
 from ._records import Buffer, Outcome, Plan, Received, ReceivedMany, Report, Tx
 from ._table import Table, check_table, entries_of
-from ._values import (MOST_BITS, Octets, Rate1024, Rate2048, block_of, number, octets_of, plan_struct, rate, room_of, settings,
-                      tx_struct, whole_octets_of)
+from ._values import (MOST_BITS, Octets, Rate1024, Rate2048, block_of, fresh_room, number, octets_of, plan_struct, rate, room_of,
+                      settings, tx_struct, whole_octets_of)
 
 __all__ = ["Buffer", "CRC16", "CRC24A", "CRC24B", "ERASED", "FILLER", "Fault", "Outcome", "Plan", "Received", "ReceivedMany",
            "Report", "Table", "Tx", "buffer", "check_table", "codeword", "crc", "fault_name", "lengths", "plan", "receive",
@@ -50,14 +51,14 @@ _Room = typing.TypeVar("_Room")
 def plan(a: int, *, rate2048: Rate2048 = None, rate1024: Rate1024 = None) -> Plan:
     """The plan of a transport block of `a` bits at the code rate rate2048 / 2048, as a Plan."""
     numbers = PlanStruct()
-    judge(library.nr_plan(rate(rate2048, rate1024), number(a), ctypes.byref(numbers)))
+    judge(library.nr_plan(rate(rate2048, rate1024), number(a), byref(numbers)))
     return Plan(*(getattr(numbers, name) for name in Plan._fields))
 
 
 def crc(octets: Octets, poly: int = CRC24A) -> int:
     """The parity bits of octets (5.1) as a number, the first parity bit highest; `poly` is CRC24A, CRC24B or CRC16."""
     given, parity = whole_octets_of(octets), ctypes.c_uint32()
-    judge(library.nr_crc(number(poly), given, len(given), ctypes.byref(parity)))
+    judge(library.nr_crc(number(poly), given, len(given), byref(parity)))
     return parity.value
 
 
@@ -67,7 +68,7 @@ def codeword(table: Table, bits: Octets, a: int, *, rate2048: Rate2048 = None, r
     entries, given, in2048ths = entries_of(table), octets_of(bits), rate(rate2048, rate1024)
     coded = bytearray(plan_struct(in2048ths, number(a)).n)
     first, room = room_of(coded)
-    judge(library.nr_codeword(*entries, in2048ths, a, given, len(given), ctypes.byref(first), room))
+    judge(library.nr_codeword(*entries, in2048ths, a, given, len(given), byref(first), room))
     return coded
 
 
@@ -75,7 +76,7 @@ def buffer(a: int, rv: int, *, rate2048: Rate2048 = None, rate1024: Rate1024 = N
     """The circular buffer of each code block of a transport block of `a` bits, and where the redundancy version begins in it,
     as a Buffer. `lbrm` is TBS_LBRM in bits, 0 for none."""
     link, found = settings(rate2048, rate1024, lbrm), BufferStruct()
-    judge(library.nr_buffer(ctypes.byref(link), number(a), number(rv), ctypes.byref(found)))
+    judge(library.nr_buffer(byref(link), number(a), number(rv), byref(found)))
     return Buffer(found.ncb, found.k0)
 
 
@@ -83,7 +84,7 @@ def lengths(a: int, tx: Tx, *, rate2048: Rate2048 = None, rate1024: Rate1024 = N
     """E_r, how many bits a Tx sends of each code block of a transport block of `a` bits (5.4.2.1), as a list."""
     in2048ths = rate(rate2048, rate1024)
     shares = (ctypes.c_uint32 * plan_struct(in2048ths, number(a)).c)()
-    judge(library.nr_lengths(in2048ths, a, ctypes.byref(tx_struct(tx)), shares, len(shares)))
+    judge(library.nr_lengths(in2048ths, a, byref(tx_struct(tx)), shares, len(shares)))
     return list(shares)
 
 
@@ -108,10 +109,12 @@ def send(
     """The G bits that a Tx sends of a transport block's octets by a Table, each an octet 0 or 1: a bytearray, or `out` with
     them, which is a buffer of G octets that can be written. In place of the octets `bits` may have the block's bits, an item 0
     or 1 each: send(table, tx=tx, bits=..). `lbrm` is TBS_LBRM in bits, 0 for none."""
-    entries, octets, given = entries_of(table), block_of(block, bits), tx_struct(tx)
-    sent = bytearray(min(given.g, 1 << 22)) if out is None else out
-    (first, room), link = room_of(sent), ctypes.byref(settings(rate2048, rate1024, lbrm))
-    judge(library.nr_send(*entries, link, octets, len(octets), ctypes.byref(given), ctypes.byref(first), room))
+    entries, given, link = entries_of(table), tx_struct(tx), settings(rate2048, rate1024, lbrm)
+    octets = block if type(block) is bytes and bits is None else block_of(block, bits)
+    sent, first, room = fresh_room(min(given.g, 1 << 22)) if out is None else (out, *room_of(out))
+    status = library.nr_send(*entries, byref(link), octets, len(octets), byref(given), byref(first), room)
+    if status:
+        raise Fault(status)
     return sent
 
 
@@ -127,8 +130,8 @@ def receive(
     txs, heard = (TxStruct * len(pairs))(*(tx for tx, _ in pairs)), b"".join(places for _, places in pairs)
     link, block = settings(rate2048, rate1024, lbrm), bytearray(min(number(a), MOST_BITS) // 8)
     outcomes, left = (ctypes.c_uint32 * len(pairs))(), (ctypes.c_uint32 * plan_struct(link.rate2048, a).c)()
-    given, (first, room) = (ctypes.byref(link), a, txs, len(pairs), heard, len(heard)), room_of(block)
-    judge(library.nr_receive(*entries, *given, outcomes, len(outcomes), left, len(left), ctypes.byref(first), room))
+    given, (first, room) = (byref(link), a, txs, len(pairs), heard, len(heard)), room_of(block)
+    judge(library.nr_receive(*entries, *given, outcomes, len(outcomes), left, len(left), byref(first), room))
     found = [Outcome(it) for it in outcomes]
     return Received(found, list(left), block if found and found[-1] == Outcome.DELIVERED else None)
 

@@ -141,6 +141,12 @@ def room_of(given: typing.Any) -> typing.Tuple[ctypes.c_char, int]:
     return ctypes.c_char.from_buffer(given) if view.nbytes else ctypes.c_char(), view.nbytes
 
 
+def fresh_room(count: int) -> typing.Tuple[bytearray, ctypes.c_char, int]:
+    """So many octets, the first of them, and how many they are."""
+    octets = bytearray(count)
+    return octets, ctypes.c_char.from_buffer(octets) if count else ctypes.c_char(), count
+
+
 class Rows(typing.NamedTuple):
     """Rows of octets, one behind the other: the address of the first, how many they are, and the octets of each. `memory` is
     what they stand in, which lives as long as this."""
