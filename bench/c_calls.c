@@ -2,7 +2,8 @@
 
        make -C c && cc -O2 -Ic bench/c_calls.c c/out/libnr.a -o c/out/c_calls && c/out/c_calls
 
-   It reads the tables of examples/, so it runs at the repository's top. */
+   It reads the tables of examples/, so it runs at the repository's top; or with a word, the path of that folder. */
+#include <errno.h>
 #include <stdio.h>
 #include <stdlib.h>
 #include <string.h>
@@ -29,13 +30,22 @@ static uint32_t answer, left;
 
 static uint32_t read_entries(void) { return nr_table_entries(table->text, table->length, table->entries, table->count, &table->count); }
 
-static void read_table(const char *path, struct table *to) {
-    FILE *file = fopen(path, "rb");
-    if (!file) exit(2);
+/* Says what is wrong with a table, and ends. */
+static void refuse(const char *path, const char *said) {
+    fprintf(stderr, "c_calls: %s: %s\nusage: c_calls [FOLDER], with practice.csv and drawn.csv in it (examples)\n", path, said);
+    exit(2);
+}
+
+static void read_table(const char *folder, const char *name, struct table *to) {
+    char path[4096];
+    FILE *file;
+    snprintf(path, sizeof path, "%s/%s", folder, name);
+    file = fopen(path, "rb");
+    if (!file) refuse(path, strerror(errno));
     to->length = fread(to->text, 1, sizeof to->text, file);
     fclose(file);
     table = to;
-    if (read_entries() != NR_ROOM || to->count > 512 || read_entries() != NR_OK) exit(2);
+    if (read_entries() != NR_ROOM || to->count > 512 || read_entries() != NR_OK) refuse(path, "no shift table of 512 entries at most");
 }
 
 static uint32_t plan(void) {
@@ -91,9 +101,10 @@ static void link_of(struct table *by, size_t length, const char *name) {
     if (answer != NR_DELIVERED) printf("(not delivered)\n");
 }
 
-int main(void) {
-    read_table("examples/practice.csv", &practice);
-    read_table("examples/drawn.csv", &drawn);
+int main(int count, char **words) {
+    const char *folder = count > 1 ? words[1] : "examples";
+    read_table(folder, "practice.csv", &practice);
+    read_table(folder, "drawn.csv", &drawn);
     for (size_t at = 0; at < sizeof block; at++) block[at] = (uint8_t)(37 * at + 1);
     octets = 300;
     show("nr_plan, A = 2400", plan);

@@ -87,4 +87,7 @@ class Help(unittest.TestCase):
         self.assertEqual(self.completions("send", "--s"), {"--settings", "--schedule"})
         self.assertEqual(self.completions("a"), {"audit"})
         self.assertEqual(self.completions("send", "--table", "pr"), {"practice.csv", "processes.csv"})
+        self.assertEqual(self.completions("send", "--table", "=", "pr"), {"practice.csv", "processes.csv"})
+        self.assertLess({"practice.csv", "blocks.txt"}, self.completions("send", "--table", "="))
         self.assertEqual(self.completions("cut", "--rate", ""), set())
+        self.assertEqual(self.completions("cut", "--rate", "=", "1"), set())

@@ -9,7 +9,7 @@ import sys
 from linksim_tools import curve_theory
 from linksim_tools.curve_results import wilson
 from linksim_tools.curve_sets import short_path
-from linksim_tools.program import Failed
+from linksim_tools.program import Failed, Wrong, name_of
 
 # Debian's own Python, which has Debian's packages, also where another python3 stands before it.
 DEBIAN_PYTHON = "/usr/bin/python3"
@@ -134,7 +134,10 @@ def draw(setting, code, points, out):
             panel.tick_params(labelleft=False)
     dress(whole, setting, code, floor)
     metadata = {"Date": None} if pathlib.Path(out).suffix == ".svg" else None
-    figure.savefig(out, metadata=metadata)
+    try:
+        figure.savefig(out, metadata=metadata)
+    except ValueError as error:
+        raise Wrong(f"{out}: {error}") from None
     return theories
 
 
@@ -211,9 +214,9 @@ def say_audits(setting, program, lines):
         files = ["--table", str(setting.table), "--settings", f"{folder}/settings.toml", "--blocks", f"{folder}/blocks.txt"]
         print(f"\nAfter {after}: at p {line.p} {line.failed[after - 1]} of the {line.rounds} rounds of chunk {line.chunk} failed.")
         print("The files of these rounds, and what they are stuck on; or the stopping sets of the chunk by size:")
-        print("  " + shlex.join(["tools/curve", "failed", *words, folder, "--after", str(after)]))
+        print("  " + shlex.join([name_of("curve"), "failed", *words, folder, "--after", str(after)]))
         print("  " + shlex.join([short_path(program), "audit", *files, "--schedule", f"{folder}/schedule.csv"]))
-        print("  " + shlex.join(["tools/curve", "sets", *words, "--after", str(after)]))
+        print("  " + shlex.join([name_of("curve"), "sets", *words, "--after", str(after)]))
 
 
 def plot(setting, program, out, lines, points):

@@ -4,7 +4,7 @@ import dataclasses
 import math
 import sys
 
-from linksim_tools.program import Failed
+from linksim_tools.program import Failed, name_of
 
 # The quantile of the normal distribution for intervals of 95 percent.
 QUANTILE = 1.959963984540054
@@ -68,7 +68,7 @@ def lines_from(path):
     for number, one in enumerate(text.splitlines(keepends=True), 1):
         line = line_from(one)
         if not one.endswith("\n"):
-            print(f"tools/curve: {path}: the last line has no end, and is left out", file=sys.stderr)
+            print(f"{name_of('curve')}: {path}: the last line has no end, and is left out", file=sys.stderr)
         elif line:
             lines.append(line)
         elif not one.startswith("p,chunk,") and one.strip():

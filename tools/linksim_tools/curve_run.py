@@ -15,7 +15,7 @@ import time
 
 from linksim_tools.curve_chunks import line_of_chunk
 from linksim_tools.curve_results import header, line_from, lines_from, threshold_of, total
-from linksim_tools.program import Failed
+from linksim_tools.program import Failed, Wrong, name_of
 
 TOOL = pathlib.Path(__file__).resolve().parent.parent / "curve"
 
@@ -120,7 +120,7 @@ class Bar:
         filled = 30 * self.done // self.count
         rest = (now - self.start) / self.done * (self.count - self.done) if self.done else 0
         left = f", {int(rest) // 60}:{int(rest) % 60:02} left" if 0 < self.done < self.count else ""
-        text = f"tools/curve: {self.what} [{'#' * filled}{'.' * (30 - filled)}] {self.done} of {self.count} chunks{left}{at}"
+        text = f"{name_of('curve')}: {self.what} [{'#' * filled}{'.' * (30 - filled)}] {self.done} of {self.count} chunks{left}{at}"
         ends = "\n" if not self.over or self.done == self.count else ""
         print(f"\r\033[K{text}" if self.over else text, end=ends, file=sys.stderr, flush=True)
 
@@ -180,7 +180,7 @@ def by_threads(words, tasks, jobs):
 
 def first_fault(text, otherwise):
     """The first line by which `point` said why it failed."""
-    found = [line.removeprefix("tools/curve: ") for line in text.splitlines() if line.startswith("tools/curve: ")]
+    found = [line[len("tools/curve: "):] for line in text.splitlines() if line.startswith("tools/curve: ")]
     return found[0] if found else (text.strip().splitlines() or [otherwise])[-1]
 
 
@@ -195,6 +195,8 @@ def end_quietly(child):
 @contextlib.contextmanager
 def results_file(path):
     """The file of results, open at its end and for this run alone; what was cut off in its last line is taken away."""
+    if os.path.exists(path) and not os.path.isfile(path):
+        raise Wrong(f"{path} is no regular file: what was found is kept there, and read again")
     with open(path, "a+b") as file:
         try:
             fcntl.flock(file, fcntl.LOCK_EX | fcntl.LOCK_NB)
@@ -239,4 +241,4 @@ def run(setting, program, out, jobs, parallel):
                 os.fsync(file.fileno())
                 lines.append(line)
                 bar.step(line.p)
-    print(f"tools/curve: {len(lines)} chunks are in {out}", file=sys.stderr)
+    print(f"{name_of('curve')}: {len(lines)} chunks are in {out}", file=sys.stderr)

@@ -11,7 +11,7 @@ from linksim_tools.program import Failed
 def short_path(path):
     """A path as it is seen from the current folder, where it is below it."""
     path, here = pathlib.Path(path), pathlib.Path.cwd()
-    return str(path.relative_to(here) if path.is_relative_to(here) else path)
+    return str(path.relative_to(here) if here in path.parents else path)
 
 
 def stuck_sets(setting, program, code, p, chunk, after):
@@ -35,8 +35,10 @@ def count_sets(found):
 
 def write_failed(setting, program, p, chunk, after, folder):
     """Writes the files of the rounds of a chunk that fail after so many transmissions, and those alone, into a folder;
-    the rounds, and the command that shows what they are stuck on."""
+    the rounds, and the command that shows what they are stuck on. Where none fails nothing is written."""
     turns = failed_rounds(setting, program, p, chunk, after)
+    if not turns:
+        return turns, None
     if len(parts_of(setting, p, turns, after)) > 1:
         raise Failed(f"{len(turns)} rounds failed, more than one schedule takes: use tools/curve sets, or a lower p")
     folder = pathlib.Path(folder)

@@ -2,14 +2,10 @@
 
 import dataclasses
 import pathlib
-import sys
+import typing
 
+from linksim_tools import toml_file
 from linksim_tools.program import Failed
-
-try:
-    import tomllib
-except ImportError:
-    tomllib = None
 
 # The key, what its value is, and the least and the greatest value. Whether qm, nl and g go together says the program.
 NUMBERS = [
@@ -40,7 +36,7 @@ class Setting:
     table: pathlib.Path
     a: int
     rate2048: int
-    lbrm: int | None
+    lbrm: typing.Optional[int]
     g: int
     qm: int
     nl: int
@@ -94,16 +90,8 @@ def judge(path, keys):
 
 def read_setting(path):
     """The setting of a TOML file, or a failure with its first fault."""
-    if tomllib is None:
-        version = ".".join(map(str, sys.version_info[:3]))
-        raise Failed(f"Python 3.11 or later is needed, whose tomllib reads {path}; this is Python {version}")
     path = pathlib.Path(path)
-    try:
-        keys = tomllib.loads(path.read_text(encoding="utf-8"))
-    except OSError as error:
-        raise Failed(f"{path}: {error.strerror}") from None
-    except (tomllib.TOMLDecodeError, UnicodeDecodeError) as error:
-        raise Failed(f"{path}: no TOML: {error}") from None
+    keys = toml_file.read(path)
     judge(path, keys)
     others = {"path": path, "table": path.parent / keys["table"], "lbrm": keys.get("lbrm")}
     lists = {"rvs": tuple(keys["rvs"]), "points": tuple(sorted({float(p) for p in keys["points"]}))}

@@ -2,32 +2,60 @@
 
 import os
 import pathlib
+import shutil
 import subprocess
 import sys
 
 ROOT = pathlib.Path(__file__).resolve().parent.parent.parent
-PROGRAM = ROOT / "crates" / "linksim" / "out" / "linksim"
 BUILD = "(cd crates/linksim && rt run -- --version)"
+
+# Where the program stands: built in a checkout, unpacked beside the tools, or installed, with the tools in share/linksim.
+PLACES = (ROOT / "crates" / "linksim" / "out" / "linksim", ROOT / "bin" / "linksim", ROOT.parent.parent / "bin" / "linksim")
 
 
 class Failed(Exception):
-    """A tool cannot go on; its text is the one line that says why."""
+    """A tool cannot go on; its text is the one line that says why, and `status` what the tool ends with."""
+
+    status = 1
+
+
+class Wrong(Failed):
+    """A word, or a file that a word names, is not what the tool wants."""
+
+    status = 2
+
+
+def name_of(tool):
+    """What a tool calls itself: `linksim-curve` where it was called so, as it is installed, else `tools/curve`."""
+    installed = f"linksim-{tool}"
+    return installed if pathlib.Path(sys.argv[0]).name == installed else f"tools/{tool}"
 
 
 def add_program(parser):
     """Gives a command line parser the option --program."""
     parser.add_argument(
-        "--program", type=pathlib.Path, default=PROGRAM, metavar="PATH",
-        help="the program linksim (the built one of this checkout where none is named)",
+        "--program", metavar="NAME",
+        help="the program linksim, by its path or by its name in PATH (this checkout's where it is built, else the one in PATH)",
     )
 
 
-def program_at(path):
+def is_program(path):
+    """Whether a file can be run."""
+    return path.is_file() and os.access(path, os.X_OK)
+
+
+def program_at(name=None):
     """The absolute path of the program, or a failure that says how to build it."""
-    found = pathlib.Path(path).resolve()
-    if not os.access(found, os.X_OK) or found.is_dir():
-        raise Failed(f"no program at {found}; this builds it, from the repository's top: {BUILD}")
-    return found
+    if name is None:
+        found = next((str(path) for path in PLACES if is_program(path)), None) or shutil.which("linksim")
+        said = "no program linksim beside the tools or in PATH; name one by --program, or build it"
+    else:
+        path = pathlib.Path(name)
+        found = str(path) if is_program(path) else shutil.which(str(name)) if path.name == str(name) else None
+        said = f"no program at {path.resolve()}; this builds it"
+    if not found:
+        raise Failed(f"{said}, from the repository's top: {BUILD}")
+    return pathlib.Path(found).resolve()
 
 
 def output_of(program, words, stdin=b""):
@@ -39,16 +67,28 @@ def output_of(program, words, stdin=b""):
     return ended.stdout.decode()
 
 
+def ended(tool, status, said=None):
+    """Ends a tool with a status, and with its one line where it has one. Standard output is put aside: what it could not
+    take is not tried once more."""
+    if said is not None:
+        print(f"{name_of(tool)}: {said}", file=sys.stderr)
+        os.dup2(os.open(os.devnull, os.O_WRONLY), sys.stdout.fileno())
+    sys.exit(status)
+
+
 def main_of(tool, main):
-    """Runs a tool's main function and ends with its status: 1 and one line where it failed, 130 where it was
-    interrupted, and quietly where the reader of its output has gone."""
+    """Runs a tool's main function and ends with its status: with one line and 1 where it failed, or 2 where a word or a file
+    was wrong; 130 where it was interrupted; and quietly where the reader of its output has gone."""
     try:
-        sys.exit(main())
+        status = main()
+        sys.stdout.flush()
+        sys.exit(status)
     except Failed as failed:
-        sys.exit(f"{tool}: {failed}")
+        ended(tool, failed.status, failed)
     except BrokenPipeError:
         os.dup2(os.open(os.devnull, os.O_WRONLY), sys.stdout.fileno())
         sys.exit(1)
+    except OSError as error:
+        ended(tool, 2, f"{error.filename or 'standard output'}: {error.strerror or error}")
     except KeyboardInterrupt:
-        print(f"{tool}: interrupted", file=sys.stderr)
-        sys.exit(130)
+        ended(tool, 130, "interrupted")

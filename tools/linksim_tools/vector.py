@@ -7,7 +7,7 @@ import re
 import sys
 import tempfile
 
-from linksim_tools import rate_matching
+from linksim_tools import rate_matching, toml_file
 from linksim_tools.packing import packed, unpacked
 from linksim_tools.program import Failed, output_of
 
@@ -19,28 +19,22 @@ MANY = 16
 
 def settings_of(path):
     """The rate in 2048ths of a settings file and its TBS_LBRM, or None."""
-    try:
-        import tomllib
-    except ImportError:
-        raise Failed("Python 3.11 or a later one is needed, which reads TOML") from None
-    try:
-        settings = tomllib.loads(pathlib.Path(path).read_bytes().decode())
-    except (OSError, ValueError) as error:
-        raise Failed(f"{path} cannot be read: {error}") from None
+    settings = toml_file.read(path)
     if not isinstance(settings.get("rate2048"), int):
         raise Failed(f"{path} has no whole number rate2048")
     return settings["rate2048"], settings.get("lbrm")
 
 
 def block_line(path, number):
-    """A line of a blocks file, from 1, as text."""
+    """A line of a blocks file, or of standard input where it is named -, from 1, as text."""
     try:
-        lines = pathlib.Path(path).read_bytes().split(b"\n")
+        lines = (sys.stdin.buffer.read() if path == "-" else pathlib.Path(path).read_bytes()).split(b"\n")
     except OSError as error:
         raise Failed(f"{path} cannot be read: {error.strerror}") from None
     if number not in range(1, len(lines) + 1) or (number == len(lines) and not lines[-1]):
         raise Failed(f"{path} has no block {number}")
-    return lines[number - 1].removesuffix(b"\r").decode("latin-1")
+    line = lines[number - 1]
+    return (line[:-1] if line.endswith(b"\r") else line).decode("latin-1")
 
 
 def plan_of(line):
@@ -143,7 +137,7 @@ def written(vector, transmission, packing):
         yield f"{json.dumps(name)}: {json.dumps(value)},"
     yield '"codeblocks": ['
     for part in parts:
-        text = json.dumps(part | {name: packed(packing, part[name]) for name in ("bits", "e", "f")})
+        text = json.dumps({**part, **{name: packed(packing, part[name]) for name in ("bits", "e", "f")}})
         yield text + ("" if part["r"] == parts[-1]["r"] else ",")
     yield "],"
     yield f'"sent": {json.dumps(packed(packing, whole))}'

@@ -1,0 +1,140 @@
+"""Where a word or a file is wrong a tool writes one line and ends with status 2; how it finds the program; and which Pythons
+run it."""
+
+import ast
+import os
+import shutil
+import sys
+import unittest
+
+import shared
+from test_curve import CONF
+
+PYTHONS = [f"python3.{minor}" for minor in range(8, 14)]
+
+
+def interpreters():
+    """The Pythons that are there, of those that the tools are for."""
+    for name in PYTHONS:
+        found = shutil.which(name)
+        if found and not shared.run([found, "--version"])[0]:
+            yield name, found
+
+
+class Lines(shared.InFolder):
+    """What ended in a traceback once."""
+
+    def setUp(self):
+        super().setUp()
+        self.conf = self.file("c.toml", CONF)
+
+    def refused(self, *words, status=2, **how):
+        """The one line that a tool writes on standard error."""
+        found, output, error = shared.tool(*words, **how)
+        self.assertEqual((found, output, error.count("\n")), (status, "", 1), error)
+        return error
+
+    def test_results_in_no_folder(self):
+        self.assertIn("No such file", self.refused("curve", "run", self.conf, "--out", self.folder / "none" / "x.csv"))
+
+    def test_results_in_no_regular_file(self):
+        for path in ("/dev/full", "/dev/null", self.folder):
+            self.assertIn("no regular file", self.refused("curve", "run", self.conf, "--out", path))
+
+    def test_failed_rounds_in_no_folder(self):
+        self.assertIn("/dev/null", self.refused("curve", "failed", self.conf, "0.4", "0", "/dev/null/x"))
+
+    def test_no_failed_round(self):
+        status, output, error = shared.tool("curve", "failed", self.conf, "0", "0", self.folder / "failed")
+        self.assertEqual((status, output), (0, ""))
+        self.assertEqual(error, "tools/curve: no round failed: nothing is written\n")
+        self.assertFalse((self.folder / "failed").exists())
+
+    def test_pictures(self):
+        if shared.run(["/usr/bin/python3", "-c", "import matplotlib, numpy"])[0]:
+            self.skipTest("matplotlib and numpy are not there")
+        self.file("c.csv", "0.2,0,40,1,40,3,40,3,900,9\n0.1,0,40,1,21,0,21,0,200,0\n")
+        self.assertIn("x.xyz: ", self.refused("curve", "plot", self.conf, self.folder / "x.xyz"))
+        self.assertIn("No such file", self.refused("curve", "plot", self.conf, self.folder / "none" / "x.svg"))
+
+    def test_output_that_is_full(self):
+        for words in (["curve", "point", self.conf, "0", "0"], ["vectors", "--near", "1000"]):
+            script = 'exec "$@" > /dev/full'
+            run = ["bash", "-c", script, "-", sys.executable, shared.TOOLS / words[0], *words[1:], "--program", shared.program()]
+            status, _, error = shared.run(run)
+            self.assertEqual((status, error.decode()), (2, f"tools/{words[0]}: standard output: No space left on device\n"))
+
+    def test_blocks_of_standard_input(self):
+        words = ["--table", shared.EXAMPLES / "practice.csv", "--settings", shared.EXAMPLES / "settings.toml", "--rv", "0", "--g", "24"]
+        blocks = (shared.EXAMPLES / "blocks.txt").read_bytes()
+        wanted = shared.tool("vectors", *words, "--blocks", shared.EXAMPLES / "blocks.txt")
+        self.assertEqual(shared.tool("vectors", *words, "--blocks", "-", stdin=blocks), wanted)
+        self.assertEqual(wanted[0], 0)
+
+
+class Program(shared.InFolder):
+    """How the tools find the program."""
+
+    def near(self, folder, *words, path="/usr/bin:/bin", name="vectors"):
+        """The status and the output of a tool below a folder."""
+        run = [sys.executable, folder / name, "--near", "1000", *words]
+        status, output, error = shared.run(run, environment={**os.environ, "PATH": path})
+        return status, output.decode() + error.decode()
+
+    def test_places(self):
+        wanted = shared.tool("vectors", "--near", "1000")[1]
+        tools = self.folder / "share" / "linksim" / "tools"
+        shutil.copytree(shared.TOOLS, tools, ignore=shutil.ignore_patterns("__pycache__"))
+        status, said = self.near(tools)
+        self.assertEqual((status, said.count("\n")), (1, 1))
+        self.assertIn("no program linksim beside the tools or in PATH", said)
+        (self.folder / "path").mkdir()
+        in_path = f"{self.folder / 'path'}:/usr/bin:/bin"
+        for name, words in [("linksim", []), ("linksim", ["--program", "linksim"]), ("other", ["--program", "other"])]:
+            program = self.folder / "path" / name
+            program.symlink_to(shared.program())
+            self.assertEqual(self.near(tools, *words, path=in_path), (0, wanted))
+            program.unlink()
+        for place in (self.folder / "bin", tools.parent / "bin", tools.parent / "crates" / "linksim" / "out"):
+            place.mkdir(parents=True)
+            (place / "linksim").symlink_to(shared.program())
+            self.assertEqual(self.near(tools), (0, wanted))
+            (place / "linksim").unlink()
+
+    def test_name(self):
+        """A tool that is called as it is installed names itself so."""
+        for tool in ("curve", "table", "vectors"):
+            link = self.folder / f"linksim-{tool}"
+            link.symlink_to(shared.TOOLS / tool)
+            status, output, _ = shared.run([sys.executable, link, "--help"])
+            self.assertEqual(status, 0)
+            self.assertIn(f"usage: linksim-{tool} ", output.decode())
+            self.assertNotIn(f"tools/{tool}", output.decode())
+
+
+class Pythons(shared.InFolder):
+    """Python 3.8 to 3.13."""
+
+    def test_grammar(self):
+        for path in [path for path in sorted(shared.TOOLS.glob("**/*")) if path.is_file() and path.suffix in ("", ".py")]:
+            text = path.read_text()
+            if path.suffix or text.startswith("#!/usr/bin/env python3"):
+                with self.subTest(path.name):
+                    ast.parse(text, feature_version=(3, 8))
+
+    def test_each_that_is_there(self):
+        conf = self.file("c.toml", CONF)
+        for name, python in interpreters():
+            with self.subTest(name):
+                for words in (["vectors", "--near", "1000"], ["curve", "point", conf, "0", "0"]):
+                    run = [python, shared.TOOLS / words[0], *words[1:], "--program", shared.program()]
+                    status, output, error = shared.run(run)
+                    said = error.decode()
+                    if status:
+                        self.assertRegex(said, r"^tools/curve: .*tomli; this is Python 3\.(8|9|10)\..* without it\n$")
+                    else:
+                        self.assertTrue(output)
+
+
+if __name__ == "__main__":
+    unittest.main()

@@ -1,0 +1,27 @@
+"""The keys of a TOML file, by Python's own reader, or by the package tomli where Python is older than 3.11."""
+
+import pathlib
+import sys
+
+from linksim_tools.program import Failed
+
+try:
+    import tomllib
+except ImportError:
+    try:
+        import tomli as tomllib
+    except ImportError:
+        tomllib = None
+
+
+def read(path):
+    """The keys of a TOML file, or a failure with its first fault."""
+    if tomllib is None:
+        version = ".".join(map(str, sys.version_info[:3]))
+        raise Failed(f"{path}: TOML is read by Python 3.11, or by the package tomli; this is Python {version} without it")
+    try:
+        return tomllib.loads(pathlib.Path(path).read_bytes().decode())
+    except OSError as error:
+        raise Failed(f"{path}: {error.strerror}") from None
+    except ValueError as error:
+        raise Failed(f"{path}: no TOML: {error}") from None
