@@ -1,5 +1,5 @@
-"""Where a word or a file is wrong a tool writes one line and ends with status 2; how it finds the program; and which Pythons
-run it."""
+"""Where a word or a file is wrong a tool writes one line and ends with status 2; how it finds the program; and which
+Pythons run it."""
 
 import ast
 import os
@@ -60,12 +60,14 @@ class Lines(shared.InFolder):
     def test_output_that_is_full(self):
         for words in (["curve", "point", self.conf, "0", "0"], ["vectors", "--near", "1000"]):
             script = 'exec "$@" > /dev/full'
-            run = ["bash", "-c", script, "-", sys.executable, shared.TOOLS / words[0], *words[1:], "--program", shared.program()]
-            status, _, error = shared.run(run)
-            self.assertEqual((status, error.decode()), (2, f"tools/{words[0]}: standard output: No space left on device\n"))
+            run = [sys.executable, shared.TOOLS / words[0], *words[1:], "--program", shared.program()]
+            status, _, error = shared.run(["bash", "-c", script, "-", *run])
+            said = f"tools/{words[0]}: standard output: No space left on device\n"
+            self.assertEqual((status, error.decode()), (2, said))
 
     def test_blocks_of_standard_input(self):
-        words = ["--table", shared.EXAMPLES / "practice.csv", "--settings", shared.EXAMPLES / "settings.toml", "--rv", "0", "--g", "24"]
+        words = ["--table", shared.EXAMPLES / "practice.csv", "--settings", shared.EXAMPLES / "settings.toml"]
+        words += ["--rv", "0", "--g", "24"]
         blocks = (shared.EXAMPLES / "blocks.txt").read_bytes()
         wanted = shared.tool("vectors", *words, "--blocks", shared.EXAMPLES / "blocks.txt")
         self.assertEqual(shared.tool("vectors", *words, "--blocks", "-", stdin=blocks), wanted)
@@ -116,8 +118,8 @@ class Pythons(shared.InFolder):
     """Python 3.8 to 3.13."""
 
     def test_grammar(self):
-        for path in [path for path in sorted(shared.TOOLS.glob("**/*")) if path.is_file() and path.suffix in ("", ".py")]:
-            text = path.read_text()
+        for path in sorted(shared.TOOLS.glob("**/*")):
+            text = path.read_text() if path.is_file() and path.suffix in ("", ".py") else ""
             if path.suffix or text.startswith("#!/usr/bin/env python3"):
                 with self.subTest(path.name):
                     ast.parse(text, feature_version=(3, 8))

@@ -44,6 +44,29 @@ class Tools(unittest.TestCase):
                 self.assertRegex(output.decode(), rf"(?is)example.*tools/{path.name} ")
 
 
+    def commands_of(self, tool):
+        """The commands of a tool's help, if it has any."""
+        said = shared.run([shared.TOOLS / tool, "--help"])[1].decode()
+        return re.findall(r"(?m)^    ([a-z]+)(?: |$)", said.partition("COMMAND\n")[2].partition("\n\n")[0])
+
+    def test_manuals(self):
+        """A tool's man page has every command and every option that its help does, and no other."""
+        found = {tool: self.commands_of(tool) for tool in ("curve", "table", "vectors")}
+        self.assertEqual(found["table"], ["read", "fingerprint"])
+        for tool, names in found.items():
+            words = [[], *([name] for name in names)]
+            helps = [shared.run([shared.TOOLS / tool, *name, "--help"])[1].decode() for name in words]
+            known = {option for text in helps for option in re.findall(r"(?m)^  (?:(-h), )?(--[a-z]+)", text)}
+            text = (MANUAL.parent / f"linksim-{tool}.1").read_text().replace("\\-", "-")
+            section = text.partition("\n.SH OPTIONS\n")[2].partition("\n.SH ")[0]
+            with self.subTest(tool):
+                shown = re.findall(r"(?m)^\.TP\n\.BR? (--?[a-z]+)(?: \", \" (--[a-z]+))?", section)
+                shown, known = ({it for pair in pairs for it in pair if it} for pairs in (shown, known))
+                self.assertEqual(shown, known)
+                for name in names:
+                    self.assertRegex(text, rf"(?m)^\.B (linksim-{tool} )?{name}\b|^\.B {name}$")
+
+
 class Help(unittest.TestCase):
     """Against the help texts of the program."""
 
@@ -91,3 +114,13 @@ class Help(unittest.TestCase):
         self.assertLess({"practice.csv", "blocks.txt"}, self.completions("send", "--table", "="))
         self.assertEqual(self.completions("cut", "--rate", ""), set())
         self.assertEqual(self.completions("cut", "--rate", "=", "1"), set())
+
+    def test_other_shells(self):
+        """The completions of zsh and of fish have the same commands and options."""
+        options = {it[2:] for it in set.union(*helps().values()) if it.startswith("--")}
+        forms = {"zsh/site-functions/_linksim": r"--([a-z]+)", "fish/vendor_completions.d/linksim.fish": r"-l ([a-z]+)"}
+        for path, form in forms.items():
+            text = re.sub(r"(?m)^#.*|\bset -l .*", "", (shared.ROOT / "share" / path).read_text())
+            self.assertEqual(set(re.findall(form, text)), options, path)
+            for command in commands():
+                self.assertRegex(text, rf"['\s]{command}\b", path)

@@ -9,8 +9,9 @@ import sys
 ROOT = pathlib.Path(__file__).resolve().parent.parent.parent
 BUILD = "(cd crates/linksim && rt run -- --version)"
 
-# Where the program stands: built in a checkout, unpacked beside the tools, or installed, with the tools in share/linksim.
-PLACES = (ROOT / "crates" / "linksim" / "out" / "linksim", ROOT / "bin" / "linksim", ROOT.parent.parent / "bin" / "linksim")
+# Where the program stands: built in a checkout, beside the tools, or installed, with the tools in share/linksim.
+BUILT = ROOT / "crates" / "linksim" / "out" / "linksim"
+PLACES = (BUILT, ROOT / "bin" / "linksim", ROOT.parent.parent / "bin" / "linksim")
 
 
 class Failed(Exception):
@@ -35,7 +36,7 @@ def add_program(parser):
     """Gives a command line parser the option --program."""
     parser.add_argument(
         "--program", metavar="NAME",
-        help="the program linksim, by its path or by its name in PATH (this checkout's where it is built, else the one in PATH)",
+        help="the program linksim, by its path or its name in PATH (the checkout's where it is built, else PATH's)",
     )
 
 
@@ -68,8 +69,8 @@ def output_of(program, words, stdin=b""):
 
 
 def ended(tool, status, said=None):
-    """Ends a tool with a status, and with its one line where it has one. Standard output is put aside: what it could not
-    take is not tried once more."""
+    """Ends a tool with a status, and with its one line where it has one. Standard output is put aside: what it could
+    not take is not tried once more."""
     if said is not None:
         print(f"{name_of(tool)}: {said}", file=sys.stderr)
         os.dup2(os.open(os.devnull, os.O_WRONLY), sys.stdout.fileno())
@@ -77,8 +78,8 @@ def ended(tool, status, said=None):
 
 
 def main_of(tool, main):
-    """Runs a tool's main function and ends with its status: with one line and 1 where it failed, or 2 where a word or a file
-    was wrong; 130 where it was interrupted; and quietly where the reader of its output has gone."""
+    """Runs a tool's main function and ends with its status: with one line and 1 where it failed, or 2 where a word or a
+    file was wrong; 130 where it was interrupted; and quietly where the reader of its output has gone."""
     try:
         status = main()
         sys.stdout.flush()

@@ -18,7 +18,8 @@ def read(path):
     """The keys of a TOML file, or a failure with its first fault."""
     if tomllib is None:
         version = ".".join(map(str, sys.version_info[:3]))
-        raise Failed(f"{path}: TOML is read by Python 3.11, or by the package tomli; this is Python {version} without it")
+        said = f"TOML is read by Python 3.11, or by the package tomli; this is Python {version} without it"
+        raise Failed(f"{path}: {said}")
     try:
         return tomllib.loads(pathlib.Path(path).read_bytes().decode())
     except OSError as error:

@@ -1,0 +1,122 @@
+"""Debian's packages: linksim, libnr2, libnr-dev and python3-nr, by dpkg-deb."""
+
+import gzip
+import hashlib
+import shutil
+import subprocess
+import time
+
+from packages import staging
+
+VERSION = staging.VERSION
+TRIPLET = "x86_64-linux-gnu"
+LIBRARY = f"/usr/lib/{TRIPLET}"
+MAINTAINER = "Patskhume maintainers <maintainers@users.noreply.patskhume.example>"
+ABOUT = """ The data coding chain of 5G NR's shared channels (DL-SCH and UL-SCH; 3GPP
+ TS 38.212, Release 15), proved: which bits a transport block becomes, and when
+ a receiver may hand one up.
+"""
+
+# For each package its fields, what it is in a line and in more, and which files are its own, the first that fits.
+PACKAGES = {
+    "python3-nr": (
+        {"Architecture": "all", "Section": "python", "Depends": f"python3 (>= 3.8), libnr2 (= {VERSION})"},
+        "data coding chain of 5G NR - Python module", " This package has the Python module nr.\n", ["usr/lib/python3/"],
+    ),
+    "libnr2": (
+        {"Architecture": "amd64", "Section": "libs", "Multi-Arch": "same", "Depends": "libc6 (>= 2.14)"},
+        "data coding chain of 5G NR - shared library", " This package has the shared library for C and C++.\n",
+        [f"{LIBRARY[1:]}/libnr.so.2"],
+    ),
+    "libnr-dev": (
+        {"Architecture": "amd64", "Section": "libdevel", "Multi-Arch": "same", "Depends": f"libnr2 (= {VERSION})"},
+        "data coding chain of 5G NR - files for development",
+        " This package has the header, the static library, and what pkg-config and\n CMake read.\n",
+        [f"{LIBRARY[1:]}/", "usr/include/"],
+    ),
+    "linksim": (
+        {"Architecture": "amd64", "Section": "science", "Depends": "libc6 (>= 2.34), python3 (>= 3.8)",
+         "Recommends": "python3 (>= 3.11) | python3-tomli", "Suggests": "python3-matplotlib, python3-numpy"},
+        "data coding chain of 5G NR - program and simulator of links",
+        " This package has the program linksim, which also simulates links that erase\n and flip bits.\n",
+        [""],
+    ),
+}
+
+
+def owner_of(name):
+    """The package that a file belongs to."""
+    places = {package: tuple(starts) for package, (*_, starts) in PACKAGES.items()}
+    return next(package for package, starts in places.items() if name.startswith(starts))
+
+
+def packed(path, text):
+    """Writes a text as Debian packs it, without a time."""
+    path.parent.mkdir(parents=True, exist_ok=True)
+    with open(path, "wb") as file, gzip.GzipFile("", "wb", 9, file, 0) as out:
+        out.write(text)
+
+
+def write_about(top, package, when):
+    """Writes what a package says of itself: its changes and its licence."""
+    folder = top / "usr" / "share" / "doc" / package
+    date = time.strftime("%a, %d %b %Y %H:%M:%S +0000", time.gmtime(when))
+    head, said = f"{package} ({VERSION}) unstable; urgency=medium", "  * CHANGELOG.md of the project says what changed."
+    packed(folder / "changelog.gz", f"{head}\n\n{said}\n\n -- {MAINTAINER}  {date}\n".encode())
+    (folder / "copyright").write_text(f"{staging.LICENCE}\n")
+
+
+def write_control(top, package, fields, line, more):
+    """Writes the files that dpkg reads."""
+    control = top / "DEBIAN"
+    control.mkdir()
+    paths = sorted(path for path in top.glob("usr/**/*") if path.is_file() and not path.is_symlink())
+    sums = [f"{hashlib.md5(path.read_bytes()).hexdigest()}  {path.relative_to(top)}\n" for path in paths]
+    size = sum(-(-path.stat().st_size // 1024) for path in paths)
+    source = {} if package == "linksim" else {"Source": "linksim"}
+    head = {"Package": package, **source, "Version": VERSION, "Maintainer": MAINTAINER, **fields}
+    head.update({"Installed-Size": size, "Priority": "optional"})
+    text = "".join(f"{name}: {value}\n" for name, value in head.items())
+    (control / "control").write_text(f"{text}Description: {line}\n{ABOUT} .\n{more}")
+    (control / "md5sums").write_text("".join(sums))
+    if package == "libnr2":
+        (control / "shlibs").write_text(f"libnr 2 libnr2 (>= {VERSION})\n")
+        (control / "triggers").write_text("activate-noawait ldconfig\n")
+
+
+def strip(stage):
+    """Takes the names of symbols away where nobody links by them."""
+    if shutil.which("strip"):
+        words = ["strip", "--remove-section=.comment", "--remove-section=.note", "--strip-unneeded"]
+        for name in ("usr/bin/linksim", f"{LIBRARY[1:]}/libnr.so.2"):
+            subprocess.run([*words, str(stage / name)], check=True)
+        subprocess.run(["strip", "--strip-debug", "-D", str(stage / LIBRARY[1:] / "libnr.a")], check=True)
+
+
+def sort_out(stage, folder):
+    """Moves each file of the installed tree below its package's own folder."""
+    for path in sorted(stage.glob("**/*")):
+        if path.is_symlink() or path.is_file():
+            name = str(path.relative_to(stage))
+            to = folder / owner_of(name) / name
+            to.parent.mkdir(parents=True, exist_ok=True)
+            path.rename(to)
+
+
+def packages(folder, out, when):
+    """Writes the four packages."""
+    stage = folder / "installed"
+    staging.install(stage, PREFIX="/usr", LIBDIR=LIBRARY, PYTHONDIR="/usr/lib/python3/dist-packages")
+    strip(stage)
+    for path in sorted(stage.glob("usr/share/man/man1/*.1")):
+        packed(path.with_suffix(".1.gz"), path.read_bytes())
+        path.unlink()
+    sort_out(stage, folder / "debs")
+    for package, (fields, line, more, _) in PACKAGES.items():
+        top = folder / "debs" / package
+        write_about(top, package, when)
+        write_control(top, package, fields, line, more)
+        staging.settle(top, when)
+        file = out / f"{package}_{VERSION}_{fields['Architecture']}.deb"
+        words = ["dpkg-deb", "--root-owner-group", "-Zxz", "-z6", "--build", str(top), str(file)]
+        subprocess.run(words, check=True, stdout=subprocess.DEVNULL)

@@ -1,0 +1,57 @@
+"""What all packages are made of: what `make install` puts below a folder, without a machine's time and owner."""
+
+import calendar
+import os
+import pathlib
+import re
+import subprocess
+import time
+
+ROOT = pathlib.Path(__file__).resolve().parent.parent.parent
+VERSION = (ROOT / "VERSION").read_text().strip()
+LICENCE = "No licence is chosen yet: that is for the project's owner. Until then all rights are reserved."
+
+
+class Failed(Exception):
+    """The packages cannot be made; its text is the line that says why."""
+
+
+def epoch():
+    """The time that all files have: SOURCE_DATE_EPOCH, or the date of the newest version in CHANGELOG.md."""
+    named = os.environ.get("SOURCE_DATE_EPOCH")
+    if named:
+        return int(named)
+    dates = re.findall(rf"(?m)^## {re.escape(VERSION)} \((\d{{4}}-\d\d-\d\d)\)$", (ROOT / "CHANGELOG.md").read_text())
+    if not dates:
+        raise Failed(f"CHANGELOG.md has no heading '## {VERSION} (DATE)'")
+    return calendar.timegm(time.strptime(dates[0], "%Y-%m-%d"))
+
+
+def install(folder, **places):
+    """Puts below a folder what `make install` does."""
+    set_ = [f"{name}={value}" for name, value in places.items()]
+    words = ["make", "-s", "-C", str(ROOT), "install", f"DESTDIR={folder}", *set_]
+    ended = subprocess.run(words, stdin=subprocess.DEVNULL, stdout=subprocess.PIPE, stderr=subprocess.STDOUT, text=True)
+    if ended.returncode:
+        raise Failed("make install: " + (ended.stdout.strip().splitlines() or ["it failed"])[-1])
+
+
+def copy(source, target):
+    """Copies a file, or the files of a folder, without what Python keeps."""
+    source = ROOT / source
+    for path in [source] if source.is_file() else sorted(source.glob("**/*")):
+        if path.is_file() and "__pycache__" not in path.parts:
+            to = target / path.relative_to(source) if source.is_dir() else target
+            to.parent.mkdir(parents=True, exist_ok=True)
+            to.write_bytes(path.read_bytes())
+            to.chmod(0o755 if os.access(path, os.X_OK) else 0o644)
+
+
+def settle(folder, when):
+    """Gives all below a folder one time, and the modes that do not depend on who makes it."""
+    paths = [*folder.glob("**/*"), folder]
+    for path in paths:
+        if not path.is_symlink():
+            path.chmod(0o755 if path.is_dir() or os.access(path, os.X_OK) else 0o644)
+    for path in sorted(paths, key=lambda path: -len(path.parts)):
+        os.utime(path, (when, when), follow_symlinks=False)

@@ -1,0 +1,71 @@
+"""The packages as the tests have them, made once in a folder of their own; and how commands run without the kit."""
+
+import os
+import pathlib
+import shutil
+import subprocess
+import sys
+import tempfile
+import unittest
+
+ROOT = pathlib.Path(__file__).resolve().parent.parent.parent
+PROGRAM = ROOT / "crates" / "linksim" / "out" / "linksim"
+ARCHIVE = ROOT / "crates" / "nr_c" / "out" / "libnr_c.a"
+VERSION = (ROOT / "VERSION").read_text().strip()
+FOLDER = pathlib.Path(tempfile.mkdtemp(prefix="linksim-packages-"))
+DIST = FOLDER / "dist"
+SECONDS = 300
+UNSET = {"NR_LIBRARY", "PYTHONPATH", "LD_LIBRARY_PATH", "PKG_CONFIG_PATH", "SOURCE_DATE_EPOCH", "MAKEFLAGS"}
+
+
+def make():
+    """Makes the packages, or ends where what they are made of is not built."""
+    for path, how in ((PROGRAM, "(cd crates/linksim && rt run -- --version)"), (ARCHIVE, "tests/c-library")):
+        if not path.exists():
+            sys.exit(f"packages: {path.relative_to(ROOT)} is not there; this makes it: {how}")
+    done(["make", "-s", "-C", ROOT, "dist", f"DIST={DIST}"], environment=dict(os.environ))
+
+
+def without_kit():
+    """The environment of somebody who has no kit: no folder of PATH has rt or linksim."""
+    folders = os.environ["PATH"].split(os.pathsep)
+    kept = [it for it in folders if not any((pathlib.Path(it) / name).exists() for name in ("rt", "linksim"))]
+    environment = {name: value for name, value in os.environ.items() if name not in UNSET}
+    return {**environment, "PATH": os.pathsep.join(kept), "PYTHONDONTWRITEBYTECODE": "1"}
+
+
+def ran(words, folder=None, environment=None, stdin=b""):
+    """A command's status and what it wrote, standard error behind standard output."""
+    how = {"cwd": folder, "env": environment or without_kit(), "stdout": subprocess.PIPE, "stderr": subprocess.STDOUT}
+    ended = subprocess.run([str(word) for word in words], input=stdin, timeout=SECONDS, **how)
+    return ended.returncode, ended.stdout.decode(errors="replace")
+
+
+def done(words, folder=None, environment=None, stdin=b""):
+    """What a command wrote; a failure fails the test."""
+    status, output = ran(words, folder, environment, stdin)
+    if status:
+        raise AssertionError(f"{' '.join(map(str, words))}: status {status}\n{output}")
+    return output
+
+
+def needs(tool):
+    """The path of a tool without the kit; a test that lacks it is skipped."""
+    found = shutil.which(tool, path=without_kit()["PATH"])
+    if not found:
+        raise unittest.SkipTest(f"no {tool}")
+    return found
+
+
+def compiler():
+    """The C compiler, or the test is skipped."""
+    return needs(os.environ.get("CC", "cc"))
+
+
+class InFolder(unittest.TestCase):
+    """A test with a folder of its own, whose name has a space."""
+
+    maxDiff = None
+
+    def setUp(self):
+        self.folder = pathlib.Path(tempfile.mkdtemp(prefix="linksim packages ", dir=FOLDER))

@@ -1,0 +1,82 @@
+"""What has to run wherever it is put: the program, the tools, C by pkg-config and by CMake, Python, the man page."""
+
+import shlex
+
+import made
+
+EXAMPLES = made.ROOT / "c" / "examples"
+TABLE = made.ROOT / "examples" / "practice.csv"
+CMAKE = """cmake_minimum_required(VERSION 3.10)
+project(erasures C)
+find_package(nr 2 REQUIRED)
+if(NOT nr_VERSION STREQUAL "{version}")
+  message(FATAL_ERROR "nr_VERSION is ${{nr_VERSION}}")
+endif()
+foreach(target nr static)
+  add_executable(by_${{target}} "{example}")
+  target_link_libraries(by_${{target}} nr::${{target}})
+endforeach()
+"""
+
+
+class Placed(made.InFolder):
+    """The checks of one package or of several together; a test says where their files are."""
+
+    def program(self, bin_folder):
+        """The program and what it makes of the block 01."""
+        self.assertEqual(made.done([bin_folder / "linksim", "--version"]), f"linksim {made.VERSION}\n")
+        answer = made.done([bin_folder / "linksim", "cut", "--blocks", "-"], stdin=b"01\n")
+        self.assertTrue(answer.endswith("code 1 0 011021\n"), answer)
+
+    def tools(self, bin_folder, examples):
+        """Each tool, over the program beside it."""
+        self.assertIn("near", made.done([bin_folder / "linksim-vectors", "--help"]))
+        self.assertIn(" graph 1 ", made.done([bin_folder / "linksim-vectors", "--near", "100000"]))
+        prints = made.done([bin_folder / "linksim-table", "fingerprint", examples / "practice.csv"])
+        self.assertEqual(prints.count("\n"), 8)
+        status, answer = made.ran([bin_folder / "linksim-curve", "point", examples / "curve.toml", "0", "0"])
+        if status and "tomli" in answer:
+            return
+        self.assertEqual((status, answer), (0, "0.0,0,200,1" + 12 * ",0" + "\n"))
+
+    def delivered(self, output):
+        """The outcomes of the examples: the block that was sent is delivered."""
+        self.assertRegex(output, "(?s)open.*delivered.*123456789")
+
+    def by_pkg_config(self, **places):
+        """An example in C over the shared library, with the flags that pkg-config says."""
+        made.needs("pkg-config")
+        environment = {**made.without_kit(), **{name: str(value) for name, value in places.items()}}
+        version = made.done(["pkg-config", "--modversion", "nr"], environment=environment)
+        self.assertEqual(version, made.VERSION + "\n")
+        flags = shlex.split(made.done(["pkg-config", "--cflags", "--libs", "nr"], environment=environment))
+        made.done([made.compiler(), EXAMPLES / "erasures.c", *flags, "-o", self.folder / "erasures"])
+        self.delivered(made.done([self.folder / "erasures", TABLE], environment=environment))
+
+    def by_cmake(self, prefix):
+        """The same over both libraries, as find_package finds them."""
+        made.needs("cmake")
+        made.compiler()
+        source = self.folder / "cmake"
+        source.mkdir()
+        (source / "CMakeLists.txt").write_text(CMAKE.format(version=made.VERSION, example=EXAMPLES / "erasures.c"))
+        made.done(["cmake", "-S", source, "-B", source / "build", f"-DCMAKE_PREFIX_PATH={prefix}"])
+        made.done(["cmake", "--build", source / "build"])
+        for target in ("nr", "static"):
+            self.delivered(made.done([source / "build" / f"by_{target}", TABLE]))
+
+    def by_python(self, python, **places):
+        """An example in Python."""
+        environment = {**made.without_kit(), **{name: str(value) for name, value in places.items()}}
+        words = [python, EXAMPLES / "erasures.py", TABLE]
+        self.delivered(made.done(words, environment=environment, folder=self.folder))
+        script = "import nr; print(nr.__version__)"
+        version = made.done([python, "-c", script], environment=environment, folder=self.folder)
+        self.assertEqual(version, made.VERSION + "\n")
+
+    def manual(self, folder):
+        """The man pages, as man shows them."""
+        made.needs("man")
+        for path in sorted(folder.glob("linksim*")):
+            shown = made.done(["man", "-P", "cat", "-l", path], environment={**made.without_kit(), "LC_ALL": "C.UTF-8"})
+            self.assertRegex(shown, r"(?s)LINKSIM.*NAME.*linksim.*SYNOPSIS")
