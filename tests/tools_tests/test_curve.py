@@ -11,7 +11,7 @@ import time
 import unittest
 
 import shared
-from linksim_tools import curve_chunks, curve_results, curve_run, curve_setting, curve_theory
+from linksim_tools import curve_chunks, curve_outlook, curve_results, curve_run, curve_setting, curve_theory
 from linksim_tools.program import Failed
 
 # A curve of 40 rounds a chunk over the practice table, small enough for a test.
@@ -213,6 +213,21 @@ class Wanted(Conf):
         # Where a later chunk at 0.3 has a failure, 0.2 is the greatest without one.
         lines[-1] = self.line(0.3, 3, 1, 0)
         self.assertEqual(curve_run.wanted(setting, lines), [(0.2, 1)])
+
+    def test_how_many_come_is_foreseen(self):
+        """From the grid on, where the shares fall on straight lines, a run wants what was foreseen of it, phase by phase."""
+        setting = dataclasses.replace(self.setting, points=(0.2, 0.6), chunks=4)
+        lines = [self.line(0.2, 0, 1, 0)]
+        self.assertEqual([curve_outlook.outlook(setting, some, curve_run.wanted) for some in ([], lines)], [None, None])
+        lines.append(self.line(0.6, 0, 40, 40))
+        points, foreseen = curve_results.totals(lines), curve_outlook.outlook(setting, lines, curve_run.wanted)
+        self.assertGreater(foreseen, 4)
+        while tasks := curve_run.wanted(setting, lines):
+            lines += [curve_outlook.predicted(points, p, chunk) for p, chunk in tasks]
+        self.assertEqual(len(lines), 2 + foreseen)
+        self.assertEqual(curve_outlook.outlook(setting, lines, curve_run.wanted), 0)
+        endless = dataclasses.replace(setting, chunks=10**9, errors=10**9)
+        self.assertIsNone(curve_outlook.outlook(endless, lines, curve_run.wanted))
 
     def test_no_step_adds_no_point(self):
         setting = dataclasses.replace(self.setting, points=(0.2, 0.6), step=0.0, chunks=1)

@@ -14,6 +14,7 @@ import threading
 import time
 
 from linksim_tools.curve_chunks import line_of_chunk
+from linksim_tools.curve_outlook import Bar, outlook
 from linksim_tools.curve_results import header, line_from, lines_from, threshold_of, total
 from linksim_tools.program import Failed, Wrong, name_of
 
@@ -97,32 +98,6 @@ def wanted(setting, lines):
         if line is None:
             more += [(p, number) for number in range(ready, min(2 * ready, setting.chunks)) if number not in chunks]
     return more
-
-
-class Bar:
-    """How far a pass is, on standard error: over itself on a terminal, else a line now and then."""
-
-    def __init__(self, what, count):
-        self.what, self.count, self.done, self.start, self.said = what, count, 0, time.monotonic(), 0.0
-        self.over = sys.stderr.isatty()
-        self.show("")
-
-    def step(self, p):
-        """One more chunk is there."""
-        self.done += 1
-        self.show(f" p {p}")
-
-    def show(self, at):
-        now = time.monotonic()
-        if not self.over and 0 < self.done < self.count and now - self.said < 10:
-            return
-        self.said = now
-        filled = 30 * self.done // self.count
-        rest = (now - self.start) / self.done * (self.count - self.done) if self.done else 0
-        left = f", {int(rest) // 60}:{int(rest) % 60:02} left" if 0 < self.done < self.count else ""
-        text = f"{name_of('curve')}: {self.what} [{'#' * filled}{'.' * (30 - filled)}] {self.done} of {self.count} chunks{left}{at}"
-        ends = "\n" if not self.over or self.done == self.count else ""
-        print(f"\r\033[K{text}" if self.over else text, end=ends, file=sys.stderr, flush=True)
 
 
 def has_gnu_parallel():
@@ -223,15 +198,14 @@ def judge_kept(setting, program, path, lines):
 def run(setting, program, out, jobs, parallel):
     """Makes all chunks that are wanted, each written to the file of results as soon as it is there."""
     words = [sys.executable, str(TOOL), "point", "--program", str(program), str(setting.path)]
-    side_by_side = by_parallel if parallel else by_threads
-    with results_file(out) as file:
+    side_by_side, bar = by_parallel if parallel else by_threads, Bar()
+    with results_file(out) as file, contextlib.closing(bar):
         lines = lines_from(out)
         judge_kept(setting, program, out, lines)
         if not file.tell():
             file.write(f"{header(len(setting.rvs))}\n".encode())
-        names = {True: "grid and fall", False: "more chunks"}
         while tasks := wanted(setting, lines):
-            bar = Bar(names[all(chunk == 0 for _, chunk in tasks)], len(tasks))
+            bar.expect(len(tasks), outlook(setting, lines, wanted))
             for text in side_by_side(words, tasks, jobs):
                 line = line_from(text)
                 if line is None:
@@ -241,4 +215,5 @@ def run(setting, program, out, jobs, parallel):
                 os.fsync(file.fileno())
                 lines.append(line)
                 bar.step(line.p)
+        bar.finish()
     print(f"{name_of('curve')}: {len(lines)} chunks are in {out}", file=sys.stderr)

@@ -1,0 +1,87 @@
+"""How far a run of a curve is: how many chunks it will probably want still, and the bar that shows it."""
+
+import sys
+import time
+
+from linksim_tools.curve_results import Line, totals
+from linksim_tools.program import name_of
+
+# Beyond so many chunks a run is not thought through.
+MOST = 10_000
+
+
+def share_at(points, p, n):
+    """The share of failed rounds after transmission n, from 0, at a probability: on the line between the points around it."""
+    shares = [(line.p, line.failed[n] / line.rounds) for line in points]
+    for (low, one), (high, other) in zip(shares, shares[1:]):
+        if low <= p <= high:
+            return one + (other - one) * (p - low) / (high - low)
+    return shares[0][1] if p < shares[0][0] else shares[-1][1]
+
+
+def predicted(points, p, chunk):
+    """A chunk as it would be where the shares are those at its probability; over several chunks no round is lost."""
+    rounds = points[0].rounds // points[0].chunk
+    shares = [rounds * share_at(points, p, n) for n in range(len(points[0].failed))]
+    failed = tuple(int((chunk + 1) * share) - int(chunk * share) for share in shares)
+    return Line(p, chunk, rounds, points[0].c, failed, failed, failed)
+
+
+def outlook(setting, lines, wanted):
+    """How many chunks a run will probably want beyond these; or nothing where that cannot be said: a point of the grid has
+    none yet, or they are very many. `wanted` says which come next (curve_run)."""
+    tasks, known, count = wanted(setting, lines), list(lines), 0
+    if not lines or any(p in setting.points for p, chunk in tasks if chunk == 0):
+        return None
+    points = totals(lines)
+    while tasks and count <= MOST:
+        known += [predicted(points, p, chunk) for p, chunk in tasks]
+        count += len(tasks)
+        tasks = wanted(setting, known)
+    return None if tasks else count
+
+
+class Bar:
+    """How far a run is, on standard error: over itself on a terminal, else a line now and then."""
+
+    def __init__(self):
+        self.done, self.count, self.more, self.start, self.said = 0, 0, False, time.monotonic(), 0.0
+        self.over = sys.stderr.isatty()
+
+    def expect(self, tasks, foreseen):
+        """These tasks come next, and `foreseen` are all that come; or nothing where that cannot be said."""
+        self.count, self.more = self.done + max(tasks, foreseen or 0), foreseen is None
+        self.show("")
+
+    def step(self, p):
+        """One more chunk is there."""
+        self.done += 1
+        self.show(f" p {p}")
+
+    def left(self):
+        """How long it will take still."""
+        if not 0 < self.done < self.count:
+            return ""
+        rest = int((time.monotonic() - self.start) / self.done * (self.count - self.done))
+        return f", {rest // 60}:{rest % 60:02} left{' for these' if self.more else ''}"
+
+    def show(self, at):
+        now = time.monotonic()
+        if not self.over and 0 < self.done < self.count and now - self.said < 10:
+            return
+        self.said = now
+        filled = 30 * self.done // self.count
+        count = f"{self.done} of {self.count} chunks{', then more' if self.more else ''}"
+        text = f"{name_of('curve')}: [{'#' * filled}{'.' * (30 - filled)}] {count}{self.left()}{at}"
+        print(f"\r\033[K{text}" if self.over else text, end="" if self.over else "\n", file=sys.stderr, flush=True)
+
+    def finish(self):
+        """All that is wanted is there, which may be fewer chunks than were foreseen."""
+        if self.count > self.done:
+            self.count = self.done
+            self.show("")
+
+    def close(self):
+        """Ends the line of a terminal."""
+        if self.over and self.count:
+            print(file=sys.stderr)
