@@ -79,4 +79,6 @@ class Placed(made.InFolder):
         made.needs("man")
         for path in sorted(folder.glob("linksim*")):
             shown = made.done(["man", "-P", "cat", "-l", path], environment={**made.without_kit(), "LC_ALL": "C.UTF-8"})
+            if "minimized" in shown:
+                self.skipTest("man is left out of this system")
             self.assertRegex(shown, r"(?s)LINKSIM.*NAME.*linksim.*SYNOPSIS")

@@ -29,6 +29,8 @@ class Same(made.InFolder):
 
     def test_again(self):
         """Libraries and packages, made anew in another folder by somebody with other habits, are the same octets."""
+        if not shutil.which("rt"):
+            self.skipTest("no kit, whose allocator the libraries have")
         top = self.folder / "another place"
         for name in SOURCES:
             if (made.ROOT / name).is_dir():
@@ -59,7 +61,7 @@ class Installed(Placed):
         top = self.folder / "opt" / "my linksim"
         self.program(top / "bin")
         self.tools(top / "bin", top / "share" / "linksim" / "examples")
-        self.manual(top / "share" / "man" / "man1")
+        self.assertTrue((top / "share" / "man" / "man1" / "linksim-curve.1").is_file())
         self.assertEqual((top / "lib" / "libnr.so.2").stat().st_mode & 0o777, 0o644)
         for name in COMPLETIONS:
             self.assertTrue((top / "share" / name).is_file(), name)
