@@ -1,16 +1,14 @@
-"""Many blocks by one call of the Python module, against one call each; and what a call takes beside the library's own time."""
+"""Many blocks by one call of the Python module, against one call each."""
 
 import array
 import ctypes
 import pickle
 import random
-import time
 import unittest
 
 import built
 
 PRACTICE = built.PRACTICE.read_bytes()
-DRAWN = (built.ROOT / "examples" / "drawn.csv").read_bytes()
 RATE = {"rate2048": 2048}
 COUNT, OCTETS, G = 20, 30, 400
 
@@ -148,63 +146,3 @@ class Many(unittest.TestCase):
         found = self.nr.receive_many(self.table, 8 * OCTETS, self.tx, room, **RATE)
         self.assertTrue((numpy.frombuffer(found.blocks, numpy.uint8).reshape(COUNT, -1) == blocks).all())
         self.assertEqual(numpy.frombuffer(found.outcomes, numpy.uint32).tolist(), [1] * COUNT)
-
-
-class Times(unittest.TestCase):
-    """In processor time, beside the same calls from C: the least of some rounds, and the best of some trials."""
-
-    ROWS, OCTETS, G = 100, 300, 7272
-
-    def setUp(self):
-        self.nr = built.module()
-        from nr import _values
-
-        shared = built.FOLDER / "repeated.so"
-        if not shared.exists():
-            linked = [f"-L{built.FOLDER}", "-l:libnr.so.2", f"-Wl,-rpath,{built.FOLDER}"]
-            built.done([built.compiler(), "-O2", "-shared", "-fPIC", f"-I{built.C}", built.HERE / "repeated.c", "-o", shared, *linked])
-        self.c, draw = ctypes.CDLL(str(shared)), random.Random(9)
-        self.table, self.tx = self.nr.Table(DRAWN), self.nr.Tx(g=self.G)
-        self.blocks = [draw.randbytes(self.OCTETS) for _ in range(self.ROWS)]
-        self.sent = self.nr.send_many(self.table, self.blocks, self.tx, **RATE)
-        link, tx = _values.settings(2048, None, 0), _values.tx_struct(self.tx)
-        self.head = self.ROWS, self.table._entries, len(self.table), ctypes.byref(link)
-        self.given = ctypes.byref(tx), (ctypes.c_ubyte * len(self.sent)).from_buffer(self.sent)
-
-    def check_ratio(self, bound, from_c, from_python):
-        def least(call):
-            times = []
-            for _ in range(5):
-                start = time.process_time()
-                call()
-                times.append(time.process_time() - start)
-            return min(times)
-
-        ratios = []
-        while len(ratios) < 10 and min(ratios, default=9) > bound:
-            ratios.append(least(from_python) / least(from_c))
-        self.assertLessEqual(min(ratios), bound)
-
-    def test_send(self):
-        """A block of 300 octets takes at most twice as long as from C."""
-        block, room = self.blocks[0], (ctypes.c_ubyte * self.G)()
-        self.assertEqual(self.c.sent(*self.head, block, len(block), self.given[0], room), 0)
-        self.assertEqual(bytes(room), self.sent[: self.G])
-
-        def from_python():
-            for _ in range(self.ROWS):
-                self.nr.send(self.table, block, self.tx, **RATE)
-
-        self.check_ratio(2, lambda: self.c.sent(*self.head, block, len(block), self.given[0], room), from_python)
-
-    def test_receive_many(self):
-        """Blocks of 300 octets take at most 1.1 times as long as from C."""
-        outcomes, left = (ctypes.c_uint32 * self.ROWS)(), (ctypes.c_uint32 * self.ROWS)()
-        blocks = bytearray(self.ROWS * self.OCTETS)
-        rooms = outcomes, left, (ctypes.c_ubyte * len(blocks)).from_buffer(blocks)
-        self.assertEqual(self.c.received(*self.head, 8 * self.OCTETS, *self.given, *rooms), 0)
-        heard = rows(self.sent, self.ROWS)
-        found = self.nr.receive_many(self.table, 8 * self.OCTETS, self.tx, heard, **RATE)
-        self.assertEqual((list(found.outcomes), found.blocks, b"".join(self.blocks)), (list(outcomes), blocks, blocks))
-        self.check_ratio(1.1, lambda: self.c.received(*self.head, 8 * self.OCTETS, *self.given, *rooms),
-                         lambda: self.nr.receive_many(self.table, 8 * self.OCTETS, self.tx, heard, **RATE))

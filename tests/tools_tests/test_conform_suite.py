@@ -1,7 +1,6 @@
 """`tools/conform suite`: every point of the clauses has a case, and cases are what the program and other models say."""
 
 import json
-import os
 import unittest
 
 import conform_shared
@@ -103,13 +102,6 @@ class Suite(shared.InFolder):
                     selected = encoder.selected(word, right["k0"], right["Ncb"], count)
                     self.assertEqual(e, "".join(map(str, selected)))
                     self.assertEqual(f, "".join(map(str, encoder.interleaved(selected, case.qm))))
-
-    def test_quick_is_quick(self):
-        before = os.times()
-        self.assertEqual(shared.tool("conform", "suite", "--table", conform_shared.table(), "--seed=9")[0], 0)
-        after = os.times()
-        used = [getattr(after, name) - getattr(before, name) for name in ("children_user", "children_system")]
-        self.assertLess(sum(used), 10)
 
     def test_seeds_and_packings(self):
         words = ["suite", "--table", shared.EXAMPLES / "practice.csv", "--seed=2", "--pack=le32"]
