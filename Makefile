@@ -13,10 +13,10 @@ MANDIR ?= $(DATADIR)/man
 PROGRAM ?= crates/linksim/out/linksim
 DIST ?= dist
 
-TOOLS = curve table vectors
+TOOLS = conform curve table vectors
 MODULES = $(notdir $(wildcard tools/linksim_tools/*.py))
 MANUALS = $(notdir $(wildcard share/man/man1/*.1))
-EXAMPLES = $(notdir $(wildcard examples/*))
+EXAMPLES = $(filter-out conform,$(notdir $(wildcard examples/*)))
 COMPLETIONS = bash-completion/completions/linksim zsh/site-functions/_linksim fish/vendor_completions.d/linksim.fish
 
 TO_BIN = $(DESTDIR)$(BINDIR)
@@ -41,13 +41,14 @@ $(PROGRAM):
 	cd crates/linksim && rt run -- --version
 
 install-program: $(PROGRAM)
-	install -d "$(TO_BIN)" "$(TO_MAN)" "$(OURS)/tools/linksim_tools" "$(OURS)/examples"
+	install -d "$(TO_BIN)" "$(TO_MAN)" "$(OURS)/tools/linksim_tools" "$(OURS)/examples/conform"
 	install -m 755 $(PROGRAM) "$(TO_BIN)/linksim"
 	install -m 755 $(TOOLS:%=tools/%) "$(OURS)/tools"
 	install -m 644 $(MODULES:%=tools/linksim_tools/%) "$(OURS)/tools/linksim_tools"
 	for tool in $(TOOLS); do ln -sf "$(FROM_BIN)/$$tool" "$(TO_BIN)/linksim-$$tool"; done
 	install -m 644 $(MANUALS:%=share/man/man1/%) "$(TO_MAN)"
 	install -m 644 $(EXAMPLES:%=examples/%) "$(OURS)/examples"
+	install -m 644 examples/conform/*.* "$(OURS)/examples/conform"
 	chmod 755 "$(OURS)/examples/draw-table"
 	for one in $(COMPLETIONS); do install -D -m 644 "share/$$one" "$(TO_DATA)/$$one"; done
 

@@ -51,7 +51,7 @@ class Tools(unittest.TestCase):
 
     def test_manuals(self):
         """A tool's man page has every command and every option that its help does, and no other."""
-        found = {tool: self.commands_of(tool) for tool in ("curve", "table", "vectors")}
+        found = {tool: self.commands_of(tool) for tool in ("conform", "curve", "table", "vectors")}
         self.assertEqual(found["table"], ["read", "fingerprint"])
         for tool, names in found.items():
             words = [[], *([name] for name in names)]
