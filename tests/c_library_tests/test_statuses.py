@@ -58,6 +58,24 @@ ENTRIES = [
     (28, [row for row in ROWS if row[1] != 41]),
 ]
 
+# Two places that are in order have no parity columns; a range comes before an order, and each before what is behind it.
+PLACES = [
+    (26, (2, 3, 5), (2, 3, 6)),
+    (26, (2, 3, 5), (2, 4, 0)),
+    (26, (1, 45, 67), (2, 0, 0)),
+    (31, (2, 3, 5), (2, 3, 4)),
+    (31, (2, 3, 5), (2, 2, 6)),
+    (31, (1, 1, 0), (1, 0, 67)),
+    (31, (2, 41, 51), (1, 45, 67)),
+    (31, (2, 0, 52), (2, 1, 0)),
+    (31, (1, 45, 67), (1, 45, 68)),
+    (31, (1, 45, 67), (2, 0, 65535)),
+    (31, (2, 3, 5), (2, 2, 52)),
+]
+ENTRIES += [(status, [[*first, *ZEROS], [*second, *ZEROS]]) for status, first, second in PLACES]
+# The practice table cut off behind so many entries, of the core and of the further rows.
+ENTRIES += [(status, ROWS[:count]) for status, count in [(26, 28), (28, 29), (28, 103), (27, 104)]]
+
 # The blocks that a link is refused for: the status, the settings, and the number of bits.
 BLOCKS = [
     (40, SETTINGS, 0),

@@ -5,7 +5,8 @@ import dataclasses
 
 import chain
 from programs import Program, Row
-from texts import counted, eight, lines
+from test_run import total
+from texts import QUARTER_RATE, counted, eight, lines
 from worked_texts import both_graphs
 
 
@@ -57,9 +58,34 @@ CASES = [
     Case("the second of four is left out", 2048, None, 4000, [chain.Tx(1, 0, 78_000, 8, 2, mask=(0, 2, 3))], (0, 1, 0)),
 ]
 
+# 31,380 octets at the rate 0.25 are 66 code blocks with K' 3828, Zc 384 and 12 fillers, so that 19,188 bits of each are
+# ever sent. Their zeros have zeros for CRCs and parity bits.
+MANY, OCTETS, KDASH, WHOLE = 66, 31_380, 3828, 19_188
+
+
+def each_by_itself(heard, flipped=None):
+    """The text of `run` where so many of the 66 code blocks are sent, each by itself and the last one first; and then
+    a part of one of them again, with a flip."""
+    text, records = [], []
+    for t in range(1, heard + 1):
+        records.append(f"1,0,{WHOLE},1,1,-,-,{MANY - t}")
+        text.append(f"sent {t} 1 {'0' * (WHOLE // 4)}")
+        text += [f"left {t} 1 {r} {0 if r >= MANY - t else KDASH}" for r in range(MANY)]
+    count, failed = heard, MANY - heard
+    if flipped is not None:
+        count += 1
+        records.append(f"1,2,100,1,1,-,5,{flipped}")
+        text += [f"sent {count} 1 {'0' * 25}", *(f"left {count} 1 {r} 0" for r in range(MANY))]
+    outcome = "still_open" if failed else "delivered" if flipped is None else "contradiction"
+    said = f"block 1 {outcome.replace('still_', '')} tx {count} failed {failed} of {MANY}"
+    octets = " " + "00" * OCTETS if outcome == "delivered" else ""
+    text += [said + octets, total(1, codeblocks=MANY, failed=failed, **{outcome: 1})]
+    files = {"table": both_graphs(), "settings": QUARTER_RATE, "blocks": "00" * OCTETS, "schedule": eight(*records)}
+    return Row(f"{heard} of {MANY} code blocks, flipped {flipped}", lines(*text), **files)
+
 
 class LongLinks(Program):
-    """Against the model."""
+    """Against the model, and 66 code blocks by hand."""
 
     def test_cases(self):
         for case in CASES:
@@ -72,3 +98,8 @@ class LongLinks(Program):
             files = {"table": both_graphs(), "settings": case.settings(), "blocks": block, "schedule": schedule}
             for command, text in wanted.items():
                 self.check(command, [Row(case.name, text, **files)])
+
+    def test_more_than_64_code_blocks(self):
+        """Open until the last one is received, then delivered; a flip of the last or of the first contradicts."""
+        rows = [(65, None), (66, None), (66, 65), (66, 0)]
+        self.check("run", [each_by_itself(heard, flipped) for heard, flipped in rows])
