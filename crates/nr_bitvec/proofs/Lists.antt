@@ -1,16 +1,15 @@
 -- Lists of bits over packed words: what each change of the words makes of the list, and that the words stay packed.
 use Rattle.std.proofs.Common.{◌≡◌, ℕ, ◌+◌, ◌-◌, ◌*◌, ◌/◌, ◌%◌, ◌^◌, ◌<◌, ◌≤◌, ◌==◌, inl, inr, Bool, true, false, List, [], ◌∷◌, ◌++◌, length, get_or, set, refl, ap, sym, ◌∙◌, arith, length-append, length-set, get_or-set_same, get_or-set_other}
 use Rattle.std.proofs.lemmas.Bool.{cases_lt, cases_eq}
-use Rattle.std.proofs.lemmas.List.{get_or_append_left, get_or-append_right, length_push}
+use Rattle.std.proofs.lemmas.List.{get_or_append_left, get_or-append_right}
 use Rattle.std.proofs.lemmas.List.FromFn.{length-map-range_with_len, get_or-map-range_with_len}
-use Rattle.std.proofs.lemmas.Nat.Bits.{bit_at-lt, bit_at-zero, bit_at_xor, shr_and_one}
+use Rattle.std.proofs.lemmas.Nat.Bits.{bit_at-lt, bit_at_xor, shr_and_one}
 use Rattle.std.specs.Int.{bit_at, from_bool}
 use Rattle.std.specs.Int.RustNames.{bit_and, bit_xor}
 use Rattle.nr_bitvec.specs.Bit.{bit}
 use Rattle.nr_bitvec.specs.BitList.{low_first}
 use Rattle.nr_bitvec.specs.Packed.{place, moved, IsClear, IsPacked, HasPlaces, Changes, unpacked}
-use Rattle.nr_bitvec.proofs.BitFacts.{place_past}
-use Rattle.nr_bitvec.proofs.Places.{place-push_old, place-push_new, length-unpacked, bit-place, same_from_bits}
+use Rattle.nr_bitvec.proofs.Places.{length-unpacked, bit-place, same_from_bits}
 use Rattle.nr_bitvec.proofs.Flips.{moved_below, moved_from, kept}
 
 -- a list that has n bits, each of them the place of the words, is their view
@@ -50,31 +49,6 @@ window-place n ws at r j packed e =
     ap (λ k. k == 1) (e ∙ ap (place ws) i) ∙ sym (bit-place n ws (at + j) packed.clear)
 
 -- ---- a word's bits more
-
--- a zero word more
-pub place-push_zero : (ws : List ℕ) (t : ℕ) → place (ws ++ 0 ∷ []) t ≡ place ws t
-place-push_zero ws t =
-    elim (cases_lt t (64 * length ws)) [
-      | inl old ↦ place-push_old ws 0 t old
-      | inr new ↦ elim (cases_lt t (64 * length ws + 64)) [
-        | inl here ↦ place-push_new ws 0 t (t - 64 * length ws) (omega (arith, new)) (omega (arith, new, here)) ∙ bit_at-zero (t - 64 * length ws) ∙ sym (place_past ws t new)
-        | inr past ↦ place_past (ws ++ 0 ∷ []) t (omega (arith, past, length_push ws 0)) ∙ sym (place_past ws t new)
-      ]
-    ]
-
-pub places_made : (n count : ℕ) (ws mid : List ℕ) → IsPacked n ws → count ≤ 64 → 64 * length ws < n + count → mid ≡ ws ++ 0 ∷ [] → HasPlaces n count mid ws
-places_made n count ws mid packed few short m = record {
-  same = λ t. ap (λ vs. place vs t) m ∙ place-push_zero ws t;
-  above = omega (arith, short, ap length m, length_push ws 0);
-  below = omega (arith, few, packed.below, ap length m, length_push ws 0);
-}
-
-pub places_there : (n count : ℕ) (ws mid : List ℕ) → IsPacked n ws → n + count ≤ 64 * length ws → mid ≡ ws → HasPlaces n count mid ws
-places_there n count ws mid packed enough m = record {
-  same = λ t. ap (λ vs. place vs t) m;
-  above = omega (arith, packed.above, ap length m);
-  below = omega (arith, enough, ap length m);
-}
 
 -- `low` has the first bits of a word and none after them: no bit goes past the end
 pub word-none : (n count : ℕ) (mid ws : List ℕ) (low j : ℕ) → HasPlaces n count mid ws → ((k : ℕ) → count ≤ k → bit_at low k ≡ 0) → 64 * length mid ≤ n + j → bit_at low j ≡ 0

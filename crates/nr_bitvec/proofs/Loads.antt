@@ -3,8 +3,7 @@
 use Rattle.std.proofs.Common.{◌≡◌, ℕ, ◌+◌, ◌-◌, ◌*◌, ◌/◌, ◌%◌, ◌^◌, ◌<◌, ◌≤◌, ◌==◌, inl, inr, if◌then◌else◌, suc, zero, min, nat_lt, false, List, [], ◌∷◌, ◌++◌, length, get_or, take, drop, refl, ap, sym, ◌∙◌, arith, length-append, length-take, length-drop, get_or-take, get_or-drop}
 use Rattle.std.proofs.lemmas.Bool.{cases_lt, lt-ltb, le-ltb}
 use Rattle.std.proofs.lemmas.List.{get_or_past, get_or_append_left, get_or-append_right, length_push, same_lists, get_or_default}
-use Rattle.std.proofs.lemmas.Nat.Bits.{bit_at-zero}
-use Rattle.std.specs.Int.{bit_at, to_le_bytes, w64}
+use Rattle.std.specs.Int.{bit_at, to_be_bytes, to_le_bytes, w64}
 use Rattle.nr_bitvec.specs.BitList.{bits_of, octets_of}
 use Rattle.nr_bitvec.specs.Packed.{place, octet_place, IsPacked, unpacked}
 use Rattle.nr_bitvec.proofs.BitFacts.{bit_at_shr, bit_at_mod, place_of, place_past}
@@ -16,9 +15,6 @@ use Rattle.nr_bitvec.proofs.OctetLists.{length-bits_of, bit-bits_of, number_of-i
 pub record Loads (G : ℕ → ℕ) (ws : List ℕ) (i : ℕ) : Type 0 where
   pub long : length ws ≡ i
   pub places : (t : ℕ) → t < 64 * i → place ws t ≡ G t
-
-pub loads_none : (G : ℕ → ℕ) (ws : List ℕ) → ws ≡ [] → Loads G ws 0
-loads_none G ws e = record { long = ap length e; places = λ t h. absurd (omega (arith, h)) }
 
 pub loads_more : (G : ℕ → ℕ) (ws next : List ℕ) (i n : ℕ) → Loads G ws i → next ≡ ws ++ n ∷ [] → ((j : ℕ) → j < 64 → bit_at n j ≡ G (64 * i + j)) → Loads G next (i + 1)
 loads_more G ws next i n loads e word = record {
@@ -56,14 +52,6 @@ group-place os i n j e h =
       | inr past ↦ get_or_past (take n (drop (8 * i) os)) (j / 8) 0 (omega (arith, past, length-take n (drop (8 * i) os))) ∙ sym (get_or_past os (8 * i + j / 8) 0 (omega (arith, past, e, h)))
     ] in
     ap (λ k. bit_at k (7 - j % 8)) there ∙ ap (λ k. bit_at (get_or os k 0) (7 - j % 8)) q ∙ ap (λ k. bit_at (get_or os ((64 * i + j) / 8) 0) (7 - k)) r
-
--- no place is set past the last octet
-octet_place-past : (os : List ℕ) (t : ℕ) → 8 * length os ≤ t → octet_place os t ≡ 0
-octet_place-past os t h = ap (λ k. bit_at k (7 - t % 8)) (get_or_past os (t / 8) 0 (omega (arith, h))) ∙ bit_at-zero (7 - t % 8)
-
-pub octets-packed : (os ws : List ℕ) (i : ℕ) → 8 * length os ≤ 2 ^ 24 → i ≡ length os / 8 + min 1 (length os % 8) → Loads (octet_place os) ws i → IsPacked (8 * length os) ws
-octets-packed os ws i short e loads =
-    loaded-packed (octet_place os) ws i (8 * length os) loads short (omega (arith, e)) (omega (arith, e)) (octet_place-past os)
 
 pub octets-items : (os ws : List ℕ) (i : ℕ) → i ≡ length os / 8 + min 1 (length os % 8) → Loads (octet_place os) ws i → unpacked (8 * length os) ws ≡ bits_of os
 octets-items os ws i e loads =
@@ -129,7 +117,23 @@ le-octet n (suc (suc (suc (suc (suc (suc zero)))))) h = refl
 le-octet n (suc (suc (suc (suc (suc (suc (suc zero))))))) h = refl
 le-octet n (suc (suc (suc (suc (suc (suc (suc (suc k)))))))) h = absurd (omega (arith, h))
 
-small-octet : (n k : ℕ) → get_or (to_le_bytes w64 n) k 0 < 2 ^ 8
+-- octet k from the highest on
+pub be-octet : (n k : ℕ) → k < 8 → get_or (to_be_bytes w64 n) k 0 ≡ n / 2 ^ (8 * (7 - k)) % 2 ^ 8
+be-octet n zero h = refl
+be-octet n (suc zero) h = refl
+be-octet n (suc (suc zero)) h = refl
+be-octet n (suc (suc (suc zero))) h = refl
+be-octet n (suc (suc (suc (suc zero)))) h = refl
+be-octet n (suc (suc (suc (suc (suc zero))))) h = refl
+be-octet n (suc (suc (suc (suc (suc (suc zero)))))) h = refl
+be-octet n (suc (suc (suc (suc (suc (suc (suc zero))))))) h = omega arith
+be-octet n (suc (suc (suc (suc (suc (suc (suc (suc k)))))))) h = absurd (omega (arith, h))
+
+-- bit j of a word, by the octet that has it
+pub octet-bit : (n k j : ℕ) → j < 8 → bit_at (n / 2 ^ (8 * k) % 2 ^ 8) j ≡ bit_at n (8 * k + j)
+octet-bit n k j h = bit_at_mod (n / 2 ^ (8 * k)) 8 j h ∙ bit_at_shr n (8 * k) j
+
+pub small-octet : (n k : ℕ) → get_or (to_le_bytes w64 n) k 0 < 2 ^ 8
 small-octet n k =
     elim (cases_lt k 8) [
       | inl within ↦ omega (arith, le-octet n k within)

@@ -3,13 +3,13 @@ use Rattle.std.proofs.Common.{◌≡◌, ℕ, ◌+◌, ◌-◌, ◌*◌, ◌/◌
 use Rattle.std.proofs.lemmas.Bool.{cases_lt, and_parts, or_cases, ltb-true, leb-true, eqb-true, agree_below, agree_below_at}
 use Rattle.std.proofs.lemmas.List.{get_or_past}
 use Rattle.std.proofs.lemmas.Nat.Bits.{bit_at-lt, bit_at-zero, bit_at_above, bit_at_and, bit_at_or}
-use Rattle.std.proofs.lemmas.Nat.{le_bytes_8}
-use Rattle.std.specs.Int.{bit_at, from_le_bytes, w64}
+use Rattle.std.proofs.lemmas.Nat.{be_bytes_8, le_bytes_8}
+use Rattle.std.specs.Int.{bit_at, from_le_bytes, swap_bytes, to_le_bytes, w64}
 use Rattle.std.specs.Int.RustNames.{bit_and, bit_or}
 use Rattle.nr_bitvec.specs.Packed.{moved, octet_place}
 use Rattle.nr_bitvec.proofs.BitFacts.{bit_at_shr, bit_at_shl_low, bit_at_shl_high, bit_at_mod, bit_at_mod_above}
 use Rattle.nr_bitvec.proofs.Flips.{moved_below, moved_from, moved_up}
-use Rattle.nr_bitvec.proofs.Loads.{le-octet}
+use Rattle.nr_bitvec.proofs.Loads.{be-octet, le-octet, octet-bit, small-octet}
 
 -- ---- runs of places, swapped
 
@@ -83,6 +83,19 @@ turned-place w p f r pairs fours eights j h =
     ∙ swapped-partner 2 0x3333333333333333 p f refl fours (partner 4 j) (ltb-true (partner 4 j) 64 first.0)
     ∙ swapped-partner 1 0x5555555555555555 w p refl pairs (partner 2 (partner 4 j)) (ltb-true (partner 2 (partner 4 j)) 64 rest.0)
     ∙ ap (bit_at w) (eqb-true (partner 1 (partner 2 (partner 4 j))) (8 * (j / 8) + (7 - j % 8)) rest.1)
+
+-- ---- octets in the other order, each of them turned over
+
+pub reversed-place : (w o r : ℕ) → o ≡ swap_bytes w64 w → ((j : ℕ) → j < 64 → bit_at r j ≡ bit_at o (8 * (j / 8) + (7 - j % 8))) → (j : ℕ) → j < 64 → bit_at r j ≡ bit_at w (63 - j)
+reversed-place w o r swaps turns j h =
+    let k = 7 - j / 8 in
+    let low : 7 - j % 8 < 8 = omega arith in
+    let small : (i : ℕ) → get_or (to_le_bytes w64 w) i 0 < 256 = small-octet w in
+    let octet : o / 2 ^ (8 * (7 - k)) % 2 ^ 8 ≡ w / 2 ^ (8 * k) % 2 ^ 8 =
+    sym (be-octet o k (omega arith)) ∙ ap (λ os. get_or os k 0) (be_bytes_8 (to_le_bytes w64 w) o refl small swaps) ∙ le-octet w k (omega arith) in
+    let here : 8 * (j / 8) + (7 - j % 8) ≡ 8 * (7 - k) + (7 - j % 8) = omega (arith, h) in
+    let there : 8 * k + (7 - j % 8) ≡ 63 - j = omega (arith, h) in
+    turns j h ∙ ap (bit_at o) here ∙ sym (octet-bit o (7 - k) (7 - j % 8) low) ∙ ap (λ b. bit_at b (7 - j % 8)) octet ∙ octet-bit w k (7 - j % 8) low ∙ ap (bit_at w) there
 
 -- ---- one octet after another makes a word
 

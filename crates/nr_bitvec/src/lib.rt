@@ -11,4 +11,5 @@ mod packed;
 pub mod words;
 
 pub use laws::octets_round_trip;
+pub use octets::reversed;
 pub use packed::Bits;

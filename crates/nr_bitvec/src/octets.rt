@@ -5,6 +5,13 @@ ghost use Rattle.std.specs.Prelude.{◌≡◌, ℕ, ◌+◌, ◌-◌, ◌*◌, �
 ghost use Rattle.std.specs.Int.{bit_at};
 ghost use Rattle.nr_bitvec.specs.Packed.{octet_place, Swaps};
 
+/// The word with its bits in the other order: what `u64::reverse_bits` gives, in fewer steps.
+pub fn reversed(word: u64) -> u64
+    ensures { (j : ℕ) → j < 64 → bit_at result j ≡ bit_at word (63 - j) }
+{
+    turned(word.swap_bytes())
+}
+
 // The word with the bits of each of its octets in the other order.
 pub(crate) fn turned(word: u64) -> u64
     ensures { (j : ℕ) → j < 64 → bit_at result j ≡ bit_at word (8 * (j / 8) + (7 - j % 8)) }

@@ -283,6 +283,7 @@ impl Bits {
             → bit self.new.items (at + t) ≡ (place words.now t == 1) }
         ensures after { (t : ℕ) → at + 64 * length words.now ≤ t → bit self.new.items t ≡ false }
         ensures long { length self.new.items ≡ length self.old.items }
+        ensures room { self.new.room ≡ self.old.room }
     {
         join(&mut self.words, at, words);
     }

@@ -94,6 +94,7 @@ pub(crate) fn join(words: &mut Vec<u64>, len: usize, more: &[u64])
     requires fits { (t : ℕ) → 64 * length words.old.items ≤ len + t → place more.now t ≡ 0 }
     requires short { len + 64 * length more.now < 2 ^ 32 }
     ensures places { Joins len words.old.items more.now words.new.items (length more.now) }
+    ensures capacity { vec_capacity words.new ≡ vec_capacity words.old }
 {
     for (i, word) in more.iter().enumerate() {
         flip(words, len + 64 * i, *word);

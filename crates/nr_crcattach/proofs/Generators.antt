@@ -16,12 +16,6 @@ degree-le A24 = lit≤ tt
 degree-le B24 = lit≤ tt
 degree-le C16 = lit≤ tt
 
--- there are at least sixteen parity bits
-pub degree-pair : (p : Poly) → 16 ≤ degree p
-degree-pair A24 = lit≤ tt
-degree-pair B24 = lit≤ tt
-degree-pair C16 = lit≤ tt
-
 -- a remainder has at most 24 coefficients
 pub remainders-le : (p : Poly) → 2 ^ degree p ≤ 2 ^ 24
 remainders-le A24 = lit≤ tt

@@ -1,10 +1,10 @@
 -- The bits of a number, in both orders.
-use Rattle.std.proofs.Common.{◌≡◌, ℕ, ◌+◌, ◌*◌, ◌/◌, ◌%◌, ◌^◌, ◌<◌, ◌≤◌, ◌==◌, zero, suc, Bool, false, List, [], ◌∷◌, ◌++◌, length, map, take, drop, get_or, refl, sym, ◌∙◌, ap, arith, append_assoc, append-nil}
-use Rattle.std.specs.Int.{bit_at, reverse_bits_onto}
+use Rattle.std.proofs.Common.{◌≡◌, ℕ, ◌+◌, ◌-◌, ◌*◌, ◌/◌, ◌%◌, ◌^◌, ◌<◌, ◌≤◌, ◌==◌, zero, suc, Bool, false, List, ◌∷◌, ◌++◌, length, map, take, drop, get_or, refl, sym, ◌∙◌, ap, arith}
+use Rattle.std.specs.Int.{bit_at}
 use Rattle.std.specs.List.{range_with_len}
 use Rattle.std.proofs.lemmas.List.{drop_more}
 use Rattle.std.proofs.lemmas.Nat.{shr-shr}
-use Rattle.std.proofs.lemmas.Nat.Bits.{bit_at_cat_low, bit_at_lowest}
+use Rattle.std.proofs.lemmas.Nat.Bits.{bit_at_cat_low}
 use Rattle.nr_bitvec.specs.BitList.{low_first}
 use Rattle.nr_crcattach.specs.Crc.{high_first}
 
@@ -28,16 +28,6 @@ high_first-low (suc k) n a w short =
     ap (λ b. (b == 1) ∷ high_first k (a * 2 ^ n + w)) (bit_at_cat_low a n w k (omega arith))
     ∙ ap (λ bits. (bit_at w k == 1) ∷ bits) (high_first-low k n a w (omega arith))
 
--- one bit more at the end
-high_first-last : (j a b : ℕ) → b < 2 → high_first (j + 1) (a * 2 + b) ≡ high_first j a ++ (b == 1) ∷ []
-unfolding high_first
-high_first-last j a b is_digit =
-    let up : (a * 2 + b) / 2 ^ 1 ≡ a = omega arith in
-    let low : bit_at (a * 2 + b) 0 ≡ b = omega arith in
-    high_first-split j 1 (a * 2 + b)
-    ∙ ap (λ v. high_first j v ++ high_first 1 (a * 2 + b)) up
-    ∙ ap (λ d. high_first j a ++ (d == 1) ∷ []) low
-
 -- from the second bit on a number's bits are those of its half
 low_bits-half : (n a v : ℕ) → map (λ j. bit_at v j == 1) (range_with_len (a + 1) n) ≡ map (λ j. bit_at (v / 2) j == 1) (range_with_len a n)
 low_bits-half zero a v = refl
@@ -53,20 +43,15 @@ low_first-suc : (n v : ℕ) → low_first (suc n) v ≡ (bit_at v 0 == 1) ∷ lo
 unfolding low_first
 low_first-suc n v = ap (λ bits. (bit_at v 0 == 1) ∷ bits) (low_bits-half n 0 v)
 
--- bits taken lowest first and put behind others are the number's turned round
-pub high_first-reversed : (j k n a : ℕ) → high_first (j + k) (reverse_bits_onto k n a) ≡ high_first j a ++ low_first k n
-unfolding reverse_bits_onto low_first
-high_first-reversed j zero n a =
-    let none : j + 0 ≡ j = omega arith in
-    ap (λ m. high_first m a) none ∙ sym (append-nil (high_first j a))
-high_first-reversed j (suc k) n a =
-    let next : j + suc k ≡ (j + 1) + k = omega arith in
-    let last : high_first (j + 1) (a * 2 + n % 2) ≡ high_first j a ++ (bit_at n 0 == 1) ∷ [] = high_first-last j a (n % 2) (omega arith) ∙ ap (λ d. high_first j a ++ (d == 1) ∷ []) (sym (bit_at_lowest n)) in
-    ap (λ m. high_first m (reverse_bits_onto k (n / 2) (a * 2 + n % 2))) next
-    ∙ high_first-reversed (j + 1) k (n / 2) (a * 2 + n % 2)
-    ∙ ap (λ bits. bits ++ low_first k (n / 2)) last
-    ∙ append_assoc (high_first j a) ((bit_at n 0 == 1) ∷ []) (low_first k (n / 2))
-    ∙ ap (λ bits. high_first j a ++ bits) (sym (low_first-suc k n))
+-- the bits of a word in the other order are the word's from the lowest on
+pub high_first-reversed : (word reversed a n : ℕ) → ((j : ℕ) → j < 64 → bit_at reversed j ≡ bit_at word (63 - j)) → a + n ≡ 64
+    → high_first n reversed ≡ map (λ j. bit_at word j == 1) (range_with_len a n)
+unfolding high_first
+high_first-reversed word reversed a zero turns all = refl
+high_first-reversed word reversed a (suc n) turns all =
+    let here : 63 - n ≡ a = omega (arith, all) in
+    ap (λ b. (b == 1) ∷ high_first n reversed) (turns n (omega (arith, all)) ∙ ap (bit_at word) here)
+    ∙ ap (λ bits. (bit_at word a == 1) ∷ bits) (high_first-reversed word reversed (a + 1) n turns (omega (arith, all)))
 
 -- n bits of a word that stand in a list from a place on
 low_first-listed : (n j at word : ℕ) (bits : List Bool) → ((i : ℕ) → i < 64 → (bit_at word i == 1) ≡ get_or bits (at + i) false) → j + n ≤ 64 → at + (j + n) ≤ length bits

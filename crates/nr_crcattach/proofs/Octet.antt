@@ -1,6 +1,6 @@
 -- 64 bits more at a turn, octet by octet.
 use Rattle.std.proofs.Common.{◌≡◌, ℕ, ◌+◌, ◌-◌, ◌*◌, ◌/◌, ◌%◌, ◌^◌, ◌<◌, ◌==◌, if◌then◌else◌, zero, suc, Bool, List, [], ◌++◌, length, get_or, refl, sym, ◌∙◌, ap, arith, bit_and, bit_xor}
-use Rattle.std.specs.Int.{bit_at, reverse_bits_onto}
+use Rattle.std.specs.Int.{bit_at}
 use Rattle.std.proofs.lemmas.List.FromFn.{get_or-map-range_with_len}
 use Rattle.std.proofs.lemmas.Nat.{and_mask, mod_below, pow_pos, shl-shr, shl_whole, shr-shr, shr_below, shr_split, xor_lt}
 use Rattle.std.proofs.lemmas.Nat.Bits.{bit_at-lt, bit_at_xor}
@@ -188,14 +188,14 @@ joined-lt r by reversed is_word =
     xor_lt 64 (r * 2 ^ by % 2 ^ 64) reversed (mod_below (r * 2 ^ by) (2 ^ 64) (pow_pos 64)) is_word
 
 -- it is the check of the bits with those of the word behind them
-pub Continues-summed : (p : Poly) (tables : List (List ℕ)) (r word reversed joined : ℕ) → tables ≡ octet_tables p → reversed ≡ reverse_bits_onto 64 word 0 → joined ≡ bit_xor (r * 2 ^ (64 - degree p)) reversed → joined < 2 ^ 64
+pub Continues-summed : (p : Poly) (tables : List (List ℕ)) (r word reversed joined : ℕ) → tables ≡ octet_tables p → ((j : ℕ) → j < 64 → bit_at reversed j ≡ bit_at word (63 - j)) → joined ≡ bit_xor (r * 2 ^ (64 - degree p)) reversed → joined < 2 ^ 64
     → Continues p r (low_first 64 word) (summed tables joined)
-unfolding high_first
-Continues-summed p tables r word reversed joined are_tables is_reversed is_joined is_word = λ bits same.
+unfolding high_first low_first
+Continues-summed p tables r word reversed joined are_tables turns is_joined is_word = λ bits same.
     let l = degree p in
     let k = 64 - l in
     let long : l + k ≡ 64 = omega (arith, degree-le p) in
-    let turned_round : high_first 64 reversed ≡ low_first 64 word = ap (high_first 64) is_reversed ∙ high_first-reversed 0 64 word 0 in
+    let turned_round : high_first 64 reversed ≡ low_first 64 word = high_first-reversed word reversed 0 64 turns refl in
     let entered = residue-entered p k reversed bits in
     let enters : residue p l (bits ++ high_first 64 reversed) ≡ residue p l (high_first 64 (bit_xor (residue p l bits * 2 ^ k) reversed)) = rw long at entered in
     ap (λ t. summed t joined) are_tables

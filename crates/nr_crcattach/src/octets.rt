@@ -7,6 +7,7 @@ ghost use Rattle.nr_crcattach.specs.Octets.{Continues};
 ghost use Rattle.nr_crcattach.specs.declared.Poly.{Poly};
 
 use crate::Poly;
+use nr_bitvec::reversed;
 
 impl Poly {
     // The check of bits, of which `remainder` is the check, with the bits of a word behind them, the
@@ -18,7 +19,7 @@ impl Poly {
         ensures fits { result < 2 ^ degree self }
     {
         let tables = self.octet_tables();
-        let joined = u64::from(remainder) << (64 - self.degree()) ^ word.reverse_bits();
+        let joined = u64::from(remainder) << (64 - self.degree()) ^ reversed(word);
         tables[7][(joined >> 56) as usize]
             ^ tables[6][(joined >> 48 & 0xff) as usize]
             ^ tables[5][(joined >> 40 & 0xff) as usize]

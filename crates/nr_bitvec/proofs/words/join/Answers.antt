@@ -1,14 +1,19 @@
-use Rattle.std.proofs.Common.{refl, arith}
+use Rattle.std.proofs.Common.{refl, arith, ◌∙◌}
 use Rattle.nr_bitvec.proofs.Joins.{joins_none, joins_more, joins-fit}
 use Rattle.nr_bitvec.proofs.words.join.Goals as goal
 
 pub loop-i-init : goal.loop-i-init
-loop-i-init c = joins_none c.args.len c.args.words.now.items c.args.more.now c.requires.clear
+loop-i-init c = record {
+  joined = joins_none c.args.len c.args.words.now.items c.args.more.now c.requires.clear;
+  room = refl;
+}
 
 pub flip-requires : goal.flip-requires
 flip-requires c = λ j.
-    joins-fit c.args.len c.args.words.now.items c.args.more.now c.loop-i.words.items c.loop-i.i _ j c.loop-i.invariant refl ((c.type_inv.more c.loop-i.i).fits) c.requires.fits
+    joins-fit c.args.len c.args.words.now.items c.args.more.now c.loop-i.words.items c.loop-i.i _ j c.loop-i.invariant.joined refl ((c.type_inv.more c.loop-i.i).fits) c.requires.fits
 
 pub loop-i-preserved : goal.loop-i-preserved
-loop-i-preserved c =
-    joins_more c.args.len c.args.words.now.items c.args.more.now c.loop-i.words.items c.flip.new.words.items c.loop-i.i _ c.loop-i.invariant refl ((c.type_inv.more c.loop-i.i).fits) (omega (arith, c.flip.ensures.len)) c.flip.ensures.places
+loop-i-preserved c = record {
+  joined = joins_more c.args.len c.args.words.now.items c.args.more.now c.loop-i.words.items c.flip.new.words.items c.loop-i.i _ c.loop-i.invariant.joined refl ((c.type_inv.more c.loop-i.i).fits) (omega (arith, c.flip.ensures.len)) c.flip.ensures.places;
+  room = c.flip.ensures.capacity ∙ c.loop-i.invariant.room;
+}
