@@ -11,9 +11,6 @@ use Rattle.nr_ldpcenc.specs.Solving.{sum_before}
 zero_right : (a : Bool) → a ≡ a ⊕ false
 zero_right a = grind arith
 
-zero_left : (a b : Bool) → a ⊕ b ≡ (false ⊕ a) ⊕ b
-zero_left a b = refl
-
 deeper : (x s t b : Bool) → t ≡ s ⊕ b → x ⊕ t ≡ (x ⊕ s) ⊕ b
 deeper x s t b e = grind arith
 

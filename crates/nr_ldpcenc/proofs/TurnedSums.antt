@@ -1,11 +1,12 @@
 -- Sums over columns that stand twice in a row.
-use Rattle.std.proofs.Common.{◌≡◌, ℕ, zero, suc, ◌+◌, ◌-◌, ◌*◌, ◌/◌, ◌%◌, ◌<◌, ◌≤◌, ◌==◌, Bool, false, List, get_or, refl, sym, ap, ◌∙◌, inl, inr, arith}
+use Rattle.std.proofs.Common.{◌≡◌, ℕ, ◌+◌, ◌-◌, ◌*◌, ◌/◌, ◌%◌, ◌<◌, ◌≤◌, ◌==◌, Bool, false, List, get_or, sym, ap, ◌∙◌, inl, inr, arith}
 use Rattle.std.proofs.lemmas.Bool.{cases_lt}
 use Rattle.std.proofs.lemmas.Bool.Decides.{nat_tests}
 use Rattle.std.proofs.lemmas.Nat.Bits.{bit_at-lt}
 use Rattle.std.proofs.lemmas.Nat.{mod_below, div_below, div-mul-add, mod-mul-add}
 use Rattle.nr_bitvec.specs.Bit.{◌⊕◌, bit}
 use Rattle.nr_bitvec.specs.Packed.{place}
+use Rattle.nr_lifting.proofs.LaneViews.{sum_bits}
 use Rattle.nr_lifting.proofs.Turns.{mod_small, mod_once}
 use Rattle.nr_ldpcenc.specs.Doubled.{col_bit, IsDoubled, KeepsOthers, AreTwice}
 use Rattle.nr_ldpcenc.specs.Solving.{AgreeBelow}
@@ -14,14 +15,6 @@ use Rattle.nr_ldpcenc.proofs.Columns.{agree_more}
 -- place t of packed words is a digit
 digit : (ws : List ℕ) (t : ℕ) → place ws t < 2
 digit ws t = bit_at-lt (get_or ws (t / 64) 0) (t % 64)
-
-sum_bits : (a b : ℕ) → a < 2 → b < 2 → ((a + b) % 2 == 1) ≡ (a == 1) ⊕ (b == 1)
-sum_bits zero zero h k = refl
-sum_bits zero (suc zero) h k = refl
-sum_bits (suc zero) zero h k = refl
-sum_bits (suc zero) (suc zero) h k = refl
-sum_bits (suc (suc a)) b h k = absurd (omega (arith, h))
-sum_bits a (suc (suc b)) h k = absurd (omega (arith, k))
 
 -- a place that gains another one modulo two
 pub added_bit : (new old cols : List ℕ) (t at : ℕ) → place new t ≡ (place old t + place cols at) % 2 → (place new t == 1) ≡ (place old t == 1) ⊕ (place cols at == 1)

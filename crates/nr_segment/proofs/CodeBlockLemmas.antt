@@ -9,17 +9,12 @@ use Rattle.std.proofs.Math.Seq.{take-suc, take-add}
 use Rattle.std.specs.List.{range_with_len}
 use Rattle.nr_bitvec.specs.Bit.{bit}
 use Rattle.nr_crcattach.specs.Crc.{high_first, crc_of}
+use Rattle.nr_crcattach.proofs.Check.{length-high_first}
 use Rattle.nr_crcattach.specs.declared.Poly.TheVariants.{B24}
 use Rattle.nr_graphpick.specs.declared.Graph.{Graph}
 use Rattle.nr_segment.specs.Plan.{Numbers, IsSound, plan_of}
 use Rattle.nr_segment.specs.CodeBlock.{share, part_of, shared_bits, code_bits, code_block, all_code_bits, joined}
 use Rattle.nr_segment.proofs.PlanLemmas.{sound-plan}
-
--- a number has as many bits as are asked for
-length-high_first : (n v : ℕ) → length (high_first n v) ≡ n
-unfolding high_first
-length-high_first zero v = refl
-length-high_first (suc n) v = ap suc (length-high_first n v)
 
 -- the share of a code block is inside the transport block
 pub share-inside : (c s b r : ℕ) → c * s ≡ b → r < c → r * s + s ≤ b

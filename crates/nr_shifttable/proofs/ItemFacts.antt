@@ -11,13 +11,10 @@ use Rattle.csv.proofs.RecordFacts.{field-there}
 use Rattle.nr_shifttable.specs.Fields.{short_number, stripped}
 use Rattle.nr_shifttable.specs.Items.{is_header, item_of, items_from, short_numbers, with_item}
 use Rattle.nr_shifttable.specs.Records.{Record}
+use Rattle.nr_shifttable.proofs.RecordFacts.{some-same}
 use Rattle.nr_graphpick.specs.Refusal.{◌>>=◌}
 use Rattle.nr_shifttable.specs.declared.entry.Item.{Item}
 use Rattle.nr_shifttable.specs.declared.fault.TableFault.{TableFault}
-
--- what is in an option is determined
-some-same : {X : Type 0} {x y : X} → Some x ≡ Some y → x ≡ y
-some-same e = cc e
 
 -- the first field, or its want, decides whether a record is a header
 pub header-some : (r : Record) (f : List ℕ) → Some f ≡ field_at r 0 → bytes_eq (stripped f) (codes "graph") ≡ is_header r

@@ -13,13 +13,10 @@ use Rattle.nr_shifttable.specs.Fields.{numeral, short_number, stripped}
 use Rattle.nr_shifttable.specs.Items.{Apart, IsInside, graph_of, has_place, is_header, item_in, item_of, item_of_numbers, items_from, short_numbers, same_place, with_item}
 use Rattle.nr_shifttable.specs.Records.{Record}
 use Rattle.nr_graphpick.specs.Refusal.{◌>>=◌, Gives, or_fault}
+use Rattle.nr_shifttable.proofs.RecordFacts.{some-same}
 use Rattle.nr_shifttable.specs.declared.entry.Item.{Item}
 use Rattle.nr_shifttable.specs.declared.fault.TableFault.{TableFault}
 use Rattle.nr_shifttable.specs.declared.fault.TableFault.TheVariants as fault
-
--- what a chain of steps that answers says of each step
-some-same : {X : Type 0} {x y : X} → Some x ≡ Some y → x ≡ y
-some-same e = cc e
 
 pub ok-same : {X : Type 0} {x y : X} → ◌≡◌ {A = Result X TableFault} (Ok x) (Ok y) → x ≡ y
 ok-same e = cc e

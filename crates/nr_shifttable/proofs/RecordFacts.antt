@@ -13,7 +13,7 @@ use Rattle.csv.specs.declared.reader.Trim.TheVariants as trim
 use Rattle.nr_shifttable.specs.Records.{IsPlainReader, Record, records_left, rows_before_end, text_left}
 
 -- what is in an option is determined
-some-same : {X : Type 0} {x y : X} → Some x ≡ Some y → x ≡ y
+pub some-same : {X : Type 0} {x y : X} → Some x ≡ Some y → x ≡ y
 some-same e = cc e
 
 -- what the machine does with an octet of a field, by what the octet is: a comma, a line's end, a carriage return
