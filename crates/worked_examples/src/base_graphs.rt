@@ -36,14 +36,6 @@ fn picks_by_size_and_rate(rt: HostRuntime) {
 }
 
 #[test]
-fn base_graphs_are_written_by_their_numbers(rt: HostRuntime) -> Result<(), Fail> {
-    for (graph, want) in [(Graph::One, "1"), (Graph::Two, "2")] {
-        assert!(rt; graph.to_string(rt.alloc())?.as_str() == want);
-    }
-    Ok(())
-}
-
-#[test]
 fn faults_of_the_choice_are_written_by_their_names(rt: HostRuntime) -> Result<(), Fail> {
     for (fault, want) in [
         (PickFault::RateRange, "RateRange"),

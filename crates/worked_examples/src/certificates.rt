@@ -8,7 +8,7 @@ use crate::receptions::{
 };
 use nr_blockdesk::{Settings, Tx};
 use nr_ratematch::Mask;
-use std::alloc::{AllocError, Global};
+use std::alloc::Global;
 use std::test::Fail;
 
 const MOST: Places<'static> = &[

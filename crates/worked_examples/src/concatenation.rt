@@ -23,11 +23,6 @@ fn one_and_then_01_is_101(rt: HostRuntime) -> Result<(), Fail> {
 }
 
 #[test]
-fn place_11_of_12_and_16_bits_is_the_last_of_the_first(rt: HostRuntime) {
-    assert!(rt; owner(&[12, 16], 11) == (0, 11));
-}
-
-#[test]
 fn place_12_of_12_and_16_bits_is_the_first_of_the_second(rt: HostRuntime) {
     assert!(rt; owner(&[12, 16], 12) == (1, 0));
 }
@@ -35,9 +30,4 @@ fn place_12_of_12_and_16_bits_is_the_first_of_the_second(rt: HostRuntime) {
 #[test]
 fn a_code_block_of_no_bits_has_no_place(rt: HostRuntime) {
     assert!(rt; owner(&[0, 4], 0) == (1, 0));
-}
-
-#[test]
-fn a_code_block_of_no_bits_is_passed_over(rt: HostRuntime) {
-    assert!(rt; owner(&[12, 0, 16], 12) == (2, 0));
 }

@@ -76,69 +76,6 @@ fn a_table_is_kept_by_its_entries(rt: HostRuntime) -> Result<(), Fail> {
     Ok(())
 }
 
-// How many entries of each base graph a table has that is made of a range.
-fn counts_of(alloc: Global, from: usize, to: usize) -> Result<(u32, u32), Fail> {
-    let table = table_of(alloc, from, to)??;
-    Ok((table.entries(Graph::One), table.entries(Graph::Two)))
-}
-
-#[test]
-fn each_base_graph_alone_is_kept_and_both(rt: HostRuntime) -> Result<(), Fail> {
-    for (from, to, want) in [
-        (0, 137, (137, 0)),
-        (137, 242, (0, 105)),
-        (0, 242, (137, 105)),
-    ] {
-        assert!(rt; counts_of(rt.alloc(), from, to)? == want);
-    }
-    Ok(())
-}
-
-// A table whose first entry has these values.
-fn with_values(alloc: Global, values: [u16; 8]) -> Result<Table, Fail> {
-    let mut entries = kept_of(alloc, &practice_of_both(alloc)?)?;
-    if let Some(first) = entries.first_mut() {
-        first.entry.values = values;
-    }
-    Ok(Table::of_entries(alloc, &entries)?)
-}
-
-#[test]
-fn an_entry_keeps_a_value_for_each_set(rt: HostRuntime) -> Result<(), Fail> {
-    let table = with_values(rt.alloc(), [1, 2, 3, 4, 5, 6, 7, 65535])?;
-    assert!(rt; table.item(0).map(|item| item.entry.values) == Some([1, 2, 3, 4, 5, 6, 7, 65535]));
-    Ok(())
-}
-
-// Why the first entries are refused.
-fn fault_of_front(alloc: Global, count: usize) -> Result<Option<EntriesFault>, Fail> {
-    Ok(table_of(alloc, 0, count)?.err())
-}
-
-// The core of base graph 1 has 53 entries, and that of base graph 2, behind 137 of base graph 1, has 29.
-#[test]
-fn entries_cut_off_are_refused(rt: HostRuntime) -> Result<(), Fail> {
-    for (count, fault) in [
-        (0, TableFault::Empty),
-        (52, TableFault::Core(Graph::One)),
-        (53, TableFault::MissingRow(Graph::One)),
-        (54, TableFault::Extension(Graph::One)),
-        (135, TableFault::MissingRow(Graph::One)),
-        (136, TableFault::Extension(Graph::One)),
-        (165, TableFault::Core(Graph::Two)),
-        (166, TableFault::MissingRow(Graph::Two)),
-        (240, TableFault::MissingRow(Graph::Two)),
-        (241, TableFault::Extension(Graph::Two)),
-    ] {
-        let want = Some(EntriesFault::Table(fault));
-        assert!(rt;
-            fault_of_front(rt.alloc(), count)? == want,
-            "{count} entries"
-        );
-    }
-    Ok(())
-}
-
 // Why entries are refused.
 fn fault_of(alloc: Global, entries: &[KeptEntry]) -> Option<EntriesFault> {
     Table::of_entries(alloc, entries).err()
@@ -200,49 +137,6 @@ fn entries_out_of_order(rt: HostRuntime) {
             "{first:?} {second:?}"
         );
     }
-}
-
-// Their tables have no parity columns.
-#[test]
-fn entries_in_order(rt: HostRuntime) {
-    for (first, second, graph) in [
-        ((2, 3, 5), (2, 3, 6), Graph::Two),
-        ((2, 3, 5), (2, 4, 0), Graph::Two),
-        ((1, 45, 67), (2, 0, 0), Graph::One),
-    ] {
-        let want = EntriesFault::Table(TableFault::Core(graph));
-        assert!(rt;
-            fault_of_two(rt.alloc(), first, second) == Some(want),
-            "{first:?} {second:?}"
-        );
-    }
-}
-
-#[test]
-fn an_order_comes_before_a_later_range(rt: HostRuntime) {
-    let said = fault_of(
-        rt.alloc(),
-        &[kept(2, 1, 1, 0), kept(2, 1, 0, 0), kept(2, 42, 0, 0)],
-    );
-    assert!(rt; said == Some(EntriesFault::Order(2)));
-}
-
-#[test]
-fn a_range_comes_before_a_later_order(rt: HostRuntime) {
-    let said = fault_of(
-        rt.alloc(),
-        &[kept(2, 1, 1, 0), kept(2, 42, 0, 0), kept(2, 1, 0, 0)],
-    );
-    assert!(rt; said == Some(EntriesFault::Range(2)));
-}
-
-#[test]
-fn the_third_entry_may_be_out_of_order(rt: HostRuntime) {
-    let said = fault_of(
-        rt.alloc(),
-        &[kept(2, 1, 0, 0), kept(2, 1, 1, 0), kept(2, 1, 1, 0)],
-    );
-    assert!(rt; said == Some(EntriesFault::Order(3)));
 }
 
 #[test]

@@ -25,8 +25,6 @@ mod endings;
 #[cfg(test)]
 mod ends;
 #[cfg(test)]
-mod file_texts;
-#[cfg(test)]
 mod fix_orders;
 #[cfg(test)]
 mod hostile_ends;
@@ -58,8 +56,6 @@ mod segmentation;
 mod shift_tables;
 #[cfg(test)]
 mod stores;
-#[cfg(test)]
-mod streams;
 #[cfg(test)]
 mod table_sources;
 #[cfg(test)]

@@ -2,9 +2,7 @@
 
 use crate::bit_lists::bits_of;
 use nr_bitvec::Bits;
-use nr_lifting::{
-    Lane, add_block, add_lane, common, lane_count, ones_word, set_of, smallest, without,
-};
+use nr_lifting::{Lane, add_block, set_of, smallest};
 use std::alloc::Global;
 use std::test::Fail;
 
@@ -86,82 +84,4 @@ fn a_block_of_10110_turned_by_2_is_11010(rt: HostRuntime) -> Result<(), Fail> {
     let src = bits_of(rt.alloc(), &[0b1_10110_11])?;
     assert!(rt; turned_block(rt.alloc(), &src, 2)?.octet(0) == 0b1_11010_11);
     Ok(())
-}
-
-// 72 bits, of which the last is a one, rotated.
-fn last_turned(alloc: Global, p: usize) -> Result<Bits, Fail> {
-    let mut list = bits_of(alloc, &[0, 0, 0, 0, 0, 0, 0, 0, 1])?;
-    if list.len() == 72 && p < 72 {
-        let mut lane: Lane<72, 2> = Lane::zero();
-        lane.add_shifted(&Lane::load(&list, 0), p);
-        lane.store(&mut list, 0);
-    }
-    Ok(list)
-}
-
-// By hand: the one at place 71 comes to place 71 - p.
-#[test]
-fn place_71_of_72_turned_by_7_8_and_71_is_place_64_63_and_0(rt: HostRuntime) -> Result<(), Fail> {
-    for (p, want) in [
-        (7, [0, 0, 0, 0, 0, 0, 0, 0, 0x80]),
-        (8, [0, 0, 0, 0, 0, 0, 0, 1, 0]),
-        (71, [0x80, 0, 0, 0, 0, 0, 0, 0, 0]),
-    ] {
-        assert!(rt; last_turned(rt.alloc(), p)?.to_bytes()?.as_slice() == want.as_slice());
-    }
-    Ok(())
-}
-
-// Five bits counted twice: those that were met once or more, and those twice.
-fn tallied_twice(list: &Bits, out: Bits) -> Bits {
-    let mut out = out;
-    if list.len() >= 5 && out.len() >= 16 {
-        let src: Lane<5, 1> = Lane::load(list, 0);
-        let mut ones: Lane<5, 1> = Lane::zero();
-        let mut more: Lane<5, 1> = Lane::zero();
-        Lane::tally(&mut ones, &mut more, &src, 0);
-        Lane::tally(&mut ones, &mut more, &src, 0);
-        ones.store(&mut out, 0);
-        more.store(&mut out, 8);
-    }
-    out
-}
-
-// By hand: the first time nothing is counted yet, and the second time each one is.
-#[test]
-fn a_lane_tallied_twice_is_met_twice(rt: HostRuntime) -> Result<(), Fail> {
-    let list = bits_of(rt.alloc(), &[0b10110_000])?;
-    let out = tallied_twice(&list, bits_of(rt.alloc(), &[0, 0])?);
-    assert!(rt; out.to_bytes()?.as_slice() == [0b10110_000, 0b10110_000].as_slice());
-    Ok(())
-}
-
-// By hand: of the counts 3, 1, 2 and 1, the first lowest, the second and the fourth are one.
-#[test]
-fn counts_of_one_are_marked(rt: HostRuntime) {
-    assert!(rt; ones_word(&[0b1011, 0b0101]) == 0b1010);
-}
-
-#[test]
-fn bits_that_two_lanes_have(rt: HostRuntime) {
-    let both = common(&[0b1100, 0, 0, 0, 0, 1], &[0b1010, 0, 0, 0, 0, 1]);
-    assert!(rt; both == [0b1000, 0, 0, 0, 0, 1]);
-}
-
-#[test]
-fn bits_of_a_lane_that_another_lacks(rt: HostRuntime) {
-    let rest = without(&[0b1100, 0, 0, 0, 0, 1], &[0b1010, 0, 0, 0, 0, 1]);
-    assert!(rt; rest == [0b0100, 0, 0, 0, 0, 0]);
-}
-
-#[test]
-fn three_bits_of_a_lane_are_counted(rt: HostRuntime) {
-    assert!(rt; lane_count(&[0b1100, 0, 0, 0, 0, 1]) == 3);
-}
-
-#[test]
-fn lanes_add_up_modulo_two(rt: HostRuntime) {
-    let mut sum = [0b1100, 0, 0, 0, 0, 1];
-    add_lane(&mut sum, &[0b1010, 0, 0, 0, 0, 1]);
-    assert!(rt; sum == [0b0110, 0, 0, 0, 0, 0]);
 }

@@ -90,7 +90,14 @@ fn is_shown(table: &Table, plan: &Plan, peeler: &Peeler<'_>) -> Result<bool, All
     }
 }
 
-/// Peels a word of which a part was heard: whether it comes out whole, or none where rounds or the checks disagree.
+/// Whether no pair of a row and a position was visited more than twice.
+fn is_bounded(table: &Table, plan: &Plan, peeler: &Peeler<'_>) -> bool {
+    let pairs = u64::from(table.entries(plan.graph)).saturating_mul(u64::from(plan.z));
+    peeler.touches() <= pairs.saturating_mul(2)
+}
+
+/// Peels a word of which a part was heard: whether it comes out whole, or none where rounds, the checks or the bound on
+/// visits disagree.
 fn peeled(
     alloc: Global,
     table: &Table,
@@ -100,7 +107,9 @@ fn peeled(
 ) -> Result<Option<bool>, Fail> {
     let mut peeler = new_peeler(alloc, table, plan)?;
     hear(alloc, &mut peeler, size_of(plan), share, each)?;
-    let agrees = is_as_rounds(alloc, table, plan, &peeler)? && is_shown(table, plan, &peeler)?;
+    let agrees = is_as_rounds(alloc, table, plan, &peeler)?
+        && is_shown(table, plan, &peeler)?
+        && is_bounded(table, plan, &peeler);
     Ok(agrees.then_some(peeler.left() == 0))
 }
 

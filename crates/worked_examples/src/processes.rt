@@ -203,12 +203,6 @@ fn begun_of(alloc: Global, list: &[(u8, u32)]) -> Result<(Answer, [bool; 16]), F
 }
 
 #[test]
-fn no_process_has_begun(rt: HostRuntime) -> Result<(), Fail> {
-    assert!(rt; begun_of(rt.alloc(), &[])? == (Ok(None), [false; 16]));
-    Ok(())
-}
-
-#[test]
 fn each_process_begins_alone(rt: HostRuntime) -> Result<(), Fail> {
     for p in 0..16 {
         let mut one = [false; 16];
@@ -218,15 +212,5 @@ fn each_process_begins_alone(rt: HostRuntime) -> Result<(), Fail> {
             "{p}"
         );
     }
-    Ok(())
-}
-
-// 296 bits at the full rate want base graph 1.
-#[test]
-fn a_refused_process_does_not_begin(rt: HostRuntime) -> Result<(), Fail> {
-    let mut last = [false; 16];
-    last[15] = true;
-    let answers = begun_of(rt.alloc(), &[(15, 8), (0, 296)])?;
-    assert!(rt; answers == (Err(DeskFault::Graph), last));
     Ok(())
 }

@@ -51,60 +51,6 @@ fn a_limit_of_0_bits_keeps_no_buffer(rt: HostRuntime) -> Result<(), Fail> {
     Ok(())
 }
 
-/// The position that a redundancy version's bit `k` has.
-fn place_of(lbrm: Option<u32>, rv: u32, k: u32) -> Result<u32, Fail> {
-    let buffer = buffer_of(lbrm)?;
-    Ok(buffer.place(rv.min(3), k))
-}
-
-#[test]
-fn places_go_round_without_fillers(rt: HostRuntime) -> Result<(), Fail> {
-    for (lbrm, rv, k, place) in [
-        (None, 0, 0, 14),
-        (None, 0, 25, 39),
-        (None, 0, 26, 70),
-        (None, 0, 319, 363),
-        (None, 0, 320, 14),
-        (None, 1, 0, 105),
-        (None, 3, 48, 363),
-        (None, 3, 49, 14),
-        (Some(200), 3, 0, 266),
-        (Some(200), 3, 47, 313),
-        (Some(200), 3, 48, 14),
-        (Some(1), 2, u32::MAX, 14),
-    ] {
-        assert_eq!(rt; place_of(lbrm, rv, k)?, place, "bit {k} of version {rv}");
-    }
-    Ok(())
-}
-
-/// The run of positions from a redundancy version's bit `k` on, at most so long.
-fn run_of(lbrm: Option<u32>, rv: u32, k: u32, most: u32) -> Result<(u32, u32), Fail> {
-    let buffer = buffer_of(lbrm)?;
-    Ok(buffer.run(rv.min(3), k, most.max(1)))
-}
-
-// 26 positions stand before the fillers, and 294 after them.
-#[test]
-fn runs_end_at_fillers_and_at_the_end(rt: HostRuntime) -> Result<(), Fail> {
-    for (lbrm, rv, k, most, run) in [
-        (None, 0, 0, 64, (14, 26)),
-        (None, 0, 25, 64, (39, 1)),
-        (None, 0, 26, 64, (70, 64)),
-        (None, 0, 26, u32::MAX, (70, 294)),
-        (None, 0, 319, 2, (363, 1)),
-        (None, 0, 320, 20, (14, 20)),
-        (Some(200), 3, 0, 64, (266, 48)),
-        (Some(1), 2, u32::MAX, 64, (14, 1)),
-    ] {
-        assert!(rt;
-            run_of(lbrm, rv, k, most)? == run,
-            "bit {k} of version {rv}"
-        );
-    }
-    Ok(())
-}
-
 /// Puts ones in the places of bits that the word has.
 fn put_ones(word: &mut Word, ones: &[usize]) {
     for at in ones.iter().copied() {
@@ -239,42 +185,4 @@ fn scheduled_code_blocks_share_the_bits(rt: HostRuntime) {
             "{g} bits of {marks}"
         );
     }
-}
-
-#[test]
-fn all_schedule_the_last_code_block(rt: HostRuntime) {
-    assert!(rt; Mask::All.has(343));
-}
-
-/// A mask of the code blocks 0 and 191.
-const ENDS: Mask = Mask::Only([1, 0, 1 << 63, 0, 0, 0]);
-
-#[test]
-fn a_mask_has_its_code_blocks_alone(rt: HostRuntime) {
-    for r in 0..344 {
-        assert!(rt; ENDS.has(r) == (r == 0 || r == 191), "code block {r}");
-    }
-}
-
-#[test]
-fn marks_make_a_mask(rt: HostRuntime) {
-    let mut marks = [false; 384];
-    marks[0] = true;
-    marks[191] = true;
-    assert!(rt; Mask::of_marks(&marks) == ENDS);
-}
-
-#[test]
-fn faults_of_rate_matching_are_written(rt: HostRuntime) -> Result<(), Fail> {
-    for (fault, name) in [
-        (RmFault::NoBuffer, "NoBuffer"),
-        (RmFault::Order, "Order"),
-        (RmFault::Layers, "Layers"),
-        (RmFault::Total, "Total"),
-        (RmFault::Ragged, "Ragged"),
-        (RmFault::NoneScheduled, "NoneScheduled"),
-    ] {
-        assert!(rt; fault.to_string(rt.alloc())?.as_str() == name, "{name}");
-    }
-    Ok(())
 }

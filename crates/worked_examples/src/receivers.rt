@@ -116,15 +116,3 @@ fn what_is_refused_is_not_heard(rt: HostRuntime) -> Result<(), Fail> {
     }
     Ok(())
 }
-
-/// Why there is no receiver of 12 bits.
-fn without_octets(alloc: Global) -> Result<Option<DeskFault>, Fail> {
-    let table = practice(alloc, 0, 1, false)?;
-    Ok(receiver_of(alloc, &table, PLAIN, 12).err())
-}
-
-#[test]
-fn blocks_have_whole_octets(rt: HostRuntime) -> Result<(), Fail> {
-    assert_eq!(rt; without_octets(rt.alloc())?, Some(DeskFault::Size));
-    Ok(())
-}

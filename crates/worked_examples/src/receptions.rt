@@ -5,7 +5,6 @@ use crate::practice::{few_bits_of, on_one_layer, practice};
 use nr_bitvec::Bits;
 use nr_blockdesk::{DeskFault, Heard, Outcome, Receiver, Sender, Settings, Tx};
 use nr_peel::{check_order, check_stuck};
-use nr_segment::Plan;
 use nr_shifttable::Table;
 use std::alloc::{AllocError, Global};
 use std::test::Fail;

@@ -4,7 +4,7 @@ use crate::bit_lists::bits_of;
 use nr_bitvec::Bits;
 use nr_crcattach::{Poly, divides};
 use nr_graphpick::Graph;
-use nr_segment::{Plan, SegFault, cut, join, part, plan};
+use nr_segment::{Plan, SegFault, cut, join, plan};
 use std::alloc::Global;
 use std::test::Fail;
 
@@ -93,25 +93,6 @@ fn refusals_are_written_by_their_names(rt: HostRuntime) -> Result<(), Fail> {
     Ok(())
 }
 
-// Where a bit of the second code block comes from.
-fn part_of_second(plan: &Plan, k: u32) -> Option<u32> {
-    if plan.c == 2 && k < plan.kdash - plan.l {
-        Some(part(plan, 1, k))
-    } else {
-        None
-    }
-}
-
-// 3856 bits with base graph 2 are two code blocks.
-#[test]
-fn the_second_code_block_of_3856_bits_has_bits_1928_to_3855(rt: HostRuntime) -> Result<(), Fail> {
-    let two = plan(Graph::Two, 3856)?;
-    for (k, want) in [(0, 1928), (1927, 3855)] {
-        assert!(rt; part_of_second(&two, k) == Some(want));
-    }
-    Ok(())
-}
-
 // A code block, where a list has the plan's bits and the plan the code block.
 fn cut_out(alloc: Global, plan: &Plan, bits: &Bits, r: u32) -> Result<Bits, Fail> {
     if bits.len() == plan.b as usize && r < plan.c {
@@ -121,23 +102,18 @@ fn cut_out(alloc: Global, plan: &Plan, bits: &Bits, r: u32) -> Result<Bits, Fail
     }
 }
 
-// 3856 bits, whose octets count from 0 to 250 and again.
-fn long_block(alloc: Global) -> Result<Bits, Fail> {
-    let mut octets = [0; 482];
+// So many octets, 1000 at most, which count from 0 to 250 and again.
+fn long_block(alloc: Global, count: usize) -> Result<Bits, Fail> {
+    let mut octets = [0; 1000];
     for (i, octet) in octets.iter_mut().enumerate() {
         *octet = (i % 251) as u8;
     }
-    bits_of(alloc, &octets)
+    bits_of(alloc, &octets[..count.min(1000)])
 }
 
-// One of the two code blocks of these.
-fn code_block(alloc: Global, r: u32) -> Result<Bits, Fail> {
-    cut_out(alloc, &plan(Graph::Two, 3856)?, &long_block(alloc)?, r)
-}
-
-// How many bits one of the two has, whether it has its CRC, and its first octet.
+// How many bits one of two code blocks of 482 octets has, whether it has its CRC, and its first octet.
 fn about_code_block(alloc: Global, r: u32) -> Result<(usize, bool, u8), Fail> {
-    let block = code_block(alloc, r)?;
+    let block = cut_out(alloc, &plan(Graph::Two, 3856)?, &long_block(alloc, 482)?, r)?;
     Ok((block.len(), divides(Poly::B24, &block), block.octet(0)))
 }
 
@@ -150,26 +126,29 @@ fn each_of_two_code_blocks_has_1952_bits_and_its_own_crc(rt: HostRuntime) -> Res
     Ok(())
 }
 
-// Two code blocks, joined.
-fn joined(alloc: Global, plan: &Plan, first: Bits, second: Bits) -> Result<Bits, Fail> {
+// Three code blocks, joined.
+fn joined(alloc: Global, plan: &Plan, blocks: &[Bits; 3]) -> Result<Bits, Fail> {
     let long = plan.kdash as usize;
-    if plan.c == 2 && first.len() == long && second.len() == long {
-        Ok(join(alloc, plan, &[first, second])?)
+    if plan.c == 3
+        && blocks[0].len() == long
+        && blocks[1].len() == long
+        && blocks[2].len() == long
+    {
+        Ok(join(alloc, plan, blocks)?)
     } else {
         Ok(Bits::new(alloc))
     }
 }
 
+// 957 octets are 7656 bits.
 #[test]
-fn two_code_blocks_joined_are_the_block(rt: HostRuntime) -> Result<(), Fail> {
-    let two = plan(Graph::Two, 3856)?;
-    let whole = joined(
-        rt.alloc(),
-        &two,
-        code_block(rt.alloc(), 0)?,
-        code_block(rt.alloc(), 1)?,
-    )?;
-    assert!(rt; whole == long_block(rt.alloc())?);
+fn three_code_blocks_joined_are_the_block(rt: HostRuntime) -> Result<(), Fail> {
+    let plan = plan(Graph::Two, 7656)?;
+    let block = long_block(rt.alloc(), 957)?;
+    let first = cut_out(rt.alloc(), &plan, &block, 0)?;
+    let second = cut_out(rt.alloc(), &plan, &block, 1)?;
+    let third = cut_out(rt.alloc(), &plan, &block, 2)?;
+    assert!(rt; joined(rt.alloc(), &plan, &[first, second, third])? == block);
     Ok(())
 }
 

@@ -3,12 +3,8 @@
 ghost use Rattle.std.specs.Prelude.{◌≡◌, ◌≤◌, None};
 
 use crate::practice::practice_text;
-use csv::ByteRecord;
 use nr_graphpick::Graph;
-use nr_shifttable::{
-    Broken, Endless, Feed, ReadFault, Records, Source, Table, TableFault, numeral, read_to_end,
-    short_number, stripped,
-};
+use nr_shifttable::{Broken, Endless, Feed, ReadFault, Source, Table, TableFault, read_to_end};
 use std::alloc::Global;
 use std::process::Abort;
 use std::test::Fail;
@@ -27,19 +23,6 @@ fn a_source_without_end_is_too_long(rt: HostRuntime) {
         let said = read_endless(rt.alloc(), limit);
         assert!(rt; said == (Some(ReadFault::TooLong), pulls), "limit {limit}");
     }
-}
-
-// The same of a table file.
-fn read_endless_table(alloc: Global) -> (Option<TableFault>, u32) {
-    let mut source = Endless::new();
-    let fault = Table::read(alloc, &mut source).err();
-    (fault, source.pulls())
-}
-
-// A table file has at most 4,194,304 octets.
-#[test]
-fn a_table_without_end_is_too_long_after_4194305_pulls(rt: HostRuntime) {
-    assert!(rt; read_endless_table(rt.alloc()) == (Some(TableFault::TooLong), 4_194_305));
 }
 
 // A source without end that fails at one pull alone, and counts its pulls.
@@ -123,97 +106,9 @@ fn feeds_are_read_to_their_ends(rt: HostRuntime) -> Result<(), Fail> {
     Ok(())
 }
 
-// Takes the next record, if there is one: how many fields it has, and whether its last is this one.
-fn taken(
-    records: &mut Records,
-    row: &mut ByteRecord,
-    last: &[u8],
-) -> Result<Option<(usize, bool)>, Fail> {
-    if records.next(row)? {
-        let at = row.len().saturating_sub(1);
-        Ok(Some((row.len(), row.get(at) == Some(last))))
-    } else {
-        Ok(None)
-    }
-}
-
-// Records of any length, a blank line between two of them, and a quoted comma.
-#[test]
-fn the_records_of_a_text(rt: HostRuntime) -> Result<(), Fail> {
-    let mut records = Records::new(rt.alloc(), b"a,b\n\r\n\"c,d\"\n");
-    let mut row = ByteRecord::new(rt.alloc());
-    for (last, want) in [
-        ("b", Some((2, true))),
-        ("c,d", Some((1, true))),
-        ("", None),
-        ("", None),
-    ] {
-        assert!(rt;
-            taken(&mut records, &mut row, last.as_bytes())? == want,
-            "{last}"
-        );
-    }
-    Ok(())
-}
-
-// The number of a text of at most `most` digits.
-fn number_of(most: usize, text: &str) -> Option<u128> {
-    numeral(most.min(20), text.as_bytes())
-}
-
-#[test]
-fn numbers_that_digits_write(rt: HostRuntime) {
-    for (most, text, want) in [
-        (10, "0", Some(0)),
-        (10, "9999999999", Some(9_999_999_999)),
-        (10, "0000000007", Some(7)),
-        (10, "12345678901", None),
-        (10, "", None),
-        (10, "-1", None),
-        (3, "255", Some(255)),
-        (2, "255", None),
-        (20, "18446744073709551615", Some(18_446_744_073_709_551_615)),
-        (20, "99999999999999999999", Some(99_999_999_999_999_999_999)),
-    ] {
-        assert!(rt; number_of(most, text) == want, "{text}");
-    }
-}
-
-#[test]
-fn short_numbers_have_at_most_ten_digits(rt: HostRuntime) {
-    for (text, want) in [("0065535", Some(65535)), ("00000065535", None)] {
-        assert!(rt; short_number(text.as_bytes()) == want);
-    }
-}
-
-#[test]
-fn blanks_at_both_ends_are_stripped(rt: HostRuntime) {
-    assert!(rt; stripped(b" \t1 2 ") == b"1 2".as_slice());
-}
-
 // Why a table file of these octets is refused.
 fn fault_of(alloc: Global, text: &[u8]) -> Option<TableFault> {
     Table::of_text(alloc, text).err()
-}
-
-// Why the practice table's file with this text in place of its last record is refused.
-fn fault_ending(alloc: Global, last: &str) -> Result<Option<TableFault>, Fail> {
-    let mut text = practice_text(alloc)?.into_bytes();
-    text.truncate(2677 - 24);
-    text.extend_from_slice(last.as_bytes())?;
-    Ok(fault_of(alloc, &text))
-}
-
-#[test]
-fn the_last_record_cut_short(rt: HostRuntime) -> Result<(), Fail> {
-    for (last, want) in [
-        ("2,41,51,0,0,0,0,0,0,0,0", None),
-        ("2,41,51,0,0,0,0,0,0,0", Some(TableFault::Csv(105))),
-        ("2,41,51,0,0,0,0,0,0,0,", Some(TableFault::Number(105))),
-    ] {
-        assert!(rt; fault_ending(rt.alloc(), last)? == want);
-    }
-    Ok(())
 }
 
 // What the reader answers to the beginning of the practice table's file that has so many whole records and a line of so
@@ -258,16 +153,5 @@ fn read_beginnings(rt: &impl Abort, alloc: Global, text: &[u8]) -> u32 {
 fn each_beginning_of_the_practice_table(rt: HostRuntime) -> Result<(), Fail> {
     let text = practice_text(rt.alloc())?;
     assert!(rt; read_beginnings(&rt, rt.alloc(), text.as_bytes()) == 105);
-    Ok(())
-}
-
-#[test]
-fn faults_of_tables_are_written_with_their_numbers(rt: HostRuntime) -> Result<(), Fail> {
-    for (fault, want) in [
-        (TableFault::Number(4_294_967_295), "Number 4294967295"),
-        (TableFault::Memory, "Memory"),
-    ] {
-        assert!(rt; fault.to_string(rt.alloc())?.as_str() == want);
-    }
     Ok(())
 }
