@@ -8,10 +8,11 @@ use Rattle.nr_ldpcenc.specs.Rows.{Checks}
 use Rattle.nr_peel.specs.Starts.{AreBlank, AreDegrees, IsBlankSweep}
 use Rattle.nr_peel.specs.State.{lifted_checks}
 use Rattle.nr_peel.specs.Sweeps.{counted_in}
-use Rattle.nr_peel.specs.Touches.{all_pairs, row_length, sum_below}
+use Rattle.nr_peel.specs.Touches.{all_pairs, row_length, step_pairs, sum_below}
 use Rattle.nr_peel.specs.declared.lifted.Lifted.{Lifted}
 use Rattle.nr_peel.specs.declared.sweep.Sweep.{Sweep}
 use Rattle.nr_peel.proofs.Counting.{sum-below}
+use Rattle.nr_peel.proofs.StepPairs.{step_pairs-none}
 use Rattle.nr_peel.proofs.Pairs.{sum_below-same}
 use Rattle.nr_peel.proofs.Places.{row_number}
 use Rattle.nr_peel.proofs.Starting.{count_all, few_pairs}
@@ -38,7 +39,7 @@ blank_sweep l s table blank degrees untouched =
         counted = λ i t block lane. degrees.counted i t block lane ∙ sym (count_all (counted_in s.lanes) (c.row i t) (λ p. ap (λ b. b && not (bit s.lanes.fresh.items p)) (blank.unknown p)));
         order_few = omega (arith, ap length blank.order);
         order_room = blank.room;
-        least = omega (arith, total);
+        least = omega (arith, total, ap (step_pairs c) blank.order, step_pairs-none c);
         most = omega (arith, total, untouched);
         small = few_pairs l table;
       };

@@ -15,7 +15,7 @@ use Rattle.nr_peel.specs.Certificates.{all_accepted}
 use Rattle.nr_peel.specs.Counters.{AreAtStart}
 use Rattle.nr_peel.specs.Peeling.{left_of}
 use Rattle.nr_peel.specs.State.{lifted_checks}
-use Rattle.nr_peel.specs.Touches.{all_pairs, row_length, sum_below}
+use Rattle.nr_peel.specs.Touches.{all_pairs, row_length, step_pairs, sum_below}
 use Rattle.nr_peel.specs.declared.by_position.ByPosition.{ByPosition}
 use Rattle.nr_peel.specs.declared.counters.Counters.{Counters}
 use Rattle.nr_peel.specs.declared.lifted.Lifted.{Lifted}
@@ -24,6 +24,7 @@ use Rattle.nr_peel.proofs.Counting.{sum-below}
 use Rattle.nr_peel.proofs.Filled.{bit-zeros}
 use Rattle.nr_peel.proofs.Fixing.{row_below}
 use Rattle.nr_peel.proofs.LeftCount.{left_blank}
+use Rattle.nr_peel.proofs.StepPairs.{step_pairs-none}
 use Rattle.nr_peel.proofs.Pairs.{degree_at, sum_below-same}
 use Rattle.nr_peel.proofs.Searched.{stands-push}
 use Rattle.nr_peel.proofs.Starting.{count_all, few_pairs}
@@ -118,7 +119,7 @@ blank_state c n s le start given known bits order room left = record {
       reached = λ p. unknown p ∙ sym (rw order (no_more (bit s.given.items p) (none p)));
       order_few = omega (arith, ap length order);
       order_room = room;
-      least = omega (arith, start.total);
+      least = omega (arith, start.total, ap (step_pairs c) order, step_pairs-none c);
       most = omega (arith, start.total, start.untouched);
       small = start.small;
     };

@@ -11,15 +11,16 @@ use Rattle.nr_peel.specs.Closure.{IsOnlyMissing, AreSound, Within, stands}
 use Rattle.nr_peel.specs.Certificates.{accepts, after_steps, is_fixed_by, with_position}
 use Rattle.nr_peel.specs.Counters.{Follows, IsLowered, AreTied}
 use Rattle.nr_peel.specs.ByPosition.{Grows, IsWorking}
-use Rattle.nr_peel.specs.Touches.{all_pairs}
+use Rattle.nr_peel.specs.Touches.{all_pairs, step_pairs}
 use Rattle.nr_peel.specs.declared.counters.Counters.{Counters}
 use Rattle.nr_peel.specs.declared.fix.Fix.{Fix}
 use Rattle.nr_peel.specs.declared.by_position.ByPosition.{ByPosition}
 use Rattle.nr_peel.proofs.Standing.{count_alike, fixes_more, stands_counted}
 use Rattle.nr_peel.proofs.Words.{forced_bit, only_fixes}
-use Rattle.nr_peel.proofs.Ordered.{after_accepted, all_accepted-push, is_fixed_by-push, step_accepted}
+use Rattle.nr_peel.proofs.Ordered.{after_accepted, all_accepted-push, goes_none, goes_then, is_fixed_by-push, step_accepted}
 use Rattle.nr_peel.proofs.Gains.{spent_gain, zeros_one}
 use Rattle.nr_peel.proofs.Pairs.{degree_at, spent_le}
+use Rattle.nr_peel.proofs.StepPairs.{step_pairs-push}
 use Rattle.nr_peel.proofs.Tied.{bit-mark}
 use Rattle.nr_peel.proofs.Walk.{outside-with}
 
@@ -46,6 +47,7 @@ pub record IsFix (c : Checks) (a d : ByPosition) (i t pos : ℕ) (v : Bool) (ste
   pub capacity : vec_capacity d.order ≡ vec_capacity a.order
   pub tied : AreTied c d.known.items d.counters
   pub one : slice_index a.counters.counts.items (i * c.lanes + t) ≡ 1
+  pub visited : a.counters.touches ≤ d.counters.touches
   pub falls : (k : ℕ) → slice_index d.counters.counts.items k ≤ slice_index a.counters.counts.items k
   pub visits : d.counters.touches + sum d.counters.counts.items ≡ a.counters.touches + length (c.row i t) + sum a.counters.counts.items
 
@@ -106,7 +108,9 @@ module _ (c : Checks) (a d : ByPosition) (i t pos : ℕ) (v : Bool) (step : Fix)
         ∙ ap (λ b. bit a.given.items q || b) (sym (is_fixed_by-push a.order.items step q)) ∙ rw (f.given, f.order) refl;
     order_few = omega (arith, w.order_few, ap length f.order, length_push a.order.items step, zeros_one a.counters.counts.items d.counters.counts.items (c.rows * c.lanes) (i * c.lanes + t) (row_below c i t f.row f.lane) f.falls (omega (arith, f.one)) fix_spends);
     order_room = omega (arith, w.order_room, f.capacity);
-    least = omega (arith, w.least, f.visits);
+    least =
+        let row : length (c.row step.row step.lane) ≡ length (c.row i t) = ap (λ r. length (c.row r step.lane)) f.row_is ∙ ap (λ u. length (c.row i u)) f.lane_is in
+        omega (arith, w.least, f.visits, ap (step_pairs c) f.order, step_pairs-push c a.order.items step, row);
     most =
         let gain = spent_gain c a.counters.counts.items d.counters.counts.items (i * c.lanes + t) (row_below c i t f.row f.lane) f.falls (omega (arith, f.one)) fix_spends in
         omega (arith, w.most, f.visits, gain, degree_at c i t f.lane);
@@ -134,6 +138,8 @@ module _ (c : Checks) (a d : ByPosition) (i t pos : ℕ) (v : Bool) (step : Fix)
         ∙ sym f.sum_is ∙ sym bits_here ∙ ap (bit d.bits.items) (sym e))
         (λ (ne : q ≢ pos). agree q (was q ne h) ∙ sym (bits_other q ne))
         (cases_eq q pos);
+    order = record { more = step ∷ []; is = f.order };
+    visited = f.visited;
   }
     where
       was : (q : ℕ) → q ≢ pos → bit d.known.items q ≡ true → bit a.known.items q ≡ true
@@ -152,7 +158,7 @@ pub few_visits : (c : Checks) (s : ByPosition) → IsWorking c s → s.counters.
 few_visits c s w = omega (arith, w.most, spent_le c s.counters.counts.items)
 
 pub grows_none : (c : Checks) (s : ByPosition) → Grows c s s
-grows_none c s = record { given = refl; known = λ q h. h; bits = λ q h. refl; words = λ u m h. h }
+grows_none c s = record { given = refl; known = λ q h. h; bits = λ q h. refl; words = λ u m h. h; order = goes_none s.order.items; visited = omega arith }
 
 pub grows_then : (c : Checks) (a b d : ByPosition) → Grows c a b → Grows c b d → Grows c a d
 grows_then c a b d one two = record {
@@ -160,4 +166,6 @@ grows_then c a b d one two = record {
   known = λ q h. two.known q (one.known q h);
   bits = λ q h. two.bits q (one.known q h) ∙ one.bits q h;
   words = λ u m h. two.words u m (one.words u m h);
+  order = goes_then a.order.items b.order.items d.order.items one.order two.order;
+  visited = omega (arith, one.visited, two.visited);
 }

@@ -9,6 +9,7 @@ use Rattle.nr_peel.specs.ByPosition.{GivesMarks, IsWorking}
 use Rattle.nr_peel.specs.Closure.{Within}
 use Rattle.nr_peel.specs.Certificates.{is_fixed_by, with_position}
 use Rattle.nr_peel.specs.Counters.{AreTied, IsListed, IsLowered}
+use Rattle.nr_peel.specs.Touches.{step_pairs}
 use Rattle.nr_peel.specs.declared.by_position.ByPosition.{ByPosition}
 use Rattle.nr_peel.specs.declared.counters.Counters.{Counters}
 use Rattle.nr_peel.proofs.Closed.{cases_below, same_truth}
@@ -30,6 +31,7 @@ pub record IsTaken (c : Checks) (a d : ByPosition) (pos : ℕ) (v : Bool) : Type
   pub bits : d.bits.items ≡ set a.bits.items pos v
   pub order : d.order ≡ a.order
   pub tied : AreTied c d.known.items d.counters
+  pub visited : a.counters.touches ≤ d.counters.touches
   pub falls : (k : ℕ) → slice_index d.counters.counts.items k ≤ slice_index a.counters.counts.items k
   pub visits : d.counters.touches + sum d.counters.counts.items ≡ a.counters.touches + sum a.counters.counts.items
 
@@ -67,6 +69,8 @@ module _ (c : Checks) (a d : ByPosition) (pos : ℕ) (v : Bool) (w : IsWorking c
     known = known_is;
     bits = λ q h. bits_other q (λ e. true≢false (sym h ∙ ap (bit a.known.items) e ∙ f.missing));
     taken = λ q e out. ap (bit d.bits.items) (sym (eqb-true pos q e)) ∙ taken_bit;
+    order = f.order;
+    visited = f.visited;
   }
 
   pub take_works : IsWorking c d
@@ -81,7 +85,7 @@ module _ (c : Checks) (a d : ByPosition) (pos : ℕ) (v : Bool) (w : IsWorking c
         ∙ ap (λ b. b || is_fixed_by a.order.items q) (sym (given_is q)) ∙ ap (λ o. bit d.given.items q || is_fixed_by o.items q) (sym f.order);
     order_few = omega (arith, w.order_few, ap (λ o. length o.items) f.order, zeros_more a.counters.counts.items d.counters.counts.items (c.rows * c.lanes) f.falls);
     order_room = omega (arith, w.order_room, ap vec_capacity f.order);
-    least = omega (arith, w.least, f.visits);
+    least = omega (arith, w.least, f.visits, ap (λ o. step_pairs c o.items) f.order);
     most = omega (arith, w.most, f.visits, spent_more c a.counters.counts.items d.counters.counts.items f.falls);
     small = w.small;
   }
@@ -105,12 +109,14 @@ module _ (c : Checks) (a d : ByPosition) (pos : ℕ) (v : Bool) (w : IsWorking c
   marked_is : (q : ℕ) → bit d.given.items q ≡ with_position (bit a.given.items) pos q
   marked_is q = ap (λ l. bit l q) given ∙ bit-mark a.given.items pos (omega (arith, lt, w.given_long)) q
 
-  pub given_gives : GivesMarks (λ p. pos == p) (λ p. v) a d
-  given_gives = record {
+  pub given_gives : d.counters ≡ a.counters → d.order ≡ a.order → GivesMarks (λ p. pos == p) (λ p. v) a d
+  given_gives counters order = record {
     given = marked_is;
     known = λ q. ap (λ b. bit b.items q) known ∙ sym (already (bit a.known.items q) (pos == q) (λ e. ap (bit a.known.items) (sym (eqb-true pos q e)) ∙ there));
     bits = λ q h. ap (λ b. bit b.items q) bits;
     taken = λ q e out. absurd (true≢false (sym there ∙ ap (bit a.known.items) (eqb-true pos q e) ∙ out));
+    order = order;
+    visited = omega (arith, ap (λ v. v.touches) counters);
   }
     where
       already : (k m : Bool) → (m ≡ true → k ≡ true) → (k || m) ≡ k
@@ -129,7 +135,7 @@ module _ (c : Checks) (a d : ByPosition) (pos : ℕ) (v : Bool) (w : IsWorking c
     reached = λ q. ap (λ b. bit b.items q) known ∙ in_given q (cases_eq q pos) ∙ ap (λ o. bit d.given.items q || is_fixed_by o.items q) (sym order);
     order_few = rw (order, counters) w.order_few;
     order_room = rw order w.order_room;
-    least = rw counters w.least;
+    least = rw (order, counters) w.least;
     most = rw counters w.most;
     small = w.small;
   }
@@ -165,6 +171,8 @@ gives_same H K V a d same g = record {
   known = λ p. g.known p ∙ ap (λ b. bit a.known.items p || b) (same p);
   bits = g.bits;
   taken = λ p h out. g.taken p (same p ∙ h) out;
+  order = g.order;
+  visited = g.visited;
 }
 
 gives_then : (H V : ℕ → Bool) (n : ℕ) (v : Bool) (a b d : ByPosition) → GivesMarks H V a b → GivesMarks (λ p. n == p) (λ p. v) b d → v ≡ V n → GivesMarks (λ p. H p || (n == p)) V a d
@@ -173,6 +181,8 @@ gives_then H V n v a b d one two is = record {
   known = λ p. two.known p ∙ ap (λ x. x || (n == p)) (one.known p) ∙ assoc (bit a.known.items p) (H p) (n == p);
   bits = λ p k. two.bits p (one.known p ∙ or_left (bit a.known.items p) (H p) k) ∙ one.bits p k;
   taken = λ p h out. go p h out (H p) refl;
+  order = two.order ∙ one.order;
+  visited = omega (arith, one.visited, two.visited);
 }
   where
     assoc : (x y z : Bool) → ((x || y) || z) ≡ (x || (y || z))
@@ -191,6 +201,8 @@ gives_none H V s = record {
   known = λ p. sym (ap (λ b. bit s.known.items p || b) (none p) ∙ or_false (bit s.known.items p));
   bits = λ p k. refl;
   taken = λ p h out. absurd (true≢false (sym h ∙ none p));
+  order = refl;
+  visited = omega arith;
 }
   where
     none : (p : ℕ) → first H 0 p ≡ false
@@ -222,6 +234,8 @@ gives_jump H V n m a b le within past one = record {
   known = λ p. one.known p ∙ same (bit a.known.items p) (first H n p) (first H m p) (more p) (λ h out. within p (before p h out));
   bits = one.bits;
   taken = λ p h out. taken p h out (first H n p) refl;
+  order = one.order;
+  visited = one.visited;
 }
   where
     same : (x u v : Bool) → (u ≡ true → v ≡ true) → (v ≡ true → u ≡ false → x ≡ true) → (x || u) ≡ (x || v)

@@ -11,16 +11,18 @@ use Rattle.nr_peel.specs.Certificates.{accepts, after_steps, all_accepted, is_fi
 use Rattle.nr_peel.specs.Closure.{Within}
 use Rattle.nr_peel.specs.Settled.{CatchesUp, HasNoFresh, IsHeld, Keeps, Reaches}
 use Rattle.nr_peel.specs.Sweeps.{AreLanes, AreSought, CountsOf, Fixes, counted_in, has_count, searched_pairs}
+use Rattle.nr_peel.specs.Touches.{step_pairs}
 use Rattle.nr_peel.specs.declared.fix.Fix.{Fix}
 use Rattle.nr_peel.specs.declared.lanes.Lanes.{Lanes}
 use Rattle.nr_peel.specs.declared.sweep.Sweep.{Sweep}
 use Rattle.nr_peel.proofs.Columns.{count_plus}
 use Rattle.nr_peel.proofs.Marks.{marked_zero}
-use Rattle.nr_peel.proofs.Ordered.{after_accepted}
+use Rattle.nr_peel.proofs.Ordered.{after_accepted, goes_none, goes_then}
 use Rattle.nr_peel.proofs.Pairs.{spent_le, spent_more}
 use Rattle.nr_peel.proofs.Places.{row_number}
 use Rattle.nr_peel.proofs.Standing.{count_alike}
-use Rattle.nr_peel.proofs.Sweeping.{counted_known, counts_still, fixed_append, known_more}
+use Rattle.nr_peel.proofs.StepPairs.{step_pairs-append}
+use Rattle.nr_peel.proofs.Sweeping.{counted_known, counts_still, fixed_append, known_more, pairs_all}
 use Rattle.nr_peel.proofs.Tallies.{marked_most, none_and_one, searched_most, searched_none, spent_searched, zeros_gain, zeros_more}
 
 -- ---- the column half
@@ -93,6 +95,7 @@ module _ (c : Checks) (b d : Sweep) (lanes : AreLanes c b.lanes) (caught : Catch
       accepted = ap (λ v. all_accepted c G v.items) caught.order ∙ r.accepted;
       reached = λ p. known_same p ∙ r.reached p ∙ ap (λ v. G p || is_fixed_by v.items p) (sym caught.order);
     };
+    order = rw caught.order (goes_none b.lanes.order.items);
   }
 
 pub keeps_then : (c : Checks) (a b d : Lanes) → Keeps c a b → Keeps c b d → Keeps c a d
@@ -101,6 +104,7 @@ keeps_then c a b d one two = record {
   bits = λ p e. two.bits p (one.known p e) ∙ one.bits p e;
   words = λ w meets has. two.words w meets (one.words w meets has);
   reaches = λ G r. two.reaches G (one.reaches G r);
+  order = goes_then a.order.items b.order.items d.order.items one.order two.order;
 }
 
 -- the counts catch up where the state is in order
@@ -112,7 +116,7 @@ caught_held c a d h caught = record {
   counted = caught_counted c a d h.lanes caught;
   order_few = omega (arith, ap (λ v. length v.items) caught.order, h.order_few, zeros_more a.counts.items d.counts.items (c.rows * c.lanes) caught.falls);
   order_room = omega (arith, ap (λ v. vec_capacity v) caught.order, h.order_room);
-  least = omega (arith, caught.visits, h.least);
+  least = omega (arith, caught.visits, h.least, ap (λ v. step_pairs c v.items) caught.order);
   most = omega (arith, caught.visits, h.most, spent_more c a.counts.items d.counts.items caught.falls);
   small = h.small;
 }
@@ -138,6 +142,7 @@ fixes_keep c old new f = record {
         f.known p ∙ ap (λ b. b || is_fixed_by f.steps p) (r.reached p) ∙ regroup (G p) (is_fixed_by old.order.items p) (is_fixed_by f.steps p)
         ∙ ap (λ b. G p || b) (sym (fixed_append old.order.items f.steps p)) ∙ ap (λ v. G p || is_fixed_by v p) (sym f.order);
   };
+  order = record { more = f.steps; is = f.order };
 }
   where
     regroup : (a b d : Bool) → ((a || b) || d) ≡ (a || (b || d))
@@ -162,6 +167,10 @@ module _ (c : Checks) (some : 0 < c.lanes) (a b : Sweep) (h : IsHeld c a) (sough
 
   steps_long : length b.lanes.order.items ≡ length a.lanes.order.items + length sought.fixes.steps
   steps_long = ap length sought.fixes.order ∙ length-append a.lanes.order.items sought.fixes.steps
+
+  -- the steps' rows were searched
+  steps_searched : step_pairs c b.lanes.order.items ≤ step_pairs c a.lanes.order.items + searched_pairs c a.counts.items
+  steps_searched = omega (arith, ap (step_pairs c) sought.fixes.order, step_pairs-append c a.lanes.order.items sought.fixes.steps, sought.searched, pairs_all c a.counts.items)
 
   module _ (d : Sweep) (caught : CatchesUp c b d) where
     falls : (k : ℕ) → slice_index d.counts.items k ≤ slice_index a.counts.items k
@@ -190,7 +199,7 @@ module _ (c : Checks) (some : 0 < c.lanes) (a b : Sweep) (h : IsHeld c a) (sough
       counted = caught_counted c b d sought.fixes.lanes caught;
       order_few = omega (arith, ap (λ v. length v.items) caught.order, steps_long, sought.few, h.order_few, zeros_rise);
       order_room = omega (arith, ap (λ v. vec_capacity v) caught.order, sought.fixes.capacity, h.order_room);
-      least = omega (arith, caught.visits, touches, ap (λ v. sum v.items) counts, h.least);
+      least = omega (arith, caught.visits, touches, ap (λ v. sum v.items) counts, h.least, ap (λ v. step_pairs c v.items) caught.order, steps_searched);
       most = omega (arith, caught.visits, touches, ap (λ v. sum v.items) counts, h.most, spent_searched c a.counts.items d.counts.items falls down);
       small = h.small;
     }
@@ -219,7 +228,7 @@ module _ (c : Checks) (some : 0 < c.lanes) (a b : Sweep) (h : IsHeld c a) (sough
       counted = sought_counted;
       order_few = rw counts (omega (arith, steps_long, sought.few, none, h.order_few));
       order_room = omega (arith, sought.fixes.capacity, h.order_room);
-      least = omega (arith, touches, ap (λ v. sum v.items) counts, h.least);
+      least = rw counts (omega (arith, touches, h.least, steps_searched));
       most = rw counts (omega (arith, touches, searched_none c a.counts.items none, h.most));
       small = h.small;
     }

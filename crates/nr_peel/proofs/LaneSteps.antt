@@ -1,10 +1,10 @@
 -- What a row of blocks fixes in the block of one entry.
-use Rattle.std.proofs.Common.{◌≡◌, ℕ, ◌+◌, ◌-◌, ◌*◌, ◌/◌, ◌%◌, ◌<◌, ◌≤◌, ◌==◌, ◌&&◌, ◌||◌, Bool, true, false, not, List, length, refl, sym, ap, ◌∙◌, ⊎_elim, arith}
+use Rattle.std.proofs.Common.{◌≡◌, ℕ, ◌+◌, ◌-◌, ◌*◌, ◌/◌, ◌%◌, ◌<◌, ◌≤◌, ◌==◌, ◌&&◌, ◌||◌, Bool, true, false, not, List, refl, sym, ap, ◌∙◌, ⊎_elim, arith}
 use Rattle.std.specs.Prelude.{count_by}
 use Rattle.std.proofs.lemmas.Bool.{and_parts, and_from, or_cases, or_left, or_right, eqb-true, eq-eqb, true≢false, false_from_ne_true}
 use Rattle.std.proofs.lemmas.Nat.{mod_below}
 use Rattle.nr_bitvec.specs.Bit.{bit}
-use Rattle.nr_lifting.specs.Rings.{is_set, marked}
+use Rattle.nr_lifting.specs.Rings.{is_set}
 use Rattle.nr_shifttable.specs.declared.entry.Entry.{Entry}
 use Rattle.nr_shifttable.specs.Tails.{value_in}
 use Rattle.nr_ldpcenc.specs.Rows.{Checks, Meets, one_at, unrotate}
@@ -23,7 +23,6 @@ use Rattle.nr_peel.proofs.Ordered.{step_accepted}
 use Rattle.nr_peel.proofs.Places.{place-eqb, place_fits}
 use Rattle.nr_peel.proofs.Standing.{only_from_count}
 use Rattle.nr_peel.proofs.StepLaws.{steps_accepted, steps_fix}
-use Rattle.nr_peel.proofs.Steps.{steps_count}
 use Rattle.nr_peel.proofs.Words.{only_fixes}
 use Rattle.std.proofs.lemmas.Bool.{cases_eq}
 
@@ -169,7 +168,7 @@ module _ (l : Lifted) (i : ℕ) (e : Entry) (ones sums : List ℕ) (K : ℕ → 
         sym (ap w place) ∙ right w meets has t below parts.1 ∙ sym (took.bits p ∙ or_only (bit a.bits.items p) (marks_of z e.col v (λ t. u t && is_set sums t) p) zero ∙ sum)
 
     -- what an entry's block fixes, with as many steps as rows marked it
-    pub take_fixes : ((w : ℕ → Bool) → Meets c w → HasBits a.known.items a.bits.items w → (t : ℕ) → t < z → u t ≡ true → w (at t) ≡ is_set sums t) → (f : Fixes c K a d) × (length f.steps ≡ marked u z)
+    pub take_fixes : ((w : ℕ → Bool) → Meets c w → HasBits a.known.items a.bits.items w → (t : ℕ) → t < z → u t ≡ true → w (at t) ≡ is_set sums t) → (f : Fixes c K a d) × (f.steps ≡ steps_below (turned_step z e.row e.col (v % z)) u z)
     take_fixes right = (
       record {
         steps = steps_below (turned_step z e.row e.col (v % z)) u z;
@@ -195,7 +194,7 @@ module _ (l : Lifted) (i : ℕ) (e : Entry) (ones sums : List ℕ) (K : ℕ → 
         };
         capacity = took.capacity;
       },
-      steps_count (turned_step z e.row e.col (v % z)) u z,
+      refl,
     )
 
     -- a row that has one position outside K, and an entry of its own, knows that entry's position

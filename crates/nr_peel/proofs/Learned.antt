@@ -21,7 +21,7 @@ use Rattle.nr_peel.specs.declared.lifted.Lifted.{Lifted}
 use Rattle.nr_peel.specs.declared.sweep.Sweep.{Sweep}
 use Rattle.nr_peel.proofs.Filled.{fillers_fit, fillers_long, fillers_there, fillers_within}
 use Rattle.nr_peel.proofs.Held.{counts_same}
-use Rattle.nr_peel.proofs.Ordered.{all_accepted_within}
+use Rattle.nr_peel.proofs.Ordered.{all_accepted_within, goes_taken}
 use Rattle.nr_peel.proofs.Viewed.{sweep_peeled}
 
 module _ (c : Checks) (H V : ℕ → Bool) (a d : Lanes) (lanes : AreLanes c a) (h : Hears c H V a d) where
@@ -94,7 +94,7 @@ heard_held c H V a d held h counts touches = record {
   counted = rw counts (counts_same c (counted_in a.lanes) (counted_in d.lanes) a.counts.items held.counted (heard_counted c H V a.lanes d.lanes held.lanes h));
   order_few = omega (arith, held.order_few, ap (λ v. length v.items) h.order, ap (λ v. marked (has_count 0 v.items) (c.rows * c.lanes)) counts);
   order_room = omega (arith, held.order_room, ap (λ v. vec_capacity v) h.order);
-  least = rw (counts, touches) held.least;
+  least = rw (h.order, counts, touches) held.least;
   most = rw (counts, touches) held.most;
   small = held.small;
 }
@@ -103,8 +103,8 @@ module _ (l : Lifted) (new : Learner) (held : IsHeld (lifted_checks l) new.sweep
     (counted : new.left ≡ left_of l.plan.kdash new.sweep.lanes.known.items) (table : IsTable l.table.now) where
   -- what follows from positions that were given
   pub learned : (H V : ℕ → Bool) (old : Learner) (mid : Lanes) → IsLearner l old → Hears (lifted_checks l) H V old.sweep.lanes mid → length new.given.items ≡ length old.given.items
-      → ((p : ℕ) → bit new.given.items p ≡ (bit old.given.items p || H p)) → Keeps (lifted_checks l) mid new.sweep.lanes → Learns l H V old new
-  learned H V old mid was h long given keeps =
+      → ((p : ℕ) → bit new.given.items p ≡ (bit old.given.items p || H p)) → Keeps (lifted_checks l) mid new.sweep.lanes → old.sweep.touches ≤ new.sweep.touches → Learns l H V old new
+  learned H V old mid was h long given keeps visited =
       let c = lifted_checks l in
       let a = old.sweep.lanes in
       let lanes = was.sweep.held.lanes in
@@ -126,6 +126,8 @@ module _ (l : Lifted) (new : Learner) (held : IsHeld (lifted_checks l) new.sweep
         bits = λ p e. keeps.bits p (heard_known c H V a mid lanes h p e) ∙ heard_bits c H V a mid lanes h p e;
         taken = λ p heard out. keeps.bits p (h.known p ∙ or_right (bit a.known.items p) (H p) heard) ∙ heard_taken c H V a mid lanes h p heard out;
         words = λ w meets has are. keeps.words w meets (heard_words c H V a mid lanes h w has are);
+        steps = goes_taken a.order.items new.sweep.lanes.order.items (rw h.order at keeps.order);
+        visited = visited;
       }
 
   -- what follows from the fillers alone

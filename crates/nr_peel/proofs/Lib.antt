@@ -50,3 +50,4 @@ pub mod Giving
 pub mod Positions
 pub mod Working
 pub mod Wanted
+pub mod StepPairs

@@ -12,6 +12,7 @@ lowered_none hits s none = record {
   kept = λ k h. h;
   inside = λ h. h;
   weight = refl;
+  visited = omega arith;
   visits = refl;
   capacity = refl;
 }
@@ -24,6 +25,7 @@ lowered_then h g total a b c one two sum_is = record {
   kept = λ k e. two.kept k (one.kept k e);
   inside = λ all. subst (λ n. All (λ k. k < n) c.ready.items) one.long (two.inside (subst (λ n. All (λ k. k < n) b.ready.items) (sym one.long) (one.inside all)));
   weight = two.weight ∙ one.weight;
+  visited = omega (arith, one.visited, two.visited);
   visits = two.visits ∙ one.visits;
   capacity = two.capacity ∙ one.capacity;
 }

@@ -1,9 +1,10 @@
 -- Steps that are accepted in turn: where they lead, from a larger set, and one step more.
-use Rattle.std.proofs.Common.{◌≡◌, ℕ, ◌<◌, ◌==◌, nat_lt, ◌||◌, ◌&&◌, Bool, true, false, cond, List, [], ◌∷◌, ◌++◌, refl, sym, ap, ◌∙◌, ⊎_elim}
+use Rattle.std.proofs.Common.{◌≡◌, ℕ, ◌<◌, ◌==◌, nat_lt, ◌||◌, ◌&&◌, Bool, true, false, cond, List, [], ◌∷◌, ◌++◌, length, take, refl, sym, ap, ◌∙◌, ⊎_elim, append_assoc, append-nil}
+use Rattle.std.proofs.Math.Seq.{take-append_seam}
 use Rattle.std.proofs.lemmas.Bool.{and_parts, and_from, or_cases, or_left, or_right, ltb-true, lt-ltb, eqb-true}
 use Rattle.nr_ldpcenc.specs.Rows.{Checks}
 use Rattle.nr_peel.specs.Closure.{AreSound, Within, closure, fixes}
-use Rattle.nr_peel.specs.Certificates.{accepts, after_steps, all_accepted, is_fixed_by, with_position}
+use Rattle.nr_peel.specs.Certificates.{GoesOn, accepts, after_steps, all_accepted, is_fixed_by, with_position}
 use Rattle.nr_peel.specs.declared.fix.Fix.{Fix}
 use Rattle.nr_peel.proofs.Closed.{closure_closed, closure_keeps}
 use Rattle.nr_peel.proofs.Standing.{fixes_more}
@@ -102,3 +103,14 @@ is_fixed_by-push (x ∷ ss) s p = ap (λ b. (x.pos == p) || b) (is_fixed_by-push
     regroup : (a b d : Bool) → (a || (b || d)) ≡ ((a || b) || d)
     regroup true b d = refl
     regroup false b d = refl
+
+-- ---- steps that go on
+
+pub goes_none : (ss : List Fix) → GoesOn ss ss
+goes_none ss = record { more = []; is = sym (append-nil ss) }
+
+pub goes_then : (a b d : List Fix) → GoesOn a b → GoesOn b d → GoesOn a d
+goes_then a b d one two = record { more = one.more ++ two.more; is = two.is ∙ ap (λ v. v ++ two.more) one.is ∙ append_assoc a one.more two.more }
+
+pub goes_taken : (a b : List Fix) → GoesOn a b → take (length a) b ≡ a
+goes_taken a b on = ap (take (length a)) on.is ∙ take-append_seam a on.more

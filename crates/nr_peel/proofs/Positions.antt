@@ -18,7 +18,7 @@ use Rattle.nr_peel.specs.declared.lifted.Lifted.{Lifted}
 use Rattle.nr_peel.proofs.Counting.{pairs_and_counts, spent_known}
 use Rattle.nr_peel.proofs.Filled.{fillers_long, fillers_within}
 use Rattle.nr_peel.proofs.Grid.{checks_sound}
-use Rattle.nr_peel.proofs.Ordered.{after_accepted, steps_stay}
+use Rattle.nr_peel.proofs.Ordered.{after_accepted, goes_taken, steps_stay}
 use Rattle.nr_peel.proofs.Words.{done_is_closure}
 
 settled_closed : (c : Checks) (s : ByPosition) → AreSound c → IsWorking c s → IsSettled s.counters → (p : ℕ) → bit s.known.items p ≡ closure c (bit s.given.items) p
@@ -69,6 +69,8 @@ taken_up l H V a b d g grows = record {
   bits = λ p e. grows.bits p (g.known p ∙ or_left (bit a.known.items p) (H p) e) ∙ g.bits p e;
   taken = λ p h out. grows.bits p (g.known p ∙ or_right (bit a.known.items p) (H p) h) ∙ g.taken p h out;
   words = λ w meets has are. grows.words w meets (given_words H V a b g w has are);
+  steps = goes_taken a.order.items d.order.items (rw g.order at grows.order);
+  visited = omega (arith, g.visited, grows.visited);
 }
 
 -- what follows from the fillers alone

@@ -8,7 +8,7 @@ use Rattle.nr_lifting.specs.Rings.{marked}
 use Rattle.nr_ldpcenc.specs.Rows.{Checks}
 use Rattle.nr_peel.specs.Certificates.{is_fixed_by}
 use Rattle.nr_peel.specs.Sweeps.{has_count}
-use Rattle.nr_peel.specs.Touches.{spent_pairs}
+use Rattle.nr_peel.specs.Touches.{spent_pairs, step_pairs}
 use Rattle.nr_peel.specs.Closure.{stands}
 use Rattle.nr_peel.specs.Counters.{Follows, IsListed, IsSettled, AreTied}
 use Rattle.nr_peel.specs.ByPosition.{IsWorking}
@@ -76,7 +76,7 @@ popped_works c a d row f w = record {
   reached = λ p. ap (λ b. bit b.items p) f.known ∙ w.reached p ∙ ap (λ b. bit b.items p || is_fixed_by a.order.items p) (sym f.given) ∙ ap (λ o. bit d.given.items p || is_fixed_by o.items p) (sym f.order);
   order_few = omega (arith, w.order_few, ap (λ o. length o.items) f.order, ap (λ v. marked (has_count 0 v.items) (c.rows * c.lanes)) f.counts);
   order_room = omega (arith, w.order_room, ap vec_capacity f.order);
-  least = omega (arith, w.least, f.touches, ap (λ v. sum v.items) f.counts);
+  least = omega (arith, w.least, f.touches, ap (λ v. sum v.items) f.counts, ap (λ o. step_pairs c o.items) f.order);
   most = omega (arith, w.most, f.touches, ap (λ v. sum v.items) f.counts, ap (λ v. spent_pairs c v.items) f.counts);
   small = w.small;
 }

@@ -16,7 +16,7 @@ use Rattle.nr_peel.specs.Closure.{Within}
 use Rattle.nr_peel.specs.Certificates.{accepts, all_accepted, is_fixed_by, with_position}
 use Rattle.nr_peel.specs.State.{lifted_checks}
 use Rattle.nr_peel.specs.Sweeps.{AreLanes, AreSought, CountsOf, Fixes, IsBlockSought, counted_in, has_count, searched_below, searched_pairs}
-use Rattle.nr_peel.specs.Touches.{row_length, sum_below}
+use Rattle.nr_peel.specs.Touches.{row_length, step_pairs, sum_below}
 use Rattle.nr_peel.specs.declared.fix.Fix.{Fix}
 use Rattle.nr_peel.specs.declared.lanes.Lanes.{Lanes}
 use Rattle.nr_peel.specs.declared.lifted.Lifted.{Lifted}
@@ -24,6 +24,7 @@ use Rattle.nr_peel.proofs.Closed.{cases_below}
 use Rattle.nr_peel.proofs.Counting.{sum_below-append}
 use Rattle.nr_peel.proofs.LaneSteps.{neither, or_none}
 use Rattle.nr_peel.proofs.Pairs.{degree_at}
+use Rattle.nr_peel.proofs.StepPairs.{step_pairs-append, step_pairs-none}
 use Rattle.nr_peel.proofs.Standing.{count_alike, count_by-cons}
 
 -- fewer positions of a list lie outside a larger set
@@ -53,7 +54,7 @@ or_assoc : (a b d : Bool) → ((a || b) || d) ≡ (a || (b || d))
 or_assoc true b d = refl
 or_assoc false b d = refl
 
-pub fixes_none : (c : Checks) (K : ℕ → Bool) (a : Lanes) → AreLanes c a → (f : Fixes c K a a) × (length f.steps ≡ 0)
+pub fixes_none : (c : Checks) (K : ℕ → Bool) (a : Lanes) → AreLanes c a → (f : Fixes c K a a) × (f.steps ≡ [])
 fixes_none c K a lanes = (
   record {
     steps = [];
@@ -70,7 +71,7 @@ fixes_none c K a lanes = (
   refl,
 )
 
-pub fixes_then : (c : Checks) (K : ℕ → Bool) (a b d : Lanes) (f : Fixes c K a b) (g : Fixes c K b d) → (h : Fixes c K a d) × (length h.steps ≡ length f.steps + length g.steps)
+pub fixes_then : (c : Checks) (K : ℕ → Bool) (a b d : Lanes) (f : Fixes c K a b) (g : Fixes c K b d) → (h : Fixes c K a d) × (h.steps ≡ f.steps ++ g.steps)
 fixes_then c K a b d f g = (
   record {
     steps = f.steps ++ g.steps;
@@ -87,7 +88,7 @@ fixes_then c K a b d f g = (
     lanes = g.lanes;
     capacity = g.capacity ∙ f.capacity;
   },
-  length-append f.steps g.steps,
+  refl,
 )
   where
     joined : (x y w : Bool) (p : ℕ) → y ≡ (x || is_fixed_by f.steps p) → w ≡ (y || is_fixed_by g.steps p) → w ≡ (x || is_fixed_by (f.steps ++ g.steps) p)
@@ -95,7 +96,7 @@ fixes_then c K a b d f g = (
         two ∙ ap (λ b. b || is_fixed_by g.steps p) one ∙ or_assoc x (is_fixed_by f.steps p) (is_fixed_by g.steps p) ∙ ap (λ b. x || b) (sym (fixed_append f.steps g.steps p))
 
 -- steps that are accepted from a set are accepted from a larger one
-pub fixes_on : (c : Checks) (K M : ℕ → Bool) (a d : Lanes) (f : Fixes c K a d) → Within K M → (h : Fixes c M a d) × (length h.steps ≡ length f.steps)
+pub fixes_on : (c : Checks) (K M : ℕ → Bool) (a d : Lanes) (f : Fixes c K a d) → Within K M → (h : Fixes c M a d) × (h.steps ≡ f.steps)
 fixes_on c K M a d f more = (
   record {
     steps = f.steps;
@@ -149,7 +150,7 @@ marked_within u m n le =
 pub sought_start : (c : Checks) (counts : List ℕ) (a : Lanes) → AreLanes c a → AreSought c counts 0 a a
 sought_start c counts a lanes =
     let f = fixes_none c (counted_in a) a lanes in
-    record { fixes = f.0; few = omega (arith, f.1); whole = λ i t none. absurd (omega (arith, none)) }
+    record { fixes = f.0; few = omega (arith, ap length f.1); whole = λ i t none. absurd (omega (arith, none)); searched = omega (arith, ap (step_pairs c) f.1, step_pairs-none c) }
 
 -- one row of blocks more
 pub sought_more : (c : Checks) (counts : List ℕ) (i : ℕ) (a b d : Lanes) → AreSought c counts i a b → IsBlockSought c counts i b d → AreSought c counts (i + 1) a d
@@ -160,7 +161,10 @@ sought_more c counts i a b d before block =
     let more = ap (marked (has_count 1 counts)) (next_block i c.lanes) ∙ marked-append (has_count 1 counts) (i * c.lanes) c.lanes in
     record {
       fixes = h.0;
-      few = omega (arith, h.1, g.1, before.few, block.few, more);
+      few = omega (arith, ap length h.1, length-append before.fixes.steps g.0.steps, ap length g.1, before.few, block.few, more);
+      searched =
+          let below = ap (searched_below c counts) (next_block i c.lanes) ∙ sum_below-append (λ k. if has_count 1 counts k then row_length c k else 0) (i * c.lanes) c.lanes in
+          omega (arith, ap (step_pairs c) h.1, step_pairs-append c before.fixes.steps g.0.steps, ap (step_pairs c) g.1, before.searched, block.searched, below);
       whole = λ j t below lane one. ⊎_elim
           (λ earlier. let fewer = count_fewer (bit b.known.items) (bit d.known.items) (known_more c (counted_in b) b d block.fixes) (c.row j t) in
           let gone = before.whole j t earlier lane one in
@@ -190,16 +194,24 @@ sum_alike u f d (suc n) h =
     one true m x e = omega (arith, e)
     one false m x e = omega (arith, e)
 
+-- the visits of one row of blocks
+pub block_visits : (l : Lifted) (counts : List ℕ) (i : ℕ) → sum_below (λ t. if has_count 1 counts (i * l.plan.z + t) then row_length (lifted_checks l) (i * l.plan.z + t) else 0) l.plan.z
+    ≡ marked (λ t. has_count 1 counts (i * l.plan.z + t)) l.plan.z * length (row_of (entries_in l.plan.graph l.table.now) i)
+block_visits l counts i =
+    let c = lifted_checks l in
+    let z = l.plan.z in
+    let es = row_of (entries_in l.plan.graph l.table.now) i in
+    sum_alike (λ t. has_count 1 counts (i * z + t)) (λ t. if has_count 1 counts (i * z + t) then row_length c (i * z + t) else 0) (length es) z
+    (λ t below. ap (λ d. if has_count 1 counts (i * z + t) then d else 0) (degree_at c i t below ∙ length-map es (λ (e : Entry). one_at z t e.col (value_in l.plan.set e))))
+
 -- the visits of one row of blocks more
 pub visits_more : (l : Lifted) (counts : List ℕ) (i : ℕ) → searched_below (lifted_checks l) counts ((i + 1) * l.plan.z)
     ≡ searched_below (lifted_checks l) counts (i * l.plan.z) + marked (λ t. has_count 1 counts (i * l.plan.z + t)) l.plan.z * length (row_of (entries_in l.plan.graph l.table.now) i)
 visits_more l counts i =
     let c = lifted_checks l in
     let z = l.plan.z in
-    let es = row_of (entries_in l.plan.graph l.table.now) i in
     ap (searched_below c counts) (next_block i z) ∙ sum_below-append (λ k. if has_count 1 counts k then row_length c k else 0) (i * z) z
-    ∙ ap (λ m. searched_below c counts (i * z) + m) (sum_alike (λ t. has_count 1 counts (i * z + t)) (λ t. if has_count 1 counts (i * z + t) then row_length c (i * z + t) else 0) (length es) z
-    (λ t below. ap (λ d. if has_count 1 counts (i * z + t) then d else 0) (degree_at c i t below ∙ length-map es (λ (e : Entry). one_at z t e.col (value_in l.plan.set e)))))
+    ∙ ap (λ m. searched_below c counts (i * z) + m) (block_visits l counts i)
 
 pub visits_within : (c : Checks) (counts : List ℕ) (m n : ℕ) → m ≤ n → searched_below c counts m ≤ searched_below c counts n
 visits_within c counts m n le =

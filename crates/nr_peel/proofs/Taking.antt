@@ -1,10 +1,11 @@
 -- The entries of a row of blocks, one after another: its rows fix the positions that they have alone to fix.
-use Rattle.std.proofs.Common.{◌≡◌, ℕ, zero, suc, ◌+◌, ◌*◌, ◌<◌, ◌≤◌, ◌==◌, ◌&&◌, Bool, true, false, not, cond, if◌then◌else◌, List, [], length, get_or, take, refl, sym, ap, ◌∙◌, arith, length-append}
+use Rattle.std.proofs.Common.{◌≡◌, ℕ, zero, suc, ◌+◌, ◌*◌, ◌%◌, ◌<◌, ◌≤◌, ◌==◌, ◌&&◌, Bool, true, false, not, cond, if◌then◌else◌, List, [], length, get_or, take, refl, sym, ap, ◌∙◌, arith, length-append}
 use Rattle.std.specs.Prelude.{count_by, slice_index}
 use Rattle.std.proofs.lemmas.Bool.{and_parts, eqb-true, true≢false, false≢true}
 use Rattle.std.proofs.lemmas.List.{get_or-map, length-map, take_all}
 use Rattle.std.proofs.lemmas.List.Elements.{filter_passes}
 use Rattle.std.proofs.lemmas.List.Sums.{sum_by-take-le}
+use Rattle.std.proofs.Math.Nat.{mul-le-mul_right}
 use Rattle.nr_bitvec.specs.Bit.{bit}
 use Rattle.nr_bitvec.specs.Packed.{IsClear}
 use Rattle.nr_lifting.specs.Rings.{is_set, marked}
@@ -17,21 +18,24 @@ use Rattle.nr_ldpcenc.specs.Parity.{parity}
 use Rattle.nr_ldpcenc.specs.Rows.{Checks, Meets, one_at, positions}
 use Rattle.nr_peel.specs.Closure.{AreSound, IsOnlyMissing, Within, stands}
 use Rattle.nr_peel.specs.Certificates.{is_fixed_by}
-use Rattle.nr_peel.specs.Lanes.{TakesLane, lacks}
+use Rattle.nr_peel.specs.Lanes.{TakesLane, lacks, turned_step}
 use Rattle.nr_peel.specs.State.{lifted_checks}
 use Rattle.nr_peel.specs.Peeling.{HasBits}
 use Rattle.nr_peel.specs.Sweeps.{AreLanes, CountsOf, Fixes, IsBlockSought, counted_in, has_count}
-use Rattle.nr_peel.specs.Touches.{sum_below}
+use Rattle.nr_peel.specs.Touches.{step_pairs, sum_below}
+use Rattle.nr_peel.specs.declared.fix.Fix.{Fix}
 use Rattle.nr_peel.specs.declared.lanes.Lanes.{Lanes}
 use Rattle.nr_peel.specs.declared.lifted.Lifted.{Lifted}
 use Rattle.nr_peel.proofs.Grid.{checks_sound}
 use Rattle.nr_peel.proofs.LaneSteps.{neither, only_at, take_fixes, take_knows, unnot}
 use Rattle.nr_peel.proofs.Left.{stands_at}
 use Rattle.nr_peel.proofs.Marks.{none_marked}
+use Rattle.nr_peel.proofs.StepPairs.{step_pairs-alike, step_pairs-join, step_pairs-none}
+use Rattle.nr_peel.proofs.Steps.{steps_count}
 use Rattle.nr_peel.proofs.Standing.{count_more}
 use Rattle.nr_peel.proofs.Tied.{row_columns}
 use Rattle.nr_peel.proofs.Words.{forced_bit}
-use Rattle.nr_peel.proofs.Sweeping.{count_fewer, counted_known, fixes_none, fixes_then, known_more}
+use Rattle.nr_peel.proofs.Sweeping.{block_visits, count_fewer, counted_known, fixes_none, fixes_then, known_more}
 
 -- ---- sums over rows
 
@@ -51,6 +55,7 @@ lacking_in K set z row ones n = sum_below (λ t. if is_set ones t then count_by 
 pub record IsTaking (l : Lifted) (i : ℕ) (ones : List ℕ) (n : ℕ) (old new : Lanes) : Type 0 where
   pub fixes : Fixes (lifted_checks l) (counted_in old) old new
   pub few : length fixes.steps ≤ lacking_in (counted_in old) l.plan.set l.plan.z (row_of (entries_in l.plan.graph l.table.now) i) ones n
+  pub pairs : step_pairs (lifted_checks l) fixes.steps ≡ length fixes.steps * length (row_of (entries_in l.plan.graph l.table.now) i)
   pub whole : (t : ℕ) → t < l.plan.z → is_set ones t ≡ true → count_by (λ p. not (bit new.known.items p)) (take n ((lifted_checks l).row i t)) ≡ 0
 
 -- what one more entry adds in a row
@@ -86,7 +91,7 @@ module _ (l : Lifted) (i : ℕ) (ones : List ℕ) (a : Lanes) (table : IsTable l
   pub taking_start : IsTaking l i ones 0 a a
   taking_start =
       let f = fixes_none c K a lanes in
-      record { fixes = f.0; few = omega (arith, f.1); whole = λ t below set. refl }
+      record { fixes = f.0; few = omega (arith, ap length f.1); pairs = rw f.1 (step_pairs-none c ∙ omega arith); whole = λ t below set. refl }
 
   -- no more than the rows of the lane
   lacking_most : (n : ℕ) → lacking_in K set z row ones n ≤ marked (is_set ones) z
@@ -134,6 +139,12 @@ module _ (l : Lifted) (i : ℕ) (ones : List ℕ) (a : Lanes) (table : IsTable l
       column : (e.col + 1) * z ≤ c.size
       column = row_columns l.table.now l.plan.graph (numbers l.plan) table l.plan.sound.size_some i n none within_row
 
+      abbrev step : ℕ → Fix
+      step = turned_step z e.row e.col (value_in set e % z)
+
+      row_long : (t : ℕ) → t < z → length (c.row (step t).row (step t).lane) ≡ length row
+      row_long t below = ap (λ r. length (c.row r t)) row_is ∙ length-map row (λ (x : Entry). one_at z t x.col (value_in set x))
+
       there : (t : ℕ) → t < z → stands (at t) (c.row i t) ≡ true
       there t below = sym (ap (λ q. stands q (positions set z t row)) (position t)) ∙ stands_at (positions set z t row) n (inside t)
 
@@ -155,7 +166,9 @@ module _ (l : Lifted) (i : ℕ) (ones : List ℕ) (a : Lanes) (table : IsTable l
           let h = fixes_then c K a m d so_far.fixes f.0 in
           record {
             fixes = h.0;
-            few = omega (arith, h.1, f.1, so_far.few, lacking_more);
+            few = omega (arith, ap length h.1, length-append so_far.fixes.steps f.0.steps, ap length f.1, steps_count step u z, so_far.few, lacking_more);
+            pairs = step_pairs-join c so_far.fixes.steps f.0.steps h.0.steps (length row) h.1 so_far.pairs
+                (ap (step_pairs c) f.1 ∙ step_pairs-alike c step u (length row) z row_long ∙ ap (λ m. m * length row) (sym (ap length f.1 ∙ steps_count step u z)));
             whole = λ t below set_there.
                 let ps = positions set z t row in
                 let grown : count_by (λ p. not (bit d.known.items p)) (take (n + 1) ps) ≡ count_by (λ p. not (bit d.known.items p)) (take n ps) + cond (not (bit d.known.items (get_or ps n 0))) 1 0 = count_more (λ p. not (bit d.known.items p)) ps n 0 (inside t) in
@@ -171,6 +184,9 @@ module _ (l : Lifted) (i : ℕ) (ones : List ℕ) (a : Lanes) (table : IsTable l
   taking_done counts n d all so_far are = record {
     fixes = so_far.fixes;
     few = omega (arith, so_far.few, lacking_most n, marked-same (is_set ones) (λ t. has_count 1 counts (i * z + t)) z are);
+    searched =
+        let few : length so_far.fixes.steps ≤ marked (λ t. has_count 1 counts (i * z + t)) z = omega (arith, so_far.few, lacking_most n, marked-same (is_set ones) (λ t. has_count 1 counts (i * z + t)) z are) in
+        omega (arith, so_far.pairs, mul-le-mul_right (length row) few, block_visits l counts i);
     whole = λ t below h. sym (ap (count_by (λ p. not (bit d.known.items p))) (take_all n (positions set z t row) (omega (arith, length-map row (λ (x : Entry). one_at z t x.col (value_in set x)), all)))) ∙ so_far.whole t below (are t below ∙ h);
   }
 
@@ -180,7 +196,8 @@ module _ (l : Lifted) (i : ℕ) (ones : List ℕ) (a : Lanes) (table : IsTable l
       let f = fixes_none c K a lanes in
       record {
         fixes = f.0;
-        few = omega (arith, f.1);
+        few = omega (arith, ap length f.1);
+        searched = omega (arith, ap (step_pairs c) f.1, step_pairs-none c);
         whole = λ t below h. absurd (true≢false (sym h ∙ sym (are t below) ∙ none_marked ones z clear nothing t));
       }
 

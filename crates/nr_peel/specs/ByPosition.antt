@@ -4,13 +4,13 @@ use Rattle.nr_bitvec.specs.Bit.{bit}
 use Rattle.nr_lifting.specs.Rings.{marked}
 use Rattle.nr_shifttable.specs.Accepted.{IsTable}
 use Rattle.nr_ldpcenc.specs.Rows.{Checks, Meets}
-use Rattle.nr_peel.specs.Certificates.{all_accepted, is_fixed_by}
+use Rattle.nr_peel.specs.Certificates.{GoesOn, all_accepted, is_fixed_by}
 use Rattle.nr_peel.specs.Counters.{AreTied, IsListed, IsSettled}
 use Rattle.nr_peel.specs.Peeling.{HasBits, Peeling, left_of}
 use Rattle.nr_peel.specs.State.{lifted_checks, seen_of}
 use Rattle.nr_peel.specs.Sweeps.{has_count}
 use Rattle.nr_peel.specs.Taken.{HasFillers}
-use Rattle.nr_peel.specs.Touches.{all_pairs, spent_pairs}
+use Rattle.nr_peel.specs.Touches.{all_pairs, spent_pairs, step_pairs}
 use Rattle.nr_peel.specs.declared.by_position.ByPosition.{ByPosition}
 use Rattle.nr_peel.specs.declared.lifted.Lifted.{Lifted}
 
@@ -25,7 +25,7 @@ pub record IsWorking (c : Checks) (s : ByPosition) : Type 0 where
   pub reached : (p : ℕ) → bit s.known.items p ≡ (bit s.given.items p || is_fixed_by s.order.items p)
   pub order_few : length s.order.items ≤ marked (has_count 0 s.counters.counts.items) (c.rows * c.lanes)
   pub order_room : c.rows * c.lanes ≤ vec_capacity s.order
-  pub least : all_pairs c ≤ s.counters.touches + sum s.counters.counts.items
+  pub least : all_pairs c + step_pairs c s.order.items ≤ s.counters.touches + sum s.counters.counts.items
   pub most : s.counters.touches + sum s.counters.counts.items ≤ all_pairs c + spent_pairs c s.counters.counts.items
   pub small : 4 * all_pairs c + 4 < 2 ^ 64
 
@@ -33,12 +33,14 @@ pub record IsWorking (c : Checks) (s : ByPosition) : Type 0 where
 abbrev pub IsCounted : ℕ → ByPosition → Type 0
 IsCounted n s = s.left ≡ left_of n s.known.items
 
--- what is known after what was: no known bit is lost, and each word that meets every row and had the known bits has them
+-- what is known after what was: no known bit, no step and no visit is lost, and each word that meets every row and had the known bits has them
 pub record Grows (c : Checks) (old new : ByPosition) : Type 0 where
   pub given : new.given.items ≡ old.given.items
   pub known : (p : ℕ) → bit old.known.items p ≡ true → bit new.known.items p ≡ true
   pub bits : (p : ℕ) → bit old.known.items p ≡ true → bit new.bits.items p ≡ bit old.bits.items p
   pub words : (w : ℕ → Bool) → Meets c w → HasBits old.known.items old.bits.items w → HasBits new.known.items new.bits.items w
+  pub order : GoesOn old.order.items new.order.items
+  pub visited : old.counters.touches ≤ new.counters.touches
 
 -- n visits were made, and nothing else has changed
 pub record IsVisited (n : ℕ) (old new : ByPosition) : Type 0 where
@@ -69,6 +71,8 @@ pub record GivesMarks (H V : ℕ → Bool) (old new : ByPosition) : Type 0 where
   pub known : (p : ℕ) → bit new.known.items p ≡ (bit old.known.items p || H p)
   pub bits : (p : ℕ) → bit old.known.items p ≡ true → bit new.bits.items p ≡ bit old.bits.items p
   pub taken : (p : ℕ) → H p ≡ true → bit old.known.items p ≡ false → bit new.bits.items p ≡ V p
+  pub order : new.order ≡ old.order
+  pub visited : old.counters.touches ≤ new.counters.touches
 
 -- what it is seen as
 abbrev pub position_view : Lifted → ByPosition → Peeling

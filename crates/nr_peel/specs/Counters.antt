@@ -20,6 +20,7 @@ pub record IsLowered (hits : ℕ → ℕ) (old new : Counters) : Type 0 where
   pub kept : (k : ℕ) → stands k old.ready.items ≡ true → stands k new.ready.items ≡ true
   pub inside : All (λ k. k < length old.counts.items) old.ready.items → All (λ k. k < length old.counts.items) new.ready.items
   pub weight : length new.ready.items + count_by (nat_lt 1) new.counts.items ≡ length old.ready.items + count_by (nat_lt 1) old.counts.items
+  pub visited : old.touches ≤ new.touches
   pub visits : new.touches + sum new.counts.items ≡ old.touches + sum old.counts.items
   pub capacity : vec_capacity new.ready ≡ vec_capacity old.ready
 

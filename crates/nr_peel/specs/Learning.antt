@@ -1,5 +1,5 @@
 -- What a peeler holds between calls, and what becomes of positions that are given to it.
-use Rattle.std.specs.Prelude.{◌≡◌, ℕ, ◌<◌, ◌≤◌, Bool, true, false}
+use Rattle.std.specs.Prelude.{◌≡◌, ℕ, ◌<◌, ◌≤◌, Bool, true, false, length, take}
 use Rattle.nr_bitvec.specs.Bit.{bit}
 use Rattle.nr_segment.specs.CodeBlock.{numbers}
 use Rattle.nr_ldpcenc.specs.Codeword.{filler}
@@ -28,6 +28,8 @@ pub record Learns (l : Lifted) (H V : ℕ → Bool) (old new : Learner) : Type 0
   pub bits : KeepsBits (learner_view l old) (learner_view l new)
   pub taken : TakesAll H V (learner_view l old) (learner_view l new)
   pub words : KeepsAllWords H V (learner_view l old) (learner_view l new)
+  pub steps : take (length old.sweep.lanes.order.items) new.sweep.lanes.order.items ≡ old.sweep.lanes.order.items
+  pub visited : old.sweep.touches ≤ new.sweep.touches
 
 -- The fillers alone are given, as zeros: each word that meets every row and is zero at the fillers has the known bits.
 pub record IsFilled (l : Lifted) (s : Learner) : Type 0 where

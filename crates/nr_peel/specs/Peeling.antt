@@ -1,5 +1,5 @@
 -- What contracts see of a peeler, and what is true of every one.
-use Rattle.std.specs.Prelude.{◌≡◌, ◌≢◌, ℕ, ◌*◌, ◌≤◌, ◌||◌, Bool, true, false, not, if◌then◌else◌, List, length, map, filter, take, count_by, Option, Some, None}
+use Rattle.std.specs.Prelude.{◌≡◌, ◌≢◌, ℕ, ◌+◌, ◌*◌, ◌≤◌, ◌||◌, Bool, true, false, not, if◌then◌else◌, List, length, map, filter, take, count_by, Option, Some, None}
 use Rattle.std.specs.List.{range_with_len}
 use Rattle.nr_bitvec.specs.Bit.{bit}
 use Rattle.nr_graphpick.specs.declared.Graph.{Graph}
@@ -9,7 +9,7 @@ use Rattle.nr_ldpcenc.specs.Rows.{Checks, Meets, block_checks}
 use Rattle.nr_ldpcenc.specs.Codeword.{filler}
 use Rattle.nr_peel.specs.Closure.{closure, stands}
 use Rattle.nr_peel.specs.Certificates.{IsStoppingSet, all_accepted, is_fixed_by}
-use Rattle.nr_peel.specs.Touches.{pairs_in}
+use Rattle.nr_peel.specs.Touches.{pairs_in, step_pairs}
 use Rattle.nr_peel.specs.declared.fix.Fix.{Fix}
 
 -- the code, the positions that were given, those that are known and their bits, the steps that fixed positions, and
@@ -93,8 +93,8 @@ abbrev pub HasEachStopping : Peeling → List ℕ → Type 0
 HasEachStopping s positions = (set : List ℕ) (p : ℕ) → IsStoppingSet (checks_for s) s.numbers.kdash (bit s.given) set → stands p set ≡ true → stands p positions ≡ true
 
 -- What is true of every peeler: its known positions are the closure of the given ones, its steps are accepted in
--- turn from the given ones and with them are all that is known, and each pair of a row and a known position of it
--- was visited once or twice.
+-- turn from the given ones and with them are all that is known, each pair of a row and a known position of it
+-- and each pair of a step and a position of its row was visited, and the first ones twice at most.
 pub record IsPeeled (s : Peeling) : Type 0 where
   pub given_long : length s.given ≡ (checks_for s).size
   pub known_long : length s.known ≡ (checks_for s).size
@@ -102,7 +102,7 @@ pub record IsPeeled (s : Peeling) : Type 0 where
   pub closed : (p : ℕ) → bit s.known p ≡ closure (checks_for s) (bit s.given) p
   pub accepted : all_accepted (checks_for s) (bit s.given) s.order ≡ true
   pub reached : (p : ℕ) → bit s.known p ≡ (bit s.given p || is_fixed_by s.order p)
-  pub visited : pairs_in (checks_for s) (bit s.known) ≤ s.touches
+  pub visited : pairs_in (checks_for s) (bit s.known) + step_pairs (checks_for s) s.order ≤ s.touches
   pub seldom : s.touches ≤ 2 * pairs_in (checks_for s) (bit s.known)
 
 -- two peelers are of one code

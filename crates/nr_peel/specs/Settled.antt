@@ -3,10 +3,10 @@ use Rattle.std.specs.Prelude.{◌≡◌, ℕ, ◌+◌, ◌*◌, ◌^◌, ◌<◌
 use Rattle.nr_bitvec.specs.Bit.{bit}
 use Rattle.nr_lifting.specs.Rings.{marked}
 use Rattle.nr_ldpcenc.specs.Rows.{Checks, Meets}
-use Rattle.nr_peel.specs.Certificates.{all_accepted, is_fixed_by}
+use Rattle.nr_peel.specs.Certificates.{GoesOn, all_accepted, is_fixed_by}
 use Rattle.nr_peel.specs.Peeling.{HasBits}
 use Rattle.nr_peel.specs.Sweeps.{AreLanes, CountsOf, counted_in, has_count}
-use Rattle.nr_peel.specs.Touches.{all_pairs, spent_pairs}
+use Rattle.nr_peel.specs.Touches.{all_pairs, spent_pairs, step_pairs}
 use Rattle.nr_peel.specs.declared.lanes.Lanes.{Lanes}
 use Rattle.nr_peel.specs.declared.sweep.Sweep.{Sweep}
 
@@ -19,7 +19,7 @@ pub record IsHeld (c : Checks) (s : Sweep) : Type 0 where
   pub counted : CountsOf c (counted_in s.lanes) s.counts.items
   pub order_few : length s.lanes.order.items ≤ marked (has_count 0 s.counts.items) (c.rows * c.lanes)
   pub order_room : c.rows * c.lanes ≤ vec_capacity s.lanes.order
-  pub least : all_pairs c ≤ s.touches + sum s.counts.items
+  pub least : all_pairs c + step_pairs c s.lanes.order.items ≤ s.touches + sum s.counts.items
   pub most : s.touches + sum s.counts.items ≤ all_pairs c + spent_pairs c s.counts.items
   pub small : 4 * all_pairs c + 4 < 2 ^ 64
 
@@ -33,6 +33,7 @@ pub record CatchesUp (c : Checks) (old new : Sweep) : Type 0 where
   pub counted : CountsOf c (bit new.lanes.known.items) new.counts.items
   pub falls : (k : ℕ) → slice_index new.counts.items k ≤ slice_index old.counts.items k
   pub visits : new.touches + sum new.counts.items ≡ old.touches + sum old.counts.items
+  pub visited : old.touches ≤ new.touches
   pub no_fresh : HasNoFresh new.lanes
   pub known : new.lanes.known ≡ old.lanes.known
   pub bits : new.lanes.bits ≡ old.lanes.bits
@@ -47,10 +48,11 @@ pub record Reaches (c : Checks) (G : ℕ → Bool) (s : Lanes) : Type 0 where
   pub accepted : all_accepted c G s.order.items ≡ true
   pub reached : (p : ℕ) → bit s.known.items p ≡ (G p || is_fixed_by s.order.items p)
 
--- lanes after others: no known bit is lost, each word that meets every row and had the known bits has them, and what
+-- lanes after others: no known bit and no step is lost, each word that meets every row and had the known bits has them, and what
 -- is known is still reached from each set from which it was
 pub record Keeps (c : Checks) (old new : Lanes) : Type 0 where
   pub known : (p : ℕ) → bit old.known.items p ≡ true → bit new.known.items p ≡ true
   pub bits : (p : ℕ) → bit old.known.items p ≡ true → bit new.bits.items p ≡ bit old.bits.items p
   pub words : (w : ℕ → Bool) → Meets c w → HasBits old.known.items old.bits.items w → HasBits new.known.items new.bits.items w
   pub reaches : (G : ℕ → Bool) → Reaches c G old → Reaches c G new
+  pub order : GoesOn old.order.items new.order.items

@@ -6,7 +6,7 @@ use Rattle.nr_ldpcenc.specs.Rows.{Checks, Meets}
 use Rattle.nr_peel.specs.Certificates.{all_accepted, is_fixed_by}
 use Rattle.nr_peel.specs.Closure.{Within}
 use Rattle.nr_peel.specs.Peeling.{HasBits}
-use Rattle.nr_peel.specs.Touches.{row_length, sum_below}
+use Rattle.nr_peel.specs.Touches.{row_length, step_pairs, sum_below}
 use Rattle.nr_peel.specs.declared.fix.Fix.{Fix}
 use Rattle.nr_peel.specs.declared.lanes.Lanes.{Lanes}
 
@@ -56,14 +56,16 @@ pub record Fixes (c : Checks) (K : ℕ → Bool) (old new : Lanes) : Type 0 wher
   pub capacity : vec_capacity new.order ≡ vec_capacity old.order
 
 -- The rows of row of blocks i fixed the positions that they had alone to fix: at most one step for each row that has one
--- unknown position by its count, and then such a row has none.
+-- unknown position by its count, and then such a row has none; the steps' rows have no more positions than such rows.
 pub record IsBlockSought (c : Checks) (counts : List ℕ) (i : ℕ) (old new : Lanes) : Type 0 where
   pub fixes : Fixes c (counted_in old) old new
   pub few : length fixes.steps ≤ marked (λ t. has_count 1 counts (i * c.lanes + t)) c.lanes
   pub whole : (t : ℕ) → t < c.lanes → has_count 1 counts (i * c.lanes + t) ≡ true → count_by (λ p. not (bit new.known.items p)) (c.row i t) ≡ 0
+  pub searched : step_pairs c fixes.steps ≤ sum_below (λ t. if has_count 1 counts (i * c.lanes + t) then row_length c (i * c.lanes + t) else 0) c.lanes
 
 -- the same of the first n rows of blocks
 pub record AreSought (c : Checks) (counts : List ℕ) (n : ℕ) (old new : Lanes) : Type 0 where
   pub fixes : Fixes c (counted_in old) old new
   pub few : length fixes.steps ≤ marked (has_count 1 counts) (n * c.lanes)
   pub whole : (i t : ℕ) → i < n → t < c.lanes → has_count 1 counts (i * c.lanes + t) ≡ true → count_by (λ p. not (bit new.known.items p)) (c.row i t) ≡ 0
+  pub searched : step_pairs c fixes.steps ≤ searched_below c counts (n * c.lanes)

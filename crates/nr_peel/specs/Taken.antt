@@ -1,5 +1,5 @@
 -- What becomes of positions that are given to a peeler, whichever way it works.
-use Rattle.std.specs.Prelude.{◌≡◌, ℕ, Bool, true, false}
+use Rattle.std.specs.Prelude.{◌≡◌, ◌≤◌, ℕ, Bool, true, false, length, take}
 use Rattle.nr_segment.specs.CodeBlock.{numbers}
 use Rattle.nr_ldpcenc.specs.Codeword.{filler}
 use Rattle.nr_ldpcenc.specs.Rows.{Meets}
@@ -14,6 +14,8 @@ pub record TakesUp (H V : ℕ → Bool) (old new : Peeling) : Type 0 where
   pub bits : KeepsBits old new
   pub taken : TakesAll H V old new
   pub words : KeepsAllWords H V old new
+  pub steps : take (length old.order) new.order ≡ old.order
+  pub visited : old.touches ≤ new.touches
 
 -- The fillers alone are given, as zeros: each word that meets every row and is zero at the fillers has the known bits.
 pub record HasFillers (l : Lifted) (s : Peeling) : Type 0 where

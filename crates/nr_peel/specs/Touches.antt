@@ -1,6 +1,7 @@
 -- Pairs of a row and a position of it, by which the peeler's visits are bounded.
-use Rattle.std.specs.Prelude.{ℕ, zero, suc, ◌+◌, ◌*◌, ◌/◌, ◌%◌, ◌==◌, Bool, if◌then◌else◌, List, length, count_by, slice_index}
+use Rattle.std.specs.Prelude.{ℕ, zero, suc, ◌+◌, ◌*◌, ◌/◌, ◌%◌, ◌==◌, Bool, if◌then◌else◌, List, length, count_by, slice_index, sum_by}
 use Rattle.nr_ldpcenc.specs.Rows.{Checks}
+use Rattle.nr_peel.specs.declared.fix.Fix.{Fix}
 
 -- the sum of a function's values below n
 abbrev pub sum_below : (ℕ → ℕ) → ℕ → ℕ
@@ -19,6 +20,10 @@ row_length c k = length (c.row (k / c.lanes) (k % c.lanes))
 unfoldable pub all_pairs : Checks → ℕ
 all_pairs c = sum_below (row_length c) (c.rows * c.lanes)
 
--- how many of them are of rows that have no unknown position
+-- how many pairs there are of a step and a position of its row
+unfoldable pub step_pairs : Checks → List Fix → ℕ
+step_pairs c steps = sum_by (λ s. length (c.row s.row s.lane)) steps
+
+-- how many pairs there are of a row that has no unknown position and a position of it
 unfoldable pub spent_pairs : Checks → List ℕ → ℕ
 spent_pairs c counts = sum_below (λ k. if slice_index counts k == 0 then row_length c k else 0) (c.rows * c.lanes)

@@ -79,6 +79,7 @@ impl Learner {
         ensures held { IsHeld (lifted_checks lifted.now) self.new.sweep }
         ensures no_fresh { HasNoFresh self.new.sweep.lanes }
         ensures settled { (k : ℕ) → slice_index self.new.sweep.counts.items k ≢ 1 }
+        ensures visited { self.old.sweep.touches ≤ self.new.sweep.touches }
         ensures keeps { Keeps (lifted_checks lifted.now) self.old.sweep.lanes self.new.sweep.lanes }
         ensures counted { self.new.left
             ≡ left_of lifted.now.plan.kdash self.new.sweep.lanes.known.items }

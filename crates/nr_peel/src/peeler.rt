@@ -1,6 +1,6 @@
 //! The peeler of one code block.
 
-ghost use Rattle.std.specs.Prelude.{◌≡◌, ℕ, ◌+◌, ◌<◌, ◌≤◌, ◌↔◌, ◌==◌, false, true, unwrap_or, IfOk, IsErrOf, length, slice_set};
+ghost use Rattle.std.specs.Prelude.{◌≡◌, ℕ, ◌+◌, ◌<◌, ◌≤◌, ◌↔◌, ◌==◌, false, true, unwrap_or, IfOk, IsErrOf, length, slice_set, take};
 ghost use Rattle.std.specs.Int.{bit_at};
 ghost use Rattle.nr_bitvec.specs.Bit.{bit};
 ghost use Rattle.nr_segment.specs.CodeBlock.{numbers};
@@ -91,6 +91,8 @@ impl<'t> Peeler<'t> {
         ensures bits { KeepsBits self.old self.new }
         ensures taken { bit self.old.known pos ≡ false → bit self.new.bits pos ≡ value }
         ensures words { KeepsWords pos value self.old self.new }
+        ensures steps { take (length self.old.order) self.new.order ≡ self.old.order }
+        ensures counted { self.old.touches ≤ self.new.touches }
         ensures peeled { IsPeeled self.new }
     {
         self.work.learn(&self.lifted, pos, value);
@@ -109,6 +111,8 @@ impl<'t> Peeler<'t> {
         ensures taken { TakesAll (bit heard.now.items) (bit values.now.items) self.old self.new }
         ensures words { KeepsAllWords (bit heard.now.items) (bit values.now.items)
             self.old self.new }
+        ensures steps { take (length self.old.order) self.new.order ≡ self.old.order }
+        ensures counted { self.old.touches ≤ self.new.touches }
         ensures peeled { IsPeeled self.new }
     {
         self.work.learn_all(&self.lifted, heard, values);

@@ -1,6 +1,6 @@
 //! How a peeler goes on, round after round, until no row has exactly one unknown position.
 
-ghost use Rattle.std.specs.Prelude.{◌≡◌, ◌≢◌, ◌+◌, ◌*◌, ◌^◌, ◌<◌, ℕ, length, slice_index, sum};
+ghost use Rattle.std.specs.Prelude.{◌≡◌, ◌≢◌, ◌+◌, ◌*◌, ◌^◌, ◌<◌, ◌≤◌, ℕ, length, slice_index, sum};
 ghost use Rattle.nr_shifttable.specs.Accepted.{IsTable};
 ghost use Rattle.nr_peel.specs.Settled.{CatchesUp, HasNoFresh, IsHeld, Keeps};
 ghost use Rattle.nr_peel.specs.State.{lifted_checks};
@@ -33,6 +33,7 @@ impl Sweep {
         ensures held { IsHeld (lifted_checks lifted.now) self.new }
         ensures no_fresh { HasNoFresh self.new.lanes }
         ensures settled { (k : ℕ) → slice_index self.new.counts.items k ≢ 1 }
+        ensures visited { self.old.touches ≤ self.new.touches }
         ensures keeps { Keeps (lifted_checks lifted.now) self.old.lanes self.new.lanes }
     {
         self.lower(lifted);

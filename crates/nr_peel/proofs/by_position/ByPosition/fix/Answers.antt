@@ -113,6 +113,7 @@ is_fix c =
       capacity = ap vec_capacity c.mark.ensures.order ∙ c.push_reserved.ensures.capacity ∙ ap vec_capacity v.order;
       tied = c.mark.ensures.tied;
       one = counter_at old.counters.counts.items row z c.requires.one;
+      visited = omega (arith, v.touches, c.mark.ensures.lowered.visited);
       falls = λ k. omega (arith, c.mark.ensures.lowered.counts k, ap (λ v. slice_index v.items k) v.counts);
       visits = omega (arith, c.mark.ensures.lowered.visits, ap (λ v. sum v.items) v.counts, v.touches, ap length c.row.ensures, length-map (row_of (entries_in l.plan.graph l.table.now) (row / z)) (λ (e : Entry). one_at z (row % z) e.col (value_in l.plan.set e)));
     }

@@ -21,6 +21,7 @@ is_taken c =
       order = m.order;
       tied = m.tied;
       falls = λ k. omega (arith, m.lowered.counts k);
+      visited = m.lowered.visited;
       visits = m.lowered.visits;
     }
 
@@ -48,4 +49,4 @@ pub returns-else-not-get-clause-gives : goal.returns-else-not-get-clause-gives
 returns-else-not-get-clause-gives c =
     let a = c.args.self.now in
     let d : ByPosition = record { given = c.set.new.self; known = a.known; bits = a.bits; counters = a.counters; order = a.order; left = a.left } in
-    given_gives (lifted_checks c.args.lifted.now) a d c.args.pos c.args.value c.requires.busy.working c.requires.inside (sym c.get.ensures ∙ c.if-not-get.false) c.set.ensures.items refl refl
+    given_gives (lifted_checks c.args.lifted.now) a d c.args.pos c.args.value c.requires.busy.working c.requires.inside (sym c.get.ensures ∙ c.if-not-get.false) c.set.ensures.items refl refl refl refl

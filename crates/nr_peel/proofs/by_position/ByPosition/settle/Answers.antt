@@ -5,9 +5,12 @@ use Rattle.nr_peel.specs.ByPosition.{Grows}
 use Rattle.nr_peel.specs.State.{lifted_checks}
 use Rattle.nr_peel.specs.declared.counters.Counters.{Counters}
 use Rattle.nr_peel.specs.declared.by_position.ByPosition.{ByPosition}
-use Rattle.nr_peel.proofs.Fixing.{grows_then}
+use Rattle.nr_peel.proofs.Fixing.{grows_none, grows_then}
 use Rattle.nr_peel.proofs.Settling.{IsPopped, listed_rest, listed_skip, popped_inside, popped_works}
 use Rattle.nr_peel.proofs.by_position.ByPosition.settle.Goals as goal
+
+pub rows-init : goal.rows-init
+rows-init c = record { working = c.requires.working; listed = c.requires.listed; grows = grows_none (lifted_checks c.args.lifted.now) c.args.self.now; counted = c.requires.counted }
 
 pub index-requires : goal.index-requires
 index-requires c =
@@ -43,7 +46,7 @@ rows-preserved-then-index-eq1 c =
     let g = c.rows.invariant.grows in
     let rest : Counters = record { counts = a.counters.counts; ready = c.pop.new.self; touches = a.counters.touches } in
     let d : ByPosition = record { given = a.given; known = a.known; bits = a.bits; counters = rest; order = a.order; left = a.left } in
-    let same : Grows (lifted_checks c.args.lifted.now) c.args.self.now d = record { given = g.given; known = g.known; bits = g.bits; words = g.words } in
+    let same : Grows (lifted_checks c.args.lifted.now) c.args.self.now d = record { given = g.given; known = g.known; bits = g.bits; words = g.words; order = g.order; visited = g.visited } in
     record {
       working = c.fix.ensures.working;
       listed = listed_rest a.counters rest c.fix.new.self.counters c.in-Some.row c.rows.invariant.listed c.in-Some.ensures.items refl c.fix.ensures.follows (ap (slice_index c.fix.new.self.counters.counts.items) (sym c.from-then-index-eq1.ensures) ∙ c.fix.ensures.spent);
@@ -64,6 +67,6 @@ rows-preserved c =
     record {
       working = popped_works (lifted_checks c.args.lifted.now) a d row popped c.rows.invariant.working;
       listed = listed_skip a.counters rest row c.rows.invariant.listed c.in-Some.ensures.items refl (λ one. c.if-index-eq1.false (read ∙ one));
-      grows = record { given = g.given; known = g.known; bits = g.bits; words = g.words };
+      grows = record { given = g.given; known = g.known; bits = g.bits; words = g.words; order = g.order; visited = g.visited };
       counted = c.rows.invariant.counted;
     }

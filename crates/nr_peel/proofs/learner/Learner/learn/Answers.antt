@@ -25,7 +25,7 @@ returns-clause-learns c =
     let old = c.args.self.now.given.items in
     learned c.args.lifted.now c.go_on.new.self e.held e.no_fresh e.settled e.counted c.requires.learner.sweep.table (λ q. c.args.pos == q) (λ q. c.args.value) c.args.self.now c.hear_one.new.self c.requires.learner c.hear_one.ensures
     (ap (λ (b : BitList). length b.items) e.given ∙ ap length c.set.ensures.items ∙ length-set old c.args.pos true)
-    (λ p. ap (λ (b : BitList). bit b.items p) e.given ∙ ap (λ v. bit v p) c.set.ensures.items ∙ bit-mark old c.args.pos (omega (arith, c.requires.inside, c.requires.learner.sweep.given_long)) p) e.keeps
+    (λ p. ap (λ (b : BitList). bit b.items p) e.given ∙ ap (λ v. bit v p) c.set.ensures.items ∙ bit-mark old c.args.pos (omega (arith, c.requires.inside, c.requires.learner.sweep.given_long)) p) e.keeps e.visited
 
 pub returns-clause-given : goal.returns-clause-given
 returns-clause-given c = ap (λ (b : BitList). b.items) c.go_on.ensures.given ∙ c.set.ensures.items

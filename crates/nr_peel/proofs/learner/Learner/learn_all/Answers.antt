@@ -22,4 +22,4 @@ pub returns : goal.returns
 returns c =
     let e = c.go_on.ensures in
     learned c.args.lifted.now c.go_on.new.self e.held e.no_fresh e.settled e.counted c.requires.learner.sweep.table (bit c.args.heard.now.items) (bit c.args.values.now.items) c.args.self.now c.hear.new.self c.requires.learner c.hear.ensures
-    (ap (λ (b : BitList). length b.items) e.given ∙ c.join_marks.ensures.long) (λ p. ap (λ (b : BitList). bit b.items p) e.given ∙ c.join_marks.ensures.joined p) e.keeps
+    (ap (λ (b : BitList). length b.items) e.given ∙ c.join_marks.ensures.long) (λ p. ap (λ (b : BitList). bit b.items p) e.given ∙ c.join_marks.ensures.joined p) e.keeps e.visited

@@ -11,3 +11,9 @@ returns-clause-words c = λ w meets agree is. c.learn.ensures.takes.words w (rw 
 
 pub returns-clause-peeled : goal.returns-clause-peeled
 returns-clause-peeled c = work_peeled c.self.inside.lifted c.learn.new.self c.learn.ensures.work
+
+pub returns-clause-steps : goal.returns-clause-steps
+returns-clause-steps c = rw (← c.self.view_is) c.learn.ensures.takes.steps
+
+pub returns-clause-counted : goal.returns-clause-counted
+returns-clause-counted c = rw (← c.self.view_is) c.learn.ensures.takes.visited

@@ -6,3 +6,9 @@ returns-clause-words c = λ w meets agree are. c.learn_all.ensures.takes.words w
 
 pub returns-clause-peeled : goal.returns-clause-peeled
 returns-clause-peeled c = work_peeled c.self.inside.lifted c.learn_all.new.self c.learn_all.ensures.work
+
+pub returns-clause-steps : goal.returns-clause-steps
+returns-clause-steps c = rw (← c.self.view_is) c.learn_all.ensures.takes.steps
+
+pub returns-clause-counted : goal.returns-clause-counted
+returns-clause-counted c = rw (← c.self.view_is) c.learn_all.ensures.takes.visited

@@ -19,6 +19,7 @@ returns c =
       counted = known_counted ck s.lanes old c.requires.lanes.within c.requires.counted new c.lower_all.ensures.falls;
       falls = falls_all ck.rows ck.lanes old new (λ i t. count_by (bit s.lanes.fresh.items) (ck.row i t)) l.plan.sound.size_some (c.lower_all.ensures.counts_long ∙ c.requires.counts_long) c.lower_all.ensures.falls;
       visits = omega (arith, c.lower_all.ensures.visits);
+      visited = omega arith;
       no_fresh = c.lower_all.ensures.cleared;
       known = refl;
       bits = refl;

@@ -16,6 +16,7 @@ rounds-init c =
     record {
       held = caught_held ck c.args.self.now c.lower.new.self c.requires.held c.lower.ensures;
       no_fresh = c.lower.ensures.no_fresh;
+      visited = c.lower.ensures.visited;
       keeps = caught_keeps ck c.args.self.now c.lower.new.self c.requires.held.lanes c.lower.ensures;
     }
 
@@ -55,6 +56,7 @@ rounds-preserved c =
     record {
       held = round_held ck l.plan.sound.size_some a b held sought c.search.ensures.counts c.search.ensures.touches d c.lower-in-rounds.ensures;
       no_fresh = c.lower-in-rounds.ensures.no_fresh;
+      visited = omega (arith, c.rounds.invariant.visited, c.search.ensures.touches, c.lower-in-rounds.ensures.visited);
       keeps = keeps_then ck c.args.self.now.lanes a.lanes d.lanes c.rounds.invariant.keeps (round_keeps ck l.plan.sound.size_some a b held sought c.search.ensures.counts c.search.ensures.touches d c.lower-in-rounds.ensures);
     }
 
@@ -88,3 +90,6 @@ returns-clause-keeps c =
     let a = c.rounds.self.lanes in
     let b = c.search.new.self.lanes in
     keeps_then ck c.args.self.now.lanes a b c.rounds.invariant.keeps (fixes_keep ck a b c.search.ensures.sought.fixes)
+
+pub returns-clause-visited : goal.returns-clause-visited
+returns-clause-visited c = omega (arith, c.rounds.invariant.visited, c.search.ensures.touches)

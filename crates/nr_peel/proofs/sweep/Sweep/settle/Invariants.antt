@@ -1,4 +1,4 @@
-use Rattle.std.proofs.Common.{◌-◌, ◌*◌}
+use Rattle.std.proofs.Common.{◌-◌, ◌*◌, ◌≤◌}
 use Rattle.nr_lifting.specs.Rings.{marked}
 use Rattle.nr_peel.specs.Settled.{HasNoFresh, IsHeld, Keeps}
 use Rattle.nr_peel.specs.State.{lifted_checks}
@@ -10,6 +10,7 @@ abbrev pub invariant-rounds : goal.invariant-rounds
 invariant-rounds l = record {
   held : IsHeld (lifted_checks l.lifted) l.self;
   no_fresh : HasNoFresh l.self.lanes;
+  visited : l.fn.self.touches ≤ l.self.touches;
   keeps : Keeps (lifted_checks l.lifted) l.fn.self.lanes l.self.lanes;
 }
 

@@ -1,0 +1,36 @@
+-- Pairs of a step and a position of its row.
+use Rattle.std.proofs.Common.{◌≡◌, ℕ, zero, suc, ◌+◌, ◌*◌, ◌<◌, Bool, true, false, if◌then◌else◌, List, [], ◌∷◌, ◌++◌, length, refl, ap, ◌∙◌, arith, length-append}
+use Rattle.std.proofs.lemmas.List.Sums.{sum_by-append}
+use Rattle.nr_lifting.specs.Rings.{marked}
+use Rattle.nr_ldpcenc.specs.Rows.{Checks}
+use Rattle.nr_peel.specs.Lanes.{steps_below}
+use Rattle.nr_peel.specs.Touches.{step_pairs}
+use Rattle.nr_peel.specs.declared.fix.Fix.{Fix}
+
+pub step_pairs-none : (c : Checks) → step_pairs c [] ≡ 0
+unfolding step_pairs
+step_pairs-none c = refl
+
+pub step_pairs-append : (c : Checks) (xs ys : List Fix) → step_pairs c (xs ++ ys) ≡ step_pairs c xs + step_pairs c ys
+unfolding step_pairs
+step_pairs-append c xs ys = sum_by-append (λ (s : Fix). length (c.row s.row s.lane)) xs ys
+
+pub step_pairs-push : (c : Checks) (xs : List Fix) (s : Fix) → step_pairs c (xs ++ s ∷ []) ≡ step_pairs c xs + length (c.row s.row s.lane)
+unfolding step_pairs
+step_pairs-push c xs s = sum_by-append (λ (s : Fix). length (c.row s.row s.lane)) xs (s ∷ []) ∙ omega arith
+
+-- steps of rows that have d positions each
+pub step_pairs-alike : (c : Checks) (step : ℕ → Fix) (u : ℕ → Bool) (d n : ℕ) → ((t : ℕ) → t < n → length (c.row (step t).row (step t).lane) ≡ d) → step_pairs c (steps_below step u n) ≡ marked u n * d
+step_pairs-alike c step u d zero h = step_pairs-none c ∙ omega arith
+step_pairs-alike c step u d (suc n) h =
+    step_pairs-append c (steps_below step u n) (if u n then step n ∷ [] else []) ∙ ap (λ m. m + step_pairs c (if u n then step n ∷ [] else [])) (step_pairs-alike c step u d n (λ t lt. h t (omega (arith, lt))))
+    ∙ more (u n)
+  where
+    more : (b : Bool) → marked u n * d + step_pairs c (if b then step n ∷ [] else []) ≡ (marked u n + (if b then 1 else 0)) * d
+    more true = omega (arith, step_pairs-push c [] (step n), step_pairs-none c, h n (omega arith))
+    more false = omega (arith, step_pairs-none c)
+
+pub step_pairs-join : (c : Checks) (xs ys zs : List Fix) (d : ℕ) → zs ≡ xs ++ ys → step_pairs c xs ≡ length xs * d → step_pairs c ys ≡ length ys * d → step_pairs c zs ≡ length zs * d
+step_pairs-join c xs ys zs d e one two =
+    let long : length zs ≡ length xs + length ys = ap length e ∙ length-append xs ys in
+    ap (step_pairs c) e ∙ step_pairs-append c xs ys ∙ omega (arith, one, two, ap (λ n. n * d) long)
