@@ -156,7 +156,7 @@ impl ByPosition {
         self.order.push_reserved(Fix {
             row: i as u16,
             lane: lane as u16,
-            pos: pos as u16,
+            pos,
         });
         self.mark(lifted, pos, value);
     }

@@ -31,14 +31,13 @@ fn accepts(lifted: &Lifted<'_>, known: &Bits, step: Fix) -> bool
     if lane >= z {
         return false;
     }
-    let fixed = u32::from(step.pos);
-    if fixed >= lifted.plan.graph.cols() * z {
+    if step.pos >= lifted.plan.graph.cols() * z {
         return false;
     }
     let mut there = false;
     for entry in lifted.row(row) {
         let pos = lifted.place(entry, lane);
-        if pos == fixed {
+        if pos == step.pos {
             there = true;
         } else if !known.get(pos as usize) {
             return false;

@@ -1,7 +1,6 @@
 //! One step of peeling.
 
-/// A step that fixes a position: the row of blocks, the row in it, and the position of the codeword. Codewords have at
-/// most 26,112 positions.
+/// A step that fixes a position: the row of blocks, the row in it, and the position of the codeword.
 #[derive(Clone, Copy, Debug, PartialEq, Eq)]
 pub struct Fix {
     /// The row of blocks.
@@ -9,5 +8,5 @@ pub struct Fix {
     /// The row in it.
     pub lane: u16,
     /// The position that is fixed.
-    pub pos: u16,
+    pub pos: u32,
 }

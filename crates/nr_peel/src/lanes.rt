@@ -66,23 +66,21 @@ pub(crate) fn lower_column(
 }
 
 // The position of a row in the block of a column that is rotated by `turn`.
-fn placed(size: u32, col: u16, turn: u32, lane: u32) -> u16
+fn placed(size: u32, col: u16, turn: u32, lane: u32) -> u32
     requires lane { lane < size }
     requires turn { turn < size }
     requires few { size ≤ 384 }
-    requires fits { (col + 1) * size ≤ 2 ^ 16 }
     ensures { result ≡ col * size + (lane + turn) % size }
 {
     let turned = lane + turn;
     let turned = if turned < size { turned } else { turned - size };
-    (u32::from(col) * size + turned) as u16
+    u32::from(col) * size + turned
 }
 
 // Adds the steps of those of 64 rows of an entry's block that a word marks, from row `start` on.
 fn push_word(order: &mut Vec<Fix>, entry: &Entry, size: u32, turn: u32, start: u32, word: u64)
     requires few { size ≤ 384 }
     requires turn { turn < size }
-    requires fits { (entry.now.col + 1) * size ≤ 2 ^ 16 }
     requires inside { (b : ℕ) → bit_at word b ≡ 1 → start + b < size }
     requires room { length order.old.items + marked (λ b. bit_at word b == 1) 64
         ≤ vec_capacity order.old }
@@ -110,7 +108,6 @@ fn push_word(order: &mut Vec<Fix>, entry: &Entry, size: u32, turn: u32, start: u
 fn push_lane(order: &mut Vec<Fix>, entry: &Entry, size: u32, turn: u32, lane: &[u64; 6])
     requires few { size ≤ 384 }
     requires turn { turn < size }
-    requires fits { (entry.now.col + 1) * size ≤ 2 ^ 16 }
     requires clear { IsClear lane.now size }
     requires room { length order.old.items + marked (is_set lane.now) size
         ≤ vec_capacity order.old }
@@ -168,7 +165,6 @@ impl Lanes {
         requires same { self.old.known.lanes ≡ lifted.now.plan.z }
         requires same_bits { self.old.bits.lanes ≡ lifted.now.plan.z }
         requires same_fresh { self.old.fresh.lanes ≡ lifted.now.plan.z }
-        requires fits { (entry.now.col + 1) * lifted.now.plan.z ≤ 2 ^ 16 }
         requires clear { IsClear ones.now lifted.now.plan.z }
         requires room { length self.old.order.items
             + marked (lacks lifted.now.plan.z entry.now.col (value_in lifted.now.plan.set entry.now)

@@ -8,10 +8,10 @@
 //! At smaller ones, whose blocks fill less than a third of a word, it works position by position: a row that comes to one
 //! unknown position is listed, and fixes it when its turn comes (specs/ByPosition.antt, specs/Counters.antt).
 //! By words it holds three rings of bits (known, bit, and known but not yet counted), which take 96 octets for each
-//! column of the base graph each, seven bits for each row's count, a bit for each position that was given, and 6 octets
-//! for each row's step: at the largest lifting size at most 6.5 octets a position. Position by position it holds three
-//! lists of bits (given, known, bit), and for each row 9 octets: its count, its place in the list of rows and its step:
-//! at most 7.7 octets a position. All are taken in `Peeler::new`. `close` is the plain peeler by rounds. Stands on
+//! column of the base graph each, seven bits for each row's count, a bit for each position that was given, and 8 octets
+//! for each row's step: at the largest lifting size at most 8.1 octets a position. Position by position it holds three
+//! lists of bits (given, known, bit), and for each row 11 octets: its count, its place in the list of rows and its step:
+//! at most 9.3 octets a position. All are taken in `Peeler::new`. `close` is the plain peeler by rounds. Stands on
 //! nr_bitvec, nr_graphpick, nr_lifting, nr_segment, nr_shifttable and nr_ldpcenc.
 #![tactic(auto)]
 

@@ -16,7 +16,6 @@ use Rattle.nr_peel.specs.Touches.{row_length}
 use Rattle.nr_peel.proofs.Fixing.{few_visits, fix_grows, fix_spends, fix_works, follows_lowered, IsFix}
 use Rattle.nr_peel.proofs.Grid.{checks_sound}
 use Rattle.nr_peel.proofs.Gains.{degree_le, zeros_few}
-use Rattle.nr_peel.proofs.Starting.{size_most}
 use Rattle.nr_peel.proofs.Places.{row_number}
 use Rattle.nr_peel.proofs.CounterTies.{tied_same}
 use Rattle.nr_peel.proofs.Tied.{row_columns}
@@ -59,9 +58,6 @@ push_reserved-requires c =
     let l = c.args.lifted.now in
     let room = zeros_few old.counters.counts.items (rows_of l.plan.graph * l.plan.z) c.args.row (omega (arith, c.requires.inside, w.tied.long)) c.requires.one in
     rw c.search-pos.ensures.visited.order (omega (arith, room, w.order_few, w.order_room))
-
-pub overflow_cast-pos : goal.overflow_cast-pos
-overflow_cast-pos c = omega (arith, c.search-pos.ensures.inside, c.requires.working.known_long, size_most c.args.lifted.now)
 
 pub mark-requires-clause-tied : goal.mark-requires-clause-tied
 mark-requires-clause-tied c =

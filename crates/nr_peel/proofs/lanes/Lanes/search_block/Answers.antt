@@ -4,7 +4,6 @@ use Rattle.nr_lifting.proofs.LaneBits.{marked-same}
 use Rattle.nr_shifttable.specs.declared.entry.Entry.{Entry}
 use Rattle.nr_peel.specs.Sweeps.{has_count}
 use Rattle.nr_peel.proofs.Rounded.{row_fits}
-use Rattle.nr_peel.proofs.Starting.{size_most}
 use Rattle.nr_peel.proofs.Taking.{ones_counted, taking_done, taking_more, taking_none, taking_room, taking_start}
 use Rattle.nr_peel.proofs.lanes.Lanes.search_block.Goals as goal
 
@@ -38,13 +37,6 @@ take-requires-clause-fresh c =
     let none : Entry = record { row = 0; col = 0; values = [] } in
     row_fits c.args.lifted.now c.row-row.result.now c.args.i (length c.loop-entry.self.fresh.items) c.requires.table c.row-row.ensures c.loop-entry.invariant.fixes.lanes.fresh_long
     c.loop-entry.entry-index none c.loop-entry-test.true
-
-pub take-requires-clause-fits : goal.take-requires-clause-fits
-take-requires-clause-fits c =
-    let none : Entry = record { row = 0; col = 0; values = [] } in
-    let lanes = c.loop-entry.invariant.fixes.lanes in
-    let fits = row_fits c.args.lifted.now c.row-row.result.now c.args.i (length c.loop-entry.self.known.items) c.requires.table c.row-row.ensures lanes.known_long c.loop-entry.entry-index none c.loop-entry-test.true in
-    omega (arith, fits, lanes.known_long, size_most c.args.lifted.now)
 
 pub take-requires-clause-room : goal.take-requires-clause-room
 take-requires-clause-room c =
