@@ -96,7 +96,7 @@ fn other_lists_are_no_stopping_sets(rt: HostRuntime) -> Result<(), Fail> {
 }
 
 /// A change of a list of steps: those that fix a position are left out, so many others stay, and the last one is repeated.
-type Change = (u16, usize, bool);
+type Change = (u32, usize, bool);
 
 /// A peeler's steps, changed.
 fn changed_order(
@@ -156,14 +156,15 @@ fn an_order_needs_each_first_step(rt: HostRuntime) -> Result<(), Fail> {
 }
 
 /// Whether one step is accepted where every position was given.
-fn is_step(alloc: Global, row: u16, lane: u16, pos: u16) -> Result<bool, Fail> {
+fn is_step(alloc: Global, row: u16, lane: u16, pos: u32) -> Result<bool, Fail> {
     let table = practice(alloc, 0, 1, false)?;
     let plan = plan(Graph::Two, 24)?;
     let given = marks_of(alloc, &plan, &[(0, 208)])?;
     Ok(is_order(&table, &plan, &given, &[Fix { row, lane, pos }])?)
 }
 
-// Row 0 has position 0 and not position 1; the last row is 41, the last lane 3 and the last position 207.
+// Row 0 has position 0 and not position 1; the last row is 41, the last lane 3 and the last position 207. Position 65,536
+// is 0 in 16 bits.
 #[test]
 fn steps_are_in_range_and_in_their_row(rt: HostRuntime) -> Result<(), Fail> {
     for (row, lane, pos, accepted) in [
@@ -172,6 +173,7 @@ fn steps_are_in_range_and_in_their_row(rt: HostRuntime) -> Result<(), Fail> {
         (42, 0, 0, false),
         (0, 4, 0, false),
         (0, 0, 208, false),
+        (0, 0, 65_536, false),
     ] {
         assert!(rt;
             is_step(rt.alloc(), row, lane, pos)? == accepted,
