@@ -9,6 +9,7 @@ mod OctetDigits
 mod PlaceItems
 mod Reading
 pub mod Refusals
+mod RoundBlocks
 pub mod RoundFacts
 mod RoundStarts
 mod ScheduleProcesses

@@ -1,8 +1,8 @@
 -- The rounds of processes, one transmission after the other.
-use Rattle.std.proofs.Common.{◌≡◌, ℕ, ◌+◌, ◌<◌, Bool, true, false, cond, None, Some, List, [], ◌∷◌, ◌++◌, length, take, get_or, ap, sym, refl, ◌∙◌}
+use Rattle.std.proofs.Common.{◌≡◌, ℕ, Bool, true, false, cond, None, Some, List, [], ◌∷◌, ◌++◌, ap, refl, ◌∙◌}
 use Rattle.std.specs.Prelude.{◌==◌, ◌&&◌, ◌||◌}
 use Rattle.std.specs.List.{list_any}
-use Rattle.std.proofs.lemmas.List.{append-nil, take_more}
+use Rattle.std.proofs.lemmas.List.{append-nil}
 use Rattle.std.proofs.lemmas.List.Elements.{filter-append}
 use Rattle.std.proofs.lemmas.List.Folds.{list_any-append}
 use Rattle.nr_files.specs.Rounds.{of_process, round_of, since_fresh}
@@ -49,15 +49,11 @@ fresh_block-longer : (round : List Transmission) (x : Transmission) → x.fresh 
 fresh_block-longer [] x off = ap (λ b. cond b (Some x.block) None) off
 fresh_block-longer (y ∷ ys) x off = refl
 
-fresh_block-more : (p : ℕ) (before : List Transmission) (x : Transmission) → fresh_block (round_of p (before ++ x ∷ [])) ≡ cond ((x.process == p) && x.fresh) (Some x.block) (fresh_block (round_of p before))
+-- the block of the round that process p is in after one transmission more
+pub fresh_block-more : (p : ℕ) (before : List Transmission) (x : Transmission) → fresh_block (round_of p (before ++ x ∷ [])) ≡ cond ((x.process == p) && x.fresh) (Some x.block) (fresh_block (round_of p before))
 fresh_block-more p before x = ap fresh_block (round-more p before x) ∙ go (x.process == p) x.fresh refl
   where
     go : (a b : Bool) → x.fresh ≡ b → fresh_block (cond a (cond b (x ∷ []) (round_of p before ++ x ∷ [])) (round_of p before)) ≡ cond (a && b) (Some x.block) (fresh_block (round_of p before))
     go true true on = ap (λ b. cond b (Some x.block) None) on
     go true false off = fresh_block-longer (round_of p before) x off
     go false b is = refl
-
--- that block after the transmission at index i
-pub fresh_block-turn : (p : ℕ) (xs : List Transmission) (i : ℕ) (x : Transmission) → i < length xs → x ≡ get_or xs i x → fresh_block (round_of p (take (i + 1) xs)) ≡ cond ((x.process == p) && x.fresh) (Some x.block) (fresh_block (round_of p (take i xs)))
-fresh_block-turn p xs i x within is =
-    ap (λ ys. fresh_block (round_of p ys)) (take_more xs i x within ∙ ap (λ y. take i xs ++ y ∷ []) (sym is)) ∙ fresh_block-more p (take i xs) x

@@ -1,17 +1,18 @@
 -- The processes of a schedule's transmissions.
-use Rattle.std.proofs.Common.{◌≡◌, ℕ, zero, suc, ◌+◌, ◌-◌, ◌<◌, ◌≤◌, Bool, true, false, cond, Option, None, Some, Ok, Err, IfOk, List, [], ◌∷◌, ◌++◌, All, length, take, get_or, ap, sym, subst, refl, ◌∙◌, arith, append_assoc, nat_lt}
+use Rattle.std.proofs.Common.{◌≡◌, ℕ, zero, suc, ◌+◌, ◌-◌, ◌<◌, ◌≤◌, Bool, true, false, cond, Option, None, Some, Result, Ok, Err, IfOk, List, [], ◌∷◌, ◌++◌, All, length, take, get_or, ap, sym, subst, refl, ◌∙◌, arith, append_assoc, nat_lt}
 use Rattle.std.specs.Prelude.{◌==◌, ◌&&◌, bytes_eq, codes, not}
 use Rattle.std.proofs.lemmas.Bool.Decides.{nat_tests}
 use Rattle.std.proofs.lemmas.List.{append-nil}
 use Rattle.std.proofs.lemmas.List.Elements.{All-nil, All-cons}
-use Rattle.nr_graphpick.specs.Refusal.{or_fault}
+use Rattle.nr_graphpick.specs.Refusal.{◌>>=◌, or_fault}
 use Rattle.csv.specs.Records.{field_at}
 use Rattle.nr_shifttable.specs.Fields.{short_number, stripped}
 use Rattle.nr_shifttable.specs.Records.{Record, records_of}
 use Rattle.nr_files.specs.PlaceLists.{below}
 use Rattle.nr_files.specs.Columns.{has_column, is_schedule_header, is_width}
 use Rattle.nr_files.specs.Rounds.{round_of}
-use Rattle.nr_files.specs.Schedule.{EachGoesOn, GoesOn, IsPlaced, Timetable, block_in, erasure_at, flip_at, fresh_at, fresh_block, is_of_block, mask_at, number_in_field, process_at, schedule_of, schedule_said, transmission_of, transmissions_from}
+use Rattle.nr_files.specs.Schedule.{EachGoesOn, GoesOn, IsPlaced, Timetable, block_in, fresh_at, fresh_block, harq_at, is_of_block, link_at, mask_at, numbers_at, process_at, schedule_of, schedule_said, transmission_of, transmissions_from}
+use Rattle.nr_files.specs.declared.schedule.record.Harq.{Harq}
 use Rattle.nr_files.specs.declared.schedule.ScheduleFault.{ScheduleFault}
 use Rattle.nr_files.specs.declared.schedule.ScheduleFault.TheVariants as fault
 use Rattle.nr_files.specs.declared.schedule.Transmission.{Transmission}
@@ -29,6 +30,28 @@ below-inside limit e (Some m) n is = go (nat_lt m limit) refl is
         let inside : m < limit = grind (arith, nat_tests) in
         omega arith
     go false less is = absurd (cc)
+
+-- what a record says of being fresh hangs on the round of its process alone where that is one of the sixteen
+fresh_at-begun : (k block process : ℕ) (r : Record) (begun round : Option ℕ) → process_at k r block ≡ Ok process → (process < 16 → begun ≡ round) → fresh_at k r block begun ≡ fresh_at k r block round
+fresh_at-begun k block process r begun round is same = go (nat_lt 9 (length r)) refl
+  where
+    go : (b : Bool) → nat_lt 9 (length r) ≡ b → fresh_at k r block begun ≡ fresh_at k r block round
+    go true long =
+        let nine : 9 < length r = grind (arith, nat_tests) in
+        let there : field_at r 8 ≡ Some (get_or r 8 []) = field_at-some r 8 (omega (arith, nine)) in
+        ap (fresh_at k r block) (same (below-inside 16 (fault.Process k) (short_number (stripped (get_or r 8 []))) process (rw there at is)))
+    go false short =
+        let few : length r ≤ 9 = grind (arith, nat_tests) in
+        let none : field_at r 9 ≡ None = field_at-none r 9 few in
+        rw none refl
+
+-- the two steps, where the block of the round is known of the sixteen processes
+pub harq_at-said : (k block process : ℕ) (r : Record) (before : List Transmission) (begun : Option ℕ) (said : Result Bool ScheduleFault) → Ok process ≡ process_at k r block → (process < 16 → begun ≡ fresh_block (round_of process before)) → said ≡ fresh_at k r block begun
+    → harq_at k r block before ≡ (said >>= λ fresh. Ok (record { process = process; fresh = fresh }))
+unfolding harq_at
+harq_at-said k block process r before begun said is same fresh_is =
+    ap (λ p. p >>= λ q. fresh_at k r block (fresh_block (round_of q before)) >>= λ fresh. Ok (record { process = q; fresh = fresh })) (sym is)
+    ∙ ap (λ f. f >>= λ fresh. Ok (record { process = process; fresh = fresh })) (sym (fresh_is ∙ fresh_at-begun k block process r begun (fresh_block (round_of process before)) (sym is) same))
 
 -- a field that says that a transmission is not fresh
 begun-of : (block : ℕ) (begun : Option ℕ) → is_of_block block begun ≡ true → begun ≡ Some block
@@ -91,34 +114,41 @@ in-columns k width block before r x false other few long named process_is fresh_
       λ ten. absurd (cc),
     )
 
+-- the two steps of a record's process and freshness
+record IsHarq (k block : ℕ) (r : Record) (before : List Transmission) (harq : Harq) : Type 0 where
+  pub process : process_at k r block ≡ Ok harq.process
+  pub fresh : fresh_at k r block (fresh_block (round_of harq.process before)) ≡ Ok harq.fresh
+
+harq_at-steps : (k block : ℕ) (r : Record) (before : List Transmission) → IfOk (harq_at k r block before) (IsHarq k block r before)
+unfolding harq_at
+harq_at-steps k block r before =
+    holds_then _ (process_at k r block) _ (λ process process_is.
+    holds_then _ (fresh_at k r block (fresh_block (round_of process before))) _ (λ fresh fresh_is.
+    record { process = process_is; fresh = fresh_is }))
+
 transmission_of-in : (blocks width k : ℕ) (before : List Transmission) (r : Record) → ((width == 10) ≡ false → width ≤ 8) → IfOk (transmission_of blocks width k before r) (IsIn width before)
 unfolding transmission_of
 transmission_of-in blocks width k before r few =
     holds_if _ (not (length r == width)) _ _ (λ other. tt) (λ same.
     holds_if _ (nat_lt 4097 k) _ _ (λ many. tt) (λ last.
     let long : length r ≡ width = grind (arith, nat_tests) in
-    holds_then _ (number_in_field k r (codes "block")) _ (λ number number_is.
-    holds_then _ (number_in_field k r (codes "rv")) _ (λ rv rv_is.
-    holds_then _ (number_in_field k r (codes "g")) _ (λ g g_is.
-    holds_then _ (number_in_field k r (codes "qm")) _ (λ qm qm_is.
-    holds_then _ (number_in_field k r (codes "nl")) _ (λ nl nl_is.
-    holds_then _ (block_in k blocks number) _ (λ block block_is.
-    holds_then _ (erasure_at k r) _ (λ erasure erasure_is.
-    holds_then _ (flip_at k r) _ (λ flip flip_is.
+    holds_then _ (numbers_at k r) _ (λ numbers numbers_is.
+    holds_then _ (block_in k blocks numbers.block) _ (λ block block_is.
+    holds_then _ (link_at k r) _ (λ link link_is.
     holds_then _ (mask_at k r) _ (λ mask mask_is.
-    holds_then _ (process_at k r block) _ (λ process process_is.
-    holds_then _ (fresh_at k r block (fresh_block (round_of process before))) _ (λ fresh fresh_is.
+    holds_then _ (harq_at k r block before) _ (λ harq harq_is.
+    let steps : IsHarq k block r before harq = of_ok _ _ harq harq_is (harq_at-steps k block r before) in
     let x : Transmission = record {
       number = k - 1;
       block = block;
-      tx = record { rv = rv; g = g; qm = qm; nl = nl; mask = mask };
-      erasure = erasure;
-      flip = flip;
-      process = process;
-      fresh = fresh;
+      tx = record { rv = numbers.rv; g = numbers.g; qm = numbers.qm; nl = numbers.nl; mask = mask };
+      erasure = link.erasure;
+      flip = link.flip;
+      process = harq.process;
+      fresh = harq.fresh;
     } in
-    let both = in-columns k width block before r x (width == 10) refl few long refl process_is fresh_is in
-    record { placed = both.0; goes_on = both.1 })))))))))))))
+    let both = in-columns k width block before r x (width == 10) refl few long refl steps.process steps.fresh in
+    record { placed = both.0; goes_on = both.1 })))))))
 
 -- what is so of transmissions by the width of their records
 record AreIn (width : ℕ) (before ts : List Transmission) : Type 0 where

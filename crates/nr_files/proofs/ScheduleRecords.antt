@@ -12,7 +12,7 @@ use Rattle.nr_files.specs.Columns.{field, has_column, is_schedule_header}
 use Rattle.nr_files.specs.Masks.{mask_of}
 use Rattle.nr_files.specs.PlaceLists.{below, places_of}
 use Rattle.nr_files.specs.Rounds.{round_of}
-use Rattle.nr_files.specs.Schedule.{HasBlock, Timetable, block_in, erasure_at, flip_at, fresh_at, fresh_block, fresh_of, is_of_block, mask_at, number_in_field, process_at, said_or, schedule_of, schedule_said, timetable_of, transmission_of, transmissions_from}
+use Rattle.nr_files.specs.Schedule.{HasBlock, Timetable, block_in, erasure_at, flip_at, fresh_at, fresh_block, fresh_of, harq_at, is_of_block, link_at, mask_at, number_in_field, numbers_at, process_at, said_or, schedule_of, schedule_said, timetable_of, transmission_of, transmissions_from}
 use Rattle.nr_files.specs.declared.erasure.Places.TheVariants.{Nothing}
 use Rattle.nr_ratematch.specs.declared.mask.Mask.TheVariants as mask
 use Rattle.nr_files.specs.declared.schedule.ScheduleFault.{ScheduleFault}
@@ -96,22 +96,16 @@ transmission_of-record blocks width k before r =
     holds_if _ (not (length r == width)) _ _ (λ other. tt) (λ same.
     holds_if _ (nat_lt 4097 k) _ _ (λ many. tt) (λ few.
     let below : k ≤ 4097 = grind (arith, nat_tests) in
-    holds_then _ (number_in_field k r (codes "block")) _ (λ number number_is.
-    holds_then _ (number_in_field k r (codes "rv")) _ (λ rv rv_is.
-    holds_then _ (number_in_field k r (codes "g")) _ (λ g g_is.
-    holds_then _ (number_in_field k r (codes "qm")) _ (λ qm qm_is.
-    holds_then _ (number_in_field k r (codes "nl")) _ (λ nl nl_is.
-    holds_then _ (block_in k blocks number) _ (λ block block_is.
-    holds_then _ (erasure_at k r) _ (λ erasure erasure_is.
-    holds_then _ (flip_at k r) _ (λ flip flip_is.
+    holds_then _ (numbers_at k r) _ (λ numbers numbers_is.
+    holds_then _ (block_in k blocks numbers.block) _ (λ block block_is.
+    holds_then _ (link_at k r) _ (λ link link_is.
     holds_then _ (mask_at k r) _ (λ mask mask_is.
-    holds_then _ (process_at k r block) _ (λ process process_is.
-    holds_then _ (fresh_at k r block (fresh_block (round_of process before))) _ (λ fresh fresh_is.
+    holds_then _ (harq_at k r block before) _ (λ harq harq_is.
     record {
-      block = block_in-inside k blocks number block _ refl block_is;
+      block = block_in-inside k blocks numbers.block block _ refl block_is;
       number = refl;
       few = below;
-    })))))))))))))
+    })))))))
 
 -- what is so of the transmissions of the records from record k on
 pub record AreRecords (count k : ℕ) (ts : List Transmission) : Type 0 where
@@ -150,31 +144,46 @@ never_said told without read None never = λ is. cc
 never_said told without read (Some text) never = never text
 
 -- the text of a schedule is never unread
+numbers_at-unread : (k : ℕ) (r : Record) → numbers_at k r ≢ Err fault.Read
+unfolding numbers_at
+numbers_at-unread k r =
+    never_then _ (number_in_field k r (codes "block")) _ (number (codes "block")) (λ number_of.
+    never_then _ (number_in_field k r (codes "rv")) _ (number (codes "rv")) (λ rv.
+    never_then _ (number_in_field k r (codes "g")) _ (number (codes "g")) (λ g.
+    never_then _ (number_in_field k r (codes "qm")) _ (number (codes "qm")) (λ qm.
+    never_then _ (number_in_field k r (codes "nl")) _ (number (codes "nl")) (λ nl is. cc)))))
+  where
+    number : (name : List ℕ) → number_in_field k r name ≢ Err fault.Read
+    number name = never_or _ (fault.Number k) _ (λ is. cc)
+
+link_at-unread : (k : ℕ) (r : Record) → link_at k r ≢ Err fault.Read
+unfolding link_at
+link_at-unread k r =
+    never_then _ (erasure_at k r) _ (never_or _ (fault.Erase k) _ (λ is. cc)) (λ erasure.
+    never_then _ (flip_at k r) _ (never_said _ Nothing _ (field r (codes "flip")) (λ text. never_or _ (fault.Flip k) (places_of text) (λ is. cc))) (λ flip is. cc))
+
+harq_at-unread : (k block : ℕ) (before : List Transmission) (r : Record) → harq_at k r block before ≢ Err fault.Read
+unfolding harq_at
+harq_at-unread k block before r =
+    never_then _ (process_at k r block) _ (never_said _ block _ (field r (codes "process")) (λ text. never_or _ (fault.Process k) (below 16 (short_number text)) (λ is. cc))) (λ process.
+    never_then _ (fresh_at k r block (fresh_block (round_of process before))) _ (fresh (fresh_block (round_of process before))) (λ fresh_is is. cc))
+  where
+    fresh : (begun : Option ℕ) → fresh_at k r block begun ≢ Err fault.Read
+    fresh begun =
+        never_said _ false (fresh_of k block begun) (field r (codes "fresh")) (λ text.
+        never_if _ (bytes_eq text (codes "1")) _ _ (λ is. cc)
+        (never_if _ (bytes_eq text (codes "0") && is_of_block block begun) _ _ (λ is. cc) (λ is. cc)))
+
 transmission_of-unread : (blocks width k : ℕ) (before : List Transmission) (r : Record) → transmission_of blocks width k before r ≢ Err fault.Read
 unfolding transmission_of
 transmission_of-unread blocks width k before r =
     never_if _ (not (length r == width)) _ _ (λ is. cc)
     (never_if _ (nat_lt 4097 k) _ _ (λ is. cc)
-    (never_then _ (number_in_field k r (codes "block")) _ (number (codes "block")) (λ number_of.
-    never_then _ (number_in_field k r (codes "rv")) _ (number (codes "rv")) (λ rv.
-    never_then _ (number_in_field k r (codes "g")) _ (number (codes "g")) (λ g.
-    never_then _ (number_in_field k r (codes "qm")) _ (number (codes "qm")) (λ qm.
-    never_then _ (number_in_field k r (codes "nl")) _ (number (codes "nl")) (λ nl.
-    never_then _ (block_in k blocks number_of) _ (never_if _ (nat_le 1 number_of && nat_le number_of blocks) _ _ (λ is. cc) (λ is. cc)) (λ block.
-    never_then _ (erasure_at k r) _ (never_or _ (fault.Erase k) _ (λ is. cc)) (λ erasure.
-    never_then _ (flip_at k r) _ (never_said _ Nothing _ (field r (codes "flip")) (λ text. never_or _ (fault.Flip k) (places_of text) (λ is. cc))) (λ flip.
+    (never_then _ (numbers_at k r) _ (numbers_at-unread k r) (λ numbers.
+    never_then _ (block_in k blocks numbers.block) _ (never_if _ (nat_le 1 numbers.block && nat_le numbers.block blocks) _ _ (λ is. cc) (λ is. cc)) (λ block.
+    never_then _ (link_at k r) _ (link_at-unread k r) (λ link.
     never_then _ (mask_at k r) _ (never_said _ mask.All _ (field r (codes "mask")) (λ text. never_or _ (fault.Mask k) (mask_of text) (λ is. cc))) (λ mask.
-    never_then _ (process_at k r block) _ (never_said _ block _ (field r (codes "process")) (λ text. never_or _ (fault.Process k) (below 16 (short_number text)) (λ is. cc))) (λ process.
-    never_then _ (fresh_at k r block (fresh_block (round_of process before))) _ (fresh block (fresh_block (round_of process before))) (λ fresh_is is. cc)))))))))))))
-  where
-    number : (name : List ℕ) → number_in_field k r name ≢ Err fault.Read
-    number name = never_or _ (fault.Number k) _ (λ is. cc)
-
-    fresh : (block : ℕ) (begun : Option ℕ) → fresh_at k r block begun ≢ Err fault.Read
-    fresh block begun =
-        never_said _ false (fresh_of k block begun) (field r (codes "fresh")) (λ text.
-        never_if _ (bytes_eq text (codes "1")) _ _ (λ is. cc)
-        (never_if _ (bytes_eq text (codes "0") && is_of_block block begun) _ _ (λ is. cc) (λ is. cc)))
+    never_then _ (harq_at k r block before) _ (harq_at-unread k block before r) (λ harq is. cc)))))))
 
 transmissions_from-unread : (blocks width k : ℕ) (before : List Transmission) (rs : List Record) → transmissions_from blocks width k before rs ≢ Err fault.Read
 unfolding transmissions_from

@@ -13,6 +13,9 @@ use Rattle.nr_files.specs.declared.erasure.Places.TheVariants.{Nothing}
 use Rattle.nr_ratematch.specs.declared.mask.Mask.{Mask}
 use Rattle.nr_ratematch.specs.declared.mask.Mask.TheVariants as mask
 use Rattle.nr_files.specs.declared.schedule.Schedule.{Schedule}
+use Rattle.nr_files.specs.declared.schedule.record.Harq.{Harq}
+use Rattle.nr_files.specs.declared.schedule.record.Numbers.{Numbers}
+use Rattle.nr_files.specs.declared.schedule.record.OverLink.{OverLink}
 use Rattle.nr_files.specs.declared.schedule.ScheduleFault.{ScheduleFault}
 use Rattle.nr_files.specs.declared.schedule.ScheduleFault.TheVariants as fault
 use Rattle.nr_files.specs.declared.schedule.Transmission.{Transmission}
@@ -70,31 +73,49 @@ fresh_of k block begun text =
 abbrev pub fresh_at : ℕ → Record → ℕ → Option ℕ → Result Bool ScheduleFault
 fresh_at k r block begun = said_or false (fresh_of k block begun) (field r (codes "fresh"))
 
+-- the five numbers of a record
+unfoldable pub numbers_at : ℕ → Record → Result Numbers ScheduleFault
+numbers_at k r = do
+  block ← number_in_field k r (codes "block")
+  rv ← number_in_field k r (codes "rv")
+  g ← number_in_field k r (codes "g")
+  qm ← number_in_field k r (codes "qm")
+  nl ← number_in_field k r (codes "nl")
+  Ok (record { block = block; rv = rv; g = g; qm = qm; nl = nl })
+
+-- what the link does to the bits that a record sends
+unfoldable pub link_at : ℕ → Record → Result OverLink ScheduleFault
+link_at k r = do
+  erasure ← erasure_at k r
+  flip ← flip_at k r
+  Ok (record { erasure = erasure; flip = flip })
+
+-- the HARQ process of a record, and whether it is fresh, behind these transmissions
+unfoldable pub harq_at : ℕ → Record → ℕ → List Transmission → Result Harq ScheduleFault
+harq_at k r block before = do
+  process ← process_at k r block
+  fresh ← fresh_at k r block (fresh_block (round_of process before))
+  Ok (record { process = process; fresh = fresh })
+
 -- what record k says, from 1, in a schedule for so many blocks and with so many columns, behind these transmissions
 unfoldable pub transmission_of : ℕ → ℕ → ℕ → List Transmission → Record → Result Transmission ScheduleFault
 transmission_of blocks width k before r =
     if not (length r == width) then Err (fault.Csv k)
     else if nat_lt 4097 k then Err fault.TooMany
     else do
-      number ← number_in_field k r (codes "block")
-      rv ← number_in_field k r (codes "rv")
-      g ← number_in_field k r (codes "g")
-      qm ← number_in_field k r (codes "qm")
-      nl ← number_in_field k r (codes "nl")
-      block ← block_in k blocks number
-      erasure ← erasure_at k r
-      flip ← flip_at k r
+      numbers ← numbers_at k r
+      block ← block_in k blocks numbers.block
+      link ← link_at k r
       mask ← mask_at k r
-      process ← process_at k r block
-      fresh ← fresh_at k r block (fresh_block (round_of process before))
+      harq ← harq_at k r block before
       Ok (record {
         number = k - 1;
         block = block;
-        tx = record { rv = rv; g = g; qm = qm; nl = nl; mask = mask };
-        erasure = erasure;
-        flip = flip;
-        process = process;
-        fresh = fresh;
+        tx = record { rv = numbers.rv; g = numbers.g; qm = numbers.qm; nl = numbers.nl; mask = mask };
+        erasure = link.erasure;
+        flip = link.flip;
+        process = harq.process;
+        fresh = harq.fresh;
       })
 
 -- the transmissions of the records from record k on, behind those before it, or the first fault

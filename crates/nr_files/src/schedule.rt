@@ -8,11 +8,13 @@ ghost use Rattle.nr_files.specs.Reading.{FailsAs};
 ghost use Rattle.nr_files.specs.Schedule.{EachGoesOn, HasBlock, IsPlaced, schedule_of, schedule_said, timetable_by};
 
 mod columns;
+mod earlier;
 mod record;
 
 use crate::erasure::{Erasure, Places};
 use columns::{has_column, is_header};
 use csv::ByteRecord;
+use earlier::Earlier;
 use nr_shifttable::{ReadFault, Records, Source, read_to_end};
 use nr_transmission::Tx;
 use record::transmission_of;
@@ -210,15 +212,15 @@ fn read_records(alloc: Global, blocks: u32, text: &[u8]) -> Result<Schedule, Sch
     }
     let width = row.len();
     let by_process = has_column(&row, b"process");
-    let mut transmissions = Vec::new(alloc);
+    let mut earlier = Earlier::new(alloc);
     let mut number = 1;
     while records.next(&mut row)? {
         number += 1;
-        let transmission = transmission_of(alloc, blocks, width, number, &transmissions, &row)?;
-        transmissions.push(transmission)?;
+        let transmission = transmission_of(alloc, blocks, width, number, &earlier, &row)?;
+        earlier.push(transmission)?;
     }
     Ok(Schedule {
         by_process,
-        transmissions,
+        transmissions: earlier.transmissions,
     })
 }

@@ -1,12 +1,12 @@
 //! A record of a schedule: what its field in each column says, and the transmission of them.
 
-ghost use Rattle.std.specs.Prelude.{◌≡◌, ◌≤◌, ◌==◌, ◌&&◌, if◌then◌else◌, Some};
+ghost use Rattle.std.specs.Prelude.{◌≡◌, ◌≤◌};
 ghost use Rattle.csv.specs.Records.{fields_of};
 ghost use Rattle.nr_graphpick.specs.Refusal.{Gives};
-ghost use Rattle.nr_files.specs.Rounds.{round_of};
-ghost use Rattle.nr_files.specs.Schedule.{block_in, erasure_at, flip_at, fresh_at, fresh_block, mask_at, number_in_field, process_at, transmission_of};
+ghost use Rattle.nr_files.specs.Schedule.{block_in, erasure_at, flip_at, fresh_at, harq_at, link_at, mask_at, number_in_field, numbers_at, process_at, transmission_of};
 
 use super::columns::field;
+use super::earlier::Earlier;
 use super::{PROCESSES, ScheduleFault, Transmission};
 use crate::erasure::{Erasure, Places};
 use crate::places::{erasure_of, mask_of, places_of, short_word};
@@ -18,7 +18,31 @@ use std::alloc::Global;
 // The last record that may be a transmission: a header and 4,096 transmissions.
 const LAST_RECORD: u32 = 4097;
 
-/// What the record of this number says, in a schedule of so many columns, behind the transmissions before it.
+// The five numbers of a record.
+#[derive(Clone, Copy)]
+struct Numbers {
+    block: u32,
+    rv: u32,
+    g: u32,
+    qm: u32,
+    nl: u32,
+}
+
+// What the link does to the bits of a transmission.
+#[derive(Drop)]
+struct OverLink {
+    erasure: Erasure,
+    flip: Places,
+}
+
+// What a transmission is for its HARQ process.
+#[derive(Clone, Copy)]
+struct Harq {
+    process: u32,
+    fresh: bool,
+}
+
+/// What the record of this number says, in a schedule of so many columns, behind the transmissions of the records before it.
 ///
 /// # Errors
 /// In this order: `Csv`, `TooMany`, `Number`, `Block`, `Erase`, `Flip`, `Mask`, `Process`, `Fresh`. `Memory` where a growth
@@ -29,12 +53,12 @@ pub(crate) fn transmission_of(
     blocks: u32,
     width: usize,
     number: u32,
-    before: &[Transmission],
+    earlier: &Earlier,
     row: &ByteRecord,
 ) -> Result<Transmission, ScheduleFault>
     requires { 1 ≤ number }
     ensures { Gives ScheduleFault.Memory (λ t. t) result
-        (transmission_of blocks width number before.now (fields_of row.now)) }
+        (transmission_of blocks width number earlier.now.transmissions.items (fields_of row.now)) }
 {
     if row.len() != width {
         return Err(ScheduleFault::Csv(number));
@@ -42,34 +66,74 @@ pub(crate) fn transmission_of(
     if number > LAST_RECORD {
         return Err(ScheduleFault::TooMany);
     }
-    let block = number_in_field(number, row, b"block")?;
-    let rv = number_in_field(number, row, b"rv")?;
-    let g = number_in_field(number, row, b"g")?;
-    let qm = number_in_field(number, row, b"qm")?;
-    let nl = number_in_field(number, row, b"nl")?;
-    let block = block_in(number, blocks, block)?;
-    let erasure = erasure_at(alloc, number, row)?;
-    let flip = flip_at(alloc, number, row)?;
+    let numbers = numbers_at(number, row)?;
+    let block = block_in(number, blocks, numbers.block)?;
+    let link = link_at(alloc, number, row)?;
     let mask = mask_at(alloc, number, row)?;
-    let process = process_at(number, row, block)?;
-    let fresh = fresh_at(number, row, block, fresh_block(process, before))?;
+    let harq = harq_at(number, row, block, earlier)?;
     let number = number - 1;
     let tx = Tx {
-        rv,
-        g,
-        qm,
-        nl,
+        rv: numbers.rv,
+        g: numbers.g,
+        qm: numbers.qm,
+        nl: numbers.nl,
         mask,
     };
     Ok(Transmission {
         number,
         block,
         tx,
-        erasure,
-        flip,
-        process,
-        fresh,
+        erasure: link.erasure,
+        flip: link.flip,
+        process: harq.process,
+        fresh: harq.fresh,
     })
+}
+
+// The five numbers of a record.
+#[tactic(auto, unfolding(crate::specs::Schedule::numbers_at))]
+fn numbers_at(number: u32, row: &ByteRecord) -> Result<Numbers, ScheduleFault>
+    ensures { result ≡ numbers_at number (fields_of row.now) }
+{
+    let block = number_in_field(number, row, b"block")?;
+    let rv = number_in_field(number, row, b"rv")?;
+    let g = number_in_field(number, row, b"g")?;
+    let qm = number_in_field(number, row, b"qm")?;
+    let nl = number_in_field(number, row, b"nl")?;
+    Ok(Numbers {
+        block,
+        rv,
+        g,
+        qm,
+        nl,
+    })
+}
+
+// What a record says that the link does to the bits.
+#[tactic(auto, unfolding(crate::specs::Schedule::link_at))]
+fn link_at(alloc: Global, number: u32, row: &ByteRecord) -> Result<OverLink, ScheduleFault>
+    ensures { Gives ScheduleFault.Memory (λ link. link) result
+        (link_at number (fields_of row.now)) }
+{
+    let erasure = erasure_at(alloc, number, row)?;
+    let flip = flip_at(alloc, number, row)?;
+    Ok(OverLink { erasure, flip })
+}
+
+// The HARQ process of a record, and whether it is fresh.
+#[tactic(auto, unfolding(crate::specs::Schedule::harq_at))]
+fn harq_at(
+    number: u32,
+    row: &ByteRecord,
+    block: u32,
+    earlier: &Earlier,
+) -> Result<Harq, ScheduleFault>
+    ensures { result
+        ≡ harq_at number (fields_of row.now) block earlier.now.transmissions.items }
+{
+    let process = process_at(number, row, block)?;
+    let fresh = fresh_at(number, row, block, earlier.fresh_block(process))?;
+    Ok(Harq { process, fresh })
 }
 
 // The number that a record's field says in the column of this name.
@@ -145,29 +209,6 @@ fn process_at(number: u32, row: &ByteRecord, block: u32) -> Result<u32, Schedule
     match short_word(text) {
         Some(process) if process < PROCESSES => Ok(process),
         _ => Err(ScheduleFault::Process(number)),
-    }
-}
-
-// The block of the last fresh transmission of a process, if there is one.
-fn fresh_block(process: u32, before: &[Transmission]) -> Option<u32>
-    ensures { result ≡ fresh_block (round_of process before.now) }
-{
-    let mut block = None;
-    for transmission in before {
-        block = next_block(process, transmission, block);
-    }
-    block
-}
-
-// That block after one transmission more.
-fn next_block(process: u32, transmission: &Transmission, block: Option<u32>) -> Option<u32>
-    ensures { result ≡ (if (transmission.now.process == process) && transmission.now.fresh
-        then Some transmission.now.block else block) }
-{
-    if transmission.process == process && transmission.fresh {
-        Some(transmission.block)
-    } else {
-        block
     }
 }
 

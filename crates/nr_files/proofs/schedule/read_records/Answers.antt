@@ -16,11 +16,11 @@ returns-then-not-is_header c =
     let some = when_true _ _ c.if-not-branch.false c.in_ok-next.ensures.next in
     inr (schedule_of-other _ _ c.next.new.self (fields_of c.next.new.row) (sym c.new-records.ensures.records ∙ some) (sym c.is_header.ensures ∙ c.if-not-is_header.true))
 
-pub loop-transmissions-init : goal.loop-transmissions-init
-loop-transmissions-init c =
+pub loop-earlier-init : goal.loop-earlier-init
+loop-earlier-init c =
     let some = when_true _ _ c.if-not-branch.false c.in_ok-next.ensures.next in
     record {
-      said = rw (c.new-transmissions.ensures.items, c.len-width.ensures, c.has_column-by_process.ensures)
+      said = rw (c.new-earlier.ensures, c.len-width.ensures, c.has_column-by_process.ensures)
           (schedule_of-header _ _ c.next.new.self (fields_of c.next.new.row) (sym c.new-records.ensures.records ∙ some) (sym c.is_header.ensures ∙ c.if-not-is_header.false));
       few = omega (arith, ap length some, c.new-records.ensures.few);
     }
@@ -30,20 +30,20 @@ returns-in_err-transmission c =
     let some = when_true _ _ c.if-branch.true c.in_ok-next-2.ensures.next in
     let p = err_from_is_err_and c.from_residual-in_err-transmission.result c.from_residual-in_err-transmission.ensures.1 in
     rw (p.1, p.2)
-    (turn-refused _ _ _ (c.loop-transmissions.number + 1) _ c.loop-transmissions.records c.next-in-loop-transmissions.new.self (fields_of c.next-in-loop-transmissions.new.row) _ _ some
-    (rw c.deref.ensures.value at c.in_err-transmission.ensures) c.loop-transmissions.invariant.said)
+    (turn-refused _ _ _ (c.loop-earlier.number + 1) _ c.loop-earlier.records c.next-in-loop-earlier.new.self (fields_of c.next-in-loop-earlier.new.row) _ _ some
+    c.in_err-transmission.ensures c.loop-earlier.invariant.said)
 
-pub loop-transmissions-preserved : goal.loop-transmissions-preserved
-loop-transmissions-preserved c =
+pub loop-earlier-preserved : goal.loop-earlier-preserved
+loop-earlier-preserved c =
     let some = when_true _ _ c.if-branch.true c.in_ok-next-2.ensures.next in
     record {
-      said = rw c.in_ok-push.ensures.items
-          (turn-ok _ _ _ (c.loop-transmissions.number + 1) _ c.loop-transmissions.records c.next-in-loop-transmissions.new.self (fields_of c.next-in-loop-transmissions.new.row) _ _ some
-          (rw c.deref.ensures.value at c.in_ok-transmission.ensures) c.loop-transmissions.invariant.said);
+      said = rw c.in_ok-push.ensures
+          (turn-ok _ _ _ (c.loop-earlier.number + 1) _ c.loop-earlier.records c.next-in-loop-earlier.new.self (fields_of c.next-in-loop-earlier.new.row) _ _ some
+          c.in_ok-transmission.ensures c.loop-earlier.invariant.said);
       few = omega (arith, ap length some);
     }
 
 pub returns : goal.returns
 returns c =
     let end = when_false _ _ c.if-branch.false c.in_ok-next-2.ensures.next in
-    turn-end _ _ _ (c.loop-transmissions.number + 1) _ c.loop-transmissions.records _ end.0 c.loop-transmissions.invariant.said
+    turn-end _ _ _ (c.loop-earlier.number + 1) _ c.loop-earlier.records _ end.0 c.loop-earlier.invariant.said
