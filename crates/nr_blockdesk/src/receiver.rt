@@ -10,7 +10,7 @@ ghost use Rattle.nr_peel.specs.Peeling.{AgreesWith, IsPeeled, IsStarted};
 ghost use Rattle.nr_shifttable.specs.Accepted.{has_graph};
 ghost use Rattle.nr_blockdesk.specs.Explains.{Explains, Reception, reception, reception_said};
 ghost use Rattle.nr_blockdesk.specs.Heard.{IsRecordOf, heard_of};
-ghost use Rattle.nr_blockdesk.specs.Link.{IsBlock, link_said, word};
+ghost use Rattle.nr_blockdesk.specs.Link.{IsBlock, IsLink, link_of, link_said, word};
 ghost use Rattle.nr_blockdesk.specs.Outcome.{all_fixed, contradiction, delivered, given, left, outcome_of};
 ghost use Rattle.nr_blockdesk.specs.Receiving.{AreWords, IsDecided, RefusesAs, peeling_of, verdict};
 
@@ -94,8 +94,25 @@ impl<'t> Receiver<'t> {
         ensures judged { IsErrOf result DeskFault.Memory → IsOk (link_said table.now settings a) }
         ensures empty { IfOk result (λ receiver. IsRecordOf receiver.link [] receiver.heard) }
     {
-        plans_are_sound();
         let (plan, buffer) = agree(table, settings, a)?;
+        Receiver::over(alloc, table, plan, a, buffer)
+    }
+
+    // The receiver of a transport block of `a` bits over this link, which has heard nothing yet.
+    pub(crate) fn over(
+        alloc: Global,
+        table: &'t Table,
+        plan: Plan,
+        a: u32,
+        buffer: Buffer,
+    ) -> Result<Receiver<'t>, DeskFault>
+        requires whole { plan.b ≡ attached_length a }
+        requires link { IsLink (link_of table.now plan a buffer) }
+        ensures link { IfOk result (λ receiver. receiver.link ≡ link_of table.entry.now plan a buffer) }
+        ensures empty { IfOk result (λ receiver. IsRecordOf receiver.link [] receiver.heard) }
+        ensures err { IfErr result (λ e. e ≡ DeskFault.Memory) }
+    {
+        plans_are_sound();
         let (stores, peelers) = parts(alloc, table, &plan)?;
         let block = Bits::with_room(alloc, plan.b)?;
         let words = blank_words(alloc, &plan)?;

@@ -8,11 +8,13 @@ ghost use Rattle.nr_ldpcenc.specs.Codeword.{IsCodeword};
 ghost use Rattle.nr_ratematch.specs.Lengths.{IsShared};
 ghost use Rattle.nr_ratematch.specs.Selection.{Circular};
 ghost use Rattle.nr_segment.specs.CodeBlock.{numbers};
-ghost use Rattle.nr_blockdesk.specs.Link.{code_bits_of, link_of, link_said, word, words_of};
+ghost use Rattle.nr_blockdesk.specs.Heard.{IsRecordOf};
+ghost use Rattle.nr_blockdesk.specs.Link.{IsLink, code_bits_of, link_of, link_said, word, words_of};
 ghost use Rattle.nr_blockdesk.specs.Sent.{matching_of, sending_said, sent_of, sent_said, tx_said, tx_said_of};
 
 use crate::laws::words_are_plain;
 use crate::link::agree;
+use crate::receiver::Receiver;
 use arrayvec::ArrayVec;
 use nr_bitvec::Bits;
 use nr_crcattach::{attach, attachment_lengthens};
@@ -105,6 +107,30 @@ impl<'t> Sender<'t> {
             Ok(bits) => Ok(bits),
             Err(_) => Err(DeskFault::Memory),
         }
+    }
+
+    /// A receiver of the transport block, which has heard nothing yet: both have one link.
+    ///
+    /// # Errors
+    ///
+    /// `AllocError` where memory is refused.
+    pub fn receiver(&self) -> Result<Receiver<'t>, AllocError>
+        ensures link { IfOk result (λ receiver. receiver.link ≡ self.now.link) }
+        ensures empty { IfOk result (λ receiver. IsRecordOf receiver.link [] receiver.heard) }
+    {
+        plans_are_sound();
+        let a = self.a();
+        match Receiver::over(self.alloc, self.table, self.plan, a, self.buffer) {
+            Ok(receiver) => Ok(receiver),
+            Err(_) => Err(AllocError),
+        }
+    }
+
+    /// Tells what the type promises of each sender's link, at no cost.
+    pub fn is_sound(&self)
+        ensures { IsLink self.now.link }
+    {
+        let _ = &self.plan;
     }
 
     /// The codeword of code block `r`, counted from 0 and below C (TS 38.212, 5.3.2). Takes no memory.
