@@ -1,5 +1,5 @@
 -- What hearing does to a code block's store and its peeler.
-use Rattle.std.proofs.Common.{◌≡◌, ◌≢◌, ℕ, zero, suc, ◌+◌, ◌*◌, ◌<◌, ◌≤◌, ◌||◌, ◌&&◌, Bool, true, false, not, cond, List, [], ◌∷◌, ◌++◌, length, get_or, set, take, drop, refl, sym, ap, subst, ◌∙◌, ⊎_elim, append_assoc, arith}
+use Rattle.std.proofs.Common.{◌≡◌, ◌≢◌, ℕ, zero, suc, ◌+◌, ◌<◌, ◌≤◌, ◌||◌, ◌&&◌, Bool, true, false, not, cond, List, [], ◌∷◌, ◌++◌, length, get_or, set, take, drop, refl, sym, ap, subst, ◌∙◌, ⊎_elim, append_assoc, arith}
 use Rattle.std.specs.Prelude.{Option, Some, None, option_map, sum, slice_index}
 use Rattle.std.specs.Bool.{beq}
 use Rattle.std.specs.List.{cons_option, filter_map, range_with_len}
@@ -10,21 +10,18 @@ use Rattle.std.proofs.lemmas.List.Elements.{filter_map-append}
 use Rattle.std.proofs.lemmas.List.Sums.{sum_by_more}
 use Rattle.std.proofs.Math.ListN.{drop_of_length-le}
 use Rattle.nr_bitvec.specs.Bit.{bit}
-use Rattle.nr_graphpick.specs.Graph.{cols_of}
 use Rattle.nr_graphpick.specs.declared.Graph.{Graph}
 use Rattle.nr_harqbuf.specs.Record.{HasFirsts, Heardbits, Hearing, RecordContinues, differs, first_at, is_heard, record_of, with_hearing}
 use Rattle.nr_interleave.specs.Interleaving.{seat_of}
-use Rattle.nr_ldpcenc.specs.Codeword.{filler}
-use Rattle.nr_ldpcenc.specs.Rows.{Checks, Meets, block_checks}
-use Rattle.nr_segment.specs.Plan.{word_size, Numbers}
-use Rattle.nr_peel.specs.Peeling.{AgreesWith, IsPeeled, IsSameCode, Peeling, checks_for}
+use Rattle.nr_ldpcenc.specs.Rows.{block_checks}
+use Rattle.nr_segment.specs.Plan.{Numbers}
+use Rattle.nr_peel.specs.Peeling.{Peeling, checks_for}
 use Rattle.nr_ratematch.specs.Selection.{Circular, place_of}
 use Rattle.nr_shifttable.specs.Accepted.{Entries}
 use Rattle.nr_blockdesk.specs.Explains.{heard_at}
 use Rattle.nr_blockdesk.specs.Heard.{heard_of}
 use Rattle.nr_blockdesk.specs.Hearing.{heard_bit}
 use Rattle.nr_blockdesk.specs.Link.{Link}
-use Rattle.nr_blockdesk.specs.Outcome.{given}
 use Rattle.nr_blockdesk.specs.Receiving.{AllTell, Fits, HearsPart, IsTied, Tells, part_hearing, part_hearings, word_at}
 use Rattle.nr_blockdesk.specs.declared.heard.Heard.{Heard}
 use Rattle.nr_transmission.specs.declared.tx.Tx.{Tx}
@@ -223,58 +220,6 @@ same-checks link s p tied =
     ∙ ap (λ (g : Graph). block_checks link.table g p.numbers) tied.graph
     ∙ ap (λ (n : Numbers). block_checks link.table link.graph n) tied.numbers
 
--- where a position had been heard, nothing is learned
-pub tied-again : (link : Link) (s t : Heardbits) (p : Peeling) → t.first ≡ s.first → IsTied link s p → IsTied link t p
-tied-again link s t p firsts tied = record {
-  table = tied.table;
-  graph = tied.graph;
-  numbers = tied.numbers;
-  long = ap length firsts ∙ tied.long;
-  positions = λ k. tied.positions k
-      ∙ ap (λ (xs : List (Option Bool)). is_heard (get_or xs k None) || filler link.plan.kdash link.plan.k k) (sym firsts);
-  words = λ w plain has. tied.words w plain
-      (λ k b is. has k b (ap (λ (xs : List (Option Bool)). get_or xs k None) firsts ∙ is));
-  peeled = tied.peeled;
-}
-
--- where none had been, the bit is
-pub tied-more : (link : Link) (s t : Heardbits) (p q : Peeling) (pos : ℕ) (v : Bool) → pos < length s.first
-    → is_heard (first_at s pos) ≡ false → t.first ≡ set s.first pos (Some v) → IsSameCode p q
-    → q.given ≡ set p.given pos true
-    → ((w : ℕ → Bool) → Meets (checks_for p) w → AgreesWith p w → w pos ≡ v → AgreesWith q w) → IsPeeled q
-    → IsTied link s p → IsTied link t q
-tied-more link s t p q pos v inside unheard firsts same gives words peeled tied = record {
-  table = same.table ∙ tied.table;
-  graph = same.graph ∙ tied.graph;
-  numbers = same.numbers ∙ tied.numbers;
-  long = ap length firsts ∙ length-set s.first pos (Some v) ∙ tied.long;
-  positions = positions;
-  words = λ w plain has. words w (subst (λ (c : Checks). Meets c w) (sym (same-checks link s p tied)) plain.meets)
-      (tied.words w plain (firsts-before s t pos v w unheard firsts has)) (has pos v (first-here pos refl));
-  peeled = peeled;
-}
-  where
-    wide : pos < length p.given
-    wide =
-        let size : (checks_for p).size ≡ word_size link.graph link.plan = ap (λ (c : Checks). c.size) (same-checks link s p tied) in
-        let long : length p.given ≡ length s.first = tied.peeled.given_long ∙ size ∙ sym tied.long in
-        subst (λ n. pos < n) (sym long) inside
-
-    first-here : (k : ℕ) → k ≡ pos → first_at t k ≡ Some v
-    first-here k here = ap (λ (xs : List (Option Bool)). get_or xs k None) firsts ∙ get_or-set_at s.first pos k (Some v) None here inside
-
-    first-there : (k : ℕ) → k ≢ pos → first_at t k ≡ first_at s k
-    first-there k there = ap (λ (xs : List (Option Bool)). get_or xs k None) firsts ∙ get_or-set_other s.first pos k (Some v) None there
-
-    positions : (k : ℕ) → bit q.given k ≡ given link t k
-    positions k = ⊎_elim
-        (λ (here : k ≡ pos). ap (λ (g : List Bool). bit g k) gives ∙ get_or-set_at p.given pos k true false here wide
-        ∙ sym (ap (λ o. is_heard o || filler link.plan.kdash link.plan.k k) (first-here k here)))
-        (λ (there : k ≢ pos). ap (λ (g : List Bool). bit g k) gives ∙ get_or-set_other p.given pos k true false there
-        ∙ tied.positions k
-        ∙ sym (ap (λ o. is_heard o || filler link.plan.kdash link.plan.k k) (first-there k there)))
-        (cases_eq k pos)
-
 -- the same part, in other words
 pub hears-same : (b : Circular) (tx : Tx) (part part' : List Heard) (s s' t t' : Heardbits) (p p' q q' : Peeling)
     → part ≡ part' → s ≡ s' → p ≡ p' → t ≡ t' → q ≡ q' → HearsPart b tx part s p t q → HearsPart b tx part' s' p' t' q'
@@ -342,7 +287,3 @@ pub peelers-kept : (P₀ P : List Peeling) (r : ℕ) (q : Peeling) → ((k : ℕ
 peelers-kept P₀ P r q later k d above =
     let other : k ≢ r = λ e. omega (arith, e, above) in
     get_or-set_other P r k q d other ∙ later k d (omega arith)
-
-pub size-same : (p q : Peeling) → IsSameCode p q → (checks_for q).size ≡ (checks_for p).size
-size-same p q same =
-    ap (λ (g : Graph). cols_of g * q.numbers.z) same.graph ∙ ap (λ (n : Numbers). cols_of p.graph * n.z) same.numbers

@@ -19,3 +19,4 @@ mod Nothing
 mod Ends
 mod Exact
 mod CallFacts
+pub mod News

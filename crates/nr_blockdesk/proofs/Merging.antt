@@ -11,14 +11,9 @@ use Rattle.nr_bitvec.specs.Bit.{bit}
 use Rattle.nr_bitvec.proofs.Places.{same_from_bits}
 use Rattle.nr_harqbuf.specs.Masks.{AreMasks, RecordMerges, differs_at, first_merged, merged}
 use Rattle.nr_harqbuf.specs.Record.{HasFirsts, Heardbits, Hearing, differs, first_at, heard_as, is_heard, record_of}
-use Rattle.nr_ldpcenc.specs.Codeword.{filler}
-use Rattle.nr_ldpcenc.specs.Rows.{Checks, Meets}
-use Rattle.nr_peel.specs.Peeling.{GivesAll, IsPeeled, IsSameCode, KeepsAllWords, Peeling}
-use Rattle.nr_blockdesk.specs.Link.{Link}
-use Rattle.nr_blockdesk.specs.Outcome.{given}
-use Rattle.nr_blockdesk.specs.Receiving.{Fits, IsTied, Tells}
-use Rattle.nr_blockdesk.proofs.Hears.{beq-self, same-bit, same-checks}
-use Rattle.nr_blockdesk.proofs.Telling.{find_it, found, none-more}
+use Rattle.nr_blockdesk.specs.Receiving.{Fits, IsNews, Tells}
+use Rattle.nr_blockdesk.proofs.Hears.{beq-self, same-bit}
+use Rattle.nr_blockdesk.proofs.Telling.{find_it, found}
 
 -- what is told stands at positions of the lists
 inside-long : (xs : List Bool) (p : ℕ) → bit xs p ≡ true → p < length xs
@@ -162,52 +157,23 @@ module _ (s : Heardbits) (heard value : List Bool) (long : length heard ≡ leng
       go None true = refl
       go None false = refl
 
-  module _ (fresh : List Bool) (are : (p : ℕ) → bit fresh p ≡ (bit heard p && not (is_heard (first_at s p)))) where
-    given-is : (link : Link) (k : ℕ) → (given link s k || bit fresh k) ≡ given link (merged s heard value) k
-    given-is link k =
-        ap (λ t. given link s k || t) (are k)
-        ∙ go (is_heard (first_at s k)) (bit heard k) (filler link.plan.kdash link.plan.k k)
-        ∙ ap (λ t. t || filler link.plan.kdash link.plan.k k) (sym (marks k))
-      where
-        go : (a h f : Bool) → (a || f || (h && not a)) ≡ (a || h || f)
-        go true h f = and-none h
-          where
-            and-none : (h : Bool) → true ≡ true
-            and-none h = refl
-        go false true true = refl
-        go false true false = refl
-        go false false true = refl
-        go false false false = refl
+  -- what is told for the first time is what the record has after it and lacked
+  pub news-merged : (fresh : List Bool) → ((p : ℕ) → bit fresh p ≡ (bit heard p && not (is_heard (first_at s p)))) → IsNews s (merged s heard value) fresh value
+  news-merged fresh are = record {
+    marks = λ p. are p ∙ same (is_heard (first_at s p)) (bit heard p) ∙ ap (λ b. b && not (is_heard (first_at s p))) (sym (marks p));
+    bits = λ p is.
+        let parts = and_parts (bit heard p) (not (is_heard (first_at s p))) (sym (are p) ∙ is) in
+        first-new p (unheard (is_heard (first_at s p)) parts.1) parts.0;
+    kept = first-old;
+    long = long-is;
+  }
+    where
+      same : (a h : Bool) → (h && not a) ≡ ((a || h) && not a)
+      same true true = refl
+      same true false = refl
+      same false true = refl
+      same false false = refl
 
-    -- nothing is learned where no position was told for the first time
-    pub tied-same : (link : Link) (p : Peeling) → ((k : ℕ) → bit fresh k ≡ false) → IsTied link s p → IsTied link (merged s heard value) p
-    tied-same link p none tied = record {
-      table = tied.table;
-      graph = tied.graph;
-      numbers = tied.numbers;
-      long = long-is ∙ tied.long;
-      positions = λ k. tied.positions k ∙ none-more (given link s k) ∙ ap (λ t. given link s k || t) (sym (none k)) ∙ given-is link k;
-      words = λ w plain has. tied.words w plain (firsts-before w has);
-      peeled = tied.peeled;
-    }
-
-    -- and these are learned where some were
-    pub tied-merged : (link : Link) (p q : Peeling) → IsSameCode p q → GivesAll (bit fresh) p q → KeepsAllWords (bit fresh) (bit value) p q → IsPeeled q
-        → IsTied link s p → IsTied link (merged s heard value) q
-    tied-merged link p q same gives words peeled tied = record {
-      table = same.table ∙ tied.table;
-      graph = same.graph ∙ tied.graph;
-      numbers = same.numbers ∙ tied.numbers;
-      long = long-is ∙ tied.long;
-      positions = λ k. gives k ∙ ap (λ t. t || bit fresh k) (tied.positions k) ∙ given-is link k;
-      words = λ w plain has. words w (subst (λ (c : Checks). Meets c w) (sym (same-checks link s p tied)) plain.meets)
-          (tied.words w plain (firsts-before w has))
-          (λ k is.
-          let parts = and_parts (bit heard k) (not (is_heard (first_at s k))) (sym (are k) ∙ is) in
-          has k (bit value k) (first-new k (unheard (is_heard (first_at s k)) parts.1) parts.0));
-      peeled = peeled;
-    }
-      where
-        unheard : (a : Bool) → not a ≡ true → a ≡ false
-        unheard true e = absurd (false≢true e)
-        unheard false e = refl
+      unheard : (a : Bool) → not a ≡ true → a ≡ false
+      unheard true e = absurd (false≢true e)
+      unheard false e = refl

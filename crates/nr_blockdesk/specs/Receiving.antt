@@ -1,10 +1,10 @@
 -- What a receiver keeps, and what its steps make of it.
-use Rattle.std.specs.Prelude.{◌≡◌, ◌⊎◌, ℕ, ◌+◌, ◌/◌, ◌%◌, ◌<◌, ◌≤◌, Bool, true, false, Option, option_map, unwrap_or, Result, Ok, Err, IsOk, List, [], ◌++◌, length, take, drop, sum, slice_index, slice_index_or, All}
+use Rattle.std.specs.Prelude.{◌≡◌, ◌⊎◌, ℕ, ◌+◌, ◌/◌, ◌%◌, ◌<◌, ◌≤◌, ◌&&◌, Bool, true, false, not, Option, Some, option_map, unwrap_or, Result, Ok, Err, IsOk, List, [], ◌++◌, length, take, drop, sum, slice_index, slice_index_or, All}
 use Rattle.std.specs.List.{filter_map, range_with_len}
 use Rattle.nr_crcattach.specs.Attachment.{attached_length}
 use Rattle.nr_bitvec.specs.Bit.{bit}
 use Rattle.nr_bitvec.specs.BitList.{BitList}
-use Rattle.nr_harqbuf.specs.Record.{Hearing, Heardbits, HasFirsts, record_of}
+use Rattle.nr_harqbuf.specs.Record.{Hearing, Heardbits, HasFirsts, first_at, is_heard, record_of}
 use Rattle.nr_interleave.specs.Interleaving.{seat_of}
 use Rattle.nr_ldpcenc.specs.Codeword.{IsPlain}
 use Rattle.nr_segment.specs.Plan.{word_size, Numbers}
@@ -65,6 +65,13 @@ pub record IsTied (link : Link) (s : Heardbits) (p : Peeling) : Type 0 where
   pub positions : (k : ℕ) → bit p.given k ≡ given link s k
   pub words : (w : ℕ → Bool) → IsPlain link.table link.graph link.plan w → HasFirsts s w → AgreesWith p w
   pub peeled : IsPeeled p
+
+-- from one record of a code block to a later one: marks of the positions heard for the first time, and their bits
+pub record IsNews (s t : Heardbits) (heard value : List Bool) : Type 0 where
+  pub marks : (p : ℕ) → bit heard p ≡ (is_heard (first_at t p) && not (is_heard (first_at s p)))
+  pub bits : (p : ℕ) → bit heard p ≡ true → first_at t p ≡ Some (bit value p)
+  pub kept : (p : ℕ) (b : Bool) → first_at s p ≡ Some b → first_at t p ≡ Some b
+  pub long : length t.first ≡ length s.first
 
 -- a code block's store and its peeler have n positions
 pub record IsSized (n : ℕ) (s : Heardbits) (p : Peeling) : Type 0 where
@@ -139,12 +146,13 @@ pub record IsReceiver (link : Link) (b : ℕ) (records : List Heardbits) (peeler
   pub stands : Stands link records block.items words standing
   pub untold : IsUntold (word_size link.graph link.plan) told
 
--- hearings were heard of a code block: the record is that of the longer list, store and peeler belong together again, and
--- no word fits that did not before
+-- hearings were heard of a code block: the record is that of the longer list, store and peeler belong together again,
+-- no word fits that did not before, and no visit of the peeler's is forgotten
 pub record HearsAll (more : List Hearing) (s : Heardbits) (p : Peeling) (t : Heardbits) (q : Peeling) : Type 0 where
   pub recorded : (hs : List Hearing) → s ≡ record_of (length s.first) hs → t ≡ record_of (length s.first) (hs ++ more)
   pub tied : (link : Link) → IsTied link s p → IsTied link t q
   pub fewer : (w : ℕ → Bool) → Fits t w → Fits s w
+  pub visited : p.touches ≤ q.touches
 
 -- a code block's part of a transmission was heard
 abbrev pub HearsPart : Circular → Tx → List Heard → Heardbits → Peeling → Heardbits → Peeling → Type 0

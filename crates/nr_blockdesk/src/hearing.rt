@@ -1,16 +1,17 @@
 //! Hearing one transmission: what it tells of a code block is put together first, and then the store and the peeler hear
 //! all of it at once.
 
-ghost use Rattle.std.specs.Prelude.{◌≡◌, ℕ, ◌*◌, ◌%◌, ◌^◌, ◌<◌, length, slice_index_or, List, IfOk, MatchResult, Ok, Err};
+ghost use Rattle.std.specs.Prelude.{◌≡◌, ℕ, ◌*◌, ◌%◌, ◌^◌, ◌<◌, ◌≤◌, length, slice_index_or, List, IfOk, MatchResult, Ok, Err};
 ghost use Rattle.nr_bitvec.specs.Bit.{bit};
 ghost use Rattle.nr_graphpick.specs.Graph.{cols_of};
 ghost use Rattle.nr_harqbuf.specs.Masks.{AreMasks};
-ghost use Rattle.nr_harqbuf.specs.Record.{Hearing};
-ghost use Rattle.nr_peel.specs.Peeling.{Peeling};
+ghost use Rattle.nr_harqbuf.specs.Record.{Hearing, Heardbits};
+ghost use Rattle.nr_peel.specs.Peeling.{Peeling, checks_for};
 ghost use Rattle.nr_ratematch.specs.Lengths.{IsShared};
 ghost use Rattle.nr_blockdesk.specs.Explains.{reception, reception_said_of};
 ghost use Rattle.nr_blockdesk.specs.Heard.{heard_of};
-ghost use Rattle.nr_blockdesk.specs.Receiving.{AllTell, AreWords, HearsAll, HearsPart, IsSized, Tells, piece};
+ghost use Rattle.nr_blockdesk.specs.Link.{Link};
+ghost use Rattle.nr_blockdesk.specs.Receiving.{AllTell, AreWords, HearsAll, HearsPart, IsNews, IsSized, IsTied, Tells, piece};
 ghost use Rattle.nr_blockdesk.specs.Telling.{IsUntold};
 
 use crate::deposit::deposit;
@@ -75,7 +76,7 @@ fn hear_part(
     if heard.len() >= FEW && deposit(buffer, tx, heard, told) {
         teach(told, store, peeler, word)
     } else {
-        hear_by_places(buffer, tx, heard, store, peeler, word)
+        hear_by_places(buffer, tx, heard, store, peeler, word, told)
     }
 }
 
@@ -93,15 +94,28 @@ fn teach(told: &mut Told, store: &mut Store, peeler: &mut Peeler<'_>, word: &Wor
     record_merges();
     let agreed = agrees(&told.heard, &told.value, word.bits());
     store.hear_all(&mut told.heard, &told.value);
-    if told.is_empty() {
-        return agreed;
-    }
-    peeler.learn_all(&told.heard, &told.value);
-    told.heard.zero();
+    learn_told(told, peeler);
     agreed
 }
 
-// The same place by place: only the first bit of a position is learned.
+// Learns all that is told. Nothing is told then.
+fn learn_told(told: &mut Told, peeler: &mut Peeler<'_>)
+    requires heard { length told.old.heard.items ≡ (checks_for peeler.old).size }
+    requires bits { length told.old.value.items ≡ length told.old.heard.items }
+    ensures tied { (link : Link) (s t : Heardbits)
+        → IsNews s t told.old.heard.items told.old.value.items
+        → IsTied link s peeler.old → IsTied link t peeler.new }
+    ensures visited { peeler.old.touches ≤ peeler.new.touches }
+    ensures untold { IsUntold (length told.old.heard.items) told.new }
+{
+    if told.is_empty() {
+        return;
+    }
+    peeler.learn_all(&told.heard, &told.value);
+    told.heard.zero();
+}
+
+// The same place by place: what is heard for the first time is told, and then learned at once.
 fn hear_by_places(
     buffer: &Buffer,
     tx: &Tx,
@@ -109,6 +123,7 @@ fn hear_by_places(
     store: &mut Store,
     peeler: &mut Peeler<'_>,
     word: &Word,
+    told: &mut Told,
 ) -> bool
     requires version { tx.now.rv < 4 }
     requires order { 0 < tx.now.qm }
@@ -116,8 +131,10 @@ fn hear_by_places(
     requires short { length heard.now < 2 ^ 32 }
     requires sized { IsSized (cols_of buffer.now.graph * buffer.now.z) store.old peeler.old }
     requires long { length word.now ≡ cols_of buffer.now.graph * buffer.now.z }
+    requires untold { IsUntold (cols_of buffer.now.graph * buffer.now.z) told.old }
     ensures hears { HearsPart buffer.now tx.now heard.now store.old peeler.old store.new peeler.new }
     ensures agreed { Tells result (bit word.now) store.old store.new }
+    ensures untold { IsUntold (cols_of buffer.now.graph * buffer.now.z) told.new }
 {
     record_continues();
     let count = heard.len() as u32;
@@ -126,12 +143,14 @@ fn hear_by_places(
         if let Some(bit) = heard[m as usize].bit() {
             let pos = buffer.place(tx.rv, seat(tx.qm, count, m));
             if store.heard(pos).is_none() {
-                peeler.learn(pos, bit);
+                told.heard.set(pos as usize, true);
+                told.value.set(pos as usize, bit);
             }
             store.hear(pos, bit);
             agreed &= word.get(pos as usize) == bit;
         }
     }
+    learn_told(told, peeler);
     agreed
 }
 

@@ -1,6 +1,6 @@
 //! The receiver of one transport block.
 
-ghost use Rattle.std.specs.Prelude.{◌≡◌, ◌≢◌, ℕ, ◌<◌, ◌++◌, [], ◌∷◌, Bool, true, List, length, All, IfOk, IfErr, IsErrOf, IsOk, OnErr, OnOk};
+ghost use Rattle.std.specs.Prelude.{◌≡◌, ◌≢◌, ℕ, ◌<◌, ◌≤◌, ◌++◌, [], ◌∷◌, Bool, true, List, length, All, IfOk, IfErr, IsErrOf, IsOk, OnErr, OnOk};
 ghost use Rattle.nr_crcattach.specs.Attachment.{attached_length};
 ghost use Rattle.nr_bitvec.specs.Bit.{bit};
 ghost use Rattle.nr_graphpick.specs.Refusal.{Gives};
@@ -153,6 +153,9 @@ impl<'t> Receiver<'t> {
         ensures heard { OnOk result ((list : List Reception)
             → IsRecordOf self.old.link list self.old.heard
             → IsRecordOf self.old.link (list ++ reception tx.now heard.now ∷ []) self.new.heard) }
+        ensures visits { OnOk result ((r : ℕ) → r < self.old.link.plan.c
+            → (peeling_of self.old.link self.old.peelings r).touches
+            ≤ (peeling_of self.old.link self.new.peelings r).touches) }
         ensures outcome { IfOk result (λ answer. (list : List Reception)
             → IsRecordOf self.old.link list self.old.heard
             → verdict answer ≡ outcome_of self.old.link (list ++ reception tx.now heard.now ∷ [])) }

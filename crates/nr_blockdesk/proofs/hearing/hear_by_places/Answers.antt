@@ -1,16 +1,17 @@
-use Rattle.std.proofs.Common.{◌≡◌, ℕ, ◌+◌, ◌<◌, Bool, true, false, not, Some, None, ◌&&◌, ◌++◌, length, sym, ap, subst, ◌∙◌, arith}
+use Rattle.std.proofs.Common.{◌≡◌, ℕ, ◌+◌, ◌<◌, Bool, true, false, not, Some, None, ◌&&◌, ◌++◌, List, length, set, sym, ap, subst, ◌∙◌, arith}
 use Rattle.std.specs.Bool.{beq}
-use Rattle.std.proofs.lemmas.List.{get_or_default}
+use Rattle.std.proofs.lemmas.List.{get_or_default, length-set}
 use Rattle.nr_bitvec.specs.Bit.{bit}
 use Rattle.nr_harqbuf.specs.Record.{Heardbits, first_at, is_heard, record_of, with_hearing}
-use Rattle.nr_peel.specs.Peeling.{Peeling, checks_for}
 use Rattle.nr_ratematch.specs.Selection.{place_of}
 use Rattle.nr_interleave.specs.Interleaving.{seat_of}
 use Rattle.nr_blockdesk.specs.Explains.{heard_at}
 use Rattle.nr_blockdesk.specs.Hearing.{heard_bit}
-use Rattle.nr_blockdesk.specs.Receiving.{Fits, IsTied, Tells, part_hearings}
+use Rattle.nr_blockdesk.specs.Receiving.{Fits, IsNews, Tells, part_hearings}
+use Rattle.nr_blockdesk.specs.declared.told.Told.{Told}
 use Rattle.nr_blockdesk.specs.declared.heard.Heard.TheVariants as heard
-use Rattle.nr_blockdesk.proofs.Hears.{first-kept, first-long, first-set, fits-before, part-none, part-some, recorded-more, size-same, tells-more, tied-again, tied-more}
+use Rattle.nr_blockdesk.proofs.Hears.{first-kept, first-set, fits-before, part-none, part-some, recorded-more, tells-more}
+use Rattle.nr_blockdesk.proofs.News.{news-again, news-more}
 use Rattle.nr_blockdesk.proofs.Recorded.{heard-some}
 use Rattle.nr_blockdesk.proofs.hearing.hear_by_places.Goals as goal
 use Rattle.nr_blockdesk.proofs.hearing.hear_by_places.Goals.{in-Some, then-is_none, else-is_none, in_default}
@@ -34,34 +35,36 @@ loop-m-preserved c =
           ap heard_bit (get_or_default places m heard.Erased heard.Zero c.loop-m-test.true) ∙ sym c.bit.ensures ∙ w.in-Some.is in
           let at : pos ≡ place_of b tx.rv (seat_of tx.qm (length places) m) = w.place-pos.ensures.value ∙ ap (place_of b tx.rv) w.seat.ensures.value in
           let store-is : c.match-bit.store ≡ with_hearing s (pos, v) = w.store-is ∙ w.hear.ensures in
-          let inside : pos < length s.first = omega (arith, w.place-pos.ensures.sent.coded, inv.sized.stored) in
+          let inside : pos < length s.first = omega (arith, w.place-pos.ensures.sent.coded, inv.news.long, c.requires.sized.stored) in
           record {
             recorded = λ hs e. recorded-more c.record_continues.ensures n hs (part_hearings b tx places m) (part_hearings b tx places (m + 1)) s c.match-bit.store pos v
-                (omega (arith, inside, inv.long)) (inv.recorded hs e) store-is (part-some b tx places m pos v told at);
-            tied = λ link t. elim w.if-is_none.branch [
+                (omega (arith, inside, inv.news.long)) (inv.recorded hs e) store-is (part-some b tx places m pos v told at);
+            news = elim w.if-is_none.branch [
               | then-is_none u ↦
                   let unheard : is_heard (first_at s pos) ≡ false =
                   ap is_heard (sym w.heard.ensures) ∙ heard-some w.heard.result ∙ w.is_none.ensures ∙ ap not u.if-is_none.true in
-                  subst (λ (q : Peeling). IsTied link c.match-bit.store q) (sym (w.peeler-is ∙ u.peeler-is))
-                  (tied-more link s c.match-bit.store c.loop-m.peeler u.learn.new.self pos v inside unheard
-                  (ap (λ (h : Heardbits). h.first) store-is ∙ first-set s pos v unheard)
-                  u.learn.ensures.code u.learn.ensures.given u.learn.ensures.words u.learn.ensures.peeled (inv.tied link t))
+                  let heard-is : c.match-bit.told.heard.items ≡ set c.loop-m.told.heard.items pos true = ap (λ (t : Told). t.heard.items) (w.told-is ∙ u.told-is) ∙ u.set.ensures.items in
+                  let value-is : c.match-bit.told.value.items ≡ set c.loop-m.told.value.items pos v = ap (λ (t : Told). t.value.items) (w.told-is ∙ u.told-is) ∙ u.set-then-is_none.ensures.items in
+                  subst (λ (l : List Bool). IsNews s₀ c.match-bit.store c.match-bit.told.heard.items l) (sym value-is)
+                  (subst (λ (l : List Bool). IsNews s₀ c.match-bit.store l (set c.loop-m.told.value.items pos v)) (sym heard-is)
+                  (news-more s₀ s c.match-bit.store c.loop-m.told.heard.items c.loop-m.told.value.items pos v inside
+                  (omega (arith, w.place-pos.ensures.sent.coded, inv.marks)) (omega (arith, w.place-pos.ensures.sent.coded, inv.bits)) unheard
+                  (ap (λ (h : Heardbits). h.first) store-is ∙ first-set s pos v unheard) inv.news))
               | else-is_none u ↦
                   let known : is_heard (first_at s pos) ≡ true =
                   ap is_heard (sym w.heard.ensures) ∙ heard-some w.heard.result ∙ w.is_none.ensures ∙ ap not u.if-is_none.false in
-                  subst (λ (q : Peeling). IsTied link c.match-bit.store q) (sym (w.peeler-is ∙ u.peeler-is))
-                  (tied-again link s c.match-bit.store c.loop-m.peeler
-                  (ap (λ (h : Heardbits). h.first) store-is ∙ first-kept s pos v known) (inv.tied link t))
+                  subst (λ (t : Told). IsNews s₀ c.match-bit.store t.heard.items t.value.items) (sym (w.told-is ∙ u.told-is))
+                  (news-again s₀ s c.match-bit.store c.loop-m.told.heard.items c.loop-m.told.value.items
+                  (ap (λ (h : Heardbits). h.first) store-is ∙ first-kept s pos v known) inv.news)
             ];
-            sized = record {
-              stored = ap (λ (h : Heardbits). length h.first) store-is ∙ first-long s pos v ∙ inv.sized.stored;
-              peeled = elim w.if-is_none.branch [
-                | then-is_none u ↦ ap (λ (q : Peeling). (checks_for q).size) (w.peeler-is ∙ u.peeler-is)
-                    ∙ size-same c.loop-m.peeler u.learn.new.self u.learn.ensures.code ∙ inv.sized.peeled
-                | else-is_none u ↦ ap (λ (q : Peeling). (checks_for q).size) (w.peeler-is ∙ u.peeler-is) ∙ inv.sized.peeled
-              ];
-            };
-            long = ap (λ (h : Heardbits). length h.first) store-is ∙ first-long s pos v ∙ inv.long;
+            marks = elim w.if-is_none.branch [
+              | then-is_none u ↦ ap (λ (t : Told). length t.heard.items) (w.told-is ∙ u.told-is) ∙ ap length u.set.ensures.items ∙ length-set c.loop-m.told.heard.items pos true ∙ inv.marks
+              | else-is_none u ↦ ap (λ (t : Told). length t.heard.items) (w.told-is ∙ u.told-is) ∙ inv.marks
+            ];
+            bits = elim w.if-is_none.branch [
+              | then-is_none u ↦ ap (λ (t : Told). length t.value.items) (w.told-is ∙ u.told-is) ∙ ap length u.set-then-is_none.ensures.items ∙ length-set c.loop-m.told.value.items pos v ∙ inv.bits
+              | else-is_none u ↦ ap (λ (t : Told). length t.value.items) (w.told-is ∙ u.told-is) ∙ inv.bits
+            ];
             fewer = λ f fits. inv.fewer f (fits-before s pos v f inside (subst (λ (h : Heardbits). Fits h f) store-is fits));
             told = subst (λ b. Tells b heard-word s₀ c.match-bit.store)
                 (sym (w.agreed-is ∙ ap (λ b. c.loop-m.agreed && beq b v) w.get.ensures))
@@ -73,13 +76,10 @@ loop-m-preserved c =
           ap heard_bit (get_or_default places m heard.Erased heard.Zero c.loop-m-test.true) ∙ sym c.bit.ensures ∙ w.in_default.is in
           record {
             recorded = λ hs e. w.store-is ∙ inv.recorded hs e ∙ ap (λ l. record_of n (hs ++ l)) (sym (part-none b tx places m none));
-            tied = λ link t. subst (λ (q : Peeling). IsTied link c.match-bit.store q) (sym w.peeler-is)
-                (subst (λ (h : Heardbits). IsTied link h c.loop-m.peeler) (sym w.store-is) (inv.tied link t));
-            sized = record {
-              stored = ap (λ (h : Heardbits). length h.first) w.store-is ∙ inv.sized.stored;
-              peeled = ap (λ (q : Peeling). (checks_for q).size) w.peeler-is ∙ inv.sized.peeled;
-            };
-            long = ap (λ (h : Heardbits). length h.first) w.store-is ∙ inv.long;
+            news = subst (λ (t : Told). IsNews s₀ c.match-bit.store t.heard.items t.value.items) (sym w.told-is)
+                (subst (λ (h : Heardbits). IsNews s₀ h c.loop-m.told.heard.items c.loop-m.told.value.items) (sym w.store-is) inv.news);
+            marks = ap (λ (t : Told). length t.heard.items) w.told-is ∙ inv.marks;
+            bits = ap (λ (t : Told). length t.value.items) w.told-is ∙ inv.bits;
             fewer = λ f fits. inv.fewer f (subst (λ (h : Heardbits). Fits h f) w.store-is fits);
             told = subst (λ b. Tells b heard-word s₀ c.match-bit.store) (sym w.agreed-is)
                 (subst (λ (h : Heardbits). Tells c.loop-m.agreed heard-word s₀ h) (sym w.store-is) inv.told);

@@ -1,4 +1,4 @@
-use Rattle.std.proofs.Common.{◌≡◌, ◌*◌, ◌<◌, [], ◌∷◌, ◌++◌, Err, List, length, get_or, drop, take, subst, sym, ap, ◌∙◌, arith}
+use Rattle.std.proofs.Common.{◌≡◌, ◌*◌, ◌<◌, ◌≤◌, [], ◌∷◌, ◌++◌, Err, List, length, get_or, drop, take, subst, sym, ap, ◌∙◌, arith}
 use Rattle.std.proofs.lemmas.Result.{err_from_is_err_and}
 use Rattle.std.specs.Vec.{vec_len}
 use Rattle.nr_graphpick.specs.Graph.{cols_of}
@@ -8,7 +8,7 @@ use Rattle.nr_ratematch.specs.Selection.{Circular}
 use Rattle.nr_blockdesk.specs.Explains.{Reception, reception, reception_said_of}
 use Rattle.nr_blockdesk.specs.Heard.{IsRecordOf, heard_of}
 use Rattle.nr_blockdesk.specs.Link.{link_of}
-use Rattle.nr_blockdesk.specs.Receiving.{AllTell, IsDesk, IsSized, Receiving, Stands}
+use Rattle.nr_blockdesk.specs.Receiving.{AllTell, IsDesk, IsSized, Receiving, Stands, peeling_of}
 use Rattle.nr_blockdesk.specs.Telling.{IsUntold}
 use Rattle.nr_blockdesk.proofs.Decided.{outcome-of_record, sized-of}
 use Rattle.nr_blockdesk.proofs.Kept.{stands-after, told-of, written}
@@ -196,3 +196,25 @@ returns-clause-no_contradiction c =
     rw (← c.self.view_is)
     (λ list y of whole explained e.
     c.explained_never_contradicts.ensures link (list ++ x ∷ []) y whole explained (sym (outcome list of) ∙ e))
+
+pub returns-clause-visits : goal.returns-clause-visits
+returns-clause-visits c =
+    let s = c.self.inside in
+    let inv = c.self.invariant in
+    let link = link_of s.table.now s.plan s.a s.buffer in
+    let tx = c.args.tx.now in
+    let places = c.args.heard.now in
+    let es = c.in_ok-lengths.lengths.items in
+    let S : List Heardbits = s.stores.items in
+    let P : List Peeling = s.peelers.items in
+    let S' : List Heardbits = c.hear-agreed.new.stores in
+    let P' : List Peeling = c.hear-agreed.new.peelers in
+    let are : AreHeard link tx es places S P S' P' =
+    parts-are link tx es c.deref.result.now places S c.deref_mut.result.now S' P c.deref_mut-2.result.now P'
+    c.deref.ensures.0 c.deref_mut.ensures.value c.deref_mut-2.ensures.value inv.desk.stores c.hear-agreed.ensures.parts in
+    let peeled : length P' ≡ length P = c.hear-agreed.ensures.peelers ∙ ap length c.deref_mut-2.ensures.value in
+    let peelers-whole : length P' ≡ vec_len s.peelers = omega (arith, peeled) in
+    let kept-too : take (vec_len s.peelers) (P' ++ drop (length P') P) ≡ P' = written (vec_len s.peelers) P' (drop (length P') P) peelers-whole in
+    rw (← c.self.view_is)
+    (λ r block. subst (λ (l : List Peeling). (peeling_of link P r).touches ≤ (peeling_of link l r).touches)
+    (sym (ap (λ (v : Receiving). v.peelings) c.answer.ensures.same ∙ kept-too)) (are r (none-of link) block).visited)
