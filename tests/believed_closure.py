@@ -1,0 +1,197 @@
+"""The definitions that some clauses rest on: those that they cite, those that these cite, and so on, in reading order.
+
+`tests/believed-words --closure` prints them. A definition is a public word of a crate's `specs/`; what it cites are the
+words of its own file and those that its file brings in by `use`, where they stand in its lines. Types of the sources
+(`specs.declared`) and std's words end the walk.
+"""
+
+import dataclasses
+import functools
+import pathlib
+import re
+
+ROOT = pathlib.Path(__file__).resolve().parent.parent
+USE = re.compile(r"^(?:ghost )?use Rattle\.(\w+)\.specs\.(\w+)\.(?:\{([^}]*)\}|([^\s;{}]+));?", re.MULTILINE)
+HEAD = re.compile(r"^(?:(?:abbrev|unfoldable|opaque) )*pub (?:(?:abbrev|unfoldable|record|data|class) )*(\S+)")
+TOKEN = re.compile(r"(?<![\w.'])[A-Za-z_][\w'\-]*")
+OWN_FIELD = re.compile(r"^  pub (\S+) :", re.MULTILINE)
+
+
+@dataclasses.dataclass(frozen=True)
+class Word:
+    """A word and the specification that defines it."""
+
+    crate: str
+    module: str
+    name: str
+
+
+@dataclasses.dataclass
+class Definition:
+    """A definition: what the comment above it says, and its lines."""
+
+    word: Word
+    comment: str
+    lines: list
+
+
+def specification(crate, module):
+    """The path of a module of a crate's specifications."""
+    return ROOT / "crates" / crate / "specs" / f"{module}.antt"
+
+
+@functools.lru_cache(maxsize=None)
+def definitions(crate, module):
+    """The definitions of a specification in their order, the constructors of a kind of data under its name."""
+    path = specification(crate, module)
+    found, comment, current = [], [], None
+    for line in path.read_text().split("\n") if path.exists() else []:
+        if head := HEAD.match(line):
+            current = Definition(Word(crate, module, head[1]), " ".join(comment), [line])
+            found.append(current)
+            comment = []
+        elif line.startswith("--"):
+            comment = [*comment, line[2:].strip()] if current is None else [line[2:].strip()]
+            current = None
+        elif not line:
+            current, comment = None, []
+        elif current is not None:
+            current.lines.append(line)
+    return found
+
+
+@functools.lru_cache(maxsize=None)
+def in_sight(crate, module):
+    """What the names of a specification stand for: its own words, their constructors, and what it brings in."""
+    path = specification(crate, module)
+    names = brought(path.read_text()) if path.exists() else {}
+    for definition in definitions(crate, module):
+        names[definition.word.name] = definition.word
+        if re.match(r"(?:\w+ )*data ", definition.lines[0]):
+            for constructor in re.findall(r"^  (\S+) :", "\n".join(definition.lines), re.MULTILINE):
+                names[constructor] = definition.word
+    return names
+
+
+def brought(text):
+    """The words that a text brings in by `use`, by the names that it has for them."""
+    names = {}
+    for crate, module, several, one in USE.findall(text):
+        if module == "declared" or not specification(crate, module).exists():
+            continue
+        for item in filter(None, map(str.strip, (several or one).split(","))):
+            word, _, name = item.partition(" as ")
+            names[name or word] = Word(crate, module, word)
+    return names
+
+
+def owner(word):
+    """The word itself, or the kind of data that it constructs."""
+    return in_sight(word.crate, word.module).get(word.name, word)
+
+
+def cited_in(text, names):
+    """The words that stand in a text, by these names."""
+    bare = re.sub(r"--[^\n]*", "", text)
+    own = set(OWN_FIELD.findall(bare))
+    tokens = set(TOKEN.findall(re.sub(r"^  pub \S+ :|(?<=[{;])\s*[\w']+ =", "", bare, flags=re.MULTILINE))) - own
+    found = {owner(names[token]) for token in tokens if token in names}
+    for name, word in names.items():
+        core = name.replace("◌", "")
+        if core != name and (f" {core} " in bare or core == ">>=" and "←" in bare):
+            found.add(word)
+    return found
+
+
+def closure(roots):
+    """All words that these rest on, with them."""
+    found, waiting = set(), list(roots)
+    while waiting:
+        word = owner(waiting.pop())
+        if word in found:
+            continue
+        found.add(word)
+        for definition in definitions(word.crate, word.module):
+            if definition.word == word:
+                waiting += cited_in("\n".join(definition.lines), in_sight(word.crate, word.module))
+    return found
+
+
+def reading_order(words):
+    """(crate, module, definitions) for the specifications that define these words, lowest crate first."""
+    listed = [line.partition(":")[0].split()[0] for line in (ROOT / "crates.txt").read_text().splitlines() if ":" in line]
+    for crate in (name for name in listed if any(word.crate == name for word in words)):
+        order = re.findall(r"^(?:pub )?mod (\w+)", specification(crate, "Lib").read_text(), re.MULTILINE)
+        for module in order:
+            those = [it for it in definitions(crate, module) if it.word in words]
+            if those:
+                yield crate, module, those
+
+
+def first_sentence(comment):
+    """A comment as far as its first full stop or semicolon."""
+    return re.split(r"(?<=[\w)`'])(?:\. |; |\.$)", comment)[0].strip()
+
+
+def lines_of(crate, module, those):
+    """A line for each of these definitions; one without a comment of its own stands with the one above it."""
+    named, said = [], []
+    for definition in definitions(crate, module):
+        if definition.comment or not said:
+            said.append(first_sentence(definition.comment))
+            named.append([])
+        if definition in those:
+            named[-1].append(f"`{definition.word.name}`")
+    return [f"- {', '.join(names)}: {text}" for names, text in zip(named, said) if names]
+
+
+# The clauses that carry the theorem, and those that carry it over to the program's `run`: a crate, a source file of it, a
+# function, and the names of its clauses, where "" is the clause without a name.
+THEOREM = (
+    ("nr_blockdesk", "sender.rt", "send", ("said",)),
+    ("nr_blockdesk", "sender.rt", "word", ("value", "meets")),
+    ("nr_blockdesk", "receiver.rt", "new", ("said", "empty")),
+    ("nr_blockdesk", "receiver.rt", "take", ("heard", "outcome", "kept", "only_one", "no_contradiction")),
+    ("nr_blockdesk", "receiver_laws.rt", "outcomes_are_exact", ("",)),
+    ("nr_blockdesk", "receiver_laws.rt", "delivered_is_only", ("",)),
+    ("nr_blockdesk", "receiver_laws.rt", "ends_are_safe", ("",)),
+    ("nr_blockdesk", "receiver_laws.rt", "erasures_are_safe", ("",)),
+)
+PROGRAM = (
+    ("nr_linkcommands", "running.rt", "run", ("",)),
+    ("nr_linkcommands", "run_laws.rt", "runs_are_safe", ("",)),
+)
+
+
+class NoClause(Exception):
+    """A function or a clause that the lists above name and the sources lack."""
+
+
+def words_of_clauses(clauses):
+    """The words that these clauses cite."""
+    found = set()
+    for crate, file, function, wanted in clauses:
+        text = (ROOT / "crates" / crate / "src" / file).read_text()
+        head = re.search(rf"^( *)pub fn {function}\b.*?^\1\{{", text, re.MULTILINE | re.DOTALL)
+        parts = re.split(r"^\s*(?=ensures\b)", head[0] if head else "", flags=re.MULTILINE)[1:]
+        by_name = {re.match(r"ensures\s*(\w*)", part)[1]: part for part in parts}
+        for name in wanted:
+            if name not in by_name:
+                raise NoClause(f"{crate}/src/{file}: {function} has no clause {name or 'without a name'}")
+            found |= cited_in(by_name[name], brought(text))
+    return found
+
+
+def page():
+    """What docs/theorem.md lists: the theorem's definitions, a line each, and the names of those that `run` needs besides."""
+    theorem = closure(words_of_clauses(THEOREM))
+    besides = closure(words_of_clauses(PROGRAM)) - theorem
+    files = list(reading_order(theorem))
+    lines = [f"These are {len(theorem)} definitions in {len(files)} files, lowest crate first.", ""]
+    for crate, module, those in files:
+        lines += [f"**`{crate}/specs/{module}.antt`**", "", *lines_of(crate, module, those), ""]
+    lines += [f"The clause of `run` and the law `runs_are_safe` need {len(besides)} more:", ""]
+    for crate, module, those in reading_order(besides):
+        names = ", ".join(f"`{definition.word.name}`" for definition in those)
+        lines.append(f"- `{crate}/specs/{module}.antt`: {names}")
+    return "\n".join(lines) + "\n"
