@@ -1,14 +1,35 @@
-"""Each command in the documents answers what stands behind it there."""
+"""Each command in the documents answers what stands behind it there; links lead somewhere; sentences are short."""
 
 import re
 import shutil
 import subprocess
+import sys
 import unittest
 
 import documents
+import english
 import shared
 
-PAGES = ["docs/tables.md", "docs/vectors.md", "docs/mistakes.md", "docs/curves.md", "docs/conformance.md"]
+PAGES = [
+    "docs/overview.md", "docs/formats.md", "docs/tables.md", "docs/vectors.md", "docs/mistakes.md", "docs/curves.md",
+    "docs/conformance.md",
+]
+# The words of a sentence: most have no more than the first, and none more than the second.
+FEW, MANY = 25, 40
+MOST_WORDS_OF_README = 900
+MOST_WORDS_OF_DOCS = 24_000
+LINK = re.compile(r"\]\(([^)\s]+)\)")
+
+
+def every_page():
+    """All pages of the repository."""
+    tops = [shared.ROOT / name for name in ("README.md", "CONTRIBUTING.md", "CHANGELOG.md")]
+    return [*tops, *sorted(shared.ROOT.glob("docs/*.md")), *sorted(shared.ROOT.glob("crates/*/README.md"))]
+
+
+def headline():
+    """The theorem, as README has it."""
+    return re.search(r"^\*\*For every accepted table.*\*\*$", (shared.ROOT / "README.md").read_text(), re.MULTILINE)[0]
 
 
 class Documents(shared.InFolder):
@@ -29,6 +50,44 @@ class Documents(shared.InFolder):
                     if missing:
                         self.skipTest(f"{missing[0]} is not there")
                     self.assertEqual(answer, wanted)
+
+
+class English(unittest.TestCase):
+    """Sentences are short, and the pages are no longer than a reader bears."""
+
+    def test_sentences(self):
+        theorem = headline()
+        for page in every_page():
+            found = list(english.sentences(page.read_text().replace(theorem, "")))
+            whole = [english.words(sentence) for sentence in found if english.words(sentence) > 5]
+            with self.subTest(page=str(page.relative_to(shared.ROOT))):
+                self.assertEqual([sentence for sentence in found if english.words(sentence) > MANY], [])
+                self.assertLessEqual(sum(count > FEW for count in whole), len(whole) / 4)
+
+    def test_lengths(self):
+        self.assertLessEqual(len((shared.ROOT / "README.md").read_text().split()), MOST_WORDS_OF_README)
+        pages = [page.read_text() for page in shared.ROOT.glob("docs/*.md")]
+        self.assertLessEqual(sum(english.length(page) for page in pages), MOST_WORDS_OF_DOCS)
+
+    def test_theorem(self):
+        for page in ("docs/theorem.md", "docs/proved.md"):
+            self.assertIn(headline(), (shared.ROOT / page).read_text().splitlines())
+
+
+class Made(unittest.TestCase):
+    """What the pages show and lead to is there."""
+
+    def test_links(self):
+        for page in every_page():
+            for target in LINK.findall(page.read_text()):
+                path = target.partition("#")[0]
+                if path and "://" not in path:
+                    with self.subTest(page=str(page.relative_to(shared.ROOT)), target=target):
+                        self.assertTrue((page.parent / path).exists())
+
+    def test_picture(self):
+        drawn = subprocess.run([sys.executable, "-B", "docs/draw-pipeline", "--check"], cwd=shared.ROOT, check=False)
+        self.assertEqual(drawn.returncode, 0)
 
 
 class Kit(unittest.TestCase):

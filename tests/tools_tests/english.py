@@ -1,0 +1,61 @@
+"""The sentences of a page, as far as they can be told by marks alone.
+
+What stands in a block of code, in a comment or between the marks of a script is left out. A heading, an item of a list and a
+cell of a table are read by themselves. A sentence ends at a full stop, a question mark or an exclamation mark in front of a
+letter, a digit or an opening mark. A piece of code is one word, and a link is its text.
+"""
+
+import re
+
+SCRIPT_PARTS = re.compile(r"<!-- made by .*?-->.*?<!-- end of .*?-->", re.DOTALL)
+COMMENT = re.compile(r"<!--.*?-->", re.DOTALL)
+ITEM = re.compile(r"\s*(?:[-*]|(?P<number>\d+)\.)\s+")
+RULE = re.compile(r"[|\s:-]+")
+CELLS = re.compile(r"(?<!\\)\|")
+CODE = re.compile(r"`[^`]*`")
+LINK = re.compile(r"!?\[([^\]]*)\]\([^)]*\)")
+END = re.compile(r"(?<=[.?!])(?:[)\"*]*)\s+(?=[A-Z0-9\"(`*\[a-z])|(?<=[.?!][*)\"])\s+|(?<=[.?!]\*\*)\s+")
+
+
+def parts(text):
+    """The paragraphs, headings, items and cells of a page, each on one line."""
+    found, current, in_code, last = [], [], False, 0
+    for line in COMMENT.sub("", SCRIPT_PARTS.sub("", text)).splitlines():
+        bare = line.strip()
+        item = ITEM.match(line)
+        # A number at a line's beginning is an item's where it is the next one, and else a part of the sentence.
+        if item and item["number"]:
+            item = item if int(item["number"]) in (1, last + 1) else None
+            last = int(item["number"]) if item else last
+        begins = in_code or not bare or bare.startswith(("```", "|", "#")) or item
+        if begins and current:
+            found.append(" ".join(current))
+            current = []
+        if bare.startswith("```"):
+            in_code = not in_code
+        elif in_code or not bare or line.startswith("    ") and not current:
+            continue
+        elif bare.startswith("|"):
+            found += [] if RULE.fullmatch(bare) else [cell.strip() for cell in CELLS.split(bare.strip("|"))]
+        elif bare.startswith("#"):
+            found.append(bare.lstrip("# "))
+        else:
+            current.append((line[item.end() :] if item else line).strip())
+    return found + ([" ".join(current)] if current else [])
+
+
+def sentences(text):
+    """The sentences of a page."""
+    for part in parts(text):
+        plain = LINK.sub(r"\1", CODE.sub("`x`", part))
+        yield from (it for it in END.split(plain) if it.strip())
+
+
+def words(sentence):
+    """How many words a sentence has."""
+    return sum(1 for word in sentence.split() if re.search(r"\w", word))
+
+
+def length(text):
+    """How many words a page has outside of blocks of code and of what scripts made."""
+    return sum(words(part) for part in parts(text))
