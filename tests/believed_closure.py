@@ -118,14 +118,30 @@ def closure(roots):
 
 
 def reading_order(words):
-    """(crate, module, definitions) for the specifications that define these words, lowest crate first."""
+    """(crate, module, definitions) for the specifications that define these words, each behind those that it cites."""
     listed = [line.partition(":")[0].split()[0] for line in (ROOT / "crates.txt").read_text().splitlines() if ":" in line]
     for crate in (name for name in listed if any(word.crate == name for word in words)):
-        order = re.findall(r"^(?:pub )?mod (\w+)", specification(crate, "Lib").read_text(), re.MULTILINE)
-        for module in order:
+        for module in modules_in_order(crate):
             those = [it for it in definitions(crate, module) if it.word in words]
             if those:
                 yield crate, module, those
+
+
+def modules_in_order(crate):
+    """The modules of a crate's specifications, each behind those of the crate that it brings words in from."""
+    placed = []
+
+    def place(module):
+        if module not in placed and specification(crate, module).exists():
+            for word in brought(specification(crate, module).read_text()).values():
+                if word.crate == crate and word.module != module:
+                    place(word.module)
+            if module not in placed:
+                placed.append(module)
+
+    for module in re.findall(r"^(?:pub )?mod (\w+)", specification(crate, "Lib").read_text(), re.MULTILINE):
+        place(module)
+    return placed
 
 
 def first_sentence(comment):
@@ -148,6 +164,7 @@ def lines_of(crate, module, those):
 # The clauses that carry the theorem, and those that carry it over to the program's `run`: a crate, a source file of it, a
 # function, and the names of its clauses, where "" is the clause without a name.
 THEOREM = (
+    ("nr_blockdesk", "sender.rt", "new", ("said",)),
     ("nr_blockdesk", "sender.rt", "send", ("said",)),
     ("nr_blockdesk", "sender.rt", "word", ("value", "meets")),
     ("nr_blockdesk", "receiver.rt", "new", ("said", "empty")),
