@@ -11,8 +11,8 @@ import english
 import shared
 
 PAGES = [
-    "docs/overview.md", "docs/formats.md", "docs/tables.md", "docs/vectors.md", "docs/mistakes.md", "docs/curves.md",
-    "docs/conformance.md",
+    "README.md", "docs/overview.md", "docs/formats.md", "docs/tables.md", "docs/vectors.md", "docs/mistakes.md",
+    "docs/curves.md", "docs/conformance.md",
 ]
 # The words of a sentence: most have no more than the first, and none more than the second.
 FEW, MANY = 25, 40
@@ -50,6 +50,13 @@ class Documents(shared.InFolder):
                     if missing:
                         self.skipTest(f"{missing[0]} is not there")
                     self.assertEqual(answer, wanted)
+
+    def test_first_output(self):
+        """What README shows behind its first commands, which prove and build before they run the program."""
+        text = (shared.ROOT / "README.md").read_text()
+        for command in ("&& printf '01\\n' | crates/linksim/out/linksim cut --blocks -", "printf '01\\n' | rt try -- cut --blocks -"):
+            self.assertIn(command, text)
+        self.assertIn(f"```\n{shared.linksim('cut', '--blocks', '-', stdin=b'01' + bytes([10]))}```\n", text)
 
 
 class English(unittest.TestCase):
