@@ -31,8 +31,8 @@ PACKAGES = {
     "libnr-dev": (
         {"Architecture": "amd64", "Section": "libdevel", "Multi-Arch": "same", "Depends": f"libnr2 (= {VERSION})"},
         "data coding chain of 5G NR - files for development",
-        " This package has the header, the static library, and what pkg-config and\n CMake read.\n",
-        [f"{LIBRARY[1:]}/", "usr/include/"],
+        " This package has the header, the static library, what pkg-config and CMake\n read, and the sources for Rust and Octave.\n",
+        [f"{LIBRARY[1:]}/", "usr/include/", "usr/share/nr/"],
     ),
     "linksim": (
         {"Architecture": "amd64", "Section": "science", "Depends": "libc6 (>= 2.34), python3 (>= 3.8)",

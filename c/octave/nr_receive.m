@@ -1,0 +1,23 @@
+function [block, outcomes, left] = nr_receive(table, a, rate, txs, heard, lbrm)
+% BLOCK = nr_receive(TABLE, A, RATE, TXS, HEARD) is the transport block of A bits, as a column, that explains all that was heard, or
+% empty where none is delivered. TXS has the structure of each transmission (nr_send), and HEARD a cell with a column for each; for
+% one transmission its structure and its column do. What is heard at a place is 0, 1, or NaN where nothing was.
+%
+% [BLOCK, OUTCOMES, LEFT] = nr_receive(..) says after each transmission whether the block is 'open', 'delivered' or a
+% 'contradiction', which no block explains, and how many of the K' bits of each code block are not fixed after the last one.
+%
+% nr_receive(TABLE, A, RATE, TXS, HEARD, LBRM) limits the circular buffer by TBS_LBRM = LBRM bits (5.4.2.1).
+if nargin < 6
+  lbrm = 0;
+end
+if ~iscell(heard)
+  heard = {heard};
+end
+if numel(heard) ~= numel(txs)
+  error('nr:Length', 'Length: there are %d transmissions, and what was heard of %d', numel(txs), numel(heard));
+end
+[numbers, blocks] = nr_tx(txs);
+[block, found, left] = nr_mex('receive', table, [nr_rate(rate) lbrm], a, numbers, blocks, heard);
+names = {'open'; 'delivered'; 'contradiction'};
+outcomes = reshape(names(found + 1), [], 1);
+end

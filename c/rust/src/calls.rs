@@ -1,0 +1,168 @@
+//! The calls, each of one call of nr.h.
+
+use crate::raw;
+use crate::{Buffer, Entry, Fault, Outcome, Plan, Poly, Received, Settings, Table, Tx};
+use std::ffi::CStr;
+
+const MOST_PLACES: u32 = 4_194_304;
+const MOST_BITS: u32 = 1_310_720;
+
+fn judge(status: u32) -> Result<(), Fault> {
+    match status {
+        0 => Ok(()),
+        _ => Err(Fault::of(status)),
+    }
+}
+
+fn entries(table: &Table) -> (*const Entry, usize) {
+    (table.entries().as_ptr(), table.entries().len())
+}
+
+impl From<&Settings> for raw::Settings {
+    fn from(link: &Settings) -> raw::Settings {
+        raw::Settings { rate2048: link.rate2048, lbrm: link.lbrm.map_or(0, std::num::NonZeroU32::get) }
+    }
+}
+
+impl From<&Tx> for raw::Tx {
+    fn from(tx: &Tx) -> raw::Tx {
+        let some = u64::from(tx.scheduled.is_some());
+        raw::Tx { rv: tx.rv, g: tx.g, qm: tx.qm, nl: tx.nl, some, blocks: tx.scheduled.unwrap_or_default() }
+    }
+}
+
+/// The version of the library that is linked, as "0.1.0".
+#[must_use]
+pub fn version() -> &'static str {
+    // SAFETY: the call answers a text of the library's own, which lives as long as the program.
+    unsafe { CStr::from_ptr(raw::nr_version()) }.to_str().unwrap_or_default()
+}
+
+/// The plan of a transport block of `a` bits at the code rate `rate2048 / 2048` (5.2.2, 6.2.2, 7.2.2).
+///
+/// # Errors
+/// `Size`, `RateRange`, `Uneven`.
+pub fn plan(rate2048: u32, a: u32) -> Result<Plan, Fault> {
+    let mut found = Plan::default();
+    // SAFETY: the plan can be written.
+    judge(unsafe { raw::nr_plan(rate2048, a, &mut found) })?;
+    Ok(found)
+}
+
+/// E_r, how many bits a transmission sends of each code block of a transport block of `a` bits (5.4.2.1).
+///
+/// # Errors
+/// `Size`, `RateRange`, `Uneven`; `Rv`, `Order`, `Layers`, `Total`, `Ragged`, `NoneScheduled`.
+pub fn lengths(rate2048: u32, a: u32, tx: &Tx) -> Result<Vec<u32>, Fault> {
+    let mut found = vec![0; plan(rate2048, a)?.c as usize];
+    // SAFETY: the numbers are written over their length; the transmission is read alone.
+    judge(unsafe { raw::nr_lengths(rate2048, a, &tx.into(), found.as_mut_ptr(), found.len()) })?;
+    Ok(found)
+}
+
+/// The circular buffer of each code block of a transport block of `a` bits, and where `rv` begins in it (5.4.2.1).
+///
+/// # Errors
+/// `Size`, `RateRange`, `Uneven`, `NoBuffer`, `Rv`.
+pub fn buffer(link: &Settings, a: u32, rv: u32) -> Result<Buffer, Fault> {
+    let mut found = Buffer::default();
+    // SAFETY: the buffer can be written; the settings are read alone.
+    judge(unsafe { raw::nr_buffer(&link.into(), a, rv, &mut found) })?;
+    Ok(found)
+}
+
+/// The N bits that a code block of a transport block of `a` bits is coded into (5.3.2): each 0, 1 or `FILLER`. `bits` has its K' bits,
+/// its CRC with them, each 0 or 1.
+///
+/// # Errors
+/// `Size`, `RateRange`, `Uneven`, `Graph`, `Length`, `Bit`, `Memory`.
+pub fn codeword(table: &Table, rate2048: u32, a: u32, bits: &[u8]) -> Result<Vec<u8>, Fault> {
+    let mut word = vec![0; plan(rate2048, a)?.n as usize];
+    let (first, count) = entries(table);
+    // SAFETY: table and bits are read over their lengths, and the word is written over its own.
+    judge(unsafe {
+        raw::nr_codeword(first, count, rate2048, a, bits.as_ptr(), bits.len(), word.as_mut_ptr(), word.len())
+    })?;
+    Ok(word)
+}
+
+/// The parity bits of octets (5.1) as a number, the first parity bit highest.
+///
+/// # Errors
+/// `Many` above 2,097,152 octets, `Memory`.
+pub fn crc(poly: Poly, octets: &[u8]) -> Result<u32, Fault> {
+    let mut parity = 0;
+    // SAFETY: the octets are read over their length, and the number can be written.
+    judge(unsafe { raw::nr_crc(poly as u32, octets.as_ptr(), octets.len(), &mut parity) })?;
+    Ok(parity)
+}
+
+/// The G bits, each 0 or 1, that a transmission sends of a transport block's octets (6.2, 7.2).
+///
+/// # Errors
+/// `Size`, `RateRange`, `Uneven`, `Graph`, `NoBuffer`; `Rv`, `Order`, `Layers`, `Total`, `Ragged`, `NoneScheduled`; `Memory`.
+pub fn send(table: &Table, link: &Settings, block: &[u8], tx: &Tx) -> Result<Vec<u8>, Fault> {
+    let mut bits = vec![0; tx.g.min(MOST_PLACES) as usize];
+    send_into(table, link, block, tx, &mut bits)?;
+    Ok(bits)
+}
+
+/// The same into a room of G octets, which is not written where the call is refused.
+///
+/// # Errors
+/// As `send`, and `Room` behind `NoneScheduled` where the room has another length.
+pub fn send_into(table: &Table, link: &Settings, block: &[u8], tx: &Tx, out: &mut [u8]) -> Result<(), Fault> {
+    let (first, count) = entries(table);
+    // SAFETY: table and block are read over their lengths, and `out`, which is borrowed alone, is written over its own.
+    judge(unsafe {
+        raw::nr_send(first, count, &link.into(), block.as_ptr(), block.len(), &tx.into(), out.as_mut_ptr(), out.len())
+    })
+}
+
+/// What may be handed up of a transport block of `a` bits after each of these transmissions, at most 256, each with what was heard at
+/// its G places: 0, 1, or another number where nothing was heard.
+///
+/// # Errors
+/// `Many`; `Size`, `RateRange`, `Uneven`, `Graph`, `NoBuffer`; `Length`, `Rv`, `Order`, `Layers`, `Total`, `Ragged`, `NoneScheduled`;
+/// `Memory`.
+pub fn receive(table: &Table, link: &Settings, a: u32, receptions: &[(Tx, &[u8])]) -> Result<Received, Fault> {
+    if receptions.iter().any(|(tx, places)| tx.g as usize != places.len()) {
+        return Err(Fault::Length);
+    }
+    let txs: Vec<raw::Tx> = receptions.iter().map(|(tx, _)| tx.into()).collect();
+    let heard: Vec<u8> = receptions.iter().flat_map(|(_, places)| places.iter().copied()).collect();
+    let mut outcomes = vec![0; txs.len()];
+    let mut left = vec![0; plan(link.rate2048, a).map_or(0, |plan| plan.c as usize)];
+    let mut block = vec![0; a.min(MOST_BITS) as usize / 8];
+    let (first, count) = entries(table);
+    // SAFETY: what is read and what is written are so long as is said, and apart from one another.
+    judge(unsafe {
+        raw::nr_receive(
+            first,
+            count,
+            &link.into(),
+            a,
+            txs.as_ptr(),
+            txs.len(),
+            heard.as_ptr(),
+            heard.len(),
+            outcomes.as_mut_ptr(),
+            outcomes.len(),
+            left.as_mut_ptr(),
+            left.len(),
+            block.as_mut_ptr(),
+            block.len(),
+        )
+    })?;
+    let outcomes: Vec<Outcome> = outcomes.into_iter().map(outcome).collect();
+    let block = (outcomes.last() == Some(&Outcome::Delivered)).then_some(block);
+    Ok(Received { outcomes, left, block })
+}
+
+fn outcome(number: u32) -> Outcome {
+    match number {
+        1 => Outcome::Delivered,
+        2 => Outcome::Contradiction,
+        _ => Outcome::Open,
+    }
+}

@@ -1,0 +1,84 @@
+//! The calls and structs of nr.h as C has them. tests/packages compares them with the header.
+
+use crate::{Buffer, Entry, Plan};
+use std::ffi::c_void;
+use std::os::raw::c_char;
+
+#[repr(C)]
+pub(crate) struct Settings {
+    pub(crate) rate2048: u32,
+    pub(crate) lbrm: u32,
+}
+
+#[repr(C)]
+pub(crate) struct Tx {
+    pub(crate) rv: u32,
+    pub(crate) g: u32,
+    pub(crate) qm: u32,
+    pub(crate) nl: u32,
+    pub(crate) some: u64,
+    pub(crate) blocks: [u64; 6],
+}
+
+#[repr(C)]
+#[derive(Default)]
+pub(crate) struct Report {
+    pub(crate) one: u32,
+    pub(crate) two: u32,
+    pub(crate) place: u32,
+}
+
+const _: () = assert!(std::mem::size_of::<Tx>() == 72 && std::mem::size_of::<Entry>() == 22);
+const _: () = assert!(std::mem::size_of::<usize>() == std::mem::size_of::<*const c_void>());
+
+extern "C" {
+    pub(crate) fn nr_version() -> *const c_char;
+    pub(crate) fn nr_table_check(text: *const u8, text_len: usize, out: *mut Report) -> u32;
+    pub(crate) fn nr_table_entries(
+        text: *const u8,
+        text_len: usize,
+        out: *mut Entry,
+        out_len: usize,
+        count: *mut usize,
+    ) -> u32;
+    pub(crate) fn nr_plan(rate2048: u32, a: u32, out: *mut Plan) -> u32;
+    pub(crate) fn nr_lengths(rate2048: u32, a: u32, tx: *const Tx, out: *mut u32, out_len: usize) -> u32;
+    pub(crate) fn nr_buffer(settings: *const Settings, a: u32, rv: u32, out: *mut Buffer) -> u32;
+    pub(crate) fn nr_codeword(
+        table: *const Entry,
+        table_len: usize,
+        rate2048: u32,
+        a: u32,
+        bits: *const u8,
+        bits_len: usize,
+        out: *mut u8,
+        out_len: usize,
+    ) -> u32;
+    pub(crate) fn nr_crc(poly: u32, octets: *const u8, octets_len: usize, out: *mut u32) -> u32;
+    pub(crate) fn nr_send(
+        table: *const Entry,
+        table_len: usize,
+        settings: *const Settings,
+        block: *const u8,
+        block_len: usize,
+        tx: *const Tx,
+        out: *mut u8,
+        out_len: usize,
+    ) -> u32;
+    pub(crate) fn nr_receive(
+        table: *const Entry,
+        table_len: usize,
+        settings: *const Settings,
+        a: u32,
+        txs: *const Tx,
+        txs_len: usize,
+        heard: *const u8,
+        heard_len: usize,
+        outcomes: *mut u32,
+        outcomes_len: usize,
+        left: *mut u32,
+        left_len: usize,
+        block: *mut u8,
+        block_len: usize,
+    ) -> u32;
+}

@@ -1,0 +1,116 @@
+//! The calls over the practice table: base graph 2 with the core shape, and row i of 4 or more a copy of column i mod 10, shifted by i.
+//! So the wanted bits follow by hand.
+
+use nr::{buffer, codeword, crc, lengths, plan, receive, send, send_into};
+use nr::{Fault, Outcome, Poly, Settings, Table, TableCause, Tx, ERASED, FILLER};
+
+const LINK: Settings = Settings::new(2048);
+
+fn practice() -> String {
+    let core = ["0 2 4 6 8 10 11", "1 3 5 7 9 11 12", "0 2 4 6 8 10 12 13", "1 3 5 7 9 10 13"];
+    let mut text = String::new();
+    let mut entry = |row: usize, column: usize, value: usize| {
+        text += &format!("2,{row},{column}{}\n", format!(",{value}").repeat(8));
+    };
+    for (row, columns) in core.iter().enumerate() {
+        for column in columns.split(' ').map(|column| column.parse().unwrap()) {
+            entry(row, column, usize::from(row == 2 && column == 10));
+        }
+    }
+    for row in 4..42 {
+        entry(row, row % 10, row);
+        entry(row, 10 + row, 0);
+    }
+    text
+}
+
+fn table() -> Table {
+    Table::read(practice().as_bytes()).unwrap()
+}
+
+/// The bits of hexadecimal digits.
+fn bits(digits: &str) -> Vec<u8> {
+    let numbers = digits.chars().map(|digit| digit.to_digit(16).unwrap() as u8);
+    numbers.flat_map(|number| (0..4).rev().map(move |place| number >> place & 1)).collect()
+}
+
+/// Columns 0 to 51 of the block 01: four bits each.
+const WORD: &str = "0110210000033022000008108800000240220000081088000002";
+
+#[test]
+fn versions_agree() {
+    assert_eq!(nr::version(), env!("CARGO_PKG_VERSION"));
+}
+
+#[test]
+fn plans_and_lengths() {
+    let found = plan(2048, 8).unwrap();
+    assert_eq!((found.graph, found.c, found.kdash, found.z, found.k, found.n), (2, 1, 24, 4, 40, 200));
+    assert_eq!(lengths(2048, 8, &Tx::new(184, 1)), Ok(vec![184]));
+    let second = buffer(&LINK, 8, 2).unwrap();
+    assert_eq!((second.ncb, second.k0), (200, 100));
+    assert_eq!(crc(Poly::Crc16, b"123456789"), Ok(0x31C3));
+}
+
+#[test]
+fn a_codeword_and_the_bits_sent() {
+    let word = codeword(&table(), 2048, 8, &bits("011021")).unwrap();
+    let mut wanted = bits(&WORD[2..]);
+    wanted[16..32].fill(FILLER);
+    assert_eq!(word, wanted);
+    let sent = send(&table(), &LINK, &[1], &Tx::new(184, 1)).unwrap();
+    let kept: Vec<u8> = wanted.into_iter().filter(|&bit| bit != FILLER).collect();
+    assert_eq!(sent, kept);
+}
+
+#[test]
+fn a_block_is_delivered_and_what_clashes_is_none() {
+    let tx = Tx::new(184, 1);
+    let mut heard = send(&table(), &LINK, &[1], &tx).unwrap();
+    let nothing = vec![ERASED; 184];
+    let found = receive(&table(), &LINK, 8, &[(tx, &nothing), (tx, &heard)]).unwrap();
+    assert_eq!(found.outcomes, [Outcome::Open, Outcome::Delivered]);
+    assert_eq!((found.left, found.block), (vec![0], Some(vec![1])));
+    heard[7] ^= 1;
+    let found = receive(&table(), &LINK, 8, &[(tx, &heard)]).unwrap();
+    assert_eq!((found.outcomes, found.block), (vec![Outcome::Contradiction], None));
+}
+
+#[test]
+fn refusals_are_told() {
+    let table = table();
+    assert_eq!(plan(0, 8), Err(Fault::RateRange));
+    assert_eq!(plan(2048, 12), Err(Fault::Size));
+    assert_eq!(send(&table, &LINK, &[1], &Tx::new(25, 2)), Err(Fault::Ragged));
+    assert_eq!(send(&table, &LINK, &[1], &Tx::new(u32::MAX, 1)), Err(Fault::Total));
+    assert_eq!(send(&table, &LINK, &[1], &Tx::new(24, 1).rv(4)), Err(Fault::Rv));
+    assert_eq!(send(&table, &LINK, &[1], &Tx::new(24, 1).blocks(&[])), Err(Fault::NoneScheduled));
+    assert_eq!(send(&table, &LINK, &[0; 500], &Tx::new(24, 1)), Err(Fault::Graph));
+    assert_eq!(codeword(&table, 2048, 8, &[0; 23]), Err(Fault::Length));
+    assert_eq!(codeword(&table, 2048, 8, &[2; 24]), Err(Fault::Bit));
+    assert_eq!(receive(&table, &LINK, 8, &[(Tx::new(24, 1), &[0; 23])]), Err(Fault::Length));
+    let mut room = [7; 23];
+    assert_eq!(send_into(&table, &LINK, &[1], &Tx::new(24, 1), &mut room), Err(Fault::Room));
+    assert_eq!(room, [7; 23]);
+    assert_eq!(Fault::Ragged.to_string(), "g is no multiple of qm * nl");
+}
+
+#[test]
+fn a_table_that_is_none_says_where() {
+    let fault = Table::read(practice().replace("2,0,4,", "2,0,x,").as_bytes()).unwrap_err();
+    assert_eq!((fault.cause, fault.place), (TableCause::Number, 3));
+    assert_eq!(fault.to_string(), "a field of record 3 of the table is not 1 to 10 decimal digits");
+    assert_eq!(Table::read(b"").unwrap_err().cause, TableCause::Empty);
+    assert_eq!(table().entries().len(), 105);
+}
+
+#[test]
+fn threads_share_a_table() {
+    let table = table();
+    let wanted = send(&table, &LINK, &[1], &Tx::new(184, 1));
+    std::thread::scope(|scope| {
+        for _ in 0..4 {
+            scope.spawn(|| assert_eq!(send(&table, &LINK, &[1], &Tx::new(184, 1)), wanted));
+        }
+    });
+}

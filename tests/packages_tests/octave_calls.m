@@ -1,0 +1,97 @@
+function octave_calls(table_file)
+% What the calls answer over the practice table, whose bits follow by hand: tests/packages runs it, with the files of c/octave in the
+% path and nr_mex built.
+table = nr_table(table_file);
+same(size(table), [11 105]);
+answers(table);
+receptions(table);
+refusals(table);
+disp('octave_calls: ok');
+end
+
+function answers(table)
+plan = nr_plan(8, 1);
+same([plan.graph plan.c plan.kdash plan.z plan.k plan.n], [2 1 24 4 40 200]);
+% columns 0 to 51 of the block 01, four bits each; columns 6 to 9 are fillers, and the first two are never sent
+word = bits('0110210000033022000008108800000240220000081088000002');
+coded = word(9:end);
+coded(17:32) = -1;
+same(nr_codeword(table, word(1:24), 8, 1), coded);
+same(nr_codeword(table, logical([word(1:24) zeros(24, 1)]), 8, 1)(:, 1), coded);
+block = bits('01');
+sent = nr_send(table, block, 1, struct('g', 184, 'qm', 1));
+same(sent, coded(coded >= 0));
+same(nr_send(table, logical(block), 1, struct('g', 184, 'qm', 1, 'rv', 0, 'nl', 1)), logical(sent));
+same(nr_send(table, block', 1, struct('g', 24, 'qm', 1, 'blocks', 0)), sent(1:24));
+end
+
+function receptions(table)
+block = bits('01');
+tx = struct('g', 184, 'qm', 1, 'rv', {0, 0});
+sent = nr_send(table, block, 1, tx(1));
+[found, outcomes, left] = nr_receive(table, 8, 1, tx, {NaN(184, 1), sent});
+same(found, block);
+same(outcomes, {'open'; 'delivered'});
+same(left, 0);
+same(nr_receive(table, 8, 1, tx(1), logical(sent)), logical(block));
+sent(8) = 1 - sent(8);
+[found, outcomes] = nr_receive(table, 8, 1, tx(1), sent);
+same({found, outcomes}, {[], {'contradiction'}});
+[found, outcomes, left] = nr_receive(table, 8, 1, tx(1), NaN(184, 1));
+same({found, outcomes, left}, {[], {'open'}, 24});
+end
+
+function refusals(table)
+block = bits('01');
+tx = struct('g', 24, 'qm', 1);
+refused('nr:RateRange', @() nr_plan(8, 0.3));
+refused('nr:RateRange', @() nr_plan(8, 2));
+refused('nr:Size', @() nr_plan(12, 1));
+refused('nr:Size', @() nr_send(table, block(1:7), 1, tx));
+refused('nr:Ragged', @() nr_send(table, block, 1, struct('g', 25, 'qm', 2)));
+refused('nr:Total', @() nr_send(table, block, 1, struct('g', 2^32 - 1, 'qm', 1)));
+refused('nr:Rv', @() nr_send(table, block, 1, struct('g', 24, 'qm', 1, 'rv', 4)));
+refused('nr:NoneScheduled', @() nr_send(table, block, 1, struct('g', 24, 'qm', 1, 'blocks', 1)));
+refused('nr:Graph', @() nr_send(table, zeros(4000, 1), 1, tx));
+refused('nr:Length', @() nr_codeword(table, zeros(23, 1), 8, 1));
+refused('nr:Length', @() nr_receive(table, 8, 1, tx, zeros(23, 1)));
+refused('nr:Length', @() nr_receive(table, 8, 1, tx, {}));
+refused('nr:argument', @() nr_send(table, 2 * block, 1, tx));
+refused('nr:argument', @() nr_send(table, 'text', 1, tx));
+refused('nr:argument', @() nr_send(table, sparse(block), 1, tx));
+refused('nr:argument', @() nr_send(double(table), block, 1, tx));
+refused('nr:argument', @() nr_send(table, block, 1, struct('g', 2.5, 'qm', 1)));
+refused('nr:argument', @() nr_send(table, block, 1, struct('g', 24, 'qm', 1, 'blocks', 384)));
+refused('nr:argument', @() nr_receive(table, 8, 1, tx, 2 * ones(24, 1)));
+refused('nr:argument', @() nr_mex('mend'));
+refused('nr:Read', @() nr_table('no such file'));
+name = tempname();
+file = fopen(name, 'w');
+fputs(file, sprintf('2,0,0,0,0,0,0,0,0,0,0\n2,0,x,0,0,0,0,0,0,0,0\n'));
+fclose(file);
+refused('nr:Number', @() nr_table(name));
+delete(name);
+end
+
+function made = bits(digits)
+made = reshape(dec2bin(hex2dec(digits'), 4)' - '0', [], 1);
+end
+
+function same(found, wanted)
+if ~isequaln(found, wanted) || ~strcmp(class(found), class(wanted))
+  disp(found), disp(wanted)
+  error('octave_calls: that is not what was wanted');
+end
+end
+
+function refused(id, call)
+try
+  call();
+catch fault
+  if ~strcmp(fault.identifier, id)
+    error('octave_calls: %s, where %s was wanted', fault.identifier, id);
+  end
+  return
+end
+error('octave_calls: nothing was refused, where %s was wanted', id);
+end

@@ -1,0 +1,143 @@
+"""The bindings for Rust and for Octave, as `make install` puts them below a folder, and the ten lines of their documents."""
+
+import pathlib
+import re
+import shutil
+import typing
+import unittest
+
+import made
+from placed import TABLE, Placed
+
+HEADER = (made.ROOT / "c" / "nr.h").read_text()
+RUST = made.ROOT / "c" / "rust"
+# What C's types are called in Rust: `const T *` and `T *` of each.
+TYPES = {"uint8_t": "u8", "uint32_t": "u32", "size_t": "usize", "char": "c_char"}
+
+
+def blocks(name: str) -> typing.List[typing.Tuple[str, str]]:
+    """The blocks of a document, each with the word behind its first fence."""
+    text = (made.ROOT / "docs" / name).read_text()
+    return re.findall(r"(?ms)^```(\w*)\n(.*?)^```$", text)
+
+
+def in_rust(parameter: str) -> str:
+    """A parameter of nr.h, or what a call answers, as Rust writes its type."""
+    words = parameter.replace("*", " * ").split()
+    const, pointer = "const" in words, "*" in words
+    name = next(word for word in words if word not in ("const", "NR_CHECKED", "struct"))
+    plain = TYPES.get(name, name[2:] if name.startswith("Nr") else name)
+    return f"*{'const' if const else 'mut'} {plain}" if pointer else plain
+
+
+class Declared(unittest.TestCase):
+    """What the bindings repeat of nr.h and of the Python module is what stands there."""
+
+    def test_calls(self) -> None:
+        """Each call that raw.rs declares takes and answers what it does in nr.h."""
+        said = {}
+        for answer, name, takes in re.findall(r"(?m)^(?:NR_CHECKED )?([\w ]+ \*?)(nr_\w+)\(([^)]*)\);", HEADER):
+            kinds = [] if takes == "void" else [in_rust(it) for it in takes.split(",")]
+            said[name] = (kinds, in_rust(answer))
+        raw = re.sub(r"\s+", " ", (RUST / "src" / "raw.rs").read_text())
+        declared = re.findall(r"fn (nr_\w+)\(([^)]*)\) -> ([^;]+);", raw)
+        for name, takes, answer in declared:
+            kinds = [it.split(": ")[1].strip() for it in takes.split(",") if it.strip()]
+            with self.subTest(name):
+                self.assertEqual((kinds, answer), said[name])
+        self.assertEqual({name for name, *_ in declared}, set(said) - {"nr_fault_name"})
+
+    def test_structs(self) -> None:
+        """Each struct has nr.h's members, in their order."""
+        sources = "".join((RUST / "src" / name).read_text() for name in ("raw.rs", "lib.rs", "table.rs"))
+        for name, body in re.findall(r"typedef struct Nr(\w+) \{(.*?)\n\}", HEADER, re.S):
+            found = re.search(rf"#\[repr\(C\)\]\n(?:#.*\n)*pub(?:\(crate\))? struct {name} \{{(.*?)\n\}}", sources, re.S)
+            with self.subTest(name):
+                assert found, name
+                members = re.findall(r"(?m)^    pub(?:\(crate\))? (\w+):", found[1])
+                self.assertEqual(members, re.findall(r"(?m)^ {4}\w+ (\w+)(?:\[\d\])?;", body))
+
+    def test_sentences(self) -> None:
+        """Rust and Octave say of each status what Python says."""
+        text = (made.ROOT / "c" / "nr" / "_faults.py").read_text()
+        python = {int(status): said for status, said in re.findall(r'(?m)^    (\d+): "(.*)",$', text)}
+        status = re.search(r"enum NrStatus \{.*?\n\};", HEADER, re.S)[0]
+        names = {int(number): name for name, number in re.findall(r"NR_(\w+) = (\d+)", status)}
+        for status, name, said in re.findall(r'(?m)^ {8}(\d+) (\w+) "(.*)",$', (RUST / "src" / "fault.rs").read_text()):
+            with self.subTest(status):
+                self.assertEqual(said, python[int(status)])
+                self.assertEqual(name.lower(), names[int(status)].replace("_", "").lower())
+        octave = re.findall(r'SENTENCE\((\d+), "(.*)"\)', (made.ROOT / "c" / "octave" / "nr_sentences.h").read_text())
+        for status, said in octave:
+            plain = python[int(status)].replace("record {place} of", "a record of").replace("graph {place}", "graph")
+            with self.subTest(status):
+                self.assertEqual(said.replace("a base graph", "base graph"), plain)
+        told = {int(status) for status, _ in octave}
+        self.assertEqual(set(python) - told, {0, 20, 42, 43, 44})
+
+    def test_version(self) -> None:
+        self.assertIn(f'version = "{made.VERSION}"\n', (RUST / "Cargo.toml").read_text())
+
+
+class Built(Placed):
+    """The sources that were installed, built where they are used."""
+
+    def setUp(self) -> None:
+        super().setUp()
+        made.done(["make", "-s", "-C", made.ROOT / "c", "install", f"PREFIX={self.folder / 'nr'}"])
+        self.share = self.folder / "nr" / "share" / "nr"
+
+    def cargo(self, folder: pathlib.Path, *words: str, **places: pathlib.Path) -> str:
+        """What cargo says, without the network."""
+        made.compiler()
+        environment = {**made.without_kit(), "CARGO_TARGET_DIR": str(self.folder / "target"), "CARGO_NET_OFFLINE": "true"}
+        environment.update({name: str(place) for name, place in places.items()})
+        return made.done([made.needs("cargo"), *words, "--offline", "--quiet"], folder, environment)
+
+    def test_cargo(self) -> None:
+        """The crate's own tests, over the library that NR_DIR names."""
+        crate = shutil.copytree(self.share / "rust", self.folder / "crate")
+        said = self.cargo(crate, "test", NR_DIR=self.folder / "nr")
+        self.assertRegex(said, "test result: ok. [1-9]")
+        self.assertNotIn("FAILED", said)
+
+    def test_rust_document(self) -> None:
+        """The lines of docs/rust.md, over the library that pkg-config names."""
+        made.needs("pkg-config")
+        (_, manifest), (_, source), (_, wanted) = blocks("rust.md")
+        top = self.folder / "mine"
+        (top / "src").mkdir(parents=True)
+        (top / "examples").mkdir()
+        shutil.copy(TABLE, top / "examples")
+        head = '[package]\nname = "mine"\nversion = "0.0.0"\nedition = "2021"\n[workspace]\n'
+        crate = shutil.copytree(self.share / "rust", self.folder / "crate")
+        (top / "Cargo.toml").write_text(head + manifest.replace("/usr/local/share/nr/rust", str(crate)))
+        (top / "src" / "main.rs").write_text(source)
+        said = self.cargo(top, "run", PKG_CONFIG_PATH=self.folder / "nr" / "lib" / "pkgconfig")
+        self.assertEqual(said, wanted)
+
+    def octave(self, script: str) -> str:
+        """What Octave writes."""
+        made.compiler()
+        made.needs("mkoctfile")
+        words = [made.needs("octave-cli"), "--norc", "--quiet", "--no-history", "--eval", script]
+        (self.folder / "examples").mkdir()
+        shutil.copy(TABLE, self.folder / "examples")
+        return made.done(words, self.folder)
+
+    def test_octave(self) -> None:
+        """Each call of the files for Octave."""
+        here = pathlib.Path(__file__).parent
+        folders = f"addpath('{self.share / 'octave'}', '{here}');"
+        said = self.octave(f"{folders} nr_build; octave_calls('examples/practice.csv')")
+        self.assertIn("octave_calls: ok\n", said)
+
+    def test_octave_document(self) -> None:
+        """The lines of docs/octave.md."""
+        (_, script), (_, wanted) = blocks("octave.md")
+        said = self.octave(script.replace("/usr/local/share/nr/octave", str(self.share / "octave")))
+        self.assertEqual(said, wanted)
+
+
+if __name__ == "__main__":
+    unittest.main()
