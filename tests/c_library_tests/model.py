@@ -4,10 +4,10 @@ import csv
 
 import encoder
 from linksim_tools import rate_matching
+from linksim_tools.graphs import GRAPHS
 
 # The lifting sizes of Table 5.3.2-1, each with its set index.
 SETS = {a << j: index for index, a in enumerate((2, 3, 5, 7, 9, 11, 13, 15)) for j in range(8) if a << j <= 384}
-INFORMATION, SENT = {1: 22, 2: 10}, {1: 66, 2: 50}
 
 
 def tables(text):
@@ -34,7 +34,7 @@ def plan(a, rate2048):
     kdash = (b + c * crc) // c
     kb = 22 if graph == 1 else 10 if b > 640 else 9 if b > 560 else 8 if b > 192 else 6
     z = min(size for size in SETS if kb * size >= kdash)
-    numbers = graph, b, crc, c, kdash, kb, z, SETS[z], INFORMATION[graph] * z, SENT[graph] * z
+    numbers = graph, b, crc, c, kdash, kb, z, SETS[z], GRAPHS[graph].information * z, GRAPHS[graph].sent * z
     return dict(zip(("graph", "b", "l", "c", "kdash", "kb", "z", "set", "k", "n"), numbers))
 
 
@@ -50,7 +50,7 @@ def code_blocks(octets, numbers):
 def coded(entries, numbers, bits):
     """The N bits d of a code block (5.3.2), None for a filler."""
     fillers = numbers["k"] - numbers["kdash"]
-    whole = encoder.codeword(entries, INFORMATION[numbers["graph"]], numbers["set"], numbers["z"], bits + [0] * fillers)
+    whole = encoder.codeword(entries, GRAPHS[numbers["graph"]].information, numbers["set"], numbers["z"], bits + [0] * fillers)
     whole[numbers["kdash"] : numbers["k"]] = [None] * fillers
     return whole[2 * numbers["z"] :]
 

@@ -7,6 +7,7 @@ import functools
 import encoder
 import model
 from linksim_tools import rate_matching
+from linksim_tools.graphs import GRAPHS
 
 
 @dataclasses.dataclass(frozen=True)
@@ -141,7 +142,7 @@ class Receiver:
 
     def audit(self, n):
         """The lines of `audit` of block n."""
-        size = {1: 68, 2: 52}[self.coded.plan["graph"]] * self.coded.plan["z"]
+        size = GRAPHS[self.coded.plan["graph"]].columns * self.coded.plan["z"]
         for r, left in enumerate(self.left()):
             if left:
                 open_ones = [position for position in range(size) if not self.known[r] >> position & 1]

@@ -12,6 +12,7 @@ from linksim_tools import conform_suite
 from linksim_tools.conform_mistakes import FIELDS
 from linksim_tools.conform_model import Chain
 from linksim_tools.conform_plan import Impossible
+from linksim_tools.graphs import GRAPHS
 
 
 @functools.cache
@@ -26,7 +27,7 @@ def entries(graph):
     """A drawn table in which the value of the first parity column that has no equal is not 0 in some sets, as in the
     published tables."""
     found = shared.drawn_entries(graph, 5)
-    first = shared.GRAPHS[graph][2]
+    first = GRAPHS[graph].information
     sets = (6,) if graph == 1 else (0, 1, 2, 4, 5, 6)
     odd = 105 if graph == 1 else 1
     found[0, first] = found[3, first] = [int(it not in sets) for it in range(8)]

@@ -9,13 +9,12 @@ import sys
 import tempfile
 import unittest
 
+from linksim_tools.graphs import GRAPHS, LARGEST
+
 ROOT = pathlib.Path(__file__).resolve().parent.parent.parent
 PROGRAM = ROOT / "crates" / "linksim" / "out" / "linksim"
 TOOLS = ROOT / "tools"
 EXAMPLES = ROOT / "examples"
-
-# The rows, the columns and the information columns of the base graphs, and how many entries the published tables have.
-GRAPHS = {1: (46, 68, 22, 316), 2: (42, 52, 10, 197)}
 
 # A program that hangs ends the test; a busy machine does not.
 SECONDS = 300
@@ -68,8 +67,7 @@ def drawn_entries(graph, seed=0):
     """The entries of a table with drawn numbers: as many as the published one of the base graph has, at other places,
     and with the shape that an accepted table has. By (row, column) the eight values of the sets 0 to 7."""
     numbers = random.Random(f"{graph} {seed}")
-    rows, _, first, count = GRAPHS[graph]
-    sizes = [256, 384, 320, 224, 288, 352, 208, 240]
+    rows, first, count = GRAPHS[graph].rows, GRAPHS[graph].information, GRAPHS[graph].entries
     nothing, ones = [0] * 8, [1] * 8
     entries = {(0, first): ones, (1, first): nothing, (3, first): ones}
     entries |= {(row, first + k): nothing for k in (1, 2, 3) for row in (k - 1, k)}
@@ -78,7 +76,7 @@ def drawn_entries(graph, seed=0):
         row = numbers.randrange(rows)
         place = (row, numbers.randrange(first if row < 4 else first + 4))
         if row >= 4 or numbers.random() < 0.9:
-            entries.setdefault(place, [numbers.randrange(size) for size in sizes])
+            entries.setdefault(place, [numbers.randrange(size) for size in LARGEST])
     return dict(sorted(entries.items()))
 
 

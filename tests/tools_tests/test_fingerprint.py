@@ -6,26 +6,21 @@ import random
 import encoder
 import shared
 from linksim_tools import fingerprint
-
-# By set index: the largest lifting size.
-SIZES = [256, 384, 320, 224, 288, 352, 208, 240]
-
-# By base graph: information columns, columns that are sent.
-COLUMNS = {1: (22, 66), 2: (10, 50)}
+from linksim_tools.graphs import GRAPHS, LARGEST
 
 
 def other_fingerprint(graph, entries):
     """The digests of a base graph, by the definition in docs/tables.md and another encoder."""
-    information, sent = COLUMNS[graph]
+    information = GRAPHS[graph].information
     digests = []
-    for index, size in enumerate(SIZES):
+    for index, size in enumerate(LARGEST):
         length = information * size - (24 if information * size - 24 > 3824 else 16)
         octets = b"".join(
             hashlib.sha256(b"linksim table bg%d set%d %d" % (graph, index, counter)).digest() for counter in range(40)
         )[: length // 8]
         word = encoder.codeword(entries, information, index, size, encoder.attached(encoder.bits_of(octets)))
         digits = encoder.octets_of(word[2 * size :]).hex()
-        assert len(digits) == sent * size // 4
+        assert len(digits) == GRAPHS[graph].sent * size // 4
         digests.append(hashlib.sha256(digits.encode()).hexdigest()[:12])
     return digests
 
@@ -67,7 +62,7 @@ class Fingerprint(shared.InFolder):
         for graph in (1, 2):
             entries = shared.drawn_entries(graph)
             before = self.digests({graph: entries})
-            free = [(row, column) for row, column in entries if column < COLUMNS[graph][0]]
+            free = [(row, column) for row, column in entries if column < GRAPHS[graph].information]
             for seed in range(count if graph == 2 else 2):
                 with self.subTest(graph=graph, seed=seed):
                     changed = {place: list(values) for place, values in entries.items()}
@@ -78,7 +73,7 @@ class Fingerprint(shared.InFolder):
             values, index = entries[numbers.choice(free)], numbers.randrange(8)
             digits = list(str(values[index]))
             place = numbers.randrange(len(digits))
-            fits = [it for it in "0123456789" if it != digits[place] and int("".join([*digits[:place], it, *digits[place + 1 :]])) < SIZES[index]]
+            fits = [it for it in "0123456789" if it != digits[place] and int("".join([*digits[:place], it, *digits[place + 1 :]])) < LARGEST[index]]
             digits[place] = numbers.choice(fits)
             values[index] = int("".join(digits))
             return [index]
@@ -88,7 +83,7 @@ class Fingerprint(shared.InFolder):
     def test_two_neighbouring_values_exchanged(self):
         def damage(numbers, entries, free):
             index = numbers.randrange(7)
-            places = [it for it in free if entries[it][index] < SIZES[index + 1] and entries[it][index + 1] < SIZES[index]]
+            places = [it for it in free if entries[it][index] < LARGEST[index + 1] and entries[it][index + 1] < LARGEST[index]]
             values = entries[numbers.choice([it for it in places if entries[it][index] != entries[it][index + 1]])]
             values[index : index + 2] = values[index + 1], values[index]
             return [index, index + 1]

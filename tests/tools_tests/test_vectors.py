@@ -8,11 +8,10 @@ import unittest
 import encoder
 import shared
 from linksim_tools import near, packing, vector
+from linksim_tools.graphs import GRAPHS
 
 # k0 of Table 5.4.2.1-2, by base graph and redundancy version: of each 66 or 50 columns so many.
 STARTS = {1: [0, 17, 33, 56], 2: [0, 13, 25, 43]}
-SENT = {1: 66, 2: 50}
-INFORMATION = {1: 22, 2: 10}
 
 
 def setUpModule():
@@ -74,7 +73,7 @@ class Rebuilt(shared.InFolder):
         size, fillers = plan["z"], [0] * (plan["k"] - plan["kdash"])
         for block in blocks:
             word = encoder.codeword(
-                entries[plan["graph"]], INFORMATION[plan["graph"]], plan["set"], size, bits_of(block["bits"]) + fillers
+                entries[plan["graph"]], GRAPHS[plan["graph"]].information, plan["set"], size, bits_of(block["bits"]) + fillers
             )
             word[plan["kdash"] : plan["k"]] = [None] * len(fillers)
             self.assertEqual(block["d"], word[2 * size :])
@@ -82,7 +81,7 @@ class Rebuilt(shared.InFolder):
     def matched(self, plan, blocks, length, rv, g, qm=1, nl=1):
         """e and f of these code blocks are selected from d and interleaved (5.4.2), and joined (5.5)."""
         count, symbols = len(blocks), g // (nl * qm)
-        start = STARTS[plan["graph"]][rv] * length // (SENT[plan["graph"]] * plan["z"]) * plan["z"]
+        start = STARTS[plan["graph"]][rv] * length // (GRAPHS[plan["graph"]].sent * plan["z"]) * plan["z"]
         sent = []
         for j, block in enumerate(blocks):
             share = symbols // count if j <= count - symbols % count - 1 else -(-symbols // count)

@@ -4,24 +4,18 @@ import hashlib
 import pathlib
 import tempfile
 
-from linksim_tools.graphs import LARGEST, SETS
+from linksim_tools.graphs import GRAPHS, LARGEST, SETS
 from linksim_tools.program import output_of
 
 # The code rates in 2048ths by which a block of the sizes below takes each base graph (TS 38.212, 6.2.2 and 7.2.2).
 RATES = {1: 2048, 2: 512}
 
-# How many information columns fill a code block of the largest size of each set (5.2.2).
-COLUMNS = {1: 22, 2: 10}
-
-# How many columns of a codeword are sent (5.3.2).
-SENT = {1: 66, 2: 50}
-
 DIGITS = 12
 
 
 def block_bits(graph, size):
-    """A: the bits of the block that fills one code block of a lifting size together with its CRC."""
-    filled = COLUMNS[graph] * size
+    """A: the bits of the block that fills all information columns of one code block together with its CRC (5.2.2)."""
+    filled = GRAPHS[graph].information * size
     return filled - 24 if filled - 24 > 3824 else filled - 16
 
 
@@ -43,7 +37,7 @@ def sent(program, table, graph):
         settings, blocks, schedule = folder / "settings.toml", folder / "blocks.txt", folder / "schedule.csv"
         settings.write_text(f"rate2048 = {RATES[graph]}\n")
         blocks.write_text("".join(block(graph, index).hex() + "\n" for index in SETS))
-        lines = [f"{index + 1},0,{SENT[graph] * LARGEST[index]},1,1,-" for index in SETS]
+        lines = [f"{index + 1},0,{GRAPHS[graph].sent * LARGEST[index]},1,1,-" for index in SETS]
         schedule.write_text("\n".join(["block,rv,g,qm,nl,erase", *lines, ""]))
         words = ["send", "--table", table, "--settings", settings, "--blocks", blocks, "--schedule", schedule]
         return [line.split()[3] for line in output_of(program, words).splitlines()]

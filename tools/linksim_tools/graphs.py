@@ -19,6 +19,11 @@ class Graph:
     entries: int
     table: str
 
+    @property
+    def sent(self):
+        """How many columns are sent: all but the first two."""
+        return self.columns - 2
+
     def last_column(self, row):
         """The column of the last entry of a row, in every table of the published shape."""
         return self.information + (row if row >= 4 else min(row + 1, 3))
