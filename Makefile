@@ -2,7 +2,7 @@
 #
 #   make install PREFIX=/usr/local DESTDIR=     after `rt run` in crates/linksim and `rt lib` in crates/nr_c
 #   make uninstall PREFIX=.. DESTDIR=..         takes away what install put there
-#   make dist                                   the packages, in dist/ (docs/packages.md)
+#   make dist                                   the packages, in dist/ (docs/install.md)
 #
 # Nothing here asks for the kit where the program and the library are built.
 
@@ -13,7 +13,7 @@ MANDIR ?= $(DATADIR)/man
 PROGRAM ?= crates/linksim/out/linksim
 DIST ?= dist
 
-TOOLS = conform curve table vectors
+TOOLS = conform curve explain table vectors
 MODULES = $(notdir $(wildcard tools/linksim_tools/*.py))
 MANUALS = $(notdir $(wildcard share/man/man1/*.1))
 EXAMPLES = $(filter-out conform,$(notdir $(wildcard examples/*)))

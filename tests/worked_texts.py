@@ -3,6 +3,9 @@ that follow from TS 38.212 by hand, as the practice tables' parity columns are s
 
 import pathlib
 
+from linksim_tools import faults
+from linksim_tools.graphs import GRAPHS
+
 ROOT = pathlib.Path(__file__).resolve().parent.parent
 
 
@@ -80,7 +83,7 @@ def word(bits, z, information, rows):
 def sent(bits, z, graph, start, count, qm):
     """The bits sent of a code block (5.4.2): so many from this column of the circular buffer on, without fillers, which
     interleaving then spreads."""
-    information, rows = {1: (22, 46), 2: (10, 42)}[graph]
+    information, rows = GRAPHS[graph].information, GRAPHS[graph].rows
     whole = word(bits, z, information, rows)
     fillers = range(len(bits), information * z)
     buffer = [position for position in range(2 * z, len(whole))]
@@ -262,63 +265,49 @@ ABOUT = {
     "run": "Sends and receives the transmissions of a schedule over a link that loses bits, and says what is delivered",
     "audit": "Says of each code block after a schedule in how many steps it is fixed, or why it is stuck",
 }
-OPTIONS = {
-    "table": "The shift table, as comma-separated values",
-    "settings": "The code rate and the limit of the buffer, as TOML",
-    "blocks": "The transport blocks, one a line in hexadecimal",
-    "schedule": "The transmissions, as comma-separated values",
-}
+RATE = "Twice the target code rate x 1024 of the MCS tables; 0.5 is 1024"
+SCHEDULES = {"send": "schedule.csv", "run": "losses.csv", "audit": "losses.csv"}
 
 
-def command_help(command, usage, options, example):
-    """A command's help: its options in two columns, and an example."""
+def usage_of(command):
+    """The words of a command, and its example."""
+    if command == "cut":
+        return "[OPTIONS] --blocks <FILE>", "echo 01 | linksim cut --rate 1024 --blocks -"
+    names = faults.READS[command]
+    paths = {"table": "practice.csv", "settings": "settings.toml", "blocks": "blocks.txt", "schedule": SCHEDULES.get(command)}
+    example = " ".join(f"--{name} examples/{paths[name]}" for name in names)
+    return " ".join(f"--{name} <FILE>" for name in names), f"linksim {command} {example}"
+
+
+def help_of(command):
+    """A command's short help: its options in two columns, and an example."""
+    usage, example = usage_of(command)
+    options = [(f"    --{name} <FILE>", faults.FILES[name].about) for name in faults.READS[command]]
+    options += [("    --rate <N>", f"{RATE} [default: 2048]")] if command == "cut" else []
+    options.append(("-h, --help", "Print help (see more with '--help')"))
     width = max(len(option) for option, _ in options)
     lines = "".join(f"  {option:<{width}}  {text}\n" for option, text in options)
-    return (
-        f"{ABOUT[command]}\n\nUsage: linksim {command} {usage}\n\nOptions:\n{lines}\n"
-        f"Example:\n  {example}\n\n{STATUSES}"
-    )
+    end = f"Example:\n  {example}\n\n{STATUSES}"
+    return f"{ABOUT[command]}\n\nUsage: linksim {command} {usage}\n\nOptions:\n{lines}\n{end}"
 
 
-def file_options(names):
-    return [(f"    --{name} <FILE>", f"{OPTIONS[name]} (-: standard input)") for name in names]
+def long_help_of(command):
+    """A command's long help: below each option what it takes and what is refused of it."""
+    usage, example = usage_of(command)
+    options = [(f"    --{name} <FILE>", faults.of_file(name)) for name in faults.READS[command]]
+    options += [("    --rate <N>", f"{RATE}\n\n[default: 2048]")] if command == "cut" else []
+    options.append(("-h, --help", "Print help (see a summary with '-h')"))
+    texts = [f"  {option}\n" + "\n".join(f"          {line}" for line in text.split("\n")) for option, text in options]
+    end = f"{faults.of_all()}\n\nExample:\n  {example}\n\n{STATUSES}"
+    return f"{ABOUT[command]}\n\nUsage: linksim {command} {usage}\n\nOptions:\n" + "\n\n".join(texts) + f"\n\n{end}"
 
 
-def files_help(command, schedule):
-    """The help of a command over four files."""
-    names = ["table", "settings", "blocks", "schedule"]
-    paths = ["practice.csv", "settings.toml", "blocks.txt", schedule]
-    return command_help(
-        command,
-        " ".join(f"--{name} <FILE>" for name in names),
-        file_options(names) + [("-h, --help", "Print help")],
-        f"linksim {command} " + " ".join(f"--{name} examples/{path}" for name, path in zip(names, paths)),
-    )
-
-
-HELP = {
-    "cut": command_help(
-        "cut",
-        "[OPTIONS] --blocks <FILE>",
-        file_options(["blocks"])
-        + [
-            ("    --rate <N>", "Twice the target code rate x 1024 of the MCS tables; 0.5 is 1024 [default: 2048]"),
-            ("-h, --help", "Print help"),
-        ],
-        "echo 01 | linksim cut --rate 1024 --blocks -",
-    ),
-    "check": command_help(
-        "check",
-        "--table <FILE>",
-        file_options(["table"]) + [("-h, --help", "Print help")],
-        "linksim check --table examples/practice.csv",
-    ),
-    "send": files_help("send", "schedule.csv"),
-    "run": files_help("run", "losses.csv"),
-    "audit": files_help("audit", "losses.csv"),
-}
+HELP = {command: help_of(command) for command in ABOUT}
+LONG_HELP = {command: long_help_of(command) for command in ABOUT}
 PROGRAM_HELP = (
-    "The data coding chain of 5G NR (3GPP TS 38.212)\n\nUsage: linksim <COMMAND>\n\nCommands:\n"
+    "The data coding chain of 5G NR (3GPP TS 38.212)\n"
+    "Without words it reads transport blocks from standard input, and at a terminal waits for them.\n\n"
+    "Usage: linksim <COMMAND>\n\nCommands:\n"
     + "".join(f"  {command:<5}  {about}\n" for command, about in ABOUT.items())
     + "  help   Print this message or the help of the given subcommand(s)\n\n"
     "Options:\n  -h, --help     Print help\n  -V, --version  Print version\n\n"

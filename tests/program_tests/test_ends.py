@@ -4,7 +4,7 @@ of its file, with nothing written and no read after it; each failing write is `W
 import programs
 from programs import Ended, Program, Row, done, folder, octets, ran, refused
 from texts import CUT_01, PRACTICE, WITHOUT_COLUMN_1, lines, six, stuck, ten
-from worked_texts import HELP
+from worked_texts import LONG_HELP
 
 # Two rounds of one HARQ process: 24 bits of block 01 leave column 1, and 32 nothing, of 208 positions with 16 fillers.
 ROUNDS = ten("1,0,24,4,1,-,-,all,3,1", "1,0,32,1,1,-,-,all,3,1")
@@ -107,7 +107,7 @@ class Writes(Program):
         nothing = Row("", schedule=ten()).words("audit")
         no_block = ["cut", "--blocks", "-"]
         fault, write = b"linksim: refused: blocks Empty\n", b"linksim: refused: output Write\n"
-        text, version = octets(HELP["cut"]), b"linksim 0.1.0\n"
+        text, version = octets(LONG_HELP["cut"]), b"linksim 0.1.0\n"
         said = b"error: invalid value '0' for '--rate <N>': 0 is not in 1..=2048\n\n"
         said += b"For more information, try '--help'.\n"
         misused = ["cut", "--rate", "0", "--blocks", "-"]

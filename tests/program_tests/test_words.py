@@ -4,7 +4,7 @@ import os
 
 from programs import Ended, Program, done, folder, octets, ran, refused
 from texts import CUT_01, FULL_RATE, PRACTICE, WITHOUT_COLUMN_1, lines, six, stuck
-from worked_texts import HELP, PROGRAM_HELP
+from worked_texts import HELP, LONG_HELP, PROGRAM_HELP
 
 ZERO = "00" * 37
 # 37 octets take base graph 2 at most at 1372, and at a rate of one digit.
@@ -112,9 +112,9 @@ USAGE = [
 
 HELP_WORDS = [
     *((words, PROGRAM_HELP) for words in ("--help", "-h", "help")),
-    *((f"{command} --help", text) for command, text in HELP.items()),
+    *((f"{command} --help", text) for command, text in LONG_HELP.items()),
     *((f"{command} -h", text) for command, text in HELP.items()),
-    *((f"help {command}", text) for command, text in HELP.items()),
+    *((f"help {command}", text) for command, text in LONG_HELP.items()),
     ("--version", "linksim 0.1.0\n"),
     ("-V", "linksim 0.1.0\n"),
 ]

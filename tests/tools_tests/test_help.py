@@ -6,6 +6,7 @@ import subprocess
 import unittest
 
 import shared
+from linksim_tools import faults
 
 MANUAL = shared.ROOT / "share" / "man" / "man1" / "linksim.1"
 COMPLETION = shared.ROOT / "share" / "bash-completion" / "completions" / "linksim"
@@ -26,8 +27,8 @@ def commands():
 
 def helps():
     """Each command's options, that of no command under the empty word."""
-    return {"": options(shared.linksim("--help"))} | {
-        it: options(shared.linksim(it, "--help")) for it in commands() if it != "help"
+    return {"": options(shared.linksim("-h"))} | {
+        it: options(shared.linksim(it, "-h")) for it in commands() if it != "help"
     }
 
 
@@ -51,7 +52,7 @@ class Tools(unittest.TestCase):
 
     def test_manuals(self):
         """A tool's man page has every command and every option that its help does, and no other."""
-        found = {tool: self.commands_of(tool) for tool in ("conform", "curve", "table", "vectors")}
+        found = {tool: self.commands_of(tool) for tool in ("conform", "curve", "explain", "table", "vectors")}
         self.assertEqual(found["table"], ["read", "fingerprint"])
         for tool, names in found.items():
             words = [[], *([name] for name in names)]
@@ -92,6 +93,23 @@ class Help(unittest.TestCase):
             if command:
                 self.assertEqual(set(re.findall(OPTION, parts[command])), wanted - {"-h", "--help"}, command)
 
+    def test_refusals(self):
+        """The man page has each fault with its cause and remedy, in the order of the tests; docs/formats.md has their names."""
+        text = MANUAL.read_text().replace("\\-", "-").replace("\\(aq", "'")
+        document = (shared.ROOT / "docs" / "formats.md").read_text()
+        titles = {"table": "The shift table file", "settings": "The settings file", "blocks": "The blocks file"}
+        for name, kind in faults.FILES.items():
+            section = re.sub(r"\n\.S[HS] .*", "", text.partition(f"\n.SS {name}\n")[2], flags=re.S)
+            shown = re.findall(r"\.TP\n\.BI? (\w+)( \" N\")?\n(.*)\.\n", section + "\n")
+            wanted = [(it.name, ' " N"' if it.place else "", it.line) for it in [*kind.faults, *kind.later]]
+            self.assertEqual(shown, wanted, name)
+            part = document.partition(f"\n## {titles.get(name, 'The schedule file')}\n")[2].partition("\n## ")[0]
+            rows = re.findall(r"(?m)^\| (.*?) \|", part.partition("| Fault | When |\n")[2])
+            found = list(dict.fromkeys(fault for row in rows for fault in re.findall(r"`([A-Z][A-Za-z]+)\b", row)))
+            self.assertEqual(found, [it.name for it in kind.faults], name)
+        for fault in [it for kind in faults.FILES.values() for it in kind.later]:
+            self.assertIn(f"`{fault.name}`" if fault.name[0] != "U" else "Uneven`", document.replace("<n> ", "`"))
+
     def completions(self, *words):
         """What the completion offers for the last one of these words."""
         script = '. "$0"; COMP_WORDS=("$@"); COMP_CWORD=$(($# - 1)); _linksim; printf "%s\\n" "${COMPREPLY[@]}"'
@@ -112,6 +130,7 @@ class Help(unittest.TestCase):
         self.assertEqual(self.completions("send", "--table", "pr"), {"practice.csv", "processes.csv"})
         self.assertEqual(self.completions("send", "--table", "=", "pr"), {"practice.csv", "processes.csv"})
         self.assertLess({"practice.csv", "blocks.txt"}, self.completions("send", "--table", "="))
+        self.assertEqual(self.completions("send", "--table=pr"), {"--table=practice.csv", "--table=processes.csv"})
         self.assertEqual(self.completions("cut", "--rate", ""), set())
         self.assertEqual(self.completions("cut", "--rate", "=", "1"), set())
 

@@ -16,13 +16,19 @@ except ImportError:
 
 def read(path):
     """The keys of a TOML file, or a failure with its first fault."""
+    try:
+        return parsed(path, pathlib.Path(path).read_bytes())
+    except OSError as error:
+        raise Failed(f"{path}: {error.strerror}") from None
+
+
+def parsed(path, octets):
+    """The keys of the octets of a TOML file, or a failure with its first fault."""
     if tomllib is None:
         version = ".".join(map(str, sys.version_info[:3]))
         said = f"TOML is read by Python 3.11, or by the package tomli; this is Python {version} without it"
         raise Failed(f"{path}: {said}")
     try:
-        return tomllib.loads(pathlib.Path(path).read_bytes().decode())
-    except OSError as error:
-        raise Failed(f"{path}: {error.strerror}") from None
+        return tomllib.loads(octets.decode())
     except ValueError as error:
         raise Failed(f"{path}: no TOML: {error}") from None

@@ -11,6 +11,7 @@ ghost use Rattle.nr_job.specs.declared.jobs.Files.{Files as AskedFiles};
 mod apps;
 mod faults;
 mod options;
+mod texts;
 
 use self::apps::{FilesCommand, check_command, cut_command, files_command, program};
 use self::faults::{fault_of, own_fault};

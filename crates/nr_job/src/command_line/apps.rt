@@ -5,19 +5,32 @@ ghost use Rattle.clap.specs.Words.{app_of, new_app, rule_of, with_rule};
 ghost use Rattle.nr_job.specs.Commands.{check_app, cut_app, file_rule, files_app, rate_rule, with_files};
 ghost use Rattle.nr_job.specs.Jobs.{files_job, name_of};
 
+use super::texts::{
+    BLOCKS, BLOCKS_LONG, SCHEDULE, SCHEDULE_LONG, SETTINGS, SETTINGS_LONG, TABLE, TABLE_LONG,
+};
 use crate::jobs::{Files, Job};
 use clap::{Arg, Command, value_parser};
 use std::alloc::{AllocError, Global};
 
 const VERSION: &str = "0.1.0";
 
-// The end of a command's help: an example, and the exit statuses.
-macro_rules! closing {
+const ABOUT: &str = "The data coding chain of 5G NR (3GPP TS 38.212)
+Without words it reads transport blocks from standard input, and at a terminal waits for them.";
+
+// The ends of a command's help and of its long help: what is refused beside its files, an example, and the exit statuses.
+macro_rules! closings {
     ($example:literal) => {
-        concat!(
-            "Example:\n  ",
-            $example,
-            "\n\nExit status: 0 done, 1 refused, 2 wrong usage"
+        (
+            concat!(
+                "Example:\n  ",
+                $example,
+                "\n\nExit status: 0 done, 1 refused, 2 wrong usage"
+            ),
+            concat!(
+                "Refused with status 1, by 'linksim: refused:' and\n  output Write  standard output failed; see whether the disk is full, or the reader of the pipe has gone\n  memory        the system gave no memory; give the program more; docs/formats.md says how much it takes\n\nExample:\n  ",
+                $example,
+                "\n\nExit status: 0 done, 1 refused, 2 wrong usage"
+            ),
         )
     };
 }
@@ -33,15 +46,13 @@ pub(super) fn program<'a>(alloc: Global) -> Result<Command<'a>, AllocError> {
 
 // The program without its commands.
 fn bare_program<'a>(alloc: Global) -> Result<Command<'a>, AllocError> {
-    let program = named(
-        alloc,
-        "linksim",
-        "linksim",
-        "The data coding chain of 5G NR (3GPP TS 38.212)",
-        "No words at all ask for 'linksim cut --rate 2048 --blocks -'.\n\nExit status: 0 done, 1 refused, 2 wrong usage",
-    )?;
     Ok(
-        program
+        Command::new(alloc, "linksim")
+            .bin_name("linksim")?
+            .about(ABOUT)
+            .after_help(
+                "No words at all ask for 'linksim cut --rate 2048 --blocks -'.\n\nExit status: 0 done, 1 refused, 2 wrong usage",
+            )
             .version(VERSION)
             .no_binary_name(true)
             .subcommand_required(true),
@@ -65,14 +76,15 @@ fn named<'a>(
     word: &'a str,
     call: &'a str,
     about: &'a str,
-    end: &'a str,
+    ends: (&'a str, &'a str),
 ) -> Result<Command<'a>, AllocError>
     ensures { IfOk result (λ c. app_of c ≡ new_app word.entry.now) }
 {
     let command = Command::new(alloc, word)
         .bin_name(call)?
         .about(about)
-        .after_help(end);
+        .after_help(ends.0)
+        .after_long_help(ends.1);
     Ok(command)
 }
 
@@ -84,14 +96,9 @@ pub(super) fn cut_command<'a>(alloc: Global) -> Result<Command<'a>, AllocError>
         "cut",
         "linksim cut",
         "Attaches the CRC to each transport block and cuts it into code blocks",
-        closing!("echo 01 | linksim cut --rate 1024 --blocks -"),
+        closings!("echo 01 | linksim cut --rate 1024 --blocks -"),
     )?;
-    let command = with_file(
-        alloc,
-        command,
-        "blocks",
-        "The transport blocks, one a line in hexadecimal (-: standard input)",
-    )?;
+    let command = with_file(alloc, command, "blocks", (BLOCKS, BLOCKS_LONG))?;
     with_rate(alloc, command)
 }
 
@@ -103,14 +110,9 @@ pub(super) fn check_command<'a>(alloc: Global) -> Result<Command<'a>, AllocError
         "check",
         "linksim check",
         "Checks a table of shift values",
-        closing!("linksim check --table examples/practice.csv"),
+        closings!("linksim check --table examples/practice.csv"),
     )?;
-    with_file(
-        alloc,
-        command,
-        "table",
-        "The shift table, as comma-separated values (-: standard input)",
-    )
+    with_file(alloc, command, "table", (TABLE, TABLE_LONG))
 }
 
 // A command over four files.
@@ -168,21 +170,21 @@ impl FilesCommand {
         }
     }
 
-    // The end of its help.
-    fn end<'a>(self) -> &'a str {
+    // The ends of its help and of its long help.
+    fn ends<'a>(self) -> (&'a str, &'a str) {
         match self {
             FilesCommand::Send => {
-                closing!(
+                closings!(
                     "linksim send --table examples/practice.csv --settings examples/settings.toml --blocks examples/blocks.txt --schedule examples/schedule.csv"
                 )
             }
             FilesCommand::Run => {
-                closing!(
+                closings!(
                     "linksim run --table examples/practice.csv --settings examples/settings.toml --blocks examples/blocks.txt --schedule examples/losses.csv"
                 )
             }
             FilesCommand::Audit => {
-                closing!(
+                closings!(
                     "linksim audit --table examples/practice.csv --settings examples/settings.toml --blocks examples/blocks.txt --schedule examples/losses.csv"
                 )
             }
@@ -197,7 +199,7 @@ pub(super) fn files_command<'a>(
 ) -> Result<Command<'a>, AllocError>
     ensures { IfOk result (λ c. app_of c ≡ files_app (name_of name)) }
 {
-    let command = named(alloc, name.word(), name.call(), name.about(), name.end())?;
+    let command = named(alloc, name.word(), name.call(), name.about(), name.ends())?;
     with_files(alloc, command)
 }
 
@@ -205,30 +207,10 @@ pub(super) fn files_command<'a>(
 fn with_files<'a>(alloc: Global, command: Command<'a>) -> Result<Command<'a>, AllocError>
     ensures { IfOk result (λ c. app_of c ≡ with_files (app_of command.entry)) }
 {
-    let command = with_file(
-        alloc,
-        command,
-        "table",
-        "The shift table, as comma-separated values (-: standard input)",
-    )?;
-    let command = with_file(
-        alloc,
-        command,
-        "settings",
-        "The code rate and the limit of the buffer, as TOML (-: standard input)",
-    )?;
-    let command = with_file(
-        alloc,
-        command,
-        "blocks",
-        "The transport blocks, one a line in hexadecimal (-: standard input)",
-    )?;
-    with_file(
-        alloc,
-        command,
-        "schedule",
-        "The transmissions, as comma-separated values (-: standard input)",
-    )
+    let command = with_file(alloc, command, "table", (TABLE, TABLE_LONG))?;
+    let command = with_file(alloc, command, "settings", (SETTINGS, SETTINGS_LONG))?;
+    let command = with_file(alloc, command, "blocks", (BLOCKS, BLOCKS_LONG))?;
+    with_file(alloc, command, "schedule", (SCHEDULE, SCHEDULE_LONG))
 }
 
 // Adds a required option, whose value is the path of a file.
@@ -236,7 +218,7 @@ fn with_file<'a>(
     alloc: Global,
     command: Command<'a>,
     name: &'a str,
-    help: &'a str,
+    helps: (&'a str, &'a str),
 ) -> Result<Command<'a>, AllocError>
     ensures { IfOk result (λ c.
         app_of c ≡ with_rule (app_of command.entry) (file_rule name.entry.now)) }
@@ -245,7 +227,8 @@ fn with_file<'a>(
         .long(name)
         .required(true)
         .value_name("FILE")
-        .help(help);
+        .help(helps.0)
+        .long_help(helps.1);
     command.arg(file)
 }
 
