@@ -51,7 +51,7 @@ class Declared(unittest.TestCase):
         """Each struct has nr.h's members, in their order."""
         sources = "".join((RUST / "src" / name).read_text() for name in ("raw.rs", "lib.rs", "table.rs"))
         for name, body in re.findall(r"typedef struct Nr(\w+) \{(.*?)\n\}", HEADER, re.S):
-            found = re.search(rf"#\[repr\(C\)\]\n(?:#.*\n)*pub(?:\(crate\))? struct {name} \{{(.*?)\n\}}", sources, re.S)
+            found = re.search(rf"#\[repr\(C\)\]\n(?:#[^\n]*\n)*pub(?:\(crate\))? struct {name} \{{(.*?)\n\}}", sources, re.S)
             with self.subTest(name):
                 assert found, name
                 members = re.findall(r"(?m)^    pub(?:\(crate\))? (\w+):", found[1])
