@@ -7,9 +7,10 @@ import re
 import subprocess
 import time
 
+from nr_build import LICENCE as LICENCE
+
 ROOT = pathlib.Path(__file__).resolve().parent.parent.parent
 VERSION = (ROOT / "VERSION").read_text().strip()
-LICENCE = "No licence is chosen yet: that is for the project's owner. Until then all rights are reserved."
 
 
 class Failed(Exception):
