@@ -1,7 +1,10 @@
 """Debian's packages: linksim, libnr2, libnr-dev and python3-nr, by dpkg-deb."""
 
+from __future__ import annotations
+
 import gzip
 import hashlib
+import pathlib
 import shutil
 import subprocess
 import time
@@ -31,7 +34,8 @@ PACKAGES = {
     "libnr-dev": (
         {"Architecture": "amd64", "Section": "libdevel", "Multi-Arch": "same", "Depends": f"libnr2 (= {VERSION})"},
         "data coding chain of 5G NR - files for development",
-        " This package has the header, the static library, what pkg-config and CMake\n read, and the sources for Rust and Octave.\n",
+        " This package has the header, the static library, what pkg-config and CMake\n"
+        " read, and the sources for Rust and Octave.\n",
         [f"{LIBRARY[1:]}/", "usr/include/", "usr/share/nr/"],
     ),
     "linksim": (
@@ -44,20 +48,20 @@ PACKAGES = {
 }
 
 
-def owner_of(name):
+def owner_of(name: str) -> str:
     """The package that a file belongs to."""
     places = {package: tuple(starts) for package, (*_, starts) in PACKAGES.items()}
     return next(package for package, starts in places.items() if name.startswith(starts))
 
 
-def packed(path, text):
+def packed(path: pathlib.Path, text: bytes) -> None:
     """Writes a text as Debian packs it, without a time."""
     path.parent.mkdir(parents=True, exist_ok=True)
     with open(path, "wb") as file, gzip.GzipFile("", "wb", 9, file, 0) as out:
         out.write(text)
 
 
-def write_about(top, package, when):
+def write_about(top: pathlib.Path, package: str, when: int) -> None:
     """Writes what a package says of itself: its changes and its licence."""
     folder = top / "usr" / "share" / "doc" / package
     date = time.strftime("%a, %d %b %Y %H:%M:%S +0000", time.gmtime(when))
@@ -66,7 +70,7 @@ def write_about(top, package, when):
     (folder / "copyright").write_text(f"{staging.LICENCE}\n")
 
 
-def write_control(top, package, fields, line, more):
+def write_control(top: pathlib.Path, package: str, fields: dict[str, str], line: str, more: str) -> None:
     """Writes the files that dpkg reads."""
     control = top / "DEBIAN"
     control.mkdir()
@@ -75,7 +79,7 @@ def write_control(top, package, fields, line, more):
     size = sum(-(-path.stat().st_size // 1024) for path in paths)
     source = {} if package == "linksim" else {"Source": "linksim"}
     head = {"Package": package, **source, "Version": VERSION, "Maintainer": MAINTAINER, **fields}
-    head.update({"Installed-Size": size, "Priority": "optional"})
+    head.update({"Installed-Size": str(size), "Priority": "optional"})
     text = "".join(f"{name}: {value}\n" for name, value in head.items())
     (control / "control").write_text(f"{text}Description: {line}\n{ABOUT} .\n{more}")
     (control / "md5sums").write_text("".join(sums))
@@ -84,7 +88,7 @@ def write_control(top, package, fields, line, more):
         (control / "triggers").write_text("activate-noawait ldconfig\n")
 
 
-def strip(stage):
+def strip(stage: pathlib.Path) -> None:
     """Takes the names of symbols away where nobody links by them."""
     if shutil.which("strip"):
         words = ["strip", "--remove-section=.comment", "--remove-section=.note", "--strip-unneeded"]
@@ -93,7 +97,7 @@ def strip(stage):
         subprocess.run(["strip", "--strip-debug", "-D", str(stage / LIBRARY[1:] / "libnr.a")], check=True)
 
 
-def sort_out(stage, folder):
+def sort_out(stage: pathlib.Path, folder: pathlib.Path) -> None:
     """Moves each file of the installed tree below its package's own folder."""
     for path in sorted(stage.glob("**/*")):
         if path.is_symlink() or path.is_file():
@@ -103,7 +107,7 @@ def sort_out(stage, folder):
             path.rename(to)
 
 
-def packages(folder, out, when):
+def packages(folder: pathlib.Path, out: pathlib.Path, when: int) -> None:
     """Writes the four packages."""
     stage = folder / "installed"
     staging.install(stage, PREFIX="/usr", LIBDIR=LIBRARY, PYTHONDIR="/usr/lib/python3/dist-packages")

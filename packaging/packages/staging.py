@@ -1,5 +1,7 @@
 """What all packages are made of: what `make install` puts below a folder, without a machine's time and owner."""
 
+from __future__ import annotations
+
 import calendar
 import os
 import pathlib
@@ -17,7 +19,7 @@ class Failed(Exception):
     """The packages cannot be made; its text is the line that says why."""
 
 
-def epoch():
+def epoch() -> int:
     """The time that all files have: SOURCE_DATE_EPOCH, or the date of the newest version in CHANGELOG.md."""
     named = os.environ.get("SOURCE_DATE_EPOCH")
     if named:
@@ -28,7 +30,7 @@ def epoch():
     return calendar.timegm(time.strptime(dates[0], "%Y-%m-%d"))
 
 
-def install(folder, **places):
+def install(folder: pathlib.Path, **places: str) -> None:
     """Puts below a folder what `make install` does."""
     set_ = [f"{name}={value}" for name, value in places.items()]
     words = ["make", "-s", "-C", str(ROOT), "install", f"DESTDIR={folder}", *set_]
@@ -37,9 +39,9 @@ def install(folder, **places):
         raise Failed("make install: " + (ended.stdout.strip().splitlines() or ["it failed"])[-1])
 
 
-def copy(source, target):
+def copy(name: str, target: pathlib.Path) -> None:
     """Copies a file, or the files of a folder, without what Python keeps."""
-    source = ROOT / source
+    source = ROOT / name
     for path in [source] if source.is_file() else sorted(source.glob("**/*")):
         if path.is_file() and "__pycache__" not in path.parts:
             to = target / path.relative_to(source) if source.is_dir() else target
@@ -48,7 +50,7 @@ def copy(source, target):
             to.chmod(0o755 if os.access(path, os.X_OK) else 0o644)
 
 
-def settle(folder, when):
+def settle(folder: pathlib.Path, when: int) -> None:
     """Gives all below a folder one time, and the modes that do not depend on who makes it."""
     paths = [*folder.glob("**/*"), folder]
     for path in paths:

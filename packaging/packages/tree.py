@@ -1,7 +1,11 @@
 """The archive linksim-VERSION-x86_64-linux.tar.gz, which runs from where it is unpacked."""
 
+from __future__ import annotations
+
 import gzip
+import pathlib
 import tarfile
+import typing
 
 from packages import staging
 
@@ -11,7 +15,7 @@ ABOUT = ["README.md", "CHANGELOG.md", "VERSION", "docs"]
 LINKS = {"tools": "share/linksim/tools", "examples": "share/linksim/examples"}
 
 
-def relocate(path):
+def relocate(path: pathlib.Path) -> None:
     """Lets the file of pkg-config name the library by where it stands itself."""
     places = {"prefix=": "${pcfiledir}/../..", "libdir=": "${prefix}/lib", "includedir=": "${prefix}/include"}
     lines = path.read_text().splitlines()
@@ -21,7 +25,7 @@ def relocate(path):
     path.write_text("".join(line.replace('"', "") + "\n" for line in lines))
 
 
-def stage(top):
+def stage(top: pathlib.Path) -> None:
     """Puts all files below the folder of the archive."""
     staging.install(top, PREFIX="")
     relocate(top / "lib" / "pkgconfig" / "nr.pc")
@@ -33,13 +37,13 @@ def stage(top):
         (top / name).symlink_to(target)
 
 
-def archive(folder, out, when):
+def archive(folder: pathlib.Path, out: pathlib.Path, when: int) -> None:
     """Writes the archive, its members sorted by name, all of the owner 0."""
     top = folder / NAME
     stage(top)
     staging.settle(top, when)
     with open(out / f"{NAME}.tar.gz", "wb") as file, gzip.GzipFile("", "wb", 9, file, when) as packed:
-        with tarfile.open(fileobj=packed, mode="w", format=tarfile.GNU_FORMAT) as tar:
+        with tarfile.open(fileobj=typing.cast(typing.IO[bytes], packed), mode="w", format=tarfile.GNU_FORMAT) as tar:
             for path in sorted([top, *top.glob("**/*")]):
                 member = tar.gettarinfo(path, str(path.relative_to(folder)))
                 member.uid = member.gid = 0

@@ -1,14 +1,21 @@
 """Which cases of a suite show each mistake, and which mistakes give the same bits in every case of it."""
 
+from __future__ import annotations
+
+import typing
+
 from linksim_tools.conform_mistakes import MISTAKES, STEPS
 from linksim_tools.conform_model import Chain
 from linksim_tools.conform_plan import Impossible
+
+if typing.TYPE_CHECKING:
+    from linksim_tools.conform_suite import Suite
 
 # The names of an answer that are bits.
 BITS = ("attached", "bits", "d", "e", "f", "sent")
 
 
-def bits_of(chain, wrong):
+def bits_of(chain: Chain, wrong: frozenset[typing.Any]) -> typing.Any:
     """What stands for all bits of a case: the same where they are the same; None where they cannot be made."""
     try:
         return hash(repr([chain.value(name, wrong) for name in BITS]))
@@ -16,9 +23,9 @@ def bits_of(chain, wrong):
         return None
 
 
-def shown(suite):
+def shown(suite: Suite) -> typing.Any:
     """For each mistake what stands for its bits in each case, and the same of none."""
-    found = {name: [] for name in (None, *MISTAKES)}
+    found: dict[str | None, list[typing.Any]] = {name: [] for name in (None, *MISTAKES)}
     for case in suite.cases.values():
         chain = Chain(suite.tables, case)
         for name, outcomes in found.items():
@@ -26,7 +33,7 @@ def shown(suite):
     return found
 
 
-def lines(suite):
+def lines(suite: Suite) -> typing.Iterator[typing.Any]:
     """A line for each mistake: how many cases show it, its name and clause, and which mistakes have the same bits."""
     found = shown(suite)
     right = found.pop(None)

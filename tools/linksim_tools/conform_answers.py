@@ -1,10 +1,17 @@
 """The answers of an encoder, a JSON object or plain words a line, as values by the names of conform_mistakes."""
 
+from __future__ import annotations
+
 import json
+import pathlib
+import typing
 
 from linksim_tools import conform_bits as lists
 from linksim_tools.conform_plan import PLAN
 from linksim_tools.program import Failed
+
+if typing.TYPE_CHECKING:
+    from linksim_tools.conform_suite import Suite
 
 LISTS = ("bits", "d", "e", "f")
 NAMES = ("id", "attached", "plan", "codeblocks", *LISTS, "k0", "Ncb", "E", "sent")
@@ -21,7 +28,7 @@ class Repeated(Wrong):
     """A case was answered before."""
 
 
-def most_octets(suite):
+def most_octets(suite: Suite) -> int:
     """How long a line of an answer may be: longer than the longest case of the suite with every bit written out."""
     longest = 0
     for values in suite.values.values():
@@ -30,14 +37,14 @@ def most_octets(suite):
     return 65_536 + 8 * longest
 
 
-def whole_number(name, value):
+def whole_number(name: str, value: int) -> int:
     """A whole number under a name."""
     if type(value) is not int:
         raise Wrong(f"{name} is no whole number")
     return value
 
 
-def bits(name, value):
+def bits(name: str, value: typing.Any) -> str:
     """A list of bits under a name."""
     try:
         return lists.read(value)
@@ -45,26 +52,26 @@ def bits(name, value):
         raise Wrong(f"{name} {unreadable}") from None
 
 
-def bits_of_blocks(name, value):
+def bits_of_blocks(name: str, value: list[typing.Any]) -> list[str]:
     """The lists of bits of all code blocks: a list of them, or a single one."""
     if lists.is_packed(value):
         return [bits(name, value)]
     return [bits(f"{name} of code block {r}", it) for r, it in enumerate(value)]
 
 
-def numbers_of_blocks(name, value):
+def numbers_of_blocks(name: str, value: int | list[int]) -> list[int]:
     """The numbers of all code blocks: a list of them, or a single one."""
     return [whole_number(name, it) for it in (value if isinstance(value, list) else [value])]
 
 
-def plan_of(value):
+def plan_of(value: dict[str, int]) -> dict[str, int]:
     """The numbers of a plan, as many of them as are there."""
     if not isinstance(value, dict) or not value.keys() <= set(PLAN):
         raise Wrong("plan has other names than " + ", ".join(PLAN))
     return {name: whole_number(f"plan.{name}", it) for name, it in value.items()}
 
 
-def one_for_all(name, value):
+def one_for_all(name: str, value: int | list[int]) -> int:
     """A number that is the same for all code blocks."""
     found = set(numbers_of_blocks(name, value))
     if len(found) != 1:
@@ -72,7 +79,7 @@ def one_for_all(name, value):
     return found.pop()
 
 
-def from_blocks(blocks):
+def from_blocks(blocks: list[dict[str, typing.Any]]) -> dict[str, list[typing.Any]]:
     """The names of `codeblocks`, each with the values of all code blocks."""
     if not isinstance(blocks, list) or not all(isinstance(it, dict) for it in blocks) or not blocks:
         raise Wrong("codeblocks is no list of objects")
@@ -88,20 +95,20 @@ def from_blocks(blocks):
     return {name: [it[name] for it in blocks] for name in names - {"r"}}
 
 
-READ = {
+READ: dict[str, typing.Callable[[str, typing.Any], typing.Any]] = {
     "attached": bits, "sent": bits, "plan": lambda name, value: plan_of(value), "E": numbers_of_blocks,
     "k0": one_for_all, "Ncb": one_for_all, **dict.fromkeys(LISTS, bits_of_blocks),
 }
 
 
-def from_object(value):
+def from_object(value: dict[str, typing.Any]) -> dict[str, typing.Any]:
     """The values of an answer that was JSON."""
     strange = value.keys() - set(NAMES) - set(PASSED_OVER)
     if strange:
         raise Wrong(f"a name that is none: {min(strange)[:40]}")
     named = {name: it for name, it in value.items() if name in READ}
     if "codeblocks" in value:
-        named |= from_blocks(value["codeblocks"])
+        named.update(from_blocks(value["codeblocks"]))
     found = {name: READ[name](name, it) for name, it in named.items()}
     if not found.get("plan", True):
         del found["plan"]
@@ -110,7 +117,7 @@ def from_object(value):
     return found
 
 
-def digits_of(name, text):
+def digits_of(name: str, text: str) -> list[int]:
     """The whole number of a plain word, or those of all code blocks where the name has several."""
     numbers = text.split(",") if name == "E" else [text]
     if not all(it.isdecimal() and it.isascii() and len(it) < 16 for it in numbers):
@@ -118,11 +125,12 @@ def digits_of(name, text):
     return list(map(int, numbers))
 
 
-def from_words(words):
+def from_words(words: list[str]) -> dict[str, typing.Any]:
     """The object of an answer of plain words: a name and a value in turn, code blocks told apart by commas."""
     if len(words) % 2:
         raise Wrong("an odd number of words: each name has one value")
-    value, plan = {}, {}
+    value: dict[str, typing.Any] = {}
+    plan: dict[str, typing.Any] = {}
     for name, text in zip(words[::2], words[1::2]):
         if name in value or name in plan:
             raise Wrong(f"{name[:40]} stands there twice")
@@ -131,10 +139,10 @@ def from_words(words):
             (plan if name in PLAN else value)[name] = numbers if name == "E" else numbers[0]
         else:
             value[name] = text.split(",") if name in LISTS else text
-    return value | ({"plan": plan} if plan else {})
+    return {**value, "plan": plan} if plan else value
 
 
-def object_of(line, plain):
+def object_of(line: str, plain: bool) -> dict[str, typing.Any]:
     """The object of a line."""
     if plain:
         return from_words(line.split())
@@ -147,7 +155,9 @@ def object_of(line, plain):
     return value
 
 
-def answer_of(line, plain, suite, there, wanted=None):
+def answer_of(
+    line: bytes, plain: bool, suite: Suite, there: dict[str, dict[str, typing.Any]], wanted: str | None = None
+) -> tuple[str, dict[str, typing.Any]]:
     """The id and the values of a line; `there` was answered before it, and the case `wanted` was asked for."""
     text = line.decode(errors="replace")
     value = object_of(text, plain)
@@ -166,9 +176,10 @@ def answer_of(line, plain, suite, there, wanted=None):
         raise wrong if wanted is not None else Wrong(f"case {name}: {wrong}") from None
 
 
-def read(path, suite, plain):
+def read(path: str | pathlib.Path, suite: Suite, plain: bool) -> dict[str, dict[str, typing.Any]]:
     """The answers of a file, by id; the first line that cannot be judged is a failure."""
-    most, there = most_octets(suite), {}
+    most = most_octets(suite)
+    there: dict[str, dict[str, typing.Any]] = {}
     try:
         file = open(path, "rb")
     except OSError as error:

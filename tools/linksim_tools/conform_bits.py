@@ -1,7 +1,10 @@
 """Lists of bits as text, a character a bit: `0`, `1`, and `-` for a filler; packings that are read; CRC remainders."""
 
+from __future__ import annotations
+
 import binascii
 import re
+import typing
 
 FILLER = "-"
 
@@ -19,59 +22,59 @@ class Unreadable(Exception):
     """A list of bits cannot be read; its text says why."""
 
 
-def of_octets(octets):
+def of_octets(octets: bytes) -> typing.Any:
     """The bits of octets, the highest of each first."""
     return f"{int.from_bytes(octets, 'big'):0{8 * len(octets)}b}" if octets else ""
 
 
-def octets_of(bits):
+def octets_of(bits: str) -> bytes:
     """The octets of bits, the first bit of each highest, the last octet filled with zeros."""
     filled = bits + "0" * (-len(bits) % 8)
     return int(filled, 2).to_bytes(len(filled) // 8, "big") if filled else b""
 
 
-def of_digits(digits, count):
+def of_digits(digits: str, count: int) -> str:
     """The first `count` bits of hexadecimal digits."""
     return f"{int(digits, 16):0{4 * len(digits)}b}"[:count] if digits else ""
 
 
-def hexadecimal(bits):
+def hexadecimal(bits: str) -> str:
     """Hexadecimal digits, the first bit of each highest, the last digit filled with zeros."""
     return octets_of(bits).hex()[: -(-len(bits) // 4)]
 
 
-def each_octet_reversed(bits):
+def each_octet_reversed(bits: str) -> str:
     """The bits with those of each octet in reverse, also those of a last octet that is not whole."""
     return "".join(bits[start : start + 8][::-1] for start in range(0, len(bits), 8))
 
 
-def from_hex(value):
+def from_hex(value: str) -> str:
     """Hexadecimal digits, the first bit of each highest."""
     if not isinstance(value, str) or value.strip("0123456789abcdefABCDEF"):
         raise Unreadable("has other characters than hexadecimal digits")
     return of_digits(value, 4 * len(value))
 
 
-def from_octets(value):
+def from_octets(value: int) -> typing.Any:
     """Octets as numbers, the first bit of each highest."""
     if not isinstance(value, list) or not all(type(it) is int and it in range(256) for it in value):
         raise Unreadable("is no list of octets")
     return of_octets(bytes(value))
 
 
-def from_lowest_first(value):
+def from_lowest_first(value: int) -> typing.Any:
     """Octets as numbers, the first bit of each lowest."""
     return each_octet_reversed(from_octets(value))
 
 
-def from_words(value):
+def from_words(value: int) -> typing.Any:
     """Words of up to four octets as tools/vectors writes them: the first octet lowest, two digits an octet."""
     if not isinstance(value, list) or not all(isinstance(it, str) and WORD.fullmatch(it) for it in value):
         raise Unreadable("is no list of words such as 0x0a1b2c3d")
     return of_octets(b"".join(bytes.fromhex(it[2:])[::-1] for it in value))
 
 
-def from_list(value):
+def from_list(value: list[int]) -> str:
     """The bits one by one, null for a filler."""
     try:
         return "".join([CHARACTERS[it] for it in value])
@@ -79,10 +82,12 @@ def from_list(value):
         raise Unreadable("is no list of 0, 1 and, for a filler, null") from None
 
 
-READERS = {"hex": from_hex, "octets": from_octets, "lsb": from_lowest_first, "le32": from_words, "bits": from_list}
+READERS: dict[str, typing.Callable[[typing.Any], str]] = {
+    "hex": from_hex, "octets": from_octets, "lsb": from_lowest_first, "le32": from_words, "bits": from_list
+}
 
 
-def from_packed(value):
+def from_packed(value: dict[str, typing.Any]) -> str:
     """The bits of an object such as {"count": 24, "hex": "011021"}."""
     forms = value.keys() & READERS.keys()
     count = value.get("count")
@@ -95,7 +100,7 @@ def from_packed(value):
     return bits[:count]
 
 
-def read(value):
+def read(value: typing.Any) -> str:
     """The bits of what JSON has: a packed object, a list of 0, 1 and null, or a text of 0, 1 and -."""
     if isinstance(value, dict):
         return from_packed(value)
@@ -106,12 +111,12 @@ def read(value):
     return from_list(value)
 
 
-def is_packed(value):
+def is_packed(value: list[typing.Any]) -> bool:
     """Whether a value is one list of bits, and no list of such lists."""
     return not isinstance(value, list) or not any(isinstance(it, (dict, list, str)) for it in value)
 
 
-def table_of(degree, terms):
+def table_of(degree: int, terms: int) -> list[int]:
     """What each octet that leaves the register adds to it."""
     table = []
     for octet in range(256):
@@ -125,7 +130,7 @@ def table_of(degree, terms):
 TABLES = {name: table_of(*polynomial) for name, polynomial in POLYNOMIALS.items()}
 
 
-def remainder(name, number, count):
+def remainder(name: str, number: int, count: int) -> int:
     """The remainder of a polynomial of `count` terms times D to the degree of the CRC, by its generator polynomial."""
     octets = number.to_bytes(-(-count // 8), "big")
     if name == "CRC16":
@@ -138,7 +143,7 @@ def remainder(name, number, count):
     return rest
 
 
-def parity(name, bits, preset=False):
+def parity(name: str, bits: str, preset: bool = False) -> int:
     """The parity bits of a list as a number; with a register that begins with ones where it is preset."""
     degree, _ = POLYNOMIALS[name]
     number, count = int(bits or "0", 2), len(bits)

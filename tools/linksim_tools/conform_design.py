@@ -1,7 +1,10 @@
 """The cases of the suite: designed, so that every point of the clauses has one. A seed changes the blocks' bits."""
 
+from __future__ import annotations
+
 import itertools
 import random
+import typing
 
 from linksim_tools import conform_plan as planning
 from linksim_tools.conform_model import Case
@@ -18,7 +21,7 @@ ROOMY = {1: (32, 48, 40, 28, 36, 44, 52, 60), 2: (128, 96, 80, 112, 72, 88, 104,
 EXTENTS = ("short", "fillers", "end", "round", "twice")
 
 
-def rate_for(graph, a):
+def rate_for(graph: int, a: int) -> int:
     """A code rate by which a block of this size takes the base graph."""
     return next(rate for rate in (2048, 512) if planning.graph_of(a, rate, ()) == graph)
 
@@ -26,11 +29,11 @@ def rate_for(graph, a):
 class Designer:
     """Makes cases, each with a block of its own."""
 
-    def __init__(self, seed):
+    def __init__(self, seed: int) -> None:
         self.seed = seed
-        self.cases = {}
+        self.cases: dict[str, Case] = {}
 
-    def block(self, name, a, pattern):
+    def block(self, name: str, a: int, pattern: int | str) -> str:
         """A block of `a` bits: zeros, ones, a single one at a place, or drawn."""
         if pattern == "zeros":
             return "0" * a
@@ -40,10 +43,21 @@ class Designer:
             return "0" * pattern + "1" + "0" * (a - 1 - pattern)
         return f"{random.Random(f'{self.seed} {name}').getrandbits(a):0{a}b}"
 
-    def add(self, name, a, rate, extent="round", pattern="random", limit=None, over=0, **sent):
+    def add(
+        self,
+        name: str,
+        a: int,
+        rate: int,
+        extent: str = "round",
+        pattern: int | str = "random",
+        limit: int | None = None,
+        over: int = 0,
+        **sent: typing.Any,
+    ) -> None:
         """A case; the limit is the wanted Ncb in hundredths of a codeword (`lbrm` is a TBS_LBRM in bits); `over` are
         symbols that are not shared out evenly."""
-        case = Case(name, self.block(name, a, pattern), rate, **({"g": 1} | sent))
+        given: dict[str, typing.Any] = {"g": 1, **sent}
+        case = Case(name, self.block(name, a, pattern), rate, **given)
         if limit is not None:
             plan = Facts(case).plan
             case = self.with_(case, lbrm=-(-2 * plan["c"] * (plan["n"] * limit // 100) // 3))
@@ -53,11 +67,11 @@ class Designer:
         self.cases[name] = case
 
     @staticmethod
-    def with_(case, **changed):
+    def with_(case: Case, **changed: int) -> Case:
         return Case(**{**case.__dict__, **changed})
 
     @staticmethod
-    def total(facts, extent):
+    def total(facts: Facts, extent: str) -> int:
         """G: about so much for each scheduled code block as the extent says, in whole symbols of all layers."""
         wanted = {
             "short": facts.systematic * 2 // 3,
@@ -71,7 +85,7 @@ class Designer:
         return max((wanted + (unit - 1) * up) // unit, 1) * unit * len(facts.scheduled)
 
 
-def lifting_cases(design):
+def lifting_cases(design: Designer) -> None:
     """Each lifting size that no case has yet, with the largest block that has it or the smallest in turn; versions, Qm
     and NL in turn."""
     facts = map(Facts, design.cases.values())
@@ -82,18 +96,18 @@ def lifting_cases(design):
             one_size(design, f"lifting-{graph}-{z}", (last, first)[place % 2], rate, place)
 
 
-def one_size(design, name, a, rate, turn):
+def one_size(design: Designer, name: str, a: int, rate: int, turn: int) -> None:
     """A case of a size, whose transmission is the next one in turn."""
     extent = "round" if turn % 4 else ("end", "fillers", "short", "round")[turn // 4 % 4]
     sent = {"rv": turn // 2 % 4, "qm": SYMBOLS[turn % 5], "nl": LAYERS[turn // 5 % 4]}
     if extent in ("fillers", "short"):
         sent["rv"] = 0
     if extent == "end":
-        sent |= {"qm": 1, "nl": 1}
+        sent.update(qm=1, nl=1)
     design.add(name, a, rate, extent, **sent)
 
 
-def single_ones(design, sets_of):
+def single_ones(design: Designer, sets_of: typing.Callable[..., typing.Any]) -> None:
     """Blocks of a single one, in each information column, by set index."""
     for graph, column in ((it.number, column) for it in GRAPHS.values() for column in range(it.information)):
         for index in sets_of(column):
@@ -104,7 +118,7 @@ def single_ones(design, sets_of):
             design.add(f"one-{graph}-{column}-set{index}", last, rate, pattern=place)
 
 
-def crc_and_graph_cases(design):
+def crc_and_graph_cases(design: Designer) -> None:
     """Sizes and rates at the limits of 6.2.1 and 6.2.2."""
     for a, rate in (*LIMITS, (3816, 1371)):
         design.add(f"limit-{a}-{rate}", a, rate, g=2 * a)
@@ -112,7 +126,7 @@ def crc_and_graph_cases(design):
     design.add("limit-3832-511", 3832, 511, "short")
 
 
-def segmentation_cases(design):
+def segmentation_cases(design: Designer) -> None:
     """Sizes at the limits of Kb and Kcb, and several code blocks."""
     for b in (192, 200, 560, 568, 640, 648):
         design.add(f"kb-{b}", b - 16, 1024)
@@ -124,14 +138,14 @@ def segmentation_cases(design):
     design.add("many-2-4", 15216, 512, g=16000, qm=8)
 
 
-def patterns(design):
+def patterns(design: Designer) -> None:
     """Blocks of zeros and of ones."""
     for graph, a, rate in ((1, 600, 2048), (2, 704, 1024)):
         for pattern in ("zeros", "ones"):
             design.add(f"{pattern}-{graph}", a, rate, pattern=pattern)
 
 
-def buffer_cases(design):
+def buffer_cases(design: Designer) -> None:
     """Limited buffers at each redundancy version, and what is read of whole ones."""
     for graph, a, rate in ((1, 296, 2048), (2, 24, 2048)):
         for version, (limit, extent) in enumerate(((7, "round"), (13, "round"), (60, "twice"), (80, "end"))):
@@ -145,7 +159,7 @@ def buffer_cases(design):
     design.add("limited-floor", 3832, 512, "round", lbrm=10_007, rv=1)
 
 
-def schedule_cases(design):
+def schedule_cases(design: Designer) -> None:
     """Some code blocks alone, and G shared out in every way."""
     a, rate = 7656, 512
     design.add("mask-single", a, rate, "short", mask="1", qm=2, rv=2, lbrm=9_001)
@@ -157,14 +171,14 @@ def schedule_cases(design):
     design.add("shares-zero", a, rate, g=4, qm=2, rv=3)
 
 
-def long_cases(design):
+def long_cases(design: Designer) -> None:
     """The longest blocks that can be cut, and one of more code blocks than a machine word has bits."""
     design.add("long-1", 1_310_688, 2048, "short", qm=8, nl=4)
     design.add("long-2", 1_310_616, 512, "short", qm=8, nl=3, rv=1)
     design.add("long-mask", 264_576, 512, "short", qm=6, mask="1-3 60-69", rv=2, lbrm=1_000_001)
 
 
-def quick(design):
+def quick(design: Designer) -> None:
     """At most 150 cases."""
     for part in (crc_and_graph_cases, segmentation_cases, patterns, buffer_cases, schedule_cases):
         part(design)
@@ -172,7 +186,7 @@ def quick(design):
     lifting_cases(design)
 
 
-def every_size(design):
+def every_size(design: Designer) -> None:
     """Both ends of every lifting size, each in several transmissions."""
     turn = 0
     for (graph, z), (first, last, rate) in first_sizes().items():
@@ -181,7 +195,7 @@ def every_size(design):
             turn += 1
 
 
-def every_transmission(design):
+def every_transmission(design: Designer) -> None:
     """At both base graphs each version with each extent in each kind of buffer, and each Qm with each NL."""
     for graph, a, rate in ((1, 344, 2048), (2, 24, 2048)):
         kinds = itertools.product(range(4), EXTENTS, (None, 12, 37, 73, 100))
@@ -193,9 +207,9 @@ def every_transmission(design):
             design.add(f"qm{symbol}-nl{layers}-{graph}", a, rate, qm=symbol, nl=layers, rv=symbol // 2 % 4)
 
 
-def several_code_blocks(design):
+def several_code_blocks(design: Designer) -> None:
     """Two to eight code blocks, all and some of them, at each Qm."""
-    counts = {}
+    counts: dict[tuple[int | str, ...], int] = {}
     for graph, a in itertools.product(GRAPHS, itertools.chain(range(3832, 31000, 8), range(31000, 70000, 800))):
         rate = rate_for(graph, a)
         c, exact = pieces(graph, a)
@@ -204,17 +218,17 @@ def several_code_blocks(design):
             counts[graph, c, "after"] = a + 1500
             symbol, layers = SYMBOLS[counts[graph, c] % 5], LAYERS[c % 4]
             mask = ("all", f"0 {c - 1}", f"1-{c - 1}")[counts[graph, c] - 1]
-            sent = {"qm": symbol, "nl": layers, "mask": mask, "rv": counts[graph, c] % 4}
+            sent: dict[str, typing.Any] = {"qm": symbol, "nl": layers, "mask": mask, "rv": counts[graph, c] % 4}
             design.add(f"several-{graph}-{c}-{a}", a, rate, "short", over=1, limit=(None, 45, 80)[c % 3], **sent)
 
 
-def pieces(graph, a):
+def pieces(graph: int, a: int) -> tuple[int, bool]:
     """C of a block in a base graph, and whether it can be cut into so many of one length."""
     plan = planning.plan(a, a + (24 if a > 3824 else 16), rate_for(graph, a))
     return plan["c"], (plan["b"] + plan["c"] * plan["l"]) % plan["c"] == 0
 
 
-def full(design):
+def full(design: Designer) -> None:
     """At most 1,200 cases."""
     quick(design)
     there = set(design.cases)
@@ -226,7 +240,7 @@ def full(design):
     assert there < set(design.cases)
 
 
-def designed(profile, seed):
+def designed(profile: str, seed: int) -> list[Case]:
     """The cases of a profile in their order."""
     design = Designer(seed)
     {"quick": quick, "full": full}[profile](design)

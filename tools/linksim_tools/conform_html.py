@@ -1,6 +1,9 @@
 """The report of a check as one HTML file, which needs no other file."""
 
+from __future__ import annotations
+
 import html
+import typing
 
 from linksim_tools import conform_report as reporting
 from linksim_tools.conform_mistakes import STEPS
@@ -17,11 +20,11 @@ h2 { margin-top: 2rem; } .mistake { border-left: 4px solid #cf222e; padding-left
 """
 
 
-def escaped(text):
+def escaped(text: str) -> str:
     return html.escape(str(text))
 
 
-def rows(made):
+def rows(made: dict[str, typing.Any]) -> typing.Iterator[str]:
     """The rows of the table of steps."""
     for step in made["steps"].values():
         kind = "fail" if step["fail"] else "pass" if step["pass"] else "none"
@@ -29,7 +32,7 @@ def rows(made):
         yield f'<tr class="{kind}"><td>{escaped(step["name"])}</td>{cells}</tr>'
 
 
-def first(made):
+def first(made: dict[str, typing.Any]) -> typing.Iterator[str]:
     """The first difference."""
     found = made["first"]
     failing = made["steps"][found["step"]]["failing"]
@@ -40,7 +43,7 @@ def first(made):
     yield f"<p>{escaped(', '.join(failing))}</p></details>"
 
 
-def finding(found):
+def finding(found: dict[str, typing.Any]) -> typing.Iterator[str]:
     """What was found in a step."""
     for line in reporting.head_lines(found):
         yield f"<p>{escaped(line.strip())}</p>"
@@ -54,7 +57,7 @@ def finding(found):
         yield f"<p>{escaped(line.strip())}</p>"
 
 
-def page(made):
+def page(made: dict[str, typing.Any]) -> typing.Iterator[str]:
     """The lines of the file."""
     yield '<!doctype html>\n<html lang="en">\n<head>\n<meta charset="utf-8">\n<title>Conformance of an encoder</title>'
     yield f"<style>{STYLE}</style>\n</head>\n<body>\n<h1>Conformance of an encoder with TS 38.212</h1>"

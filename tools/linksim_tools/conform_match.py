@@ -1,11 +1,13 @@
 """The model's last steps: rate matching and concatenation (TS 38.212, 5.4.2 and 5.5), each right or with the mistakes
 that are named by their switches."""
 
+from __future__ import annotations
+
 from linksim_tools import conform_bits as lists
 from linksim_tools.rate_matching import STARTS
 
 
-def buffer_length(numbers, length, lbrm, scheduled, wrong):
+def buffer_length(numbers: dict[str, int], length: int, lbrm: int | None, scheduled: int, wrong: frozenset[str]) -> int:
     """Ncb (5.4.2.1), of a codeword of this length."""
     if lbrm is None or "ncb-ignored" in wrong:
         return length
@@ -20,7 +22,7 @@ def buffer_length(numbers, length, lbrm, scheduled, wrong):
     return min(length, max(most, 1))
 
 
-def start(numbers, length, version, wrong):
+def start(numbers: dict[str, int], length: int, version: int, wrong: frozenset[str]) -> int:
     """k0 (Table 5.4.2.1-2) in a buffer of this length."""
     if "rv-order" in wrong:
         version = (0, 2, 3, 1)[version]
@@ -37,7 +39,7 @@ def start(numbers, length, version, wrong):
     return place
 
 
-def lengths(total, symbol, layers, c, scheduled, wrong):
+def lengths(total: int, symbol: int, layers: int, c: int, scheduled: list[int], wrong: frozenset[str]) -> list[int]:
     """E of each code block (5.4.2.1)."""
     unit = symbol if "lengths-no-layers" in wrong else symbol * layers
     count = c if "lengths-count-all" in wrong else len(scheduled)
@@ -51,19 +53,19 @@ def lengths(total, symbol, layers, c, scheduled, wrong):
     return found
 
 
-def round_of(d, first, length):
+def round_of(d: str, first: int, length: int) -> str:
     """The places of a buffer in the order of one round, with fillers."""
     ring = d[:length]
     first %= len(ring)
     return ring[first:] + ring[:first]
 
 
-def repeated(bits, count):
+def repeated(bits: str, count: int) -> str:
     """The first `count` bits of a list that is read round and round."""
     return (bits * -(-count // len(bits)))[:count] if bits else ""
 
 
-def selected(d, first, length, count, wrong):
+def selected(d: str, first: int, length: int, count: int, wrong: frozenset[str]) -> str:
     """e (5.4.2.1): `count` bits of d from place `first` on."""
     places = round_of(d, first, len(d) if "wrapped-at-n" in wrong else length)
     if "fillers-counted" in wrong or "fillers-counted-short" in wrong:
@@ -73,7 +75,7 @@ def selected(d, first, length, count, wrong):
     return live[:count].ljust(count, "0") if "one-round" in wrong else repeated(live, count)
 
 
-def interleaved(e, symbol):
+def interleaved(e: str, symbol: int) -> str:
     """f (5.4.2.2): rows of E / Qm bits, read by columns."""
     columns = len(e) // symbol
     f = bytearray(columns * symbol)
@@ -83,7 +85,7 @@ def interleaved(e, symbol):
     return f.decode()
 
 
-def spread(e, symbol, wrong):
+def spread(e: str, symbol: int, wrong: frozenset[str]) -> str:
     """f of one code block."""
     if "interleaver-by-columns" in wrong:
         return e
@@ -95,7 +97,7 @@ def spread(e, symbol, wrong):
     return f
 
 
-def joined(e, f, symbol, wrong):
+def joined(e: list[str], f: list[str], symbol: int, wrong: frozenset[str]) -> str:
     """The bits that are sent (5.5)."""
     if "interleaver-over-all" in wrong:
         f = [interleaved("".join(e), symbol)]

@@ -1,5 +1,7 @@
 """The mistakes that the checker knows: each has a step, a clause, what is done wrong, and what to change."""
 
+from __future__ import annotations
+
 import dataclasses
 
 # The steps of the chain in their order, each with the names of an answer that show it.
@@ -29,7 +31,7 @@ class Mistake:
     change: str
 
 
-def lines_of(step, text):
+def lines_of(step: str, text: str) -> list[Mistake]:
     """The mistakes of a step: a line with the name, the clause and what is wrong, and behind it what to change."""
     lines = text.strip().splitlines()
     found = []
@@ -222,18 +224,18 @@ MATCHING = (*BUFFER, *LENGTHS, *SELECTION, *INTERLEAVING, *CONCATENATION)
 MISTAKES = {it.name: it for it in (*CODING, *MATCHING)}
 
 
-def of_step(step):
+def of_step(step: str) -> frozenset[str]:
     """The names of the mistakes of a step."""
     return frozenset(it.name for it in MISTAKES.values() if it.step == step)
 
 
-def until(step):
+def until(step: str) -> list[str]:
     """The names of the mistakes that can show in a step: its own, and those before it."""
     order = list(STEPS)
     return [it.name for it in MISTAKES.values() if order.index(it.step) <= order.index(step)]
 
 
-def fields_until(step):
+def fields_until(step: str) -> tuple[str, ...]:
     """The names of an answer that show the steps up to this one."""
     order = list(STEPS)
     return tuple(field for it in order[: order.index(step) + 1] for field in STEPS[it][1])

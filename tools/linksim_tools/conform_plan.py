@@ -1,7 +1,10 @@
 """The model's first steps: CRC, base graph, segmentation and code block CRC (TS 38.212, 5.1, 5.2.2, 6.2), each right or
 with the mistakes that are named by their switches."""
 
+from __future__ import annotations
+
 import functools
+import typing
 
 from linksim_tools import conform_bits as lists
 from linksim_tools.graphs import GRAPHS
@@ -20,7 +23,7 @@ class Impossible(Exception):
     """A mistake leads to a step that cannot be made, as where there is no lifting size."""
 
 
-def crc(bits, name, wrong):
+def crc(bits: str, name: str, wrong: frozenset[typing.Any]) -> str:
     """The parity bits of a list (5.1)."""
     if "crc-24a-24b" in wrong:
         name = {"CRC24A": "CRC24B", "CRC24B": "CRC24A"}.get(name, name)
@@ -33,7 +36,7 @@ def crc(bits, name, wrong):
     return text[::-1] if "crc-parity-lowest-first" in wrong else text
 
 
-def attached(a, wrong):
+def attached(a: str, wrong: frozenset[typing.Any]) -> str:
     """A transport block with its CRC (6.2.1, 7.2.1)."""
     if "octets-lowest-first" in wrong:
         a = lists.each_octet_reversed(a)
@@ -41,7 +44,7 @@ def attached(a, wrong):
     return a + crc(a, "CRC24A" if long != ("crc-exchanged" in wrong) else "CRC16", wrong)
 
 
-def graph_of(a, rate2048, wrong):
+def graph_of(a: int, rate2048: int, wrong: tuple[typing.Any, ...] | frozenset[typing.Any]) -> int:
     """The base graph (6.2.2, 7.2.2)."""
     if "graph-by-rate" in wrong:
         return 2 if 100 * rate2048 <= 67 * 2048 else 1
@@ -57,7 +60,7 @@ def graph_of(a, rate2048, wrong):
     return 2 if a <= 292 or a <= most and low or quarter else 1
 
 
-def columns_filled(graph, a, b, wrong):
+def columns_filled(graph: int, a: int, b: int, wrong: frozenset[typing.Any]) -> int:
     """Kb (5.2.2)."""
     if graph == 1:
         return 22
@@ -67,7 +70,7 @@ def columns_filled(graph, a, b, wrong):
     return 10 if over > 640 else 9 if over > 560 else 8 if over > 192 else 6
 
 
-def lifting_size(graph, kb, kdash, wrong):
+def lifting_size(graph: int, kb: int, kdash: int, wrong: frozenset[typing.Any]) -> int:
     """Zc (5.2.2)."""
     columns = GRAPHS[graph].information if "lifting-by-k" in wrong else kb
     need = kdash + ("lifting-strict" in wrong)
@@ -77,7 +80,7 @@ def lifting_size(graph, kb, kdash, wrong):
     return SIZES[min(place + ("lifting-next" in wrong), len(SIZES) - 1)]
 
 
-def set_index(z, wrong):
+def set_index(z: int, wrong: frozenset[typing.Any]) -> int:
     """The set index of a lifting size (Table 5.3.2-1)."""
     if "set-next" in wrong:
         z = SIZES[min(SIZES.index(z) + 1, len(SIZES) - 1)]
@@ -88,7 +91,7 @@ def set_index(z, wrong):
 
 
 @functools.lru_cache(4096)
-def plan(a, b, rate2048, wrong=frozenset()):
+def plan(a: int, b: int, rate2048: int, wrong: frozenset[typing.Any] = frozenset()) -> dict[str, int]:
     """The numbers of segmentation (5.2.2, 5.3.2)."""
     graph = graph_of(a, rate2048, wrong)
     most = 3840 if "kcb-3840" in wrong else KCB[graph]
@@ -106,14 +109,14 @@ def plan(a, b, rate2048, wrong=frozenset()):
     return dict(zip(PLAN, numbers))
 
 
-def code_blocks(b, numbers, wrong):
+def code_blocks(b: str, numbers: dict[str, int], wrong: frozenset[typing.Any]) -> list[str]:
     """The K' bits of each code block of an attached block (5.2.2)."""
     part, c = numbers["kdash"] - numbers["l"], numbers["c"]
     parts = [b[r * part : (r + 1) * part] for r in range(c)]
     if not numbers["l"]:
         return parts
     zeros = "0" * (numbers["k"] - numbers["kdash"]) if "code-crc-over-fillers" in wrong else ""
-    blocks = []
+    blocks: list[str] = []
     for r, bits in enumerate(parts):
         if r == c - 1 and "crc-after-segmentation" in wrong:
             bits = bits[:-24] + crc("".join(blocks) + bits[:-24], "CRC24A", wrong)

@@ -1,5 +1,7 @@
 """The points of the clauses that the suite is there for, each with what a case must be to cover it."""
 
+from __future__ import annotations
+
 import dataclasses
 import functools
 import typing
@@ -16,9 +18,9 @@ LIMITS = ((288, 2048), (296, 1372), (296, 1373), (3824, 1372), (3824, 1373), (38
 class Facts:
     """The numbers of a case, which need no table."""
 
-    def __init__(self, case: Case):
+    def __init__(self, case: Case) -> None:
         chain = Chain({}, case)
-        nothing = frozenset()
+        nothing: frozenset[str] = frozenset()
         self.case, self.plan = case, chain.plan(nothing)
         self.graph, self.c, self.z = self.plan["graph"], self.plan["c"], self.plan["z"]
         self.a, self.b, self.rate = self.plan["a"], self.plan["b"], case.rate2048
@@ -30,32 +32,32 @@ class Facts:
         self.ones = case.a.count("1")
 
     @functools.cached_property
-    def shares(self):
+    def shares(self) -> list[int]:
         """The lengths of the code blocks that are scheduled."""
         return [self.lengths[r] for r in self.scheduled]
 
     @property
-    def unequal(self):
+    def unequal(self) -> bool:
         """Whether they differ."""
         return len(set(self.shares)) > 1
 
-    def live(self, first, last):
+    def live(self, first: int, last: int) -> int:
         """How many places of d from `first` on before `last` are no fillers."""
         begin, end = self.systematic, self.systematic + self.fillers
         return last - first - max(0, min(last, end) - max(first, begin))
 
     @functools.cached_property
-    def one_round(self):
+    def one_round(self) -> int:
         """How many bits one round of the buffer has."""
         return self.live(0, self.ncb)
 
     @functools.cached_property
-    def to_end(self):
+    def to_end(self) -> int:
         """How many bits stand between k0 and the buffer's end."""
         return self.live(self.k0, self.ncb)
 
     @functools.cached_property
-    def random(self):
+    def random(self) -> bool:
         """Whether the block has about as many ones as zeros."""
         return self.a // 3 <= self.ones <= 2 * self.a // 3
 
@@ -71,15 +73,22 @@ class Point:
     long: bool = False
 
 
-def numbers(clause, name, what, values, read, long=False):
+def numbers(
+    clause: str,
+    name: str,
+    what: str,
+    values: tuple[int, ...],
+    read: typing.Callable[..., typing.Any],
+    long: bool = False,
+) -> list[Point]:
     """A point for each value of a number."""
-    def holds(value):
+    def holds(value: int) -> typing.Callable[..., typing.Any]:
         return lambda facts: read(facts) == value
 
     return [Point(f"{name}-{it}", clause, f"{what} = {it}", holds(it), long) for it in values]
 
 
-def crc_points():
+def crc_points() -> typing.Iterator[Point]:
     """Sizes at the limit of the CRCs, and each CRC."""
     yield from numbers("6.2.1", "a", "A", (8, 3816, 3824, 3832), lambda it: it.a)
     yield Point("crc16", "5.1", "CRC16", lambda it: it.a <= 3824)
@@ -87,16 +96,21 @@ def crc_points():
     yield Point("crc24b", "5.1", "CRC24B of several code blocks", lambda it: it.c > 1)
 
 
-def graph_points():
+def has_both(a: int, rate: int) -> typing.Callable[[Facts], bool]:
+    """Whether a case has this size and this code rate."""
+    return lambda it: (it.a, it.rate) == (a, rate)
+
+
+def graph_points() -> typing.Iterator[Point]:
     """Sizes and code rates at both sides of the limits of the base graph."""
     yield from numbers("6.2.2", "a", "A", (288, 296), lambda it: it.a)
     yield from numbers("6.2.2", "rate", "2048 R", (511, 512, 513, 1371, 1372, 1373), lambda it: it.rate)
     for a, rate in LIMITS:
         text = f"A = {a} at 2048 R = {rate}: base graph {planning.graph_of(a, rate, ())}"
-        yield Point(f"a-{a}-rate-{rate}", "6.2.2", text, lambda it, a=a, rate=rate: (it.a, it.rate) == (a, rate))
+        yield Point(f"a-{a}-rate-{rate}", "6.2.2", text, has_both(a, rate))
 
 
-def at(graph, test):
+def at(graph: int, test: typing.Callable[..., typing.Any]) -> typing.Callable[..., typing.Any]:
     """A test of the cases of one base graph."""
     return lambda it: it.graph == graph and bool(test(it))
 
@@ -114,7 +128,7 @@ PLANS = (
 )
 
 
-def segmentation_points():
+def segmentation_points() -> typing.Iterator[Point]:
     """Each Kb, the limits of Kb and Kcb, and numbers of code blocks and of fillers."""
     yield from numbers("5.2.2", "kb", "Kb", (6, 8, 9, 10, 22), lambda it: it.plan["kb"])
     for b in (192, 200, 560, 568, 640, 648):
@@ -131,10 +145,10 @@ def segmentation_points():
     yield Point("full-columns", "5.2.2", "K' = Kb Zc", lambda it: it.plan["kdash"] == it.plan["kb"] * it.z)
 
 
-@functools.cache
-def first_sizes():
+@functools.lru_cache(maxsize=None)
+def first_sizes() -> dict[tuple[int, int], tuple[int, int, int]]:
     """The first and the last size A of each base graph and lifting size in one code block, and a code rate for it."""
-    found = {}
+    found: dict[tuple[int, int], tuple[int, int, int]] = {}
     for a in range(8, 8425, 8):
         b = a + (24 if a > 3824 else 16)
         for rate in (2048, 512):
@@ -145,7 +159,7 @@ def first_sizes():
     return dict(sorted(found.items()))
 
 
-def lifting_points():
+def lifting_points() -> typing.Iterator[Point]:
     """Each lifting size that a transport block can reach."""
     for graph, z in first_sizes():
         text = f"base graph {graph}, Zc = {z} (set {planning.SETS[z]})"
@@ -160,7 +174,7 @@ BLOCKS = (
 )
 
 
-def encoding_points():
+def encoding_points() -> typing.Iterator[Point]:
     """A single one in each information column, zeros, ones and random bits."""
     for graph in GRAPHS.values():
         number = graph.number
@@ -178,16 +192,19 @@ SELECTIONS = (
      lambda it: it.case.rv == 0 and it.fillers and min(it.shares) > it.systematic),
     ("end", "E to the buffer's end", lambda it: it.to_end in it.shares),
     ("twice", "E more than two rounds", lambda it: max(it.shares) > 2 * it.one_round),
-    ("limit-systematic", "Ncb below K, in the systematic part", lambda it: it.case.lbrm and it.ncb < it.systematic),
+    (
+        "limit-systematic", "Ncb below K, in the systematic part",
+        lambda it: bool(it.case.lbrm) and it.ncb < it.systematic,
+    ),
     ("limit-fillers", "Ncb below K, amid the fillers",
      lambda it: it.case.lbrm and it.fillers and it.systematic < it.ncb < it.systematic + it.fillers),
     ("limit-parity", "Ncb in the parity part",
      lambda it: it.case.lbrm and it.systematic + it.fillers < it.ncb < it.plan["n"]),
-    ("limit-n", "a limit that leaves Ncb = N", lambda it: it.case.lbrm and it.ncb == it.plan["n"]),
+    ("limit-n", "a limit that leaves Ncb = N", lambda it: bool(it.case.lbrm) and it.ncb == it.plan["n"]),
 )
 
 
-def selection_points():
+def selection_points() -> typing.Iterator[Point]:
     """Each redundancy version, and what is read of whole and of limited buffers."""
     for graph in GRAPHS:
         for version in range(4):
@@ -199,10 +216,10 @@ def selection_points():
         for name, text, test in SELECTIONS:
             yield Point(f"graph-{graph}-{name}", "5.4.2.1", f"base graph {graph}, {text}", at(graph, test))
     yield Point("limit-floor", "5.4.2.1", "TBS_LBRM / C rounded down before 2/3 gives another Ncb",
-                lambda it: it.case.lbrm and it.ncb < it.plan["n"] and 3 * (it.case.lbrm // it.c) // 2 != it.ncb)
+                lambda it: it.ncb < it.plan["n"] and 3 * ((it.case.lbrm or 0) // it.c) // 2 != it.ncb)
 
 
-def length_points():
+def length_points() -> typing.Iterator[Point]:
     """How G is shared out, layers and symbols, and which code blocks are sent."""
     yield Point("shares-equal", "5.4.2.1", "E_r shared out evenly", lambda it: len(it.shares) > 1 and not it.unequal)
     yield Point("shares-unequal", "5.4.2.1", "E_r not shared out evenly", lambda it: it.unequal)
@@ -220,18 +237,19 @@ def length_points():
     yield Point("joined", "5.5", "several code blocks joined", lambda it: sum(share > 0 for share in it.shares) > 1)
 
 
-PARTS = (crc_points, graph_points, segmentation_points, lifting_points, encoding_points)
-PARTS += (selection_points, length_points)
+PARTS = [
+    crc_points, graph_points, segmentation_points, lifting_points, encoding_points, selection_points, length_points
+]
 POINTS = {point.name: point for part in PARTS for point in part()}
 
 
-def covered(case):
+def covered(case: Case) -> list[str]:
     """The names of the points that a case covers."""
     facts = Facts(case)
     return [point.name for point in POINTS.values() if point.holds(facts)]
 
 
-def lines(profiles):
+def lines(profiles: dict[str, list[Case]]) -> typing.Iterator[str]:
     """A table of the points: each with the number of cases of each profile that cover it."""
     counts = {profile: dict.fromkeys(POINTS, 0) for profile in profiles}
     for profile, cases in profiles.items():

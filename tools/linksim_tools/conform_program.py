@@ -1,8 +1,10 @@
 """What the program makes of the cases of a suite: all bits of a case are the program's."""
 
-import itertools
+from __future__ import annotations
+
 import pathlib
 import tempfile
+import typing
 
 from linksim_tools import conform_bits as lists
 from linksim_tools import rate_matching
@@ -10,16 +12,19 @@ from linksim_tools.conform_model import scheduled
 from linksim_tools.program import Failed, output_of
 from linksim_tools.vector import HEADER, plan_of
 
+if typing.TYPE_CHECKING:
+    from linksim_tools.conform_model import Case
+
 # The most blocks of a blocks file, and about how many bits one run of the program makes: so its schedule stays below
 # 4,096 transmissions too.
 BLOCKS, BITS = 256, 4_000_000
 
 
-def cut(program, cases):
+def cut(program: pathlib.Path, cases: list[Case]) -> list[tuple[dict[str, int], str, list[str]]]:
     """For each case of one code rate the plan, the attached block and the bits of its code blocks."""
     text = "".join(lists.hexadecimal(case.a) + "\n" for case in cases)
     words = ["cut", "--rate", str(cases[0].rate2048), "--blocks", "-"]
-    found = []
+    found: list[tuple[dict[str, int], typing.Any, list[str]]] = []
     for line in output_of(program, words, text.encode()).splitlines():
         kind, _, *rest = line.split()
         if kind == "block":
@@ -31,7 +36,13 @@ def cut(program, cases):
     return [(plan, attached[0], blocks) for plan, attached, blocks in found]
 
 
-def send(program, table, settings, blocks, lines):
+def send(
+    program: pathlib.Path,
+    table: str | pathlib.Path,
+    settings: tuple[int, int | None],
+    blocks: list[str],
+    lines: list[tuple[typing.Any, ...]],
+) -> typing.Iterator[str]:
     """The bits that the program sends for these lines of a schedule, and refuses for none."""
     with tempfile.TemporaryDirectory() as name:
         folder = pathlib.Path(name)
@@ -40,7 +51,8 @@ def send(program, table, settings, blocks, lines):
         paths["settings"].write_text(f"rate2048 = {rate}\n" + (f"lbrm = {limit}\n" if limit is not None else ""))
         paths["blocks"].write_text("".join(digits + "\n" for digits in blocks))
         paths["schedule"].write_text("\n".join([HEADER, *(",".join(map(str, line)) for line in lines), ""]))
-        words = ["send", "--table", table, *itertools.chain(*((f"--{it}", path) for it, path in paths.items()))]
+        files = [word for it, path in paths.items() for word in (f"--{it}", str(path))]
+        words = ["send", "--table", str(table), *files]
         answers = output_of(program, words).splitlines()
     for answer, line in zip(answers, lines):
         kind, _, _, digits = answer.split()
@@ -49,13 +61,13 @@ def send(program, table, settings, blocks, lines):
         yield lists.of_digits(digits, line[2])
 
 
-def codeword_lines(number, plan):
+def codeword_lines(number: int, plan: dict[str, int]) -> list[tuple[int | str, ...]]:
     """Lines of a schedule that send each code block alone, all of it but its fillers, from the whole buffer."""
     count = plan["n"] - (plan["k"] - plan["kdash"])
     return [(number, 0, count, 1, 1, "-", "-", r) for r in range(plan["c"])]
 
 
-def transmission_lines(number, case, shares):
+def transmission_lines(number: int, case: Case, shares: dict[int, int]) -> list[tuple[int | str, ...]]:
     """Lines that send the transmission itself, and each of its code blocks alone: as it is, and not interleaved."""
     alone = [
         (number, case.rv, count, *form, "-", "-", r)
@@ -64,15 +76,16 @@ def transmission_lines(number, case, shares):
     return [(number, case.rv, case.g, case.qm, case.nl, "-", "-", case.mask), *alone]
 
 
-def with_fillers(plan, bits):
+def with_fillers(plan: dict[str, int], bits: str) -> str:
     """d of the bits that are sent of it."""
     first = plan["kdash"] - 2 * plan["z"]
     return bits[:first] + lists.FILLER * (plan["k"] - plan["kdash"]) + bits[first:]
 
 
-def groups(cases, size):
+def groups(cases: list[Case], size: typing.Callable[..., typing.Any]) -> list[list[Case]]:
     """The cases in groups that have the same settings, none too long for one run of the program."""
-    found, most = {}, {}
+    found: dict[typing.Any, list[Case]] = {}
+    most: dict[typing.Any, int] = {}
     for case in cases:
         key = (case.rate2048, case.lbrm)
         group = found.setdefault((key, most.get(key, 0)), [])
@@ -83,7 +96,7 @@ def groups(cases, size):
     return list(found.values())
 
 
-def transmissions_of(case):
+def transmissions_of(case: Case) -> int:
     """About how many bits a case makes, for groups."""
     return 8 * len(case.a) + 2 * case.g
 
@@ -91,14 +104,14 @@ def transmissions_of(case):
 class Made:
     """One case as the program has it."""
 
-    def __init__(self, case, plan, attached, blocks):
+    def __init__(self, case: Case, plan: dict[str, int], attached: str, blocks: list[str]) -> None:
         self.case, self.plan, self.attached, self.blocks = case, plan, attached, blocks
         named = scheduled(case.mask, plan["c"])
         self.shares = rate_matching.lengths(case.g, case.qm, case.nl, named)
         self.length = rate_matching.buffer_length(plan, case.lbrm)
         self.start = rate_matching.start(plan, self.length, case.rv)
 
-    def take(self, words, bits):
+    def take(self, words: typing.Iterator[typing.Any], bits: typing.Iterator[typing.Any]) -> None:
         """Takes d of each code block and the bits of the transmission's lines, in their order."""
         count = self.plan["c"]
         self.d = [with_fillers(self.plan, next(words)) for _ in range(count)]
@@ -108,15 +121,17 @@ class Made:
             if share:
                 self.e[r], self.f[r] = next(bits), next(bits)
 
-    def values(self):
+    def values(self) -> dict[str, typing.Any]:
         """What the model is held to, by the names of an answer."""
         lengths = [self.shares.get(r, 0) for r in range(self.plan["c"])]
-        values = {"attached": self.attached, "graph": self.plan["graph"], "plan": self.plan, "bits": self.blocks}
-        values |= {"d": self.d, "Ncb": self.length, "k0": self.start, "E": lengths}
-        return values | {"e": self.e, "f": self.f, "sent": self.sent}
+        values: dict[str, typing.Any] = {
+            "attached": self.attached, "graph": self.plan["graph"], "plan": self.plan, "bits": self.blocks
+        }
+        values.update({"d": self.d, "Ncb": self.length, "k0": self.start, "E": lengths})
+        return {**values, "e": self.e, "f": self.f, "sent": self.sent}
 
 
-def made(program, table, cases):
+def made(program: pathlib.Path, table: str | pathlib.Path, cases: list[Case]) -> typing.Iterator[Made]:
     """Each case as the program has it, in no order."""
     for group in groups(cases, transmissions_of):
         rate, limit = group[0].rate2048, group[0].lbrm

@@ -1,15 +1,23 @@
 """The report of a check: as text for a terminal, and as an object for JSON and HTML."""
 
+from __future__ import annotations
+
+import typing
+
 from linksim_tools import conform_diagnosis as diagnosing
-from linksim_tools.conform_diagnosis import PAIRS
+from linksim_tools.conform_diagnosis import PAIRS as PAIRS
 from linksim_tools.conform_mistakes import MISTAKES, STEPS
 from linksim_tools.conform_steps import Difference, states
+
+if typing.TYPE_CHECKING:
+    from linksim_tools.conform_model import Case
+    from linksim_tools.conform_suite import Suite
 
 # How many failing cases are listed.
 LISTED = 12
 
 
-def about(case):
+def about(case: Case) -> str:
     """A case in a few words."""
     limit = "" if case.lbrm is None else f", TBS_LBRM = {case.lbrm}"
     mask = "" if case.mask == "all" else f", code blocks {case.mask}"
@@ -17,13 +25,13 @@ def about(case):
     return f"A = {len(case.a)}, 2048 R = {case.rate2048}, {sent}{limit}{mask}"
 
 
-def mistakes(names):
+def mistakes(names: list[str]) -> list[dict[str, str]]:
     """Mistakes as objects."""
     keys = ("name", "clause", "wrong", "change")
     return [{key: getattr(MISTAKES[name], key) for key in keys} for name in names]
 
 
-def nearest(found):
+def nearest(found: diagnosing.Found) -> typing.Any:
     """The mistake that gives most of the smallest failing cases, as an object, or None."""
     if found.nearest is None:
         return None
@@ -31,7 +39,7 @@ def nearest(found):
     return {"mistakes": mistakes(sorted(names)), "gives": count, "of": cases}
 
 
-def finding(suite, found, before):
+def finding(suite: Suite, found: diagnosing.Found, before: list[typing.Any]) -> dict[str, typing.Any]:
     """What was found in a step, as an object."""
     smallest = suite.cases[found.failing[0]]
     return {
@@ -50,9 +58,9 @@ def finding(suite, found, before):
     }
 
 
-def steps_of(suite, by_step):
+def steps_of(suite: Suite, by_step: dict[str, dict[str, str]]) -> dict[str, dict[str, typing.Any]]:
     """How many cases pass, fail and were not answered, by step, and which fail, small ones first."""
-    found = {}
+    found: dict[str, dict[str, typing.Any]] = {}
     for step, cases in by_step.items():
         counted = list(cases.values())
         failing = [name for name, it in cases.items() if it == "fail"]
@@ -62,12 +70,16 @@ def steps_of(suite, by_step):
     return found
 
 
-def judged(suite, answers, troubles=()):
+def judged(
+    suite: Suite, answers: dict[str, dict[str, typing.Any]], troubles: typing.Sequence[str] = ()
+) -> dict[str, typing.Any]:
     """The report as an object, without a diagnosis. `troubles` are lines about answers that could not be judged."""
     steps = steps_of(suite, states(answers, suite))
     failed = next((step for step in STEPS if steps[step]["fail"]), None)
-    made = {"suite": suite.path, "profile": suite.profile, "cases": len(suite.cases), "answered": len(answers)}
-    made |= {"troubles": list(troubles), "steps": steps, "first": None, "diagnosis": []}
+    made: dict[str, typing.Any] = {
+        "suite": suite.path, "profile": suite.profile, "cases": len(suite.cases), "answered": len(answers)
+    }
+    made.update({"troubles": list(troubles), "steps": steps, "first": None, "diagnosis": []})
     if failed is not None:
         name = steps[failed]["failing"][0]
         lines = Difference(suite, name, failed, answers[name]).lines()
@@ -75,28 +87,30 @@ def judged(suite, answers, troubles=()):
     return made
 
 
-def report(suite, answers, troubles=()):
+def report(
+    suite: Suite, answers: dict[str, dict[str, typing.Any]], troubles: typing.Sequence[str] = ()
+) -> dict[str, typing.Any]:
     """The whole report as an object."""
     made = judged(suite, answers, troubles)
-    before = []
+    before: list[str] = []
     for found in diagnosing.diagnosis(suite, answers) if made["first"] else []:
         made["diagnosis"].append(finding(suite, found, list(before)))
         before += found.names[0] if found.names else []
     return made
 
 
-def status(made):
+def status(made: dict[str, typing.Any]) -> int:
     """The status of a check: 1 where something differs, or could not be judged."""
     return 1 if made["first"] or made["troubles"] else 0
 
 
-def table_lines(made):
+def table_lines(made: dict[str, typing.Any]) -> typing.Iterator[str]:
     yield f"{'step':16} {'pass':>6} {'fail':>6} {'not answered':>13}"
     for step in made["steps"].values():
         yield f"{step['name']:16} {step['pass']:6} {step['fail']:6} {step['not_answered']:13}"
 
 
-def first_lines(made):
+def first_lines(made: dict[str, typing.Any]) -> typing.Iterator[typing.Any]:
     first = made["first"]
     failing = made["steps"][first["step"]]["failing"]
     yield f"first difference, step {STEPS[first['step']][0]}, in the smallest case that fails: {first['id']}"
@@ -106,7 +120,7 @@ def first_lines(made):
     yield f"  cases that fail in this step: {', '.join(failing[:LISTED])}{more}"
 
 
-def alternatives(found):
+def alternatives(found: dict[str, typing.Any]) -> typing.Any:
     """What is said of several mistakes of which each fits."""
     if found["told_apart_by"] is None:
         return "these give the same bits in every case of this suite, so it cannot tell them apart:"
@@ -116,7 +130,7 @@ def alternatives(found):
     return f"each of these gives all that was answered; answer {name} too, and they are told apart:"
 
 
-def head_lines(found):
+def head_lines(found: dict[str, typing.Any]) -> typing.Iterator[str]:
     """What is said of a step before its mistakes."""
     step = STEPS[found["step"]][0]
     behind = f" (with {', '.join(found['behind'])} made right)" if found["behind"] else ""
@@ -140,13 +154,13 @@ def head_lines(found):
         yield "  " + alternatives(found)
 
 
-def more(found):
+def more(found: dict[str, typing.Any]) -> list[typing.Any]:
     """What is said of mistakes that are not listed."""
     left = len(found["mistakes"]) - PAIRS
     return [f"  and {left} more"] if left > 0 else []
 
 
-def finding_lines(found):
+def finding_lines(found: dict[str, typing.Any]) -> typing.Iterator[typing.Any]:
     """The lines of what was found in a step."""
     yield from head_lines(found)
     for pair in found["mistakes"][:PAIRS]:
@@ -158,7 +172,7 @@ def finding_lines(found):
     yield from more(found)
 
 
-def text(made):
+def text(made: dict[str, typing.Any]) -> typing.Iterator[str]:
     """The lines of the report for a terminal."""
     yield f"suite {made['profile']}: {made['cases']} cases, {made['answered']} answered"
     yield from table_lines(made)

@@ -1,14 +1,20 @@
 """Runs an encoder on a suite: a line for each case to its standard input, and an answer from its standard output."""
 
+from __future__ import annotations
+
 import json
 import os
 import select
 import subprocess
 import time
+import typing
 
 from linksim_tools import conform_plain, conform_suite
 from linksim_tools.conform_answers import Repeated, Wrong, answer_of, most_octets
 from linksim_tools.program import Failed
+
+if typing.TYPE_CHECKING:
+    from linksim_tools.conform_model import Case
 
 CHUNK = 1 << 16
 
@@ -26,16 +32,17 @@ class Stopped(Exception):
 class Encoder:
     """A running command that answers line by line."""
 
-    def __init__(self, command, most):
+    def __init__(self, command: list[str], most: int) -> None:
         self.most, self.rest, self.scanned, self.whole, self.left = most, b"", 0, b"", b""
         try:
             self.process = subprocess.Popen(command, stdin=subprocess.PIPE, stdout=subprocess.PIPE, bufsize=0)
         except OSError as error:
             raise Failed(f"{command[0]} cannot be started: {error.strerror}") from None
+        assert self.process.stdin and self.process.stdout
         self.input, self.output = self.process.stdin.fileno(), self.process.stdout.fileno()
         os.set_blocking(self.input, False)
 
-    def ended(self):
+    def ended(self) -> str:
         """Why there is no more output."""
         try:
             status = self.process.wait(1)
@@ -43,7 +50,7 @@ class Encoder:
             return "the command has closed its standard output"
         return f"the command was ended by signal {-status}" if status < 0 else f"the command ended with status {status}"
 
-    def write(self):
+    def write(self) -> None:
         """Writes as much of the question as fits; a command that reads no more may still answer."""
         try:
             self.left = self.left[os.write(self.input, self.left[:CHUNK]) :]
@@ -52,14 +59,14 @@ class Encoder:
         except BrokenPipeError:
             self.left = b""
 
-    def take(self):
+    def take(self) -> None:
         """Reads some output."""
         found = os.read(self.output, CHUNK)
         if not found:
             raise Stopped(self.ended())
         self.rest += found
 
-    def line(self):
+    def line(self) -> bytes | None:
         """The first whole line of what was read and is left, or None."""
         end = self.rest.find(b"\n", self.scanned)
         self.scanned = len(self.rest)
@@ -70,11 +77,11 @@ class Encoder:
         line, self.rest, self.scanned = self.rest[:end], self.rest[end + 1 :], 0
         return line
 
-    def ask(self, line):
+    def ask(self, line: str) -> None:
         """Has a line to be written next."""
         self.whole = self.left = line.encode() + b"\n"
 
-    def answer(self, seconds):
+    def answer(self, seconds: float) -> bytes:
         """The next line of the command, which has so long for it. It is not given while a question is half written."""
         deadline = time.monotonic() + seconds
         found = None
@@ -91,8 +98,9 @@ class Encoder:
             if readable:
                 self.take()
 
-    def end(self):
+    def end(self) -> None:
         """Closes its input, waits a little, and ends it where it goes on."""
+        assert self.process.stdin and self.process.stdout
         self.process.stdin.close()
         try:
             self.process.wait(1)
@@ -102,7 +110,7 @@ class Encoder:
         self.process.stdout.close()
 
 
-def question(case, suite, form, plain):
+def question(case: Case, suite: conform_suite.Suite, form: str, plain: bool) -> str:
     """The line that an encoder is given of a case."""
     if plain:
         return conform_plain.line_of(case, suite.values[case.id]["plan"]["c"])
@@ -112,11 +120,12 @@ def question(case, suite, form, plain):
 class Run:
     """A run of an encoder on a suite: what it answered by id, and lines about what could not be judged."""
 
-    def __init__(self, encoder, suite, plain, seconds):
+    def __init__(self, encoder: Encoder, suite: conform_suite.Suite, plain: bool, seconds: float) -> None:
         self.encoder, self.suite, self.plain, self.seconds = encoder, suite, plain, seconds
-        self.there, self.troubles = {}, []
+        self.there: dict[str, dict[str, typing.Any]] = {}
+        self.troubles: list[str] = []
 
-    def take(self, case, seconds):
+    def take(self, case: Case, seconds: float) -> bool:
         """Takes the answer to a case; says whether it was one to a case before, which another may follow."""
         line = self.encoder.answer(seconds)
         try:
@@ -127,7 +136,7 @@ class Run:
             return isinstance(wrong, Repeated)
         return False
 
-    def take_after(self, case):
+    def take_after(self, case: Case) -> None:
         """Takes what follows a line too many: the question may be unwritten yet, else the answer comes soon."""
         if self.encoder.left:
             self.take(case, self.seconds)
@@ -137,7 +146,7 @@ class Run:
         except Stopped:
             pass
 
-    def go(self, questions):
+    def go(self, questions: typing.Iterator[typing.Any]) -> None:
         """Asks all cases, until the command answers no more."""
         for number, (case, line) in enumerate(questions, 1):
             try:
@@ -152,7 +161,9 @@ class Run:
                 return
 
 
-def answers(command, suite, form, plain, seconds):
+def answers(
+    command: list[str], suite: conform_suite.Suite, form: str, plain: bool, seconds: float
+) -> tuple[dict[str, dict[str, typing.Any]], list[str]]:
     """The answers of a command by id, and lines about what could not be judged."""
     encoder = Encoder(command, most_octets(suite))
     run = Run(encoder, suite, plain, seconds)

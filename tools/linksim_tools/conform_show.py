@@ -1,12 +1,15 @@
 """One case of a suite as a vector, as tools/vectors writes it: an object with a code block a line."""
 
+from __future__ import annotations
+
 import json
+import typing
 
 from linksim_tools import conform_suite
 from linksim_tools.program import Failed
 
 
-def found(path, wanted):
+def found(path: str, wanted: str) -> dict[str, typing.Any]:
     """The object of a case in a suite file."""
     try:
         file = open(path, encoding="utf-8", errors="replace")
@@ -20,7 +23,7 @@ def found(path, wanted):
     raise Failed(f"{path} has no case {wanted}")
 
 
-def lines(path, wanted):
+def lines(path: str, wanted: str) -> typing.Iterator[str]:
     """The lines of the case."""
     value = found(path, wanted)
     yield "{"

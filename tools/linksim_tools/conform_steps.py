@@ -1,21 +1,29 @@
 """What an answer has right, step by step of the chain, and the first difference in the terms of the clause."""
 
+from __future__ import annotations
+
+import typing
+
 from linksim_tools import conform_bits as lists
 from linksim_tools.conform_mistakes import STEPS
 from linksim_tools.graphs import GRAPHS
+
+if typing.TYPE_CHECKING:
+    from linksim_tools.conform_suite import Suite
 
 # How many entries of a row are shown.
 SHOWN = 24
 
 
-def same(field, found, right):
+def same(field: str, found: typing.Any, right: typing.Any) -> bool:
     """Whether an answered value is the right one; of a plan as many numbers as are there."""
     if field == "plan":
         return all(right[name] == it for name, it in found.items())
-    return found == right
+    is_same: bool = found == right
+    return is_same
 
 
-def state(step, found, right):
+def state(step: str, found: dict[str, typing.Any], right: dict[str, typing.Any]) -> str:
     """How a case does in a step: `pass`, `fail`, or `none` where it was not answered."""
     fields = [field for field in STEPS[step][1] if field in found]
     if not fields:
@@ -23,14 +31,14 @@ def state(step, found, right):
     return "pass" if all(same(field, found[field], right[field]) for field in fields) else "fail"
 
 
-def states(answers, suite):
+def states(answers: dict[str, dict[str, typing.Any]], suite: Suite) -> dict[str, dict[str, str]]:
     """By step and case how it does."""
     return {
         step: {name: state(step, answers.get(name, {}), suite.values[name]) for name in suite.cases} for step in STEPS
     }
 
 
-def first_place(found, right):
+def first_place(found: typing.Sequence[object], right: typing.Sequence[object]) -> int:
     """The first index at which two lists of bits differ."""
     return next((it for it, (one, two) in enumerate(zip(found, right)) if one != two), min(len(found), len(right)))
 
@@ -38,35 +46,36 @@ def first_place(found, right):
 class Difference:
     """The first difference of a case in a step, in words."""
 
-    def __init__(self, suite, name, step, found):
+    def __init__(self, suite: Suite, name: str, step: str, found: dict[str, typing.Any]) -> None:
         self.case, self.right, self.found = suite.cases[name], suite.values[name], found
         self.tables, self.plan, self.step = suite.tables, self.right["plan"], step
         self.z, self.information = self.plan["z"], GRAPHS[self.plan["graph"]].information
 
-    def lines(self):
+    def lines(self) -> list[str]:
         """What differs: one line or a few."""
         fields = (field for field in STEPS[self.step][1] if field in self.found)
         field = next(it for it in fields if not same(it, self.found[it], self.right[it]))
-        return getattr(self, f"of_{field}")(self.found[field], self.right[field])
+        lines: list[str] = getattr(self, f"of_{field}")(self.found[field], self.right[field])
+        return lines
 
-    def of_graph(self, found, right):
+    def of_graph(self, found: typing.Any, right: typing.Any) -> list[str]:
         case = self.case
         return [f"base graph {found}, right is {right}: A = {len(case.a)}, R = {case.rate2048} / 2048 (6.2.2, 7.2.2)"]
 
-    def of_plan(self, found, right):
+    def of_plan(self, found: typing.Any, right: typing.Any) -> list[str]:
         names = {"kdash": "K'", "kb": "Kb", "z": "Zc", "set": "the set index"}
         wrong = [(names.get(name, name.upper()), it, right[name]) for name, it in found.items() if right[name] != it]
         return [f"{name} is {one}, right is {other} (5.2.2, 5.3.2)" for name, one, other in wrong]
 
-    def of_Ncb(self, found, right):
+    def of_Ncb(self, found: typing.Any, right: typing.Any) -> list[str]:
         limit = "no limit" if self.case.lbrm is None else f"TBS_LBRM = {self.case.lbrm}"
         return [f"Ncb is {found}, right is {right}: N = {self.plan['n']}, {limit}, C = {self.plan['c']} (5.4.2.1)"]
 
-    def of_k0(self, found, right):
+    def of_k0(self, found: typing.Any, right: typing.Any) -> list[str]:
         case = f"rv = {self.case.rv}, Ncb = {self.right['Ncb']}, Zc = {self.z}"
         return [f"k0 is {found}, right is {right}: {case} (Table 5.4.2.1-2)"]
 
-    def of_E(self, found, right):
+    def of_E(self, found: list[int], right: list[int]) -> list[str]:
         if len(found) != len(right):
             return [f"E of {len(found)} code blocks, right is C = {len(right)} (5.2.2)"]
         r = first_place(found, right)
@@ -76,7 +85,7 @@ class Difference:
             f"G = {case.g}, NL = {case.nl}, Qm = {case.qm}, sent are {case.mask} of C = {self.plan['c']} code blocks",
         ]
 
-    def bit(self, found, right, what):
+    def bit(self, found: str, right: str, what: str) -> tuple[str, int | None]:
         """The line of a first differing bit, and its place, or None where one list ends there; a list that is too short
         or too long is told by its length."""
         place = first_place(found, right)
@@ -86,15 +95,17 @@ class Difference:
         words = {"0": "0", "1": "1", lists.FILLER: "a filler"}
         return f"{what}: bit {place} is {words[found[place]]}, right is {words[right[place]]}", place
 
-    def of_blocks(self, found, right, name, explain):
+    def of_blocks(
+        self, found: list[str], right: list[str], name: str, explain: typing.Callable[[int, int], list[str]]
+    ) -> list[str]:
         """The first difference of lists of all code blocks; `explain` has more words for a place of code block r."""
         if len(found) != len(right):
             return [f"{name} of {len(found)} code blocks, right is C = {len(right)} (5.2.2)"]
         r = first_place(found, right)
         line, place = self.bit(found[r], right[r], f"{name} of code block r = {r}")
-        return [line] + (explain(r, place) if place is not None else [])
+        return [line, *(explain(r, place) if place is not None else [])]
 
-    def of_attached(self, found, right):
+    def of_attached(self, found: typing.Any, right: typing.Any) -> list[str]:
         line, place = self.bit(found, right, "b, the block with its CRC")
         if place is None:
             return [line + " (6.2.1, 7.2.1)"]
@@ -102,8 +113,8 @@ class Difference:
         part = f"bit a_{place} of the block itself" if place < a else f"parity bit p_{place - a} of {len(right) - a}"
         return [f"{line}: {part} (5.1)"]
 
-    def of_bits(self, found, right):
-        def explain(r, place):
+    def of_bits(self, found: typing.Any, right: typing.Any) -> list[str]:
+        def explain(r: int, place: int) -> list[str]:
             part = self.plan["kdash"] - self.plan["l"]
             if place >= part:
                 return [f"it is parity bit p_{place - part} of the code block's CRC24B (5.1, 5.2.2)"]
@@ -111,38 +122,38 @@ class Difference:
 
         return self.of_blocks(found, right, "the bits", explain)
 
-    def position(self, n):
+    def position(self, n: int) -> tuple[str, list[str]]:
         """Words for bit n of d: its column, and the row that fixes it."""
         column, t = divmod(n + 2 * self.z, self.z)
         if column < self.information:
             kind = "a filler" if n + 2 * self.z >= self.plan["kdash"] else f"bit {n + 2 * self.z} of the code block"
             return f"column j = {column}, bit t = {t} of Zc = {self.z}: {kind}", []
         place = column - self.information
-        row = "the sum of rows 0 to 3" if place == 0 else f"row {place - 1 if place < 4 else place}"
-        rows = range(4) if place == 0 else [place - 1 if place < 4 else place]
-        place = f"column j = {column}, bit t = {t} of Zc = {self.z}"
-        return f"{place}; {row} fixes it (5.3.2)", [self.row(row) for row in rows]
+        name = "the sum of rows 0 to 3" if place == 0 else f"row {place - 1 if place < 4 else place}"
+        rows = list(range(4)) if place == 0 else [place - 1 if place < 4 else place]
+        words = f"column j = {column}, bit t = {t} of Zc = {self.z}"
+        return f"{words}; {name} fixes it (5.3.2)", [self.row(row) for row in rows]
 
-    def row(self, row):
+    def row(self, row: int) -> str:
         """The entries of a row with their shifts."""
         index, entries = self.plan["set"], self.tables[self.plan["graph"]][row]
         shown = " ".join(f"{column}:{values[index] % self.z}" for column, values in entries[:SHOWN])
         return f"row {row}, set {index}, column:P = {shown}" + (" .." if len(entries) > SHOWN else "")
 
-    def of_d(self, found, right):
-        def explain(r, place):
+    def of_d(self, found: list[str], right: list[str]) -> list[str]:
+        def explain(r: int, place: int) -> list[str]:
             words, rows = self.position(place)
             return [f"it is {words}", *rows]
 
         return self.of_blocks(found, right, "d", explain)
 
-    def places(self, r):
+    def places(self, r: int) -> list[int]:
         """The places of d from which the bits of e of a code block come, for one round."""
         d, length, first = self.right["d"][r], self.right["Ncb"], self.right["k0"]
         ring = [place % length for place in range(first, first + length)]
         return [place for place in ring if d[place] != lists.FILLER]
 
-    def from_d(self, r, j):
+    def from_d(self, r: int, j: int) -> str:
         """Words for the place from which e_j comes."""
         places = self.places(r)
         turn = f", in round {j // len(places) + 1}" if j >= len(places) else ""
@@ -150,10 +161,10 @@ class Difference:
         words, _ = self.position(n)
         return f"e_{j} is d_{n}{turn} (k0 = {self.right['k0']}, Ncb = {self.right['Ncb']}; 5.4.2.1): {words}"
 
-    def of_e(self, found, right):
+    def of_e(self, found: typing.Any, right: typing.Any) -> list[str]:
         return self.of_blocks(found, right, "e", lambda r, place: [self.from_d(r, place)])
 
-    def from_e(self, r, m):
+    def from_e(self, r: int, m: int) -> list[str]:
         """Words for the place of f of a code block."""
         symbol = self.case.qm
         columns = len(self.right["e"][r]) // symbol
@@ -162,10 +173,10 @@ class Difference:
         text = f"symbol {j}, bit {i} of Qm = {symbol}: f_{m} is e_{e} (E / Qm = {columns}; 5.4.2.2)"
         return [text, self.from_d(r, e)]
 
-    def of_f(self, found, right):
+    def of_f(self, found: typing.Any, right: typing.Any) -> list[str]:
         return self.of_blocks(found, right, "f", self.from_e)
 
-    def of_sent(self, found, right):
+    def of_sent(self, found: typing.Any, right: typing.Any) -> list[str]:
         line, place = self.bit(found, right, "the bits sent")
         if place is None:
             return [line + " (5.5)"]

@@ -1,17 +1,24 @@
 """How far a run of a curve is: how many chunks it will probably want still, and the bar that shows it."""
 
+from __future__ import annotations
+
 import sys
 import time
+import typing
 
 from linksim_tools.curve_results import Line, totals
 from linksim_tools.program import name_of
+
+if typing.TYPE_CHECKING:
+    from linksim_tools.curve_setting import Setting
 
 # Beyond so many chunks a run is not thought through.
 MOST = 10_000
 
 
-def share_at(points, p, n):
-    """The share of failed rounds after transmission n, from 0, at a probability: on the line between the points around it."""
+def share_at(points: list[Line], p: float, n: int) -> float:
+    """The share of failed rounds after transmission n, from 0, at a probability: on the line between the points around
+    it."""
     shares = [(line.p, line.failed[n] / line.rounds) for line in points]
     for (low, one), (high, other) in zip(shares, shares[1:]):
         if low <= p <= high:
@@ -19,7 +26,7 @@ def share_at(points, p, n):
     return shares[0][1] if p < shares[0][0] else shares[-1][1]
 
 
-def predicted(points, p, chunk):
+def predicted(points: list[Line], p: float, chunk: int) -> Line:
     """A chunk as it would be where the shares are those at its probability; over several chunks no round is lost."""
     rounds = points[0].rounds // points[0].chunk
     shares = [rounds * share_at(points, p, n) for n in range(len(points[0].failed))]
@@ -27,9 +34,9 @@ def predicted(points, p, chunk):
     return Line(p, chunk, rounds, points[0].c, failed, failed, failed)
 
 
-def outlook(setting, lines, wanted):
-    """How many chunks a run will probably want beyond these; or nothing where that cannot be said: a point of the grid has
-    none yet, or they are very many. `wanted` says which come next (curve_run)."""
+def outlook(setting: Setting, lines: list[Line], wanted: typing.Callable[..., typing.Any]) -> int | None:
+    """How many chunks a run will probably want beyond these; or nothing where that cannot be said: a point of the grid
+    has none yet, or they are very many. `wanted` says which come next (curve_run)."""
     tasks, known, count = wanted(setting, lines), list(lines), 0
     if not lines or any(p in setting.points for p, chunk in tasks if chunk == 0):
         return None
@@ -44,28 +51,28 @@ def outlook(setting, lines, wanted):
 class Bar:
     """How far a run is, on standard error: over itself on a terminal, else a line now and then."""
 
-    def __init__(self):
+    def __init__(self) -> None:
         self.done, self.count, self.more, self.start, self.said = 0, 0, False, time.monotonic(), 0.0
         self.over = sys.stderr.isatty()
 
-    def expect(self, tasks, foreseen):
+    def expect(self, tasks: int, foreseen: int | None) -> None:
         """These tasks come next, and `foreseen` are all that come; or nothing where that cannot be said."""
         self.count, self.more = self.done + max(tasks, foreseen or 0), foreseen is None
         self.show("")
 
-    def step(self, p):
+    def step(self, p: float) -> None:
         """One more chunk is there."""
         self.done += 1
         self.show(f" p {p}")
 
-    def left(self):
+    def left(self) -> str:
         """How long it will take still."""
         if not 0 < self.done < self.count:
             return ""
         rest = int((time.monotonic() - self.start) / self.done * (self.count - self.done))
         return f", {rest // 60}:{rest % 60:02} left{' for these' if self.more else ''}"
 
-    def show(self, at):
+    def show(self, at: str) -> None:
         now = time.monotonic()
         if not self.over and 0 < self.done < self.count and now - self.said < 10:
             return
@@ -75,13 +82,13 @@ class Bar:
         text = f"{name_of('curve')}: [{'#' * filled}{'.' * (30 - filled)}] {count}{self.left()}{at}"
         print(f"\r\033[K{text}" if self.over else text, end="" if self.over else "\n", file=sys.stderr, flush=True)
 
-    def finish(self):
+    def finish(self) -> None:
         """All that is wanted is there, which may be fewer chunks than were foreseen."""
         if self.count > self.done:
             self.count = self.done
             self.show("")
 
-    def close(self):
+    def close(self) -> None:
         """Ends the line of a terminal."""
         if self.over and self.count:
             print(file=sys.stderr)

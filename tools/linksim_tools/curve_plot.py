@@ -1,15 +1,22 @@
 """The picture of a curve: what was measured, and what theory says of it."""
 
+from __future__ import annotations
+
 import math
 import os
 import pathlib
 import shlex
 import sys
+import typing
 
 from linksim_tools import curve_theory
 from linksim_tools.curve_results import wilson
 from linksim_tools.curve_sets import short_path
 from linksim_tools.program import Failed, Wrong, name_of
+
+if typing.TYPE_CHECKING:
+    from linksim_tools.curve_results import Line
+    from linksim_tools.curve_setting import Setting
 
 # Debian's own Python, which has Debian's packages, also where another python3 stands before it.
 DEBIAN_PYTHON = "/usr/bin/python3"
@@ -27,14 +34,16 @@ LEAST_WIDTH = 0.06
 LOWEST = 1e-7
 
 
-def libraries():
-    """matplotlib and numpy; where this Python lacks them and Debian's has them, that one goes on with the same words."""
+def libraries() -> typing.Any:
+    """matplotlib and numpy; where this Python lacks them and Debian's has them, that one goes on with the same
+    words."""
     try:
         import matplotlib
         import numpy
     except ImportError:
         other = os.path.realpath(DEBIAN_PYTHON)
-        if "LINKSIM_CURVE_PYTHON" not in os.environ and os.access(other, os.X_OK) and other != os.path.realpath(sys.executable):
+        is_other = os.access(other, os.X_OK) and other != os.path.realpath(sys.executable)
+        if "LINKSIM_CURVE_PYTHON" not in os.environ and is_other:
             os.execve(other, [other, *sys.argv], {**os.environ, "LINKSIM_CURVE_PYTHON": other})
         raise Failed(PACKAGES) from None
     matplotlib.use("svg")
@@ -47,9 +56,9 @@ def libraries():
     return pyplot, numpy
 
 
-def theory_of(setting, code, after, numpy):
-    """For a number of transmissions the erasure limit, the density evolution threshold and the counting bound; over flips
-    there is neither, and the bound is how often some bit is flipped."""
+def theory_of(setting: Setting, code: curve_theory.Code | None, after: int, numpy: typing.Any) -> typing.Any:
+    """For a number of transmissions the erasure limit, the density evolution threshold and the counting bound; over
+    flips there is neither, and the bound is how often some bit is flipped."""
     if code is None:
         return None, None, lambda p: -math.expm1(after * setting.g * math.log1p(-p)) if p < 1 else 1.0
     limit = curve_theory.erasure_limit(setting, after)
@@ -57,22 +66,29 @@ def theory_of(setting, code, after, numpy):
     return limit, threshold, curve_theory.counting_bound(setting, code, after, numpy)
 
 
-def draw_measured(axis, points, after, colour, mark):
+def draw_measured(axis: typing.Any, points: list[Line], after: int, colour: typing.Any, mark: typing.Any) -> None:
     """The measured shares of failed blocks, with their intervals; where none failed, the interval's upper end."""
     seen = [(point.p, point.failed[after - 1], point.rounds) for point in points]
     failed = [(p, count / rounds, *wilson(count, rounds)) for p, count, rounds in seen if count]
     ps, shares = [one[0] for one in failed], [one[1] for one in failed]
     below = [share - low for _, share, low, _ in failed]
     above = [max(0.0, high - share) for _, share, _, high in failed]
-    axis.errorbar(ps, shares, [below, above], color=colour, marker=mark, markersize=3.5, linewidth=1.2, elinewidth=0.9, capsize=1.8)
+    axis.errorbar(
+        ps, shares, [below, above], color=colour, marker=mark, markersize=3.5, linewidth=1.2, elinewidth=0.9,
+        capsize=1.8,
+    )
     for p, count, rounds in seen:
         if not count:
             high = wilson(0, rounds)[1]
-            axis.annotate("", (p, high / 2.2), (p, high), arrowprops={"arrowstyle": "-|>", "color": colour, "linewidth": 0.8})
+            axis.annotate(
+                "", (p, high / 2.2), (p, high), arrowprops={"arrowstyle": "-|>", "color": colour, "linewidth": 0.8}
+            )
             axis.plot([p], [high], color=colour, marker="_", markersize=7, linestyle="none")
 
 
-def draw_theory(axis, theory, low, high, colour, numpy):
+def draw_theory(
+    axis: typing.Any, theory: typing.Any, low: int, high: int, colour: typing.Any, numpy: typing.Any
+) -> None:
     """The counting bound between two probabilities, the density evolution threshold, and the erasure limit."""
     limit, threshold, bound = theory
     ps = numpy.linspace(max(low, 0.0), min(high, 1.0), 160)
@@ -84,7 +100,7 @@ def draw_theory(axis, theory, low, high, colour, numpy):
         axis.axvline(limit, color=colour, linestyle="-", linewidth=3.5, alpha=0.22)
 
 
-def range_of(points, after, theory):
+def range_of(points: list[Line], after: int, theory: typing.Any) -> typing.Any:
     """The probabilities between which a panel shows the fall after so many transmissions."""
     between = [point.p for point in points if 0 < point.failed[after - 1] < point.rounds]
     if theory[0] is None:
@@ -96,13 +112,13 @@ def range_of(points, after, theory):
     return low - more, high + more
 
 
-def floor_of(points):
+def floor_of(points: list[Line]) -> typing.Any:
     """The lowest share that the picture shows: below the least that was measured, and the least upper limit."""
     lowest = min(wilson(count, point.rounds)[0 if count else 1] for point in points for count in point.failed)
     return max(LOWEST, lowest / 4)
 
 
-def draw(setting, code, points, out):
+def draw(setting: Setting, code: curve_theory.Code | None, points: list[Line], out: pathlib.Path) -> typing.Any:
     """Draws the picture: all falls in one panel, and each in a panel of its own below."""
     pyplot, numpy = libraries()
     from matplotlib.ticker import MaxNLocator
@@ -141,12 +157,12 @@ def draw(setting, code, points, out):
     return theories
 
 
-def axis_name(setting):
+def axis_name(setting: Setting) -> typing.Any:
     """What the probability is of."""
     return {"erase": "erasure probability", "flip": "flip probability"}[setting.link]
 
 
-def title_of(setting, code):
+def title_of(setting: Setting, code: curve_theory.Code | None) -> typing.Any:
     """The numbers of the curve in one line."""
     versions = ", ".join(map(str, setting.rvs))
     plan = ""
@@ -157,7 +173,7 @@ def title_of(setting, code):
     return f"A = {setting.a} bits{plan}; G = {setting.g} bits a transmission, rv {versions}"
 
 
-def dress(whole, setting, code, floor):
+def dress(whole: typing.Any, setting: Setting, code: curve_theory.Code | None, floor: typing.Any) -> None:
     """The scales, the title and the legend."""
     from matplotlib.lines import Line2D
 
@@ -167,14 +183,18 @@ def dress(whole, setting, code, floor):
     whole.set_xlabel(axis_name(setting))
     whole.set_title(title_of(setting, code), fontsize=10, loc="left")
     handles = [
-        Line2D([], [], color=COLOURS[k % len(COLOURS)], marker=MARKS[k % len(MARKS)], markersize=4, label=f"after {k + 1}")
+        Line2D(
+            [], [], color=COLOURS[k % len(COLOURS)], marker=MARKS[k % len(MARKS)], markersize=4, label=f"after {k + 1}"
+        )
         for k in range(len(setting.rvs))
     ]
     grey = "#555555"
     bound = "counting bound: no decoder is below" if code is not None else "some bit is flipped"
     handles += [
         Line2D([], [], color=grey, marker="o", markersize=4, linestyle="none", label="measured, 95 % Wilson interval"),
-        Line2D([], [], color=grey, marker=r"$\downarrow$", markersize=8, linestyle="none", label="no error: upper limit"),
+        Line2D(
+            [], [], color=grey, marker=r"$\downarrow$", markersize=8, linestyle="none", label="no error: upper limit"
+        ),
         Line2D([], [], color=grey, linestyle=(0, (5, 2)), linewidth=1.0, label=bound),
     ]
     if code is not None:
@@ -185,7 +205,7 @@ def dress(whole, setting, code, floor):
     whole.legend(handles=handles, fontsize=7.5, ncol=3, loc="lower center", bbox_to_anchor=(0.5, -0.48), frameon=False)
 
 
-def half_way(points, after):
+def half_way(points: list[Line], after: int) -> typing.Any:
     """The probability at which half of the blocks fail, between the two measured points around it; or nothing."""
     shares = [(point.p, point.failed[after - 1] / point.rounds) for point in points]
     for (low, one), (high, other) in zip(shares, shares[1:]):
@@ -194,7 +214,7 @@ def half_way(points, after):
     return None
 
 
-def say_theory(points, theories):
+def say_theory(points: list[Line], theories: typing.Any) -> None:
     """Prints for each number of transmissions what theory and the measured points say of the fall."""
     print("transmissions,erasure_limit,density_evolution,half_of_blocks_fail")
     for after, (limit, threshold, _) in enumerate(theories, 1):
@@ -202,7 +222,7 @@ def say_theory(points, theories):
         print(f"{after},{limit:.4f},{threshold:.4f},{'-' if half is None else f'{half:.4f}'}")
 
 
-def say_audits(setting, program, lines):
+def say_audits(setting: Setting, program: pathlib.Path, lines: list[Line]) -> None:
     """Prints for each number of transmissions how to see on which stopping sets failed rounds are stuck, at the lowest
     probability at which some failed."""
     for after in range(1, len(setting.rvs) + 1):
@@ -211,21 +231,26 @@ def say_audits(setting, program, lines):
             continue
         folder = f"failed-{line.p}-{line.chunk}-{after}"
         words = [str(setting.path), repr(line.p), str(line.chunk)]
-        files = ["--table", str(setting.table), "--settings", f"{folder}/settings.toml", "--blocks", f"{folder}/blocks.txt"]
-        print(f"\nAfter {after}: at p {line.p} {line.failed[after - 1]} of the {line.rounds} rounds of chunk {line.chunk} failed.")
+        files = [
+            "--table", str(setting.table), "--settings", f"{folder}/settings.toml", "--blocks", f"{folder}/blocks.txt"
+        ]
+        failed = f"{line.failed[after - 1]} of the {line.rounds} rounds of chunk {line.chunk} failed"
+        print(f"\nAfter {after}: at p {line.p} {failed}.")
         print("The files of these rounds, and what they are stuck on; or the stopping sets of the chunk by size:")
         print("  " + shlex.join([name_of("curve"), "failed", *words, folder, "--after", str(after)]))
         print("  " + shlex.join([short_path(program), "audit", *files, "--schedule", f"{folder}/schedule.csv"]))
         print("  " + shlex.join([name_of("curve"), "sets", *words, "--after", str(after)]))
 
 
-def plot(setting, program, out, lines, points):
+def plot(setting: Setting, program: pathlib.Path, out: pathlib.Path, lines: list[Line], points: list[Line]) -> None:
     """Draws the picture, and prints what theory says beside what was measured, and how to look at what failed."""
     libraries()
     if not lines:
         raise Failed("there is no line in these files")
     if len(lines[0].failed) != len(setting.rvs):
-        raise Failed(f"the results are of {len(lines[0].failed)} transmissions, and {setting.path} has {len(setting.rvs)}")
+        raise Failed(
+            f"the results are of {len(lines[0].failed)} transmissions, and {setting.path} has {len(setting.rvs)}"
+        )
     code = curve_theory.code_of(setting, program) if setting.link == "erase" else None
     theories = draw(setting, code, points, out)
     if code is not None:

@@ -1,5 +1,7 @@
 """What `tools/curve` is asked for: the keys of its TOML file."""
 
+from __future__ import annotations
+
 import dataclasses
 import pathlib
 import typing
@@ -40,27 +42,27 @@ class Setting:
     g: int
     qm: int
     nl: int
-    rvs: tuple
+    rvs: tuple[int, ...]
     seed: int
     rounds: int
-    points: tuple
+    points: tuple[float, ...]
     step: float
     errors: int
     chunks: int
     link: str = "erase"
 
-    def settings_text(self):
+    def settings_text(self) -> str:
         """The settings file of the program."""
         limit = "" if self.lbrm is None else f"lbrm = {self.lbrm}\n"
         return f"rate2048 = {self.rate2048}\n{limit}"
 
 
-def is_number(value, low, high, kinds=(int,)):
+def is_number(value: float, low: int, high: int, kinds: tuple[type[typing.Any], ...] = (int,)) -> bool:
     """Whether a value of a TOML file is a number of these kinds in the range; true and false are none."""
     return isinstance(value, kinds) and not isinstance(value, bool) and low <= value <= high
 
 
-def judge(path, keys):
+def judge(path: pathlib.Path, keys: dict[str, typing.Any]) -> None:
     """Fails with the first key that is missing, unknown or out of range."""
     known = {name for name, _, _ in NUMBERS} | OTHERS
     for name in keys:
@@ -88,11 +90,12 @@ def judge(path, keys):
         raise Failed(f"{path}: step is not a number from 0 to 1")
 
 
-def read_setting(path):
+def read_setting(name: str | pathlib.Path) -> Setting:
     """The setting of a TOML file, or a failure with its first fault."""
-    path = pathlib.Path(path)
-    keys = toml_file.read(path)
+    path = pathlib.Path(name)
+    keys: dict[str, typing.Any] = toml_file.read(path)
     judge(path, keys)
-    others = {"path": path, "table": path.parent / keys["table"], "lbrm": keys.get("lbrm")}
-    lists = {"rvs": tuple(keys["rvs"]), "points": tuple(sorted({float(p) for p in keys["points"]}))}
-    return Setting(**{**keys, **others, **lists, "step": float(keys.get("step", STEP))})
+    others: dict[str, typing.Any] = {"path": path, "table": path.parent / keys["table"], "lbrm": keys.get("lbrm")}
+    others.update({"rvs": tuple(keys["rvs"]), "points": tuple(sorted({float(p) for p in keys["points"]}))})
+    others["step"] = float(keys.get("step", STEP))
+    return Setting(**{**keys, **others})

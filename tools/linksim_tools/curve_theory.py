@@ -1,15 +1,23 @@
 """What theory says of a curve: the erasure limit, the counting bound, and where density evolution puts the fall."""
 
+from __future__ import annotations
+
 import collections
 import csv
 import dataclasses
 import math
+import pathlib
+import typing
 
 from linksim_tools import rate_matching
 from linksim_tools.curve_chunks import block_of
 from linksim_tools.graphs import GRAPHS
 from linksim_tools.program import Failed, output_of
 from linksim_tools.vector import plan_of
+
+if typing.TYPE_CHECKING:
+    from linksim_tools.curve_setting import Setting
+    from linksim_tools.graphs import Graph
 
 # Where the erased share of all information columns falls below the first number, peeling finds everything; where a turn
 # takes less than the second number of it away, or after so many turns, it is stuck.
@@ -23,15 +31,15 @@ class Code:
     """The numbers that `cut` names of the block, and which columns of the base graph have an entry in each row of the
     table."""
 
-    plan: dict
-    rows: tuple
+    plan: dict[str, int]
+    rows: tuple[typing.Any, ...]
 
-    def graph(self):
+    def graph(self) -> Graph:
         """The base graph's numbers."""
         return GRAPHS[self.plan["graph"]]
 
 
-def rows_of_table(path, graph):
+def rows_of_table(path: pathlib.Path, graph: int) -> tuple[tuple[int, ...], ...]:
     """For each row of the base graph the columns at which the table has an entry."""
     rows = collections.defaultdict(list)
     try:
@@ -45,7 +53,7 @@ def rows_of_table(path, graph):
     return tuple(tuple(rows[row]) for row in sorted(rows))
 
 
-def code_of(setting, program):
+def code_of(setting: Setting, program: pathlib.Path) -> Code:
     """The code of a setting over erasures; over flips there is no limit and no stopping set to speak of."""
     if setting.link != "erase":
         raise Failed(f"{setting.path} flips bits: limits and stopping sets are those of erasures")
@@ -54,13 +62,13 @@ def code_of(setting, program):
     return Code(plan, rows_of_table(setting.table, plan["graph"]))
 
 
-def lengths_of(setting, code):
+def lengths_of(setting: Setting, code: Code) -> list[int]:
     """How many bits a transmission sends of each code block, the shorter ones first."""
     shared = rate_matching.lengths(setting.g, setting.qm, setting.nl, range(code.plan["c"]))
     return list(shared.values())
 
 
-def times_sent(setting, code, length, after):
+def times_sent(setting: Setting, code: Code, length: int, after: int) -> list[int]:
     """How often each of the N positions of a code block is sent in so many transmissions of `length` bits."""
     plan = code.plan
     ncb = rate_matching.buffer_length(plan, setting.lbrm)
@@ -75,7 +83,7 @@ def times_sent(setting, code, length, after):
     return times
 
 
-def shares_of(code, times):
+def shares_of(code: Code, times: list[int]) -> list[dict[int | None, float]]:
     """For each column how many of its positions are sent how often, as shares; a filler counts as known, which is None,
     and of the first two columns nothing is ever sent."""
     z, fillers = code.plan["z"], range(code.plan["kdash"], code.plan["k"])
@@ -89,7 +97,7 @@ def shares_of(code, times):
     return shares
 
 
-def products_without_one(values):
+def products_without_one(values: list[float]) -> list[float]:
     """For each of some numbers the product of all others."""
     ahead = [1.0]
     for value in values:
@@ -101,7 +109,7 @@ def products_without_one(values):
     return products
 
 
-def is_found(rows, erased, information):
+def is_found(rows: tuple[tuple[int, ...], ...], erased: list[float], information: int) -> bool:
     """Whether peeling finds the first `information` columns where these shares of the columns are erased, by density
     evolution: what flows along each entry of the table is an erased share, and cycles are left out of account."""
     columns = collections.defaultdict(list)
@@ -127,7 +135,11 @@ def is_found(rows, erased, information):
     return False
 
 
-def evolution_threshold(rows, shares, information, exact=2e-4):
+def evolution_threshold(
+    rows: tuple[tuple[int, ...], ...], shares: typing.Sequence[
+        typing.Mapping[int | None, float]
+    ], information: int, exact: float = 2e-4
+) -> float:
     """The erasure probability below which density evolution says that peeling finds the information columns. `shares`
     says for each column which share of it is sent how often."""
     low, high = 0.0, 1.0
@@ -138,23 +150,23 @@ def evolution_threshold(rows, shares, information, exact=2e-4):
     return low
 
 
-def threshold_after(setting, code, after):
+def threshold_after(setting: Setting, code: Code, after: int) -> float:
     """The density evolution threshold of a setting after so many transmissions, by its shortest code blocks."""
     times = times_sent(setting, code, lengths_of(setting, code)[0], after)
     return evolution_threshold(code.rows, shares_of(code, times), code.graph().information)
 
 
-def erasure_limit(setting, after):
+def erasure_limit(setting: Setting, after: int) -> float:
     """1 - R, for the rate of so many transmissions: with more erased, fewer bits arrive than the block has."""
     return max(0.0, 1 - setting.a / (after * setting.g))
 
 
-def free_bits(code):
+def free_bits(code: Code) -> int:
     """How many bits of a code block no CRC can give back: K' less its own CRC, and that of the transport block."""
     return code.plan["kdash"] - code.plan["l"] - (code.plan["b"] - code.plan["a"])
 
 
-def tail_below(p, heard, bits, numpy):
+def tail_below(p: float, heard: typing.Mapping[int, int], bits: int, numpy: typing.Any) -> float:
     """The probability that fewer than `bits` places arrive, of which `heard` says how many are sent how often."""
     low, masses = 0, numpy.ones(1)
     for times, count in heard.items():
@@ -163,7 +175,7 @@ def tail_below(p, heard, bits, numpy):
     return float(min(1.0, masses[: max(0, bits - low)].sum()))
 
 
-def binomial_masses(count, chance, numpy):
+def binomial_masses(count: int, chance: float, numpy: typing.Any) -> typing.Any:
     """The probabilities of a binomial distribution from a first number on, those that are too small to see left out."""
     if chance in (0.0, 1.0):
         return int(count * chance), numpy.ones(1)
@@ -179,7 +191,7 @@ def binomial_masses(count, chance, numpy):
     return first, numpy.array(masses)
 
 
-def counting_bound(setting, code, after, numpy):
+def counting_bound(setting: Setting, code: Code, after: int, numpy: typing.Any) -> typing.Any:
     """A function of p: how often at least a code block gets fewer places than it has bits, so that no decoder can find
     it."""
     groups = []

@@ -11,6 +11,8 @@ from linksim_tools.graphs import GRAPHS
 from linksim_tools.program import Failed
 
 Lines = typing.List[str]
+# The values of a base graph, by row and column.
+Entries = typing.Dict[typing.Tuple[int, int], typing.List[int]]
 NAMES = ["graph", "row", "column", *(f"set {at}" for at in range(8))]
 # A field or a line is shown up to so many characters.
 WIDTH = 100
@@ -88,7 +90,9 @@ def of_table(file: File, name: str, place: int) -> Lines:
     if name == "TooLong":
         return [f"{file.shown}: {len(file.octets)} octets"]
     if name in ("Fields", "Empty"):
-        return [*file.record_lines(1), f"{len(file.record(1).fields)} fields"] if file.records else [f"{file.shown}: no record"]
+        if not file.records:
+            return [f"{file.shown}: no record"]
+        return [*file.record_lines(1), f"{len(file.record(1).fields)} fields"]
     lines, fields = file.record_lines(place), file.record(place).fields
     if name == "Csv":
         return [*lines, f"{len(fields)} fields, and {len(file.record(1).fields)} in record 1"]
@@ -96,7 +100,8 @@ def of_table(file: File, name: str, place: int) -> Lines:
         return lines + field_lines(NAMES, fields, lambda _, field: is_number(field))
     if name == "Range":
         return lines + field_lines(NAMES, fields, lambda which, field: int(field) < most_of(which, fields[0]))
-    earlier = [at for at, record in enumerate(file.records[: place - 1], 1) if numbers(record, 3) == numbers(file.record(place), 3)]
+    same = numbers(file.record(place), 3)
+    earlier = [at for at, record in enumerate(file.records[: place - 1], 1) if numbers(record, 3) == same]
     return [*lines, *(line for at in earlier[:1] for line in file.record_lines(at))]
 
 
@@ -120,20 +125,36 @@ def of_shape(file: File, name: str, number: int) -> Lines:
     rows = {row: sorted(column for at, column in mine if at == row and column >= first) for row in range(graph.rows)}
     if name == "MissingRow":
         empty = [row for row in range(4, graph.rows) if not any(at == row for at, _ in mine)]
-        return [f"{file.shown}: base graph {number} has no entry in {'row' if len(empty) == 1 else 'rows'} {shown_list(empty)}"]
+        return [f"{file.shown}: base graph {number} has no entry in {rows_shown(empty)}"]
     if name == "Core":
-        ends = [f"row {row}: columns {shown_list(rows[row]) or 'none'} from {first} on" for row in range(4)]
-        wanted = f"wanted are {first} in rows 0, 3 and one of 1 and 2; {first + 1} in 0, 1; {first + 2} in 1, 2; {first + 3} in 2, 3"
-        values = [f"row {at}, column {column}: {mine[at, column]}" for at, column in sorted(mine) if at < 4 and column >= first]
-        return [f"{file.shown}: base graph {number}", *ends, wanted, "with 0 in the last three, and two equal values in the first:", *values]
-    wrong = [row for row in range(4, graph.rows) if any(at == row for at, _ in mine) and not ends_well(mine, rows[row], row, first)]
-    return [f"{file.shown}: base graph {number}, {'row' if len(wrong) == 1 else 'rows'} {shown_list(wrong)}"]
+        return [f"{file.shown}: base graph {number}", *core_lines(mine, rows, first)]
+    there = {at for at, _ in mine if at >= 4}
+    wrong = [row for row in sorted(there) if not ends_well(mine, rows[row], row, first)]
+    return [f"{file.shown}: base graph {number}, {rows_shown(wrong)}"]
 
 
-def ends_well(mine: typing.Dict[typing.Tuple[int, int], typing.List[int]], columns: typing.List[int], row: int, first: int) -> bool:
+def core_lines(mine: Entries, rows: typing.Dict[int, typing.List[int]], first: int) -> Lines:
+    """What the core rows have from the first parity column on, and what is wanted of them."""
+    ends = [f"row {row}: columns {shown_list(rows[row]) or 'none'} from {first} on" for row in range(4)]
+    values = [f"row {row}, column {column}: {mine[row, column]}" for row in range(4) for column in rows[row]]
+    return [
+        *ends,
+        f"wanted are {first} in rows 0, 3 and one of 1 and 2; {first + 1} in 0, 1; {first + 2} in 1, 2; "
+        f"{first + 3} in 2, 3",
+        "with 0 in the last three, and two equal values in the first:",
+        *values,
+    ]
+
+
+def ends_well(mine: Entries, columns: typing.List[int], row: int, first: int) -> bool:
     """Whether a row from 4 on ends with 0 at its own column alone."""
     own = first + row
     return [column for column in columns if column >= first + 4] == [own] and not any(mine[row, own])
+
+
+def rows_shown(rows: typing.List[int]) -> str:
+    """The numbers of rows behind the word."""
+    return f"{'row' if len(rows) == 1 else 'rows'} {shown_list(rows)}"
 
 
 def shown_list(values: typing.List[int]) -> str:

@@ -15,7 +15,8 @@ MOST = 10
 
 
 class Run(typing.NamedTuple):
-    """How a command ended: its status, what it said on standard error, and the lines of its text that begin with `refused`."""
+    """How a command ended: its status, what it said on standard error, and the lines of its text that begin with
+    `refused`."""
 
     status: int
     said: str
@@ -102,11 +103,16 @@ def of_block(
         return lines
     if name == "Uneven":
         return [*lines, *(f"  {size}" for size in near.near(program, rate, 4 * len(text)))]
-    cut = output_of(program, ["cut", "--rate", str(rate), "--blocks", "-"], text.encode() + b"\n").split("\n")[0].split()
+    cut = output_of(program, ["cut", "--rate", str(rate), "--blocks", "-"], text.encode() + b"\n").split("\n")[
+        0
+    ].split()
     lines.append(f"  rate2048 {rate}: base graph {cut[cut.index('graph') + 1]}")
     if name == "Graph":
         try:
-            lines += [f"  {files['table'].shown}: {it}" for it in output_of(program, ["check", "--table", words["table"]]).splitlines()]
+            lines += [
+                f"  {files['table'].shown}: {it}"
+                for it in output_of(program, ["check", "--table", words["table"]]).splitlines()
+            ]
         except Failed:
             pass  # (the table was standard input, which is read once)
     return lines

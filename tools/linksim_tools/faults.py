@@ -1,5 +1,6 @@
-"""What the program refuses, with the cause and what to do about it: the one table of these. The program's long help and its man page
-have its lines, docs/formats.md its names in their order, and tests compare them. A line is `NAME: cause; remedy.`"""
+"""What the program refuses, with the cause and what to do about it: the one table of these. The program's long help and
+its man page have its lines, docs/formats.md its names in their order, and tests compare them. A line is `NAME: cause;
+remedy.`"""
 
 import typing
 
@@ -24,8 +25,8 @@ class Fault(typing.NamedTuple):
 
 
 class Kind(typing.NamedTuple):
-    """A file that the program reads: what it is, what it accepts, line by line, and its faults in the order of the tests. Then what is
-    refused when it is used: how, and for which causes."""
+    """A file that the program reads: what it is, what it accepts, line by line, and its faults in the order of the
+    tests. Then what is refused when it is used: how, and for which causes."""
 
     about: str
     accepted: typing.List[str]
@@ -52,14 +53,31 @@ FILES = {
         [
             *kept_from_reading("4,194,304"),
             Fault("Csv", "record", "record N has another number of fields than record 1", "give each record eleven"),
-            Fault("Fields", "", "record 1 does not have eleven fields", "separate them by commas, with graph, row, column in front"),
-            Fault("Number", "record", "a field of record N is not 1 to 10 digits", "leave none empty, and a missing entry out"),
+            Fault(
+                "Fields", "", "record 1 does not have eleven fields",
+                "separate them by commas, with graph, row, column in front",
+            ),
+            Fault(
+                "Number", "record", "a field of record N is not 1 to 10 digits",
+                "leave none empty, and a missing entry out",
+            ),
             Fault("Range", "record", "a number of record N is out of range", "count rows, columns and sets from 0"),
-            Fault("Twice", "record", "graph, row and column of record N stand in an earlier one", "keep one of the two records"),
+            Fault(
+                "Twice", "record", "graph, row and column of record N stand in an earlier one",
+                "keep one of the two records",
+            ),
             Fault("Empty", "", "no record gives an entry", "see whether it is the file that you meant"),
-            Fault("Core", "graph", "rows 0-3 of base graph N lack the standard's shape", "compare them with the standard"),
-            Fault("Extension", "graph", "a row i of base graph N lacks the 0 at column n+i, or has more past n+3", "compare the rows"),
-            Fault("MissingRow", "graph", "base graph N has no entry in a row", "give it all 46 rows, or 42 in base graph 2"),
+            Fault(
+                "Core", "graph", "rows 0-3 of base graph N lack the standard's shape", "compare them with the standard"
+            ),
+            Fault(
+                "Extension", "graph", "a row i of base graph N lacks the 0 at column n+i, or has more past n+3",
+                "compare the rows",
+            ),
+            Fault(
+                "MissingRow", "graph", "base graph N has no entry in a row",
+                "give it all 46 rows, or 42 in base graph 2",
+            ),
         ],
         "",
         [],
@@ -80,7 +98,10 @@ FILES = {
         ],
         "With the blocks: refused with status 1, by 'linksim: refused: block N' and",
         [
-            Fault("Graph", "", "the table lacks the base graph that block and rate take", "linksim check says which ones are there"),
+            Fault(
+                "Graph", "", "the table lacks the base graph that block and rate take",
+                "linksim check says which ones are there",
+            ),
             Fault("NoBuffer", "", "lbrm keeps no bit of a code block", "leave lbrm out, or write a greater one"),
         ],
     ),
@@ -92,12 +113,23 @@ FILES = {
             Fault("Empty", "", "it has no line", "write a transport block"),
             Fault("TooMany", "", "it has more than 256 lines", "write each block whole into its line (xxd -p -c 0)"),
             Fault("Blank", "line", "line N is empty", "take it out; the blocks behind it then count one less"),
-            Fault("Digit", "line", "line N has another character than a hexadecimal digit", "write no 0x, space or comment"),
+            Fault(
+                "Digit", "line", "line N has another character than a hexadecimal digit",
+                "write no 0x, space or comment",
+            ),
             Fault("Odd", "line", "line N has an odd number of digits", "write two digits for each octet"),
-            Fault("LongLine", "line", "line N has more than 327,680 digits", "a transport block has at most 1,310,720 bits"),
+            Fault(
+                "LongLine", "line", "line N has more than 327,680 digits",
+                "a transport block has at most 1,310,720 bits",
+            ),
         ],
         "Refused with status 1, by 'linksim: refused: block N' and",
-        [Fault("Uneven", "", "its code blocks would not be equally long (5.2.2)", "take a size that TS 38.214 determines")],
+        [
+            Fault(
+                "Uneven", "", "its code blocks would not be equally long (5.2.2)",
+                "take a size that TS 38.214 determines",
+            ),
+        ],
     ),
     "schedule": Kind(
         "The transmissions, as comma-separated values (-: standard input)",
@@ -110,15 +142,32 @@ FILES = {
         [
             *kept_from_reading("16,777,216"),
             Fault("Header", "", "record 1 is none of the headers", "begin with block,rv,g,qm,nl,erase"),
-            Fault("Csv", "record", "record N has another number of fields than the header", "a comma begins another field"),
+            Fault(
+                "Csv", "record", "record N has another number of fields than the header", "a comma begins another field"
+            ),
             Fault("TooMany", "", "it has more than 4,096 transmissions", "split it over several runs"),
-            Fault("Number", "record", "one of the first five fields of record N is no number below 2^32", "write decimal digits"),
-            Fault("Block", "record", "record N names a block that is not there", "count blocks from 1, as lines of the blocks file"),
-            Fault("Erase", "record", "erase of record N has none of its forms", "write 0-3 7, or pcg:1:1073741824 for 0.25"),
+            Fault(
+                "Number", "record", "one of the first five fields of record N is no number below 2^32",
+                "write decimal digits",
+            ),
+            Fault(
+                "Block", "record", "record N names a block that is not there",
+                "count blocks from 1, as lines of the blocks file",
+            ),
+            Fault(
+                "Erase", "record", "erase of record N has none of its forms",
+                "write 0-3 7, or pcg:1:1073741824 for 0.25",
+            ),
             Fault("Flip", "record", "flip of record N has none of its forms", "write places, as 0-3 7"),
-            Fault("Mask", "record", "mask of record N has none of its forms", "write all, or numbers of code blocks from 0"),
+            Fault(
+                "Mask", "record", "mask of record N has none of its forms",
+                "write all, or numbers of code blocks from 0",
+            ),
             Fault("Process", "record", "process of record N is not 0-15", "write a number of 0-15"),
-            Fault("Fresh", "record", "fresh of record N is not 0 or 1, or is 0 where no round of its block goes on", "write 1"),
+            Fault(
+                "Fresh", "record", "fresh of record N is not 0 or 1, or is 0 where no round of its block goes on",
+                "write 1",
+            ),
         ],
         "A transmission without bits is a line 'refused' of send and run, with status 0, and",
         [
@@ -132,8 +181,12 @@ FILES = {
     ),
 }
 
-OUTPUT = Fault("Write", "", "standard output failed", "see whether the disk is full, or the reader of the pipe has gone")
-MEMORY = Fault("memory", "", "the system gave no memory", "give the program more; docs/formats.md says how much it takes")
+OUTPUT = Fault(
+    "Write", "", "standard output failed", "see whether the disk is full, or the reader of the pipe has gone"
+)
+MEMORY = Fault(
+    "memory", "", "the system gave no memory", "give the program more; docs/formats.md says how much it takes"
+)
 
 # What each command reads, in the order in which it judges it.
 READS = {

@@ -1,5 +1,7 @@
 """The numbers of the base graphs and lifting sizes that the tools need (TS 38.212, 5.3.2 and Table 5.3.2-1)."""
 
+from __future__ import annotations
+
 import dataclasses
 
 # The largest lifting size of each set index, 0 to 7.
@@ -9,8 +11,8 @@ SETS = range(len(LARGEST))
 
 @dataclasses.dataclass(frozen=True)
 class Graph:
-    """A base graph: its number, its rows and columns, how many of these carry information bits, and how many entries its
-    published table has."""
+    """A base graph: its number, its rows and columns, how many of these carry information bits, and how many entries
+    its published table has."""
 
     number: int
     rows: int
@@ -20,15 +22,15 @@ class Graph:
     table: str
 
     @property
-    def sent(self):
+    def sent(self) -> int:
         """How many columns are sent: all but the first two."""
         return self.columns - 2
 
-    def last_column(self, row):
+    def last_column(self, row: int) -> int:
         """The column of the last entry of a row, in every table of the published shape."""
         return self.information + (row if row >= 4 else min(row + 1, 3))
 
-    def has_column(self, row, column):
+    def has_column(self, row: int, column: int) -> bool:
         """Whether a row may have an entry at a column: up to the core parity columns, or its own one."""
         return column <= self.information + 3 or column == self.last_column(row)
 

@@ -1,5 +1,8 @@
 """The sizes of a transport block that can be cut, near a wanted one: the program is asked size by size."""
 
+from __future__ import annotations
+
+import pathlib
 import subprocess
 import sys
 
@@ -9,9 +12,9 @@ from linksim_tools.program import Failed
 MOST = 1_310_720
 
 
-def plan_line(program, rate, size):
+def plan_line(program: pathlib.Path, rate: int, size: int) -> str | None:
     """The numbers of a block of `size` bits as `linksim cut` has them, or None where it cannot be cut."""
-    words = [program, "cut", "--rate", str(rate), "--blocks", "-"]
+    words = [str(program), "cut", "--rate", str(rate), "--blocks", "-"]
     ended = subprocess.run(words, input=b"00" * (size // 8) + b"\n", capture_output=True)
     if ended.returncode == 0:
         return ended.stdout.split(b"\n", 1)[0].decode().partition(" a ")[2]
@@ -21,7 +24,7 @@ def plan_line(program, rate, size):
     return None
 
 
-def search(program, rate, sizes):
+def search(program: pathlib.Path, rate: int, sizes: list[int] | range) -> str | None:
     """The line of the first of these sizes that can be cut, or None. Long searches show their progress."""
     for number, size in enumerate(sizes, 1):
         line = plan_line(program, rate, size)
@@ -32,7 +35,7 @@ def search(program, rate, sizes):
     return None
 
 
-def near(program, rate, wanted):
+def near(program: pathlib.Path, rate: int, wanted: int) -> list[str]:
     """The lines `exact`, `below` and `above`, each with the numbers of a block of the wanted size, of the next shorter
     one that can be cut and of the next longer one. One that there is not has no line."""
     if wanted not in range(1, MOST + 1):

@@ -1,10 +1,14 @@
 """The program `linksim` as the tools run it, and what a tool says where it cannot go on."""
 
+from __future__ import annotations
+
+import argparse
 import os
 import pathlib
 import shutil
 import subprocess
 import sys
+import typing
 
 ROOT = pathlib.Path(__file__).resolve().parent.parent.parent
 BUILD = "(cd crates/linksim && rt run -- --version)"
@@ -26,13 +30,13 @@ class Wrong(Failed):
     status = 2
 
 
-def name_of(tool):
+def name_of(tool: str) -> str:
     """What a tool calls itself: `linksim-curve` where it was called so, as it is installed, else `tools/curve`."""
     installed = f"linksim-{tool}"
     return installed if pathlib.Path(sys.argv[0]).name == installed else f"tools/{tool}"
 
 
-def add_program(parser):
+def add_program(parser: argparse.ArgumentParser) -> None:
     """Gives a command line parser the option --program."""
     parser.add_argument(
         "--program", metavar="NAME",
@@ -40,12 +44,12 @@ def add_program(parser):
     )
 
 
-def is_program(path):
+def is_program(path: pathlib.Path) -> bool:
     """Whether a file can be run."""
     return path.is_file() and os.access(path, os.X_OK)
 
 
-def program_at(name=None):
+def program_at(name: str | None = None) -> pathlib.Path:
     """The absolute path of the program, or a failure that says how to build it."""
     if name is None:
         found = next((str(path) for path in PLACES if is_program(path)), None) or shutil.which("linksim")
@@ -59,16 +63,16 @@ def program_at(name=None):
     return pathlib.Path(found).resolve()
 
 
-def output_of(program, words, stdin=b""):
+def output_of(program: pathlib.Path, words: typing.Sequence[str | os.PathLike[str]], stdin: bytes = b"") -> str:
     """What the program writes for these words, in text; a refusal is a failure with the program's own line."""
-    ended = subprocess.run([os.fspath(program), *map(os.fspath, words)], input=stdin, capture_output=True)
+    ended = subprocess.run([os.fspath(program), *(os.fspath(word) for word in words)], input=stdin, capture_output=True)
     if ended.returncode:
         said = ended.stderr.decode(errors="replace").strip().splitlines()
         raise Failed(said[0] if said else f"{program} ended with status {ended.returncode}")
     return ended.stdout.decode()
 
 
-def ended(tool, status, said=None):
+def ended(tool: str, status: int, said: typing.Any = None) -> None:
     """Ends a tool with a status, and with its one line where it has one. Standard output is put aside: what it could
     not take is not tried once more."""
     if said is not None:
@@ -77,7 +81,7 @@ def ended(tool, status, said=None):
     sys.exit(status)
 
 
-def main_of(tool, main):
+def main_of(tool: str, main: typing.Callable[..., typing.Any]) -> None:
     """Runs a tool's main function and ends with its status: with one line and 1 where it failed, or 2 where a word or a
     file was wrong; 130 where it was interrupted; and quietly where the reader of its output has gone."""
     try:

@@ -1,21 +1,24 @@
 """The numbers of rate matching (TS 38.212, 5.4.2.1), which the program uses and does not print."""
 
-# The starting positions of Table 5.4.2.1-2, by base graph: numerators for the redundancy versions, over the columns sent.
+from __future__ import annotations
+
+# The starting positions of Table 5.4.2.1-2, by base graph: numerators for the redundancy versions, over the columns
+# sent.
 STARTS = {1: ((0, 17, 33, 56), 66), 2: ((0, 13, 25, 43), 50)}
 
 
-def buffer_length(plan, lbrm):
+def buffer_length(plan: dict[str, int], lbrm: int | None) -> int:
     """Ncb: the bits of the circular buffer of a code block."""
     return plan["n"] if lbrm is None else min(plan["n"], 3 * lbrm // (2 * plan["c"]))
 
 
-def start(plan, length, version):
+def start(plan: dict[str, int], length: int, version: int) -> int:
     """k0: where a redundancy version begins in a buffer of this length."""
     numerators, columns = STARTS[plan["graph"]]
     return numerators[version] * length // (columns * plan["z"]) * plan["z"]
 
 
-def lengths(total, symbol, layers, scheduled):
+def lengths(total: int, symbol: int, layers: int, scheduled: list[int] | range) -> dict[int, int]:
     """E of each scheduled code block, by its number: G bits shared out, the first ones the shorter."""
     symbols = total // (symbol * layers)
     shorter = len(scheduled) - symbols % len(scheduled)
@@ -23,12 +26,13 @@ def lengths(total, symbol, layers, scheduled):
     return {r: (least + (place >= shorter)) * symbol * layers for place, r in enumerate(scheduled)}
 
 
-def selected(word, first, length, count):
+def selected(word: list[int | None], first: int, length: int, count: int) -> list[int]:
     """The bits of d (fillers: None) that are read from place `first` on, round and round the buffer."""
-    bits = []
+    bits: list[int] = []
     place = first
     while len(bits) < count:
-        if word[place] is not None:
-            bits.append(word[place])
+        bit = word[place]
+        if bit is not None:
+            bits.append(bit)
         place = (place + 1) % length
     return bits

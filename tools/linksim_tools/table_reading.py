@@ -1,10 +1,17 @@
 """Reading the published shift tables (TS 38.212, Tables 5.3.2-2 and 5.3.2-3) from texts, and judging what was read."""
 
+from __future__ import annotations
+
 import re
+import typing
 
 from linksim_tools.graphs import GRAPHS, LARGEST
 from linksim_tools.program import Failed
 from linksim_tools.table_rows import ENTRY, Reading, halve
+
+if typing.TYPE_CHECKING:
+    from linksim_tools.graphs import Graph
+    from linksim_tools.table_text import Line
 
 # The line above a table, and what ends one: another table, or the next clause of the standard.
 CAPTION = re.compile(r"\W*table\s*5\.3\.2\s*-\s*([23])\b", re.IGNORECASE)
@@ -18,11 +25,13 @@ class Part:
     """The lines of one graph's table, without heads; and those of them before which a page begins, or a head stands, by
     their number in the list."""
 
-    def __init__(self):
-        self.lines, self.page_starts, self.head_ends = [], set(), set()
+    def __init__(self) -> None:
+        self.lines: list[Line] = []
+        self.page_starts: set[int] = set()
+        self.head_ends: set[int] = set()
         self.page = self.head = False
 
-    def add(self, line):
+    def add(self, line: Line) -> None:
         """Adds a line of the text."""
         self.page = self.page or line.page
         if line.is_head or (line.words and not self.lines):
@@ -35,14 +44,14 @@ class Part:
         self.page = self.head = False
         self.lines.append(line)
 
-    def paged(self, starts):
+    def paged(self, starts: set[int]) -> list[list[Line]]:
         """The lines in pages that begin at these numbers."""
         bounds = [0, *sorted(starts - {0}), len(self.lines)]
         return [self.lines[start:end] for start, end in zip(bounds, bounds[1:])]
 
-    def layouts(self):
-        """How the lines may be laid out: whether in two halves, whether the place of a cell tells its half, whether a row's
-        index may stand alone; and the pages, in each of which the right half goes on where the left one ends."""
+    def layouts(self) -> typing.Iterator[tuple[bool, bool, bool, list[list[Line]]]]:
+        """How the lines may be laid out: whether in two halves, whether the place of a cell tells its half, whether a
+        row's index may stand alone; and the pages, in each of which the right half goes on where the left one ends."""
         if all(len(line.cells) < 2 * ENTRY for line in self.lines):
             for alone in (False, True):
                 yield False, False, alone, [self.lines]
@@ -50,15 +59,15 @@ class Part:
         halve(self.paged(self.page_starts | self.head_ends))
         orders = [[self.lines], self.paged(self.page_starts), self.paged(self.head_ends)]
         # By the lengths of their pages, so that those which are the same are tried once.
-        orders = {tuple(map(len, pages)): pages for pages in orders}
+        different = {tuple(map(len, pages)): pages for pages in orders}
         for placed, alone in ((True, True), (False, False), (False, True)):
-            for pages in orders.values():
+            for pages in different.values():
                 yield True, placed, alone, pages
 
 
-def parts_of(lines, graph):
+def parts_of(lines: list[Line], graph: int | None) -> dict[int, Part]:
     """The lines of each graph's table. Where `graph` is a number the text begins with that one's."""
-    parts = {}
+    parts: dict[int, Part] = {}
     part = parts.setdefault(graph, Part()) if graph else None
     for line in lines:
         caption = CAPTION.match(line.text)
@@ -71,11 +80,13 @@ def parts_of(lines, graph):
     return {number: part for number, part in sorted(parts.items()) if part.lines}
 
 
-def read_part(graph, part):
+def read_part(graph: Graph, part: Part) -> list[tuple[int, ...]]:
     """The entries of one graph's table, row by row, or a failure that names the row which could not be read."""
     if all(len(line.cells) < ENTRY for line in part.lines):
-        raise Failed(f"no line of {graph.table} has an entry: its lines must be whole, as those of pdftotext -layout are")
-    best = None
+        raise Failed(
+            f"no line of {graph.table} has an entry: its lines must be whole, as those of pdftotext -layout are"
+        )
+    best: tuple[tuple[bool, int], Reading] | None = None
     for two, placed, alone, pages in part.layouts():
         reading = Reading(graph, two, placed, alone)
         entries = reading.pages(pages)
@@ -87,22 +98,24 @@ def read_part(graph, part):
         sure = placed and (stopped is None or stopped.left is not None)
         if best is None or (sure, reached) > best[0]:
             best = (sure, reached), reading
+    assert best and best[1].refusal
     _, reading = best
-    text = f"graph {graph.number}, row {reading.refusal.row} could not be read: {reading.refusal}"
+    refusal = best[1].refusal
+    text = f"graph {graph.number}, row {refusal.row} could not be read: {refusal}"
     if reading.stopped is None:
         raise Failed(text)
     raise Failed(f"{reading.stopped.place}: {text}: {' '.join(reading.stopped.text.split())}")
 
 
-def is_file(lines):
+def is_file(lines: list[Line]) -> bool:
     """Whether the lines are those of a shift table file: most that have numbers have those of a record."""
     numbers = [line for line in lines if len(line.numbers) > 2]
     return 2 * sum(len(line.numbers) == FIELDS and not line.words for line in numbers) > len(numbers)
 
 
-def read_file(lines):
+def read_file(lines: list[Line]) -> dict[int, list[tuple[int, ...]]]:
     """The entries of each graph out of the records of a shift table file, whatever separates their fields."""
-    tables = {}
+    tables: dict[int, dict[tuple[int, int], tuple[int, ...]]] = {}
     for place, line in enumerate(lines):
         if place == 0 and line.words and len(line.numbers) < FIELDS:
             continue
@@ -125,8 +138,9 @@ def read_file(lines):
     return {number: [entries[place] for place in sorted(entries)] for number, entries in sorted(tables.items())}
 
 
-def judge(graph, entries):
-    """Fails where the entries are not as many as those of the published table, or not in order, or lack a row or its end."""
+def judge(graph: Graph, entries: list[tuple[int, ...]]) -> None:
+    """Fails where the entries are not as many as those of the published table, or not in order, or lack a row or its
+    end."""
     by_row = {row: [column for it, column, *_ in entries if it == row] for row in range(graph.rows)}
     for row, columns in by_row.items():
         if columns != sorted(set(columns)):
@@ -141,7 +155,7 @@ def judge(graph, entries):
         )
 
 
-def read(lines, graph=None):
+def read(lines: list[Line], graph: int | None = None) -> dict[int, list[tuple[int, ...]]]:
     """The entries of each graph's table in the lines of a text, judged. Each is a row, a column and eight values."""
     if is_file(lines):
         tables = read_file(lines)

@@ -3,27 +3,38 @@
 A line holds one entry, or two of two halves that stand side by side: a column index and eight values each, with the row
 index before them where the text has it. The index of a row stands at its first line, or at another of its lines, or
 alone on a line amid them. Where a row ends is known without it: every published row of 4 or more ends at its own parity
-column, and rows 0 to 3 at theirs (TS 38.212, 5.3.2). So the text is read by every way that its numbers can be meant, each
-row in turn, and a line at which no way is left is the one that could not be read.
+column, and rows 0 to 3 at theirs (TS 38.212, 5.3.2). So the text is read by every way that its numbers can be meant,
+each row in turn, and a line at which no way is left is the one that could not be read.
 """
 
+from __future__ import annotations
+
 import dataclasses
+import typing
 
 from linksim_tools.graphs import LARGEST
 from linksim_tools.program import Failed
 
+if typing.TYPE_CHECKING:
+    from linksim_tools.graphs import Graph
+    from linksim_tools.table_text import Line
+
 # How many numbers half a line has: nothing, a row index alone, an entry, an entry behind its row index.
 NOTHING, INDEX, ENTRY, BOTH = HALVES = (0, 1, 9, 10)
+
+# An entry: the row, the column and the values; and what is read of half a line, whole numbers and other words.
+Entry = typing.Tuple[int, ...]
+Cells = typing.List[typing.Any]
 
 
 class Refusal(Exception):
     """What is wrong with a line, read in one way: the row, the words, and how much was right before it."""
 
-    def __init__(self, row, words, right):
+    def __init__(self, row: int | str, words: str, right: int) -> None:
         super().__init__(words)
         self.row, self.right = row, right
 
-    def behind(self, half):
+    def behind(self, half: Cells) -> Refusal:
         """The same, behind half a line that was right."""
         return Refusal(self.row, str(self), self.right + len(half))
 
@@ -34,14 +45,14 @@ NO_INDEX = -20
 
 @dataclasses.dataclass(frozen=True)
 class Place:
-    """How far one half of a text was read: in a row, behind a column (-1: before its first), and whether the text has named
-    the row."""
+    """How far one half of a text was read: in a row, behind a column (-1: before its first), and whether the text has
+    named the row."""
 
     row: int
     column: int = -1
     named: bool = False
 
-    def after(self, graph, half):
+    def after(self, graph: Graph, half: Cells) -> tuple[Place, Entry | None]:
         """The place after half a line, and its entry or None."""
         if self.row >= graph.rows:
             raise Refusal(graph.rows - 1, "numbers follow the last row", 0)
@@ -61,7 +72,7 @@ class Place:
             raise Refusal(self.row, f"the row ends at column {entry[1]}, and no line of it has its index", 3)
         return Place(self.row + 1), entry
 
-    def entry(self, graph, column, *values):
+    def entry(self, graph: Graph, column: int, *values: int) -> Entry:
         """The entry of these cells, where it suits the row."""
         for cell in (column, *values):
             if not isinstance(cell, int):
@@ -79,15 +90,15 @@ class Place:
 
 @dataclasses.dataclass(frozen=True)
 class Seam:
-    """Where the right half of a page was taken to begin: at a row's first entry (`fresh`), or else at its entry of a column
-    (or of any: the number of columns), and then whether the left half has named the row."""
+    """Where the right half of a page was taken to begin: at a row's first entry (`fresh`), or else at its entry of a
+    column (or of any: the number of columns), and then whether the left half has named the row."""
 
     row: int
     column: int
     fresh: bool
     named: bool
 
-    def joins(self, left):
+    def joins(self, left: Place) -> bool:
         """Whether the left half ended where the right one began."""
         if self.fresh:
             return left == Place(self.row)
@@ -99,16 +110,16 @@ class State:
     """One way to read a page so far: both halves' places, and where the right one began. No right half: None."""
 
     left: Place
-    right: Place = None
-    seam: Seam = None
+    right: Place | None = None
+    seam: Seam | None = None
 
     @property
-    def end(self):
+    def end(self) -> Place:
         """The place behind all that was read."""
-        return self.left if self.seam is None else self.right
+        return self.left if self.right is None else self.right
 
 
-def right_starts(graph, half):
+def right_starts(graph: Graph, half: Cells) -> typing.Iterator[tuple[Seam, Place]]:
     """The ways in which a right half may begin with half a line: the seam, and the place before it."""
     for row in range(graph.rows):
         yield Seam(row, -1, True, False), Place(row)
@@ -119,22 +130,22 @@ def right_starts(graph, half):
 
 @dataclasses.dataclass(frozen=True)
 class Found:
-    """What one way has read of a page: the entries of both halves, each as a chain of pairs, the last one outermost; and
-    whether another way came to the same state by other entries."""
+    """What one way has read of a page: the entries of both halves, each as a chain of pairs, the last one outermost;
+    and whether another way came to the same state by other entries."""
 
-    left: tuple = ()
-    right: tuple = ()
+    left: tuple[typing.Any, ...] = ()
+    right: tuple[typing.Any, ...] = ()
     doubtful: bool = False
 
-    def and_left(self, entry):
+    def and_left(self, entry: Entry | None) -> Found:
         """The same with one more entry of the left half, if there is one."""
         return self if entry is None else Found((self.left, entry), self.right, self.doubtful)
 
-    def and_right(self, entry):
+    def and_right(self, entry: Entry | None) -> Found:
         """The same with one more entry of the right half, if there is one."""
         return self if entry is None else Found(self.left, (self.right, entry), self.doubtful)
 
-    def entries(self):
+    def entries(self) -> list[Entry]:
         """The entries in their order."""
         both = []
         for chain in (self.right, self.left):
@@ -145,15 +156,16 @@ class Found:
 
 
 class Reading:
-    """The ways in which the lines of one graph's table can be read, by layout: `two` halves or one, whether the place of a
-    cell tells its half (`placed`), and whether a row's index may stand beside the other half's entry or alone (`alone`).
-    `stopped` is the line at which no way was left, and `refusal` what was wrong with it."""
+    """The ways in which the lines of one graph's table can be read, by layout: `two` halves or one, whether the place
+    of a cell tells its half (`placed`), and whether a row's index may stand beside the other half's entry or alone
+    (`alone`). `stopped` is the line at which no way was left, and `refusal` what was wrong with it."""
 
-    def __init__(self, graph, two, placed, alone):
+    def __init__(self, graph: Graph, two: bool, placed: bool, alone: bool) -> None:
         self.graph, self.two, self.placed, self.alone = graph, two, placed, alone
-        self.stopped = self.refusal = None
+        self.stopped: Line | None = None
+        self.refusal: Refusal | None = None
 
-    def forms(self, line):
+    def forms(self, line: Line) -> typing.Iterator[int]:
         """How many of a line's cells may be those of its left half."""
         for left in HALVES if line.left is None or not self.placed else (line.left,):
             right = len(line.cells) - left
@@ -162,7 +174,9 @@ class Reading:
             if self.alone or INDEX not in (left, right):
                 yield left
 
-    def steps(self, state, found, left, right):
+    def steps(
+        self, state: State, found: Found, left: Cells, right: Cells
+    ) -> typing.Iterator[tuple[State, Found]]:
         """The states after a line with these two halves, each with what was found."""
         place = state.left
         if left:
@@ -172,7 +186,8 @@ class Reading:
             yield State(place, state.right, state.seam), found
             return
         refusals = []
-        for seam, before in [(state.seam, state.right)] if state.seam else right_starts(self.graph, right):
+        begun = [(state.seam, state.right)] if state.seam and state.right else right_starts(self.graph, right)
+        for seam, before in begun:
             try:
                 behind, entry = before.after(self.graph, right)
                 yield State(place, behind, seam), found.and_right(entry)
@@ -181,7 +196,7 @@ class Reading:
         if refusals:
             raise max(refusals, key=lambda it: it.right)
 
-    def line(self, states, line):
+    def line(self, states: dict[State, Found], line: Line) -> dict[State, Found]:
         """The states after a line. A number alone, or two, may be a page's and mean nothing."""
         after = dict(states) if len(line.cells) <= 2 * INDEX else {}
         refusals = []
@@ -198,22 +213,22 @@ class Reading:
             self.stopped, self.refusal = line, self.worst(states, line, refusals)
         return after
 
-    def worst(self, states, line, refusals):
+    def worst(self, states: dict[State, Found], line: Line, refusals: list[Refusal]) -> Refusal:
         """What is wrong with a line that can be read in no way, by the way that was right for longest."""
         if refusals:
             return max(refusals, key=lambda it: it.right)
         left = {state.left.row for state in states}
-        right = {state.right.row for state in states if state.seam}
+        right = {state.right.row for state in states if state.right}
         if self.placed and line.left is not None and right:
             rows = right if line.left in HALVES else left
         else:
             rows = left | right
-        rows = " or ".join(str(row) for row in sorted(rows) if row < self.graph.rows)
-        return Refusal(rows, f"{len(line.cells)} numbers or words are no line of the table", 0)
+        named = " or ".join(str(row) for row in sorted(rows) if row < self.graph.rows)
+        return Refusal(named, f"{len(line.cells)} numbers or words are no line of the table", 0)
 
-    def ends(self, states, before):
+    def ends(self, states: dict[State, Found], before: list[Entry]) -> dict[Place, list[Entry]]:
         """Where the ways through a page end, each with all entries up to there."""
-        places = {}
+        places: dict[Place, list[Entry]] = {}
         for state, found in states.items():
             if state.seam is None or state.seam.joins(state.left):
                 entries = before + found.entries()
@@ -222,10 +237,10 @@ class Reading:
                     raise Failed(f"graph {self.graph.number}: the text up to row {row} can be read in two ways")
         return places
 
-    def page(self, starts, lines):
-        """From the places where a page may begin, each with the entries before it, those where it may end; none where a line
-        cannot be read. What follows the last row and has words is none of the table."""
-        places = {}
+    def page(self, starts: dict[Place, list[Entry]], lines: list[Line]) -> dict[Place, list[Entry]]:
+        """From the places where a page may begin, each with the entries before it, those where it may end; none where a
+        line cannot be read. What follows the last row and has words is none of the table."""
+        places: dict[Place, list[Entry]] = {}
         for start, before in starts.items():
             states = {State(start): Found()}
             for line in lines:
@@ -240,14 +255,14 @@ class Reading:
                 row = max(state.left.row for state in states)
                 words = "the left half of the text ends in it, and the right half begins elsewhere"
                 self.stopped, self.refusal = None, Refusal(row, words, 0)
-            places |= found
+            places.update(found)
         if places:
             self.stopped = self.refusal = None
         return places
 
-    def pages(self, pages):
+    def pages(self, pages: list[list[Line]]) -> list[Entry] | None:
         """The entries of a table whose pages are read one after the other, or None."""
-        starts = {Place(0): []}
+        starts: dict[Place, list[Entry]] = {Place(0): []}
         for lines in pages:
             starts = self.page(starts, lines)
             if not starts:
@@ -259,21 +274,21 @@ class Reading:
         return whole
 
 
-def middle_of(lines):
-    """Where the right half of a page begins, if the page is laid out in columns: behind the left half and before the right
-    one of nine in ten of its whole lines (a damaged line may seem whole). Else None."""
+def middle_of(lines: list[Line]) -> int | None:
+    """Where the right half of a page begins, if the page is laid out in columns: behind the left half and before the
+    right one of nine in ten of its whole lines (a damaged line may seem whole). Else None."""
     whole = [line for line in lines if len(line.cells) in (2 * ENTRY, 2 * BOTH)]
     gaps = [(line.ends[len(line.cells) // 2 - 1], line.starts[len(line.cells) // 2]) for line in whole]
     suits = {middle: sum(end <= middle < start for end, start in gaps) for middle, _ in gaps}
-    best = max(suits, key=suits.get, default=None)
-    return best if gaps and 10 * suits[best] >= 9 * len(gaps) else None
+    best = max(suits, key=lambda middle: suits[middle], default=None)
+    return best if best is not None and 10 * suits[best] >= 9 * len(gaps) else None
 
 
-def halve(pages):
-    """Tells for each line of the pages how many of its cells belong to the left half, where that can be seen. A page without
-    a whole line is taken to be laid out as the one before it."""
-    middle = None
+def halve(pages: list[list[Line]]) -> None:
+    """Tells for each line of the pages how many of its cells belong to the left half, where that can be seen. A page
+    without a whole line is taken to be laid out as the one before it."""
+    middle: int | None = None
     for lines in pages:
         middle = middle_of(lines) or middle
         for line in lines if middle else ():
-            line.left = sum(start < middle for start in line.starts)
+            line.left = sum(start < (middle or 0) for start in line.starts)

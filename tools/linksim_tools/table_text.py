@@ -1,12 +1,15 @@
 """The lines of a text that holds a shift table of TS 38.212, each with its numbers: of plain text, of a .docx document,
 and of a PDF by pdftotext."""
 
+from __future__ import annotations
+
 import dataclasses
 import io
 import itertools
 import re
 import shutil
 import subprocess
+import typing
 import unicodedata
 import xml.etree.ElementTree
 import zipfile
@@ -30,17 +33,17 @@ TAB = 1000
 
 @dataclasses.dataclass
 class Line:
-    """A line of a text: the file, the number of the line in it, its text, and whether a page begins with it. Its cells are
-    its whole numbers and other words, each with its place from left to right (`starts`, `ends`). Where two halves stand
-    side by side, `left` is how many of the cells belong to the left one, if that is known."""
+    """A line of a text: the file, the number of the line in it, its text, and whether a page begins with it. Its cells
+    are its whole numbers and other words, each with its place from left to right (`starts`, `ends`). Where two halves
+    stand side by side, `left` is how many of the cells belong to the left one, if that is known."""
 
     file: str
     number: int
     text: str
     page: bool
-    left: int = None
+    left: int | None = None
 
-    def __post_init__(self):
+    def __post_init__(self) -> None:
         found = [it for it in CELL.finditer(self.text) if it[0].strip("-")]
         words = [it[0] for it in found]
         shifts = [TAB * self.text.count("\t", 0, it.start()) for it in found]
@@ -51,23 +54,23 @@ class Line:
         self.words = len(self.cells) - len(self.numbers)
 
     @property
-    def place(self):
+    def place(self) -> str:
         """Where the line stands, for the reader of a message."""
         return f"{self.file}, line {self.number}"
 
     @property
-    def is_head(self):
+    def is_head(self) -> bool:
         """Whether the line is none of a table's entries: it has words and few numbers, or the set indexes alone."""
         indexes = self.numbers in (list(range(8)), [*range(8), *range(8)])
         return indexes or (self.words > 0 and len(self.numbers) < MANY) or not self.numbers
 
 
-def clean(text):
+def clean(text: str) -> str:
     """The text with one kind of space, hyphen and digit, and with nothing unseen."""
     return unicodedata.normalize("NFKC", text.translate(UNSEEN)).translate(HYPHENS)
 
 
-def decoded(name, octets):
+def decoded(name: str, octets: bytes) -> str:
     """The text of a file's octets: UTF-8, or UTF-16 with its mark, or else one octet a character."""
     if octets[:2] in (b"\xff\xfe", b"\xfe\xff"):
         return octets.decode("utf-16", errors="replace")
@@ -79,7 +82,7 @@ def decoded(name, octets):
         return octets.decode("cp1252", errors="replace")
 
 
-def text_of_pdf(name, octets):
+def text_of_pdf(name: str, octets: bytes) -> typing.Any:
     """The text of a PDF, laid out as on its pages, as pdftotext has it."""
     if not shutil.which("pdftotext"):
         raise Failed(f"{name} is a PDF, which pdftotext reads: apt-get install poppler-utils")
@@ -93,12 +96,12 @@ def text_of_pdf(name, octets):
 SIGNS = {WORD + "noBreakHyphen": "-", WORD + "tab": " ", WORD + "br": " ", WORD + "cr": " "}
 
 
-def paragraph_text(paragraph):
+def paragraph_text(paragraph: typing.Any) -> typing.Any:
     """The text of a document's paragraph."""
     return "".join(SIGNS.get(it.tag, it.text or "" if it.tag == WORD + "t" else "") for it in paragraph.iter())
 
 
-def document_lines(element):
+def document_lines(element: typing.Any) -> typing.Iterator[typing.Any]:
     """The lines of a document's element: each paragraph, and each line of each row of its tables, with tabs between the
     cells."""
     for part in element:
@@ -111,7 +114,7 @@ def document_lines(element):
             yield from document_lines(part)
 
 
-def text_of_document(name, octets):
+def text_of_document(name: str, octets: bytes) -> typing.Any:
     """The text of a .docx document, or of those in a .zip."""
     try:
         with zipfile.ZipFile(io.BytesIO(octets)) as parts:
@@ -124,7 +127,7 @@ def text_of_document(name, octets):
     return "\n".join(document_lines(document))
 
 
-def lines_of(name, octets):
+def lines_of(name: str, octets: bytes) -> list[Line]:
     """The lines of a file that has numbers or words. A form feed begins a page, and so does the file."""
     if octets.startswith(b"%PDF"):
         text = text_of_pdf(name, octets)
