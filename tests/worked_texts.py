@@ -1,7 +1,10 @@
-"""Inputs of the program's runs, and the texts that it is to write of them: those of the README's worked examples, and others
-that follow from TS 38.212 by hand, as the practice tables' parity columns are sums and rotations of columns."""
+"""Inputs of the program's runs, and the texts that it is to write of them: those of the README's worked examples, and
+others that follow from TS 38.212 by hand, as the practice tables' parity columns are sums and rotations of columns."""
+
+from __future__ import annotations
 
 import pathlib
+import typing
 
 from linksim_tools import faults
 from linksim_tools.graphs import GRAPHS
@@ -9,7 +12,7 @@ from linksim_tools.graphs import GRAPHS
 ROOT = pathlib.Path(__file__).resolve().parent.parent
 
 
-def both_graphs():
+def both_graphs() -> str:
     """The practice table, and one of base graph 1 in its manner: each core row has every other information column, and
     each further row two entries."""
     records = []
@@ -36,8 +39,8 @@ INPUTS = {
     "limited.toml": "rate2048 = 1024\nlbrm = 9\n",
     "both.csv": both_graphs(),
     "short.csv": "block,rv,g,qm,nl,erase\n1,0,1056,4,1,-\n",
-    # The bits behind the two punctured columns of both code blocks, and then all; and of the same block all, and then all
-    # with a flipped place of the second code block.
+    # The bits behind the two punctured columns of both code blocks, and then all; and of the same block all, and then
+    # all with a flipped place of the second code block.
     "long.csv": "block,rv,g,qm,nl,erase,flip\n1,0,3072,1,1,-,-\n1,2,20544,8,4,-,-\n"
     "2,3,20544,6,2,-,-\n2,1,20544,4,1,-,10300\n",
     "fields.csv": "block,rv,g,qm,nl,erase,flip,mask\n1,0,8,1,1,pcg:42:7,0-3 5,all\n1,0,8,1,1,4 6-7,-,0\n",
@@ -50,11 +53,11 @@ INPUTS = {
 }
 
 
-def bits_of(octets):
+def bits_of(octets: bytes) -> typing.Any:
     return [octet >> (7 - place) & 1 for octet in octets for place in range(8)]
 
 
-def remainder(bits, generator, length):
+def remainder(bits: list[int], generator: typing.Any, length: int) -> typing.Any:
     """The parity bits of TS 38.212, 5.1."""
     register = 0
     for bit in bits:
@@ -63,11 +66,11 @@ def remainder(bits, generator, length):
     return [register >> (length - 1 - place) & 1 for place in range(length)]
 
 
-def added(*columns):
+def added(*columns: list[int]) -> list[int]:
     return [sum(bits) % 2 for bits in zip(*columns)]
 
 
-def word(bits, z, information, rows):
+def word(bits: list[int], z: int, information: int, rows: int) -> list[int]:
     """The codeword of a code block under the practice tables (5.3.2), which has so many information columns of Zc bits.
     The core rows add up to the first parity column alone."""
     filled = bits + [0] * (information * z - len(bits))
@@ -80,7 +83,7 @@ def word(bits, z, information, rows):
     return [bit for column in columns for bit in column]
 
 
-def sent(bits, z, graph, start, count, qm):
+def sent(bits: list[int], z: int, graph: int, start: int, count: int, qm: int) -> list[int]:
     """The bits sent of a code block (5.4.2): so many from this column of the circular buffer on, without fillers, which
     interleaving then spreads."""
     information, rows = GRAPHS[graph].information, GRAPHS[graph].rows
@@ -94,11 +97,11 @@ def sent(bits, z, graph, start, count, qm):
     return [chosen[row * columns + column] for column in range(columns) for row in range(qm)]
 
 
-def hex_of(bits):
+def hex_of(bits: list[int]) -> typing.Any:
     return "".join(f"{int(''.join(map(str, bits[at:at + 4])), 2):x}" for at in range(0, len(bits), 4))
 
 
-def code_blocks(octets, graph):
+def code_blocks(octets: bytes, graph: int) -> typing.Any:
     """The transport block with its CRC, whole or in two code blocks with theirs (6.2.1 and 5.2.2)."""
     bits = bits_of(octets)
     if graph == 1:
@@ -108,13 +111,15 @@ def code_blocks(octets, graph):
     return [half + remainder(half, 0x800063, 24) for half in halves]
 
 
-def sent_line(transmission, block, octets, graph, z, start, g, qm):
+def sent_line(
+    transmission: int, block: int, octets: bytes, graph: int, z: int, start: int, g: int, qm: int
+) -> str:
     blocks = code_blocks(octets, graph)
     parts = [sent(bits, z, graph, start, g // len(blocks), qm) for bits in blocks]
     return f"sent {transmission} {block} {hex_of([bit for part in parts for bit in part])}\n"
 
 
-def stuck(columns):
+def stuck(columns: list[int]) -> str:
     """Columns 0 to 51 of block 01's codeword on which peeling is stuck, by position."""
     positions = [4 * column + at for column in columns for at in range(4)]
     return f"stuck 1 0 {len(positions)} {' '.join(map(str, positions))}\n"
@@ -226,7 +231,7 @@ total rounds 3 delivered 2 open 1 contradiction 0 codeblocks 3 failed 1
 }
 
 
-def short_texts():
+def short_texts() -> typing.Any:
     """What is written of 37 octets: K' 312, Zc 15, and 972 bits to send, of which 1,056 are 84 twice. All but the two
     punctured columns arrives."""
     octets = COUNTING[:37]
@@ -239,7 +244,7 @@ def short_texts():
     }
 
 
-def long_texts():
+def long_texts() -> typing.Any:
     """What is written of 479 octets twice: K' 1952 and Zc 208, so that 3,072 bits leave the two punctured columns, and
     20,544 bits are all."""
     asked = [(1, 1, 0, 3072, 1), (2, 1, 25, 20544, 8), (3, 2, 43, 20544, 6), (4, 2, 13, 20544, 4)]
@@ -269,17 +274,19 @@ RATE = "Twice the target code rate x 1024 of the MCS tables; 0.5 is 1024"
 SCHEDULES = {"send": "schedule.csv", "run": "losses.csv", "audit": "losses.csv"}
 
 
-def usage_of(command):
+def usage_of(command: str) -> tuple[str, str]:
     """The words of a command, and its example."""
     if command == "cut":
         return "[OPTIONS] --blocks <FILE>", "echo 01 | linksim cut --rate 1024 --blocks -"
     names = faults.READS[command]
-    paths = {"table": "practice.csv", "settings": "settings.toml", "blocks": "blocks.txt", "schedule": SCHEDULES.get(command)}
+    paths = {
+        "table": "practice.csv", "settings": "settings.toml", "blocks": "blocks.txt", "schedule": SCHEDULES.get(command)
+    }
     example = " ".join(f"--{name} examples/{paths[name]}" for name in names)
     return " ".join(f"--{name} <FILE>" for name in names), f"linksim {command} {example}"
 
 
-def help_of(command):
+def help_of(command: str) -> str:
     """A command's short help: its options in two columns, and an example."""
     usage, example = usage_of(command)
     options = [(f"    --{name} <FILE>", faults.FILES[name].about) for name in faults.READS[command]]
@@ -291,7 +298,7 @@ def help_of(command):
     return f"{ABOUT[command]}\n\nUsage: linksim {command} {usage}\n\nOptions:\n{lines}\n{end}"
 
 
-def long_help_of(command):
+def long_help_of(command: str) -> str:
     """A command's long help: below each option what it takes and what is refused of it."""
     usage, example = usage_of(command)
     options = [(f"    --{name} <FILE>", faults.of_file(name)) for name in faults.READS[command]]

@@ -4,10 +4,13 @@
 clone `rt lib` would prove the crates below nr_c once more. But each of them has the library then that `rt ci` has just proved,
 so `rattle build` is asked for the archive over these; it proves nr_c, and builds only what is proved."""
 
-import importlib.machinery
-import importlib.util
 import pathlib
 import subprocess
+import sys
+
+sys.path.append(str(pathlib.Path(__file__).resolve().parent.parent))
+
+from crate_list import crates_and_below, crates_and_direct  # noqa: E402  (it stands in the folder that was just named)
 
 ROOT = pathlib.Path(__file__).resolve().parent.parent.parent
 CRATES = ROOT / "crates"
@@ -22,11 +25,7 @@ def kit():
 
 def below():
     """The crates that nr_c stands on, all of them and those that its line of crates.txt names."""
-    script = importlib.machinery.SourceFileLoader("refused_growths", str(ROOT / "tests" / "refused-growths"))
-    growths = importlib.util.module_from_spec(importlib.util.spec_from_loader("refused_growths", script))
-    script.exec_module(growths)
-    line = next(it for it in (ROOT / "crates.txt").read_text().splitlines() if it.startswith("nr_c "))
-    return sorted(growths.crates_and_below()["nr_c"]), line.partition(":")[2].split()
+    return sorted(crates_and_below()["nr_c"]), crates_and_direct()["nr_c"]
 
 
 def newest(crates):

@@ -1,6 +1,10 @@
-"""The chain of TS 38.212 once more, of plain lists and by the clauses alone, as the tests of the tools have its parts."""
+"""The chain of TS 38.212 once more, of plain lists and by the clauses alone, as the tests of the tools have its
+parts."""
+
+from __future__ import annotations
 
 import csv
+import typing
 
 import encoder
 from linksim_tools import rate_matching
@@ -10,20 +14,20 @@ from linksim_tools.graphs import GRAPHS
 SETS = {a << j: index for index, a in enumerate((2, 3, 5, 7, 9, 11, 13, 15)) for j in range(8) if a << j <= 384}
 
 
-def tables(text):
+def tables(text: bytes) -> dict[int, dict[tuple[int, int], list[int]]]:
     """The entries of a shift table's text, by base graph and then by (row, column)."""
-    found = {}
+    found: dict[int, dict[tuple[int, int], list[int]]] = {}
     for graph, row, column, *values in csv.reader(text.decode().splitlines()):
         found.setdefault(int(graph), {})[int(row), int(column)] = [int(value) for value in values]
     return found
 
 
-def graph_of(a, rate2048):
+def graph_of(a: int, rate2048: int) -> int:
     """The base graph (6.2.2, 7.2.2)."""
     return 2 if a <= 292 or a <= 3824 and 100 * rate2048 <= 67 * 2048 or 4 * rate2048 <= 2048 else 1
 
 
-def plan(a, rate2048):
+def plan(a: int, rate2048: int) -> typing.Any:
     """The numbers of segmentation (5.2.2, 5.3.2) in the order of NrPlan, or None where C does not divide B'."""
     graph, b = graph_of(a, rate2048), a + (24 if a > 3824 else 16)
     most = {1: 8448, 2: 3840}[graph]
@@ -38,7 +42,7 @@ def plan(a, rate2048):
     return dict(zip(("graph", "b", "l", "c", "kdash", "kb", "z", "set", "k", "n"), numbers))
 
 
-def code_blocks(octets, numbers):
+def code_blocks(octets: bytes, numbers: dict[str, int]) -> list[list[int]]:
     """The K' bits of each code block of a transport block."""
     bits = encoder.attached(encoder.bits_of(octets))
     if numbers["c"] == 1:
@@ -47,15 +51,20 @@ def code_blocks(octets, numbers):
     return [encoder.with_crc(bits[at : at + size], encoder.CRC_24B) for at in range(0, len(bits), size)]
 
 
-def coded(entries, numbers, bits):
+def coded(
+    entries: dict[tuple[int, int], list[int]], numbers: dict[str, int], bits: list[int]
+) -> list[int | None]:
     """The N bits d of a code block (5.3.2), None for a filler."""
     fillers = numbers["k"] - numbers["kdash"]
-    whole = encoder.codeword(entries, GRAPHS[numbers["graph"]].information, numbers["set"], numbers["z"], bits + [0] * fillers)
+    whole: list[int | None] = []
+    whole += encoder.codeword(
+        entries, GRAPHS[numbers["graph"]].information, numbers["set"], numbers["z"], bits + [0] * fillers
+    )
     whole[numbers["kdash"] : numbers["k"]] = [None] * fillers
     return whole[2 * numbers["z"] :]
 
 
-def sent(text, octets, tx, rate2048, lbrm=0):
+def sent(text: bytes, octets: bytes, tx: typing.Any, rate2048: int, lbrm: int = 0) -> bytes:
     """The bits of a transmission (5.4.2, 5.5)."""
     numbers = plan(8 * len(octets), rate2048)
     entries = tables(text)[numbers["graph"]]
@@ -63,7 +72,7 @@ def sent(text, octets, tx, rate2048, lbrm=0):
     ncb = rate_matching.buffer_length(numbers, lbrm or None)
     start = rate_matching.start(numbers, ncb, tx.rv)
     blocks = code_blocks(octets, numbers)
-    bits = []
+    bits: list[int] = []
     for r, count in rate_matching.lengths(tx.g, tx.qm, tx.nl, scheduled).items():
         d = coded(entries, numbers, blocks[r])
         bits += encoder.interleaved(encoder.selected(d, start, ncb, count), tx.qm)

@@ -1,8 +1,11 @@
 """Another model of `send`, `run` and `audit`: plain lists and whole numbers, by the clauses of TS 38.212 alone. The
 parts of the transmitter are those of the other tests; the receiver stands here."""
 
+from __future__ import annotations
+
 import dataclasses
 import functools
+import typing
 
 import encoder
 import model
@@ -19,21 +22,21 @@ class Tx:
     g: int
     qm: int = 1
     nl: int = 1
-    erased: frozenset = frozenset()
-    flipped: frozenset = frozenset()
+    erased: frozenset[int] = frozenset()
+    flipped: frozenset[int] = frozenset()
     # The code blocks that are scheduled; None is all.
-    mask: tuple = None
+    mask: tuple[int, ...] | None = None
 
 
-def hexadecimal(bits):
+def hexadecimal(bits: list[int]) -> typing.Any:
     """Bits as the program writes them."""
     return encoder.octets_of(list(bits)).hex()[: (len(bits) + 3) // 4]
 
 
 @functools.lru_cache(maxsize=None)
-def parity_rows(text, graph, index, size):
+def parity_rows(text: str, graph: int, index: int, size: int) -> typing.Any:
     """The positions of each parity row of a codeword (5.3.2), as a number whose bits they are."""
-    rows = {}
+    rows: dict[tuple[int, int], int] = {}
     for (row, column), values in model.tables(text.encode())[graph].items():
         for t in range(size):
             position = column * size + (t + values[index]) % size
@@ -44,21 +47,21 @@ def parity_rows(text, graph, index, size):
 class Coded:
     """A transport block, and the codeword of each of its code blocks, from the two columns on that are never sent."""
 
-    def __init__(self, table, settings, octets):
+    def __init__(self, table: str, settings: tuple[int, int | None], octets: bytes) -> None:
         self.link, self.octets = (table, settings), octets
         rate2048, self.lbrm = settings
         self.plan = plan = model.plan(8 * len(octets), rate2048)
         self.blocks = model.code_blocks(octets, plan)
         entries = model.tables(table.encode())[plan["graph"]]
         fillers = [0] * (plan["k"] - plan["kdash"])
-        information = model.INFORMATION[plan["graph"]]
+        information = GRAPHS[plan["graph"]].information
         self.words = [
             encoder.codeword(entries, information, plan["set"], plan["z"], bits + fillers) for bits in self.blocks
         ]
         self.rows = parity_rows(table, plan["graph"], plan["set"], plan["z"])
         self.fillers = sum(1 << position for position in range(plan["kdash"], plan["k"]))
 
-    def places(self, tx):
+    def places(self, tx: typing.Any) -> typing.Any:
         """The code block and the position of each place of a transmission (5.4.2, 5.5)."""
         plan = self.plan
         scheduled = [r for r in range(plan["c"]) if tx.mask is None or r in tx.mask]
@@ -68,11 +71,11 @@ class Coded:
         d = [None if self.fillers >> position & 1 else position for position in range(first, first + plan["n"])]
         found = []
         for r, count in rate_matching.lengths(tx.g, tx.qm, tx.nl, scheduled).items():
-            chosen = [(r, position) for position in encoder.selected(d, start, ncb, count)]
-            found += encoder.interleaved(chosen, tx.qm)
+            chosen = encoder.interleaved(encoder.selected(d, start, ncb, count), tx.qm)
+            found += [(r, position) for position in chosen]
         return found
 
-    def sent(self, tx):
+    def sent(self, tx: typing.Any) -> typing.Any:
         """The bits of a transmission."""
         return [self.words[r][position] for r, position in self.places(tx)]
 
@@ -80,16 +83,16 @@ class Coded:
 class Receiver:
     """What was heard of a transport block, and what the parity rows fix of it, one unknown at a time."""
 
-    def __init__(self, coded):
+    def __init__(self, coded: typing.Any) -> None:
         self.coded = coded
-        self.heard = []
+        self.heard: list[tuple[int, int, int]] = []
         count = coded.plan["c"]
         # The positions that are heard or fillers; those that are fixed too; and which of these are ones.
         self.given, self.known, self.ones = [coded.fillers] * count, [coded.fillers] * count, [0] * count
         for r in range(count):
             self.peel(r)
 
-    def hear(self, tx):
+    def hear(self, tx: typing.Any) -> None:
         """Hears a transmission: a place that is flipped as the other bit, and none that is erased."""
         places = self.coded.places(tx)
         for place, ((r, position), bit) in enumerate(zip(places, self.coded.sent(tx))):
@@ -104,7 +107,7 @@ class Receiver:
         for r in range(len(self.known)):
             self.peel(r)
 
-    def peel(self, r):
+    def peel(self, r: int) -> None:
         """Fixes what a row with one unknown position gives, until no row has one."""
         known, ones, fixed = self.known[r], self.ones[r], True
         while fixed:
@@ -117,21 +120,21 @@ class Receiver:
                     known, fixed = known | unknown, True
         self.known[r], self.ones[r] = known, ones
 
-    def left(self):
+    def left(self) -> typing.Any:
         """How many positions below K' are not fixed, by code block."""
         kdash = self.coded.plan["kdash"]
         return [kdash - bin(known & (1 << kdash) - 1).count("1") for known in self.known]
 
-    def explained(self):
+    def explained(self) -> typing.Any:
         """The octets of the one transport block that may explain what was heard, or None where it does not."""
         plan = self.coded.plan
         part = plan["kdash"] - plan["l"]
         bits = [ones >> position & 1 for ones in self.ones for position in range(part)]
         octets = encoder.octets_of(bits)[: len(self.coded.octets)]
-        other = self.coded if octets == self.coded.octets else Coded(*self.coded.link, octets)
+        other = self.coded if octets == self.coded.octets else Coded(self.coded.link[0], self.coded.link[1], octets)
         return octets if all(other.words[r][position] == bit for r, position, bit in self.heard) else None
 
-    def line(self, count):
+    def line(self, count: int) -> typing.Any:
         """What is said of the block behind its number, after so many transmissions."""
         left = self.left()
         failed = sum(map(bool, left))
@@ -140,7 +143,7 @@ class Receiver:
         said = f"{outcome} tx {count} failed {failed} of {len(left)}"
         return outcome, failed, said + (f" {octets.hex()}" if octets is not None else "")
 
-    def audit(self, n):
+    def audit(self, n: int) -> typing.Iterator[typing.Any]:
         """The lines of `audit` of block n."""
         size = GRAPHS[self.coded.plan["graph"]].columns * self.coded.plan["z"]
         for r, left in enumerate(self.left()):
@@ -151,7 +154,7 @@ class Receiver:
                 yield f"order {n} {r} {bin(self.known[r] & ~self.given[r]).count('1')}"
 
 
-def texts(table, settings, blocks, transmissions):
+def texts(table: str, settings: tuple[int, int | None], blocks: list[bytes], transmissions: list[Tx]) -> typing.Any:
     """What `send`, `run` and `audit` write of these transmissions, none of which is refused; settings are the rate and
     TBS_LBRM or None."""
     coded = [Coded(table, settings, octets) for octets in blocks]
@@ -175,7 +178,7 @@ def texts(table, settings, blocks, transmissions):
     return {name: "".join(f"{line}\n" for line in text) for name, text in each.items()}
 
 
-def record(tx):
+def record(tx: typing.Any) -> typing.Any:
     """The record of a transmission in a schedule of eight columns."""
     erased, flipped = (" ".join(map(str, sorted(it))) or "-" for it in (tx.erased, tx.flipped))
     mask = "all" if tx.mask is None else " ".join(map(str, tx.mask))

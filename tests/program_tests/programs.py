@@ -1,5 +1,7 @@
 """The program as the tests have it: run over texts, each in a file of its own, with its ends whole or broken."""
 
+from __future__ import annotations
+
 import concurrent.futures
 import contextlib
 import dataclasses
@@ -21,13 +23,14 @@ SECONDS = 120
 FILES = ["table", "settings", "blocks", "schedule"]
 Text = typing.Union[str, bytes]
 
-_program = _folder = _library = None
+_program = _folder = pathlib.Path()
+_library: pathlib.Path | None = None
 # One item a run: several runs may go on at once.
-_runs = []
+_runs: list[list[str]] = []
 
 
 @contextlib.contextmanager
-def use(program):
+def use(program: pathlib.Path) -> typing.Iterator[None]:
     """Names the program, and has a folder for its files while the tests run."""
     global _program, _folder
     _program = program.resolve()
@@ -38,17 +41,17 @@ def use(program):
         yield
 
 
-def count():
+def count() -> int:
     """How often the program was run."""
     return len(_runs)
 
 
-def folder():
+def folder() -> pathlib.Path:
     """Where the files of the runs lie, and where the program is run."""
     return _folder
 
 
-def broken_ends():
+def broken_ends() -> pathlib.Path:
     """The library tests/break.c, by which reads and writes fail; a test without a C compiler is skipped."""
     global _library
     if _library is None:
@@ -61,7 +64,7 @@ def broken_ends():
     return _library
 
 
-def octets(text: Text):
+def octets(text: Text) -> bytes:
     """A text in octets."""
     return text if isinstance(text, bytes) else text.encode()
 
@@ -75,17 +78,17 @@ class Ended:
     error: bytes
 
 
-def done(output: Text):
+def done(output: Text) -> Ended:
     """The ending of a run that is done."""
     return Ended(0, octets(output), b"")
 
 
-def refused(fault: str, output: Text = b""):
+def refused(fault: str, output: Text = b"") -> Ended:
     """The ending of a run that is refused by this fault, behind a first part of its text."""
     return Ended(1, octets(output), b"linksim: refused: " + fault.encode() + b"\n")
 
 
-def ran(words, stdin: Text = b"", name=None, **breaks):
+def ran(words: list[str], stdin: Text = b"", name: str | None = None, **breaks: typing.Any) -> Ended:
     """The ending of the program with these words, and by another name than its path where one is given. `breaks` are
     numbers for tests/break.c, by their names."""
     _runs.append(words)
@@ -94,7 +97,7 @@ def ran(words, stdin: Text = b"", name=None, **breaks):
         environment["LD_PRELOAD"] = str(broken_ends())
         environment.update({name: str(value) for name, value in breaks.items()})
     ended = subprocess.run(
-        [name or _program, *words],
+        [name or str(_program), *words],
         executable=_program,
         input=octets(stdin),
         capture_output=True,
@@ -106,7 +109,7 @@ def ran(words, stdin: Text = b"", name=None, **breaks):
     return Ended(ended.returncode, ended.stdout, ended.stderr)
 
 
-def all_ran(runs):
+def all_ran(runs: list[tuple[list[str], str, dict[str, int]]]) -> list[Ended]:
     """The endings of many runs, each given by its words, its standard input and its breaks, some of them at once."""
     if any(breaks for _, _, breaks in runs):
         broken_ends()
@@ -129,11 +132,11 @@ class Row:
     # The rate of `cut`, as its words have it.
     rate: str = "2048"
 
-    def wanted(self):
+    def wanted(self) -> Ended:
         """How the run is to end."""
         return refused(self.refused) if self.refused else done(self.output)
 
-    def words(self, command):
+    def words(self, command: str) -> list[str]:
         """The words of a command, over files of the folder that this writes."""
         names = {"cut": ["blocks"], "check": ["table"]}.get(command, FILES)
         for name in names:
@@ -142,7 +145,7 @@ class Row:
         return [command, *rate, *(word for name in names for word in (f"--{name}", name))]
 
 
-def shortened(ended):
+def shortened(ended: Ended) -> str:
     """An ending as a failed test shows it."""
     parts = [part if len(part) < 2000 else part[:1000] + b" .. " + part[-1000:] for part in (ended.output, ended.error)]
     return f"status {ended.status}, standard output {parts[0]!r}, standard error {parts[1]!r}"
@@ -151,12 +154,12 @@ def shortened(ended):
 class Program(unittest.TestCase):
     """A test that runs the program."""
 
-    def is_ended(self, found, wanted, name):
+    def is_ended(self, found: Ended, wanted: Ended, name: str) -> None:
         """Compares how a run ended, octet by octet, with how it is to end."""
         if found != wanted:
             self.fail(f"{name}: {shortened(found)} where {shortened(wanted)} is due")
 
-    def check(self, commands, rows):
+    def check(self, commands: str, rows: list[Row]) -> None:
         """Runs each row with each of these commands."""
         names = [row.name for row in rows]
         self.assertEqual(len(set(names)), len(names), "two rows have one name")

@@ -1,6 +1,10 @@
 """What `audit` writes. The values are worked by hand: under the practice table the codeword of block 01 has 52 columns
 of four positions, columns 6 to 9 are fillers, and column 10 + i is a rotation of column i mod 10."""
 
+from __future__ import annotations
+
+import typing
+
 import chain
 from programs import Program, Row
 from test_send import REFUSED_TRANSMISSIONS
@@ -42,14 +46,14 @@ ERASURES = [
 class Audit(Program):
     """Against the rows above."""
 
-    def test_rows(self):
+    def test_rows(self) -> None:
         self.check("audit", ROWS)
 
-    def test_erasures(self):
+    def test_erasures(self) -> None:
         """All positions that six places leave open say which of them are erased."""
         rows = []
         for erase, erased in ERASURES:
-            tx = chain.Tx(1, 0, 6, erased=frozenset(erased))
+            tx = chain.Tx(1, 0, 6, erased=frozenset(typing.cast(typing.Iterable[int], erased)))
             text = chain.texts(PRACTICE, (2048, None), [b"\1"], [tx])["audit"]
             rows.append(Row(erase, text, settings=FULL_RATE, schedule=six(f"1,0,6,1,1,{erase}")))
         self.check("audit", rows)

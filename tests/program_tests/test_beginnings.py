@@ -1,12 +1,16 @@
 """Files that were cut short: each beginning of a text has its own answer, by a rule or worked out by hand."""
 
+from __future__ import annotations
+
+import typing
+
 import chain
 from programs import Program, Row, all_ran, done, refused
 from test_settings import BLOCK, PLACES
 from texts import FULL_RATE, HEADERS, PRACTICE, lines, six
 
 
-def fault_of_beginning(records, commas, digits):
+def fault_of_beginning(records: int, commas: int, digits: int) -> str | None:
     """Why a beginning of the practice table is refused, or None where it is not: so many whole records, and a line of
     so many commas, with so many digits behind the last of them."""
     if 0 < commas < 10 or commas == 0 and digits:
@@ -22,7 +26,7 @@ def fault_of_beginning(records, commas, digits):
     return "MissingRow 2" if whole % 2 else "Extension 2"
 
 
-def settings_of_beginning(octets):
+def settings_of_beginning(octets: int) -> typing.Any:
     """What a settings file says that has so many of its first octets: the rate and the limit, or the fault."""
     if octets == 0:
         return "Missing"
@@ -33,7 +37,7 @@ def settings_of_beginning(octets):
 
 
 # By the number of columns: a schedule's records, and how many transmissions each beginning of it has, or its fault.
-SCHEDULES = {
+SCHEDULES: dict[int, typing.Any] = {
     6: (
         ["1,0,24,4,1,pcg:42:70", "1,0,24,4,1,3-12 20"],
         [
@@ -100,7 +104,7 @@ SCHEDULES = {
 class Beginnings(Program):
     """Of each file, octet by octet."""
 
-    def test_tables(self):
+    def test_tables(self) -> None:
         records = commas = digits = 0
         self.assertEqual(len(PRACTICE), 2677)
         words = ["check", "--table", "-"]
@@ -118,7 +122,7 @@ class Beginnings(Program):
                 digits += 1
         self.assertEqual(records, 105)
 
-    def test_settings(self):
+    def test_settings(self) -> None:
         """The bits of a limited buffer say the limit. The rate chooses the base graph of a longer block alone: another
         test reads it."""
         text, rows = FULL_RATE + "lbrm = 300\n", []
@@ -132,7 +136,7 @@ class Beginnings(Program):
             )
         self.check("send", rows)
 
-    def test_schedules(self):
+    def test_schedules(self) -> None:
         rows = []
         for columns, (records, answers) in SCHEDULES.items():
             text = lines(HEADERS[columns], *records)

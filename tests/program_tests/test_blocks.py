@@ -1,5 +1,9 @@
 """Blocks files: what is read of them, as the text of `cut` shows, and the first fault."""
 
+from __future__ import annotations
+
+import typing
+
 import re
 
 from programs import Program, Row
@@ -17,7 +21,7 @@ ACCEPTED = [
 ]
 
 REFUSED = [
-    Row(repr(text), refused=f"blocks {fault}", blocks=text)
+    Row(repr(text), refused=f"blocks {fault}", blocks=typing.cast(typing.Any, text))
     for fault, text in [
         ("Empty", ""),
         ("Blank 1", "\n"),
@@ -41,7 +45,7 @@ REFUSED = [
 ]
 
 
-def numbered(count):
+def numbered(count: int) -> str:
     """What `cut` writes of so many blocks 01."""
     number = re.compile("^(block|attached|code) 1", re.MULTILINE)
     return "".join(number.sub(rf"\1 {n}", CUT_01) for n in range(1, count + 1))
@@ -63,11 +67,11 @@ SIZES = [
 class Blocks(Program):
     """Against the rows above."""
 
-    def test_accepted(self):
+    def test_accepted(self) -> None:
         self.check("cut", ACCEPTED)
 
-    def test_refused(self):
+    def test_refused(self) -> None:
         self.check("cut send run audit", REFUSED)
 
-    def test_sizes(self):
+    def test_sizes(self) -> None:
         self.check("cut", SIZES)

@@ -1,5 +1,9 @@
 """What `check` says of table files: how many entries they have, or the first fault."""
 
+from __future__ import annotations
+
+import typing
+
 from programs import Program, Row
 from texts import (
     LEAST, ONE_CORE_RECORDS, ONE_EXTENSION_RECORDS, PRACTICE, RECORDS, lines, practice_with, record,
@@ -11,24 +15,24 @@ ZERO = record(2, 0, 0, 0)
 EMPTY_FIELDS = "," * 10
 
 
-def practice_as(form):
+def practice_as(form: typing.Callable[..., typing.Any]) -> str:
     """The practice table with each record in another form."""
     return "".join(form(line) for line in RECORDS)
 
 
-def blanks_around(line):
+def blanks_around(line: str) -> str:
     """A record with blanks at the ends of some fields."""
     graph, row, column, first, second, *values = line.split(",")
     return ",".join([f" {graph}", f"{row} ", f"\t{column}", f"{first}\t", f" \t{second} \t", *values]) + " \r\n"
 
 
-def quoted(line):
+def quoted(line: str) -> str:
     """A record with some of its fields in quotes, one of them with blanks."""
     graph, row, *rest = line.split(",")
     return ",".join([f'"{graph}"', f'"{row}"', *rest[:-1], f'" {rest[-1]}\t"']) + "\n"
 
 
-def ten_digits(line):
+def ten_digits(line: str) -> str:
     """A record of numbers with zeros in front."""
     return ",".join(f"{number:0>10}" for number in line.split(",")) + "\n"
 
@@ -138,16 +142,16 @@ REFUSED_RECORDS = [
 class Check(Program):
     """Against the rows above."""
 
-    def test_accepted(self):
+    def test_accepted(self) -> None:
         self.check("check", ACCEPTED)
 
-    def test_refused(self):
+    def test_refused(self) -> None:
         self.check("check", REFUSED)
 
-    def test_refused_records(self):
+    def test_refused_records(self) -> None:
         self.check("check", REFUSED_RECORDS)
 
-    def test_the_values_of_another_form(self):
+    def test_the_values_of_another_form(self) -> None:
         """The same numbers, whatever the form they stand in: block 01 is sent as by the practice table."""
         accepted = [row for row in ACCEPTED if row.output == ALL and "65535" not in row.name]
         schedule = "block,rv,g,qm,nl,erase\n1,0,24,4,1,-\n1,3,40,1,1,-\n"

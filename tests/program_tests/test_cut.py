@@ -1,5 +1,9 @@
 """What `cut` writes of blocks files. The values are those of TS 38.212, worked by hand, or of the other model."""
 
+from __future__ import annotations
+
+import typing
+
 import encoder
 import model
 from programs import Program, Row, done, folder, ran
@@ -8,14 +12,14 @@ from texts import CUT_01, lines
 NINE_OCTETS = "313233343536373839"
 
 
-def numbers(n, a, rate2048):
+def numbers(n: int, a: int, rate2048: int) -> str:
     """The line of a block's numbers, by the other model."""
     plan = model.plan(a, rate2048)
     names = ["b", "graph", "c", "l", "kdash", "kb", "z", "set", "k", "n"]
     return f"block {n} a {a} " + " ".join(f"{name} {plan[name]}" for name in names)
 
 
-def cut_by_the_model(n, octets, rate2048):
+def cut_by_the_model(n: int, octets: bytes, rate2048: int) -> typing.Iterator[str]:
     """What `cut` writes of a block, by the other model."""
     bits = encoder.attached(encoder.bits_of(octets))
     parts = model.code_blocks(octets, model.plan(8 * len(octets), rate2048))
@@ -25,7 +29,7 @@ def cut_by_the_model(n, octets, rate2048):
         yield f"code {n} {r} {encoder.octets_of(part).hex()[: (len(part) + 3) // 4]}"
 
 
-def zeros_cut(octets, line):
+def zeros_cut(octets: int, line: str) -> str:
     """What `cut` writes of a first block of zeros in one code block, whose CRC is zero, behind this line."""
     return lines(line, f"attached 1 {'00' * (octets + 2)}", f"code 1 0 {'00' * (octets + 2)}")
 
@@ -110,18 +114,18 @@ REFUSED = [
 class Cut(Program):
     """Against the rows above, and files that are longer than one read."""
 
-    def test_blocks(self):
+    def test_blocks(self) -> None:
         self.check("cut", ROWS + GRAPHS + RATES)
 
-    def test_refused(self):
+    def test_refused(self) -> None:
         self.check("cut", REFUSED)
 
-    def test_two_code_blocks(self):
+    def test_two_code_blocks(self) -> None:
         line = "block 1 a 3832 b 3856 graph 2 c 2 l 24 kdash 1952 kb 10 z 208 set 6 k 2080 n 10400"
         text = lines(line, f"attached 1 {'0' * 964}", f"code 1 0 {'0' * 488}", f"code 1 1 {'0' * 488}")
         self.check("cut", [Row("479 octets at a quarter", text, blocks="00" * 479, rate="512")])
 
-    def test_the_largest_block(self):
+    def test_the_largest_block(self) -> None:
         """163,836 octets: B is 1,310,712, in 156 code blocks of 8,426 bits, the most that base graph 1 has."""
         line = "block 1 a 1310688 b 1310712 graph 1 c 156 l 24 kdash 8426 kb 22 z 384 set 1 k 8448 n 25344"
         # (a code block of zeros ends by its CRC of zeros, and 8,426 bits are 2,107 digits)
@@ -129,7 +133,7 @@ class Cut(Program):
         row = Row("zeros", lines(line, f"attached 1 {'00' * 163_839}", *codes), blocks="00" * 163_836)
         self.check("cut", [row])
 
-    def test_a_file_of_many_reads(self):
+    def test_a_file_of_many_reads(self) -> None:
         """All lines of a file of more than three times 65,536 octets: no line is the same as another one."""
         blocks = [bytes((7 * n + place * place) % 256 for place in range(478 - n // 2)) for n in range(256)]
         text = lines(*(it.hex() for it in blocks))

@@ -1,6 +1,8 @@
 """Drawn links against the other model: tables of the published shape with drawn numbers, and schedules that erase and
 flip."""
 
+from __future__ import annotations
+
 import random
 
 import chain
@@ -12,22 +14,23 @@ CASES = 60
 TABLES = [table_text({graph: drawn_entries(graph, seed) for graph in (1, 2)}) for seed in range(3)]
 
 
-def drawn_places(draw, count, chance):
+def drawn_places(draw: random.Random, count: int, chance: float) -> frozenset[int]:
     """Places below a count, each with this chance."""
     return frozenset(place for place in range(count) if draw.random() < chance)
 
 
-def drawn_tx(draw, n, octets):
+def drawn_tx(draw: random.Random, n: int, octets: int) -> chain.Tx:
     """A transmission of block n, of a part of its bits to several times as many."""
     qm, nl = draw.choice([1, 1, 2, 4, 6, 8]), draw.choice([1, 1, 2, 3, 4])
     g = qm * nl * max(2, draw.randrange(4 * octets, 40 * octets + 80) // (qm * nl))
     erased = drawn_places(draw, g, draw.choice([0, 0, 0.1, 0.3, 0.6]))
     flipped = drawn_places(draw, g, 2 / g) if draw.random() < 0.15 else frozenset()
-    mask = draw.choice([None, None, (0,), (0, 1), (1, 0, 7)])
+    masks: list[tuple[int, ...] | None] = [None, None, (0,), (0, 1), (1, 0, 7)]
+    mask = draw.choice(masks)
     return chain.Tx(n, draw.randrange(4), g, qm, nl, erased, flipped, mask)
 
 
-def case(seed):
+def case(seed: int) -> tuple[str, tuple[int, int | None], list[bytes], list[chain.Tx]]:
     """A table, settings, blocks and transmissions."""
     draw = random.Random(seed)
     lengths = [draw.choice([1, 2, 3, 5, 9, 17, 36, 37, 60]) for _ in range(draw.randrange(1, 4))]
@@ -46,7 +49,7 @@ def case(seed):
 class Drawn(Program):
     """Of `send`, `run` and `audit`."""
 
-    def test_drawn(self):
+    def test_drawn(self) -> None:
         said = ""
         for seed in range(CASES):
             table, (rate2048, lbrm), blocks, transmissions = case(seed)

@@ -1,6 +1,8 @@
 """Files and outputs that break, that take little at a time, or that have no end. Each failing read is the fault `Read`
 of its file, with nothing written and no read after it; each failing write is `Write`, behind the octets before it."""
 
+from __future__ import annotations
+
 import programs
 from programs import Ended, Program, Row, done, folder, octets, ran, refused
 from texts import CUT_01, PRACTICE, WITHOUT_COLUMN_1, lines, six, stuck, ten
@@ -38,14 +40,14 @@ TRIALS = [
 ]
 
 
-def reads_of(command, row, step):
+def reads_of(command: str, row: Row, step: int) -> list[tuple[str, int]]:
     """The files that a command reads, in their order, each with its number of reads of so many octets: the last one of
     each meets the end."""
     names = {"cut": ["blocks"], "check": ["table"]}.get(command, programs.FILES)
     return [(name, -(-len(getattr(row, name)) // step) + 1) for name in names]
 
 
-def reads_made():
+def reads_made() -> int:
     """How many reads the last run made."""
     return int((folder() / "count").read_text())
 
@@ -53,7 +55,7 @@ def reads_made():
 class Reads(Program):
     """Of files, each read in turn."""
 
-    def breaks(self, command, row, step, parts):
+    def breaks(self, command: str, row: Row, step: int, parts: list[str]) -> None:
         """Breaks each read of these files, where a read takes so many octets."""
         words, before = row.words(command), 0
         for name, reads in reads_of(command, row, step):
@@ -65,18 +67,19 @@ class Reads(Program):
         self.is_ended(ran(words, STEP=step, COUNT_FILE="count"), row.wanted(), f"{command}, {row.name}")
         self.assertEqual(reads_made(), before, f"{command}: as many reads as the files ask for")
 
-    def test_each_read_of_a_table(self):
+    def test_each_read_of_a_table(self) -> None:
         for command, row in TRIALS:
             if command != "cut":
                 self.breaks(command, row, 64, ["table"])
 
-    def test_each_read_of_the_other_files(self):
+    def test_each_read_of_the_other_files(self) -> None:
         for command, row in TRIALS:
             if command != "check":
                 self.breaks(command, row, 1, ["settings", "blocks", "schedule"])
 
-    def test_standard_input_breaks(self):
-        for words, name in [([], "blocks"), (["check", "--table", "-"], "table")]:
+    def test_standard_input_breaks(self) -> None:
+        cases: list[tuple[list[str], str]] = [([], "blocks"), (["check", "--table", "-"], "table")]
+        for words, name in cases:
             for read in range(1, 4):
                 found = ran(words, "01", STEP=1, FAIL_READ=read)
                 self.is_ended(found, refused(f"{name} Read"), f"{words}, read {read}")
@@ -85,7 +88,7 @@ class Reads(Program):
 class Writes(Program):
     """Of standard output and standard error, each write in turn."""
 
-    def test_each_write(self):
+    def test_each_write(self) -> None:
         for command, row in TRIALS:
             words, text = row.words(command), octets(row.output)
             breaks = [{"STEP": 1, "FAIL_OUTPUT": before + 1} for before in range(len(text) + 1)]
@@ -93,7 +96,7 @@ class Writes(Program):
                 wanted = refused("output Write", text[:before]) if before < len(text) else done(text)
                 self.is_ended(found, wanted, f"{command}, {row.name}, after {before} octets")
 
-    def test_a_line_a_write(self):
+    def test_a_line_a_write(self) -> None:
         """Each line is written as soon as it is made."""
         for command, row in TRIALS:
             words, made = row.words(command), octets(row.output).splitlines(keepends=True)
@@ -102,7 +105,7 @@ class Writes(Program):
                 found = ran(words, FAIL_OUTPUT=before + 1)
                 self.is_ended(found, wanted, f"{command}, {row.name}, after {before} lines")
 
-    def test_endings(self):
+    def test_endings(self) -> None:
         """What is written where standard output or standard error breaks at a write of one octet."""
         nothing = Row("", schedule=ten()).words("audit")
         no_block = ["cut", "--blocks", "-"]
@@ -133,12 +136,12 @@ class Writes(Program):
 class Hindered(Program):
     """Reads and writes that are done in part, or that signals interrupt."""
 
-    def test_parts(self):
+    def test_parts(self) -> None:
         for command, row in TRIALS:
             for step in [1, 7, 4096]:
                 self.is_ended(ran(row.words(command), STEP=step), row.wanted(), f"{command} by {step}")
 
-    def test_interrupted(self):
+    def test_interrupted(self) -> None:
         for command, row in TRIALS:
             for times in [1, 3]:
                 found = ran(row.words(command), INTERRUPTIONS=times, STEP=64)
@@ -157,13 +160,13 @@ LIMITS = {
 class Sizes(Program):
     """Files without an end, or of the most octets that they may have."""
 
-    def over(self, command, **paths):
+    def over(self, command: str, **paths: str) -> list[str]:
         """The words of a command over the files of a whole row, some of which have another path."""
         words = Row("files", schedule=RECORD).words(command)
         options = {f"--{name}": path for name, path in paths.items()}
         return [options.get(before, word) for before, word in zip([""] + words, words)]
 
-    def test_endless(self):
+    def test_endless(self) -> None:
         for at, name in enumerate(programs.FILES):
             commands = {"blocks": ["cut", "run"], "table": ["check", "send", "run", "audit"]}
             for command in commands.get(name, ["send", "run", "audit"]):
@@ -172,7 +175,7 @@ class Sizes(Program):
                 found = ran(self.over(command, **paths))
                 self.is_ended(found, refused(f"{name} TooLong"), command)
 
-    def test_reads_of_endless_files(self):
+    def test_reads_of_endless_files(self) -> None:
         """No read follows that which meets the first octet too many."""
         for name, (limit, step) in LIMITS.items():
             command = {"table": "check", "blocks": "cut"}.get(name, "send")
@@ -186,7 +189,7 @@ class Sizes(Program):
                 before += reads
             self.assertEqual(reads_made() - before, limit // step + 1, name)
 
-    def test_longest(self):
+    def test_longest(self) -> None:
         for name, text in [("table", PRACTICE), ("schedule", RECORD)]:
             limit = LIMITS[name][0]
             command = {"table": "check", "schedule": "send"}[name]
@@ -198,7 +201,7 @@ class Sizes(Program):
                 (folder() / "long").write_text("\n" * (limit + more - len(text)) + text)
                 self.is_ended(ran(self.over(command, **{name: "long"})), wanted, f"{name} and {more}")
 
-    def test_blocks_of_zero_octets(self):
+    def test_blocks_of_zero_octets(self) -> None:
         for more, fault in [(0, "Digit 1"), (1, "TooLong")]:
             with open(folder() / "long", "wb") as file:
                 file.truncate(100_000_000 + more)

@@ -2,6 +2,10 @@
 through open, delivered and contradiction. The numbers of the plans are by hand from 5.2.2, 5.3.2 and 6.2.2; the bits
 sent are those of the other model."""
 
+from __future__ import annotations
+
+import typing
+
 import chain
 import model
 from programs import Program, Row
@@ -38,18 +42,20 @@ KINDS = [
 WAYS = [(0, 1, 1), (1, 2, 2), (2, 4, 3), (3, 6, 4), (0, 8, 4), (1, 1, 3), (2, 6, 2), (3, 8, 1)]
 
 
-def octets_of(count):
+def octets_of(count: int) -> bytes:
     """The octets of a block: 1, 2, .. 255, 1, .."""
     return bytes(place % 255 + 1 for place in range(count))
 
 
-def sent_by(way, code_blocks, least, flipped=frozenset()):
+def sent_by(
+    way: typing.Any, code_blocks: int, least: typing.Any, flipped: frozenset[typing.Any] = frozenset()
+) -> typing.Any:
     """A transmission by one of the ways, of at least so many bits of each code block."""
     rv, qm, nl = way
     return chain.Tx(1, rv, code_blocks * -(-least // (qm * nl)) * qm * nl, qm, nl, flipped=flipped)
 
 
-def transmissions(number, plan):
+def transmissions(number: int, plan: dict[str, int]) -> typing.Any:
     """One bit of each code block; then all of them; then a few bits by each way; and then one that is flipped."""
     c = plan["c"]
     last = sent_by((2, 2, 2), c, 25)
@@ -61,7 +67,7 @@ def transmissions(number, plan):
     ]
 
 
-def runs(number, kind):
+def runs(number: int, kind: tuple[int, int, int, list[int]]) -> typing.Iterator[typing.Any]:
     """The rows of `run` after one transmission, two, ten and eleven."""
     octets, rate2048, _, (c, kdash, _, _) = kind
     coded = chain.Coded(both_graphs(), (rate2048, None), octets_of(octets))
@@ -87,7 +93,7 @@ def runs(number, kind):
 class Kinds(Program):
     """Against the table above."""
 
-    def test_cut(self):
+    def test_cut(self) -> None:
         rows = []
         for octets, rate2048, graph, numbers in KINDS:
             plan = model.plan(8 * octets, rate2048)
@@ -98,6 +104,6 @@ class Kinds(Program):
             rows.append(Row(f"{octets} octets", text, blocks=block.hex(), rate=str(rate2048)))
         self.check("cut", rows)
 
-    def test_run(self):
+    def test_run(self) -> None:
         for number, kind in enumerate(KINDS):
             self.check("run", list(runs(number, kind)))

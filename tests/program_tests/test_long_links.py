@@ -1,7 +1,10 @@
 """Limited buffers, starting positions past a buffer's end, and code blocks that are sent one by one, against the other
 model: longer blocks than hands can work."""
 
+from __future__ import annotations
+
 import dataclasses
+import typing
 
 import chain
 from programs import Program, Row
@@ -16,22 +19,22 @@ class Case:
 
     name: str
     rate2048: int
-    lbrm: int
+    lbrm: int | None
     octets: int
-    transmissions: list
-    outcomes: tuple
+    transmissions: list[chain.Tx]
+    outcomes: tuple[int, int, int]
 
-    def settings(self):
+    def settings(self) -> typing.Any:
         """The text of the settings."""
         return lines(f"rate2048 = {self.rate2048}", *([f"lbrm = {self.lbrm}"] if self.lbrm else []))
 
 
-def by_starts(g, qm=2):
+def by_starts(g: int, qm: int = 2) -> list[chain.Tx]:
     """A transmission from each starting position, of so many bits."""
     return [chain.Tx(1, rv, g, qm) for rv in (1, 3, 2, 0)]
 
 
-def one_by_one(code_blocks, g):
+def one_by_one(code_blocks: int, g: int) -> list[chain.Tx]:
     """Each code block by itself, the last one first."""
     return [chain.Tx(1, 0, g, 4, 1, mask=(r,)) for r in range(code_blocks - 1, -1, -1)]
 
@@ -87,7 +90,7 @@ def each_by_itself(heard, flipped=None):
 class LongLinks(Program):
     """Against the model, and 66 code blocks by hand."""
 
-    def test_cases(self):
+    def test_cases(self) -> None:
         for case in CASES:
             block = counted(case.octets)
             link = case.rate2048, case.lbrm

@@ -1,6 +1,8 @@
 """The order of faults: the first file in the order table, settings, blocks, schedule is answered, then the first block
 that cannot be sent; and nothing is written."""
 
+from __future__ import annotations
+
 from programs import Program, Row
 from texts import LEAST, QUARTER_RATE, six, ten
 
@@ -47,8 +49,8 @@ BLOCKS = [
 class InOrder(Program):
     """Against the rows above."""
 
-    def test_files(self):
+    def test_files(self) -> None:
         self.check("send run audit", FILES)
 
-    def test_blocks(self):
+    def test_blocks(self) -> None:
         self.check("send run audit", BLOCKS)

@@ -1,6 +1,8 @@
 """What `run` says of places that are heard again, and of transmissions behind a delivery or a contradiction. The values
 are worked by hand: the sent bits of the block 000000 are zeros, and it has 320 of them, of K' 40 and Zc 7."""
 
+from __future__ import annotations
+
 from programs import Program, Row
 from test_run import total
 from texts import lines, seven
@@ -30,7 +32,7 @@ TURNS = [
 ]
 
 
-def ending(outcome, count):
+def ending(outcome: str, count: int) -> list[str]:
     """The lines behind those of so many transmissions of the block of zeros."""
     failed = int(outcome == "open")
     octets = " 000000" if outcome == "delivered" else ""
@@ -38,7 +40,7 @@ def ending(outcome, count):
     return [f"block 1 {outcome} tx {count} failed {failed} of 1{octets}", total(1, failed=failed, **counts[outcome])]
 
 
-def zeros(records, left, outcome):
+def zeros(records: list[str], left: list[int], outcome: str) -> str:
     """The text of transmissions of the block of zeros, with what each of them leaves."""
     text = []
     for t, (record, count) in enumerate(zip(records, left), 1):
@@ -50,7 +52,7 @@ def zeros(records, left, outcome):
 class Receptions(Program):
     """Against the rows above."""
 
-    def test_places_heard_again(self):
+    def test_places_heard_again(self) -> None:
         rows = []
         for name, once, twice, outcome in REPEATED:
             first = 40 if ",all," in twice[0] else 0
@@ -59,7 +61,7 @@ class Receptions(Program):
             rows.append(Row(f"{name}, in two", text, blocks="000000", schedule=seven(*twice)))
         self.check("run", rows)
 
-    def test_a_contradiction_stays(self):
+    def test_a_contradiction_stays(self) -> None:
         """24 places leave columns 0 and 1 and two bits of column 5: each row of these has another unknown column."""
         rows = []
         for count in range(1, len(TURNS) + 1):
@@ -68,7 +70,7 @@ class Receptions(Program):
             rows.append(Row(f"{count} records", text, blocks="000000", schedule=seven(*records)))
         self.check("run", rows)
 
-    def test_zeros_behind_a_delivery(self):
+    def test_zeros_behind_a_delivery(self) -> None:
         """Block 01 is delivered, and then 24 zeros are heard in place of its bits."""
         text = lines(
             *("sent 1 1 102103", "left 1 1 0 4", "sent 2 1 1021033", "left 2 1 0 0", "sent 3 1 102103", "left 3 1 0 0"),

@@ -1,18 +1,22 @@
 """What `run` and `audit` write of schedules that name HARQ processes. The values are worked by hand: of blocks 01 and
 80, 24 bits leave column 1, which the last four of 28 bits give, and 32 bits leave nothing."""
 
+from __future__ import annotations
+
+import typing
+
 from programs import Program, Row
 from texts import ALL_BUT_FILLERS, ALL_OF_01, WITHOUT_COLUMN_1, lines, stuck, ten
 
 BLOCKS = "01\n80\n"
 
 
-def row(name, records, *output):
+def row(name: str, records: list[str], *output: str) -> Row:
     """A row over blocks 01 and 80."""
     return Row(name, lines(*output), blocks=BLOCKS, schedule=ten(*records))
 
 
-def total(rounds, delivered=0, still_open=0, contradiction=0, failed=0):
+def total(rounds: int, delivered: int = 0, still_open: int = 0, contradiction: int = 0, failed: int = 0) -> str:
     """The last line of rounds of one code block each."""
     counts = f"delivered {delivered} open {still_open} contradiction {contradiction}"
     return f"total rounds {rounds} {counts} codeblocks {rounds} failed {failed}"
@@ -152,9 +156,10 @@ AUDITED = [
 ]
 
 
-def sixteen():
+def sixteen() -> Row:
     """Sixteen processes, each with a fresh transmission, the last process first: block 1 by those of even numbers."""
-    records, sent, ended = [], [], []
+    records, sent = [], []
+    ended: list[typing.Any] = []
     for process in range(15, -1, -1):
         n, bits, octet = (1, "10210330", "01") if process % 2 == 0 else (2, "91880909", "80")
         records.append(f"{n},0,32,1,1,-,-,all,{process},1")
@@ -166,11 +171,11 @@ def sixteen():
 class Rounds(Program):
     """Against the rows above."""
 
-    def test_run(self):
+    def test_run(self) -> None:
         self.check("run", PROCESSES + REFUSED)
 
-    def test_sixteen_processes(self):
+    def test_sixteen_processes(self) -> None:
         self.check("run", [sixteen()])
 
-    def test_audit(self):
+    def test_audit(self) -> None:
         self.check("audit", AUDITED)

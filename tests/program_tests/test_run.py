@@ -1,6 +1,8 @@
 """What `run` writes. The values are worked by hand: under the practice table parity columns are sums and rotations of
 columns that can be written down."""
 
+from __future__ import annotations
+
 from programs import Program, Row
 from test_send import REFUSED_TRANSMISSIONS
 from texts import ALL_OF_01, ALL_OF_ZEROS, QUARTER_RATE, eight, lines, seven, six
@@ -9,7 +11,9 @@ ZERO_BLOCK = "000000"
 ONE_BIT = "rate2048 = 2048\nlbrm = 1\n"
 
 
-def total(blocks, delivered=0, still_open=0, contradiction=0, codeblocks=1, failed=0):
+def total(
+    blocks: int, delivered: int = 0, still_open: int = 0, contradiction: int = 0, codeblocks: int = 1, failed: int = 0
+) -> str:
     """The last line."""
     counts = f"delivered {delivered} open {still_open} contradiction {contradiction}"
     return f"total blocks {blocks} {counts} codeblocks {codeblocks} failed {failed}"
@@ -174,7 +178,7 @@ TWO_CODE_BLOCKS = [
 # The transmissions that `send` refuses are none for the receiver, and the last one is.
 ALL_REFUSALS = Row(
     "the six causes",
-    REFUSED_TRANSMISSIONS.output
+    str(REFUSED_TRANSMISSIONS.output)
     + lines("left 13 1 0 0", "block 1 delivered tx 1 failed 0 of 1 01", total(1, delivered=1)),
     schedule=REFUSED_TRANSMISSIONS.schedule,
 )
@@ -183,20 +187,20 @@ ALL_REFUSALS = Row(
 class Run(Program):
     """Against the rows above."""
 
-    def test_delivered(self):
+    def test_delivered(self) -> None:
         self.check("run", DELIVERED)
 
-    def test_open(self):
+    def test_open(self) -> None:
         self.check("run", OPEN)
 
-    def test_several_blocks(self):
+    def test_several_blocks(self) -> None:
         self.check("run", SEVERAL_BLOCKS)
 
-    def test_flipped(self):
+    def test_flipped(self) -> None:
         self.check("run", FLIPPED)
 
-    def test_two_code_blocks(self):
+    def test_two_code_blocks(self) -> None:
         self.check("run", TWO_CODE_BLOCKS)
 
-    def test_refused_transmissions(self):
+    def test_refused_transmissions(self) -> None:
         self.check("run", [ALL_REFUSALS])

@@ -1,5 +1,9 @@
 """Schedules: what is read of them, as the text of `send` or `run` shows, and the first fault."""
 
+from __future__ import annotations
+
+import typing
+
 from programs import Program, Row
 from texts import HEADERS, QUARTER_RATE, eight, lines, seven, six, ten
 
@@ -57,7 +61,9 @@ HEADER_FAULTS = [
 ]
 
 
-def refused(schedule, faults, blocks="01\n"):
+def refused(
+    schedule: typing.Callable[..., typing.Any], faults: list[tuple[str, str]], blocks: str = "01\n"
+) -> list[Row]:
     """A row for each fault with its records, joined by semicolons."""
     return [
         Row(f"{fault}: {records}", refused=f"schedule {fault}", blocks=blocks, schedule=schedule(*records.split(";")))
@@ -174,14 +180,14 @@ SIZES = [
 class Schedules(Program):
     """Against the rows above."""
 
-    def test_accepted(self):
+    def test_accepted(self) -> None:
         self.check("send", ACCEPTED + MASKS)
 
-    def test_refused(self):
+    def test_refused(self) -> None:
         self.check("send run audit", REFUSED + REFUSED_PROCESSES)
 
-    def test_processes(self):
+    def test_processes(self) -> None:
         self.check("audit", [FORMS_OF_PROCESSES])
 
-    def test_sizes(self):
+    def test_sizes(self) -> None:
         self.check("send", SIZES)

@@ -1,6 +1,8 @@
 """What `send` writes. The values are worked by hand: under the practice table parity columns are sums and rotations of
 columns that can be written down."""
 
+from __future__ import annotations
+
 import functools
 import operator
 
@@ -67,7 +69,7 @@ REFUSED_TRANSMISSIONS = Row(
 )
 
 
-def digits(g, bits):
+def digits(g: int, bits: str) -> Row:
     """The first g bits of a block whose bits behind the punctured columns begin with acff."""
     return Row(f"{g} bits", f"sent 1 1 {bits}\n", blocks="00000acff0", schedule=six(f"1,0,{g},1,1,-"))
 
@@ -82,16 +84,16 @@ LAST_DIGITS = [
 class Send(Program):
     """Against the rows above."""
 
-    def test_rows(self):
+    def test_rows(self) -> None:
         self.check("send", ROWS)
 
-    def test_refused_transmissions(self):
+    def test_refused_transmissions(self) -> None:
         self.check("send", [REFUSED_TRANSMISSIONS])
 
-    def test_the_last_digit(self):
+    def test_the_last_digit(self) -> None:
         self.check("send", LAST_DIGITS)
 
-    def test_all_places_twice(self):
+    def test_all_places_twice(self) -> None:
         """640 bits of block 000001 are the 320 that are ever sent, twice: with the CRC16 1021, in columns of seven."""
         bits = f"{0x000001:024b}{0x1021:016b}".ljust(70, "0")
         columns = [bits[7 * k : 7 * k + 7] for k in range(10)]
@@ -105,7 +107,7 @@ class Send(Program):
         text = f"sent 1 1 {int(sent, 2):080x}{int(sent, 2):080x}\n"
         self.check("send", [Row("twice", text, blocks="000001", schedule=six("1,0,640,1,1,-"))])
 
-    def test_two_code_blocks(self):
+    def test_two_code_blocks(self) -> None:
         """Of each of two code blocks the 1,536 bits behind the two punctured columns of 208: octets 52 to 243. CRC24B
         ends them both, and CRC24A stands before it in the second one (5.1)."""
         block = counted(479)

@@ -1,5 +1,9 @@
 """Settings files: what is read of them, as the bits that `send` then writes show, and the first fault."""
 
+from __future__ import annotations
+
+import typing
+
 import chain
 from programs import Program, Row
 from texts import PRACTICE, six
@@ -11,12 +15,13 @@ BLOCK = bytes(range(1, 37))
 PLACES = chain.Tx(1, 0, 1904)
 
 
-def sent(lbrm):
+def sent(lbrm: int | None) -> str:
     """What `send` writes of these octets with this limit of the buffer."""
-    return chain.texts(PRACTICE, (2048, lbrm), [BLOCK], [PLACES])["send"]
+    text: str = chain.texts(PRACTICE, (2048, lbrm), [BLOCK], [PLACES])["send"]
+    return text
 
 
-def limited(name, settings, lbrm):
+def limited(name: str, settings: str, lbrm: int | None) -> Row:
     """A row whose bits show the limit of the buffer."""
     return Row(name, sent(lbrm), settings=settings, blocks=BLOCK.hex(), schedule=six("1,0,1904,1,1,-"))
 
@@ -38,7 +43,7 @@ ACCEPTED = [
 ]
 
 REFUSED = [
-    Row(name, refused=f"settings {fault}", settings=settings)
+    Row(name, refused=f"settings {fault}", settings=typing.cast(typing.Any, settings))
     for name, fault, settings in [
         ("nothing", "Missing", ""),
         ("lbrm alone", "Missing", "lbrm = -1"),
@@ -70,8 +75,8 @@ REFUSED = [
 class Settings(Program):
     """Against the rows above."""
 
-    def test_accepted(self):
+    def test_accepted(self) -> None:
         self.check("send", ACCEPTED)
 
-    def test_refused(self):
+    def test_refused(self) -> None:
         self.check("send run audit", REFUSED)

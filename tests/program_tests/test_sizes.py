@@ -1,7 +1,10 @@
 """Long blocks, many blocks and many transmissions: with octets that are not zero, of both base graphs, and of up to
 three code blocks. What is sent is that of the other model, and the rest follows by hand from the tables."""
 
+from __future__ import annotations
+
 import dataclasses
+import typing
 
 import chain
 from programs import Program, Row
@@ -22,7 +25,7 @@ class Case:
     # As many bits as have all of each code block in them, in whole symbols of each of the four transmissions.
     g: int
 
-    def transmissions(self):
+    def transmissions(self) -> list[chain.Tx]:
         """Both blocks are the same. Each is received whole; the first one then again, and the second one with the
         middle place flipped, which is in the second code block of two and of three."""
         return [
@@ -32,7 +35,7 @@ class Case:
             chain.Tx(2, 1, self.g, 4, 2, flipped=frozenset([self.g // 2])),
         ]
 
-    def rows(self):
+    def rows(self) -> typing.Any:
         """A row for each of `send`, `run` and `audit`."""
         block, count, transmissions = counted(self.octets), self.code_blocks, self.transmissions()
         coded = chain.Coded(both_graphs(), (self.rate2048, None), bytes.fromhex(block))
@@ -65,7 +68,7 @@ CASES = [
 ]
 
 
-def many():
+def many() -> tuple[list[bytes], list[chain.Tx]]:
     """256 blocks of one octet, and 16 transmissions of each, in turn: of 4 to 32 bits, from all four starting
     positions, with some places that are erased or flipped."""
     blocks = [bytes([(37 * n + 11) % 256]) for n in range(256)]
@@ -82,12 +85,12 @@ def many():
 class Sizes(Program):
     """Against the model, and what follows by hand."""
 
-    def test_long_blocks(self):
+    def test_long_blocks(self) -> None:
         for case in CASES:
             for command, row in case.rows().items():
                 self.check(command, [row])
 
-    def test_many_blocks_and_transmissions(self):
+    def test_many_blocks_and_transmissions(self) -> None:
         blocks, transmissions = many()
         wanted = chain.texts(PRACTICE, (2048, None), blocks, transmissions)
         for outcome in ["delivered", "open", "contradiction"]:

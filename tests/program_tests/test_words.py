@@ -1,5 +1,7 @@
 """The command line: what its words ask for, help, and wrong usage, octet by octet."""
 
+from __future__ import annotations
+
 import os
 
 from programs import Ended, Program, done, folder, octets, ran, refused
@@ -120,7 +122,7 @@ HELP_WORDS = [
 ]
 
 
-def usage(reason, shown):
+def usage(reason: str, shown: str | None) -> Ended:
     """The ending of words that are none of the program's."""
     usage_lines = f"Usage: {shown}\n\n" if shown else ""
     return Ended(2, b"", octets(f"error: {reason}\n\n{usage_lines}For more information, try '--help'.\n"))
@@ -129,36 +131,36 @@ def usage(reason, shown):
 class Words(Program):
     """Against the rows above."""
 
-    def setUp(self):
+    def setUp(self) -> None:
         for name, text in PATHS.items():
             (folder() / name).write_bytes(octets(text))
 
-    def ends(self, words, stdin, wanted):
+    def ends(self, words: str, stdin: str, wanted: Ended) -> None:
         with self.subTest(words=words):
             self.is_ended(ran(words.split(), stdin), wanted, words)
 
-    def test_jobs(self):
+    def test_jobs(self) -> None:
         for words, stdin, text in JOBS:
             self.ends(words, stdin, done(text))
 
-    def test_the_name_is_no_word(self):
+    def test_the_name_is_no_word(self) -> None:
         for name in ["cut", "linksim", "--help"]:
             self.is_ended(ran([], "01\n", name=name), done(CUT_01), name)
             self.is_ended(ran(["check", "--table", "t"], name=name), done("graph 2 entries 105\n"), name)
 
-    def test_refused(self):
+    def test_refused(self) -> None:
         for words, fault in REFUSED:
             self.ends(words, "", refused(fault))
 
-    def test_usage(self):
+    def test_usage(self) -> None:
         for words, reason, shown in USAGE:
             self.ends(words, "", usage(reason, shown))
 
-    def test_words_that_are_no_text(self):
+    def test_words_that_are_no_text(self) -> None:
         found = ran(["cut", "--blocks", os.fsdecode(b"\xff")])
         self.assertEqual((found.status, found.output), (2, b""))
         self.assertTrue(found.error.startswith(b"error: "))
 
-    def test_help(self):
+    def test_help(self) -> None:
         for words, text in HELP_WORDS:
             self.ends(words, "", done(text))

@@ -1,5 +1,7 @@
 """Texts of files that several tests have."""
 
+from __future__ import annotations
+
 import pathlib
 
 EXAMPLES = pathlib.Path(__file__).resolve().parent.parent.parent / "examples"
@@ -15,27 +17,27 @@ HEADERS = {
 }
 
 
-def lines(*each):
+def lines(*each: str) -> str:
     """A text of these lines."""
     return "".join(line + "\n" for line in each)
 
 
-def six(*records):
+def six(*records: str) -> str:
     """A schedule of six columns."""
     return lines(HEADERS[6], *records)
 
 
-def seven(*records):
+def seven(*records: str) -> str:
     """A schedule of seven columns: the places that are flipped too."""
     return lines(HEADERS[7], *records)
 
 
-def eight(*records):
+def eight(*records: str) -> str:
     """A schedule of eight columns: the code blocks that are scheduled too."""
     return lines(HEADERS[8], *records)
 
 
-def ten(*records):
+def ten(*records: str) -> str:
     """A schedule of ten columns: HARQ processes with a fresh flag too."""
     return lines(HEADERS[10], *records)
 
@@ -46,13 +48,13 @@ PRACTICE = (EXAMPLES / "practice.csv").read_text()
 RECORDS = PRACTICE.splitlines()
 
 
-def record(graph, row, column, *values):
+def record(graph: int, row: int, column: int, *values: int) -> str:
     """A record of a table, of eight values or of one value in all sets."""
     eight_values = values if len(values) == 8 else values * 8
     return ",".join(map(str, (graph, row, column, *eight_values)))
 
 
-def practice_with(*changes):
+def practice_with(*changes: str) -> str:
     """The practice table with these records in place of those at their places, or behind all others."""
     found = list(RECORDS)
     for change in changes:
@@ -78,7 +80,7 @@ CUT_01 = lines(
 )
 
 
-def stuck(columns, before="stuck 1 0", z=4):
+def stuck(columns: list[int], before: str = "stuck 1 0", z: int = 4) -> str:
     """The line of a code block that is stuck on these columns of its codeword, each of z positions."""
     positions = [z * column + at for column in columns for at in range(z)]
     return f"{before} {len(positions)} {' '.join(map(str, positions))}"
@@ -90,6 +92,6 @@ WITHOUT_COLUMN_1 = [1, 12, 13, 21, 31, 41, 51]
 ALL_BUT_FILLERS = [column for column in range(52) if column in range(10, 14) or column % 10 < 6]
 
 
-def counted(count):
+def counted(count: int) -> str:
     """So many octets 1, 2, .. 250, 0, 1, .. as hexadecimal."""
     return bytes((place + 1) % 251 for place in range(count)).hex()
