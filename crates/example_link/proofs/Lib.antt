@@ -1,2 +1,2 @@
-pub mod Burst
-pub mod Rounds
+mod Burst
+mod Rounds

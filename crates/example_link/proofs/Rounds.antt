@@ -68,10 +68,6 @@ pub said-unmade : (table : Entries) (settings : Settings) (block : List Bool) (a
 said-unmade table settings block attempts e (inl is) = inl is
 said-unmade table settings block attempts e (inr is) = inr (said-unlinked table settings block attempts e (unmade-of block e (link_said table settings (length block)) is))
 
-pub said-unbegun : (table : Entries) (settings : Settings) (block : List Bool) (attempts : List Attempt) (a : ℕ) (e : DeskFault) → a ≡ length block → (e ≡ fault.Memory) ⊎ (link_said table settings a ≡ Err e) → (e ≡ fault.Memory) ⊎ (round_said table settings block attempts ≡ Err e)
-said-unbegun table settings block attempts a e whole (inl is) = inl is
-said-unbegun table settings block attempts a e whole (inr is) = inr (said-unlinked table settings block attempts e (ap (link_said table settings) (sym whole) ∙ is))
-
 said-linked : (table : Entries) (settings : Settings) (block : List Bool) (attempts : List Attempt) (link : Link) (taken : Result (Unit {0}) DeskFault) → link_said table settings (length block) ≡ Ok link → taken_said link (arrivals link block attempts) ≡ taken
     → round_said table settings block attempts ≡ (taken >>= λ all. Ok (outcome_of link (arrivals link block attempts)))
 unfolding round_said

@@ -1,12 +1,12 @@
 pub mod BitFacts
 pub mod Places
-pub mod Flips
+mod Flips
 pub mod Lists
 pub mod RangeWords
-pub mod Turns
-pub mod Loads
-pub mod Joins
-pub mod PutWords
+mod Turns
+mod Loads
+mod Joins
+mod PutWords
 pub mod OctetLists
-pub mod RoundTrip
-pub mod SameBits
+mod RoundTrip
+mod SameBits

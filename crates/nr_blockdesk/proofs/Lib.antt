@@ -1,16 +1,16 @@
 mod Links
 mod Places
 mod Sends
-pub mod Tested
-pub mod Explained
-pub mod Recorded
-pub mod Found
-pub mod Deciding
-pub mod Outcomes
-pub mod Hears
-pub mod Encoding
-pub mod Taking
-pub mod Decided
+mod Tested
+mod Explained
+mod Recorded
+mod Found
+mod Deciding
+mod Outcomes
+mod Hears
+mod Encoding
+mod Taking
+mod Decided
 mod Kept
 mod Gathered
 mod Telling
@@ -19,4 +19,4 @@ mod Nothing
 mod Ends
 mod Exact
 mod CallFacts
-pub mod News
+mod News

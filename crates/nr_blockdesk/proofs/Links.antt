@@ -1,5 +1,5 @@
 -- The steps by which a link is agreed on, and what they say of it.
-use Rattle.std.proofs.Common.{◌≡◌, ℕ, ◌+◌, ◌≤◌, ◌==◌, nat_lt, Bool, true, false, cond, Option, Some, None, Result, Ok, Err, length, subst, refl, sym, ap, ◌∙◌, arith}
+use Rattle.std.proofs.Common.{◌≡◌, ℕ, ◌==◌, Bool, true, false, cond, Option, Some, None, Result, Ok, Err, length, subst, refl, sym, ap, ◌∙◌}
 use Rattle.nr_crcattach.specs.Attachment.{BlocksLengthen, attached, attached_length}
 use Rattle.nr_graphpick.specs.declared.Graph.{Graph}
 use Rattle.nr_graphpick.specs.declared.PickFault.{PickFault}
@@ -83,13 +83,6 @@ link-blocks table settings a link said =
     let there = bind-ok (demanded fault.Graph (has_graph picks.0 table)) _ link plans.2 in
     let keeps = bind-ok (with_fault fault.Rm (buffer_said picks.0 plans.0 settings.lbrm)) _ link there.2 in
     ap (λ (l : Link). l.a) (ok-same keeps.2)
-
-pub attached-over : (a : ℕ) → a + 16 ≤ attached_length a
-attached-over a = go (nat_lt 3824 a)
-  where
-    go : (more : Bool) → a + 16 ≤ cond more (a + 24) (a + 16)
-    go true = omega arith
-    go false = omega arith
 
 pub words-plain : BlocksLengthen → CodeBlocksAreLong → CodewordsArePlain → WordsArePlain
 unfolding word

@@ -1,5 +1,5 @@
 -- What is heard from one record of a code block to a later one: marks of the positions heard for the first time, and their bits.
-use Rattle.std.proofs.Common.{◌≡◌, ◌≢◌, ℕ, ◌<◌, ◌||◌, ◌&&◌, Bool, true, false, not, List, length, get_or, set, replicate, refl, sym, ap, subst, ◌∙◌, ⊎_elim}
+use Rattle.std.proofs.Common.{◌≡◌, ◌≢◌, ℕ, ◌<◌, ◌||◌, ◌&&◌, Bool, true, false, not, List, length, get_or, set, refl, sym, ap, subst, ◌∙◌, ⊎_elim}
 use Rattle.std.specs.Prelude.{Option, Some, None}
 use Rattle.std.proofs.lemmas.Bool.{cases_eq, true≢false}
 use Rattle.std.proofs.lemmas.Grind.{get_or-set_at}
@@ -13,19 +13,6 @@ use Rattle.nr_blockdesk.specs.Link.{Link}
 use Rattle.nr_blockdesk.specs.Outcome.{given}
 use Rattle.nr_blockdesk.specs.Receiving.{IsNews, IsTied}
 use Rattle.nr_blockdesk.proofs.Hears.{same-checks}
-use Rattle.nr_blockdesk.proofs.Merging.{untold-bit}
-
-pub news-none : (s : Heardbits) (marks value : List Bool) (n : ℕ) → marks ≡ replicate n false → IsNews s s marks value
-news-none s marks value n none = record {
-  marks = λ p. untold-bit marks n p none ∙ never (is_heard (first_at s p));
-  bits = λ p is. absurd (true≢false (sym is ∙ untold-bit marks n p none));
-  kept = λ p b is. is;
-  long = refl;
-}
-  where
-    never : (a : Bool) → false ≡ (a && not a)
-    never true = refl
-    never false = refl
 
 -- a position that was heard before
 pub news-again : (s t u : Heardbits) (marks value : List Bool) → u.first ≡ t.first → IsNews s t marks value → IsNews s u marks value

@@ -44,11 +44,6 @@ pub table_refusal-put : (e : TableFault) → table_refusal e ≢ Write
 table_refusal-put table_fault.Memory is = cc
 table_refusal-put e is = cc
 
-pub table_refusal-read : (e : TableFault) → e ≢ table_fault.Read → table_refusal e ≢ Table table_fault.Read
-table_refusal-read table_fault.Memory other is = cc
-table_refusal-read table_fault.Read other is = other refl
-table_refusal-read e other is = cc
-
 -- where the table has a base graph, its lines are its line, and else none
 pub graph_lines-line : (table : Entries) (graph : Graph) → has_graph graph table ≡ true → graph_lines table graph ≡ graph_line table graph
 unfolding graph_lines

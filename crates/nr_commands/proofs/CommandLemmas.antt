@@ -33,10 +33,6 @@ delivers-refused {X} old r exit e said is same unput given =
 pub of_block-other : (e told : RunFault) → IsBlockFault e → (IsBlockFault told → ⊥) → e ≢ told
 of_block-other e told is other same = other (subst IsBlockFault same is)
 
-pub of_block-seen : {X E : Type 0} (r : Result X E) (seen : E → RunFault) (e : RunFault) → ((x : E) → IsBlockFault (seen x)) → with_fault seen r ≡ Err e → IsBlockFault e
-of_block-seen (Ok x) seen e all is = absurd (cc)
-of_block-seen (Err x) seen e all is = let same : seen x ≡ e = cc in subst IsBlockFault same (all x)
-
 -- a call that writes has no other fault than Write and Memory
 pub writes-told : {X : Type 0} (old new : Option (List ℕ)) (r : Result X RunFault) (said : Result (List ℕ) RunFault) (told : RunFault) (before after : ℕ) → IsOkAnd said (λ text. Writes old new r text) → told ≢ Write → told ≢ Memory → after ≡ before → FailsAs told r before after
 writes-told old new (Ok x) said told before after left no_write no_memory same = same

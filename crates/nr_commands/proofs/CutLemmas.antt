@@ -27,8 +27,3 @@ cut_said-read rate text blocks is = ap (λ r. with_fault Blocks r >>= λ blocks.
 pub blocks_refusal-put : (e : BlocksFault) → blocks_refusal e ≢ Write
 blocks_refusal-put blocks_fault.Memory is = cc
 blocks_refusal-put e is = cc
-
-pub blocks_refusal-read : (e : BlocksFault) → e ≢ blocks_fault.Read → blocks_refusal e ≢ Blocks blocks_fault.Read
-blocks_refusal-read blocks_fault.Memory other is = cc
-blocks_refusal-read blocks_fault.Read other is = other refl
-blocks_refusal-read e other is = cc

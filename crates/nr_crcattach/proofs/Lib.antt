@@ -1,8 +1,8 @@
 pub mod Check
-pub mod Generators
-pub mod NumberBits
-pub mod Octet
-pub mod OctetTables
-pub mod Register
-pub mod Residues
-pub mod Sums
+mod Generators
+mod NumberBits
+mod Octet
+mod OctetTables
+mod Register
+mod Residues
+mod Sums

@@ -1,8 +1,8 @@
-pub mod Keeping
-pub mod Records
-pub mod MaskWords
-pub mod MergedWords
-pub mod MaskAgreement
-pub mod MergedLists
-pub mod MergedStores
-pub mod MergedRecords
+mod Keeping
+mod Records
+mod MaskWords
+mod MergedWords
+mod MaskAgreement
+mod MergedLists
+mod MergedStores
+mod MergedRecords

@@ -163,20 +163,6 @@ unfolding files_faults
 files-free name a words is none =
     (ap is_simple_and_free is ∙ files_free name, ap (λ app. fault_of app words) is ∙ none)
 
--- an option has one path, so as many of four paths are standard input, whoever reads them
-text-same : (id : Text) (rows : List Row) (a b : Text) → IsTextAt id rows a → IsTextAt id rows b → a ≡ b
-text-same id rows a b first second =
-    let same : Some a ≡ Some b = sym first ∙ second in
-    cc
-
-pub dashes-same : (rows : List Row) (a b : Files) → IsGiven rows a → IsGiven rows b → dashes a ≡ dashes b
-dashes-same rows a b first second =
-    let table = text-same _ rows (string_bytes a.table) (string_bytes b.table) first.table second.table in
-    let settings = text-same _ rows (string_bytes a.settings) (string_bytes b.settings) first.settings second.settings in
-    let blocks = text-same _ rows (string_bytes a.blocks) (string_bytes b.blocks) first.blocks second.blocks in
-    let schedule = text-same _ rows (string_bytes a.schedule) (string_bytes b.schedule) first.schedule second.schedule in
-    rw (table, settings, blocks, schedule) refl
-
 -- the text is a numeral that fits 32 bits
 abbrev pub IsWord : Text → Type 0
 IsWord text = IsNumeral 10 (without_leading_plus text) × (digits_value 10 (without_leading_plus text) < 2 ^ 32)

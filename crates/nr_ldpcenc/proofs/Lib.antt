@@ -1,12 +1,12 @@
-pub mod Sums
-pub mod Core
-pub mod Columns
-pub mod Words
+mod Sums
+mod Core
+mod Columns
+mod Words
 pub mod Codes
-pub mod Adding
-pub mod Solved
-pub mod Written
-pub mod Shifts
-pub mod TwoCopies
-pub mod TurnedSums
-pub mod MetRows
+mod Adding
+mod Solved
+mod Written
+mod Shifts
+mod TwoCopies
+mod TurnedSums
+mod MetRows

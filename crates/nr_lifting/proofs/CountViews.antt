@@ -15,13 +15,6 @@ use Rattle.nr_lifting.proofs.LaneViews.{place-lt}
 use Rattle.nr_lifting.proofs.PlaneCounts.{below-next, below-same}
 use Rattle.nr_lifting.proofs.RingViews.{block_past, view_at, view_past}
 
--- count j of a group that has its place
-pub number_here : (groups : List (List ℕ)) (i j : ℕ) → j < 64 → number_at groups (64 * i + j) ≡ number (get_or groups i []) j
-number_here groups i j short =
-    let word : (64 * i + j) / 64 ≡ i = omega (arith, short) in
-    let digit : (64 * i + j) % 64 ≡ j = omega (arith, short) in
-    ap (λ w. number (get_or groups w []) ((64 * i + j) % 64)) word ∙ ap (number (get_or groups i [])) digit
-
 -- no count is in no group
 none_number : (t : ℕ) → number_at [] t ≡ 0
 none_number t = refl

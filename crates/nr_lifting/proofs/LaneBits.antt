@@ -139,9 +139,6 @@ marked-le u (suc n) = omega (arith, marked-le u n, one (u n))
     one true = omega arith
     one false = omega arith
 
-half_bit : (n : ℕ) → bit_at n 0 ≡ n % 2
-half_bit n = omega arith
-
 -- the ones of a number are its digits that are set
 pub ones_marked : (k n : ℕ) → n < 2 ^ k → count_ones n ≡ marked (λ j. bit_at n j == 1) k
 ones_marked zero n h = ap count_ones {y = 0} (omega (arith, h)) ∙ ones_below 0 (omega arith)

@@ -1,10 +1,10 @@
-pub mod CountViews
+mod CountViews
 pub mod LaneBits
 pub mod LaneViews
 pub mod LaneWords
 pub mod Listed
 pub mod Moves
-pub mod Places
-pub mod PlaneCounts
-pub mod RingViews
+mod Places
+mod PlaneCounts
+mod RingViews
 pub mod Turns

@@ -1,7 +1,6 @@
 -- A lane that is read from a list of bits, and one that is put into one.
 use Rattle.std.proofs.Common.{◌≡◌, ℕ, ◌+◌, ◌-◌, ◌*◌, ◌<◌, ◌≤◌, ◌==◌, zero, suc, min, Bool, true, false, if◌then◌else◌, List, length, get_or, refl, sym, ap, ◌∙◌, inl, inr, arith}
 use Rattle.std.proofs.lemmas.Bool.{cases_lt}
-use Rattle.std.proofs.lemmas.Nat.Bits.{bit_at-lt}
 use Rattle.std.specs.Int.{bit_at}
 use Rattle.nr_bitvec.specs.Bit.{bit}
 use Rattle.nr_bitvec.specs.Packed.{place, IsClear, unpacked}
@@ -22,10 +21,6 @@ digit_is : (n : ℕ) (b : Bool) → n < 2 → (n == 1) ≡ b → n ≡ digit b
 digit_is zero b h e = ap digit e
 digit_is (suc zero) b h e = ap digit e
 digit_is (suc (suc n)) b h e = absurd (omega (arith, h))
-
--- the low bits of a window are digits of the list
-pub loaded : (word window j at : ℕ) (bits : List Bool) → bit_at word j ≡ bit_at window j → (bit_at window j == 1) ≡ bit bits at → bit_at word j ≡ digit (bit bits at)
-loaded word window j at bits low e = low ∙ digit_is (bit_at window j) (bit bits at) (bit_at-lt window j) e
 
 -- words that have the digits of bits are seen as those bits
 pub view-digit : (z : ℕ) (ws : List ℕ) (t : ℕ) (b : Bool) → IsClear ws z → place ws t ≡ digit b → bit (unpacked z ws) t ≡ b

@@ -1,5 +1,5 @@
 -- Loops that go over the places of a block one by one.
-use Rattle.std.proofs.Common.{◌≡◌, ℕ, ◌+◌, ◌<◌, ◌≤◌, ◌≢◌, Bool, true, false, not, ◌&&◌, ◌||◌, List, length, set, refl, sym, ap, ◌∙◌, inl, inr, arith, length-set, get_or-set_same, get_or-set_other}
+use Rattle.std.proofs.Common.{◌≡◌, ℕ, ◌+◌, ◌<◌, ◌≤◌, ◌≢◌, Bool, true, false, not, ◌||◌, List, length, set, refl, sym, ap, ◌∙◌, inl, inr, arith, length-set, get_or-set_same, get_or-set_other}
 use Rattle.std.specs.Bool.{beq}
 use Rattle.std.proofs.lemmas.Bool.{cases_eq}
 use Rattle.nr_bitvec.specs.Bit.{◌⊕◌, bit}
@@ -18,20 +18,6 @@ bit-written_same next new i b written within = ap (λ w. bit w i) written ∙ ge
 -- and the bits that it had elsewhere
 bit-written_other : (next new : List Bool) (i j : ℕ) (b : Bool) → next ≡ set new i b → j ≢ i → bit next j ≡ bit new j
 bit-written_other next new i j b written apart = ap (λ w. bit w j) written ∙ get_or-set_other new i j b false apart
-
--- one place more is filled
-pub filled_more : (at n : ℕ) (G : ℕ → Bool) (next new old : List Bool) (b : Bool)
-    → IsFilled at n G new old → at + n < length new → next ≡ set new (at + n) b → b ≡ G n
-    → IsFilled at (n + 1) G next old
-filled_more at n G next new old b h within written is = record {
-  filled = λ t below. elim (cases_eq t n) [
-    | inl e ↦ ap (λ i. bit next (at + i)) e ∙ bit-written_same next new (at + n) b written within ∙ is ∙ ap G (sym e)
-    | inr apart ↦ bit-written_other next new (at + n) (at + t) b written (λ e. apart (omega (arith, e))) ∙ h.filled t (omega (arith, below, apart))
-  ];
-  before = λ t below. bit-written_other next new (at + n) t b written (λ e. omega (arith, e, below)) ∙ h.before t below;
-  after = λ t above. bit-written_other next new (at + n) t b written (λ e. omega (arith, e, above)) ∙ h.after t (omega (arith, above));
-  long = ap length written ∙ length-set new (at + n) b ∙ h.long;
-}
 
 -- The first n places have the bits that G gives them, and no other place has changed.
 pub record IsCounted (n : ℕ) (G : ℕ → Bool) (new old : List Bool) : Type 0 where
@@ -65,7 +51,3 @@ summed x y a b e f = ap (λ v. not (beq v y)) e ∙ ap (λ v. not (beq a v)) f �
 -- one bit more is counted
 pub joined : (x y a b : Bool) → x ≡ a → y ≡ b → (x || y) ≡ (a || b)
 joined x y a b e f = ap (λ v. v || y) e ∙ ap (λ v. a || v) f
-
--- a second bit more is counted
-pub joined_twice : (w x y a b d : Bool) → w ≡ a → x ≡ b → y ≡ d → (w || x && y) ≡ (a || b && d)
-joined_twice w x y a b d e f g = ap (λ v. v || x && y) e ∙ ap (λ v. a || v && y) f ∙ ap (λ v. a || b && v) g

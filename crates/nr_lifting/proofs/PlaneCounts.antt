@@ -3,7 +3,7 @@ use Rattle.std.proofs.Common.{◌≡◌, ℕ, zero, suc, ◌+◌, ◌-◌, ◌*�
 use Rattle.std.proofs.Math.Nat.{pow-suc}
 use Rattle.std.proofs.lemmas.Bool.{cases_eq, cases_lt, ne_eqb}
 use Rattle.std.proofs.lemmas.Nat.{pow_pos}
-use Rattle.std.proofs.lemmas.Nat.Bits.{bit_at-lt, bit_at-zero, bit_at_and, bit_at_or, bit_at_xor, bit_at_not}
+use Rattle.std.proofs.lemmas.Nat.Bits.{bit_at-lt, bit_at_and, bit_at_or, bit_at_xor, bit_at_not}
 use Rattle.std.specs.Int.{bit_at, bit_not, w64}
 use Rattle.std.specs.Int.RustNames.{bit_and, bit_or, bit_xor}
 use Rattle.nr_lifting.specs.Planes.{number_below, number, number_at, Falls}
@@ -97,12 +97,6 @@ borrows_all n now old bits borrow h all enough = record {
 pub record HasMore (n : ℕ) (ws : List ℕ) (more : ℕ) : Type 0 where
   pub none : (j : ℕ) → bit_at more j ≡ 0 → number_below n ws j ≡ bit_at (get_or ws 0 0) j
   pub some : (j : ℕ) → bit_at more j ≡ 1 → 2 ≤ number_below n ws j
-
-pub has_more-start : (ws : List ℕ) → HasMore 1 ws 0
-has_more-start ws = record {
-  none = λ j e. omega arith;
-  some = λ j e. absurd (omega (arith, e, bit_at-zero j));
-}
 
 two_at_least : (n : ℕ) → 0 < n → 2 ≤ 2 ^ n
 two_at_least zero h = absurd (omega (arith, h))

@@ -37,9 +37,6 @@ pub record IsBuilt (c : Checks) (counts ready : List ℕ) (n : ℕ) : Type 0 whe
   pub inside : All (λ k. k < n) ready
   pub weight : length ready + count_by (nat_lt 1) counts ≤ n
 
-pub built_none : (c : Checks) → IsBuilt c [] [] 0
-built_none c = record { long = refl; counted = λ k lt. absurd (omega arith); listed = λ k lt. absurd (omega arith); inside = λ k d lt. absurd (omega arith); weight = omega arith }
-
 module _ (c : Checks) (counts ready : List ℕ) (n d : ℕ) (b : IsBuilt c counts ready n) (is : d ≡ row_length c n) where
   counted_more : (k : ℕ) → k < n + 1 → slice_index (counts ++ d ∷ []) k ≡ row_length c k
   counted_more k lt = ⊎_elim

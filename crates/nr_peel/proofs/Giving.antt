@@ -1,7 +1,7 @@
 -- Positions that are given, each of which takes a bit if it was not known.
 use Rattle.std.proofs.Common.{◌≡◌, ◌≢◌, ℕ, ◌+◌, ◌*◌, ◌<◌, ◌≤◌, ◌==◌, ◌&&◌, ◌||◌, nat_lt, Bool, true, false, List, length, set, refl, sym, ap, ◌∙◌, ⊎_elim, inl, inr, arith}
 use Rattle.std.specs.Prelude.{◌⊎◌, slice_index, sum, vec_capacity}
-use Rattle.std.proofs.lemmas.Bool.{and_from, and_parts, cases_eq, cases_lt, eqb-true, eq-eqb, le-ltb, lt-ltb, ltb-true, or_left, or_right, or_cases, true≢false}
+use Rattle.std.proofs.lemmas.Bool.{and_from, and_parts, cases_eq, cases_lt, eqb-true, eq-eqb, lt-ltb, ltb-true, or_left, or_right, or_cases, true≢false}
 use Rattle.std.proofs.lemmas.List.{get_or_past, get_or-set_same, get_or-set_other, length-set}
 use Rattle.nr_bitvec.specs.Bit.{bit}
 use Rattle.nr_ldpcenc.specs.Rows.{Checks}
@@ -194,23 +194,6 @@ gives_then H V n v a b d one two is = record {
     go p h out false e =
         let at : (n == p) ≡ true = ap (λ b. b || (n == p)) (sym e) ∙ h in
         two.taken p at (one.known p ∙ ap (λ b. bit a.known.items p || b) e ∙ or_false (bit a.known.items p) ∙ out) ∙ is ∙ ap V (eqb-true n p at)
-
-pub gives_none : (H V : ℕ → Bool) (s : ByPosition) → GivesMarks (first H 0) V s s
-gives_none H V s = record {
-  given = λ p. sym (ap (λ b. bit s.given.items p || b) (none p) ∙ or_false (bit s.given.items p));
-  known = λ p. sym (ap (λ b. bit s.known.items p || b) (none p) ∙ or_false (bit s.known.items p));
-  bits = λ p k. refl;
-  taken = λ p h out. absurd (true≢false (sym h ∙ none p));
-  order = refl;
-  visited = omega arith;
-}
-  where
-    none : (p : ℕ) → first H 0 p ≡ false
-    none p = ap (λ b. H p && b) (le-ltb p 0 (omega arith)) ∙ never (H p)
-      where
-        never : (b : Bool) → (b && false) ≡ false
-        never true = refl
-        never false = refl
 
 pub gives_more : (H V : ℕ → Bool) (n : ℕ) (a b d : ByPosition) → H n ≡ true → GivesMarks (first H n) V a b → GivesMarks (λ p. n == p) (λ p. V n) b d → GivesMarks (first H (n + 1)) V a d
 gives_more H V n a b d there one two =

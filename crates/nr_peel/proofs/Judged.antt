@@ -1,9 +1,9 @@
 -- The check of a fix order, step by step.
-use Rattle.std.proofs.Common.{◌≡◌, ◌≢◌, ℕ, ◌+◌, ◌<◌, ◌≤◌, ◌==◌, ◌||◌, ◌&&◌, nat_lt, Bool, true, false, cond, List, [], ◌∷◌, ◌++◌, length, get_or, set, take, refl, sym, ap, ◌∙◌, arith}
+use Rattle.std.proofs.Common.{◌≡◌, ◌≢◌, ℕ, ◌+◌, ◌<◌, ◌==◌, ◌||◌, ◌&&◌, nat_lt, Bool, true, false, cond, List, [], ◌∷◌, ◌++◌, length, get_or, set, take, refl, sym, ap, ◌∙◌, arith}
 use Rattle.std.specs.Prelude.{zero, suc}
 use Rattle.std.specs.List.{list_all}
-use Rattle.std.proofs.lemmas.Bool.{and_parts, and_from, and_left, and_right, eqb-true, eq-eqb, or_left, or_right, false_from_ne_true, le-ltb}
-use Rattle.std.proofs.lemmas.List.{take_more, take_all}
+use Rattle.std.proofs.lemmas.Bool.{and_parts, and_from, and_left, and_right, eqb-true, eq-eqb, or_left, or_right, false_from_ne_true}
+use Rattle.std.proofs.lemmas.List.{take_more}
 use Rattle.std.proofs.lemmas.List.Folds.{list_any_more, list_all_more, list_all_at}
 use Rattle.nr_bitvec.specs.Bit.{bit}
 use Rattle.nr_ldpcenc.specs.Rows.{Checks}
@@ -12,19 +12,6 @@ use Rattle.nr_peel.specs.Certificates.{accepts, after_steps, all_accepted, is_fi
 use Rattle.nr_peel.specs.declared.fix.Fix.{Fix}
 use Rattle.nr_peel.proofs.Ordered.{after_accepted, all_accepted-push, is_fixed_by-push}
 use Rattle.nr_peel.proofs.Tied.{bit-mark}
-
--- a step that is out of range is not accepted
-pub row_out : (c : Checks) (S : ℕ → Bool) (s : Fix) → c.rows ≤ s.row → accepts c S s ≡ false
-row_out c S s le = and_left (nat_lt s.row c.rows) (nat_lt s.lane c.lanes && (nat_lt s.pos c.size && fixes S (c.row s.row s.lane) s.pos)) (le-ltb s.row c.rows le)
-
-pub lane_out : (c : Checks) (S : ℕ → Bool) (s : Fix) → c.lanes ≤ s.lane → accepts c S s ≡ false
-lane_out c S s le = and_right (nat_lt s.row c.rows) (nat_lt s.lane c.lanes && (nat_lt s.pos c.size && fixes S (c.row s.row s.lane) s.pos))
-    (and_left (nat_lt s.lane c.lanes) (nat_lt s.pos c.size && fixes S (c.row s.row s.lane) s.pos) (le-ltb s.lane c.lanes le))
-
-pub pos_out : (c : Checks) (S : ℕ → Bool) (s : Fix) → c.size ≤ s.pos → accepts c S s ≡ false
-pos_out c S s le = and_right (nat_lt s.row c.rows) (nat_lt s.lane c.lanes && (nat_lt s.pos c.size && fixes S (c.row s.row s.lane) s.pos))
-    (and_right (nat_lt s.lane c.lanes) (nat_lt s.pos c.size && fixes S (c.row s.row s.lane) s.pos)
-    (and_left (nat_lt s.pos c.size) (fixes S (c.row s.row s.lane) s.pos) (le-ltb s.pos c.size le)))
 
 -- nor is one that its row doesn't fix
 pub accepts_without : (c : Checks) (S : ℕ → Bool) (s : Fix) → fixes S (c.row s.row s.lane) s.pos ≡ false → accepts c S s ≡ false
@@ -62,15 +49,6 @@ weighed_out K ps pos n lt ne out = and_right (stands pos ps) (list_all (λ q. (q
     both : (a b : Bool) → a ≡ false → b ≡ false → (a || b) ≡ false
     both true b h k = h
     both false b h k = k
-
-pub weighed_all : (K : ℕ → Bool) (ps : List ℕ) (pos : ℕ) (there : Bool) (n : ℕ) → IsWeighed K ps pos there n → length ps ≤ n → there ≡ fixes K ps pos
-weighed_all K ps pos there n w le =
-    let whole = take_all n ps le in
-    w.met ∙ ap (stands pos) whole ∙ sym (and_true (stands pos ps) (list_all (λ q. (q == pos) || K q) ps) (sym (ap (list_all (λ q. (q == pos) || K q)) whole) ∙ w.others))
-  where
-    and_true : (a b : Bool) → b ≡ true → (a && b) ≡ a
-    and_true true b h = h
-    and_true false b h = refl
 
 -- the steps so far
 pub record IsJudged (c : Checks) (S : ℕ → Bool) (steps : List Fix) (known : List Bool) (n : ℕ) : Type 0 where

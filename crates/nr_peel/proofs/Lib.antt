@@ -1,53 +1,53 @@
-pub mod Standing
-pub mod Closed
-pub mod Words
-pub mod Ordered
-pub mod Grid
-pub mod Nothing
-pub mod Sets
-pub mod Places
-pub mod Steps
-pub mod Sums
-pub mod Marks
-pub mod StepLaws
-pub mod Tied
-pub mod Pairs
-pub mod Counting
-pub mod Filled
-pub mod Fresh
-pub mod Starting
-pub mod Left
-pub mod Columns
-pub mod Falling
-pub mod Tallies
-pub mod Held
-pub mod Told
-pub mod OneTold
-pub mod Quotients
-pub mod Remaining
-pub mod Judged
-pub mod RowEntries
-pub mod Found
-pub mod Rounded
-pub mod Bounded
-pub mod LaneSteps
-pub mod Sweeping
-pub mod Taking
-pub mod Viewed
-pub mod Blank
-pub mod Joined
-pub mod Learned
-pub mod Gains
-pub mod Walk
-pub mod Lowered
-pub mod CounterTies
-pub mod LeftCount
-pub mod Searched
-pub mod Fixing
-pub mod Settling
-pub mod Built
-pub mod Giving
-pub mod Positions
-pub mod Working
-pub mod Wanted
-pub mod StepPairs
+mod Standing
+mod Closed
+mod Words
+mod Ordered
+mod Grid
+mod Nothing
+mod Sets
+mod Places
+mod Steps
+mod Sums
+mod Marks
+mod StepLaws
+mod Tied
+mod Pairs
+mod Counting
+mod Filled
+mod Fresh
+mod Starting
+mod Left
+mod Columns
+mod Falling
+mod Tallies
+mod Held
+mod Told
+mod OneTold
+mod Quotients
+mod Remaining
+mod Judged
+mod RowEntries
+mod Found
+mod Rounded
+mod Bounded
+mod LaneSteps
+mod Sweeping
+mod Taking
+mod Viewed
+mod Blank
+mod Joined
+mod Learned
+mod Gains
+mod Walk
+mod Lowered
+mod CounterTies
+mod LeftCount
+mod Searched
+mod Fixing
+mod Settling
+mod Built
+mod Giving
+mod Positions
+mod Working
+mod Wanted
+mod StepPairs

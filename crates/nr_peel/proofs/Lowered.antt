@@ -1,21 +1,8 @@
 -- Counters that fall, one lowering after another.
-use Rattle.std.proofs.Common.{◌≡◌, ℕ, ◌+◌, ◌<◌, refl, sym, ◌∙◌, subst, ⊎_elim, inl, inr, arith}
+use Rattle.std.proofs.Common.{◌≡◌, ℕ, ◌+◌, ◌<◌, sym, ◌∙◌, subst, ⊎_elim, inl, inr, arith}
 use Rattle.std.specs.Prelude.{All}
 use Rattle.nr_peel.specs.Counters.{IsLowered}
 use Rattle.nr_peel.specs.declared.counters.Counters.{Counters}
-
-pub lowered_none : (hits : ℕ → ℕ) (s : Counters) → ((k : ℕ) → hits k ≡ 0) → IsLowered hits s s
-lowered_none hits s none = record {
-  counts = λ k. omega (arith, none k);
-  long = refl;
-  listed = λ k h. inl h;
-  kept = λ k h. h;
-  inside = λ h. h;
-  weight = refl;
-  visited = omega arith;
-  visits = refl;
-  capacity = refl;
-}
 
 pub lowered_then : (h g total : ℕ → ℕ) (a b c : Counters) → IsLowered h a b → IsLowered g b c → ((k : ℕ) → total k ≡ h k + g k) → IsLowered total a c
 lowered_then h g total a b c one two sum_is = record {

@@ -2,7 +2,7 @@
 use Rattle.std.proofs.Common.{◌≡◌, ℕ, ◌+◌, ◌*◌, ◌<◌, ◌≤◌, ◌==◌, ◌||◌, ◌&&◌, nat_lt, Bool, true, false, not, cond, List, [], ◌∷◌, length, get_or, set, take, refl, sym, ap, ◌∙◌, subst, ⊎_elim, arith}
 use Rattle.std.specs.Prelude.{zero, suc, All, count_by}
 use Rattle.std.specs.List.{list_all}
-use Rattle.std.proofs.lemmas.Bool.{and_parts, and_from, or_left, or_right, true≢false, eqb-true, eq-eqb, ne_eqb, lt-ltb, cases_eq}
+use Rattle.std.proofs.lemmas.Bool.{and_parts, and_from, or_left, or_right, true≢false, eqb-true, eq-eqb, lt-ltb, cases_eq}
 use Rattle.std.proofs.lemmas.List.Folds.{list_any_more}
 use Rattle.nr_bitvec.specs.Bit.{bit}
 use Rattle.nr_ldpcenc.specs.Rows.{Checks}
@@ -65,16 +65,6 @@ tally_more false a d m e f = or_false d (a && false) (none a) ∙ f ∙ ap (nat_
 
     same : (m : ℕ) → m ≡ m + 0
     same m = omega arith
-
-pub one_exactly : (m : ℕ) → (nat_lt 0 m && not (nat_lt 1 m)) ≡ (m == 1)
-one_exactly zero = refl
-one_exactly (suc zero) = refl
-one_exactly (suc (suc m)) =
-    both (nat_lt 0 (suc (suc m))) (nat_lt 1 (suc (suc m))) (lt-ltb 1 (suc (suc m)) (omega arith)) ∙ sym (ne_eqb (suc (suc m)) 1 (λ e. absurd (omega arith)))
-  where
-    both : (a b : Bool) → b ≡ true → (a && not b) ≡ false
-    both true b h = ap not h
-    both false b h = refl
 
 -- one position more of a row that is marked
 pub marked_more : (old marks : List Bool) (ps : List ℕ) (n q : ℕ) → n < length ps → get_or ps n 0 ≡ q → q < length marks

@@ -1,7 +1,7 @@
 -- The worklist's loop: a listed row is taken off, and fixes a position if it still has exactly one.
 use Rattle.std.proofs.Common.{◌≡◌, ◌≢◌, ℕ, ◌+◌, ◌*◌, ◌<◌, ◌==◌, ◌||◌, nat_lt, Bool, true, List, [], ◌∷◌, ◌++◌, length, get_or, refl, sym, ap, ◌∙◌, subst, ⊎_elim, arith}
 use Rattle.std.specs.Prelude.{count_by, All, slice_index, sum, vec_capacity}
-use Rattle.std.proofs.lemmas.Bool.{eqb-true, or_cases, false≢true}
+use Rattle.std.proofs.lemmas.Bool.{eqb-true, or_cases}
 use Rattle.std.proofs.lemmas.List.{length_push, get_or_append_left, get_or_push}
 use Rattle.nr_bitvec.specs.Bit.{bit}
 use Rattle.nr_lifting.specs.Rings.{marked}
@@ -10,7 +10,7 @@ use Rattle.nr_peel.specs.Certificates.{is_fixed_by}
 use Rattle.nr_peel.specs.Sweeps.{has_count}
 use Rattle.nr_peel.specs.Touches.{spent_pairs, step_pairs}
 use Rattle.nr_peel.specs.Closure.{stands}
-use Rattle.nr_peel.specs.Counters.{Follows, IsListed, IsSettled, AreTied}
+use Rattle.nr_peel.specs.Counters.{Follows, IsListed, AreTied}
 use Rattle.nr_peel.specs.ByPosition.{IsWorking}
 use Rattle.nr_peel.specs.declared.counters.Counters.{Counters}
 use Rattle.nr_peel.specs.declared.by_position.ByPosition.{ByPosition}
@@ -61,9 +61,6 @@ pub listed_skip : (a p : Counters) (row : ℕ) → IsListed a → a.ready.items 
 listed_skip a p row listed ready counts other k one =
     let was : stands k (p.ready.items ++ row ∷ []) ≡ true = sym (ap (stands k) ready) ∙ listed k (sym (ap (λ v. slice_index v.items k) counts) ∙ one) in
     ⊎_elim (λ s. s) (λ q. absurd (other (ap (slice_index p.counts.items) (eqb-true row k q) ∙ one))) (or_cases (stands k p.ready.items) (row == k) (sym (stands-push p.ready.items row k) ∙ was))
-
-pub settled_empty : (s : Counters) → IsListed s → s.ready.items ≡ [] → IsSettled s
-settled_empty s listed empty k one = false≢true (sym (ap (stands k) empty) ∙ listed k one)
 
 pub popped_works : (c : Checks) (a d : ByPosition) (row : ℕ) → IsPopped a d row → IsWorking c a → IsWorking c d
 popped_works c a d row f w = record {

@@ -1,18 +1,18 @@
-pub mod Between
-pub mod Columns
-pub mod Feeds
-pub mod FieldFacts
-pub mod ItemFacts
-pub mod ItemLaws
-pub mod Kept
-pub mod Judged
+mod Between
+mod Columns
+mod Feeds
+mod FieldFacts
+mod ItemFacts
+mod ItemLaws
+mod Kept
+mod Judged
 pub mod Order
-pub mod Parity
-pub mod Placed
-pub mod Places
-pub mod RecordFacts
+mod Parity
+mod Placed
+mod Places
+mod RecordFacts
 pub mod Shape
-pub mod Slices
+mod Slices
 mod Lines
 mod CoreSums
 mod Converse

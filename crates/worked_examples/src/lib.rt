@@ -21,8 +21,6 @@ mod concatenation;
 #[cfg(test)]
 mod crcs;
 #[cfg(test)]
-mod endings;
-#[cfg(test)]
 mod ends;
 #[cfg(test)]
 mod fix_orders;

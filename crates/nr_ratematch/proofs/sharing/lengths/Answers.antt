@@ -1,7 +1,6 @@
 -- The lengths are said, and so they are shared.
-use Rattle.std.proofs.Common.{◌≡◌, arith}
+use Rattle.std.proofs.Common.{arith}
 use Rattle.std.proofs.lemmas.Grind.{common_steps}
-use Rattle.std.specs.Prelude.{Ok}
 use Rattle.nr_ratematch.specs.Lengths.{scheduled, lengths_said}
 use Rattle.nr_ratematch.proofs.LengthLemmas.{lengths-shared}
 use Rattle.nr_ratematch.proofs.sharing.lengths.Goals as goal
