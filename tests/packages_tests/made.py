@@ -1,11 +1,14 @@
 """The packages as the tests have them, made once in a folder of their own; and how commands run without the kit."""
 
+from __future__ import annotations
+
 import os
 import pathlib
 import shutil
 import subprocess
 import sys
 import tempfile
+import typing
 import unittest
 
 ROOT = pathlib.Path(__file__).resolve().parent.parent.parent
@@ -18,7 +21,7 @@ SECONDS = 300
 UNSET = {"NR_LIBRARY", "PYTHONPATH", "LD_LIBRARY_PATH", "PKG_CONFIG_PATH", "SOURCE_DATE_EPOCH", "MAKEFLAGS"}
 
 
-def make():
+def make() -> None:
     """Makes the packages, or ends where what they are made of is not built."""
     for path, how in ((PROGRAM, "(cd crates/linksim && rt run -- --version)"), (ARCHIVE, "tests/c-library")):
         if not path.exists():
@@ -26,7 +29,7 @@ def make():
     done(["make", "-s", "-C", ROOT, "dist", f"DIST={DIST}"], environment=dict(os.environ))
 
 
-def without_kit():
+def without_kit() -> dict[str, str]:
     """The environment of somebody who has no kit: no folder of PATH has rt or linksim."""
     folders = os.environ["PATH"].split(os.pathsep)
     kept = [it for it in folders if not any((pathlib.Path(it) / name).exists() for name in ("rt", "linksim"))]
@@ -34,14 +37,22 @@ def without_kit():
     return {**environment, "PATH": os.pathsep.join(kept), "PYTHONDONTWRITEBYTECODE": "1"}
 
 
-def ran(words, folder=None, environment=None, stdin=b""):
+def ran(
+    words: typing.Sequence[object], folder: pathlib.Path | None = None, environment: dict[str, str] | None = None,
+    stdin: bytes = b"",
+) -> tuple[int, str]:
     """A command's status and what it wrote, standard error behind standard output."""
-    how = {"cwd": folder, "env": environment or without_kit(), "stdout": subprocess.PIPE, "stderr": subprocess.STDOUT}
-    ended = subprocess.run([str(word) for word in words], input=stdin, timeout=SECONDS, **how)
+    ended = subprocess.run(
+        [str(word) for word in words], input=stdin, timeout=SECONDS, cwd=folder, env=environment or without_kit(),
+        stdout=subprocess.PIPE, stderr=subprocess.STDOUT,
+    )
     return ended.returncode, ended.stdout.decode(errors="replace")
 
 
-def done(words, folder=None, environment=None, stdin=b""):
+def done(
+    words: typing.Sequence[object], folder: pathlib.Path | None = None, environment: dict[str, str] | None = None,
+    stdin: bytes = b"",
+) -> str:
     """What a command wrote; a failure fails the test."""
     status, output = ran(words, folder, environment, stdin)
     if status:
@@ -49,7 +60,7 @@ def done(words, folder=None, environment=None, stdin=b""):
     return output
 
 
-def needs(tool):
+def needs(tool: str) -> str:
     """The path of a tool without the kit; a test that lacks it is skipped."""
     found = shutil.which(tool, path=without_kit()["PATH"])
     if not found:
@@ -57,7 +68,7 @@ def needs(tool):
     return found
 
 
-def compiler():
+def compiler() -> str:
     """The C compiler, or the test is skipped."""
     return needs(os.environ.get("CC", "cc"))
 
@@ -67,5 +78,5 @@ class InFolder(unittest.TestCase):
 
     maxDiff = None
 
-    def setUp(self):
+    def setUp(self) -> None:
         self.folder = pathlib.Path(tempfile.mkdtemp(prefix="linksim packages ", dir=FOLDER))

@@ -1,6 +1,9 @@
 """What has to run wherever it is put: the program, the tools, C by pkg-config and by CMake, Python, the man page."""
 
+from __future__ import annotations
+
 import shlex
+import typing
 
 import made
 
@@ -22,13 +25,13 @@ endforeach()
 class Placed(made.InFolder):
     """The checks of one package or of several together; a test says where their files are."""
 
-    def program(self, bin_folder):
+    def program(self, bin_folder: typing.Any) -> None:
         """The program and what it makes of the block 01."""
         self.assertEqual(made.done([bin_folder / "linksim", "--version"]), f"linksim {made.VERSION}\n")
         answer = made.done([bin_folder / "linksim", "cut", "--blocks", "-"], stdin=b"01\n")
         self.assertTrue(answer.endswith("code 1 0 011021\n"), answer)
 
-    def tools(self, bin_folder, examples):
+    def tools(self, bin_folder: typing.Any, examples: typing.Any) -> None:
         """Each tool, over the program beside it."""
         self.assertIn("near", made.done([bin_folder / "linksim-vectors", "--help"]))
         self.assertIn(" graph 1 ", made.done([bin_folder / "linksim-vectors", "--near", "100000"]))
@@ -39,11 +42,11 @@ class Placed(made.InFolder):
             return
         self.assertEqual((status, answer), (0, "0.0,0,200,1" + 12 * ",0" + "\n"))
 
-    def delivered(self, output):
+    def delivered(self, output: str) -> None:
         """The outcomes of the examples: the block that was sent is delivered."""
         self.assertRegex(output, "(?s)open.*delivered.*123456789")
 
-    def by_pkg_config(self, **places):
+    def by_pkg_config(self, **places: typing.Any) -> None:
         """An example in C over the shared library, with the flags that pkg-config says."""
         made.needs("pkg-config")
         environment = {**made.without_kit(), **{name: str(value) for name, value in places.items()}}
@@ -53,7 +56,7 @@ class Placed(made.InFolder):
         made.done([made.compiler(), EXAMPLES / "erasures.c", *flags, "-o", self.folder / "erasures"])
         self.delivered(made.done([self.folder / "erasures", TABLE], environment=environment))
 
-    def by_cmake(self, prefix):
+    def by_cmake(self, prefix: typing.Any) -> None:
         """The same over both libraries, as find_package finds them."""
         made.needs("cmake")
         made.compiler()
@@ -65,7 +68,7 @@ class Placed(made.InFolder):
         for target in ("nr", "static"):
             self.delivered(made.done([source / "build" / f"by_{target}", TABLE]))
 
-    def by_python(self, python, **places):
+    def by_python(self, python: typing.Any, **places: typing.Any) -> None:
         """An example in Python."""
         environment = {**made.without_kit(), **{name: str(value) for name, value in places.items()}}
         words = [python, EXAMPLES / "erasures.py", TABLE]
@@ -74,7 +77,7 @@ class Placed(made.InFolder):
         version = made.done([python, "-c", script], environment=environment, folder=self.folder)
         self.assertEqual(version, made.VERSION + "\n")
 
-    def manual(self, folder):
+    def manual(self, folder: typing.Any) -> None:
         """The man pages, as man shows them."""
         made.needs("man")
         for path in sorted(folder.glob("linksim*")):

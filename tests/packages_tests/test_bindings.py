@@ -1,4 +1,5 @@
-"""The bindings for Rust and for Octave, as `make install` puts them below a folder, and the ten lines of their documents."""
+"""The bindings for Rust and for Octave, as `make install` puts them below a folder, and the ten lines of their
+documents."""
 
 import pathlib
 import re
@@ -51,7 +52,9 @@ class Declared(unittest.TestCase):
         """Each struct has nr.h's members, in their order."""
         sources = "".join((RUST / "src" / name).read_text() for name in ("raw.rs", "lib.rs", "table.rs"))
         for name, body in re.findall(r"typedef struct Nr(\w+) \{(.*?)\n\}", HEADER, re.S):
-            found = re.search(rf"#\[repr\(C\)\]\n(?:#[^\n]*\n)*pub(?:\(crate\))? struct {name} \{{(.*?)\n\}}", sources, re.S)
+            found = re.search(
+                rf"#\[repr\(C\)\]\n(?:#[^\n]*\n)*pub(?:\(crate\))? struct {name} \{{(.*?)\n\}}", sources, re.S
+            )
             with self.subTest(name):
                 assert found, name
                 members = re.findall(r"(?m)^    pub(?:\(crate\))? (\w+):", found[1])
@@ -61,7 +64,7 @@ class Declared(unittest.TestCase):
         """Rust and Octave say of each status what Python says."""
         text = (made.ROOT / "c" / "nr" / "_faults.py").read_text()
         python = {int(status): said for status, said in re.findall(r'(?m)^    (\d+): "(.*)",$', text)}
-        status = re.search(r"enum NrStatus \{.*?\n\};", HEADER, re.S)[0]
+        status = HEADER.partition("enum NrStatus {")[2].partition("};")[0]
         names = {int(number): name for name, number in re.findall(r"NR_(\w+) = (\d+)", status)}
         for status, name, said in re.findall(r'(?m)^ {8}(\d+) (\w+) "(.*)",$', (RUST / "src" / "fault.rs").read_text()):
             with self.subTest(status):
@@ -90,7 +93,9 @@ class Built(Placed):
     def cargo(self, folder: pathlib.Path, *words: str, **places: pathlib.Path) -> str:
         """What cargo says, without the network."""
         made.compiler()
-        environment = {**made.without_kit(), "CARGO_TARGET_DIR": str(self.folder / "target"), "CARGO_NET_OFFLINE": "true"}
+        environment = {
+            **made.without_kit(), "CARGO_TARGET_DIR": str(self.folder / "target"), "CARGO_NET_OFFLINE": "true"
+        }
         environment.update({name: str(place) for name, place in places.items()})
         return made.done([made.needs("cargo"), *words, "--offline", "--quiet"], folder, environment)
 

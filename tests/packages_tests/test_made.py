@@ -1,7 +1,10 @@
 """How the packages are made: the same octets again from another folder; and what `make install` puts below a folder."""
 
+from __future__ import annotations
+
 import hashlib
 import os
+import pathlib
 import shutil
 import subprocess
 import unittest
@@ -21,13 +24,13 @@ COMPLETIONS = [
 class Same(made.InFolder):
     """The packages do not depend on where, when and by whom they are made."""
 
-    def test_sums(self):
+    def test_sums(self) -> None:
         lines = [line.split("  ") for line in (made.DIST / "SHA256SUMS").read_text().splitlines()]
         self.assertEqual({name for _, name in lines}, {path.name for path in made.DIST.iterdir()} - {"SHA256SUMS"})
         for digest, name in lines:
             self.assertEqual(hashlib.sha256((made.DIST / name).read_bytes()).hexdigest(), digest)
 
-    def test_again(self):
+    def test_again(self) -> None:
         """Libraries and packages, made anew in another folder by somebody with other habits, are the same octets."""
         if not shutil.which("rt"):
             self.skipTest("no kit, whose allocator the libraries have")
@@ -53,10 +56,10 @@ class Same(made.InFolder):
 class Installed(Placed):
     """`make install` and `make uninstall`, without the kit, to a folder with a space."""
 
-    def make(self, *words):
+    def make(self, *words: str | pathlib.Path) -> None:
         made.done(["make", "-s", "-C", made.ROOT, *words, "PREFIX=/opt/my linksim", f"DESTDIR={self.folder}"])
 
-    def test_install(self):
+    def test_install(self) -> None:
         self.make("install")
         top = self.folder / "opt" / "my linksim"
         self.program(top / "bin")

@@ -1,11 +1,14 @@
 """What the tests of tools/conform share: a table, a suite of the profile `quick` that is made once, and answers."""
 
+from __future__ import annotations
+
 import atexit
 import functools
 import json
 import pathlib
 import shutil
 import tempfile
+import typing
 
 import shared
 from linksim_tools import conform_suite
@@ -16,14 +19,14 @@ from linksim_tools.graphs import GRAPHS
 
 
 @functools.cache
-def folder():
+def folder() -> pathlib.Path:
     """A folder that goes away with the tests."""
     path = pathlib.Path(tempfile.mkdtemp(prefix="linksim-conform-"))
     atexit.register(shutil.rmtree, path, True)
     return path
 
 
-def entries(graph):
+def entries(graph: int) -> dict[tuple[int, int], list[int]]:
     """A drawn table in which the value of the first parity column that has no equal is not 0 in some sets, as in the
     published tables."""
     found = shared.drawn_entries(graph, 5)
@@ -36,7 +39,7 @@ def entries(graph):
 
 
 @functools.cache
-def table():
+def table() -> pathlib.Path:
     """The path of a table of both base graphs."""
     path = folder() / "table.csv"
     path.write_text(shared.table_text({graph: entries(graph) for graph in (1, 2)}))
@@ -44,7 +47,7 @@ def table():
 
 
 @functools.cache
-def suite_path():
+def suite_path() -> pathlib.Path:
     """The path of a suite of the profile `quick`."""
     status, output, error = shared.tool("conform", "suite", "--table", table())
     assert (status, error) == (0, ""), error
@@ -54,25 +57,25 @@ def suite_path():
 
 
 @functools.cache
-def suite():
+def suite() -> conform_suite.Suite:
     """The same as it is read."""
     return conform_suite.read(suite_path())
 
 
 @functools.cache
-def lines():
+def lines() -> dict[str, dict[str, typing.Any]]:
     """The cases of the suite as JSON has them, by id."""
     found = map(json.loads, suite_path().read_text().splitlines()[1:])
     return {it["id"]: it for it in found}
 
 
 # Cases of every kind that a test of one answer needs; a suite of these alone is read at once.
-FEW = ("limit-8-511", "kb-192", "kb-560", "kb-640", "limited-2-rv1", "limited-2-n", "fillers-2", "mask-hole")
-FEW += ("shares-zero",)
+FEW = ("limit-8-511", "kb-192", "kb-560", "kb-640", "limited-2-rv1", "limited-2-n", "fillers-2", "mask-hole",
+       "shares-zero")
 
 
 @functools.cache
-def few_path():
+def few_path() -> pathlib.Path:
     """The path of a suite of a few cases of the same."""
     head, *cases = suite_path().read_text().splitlines()
     kept = [line for line in cases if json.loads(line)["id"] in FEW]
@@ -82,18 +85,18 @@ def few_path():
 
 
 @functools.cache
-def few():
+def few() -> conform_suite.Suite:
     """The same as it is read."""
     return conform_suite.read(few_path())
 
 
 @functools.cache
-def chains():
+def chains() -> dict[str, Chain]:
     """The model of each case of the suite."""
     return {name: Chain(suite().tables, case) for name, case in suite().cases.items()}
 
 
-def planted(*mistakes, fields=FIELDS):
+def planted(*mistakes: str, fields: tuple[str, ...] = FIELDS) -> dict[str, dict[str, typing.Any]]:
     """The answers of an encoder that makes these mistakes, to the cases that it can encode."""
     found = {}
     for name, chain in chains().items():
@@ -104,6 +107,6 @@ def planted(*mistakes, fields=FIELDS):
     return found
 
 
-def conform(*words, **options):
+def conform(*words: object, **options: typing.Any) -> tuple[int, str, str]:
     """The status, the standard output and the standard error of the tool."""
     return shared.tool("conform", *words, with_program=False, **options)

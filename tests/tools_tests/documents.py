@@ -2,17 +2,21 @@
 begins with `$ ` is a command of bash, lines that begin with `> ` go on with it, and what follows is what it writes, on
 standard output and on standard error."""
 
+from __future__ import annotations
+
 import os
+import pathlib
 import shutil
 import subprocess
+import typing
 
 import shared
 
 
-def commands(text):
+def commands(text: str) -> list[tuple[str, str]]:
     """The commands of a document in their order, each with the lines that stand behind it."""
     inside = False
-    found = []
+    found: list[tuple[str, list[str]]] = []
     for line in text.splitlines():
         if line.startswith("```"):
             inside = line == "```console"
@@ -26,7 +30,7 @@ def commands(text):
     return [(command, "".join(line + "\n" for line in lines)) for command, lines in found]
 
 
-def top(folder):
+def top(folder: pathlib.Path) -> pathlib.Path:
     """A folder that looks like the repository's top, with the program of these tests as the built one."""
     for name in ("docs", "examples", "tools", "tests", "bench", "share"):
         if (shared.ROOT / name).exists():
@@ -37,18 +41,20 @@ def top(folder):
     return folder
 
 
-def answers(folder, lines):
+def answers(folder: pathlib.Path, lines: list[str]) -> list[str]:
     """What each of these commands writes, one after the other in one shell in a folder."""
     mark = "-- end of a command --"
     script = "".join(f"{line}\nprintf '\\n{mark}\\n'\n" for line in lines)
     ended = subprocess.run(
-        ["bash"], input=script.encode(), stdout=subprocess.PIPE, stderr=subprocess.STDOUT, cwd=folder, timeout=shared.SECONDS,
+        [
+            "bash"
+        ], input=script.encode(), stdout=subprocess.PIPE, stderr=subprocess.STDOUT, cwd=folder, timeout=shared.SECONDS,
         env={**os.environ, "LC_ALL": "C.UTF-8", "PYTHONDONTWRITEBYTECODE": "1"},
     )
     return ended.stdout.decode().split(f"\n{mark}\n")[:-1]
 
 
-def words_missing(line):
+def words_missing(line: str) -> list[typing.Any]:
     """The programs that a command needs, of those that a machine may lack."""
     needed = {name: name for name in ("xxd", "parallel", "awk", "man", "cc")} | {"./planted": "cc"}
     return [program for name, program in needed.items() if name in line.split() and not shutil.which(program)]

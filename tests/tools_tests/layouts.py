@@ -1,6 +1,9 @@
 """A shift table as the texts of TS 38.212 print it, in each layout that `tools/table read` knows."""
 
+from __future__ import annotations
+
 import io
+import typing
 import zipfile
 from xml.sax.saxutils import escape
 
@@ -15,10 +18,10 @@ FOOT = "3GPP TS 38.212 version 15.2.0 Release 15     25     ETSI TS 138 212 V15.
 EMPTY = [""] * 10
 
 
-def halves(entries, index="first"):
-    """The cells of each line of a table, with the row index at a row's first line, at its middle one, at its last one, at
-    each one, or alone amid its lines (where it has as many below as above; else at its middle one)."""
-    rows = {}
+def halves(entries: dict[tuple[int, int], list[int]], index: str = "first") -> list[list[str]]:
+    """The cells of each line of a table, with the row index at a row's first line, at its middle one, at its last one,
+    at each one, or alone amid its lines (where it has as many below as above; else at its middle one)."""
+    rows: dict[typing.Any, typing.Any] = {}
     for (row, column), values in sorted(entries.items()):
         rows.setdefault(row, []).append(["", str(column), *map(str, values)])
     lines = []
@@ -34,7 +37,7 @@ def halves(entries, index="first"):
     return lines
 
 
-def side_by_side(lines, count=None):
+def side_by_side(lines: list[list[str]], count: int | None = None) -> list[list[str]]:
     """The lines in two halves, the first with `count` of them (or half of them): twenty cells each."""
     count = (len(lines) + 1) // 2 if count is None else count
     left, right = lines[:count], lines[count:]
@@ -43,43 +46,53 @@ def side_by_side(lines, count=None):
     return [one + other for one, other in zip(left, right)]
 
 
-def page_by_page(lines, count):
+def page_by_page(lines: list[list[str]], count: int) -> list[list[list[str]]]:
     """The lines in pages of two halves of `count` lines each, the second one going on where the first one ends."""
     return [side_by_side(lines[start : start + 2 * count]) for start in range(0, len(lines), 2 * count)]
 
 
-def aligned(cells):
+def aligned(cells: list[str]) -> str:
     """A line of a page as it is laid out: each cell in a column of its own."""
     return "".join(f"{cell:>7}" for cell in cells).rstrip()
 
 
-def single_spaces(cells):
+def single_spaces(cells: list[str]) -> str:
     """A line with one space between what stands in it."""
     return " ".join(cell for cell in cells if cell)
 
 
-def tabs(cells):
+def tabs(cells: list[str]) -> str:
     """A line with a tab between its cells, as a table is copied from a document."""
     return "\t".join(cells)
 
 
-def text(graph, pages, form=aligned, feed="\f", heads=HEADS, foot=(FOOT,)):
+def text(
+    graph: int,
+    pages: list[list[list[str]]],
+    form: typing.Callable[..., typing.Any] = aligned,
+    feed: str = "\f",
+    heads: list[str] = HEADS,
+    foot: tuple[str, ...] = (FOOT,
+    ),
+) -> str:
     """The text of a table: its caption, and pages with heads and feet."""
     parts = [[CAPTIONS[graph]]]
     parts += [[*heads, *(form(cells) for cells in page), *foot] for page in pages]
     return feed.join("\n".join(part) + "\n" for part in parts)
 
 
-def pages_of(cells, count):
+def pages_of(cells: list[list[str]], count: int) -> list[list[list[str]]]:
     """The lines of a table in pages of `count` lines."""
     return [cells[start : start + count] for start in range(0, len(cells), count)]
 
 
-def placed_page(head, halves_of_page, at_top):
+def placed_page(head: str, halves_of_page: list[list[tuple[int, ...]]], at_top: bool) -> list[tuple[int, int, str]]:
     """A page of a PDF: texts with their places, the row index at the top of a row's lines or in their middle."""
-    texts = [(60, 810, head), (60, 770, "Row Column Set index iLS"), (60, 750, "i j 0 1 2 3 4 5 6 7 i j 0 1 2 3 4 5 6 7")]
+    texts = [
+        (60, 810, head), (60, 770, "Row Column Set index iLS"), (60, 750, "i j 0 1 2 3 4 5 6 7 i j 0 1 2 3 4 5 6 7")
+    ]
     for left, lines in zip((40, 320), halves_of_page):
-        rows = {}
+        rows: dict[typing.Any, typing.Any] = {}
         for number, (row, *cells) in enumerate(lines):
             rows.setdefault(row, []).append(730 - 11 * number)
             places = [left + 26, *(left + 60 + 24 * index for index in range(8))]
@@ -88,7 +101,9 @@ def placed_page(head, halves_of_page, at_top):
     return texts
 
 
-def pdf_of_tables(entries_by_graph, at_top, lines=60):
+def pdf_of_tables(
+    entries_by_graph: dict[int, dict[tuple[int, int], list[int]]], at_top: bool, lines: int = 60
+) -> bytes:
     """A PDF with these tables in two halves side by side, the right one going on where the whole left one ends."""
     pages = []
     for graph, entries in entries_by_graph.items():
@@ -101,7 +116,7 @@ def pdf_of_tables(entries_by_graph, at_top, lines=60):
     return pdf(pages)
 
 
-def pdf(pages):
+def pdf(pages: list[list[tuple[int, int, str]]]) -> bytes:
     """A PDF in octets; each page is texts with their places."""
     font = "<< /Type /Font /Subtype /Type1 /BaseFont /Times-Roman >>"
     objects = [font, ""]
@@ -126,14 +141,16 @@ def pdf(pages):
     return (text + end).encode()
 
 
-def document(paragraphs_and_tables):
+def document(paragraphs_and_tables: list[list[list[str]] | str]) -> bytes:
     """A .docx document in octets: a text is a paragraph, and a list of lists of cells a table."""
     body = ""
     for part in paragraphs_and_tables:
         if isinstance(part, str):
             body += f"<w:p><w:r><w:t>{escape(part)}</w:t></w:r></w:p>"
         else:
-            rows = ("".join(f"<w:tc><w:p><w:r><w:t>{cell}</w:t></w:r></w:p></w:tc>" for cell in cells) for cells in part)
+            rows = (
+                "".join(f"<w:tc><w:p><w:r><w:t>{cell}</w:t></w:r></w:p></w:tc>" for cell in cells) for cells in part
+            )
             body += "<w:tbl>" + "".join(f"<w:tr>{row}</w:tr>" for row in rows) + "</w:tbl><w:p/>"
     name = "http://schemas.openxmlformats.org/wordprocessingml/2006/main"
     octets = io.BytesIO()
@@ -142,7 +159,7 @@ def document(paragraphs_and_tables):
     return octets.getvalue()
 
 
-def archive(files):
+def archive(files: dict[str, typing.Any]) -> bytes:
     """A .zip in octets, of files by name."""
     octets = io.BytesIO()
     with zipfile.ZipFile(octets, "w") as parts:

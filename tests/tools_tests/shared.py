@@ -1,5 +1,7 @@
 """What the tests of the tools share: the program, how it and the tools are run, and tables with drawn numbers."""
 
+from __future__ import annotations
+
 import os
 import pathlib
 import random
@@ -7,6 +9,7 @@ import shutil
 import subprocess
 import sys
 import tempfile
+import typing
 import unittest
 
 from linksim_tools.graphs import GRAPHS, LARGEST
@@ -22,7 +25,7 @@ SECONDS = 300
 _program = PROGRAM
 
 
-def use(path):
+def use(path: pathlib.Path) -> None:
     """Names the program that the tests run, or ends where there is none."""
     global _program
     _program = pathlib.Path(path).resolve()
@@ -30,15 +33,18 @@ def use(path):
         sys.exit(f"tools: no program at {_program}; this builds it: (cd crates/linksim && rt run -- --version)")
 
 
-def program():
+def program() -> pathlib.Path:
     """The path of the built program."""
     return _program
 
 
-def run(words, stdin=b"", folder=None, environment=None):
+def run(
+    words: typing.Sequence[object], stdin: bytes = b"", folder: pathlib.Path | None = None,
+    environment: typing.Mapping[str, str] | None = None,
+) -> tuple[int, bytes, bytes]:
     """A command's status, standard output and standard error, in octets."""
     ended = subprocess.run(
-        [os.fspath(word) if isinstance(word, os.PathLike) else str(word) for word in words],
+        [str(word) for word in words],
         input=stdin,
         capture_output=True,
         cwd=folder,
@@ -48,7 +54,7 @@ def run(words, stdin=b"", folder=None, environment=None):
     return ended.returncode, ended.stdout, ended.stderr
 
 
-def linksim(*words, stdin=b"", folder=None):
+def linksim(*words: object, stdin: bytes = b"", folder: pathlib.Path | None = None) -> str:
     """The program's standard output for these words, in text; a failure is a failed test."""
     status, output, error = run([program(), *words], stdin, folder)
     if status:
@@ -56,14 +62,16 @@ def linksim(*words, stdin=b"", folder=None):
     return output.decode()
 
 
-def tool(name, *words, stdin=b"", folder=None, with_program=True):
+def tool(
+    name: str, *words: object, stdin: bytes = b"", folder: pathlib.Path | None = None, with_program: bool = True
+) -> tuple[int, str, str]:
     """A tool's status, standard output and standard error in text, over the program of these tests."""
     option = ["--program", program()] if with_program else []
     status, output, error = run([sys.executable, TOOLS / name, *words, *option], stdin, folder)
     return status, output.decode(), error.decode()
 
 
-def drawn_entries(graph, seed=0):
+def drawn_entries(graph: int, seed: int = 0) -> dict[tuple[int, int], list[int]]:
     """The entries of a table with drawn numbers: as many as the published one of the base graph has, at other places,
     and with the shape that an accepted table has. By (row, column) the eight values of the sets 0 to 7."""
     numbers = random.Random(f"{graph} {seed}")
@@ -80,7 +88,7 @@ def drawn_entries(graph, seed=0):
     return dict(sorted(entries.items()))
 
 
-def table_text(entries_by_graph):
+def table_text(entries_by_graph: dict[int, dict[tuple[int, int], list[int]]]) -> str:
     """The text of a table file, from the entries of each of its base graphs."""
     lines = [
         ",".join(str(number) for number in (graph, row, column, *values))
@@ -90,7 +98,7 @@ def table_text(entries_by_graph):
     return "".join(line + "\n" for line in lines)
 
 
-def drawn_table(folder, graphs=(1, 2), seed=0):
+def drawn_table(folder: typing.Any, graphs: tuple[int, int] | list[int] = (1, 2), seed: int = 0) -> typing.Any:
     """The path of a table file with drawn numbers for these base graphs."""
     path = pathlib.Path(folder) / f"table-{'-'.join(map(str, graphs))}-{seed}.csv"
     path.write_text(table_text({graph: drawn_entries(graph, seed) for graph in graphs}))
@@ -100,11 +108,11 @@ def drawn_table(folder, graphs=(1, 2), seed=0):
 class InFolder(unittest.TestCase):
     """A test with a folder of its own, `self.folder`, which goes away with it."""
 
-    def setUp(self):
+    def setUp(self) -> None:
         self.folder = pathlib.Path(tempfile.mkdtemp(prefix="linksim-tools-"))
         self.addCleanup(shutil.rmtree, self.folder)
 
-    def file(self, name, text):
+    def file(self, name: str, text: str | bytes) -> pathlib.Path:
         """The path of a file of the folder with this text, or these octets."""
         path = self.folder / name
         path.write_bytes(text if isinstance(text, bytes) else text.encode())

@@ -1,15 +1,19 @@
 """`tools/conform check`: forms of answers, statuses, first differences by hand, and answers that cannot be judged."""
 
+from __future__ import annotations
+
 import json
+import pathlib
+import typing
 
 import conform_shared
 import shared
-from linksim_tools import conform_answers, conform_bits, conform_report, conform_steps
+from linksim_tools import conform_answers, conform_bits, conform_mistakes, conform_report
 from linksim_tools.packing import PACKINGS
 from linksim_tools.program import Failed
 
 
-def answer(name, *fields):
+def answer(name: str, *fields: str) -> dict[str, typing.Any]:
     """A right answer to a case, of some of the names of its line."""
     line = conform_shared.lines()[name]
     return {"id": name} | {field: line[field] for field in fields}
@@ -18,18 +22,18 @@ def answer(name, *fields):
 class Checked(shared.InFolder):
     """A test with a file of answers."""
 
-    def answers(self, *answers):
+    def answers(self, *answers: str | dict[str, typing.Any]) -> pathlib.Path:
         """The path of a file of these answers."""
         lines = [it if isinstance(it, str) else json.dumps(it) for it in answers]
         return self.file("answers.jsonl", "".join(line + "\n" for line in lines))
 
-    def check(self, *answers, plain=False):
+    def check(self, *answers: str | dict[str, typing.Any], plain: bool = False) -> tuple[int, list[str]]:
         """The status and the lines of a check of these answers to a few cases."""
         found = conform_answers.read(self.answers(*answers), conform_shared.few(), plain)
         made = conform_report.judged(conform_shared.few(), found)
         return conform_report.status(made), list(conform_report.text(made))
 
-    def first(self, *answers, **options):
+    def first(self, *answers: dict[str, typing.Any], **options: typing.Any) -> list[str]:
         """The lines of the first difference."""
         status, lines = self.check(*answers, **options)
         self.assertEqual(status, 1)
@@ -41,20 +45,22 @@ class Checked(shared.InFolder):
 class Right(Checked):
     """Answers that agree, in every form."""
 
-    def numbers(self, step, lines):
+    def numbers(self, step: str, lines: list[str]) -> list[int]:
         """How many cases pass, fail and were not answered in a step."""
         return [int(it) for it in next(line for line in lines if line.startswith(step)).split()[-3:]]
 
-    def test_the_suite_itself(self):
+    def test_the_suite_itself(self) -> None:
         path = self.answers(*conform_shared.lines().values())
         status, output, error = conform_shared.conform("check", conform_shared.suite_path(), path)
         lines = output.splitlines()
         self.assertEqual(error, "")
         count = len(conform_shared.lines())
         self.assertEqual((status, lines[-1]), (0, "all that was answered agrees"))
-        self.assertEqual([self.numbers(step, lines) for step, _ in conform_steps.STEPS.values()], [[count, 0, 0]] * 10)
+        self.assertEqual(
+            [self.numbers(step, lines) for step, _ in conform_mistakes.STEPS.values()], [[count, 0, 0]] * 10
+        )
 
-    def test_some_names_alone(self):
+    def test_some_names_alone(self) -> None:
         numbers = {"id": "kb-192", "k0": 0, "plan": {"z": 32}}
         status, lines = self.check(answer("kb-560", "sent"), answer("kb-640", "plan"), numbers)
         count = len(conform_shared.FEW)
@@ -64,18 +70,20 @@ class Right(Checked):
         self.assertEqual(self.numbers("base graph", lines), [1, 0, count - 1])
         self.assertEqual(self.numbers("buffer and k0", lines), [1, 0, count - 1])
 
-    def test_nothing(self):
+    def test_nothing(self) -> None:
         self.assertEqual(self.check()[0], 0)
         self.assertEqual(self.check()[1][-1], "nothing was answered")
 
-    def test_forms(self):
+    def test_forms(self) -> None:
         name = "mask-hole"
         right = conform_shared.suite().values[name]
         for form, pack in PACKINGS.items():
-            def packed(text):
+            def packed(text: str) -> dict[str, typing.Any]:
                 return {"count": len(text), form: pack(list(map(int, text)))}
 
-            value = {"id": name, "attached": packed(right["attached"]), "sent": packed(right["sent"])}
+            value: dict[str, typing.Any] = {
+                "id": name, "attached": packed(right["attached"]), "sent": packed(right["sent"])
+            }
             value |= {it: [packed(part) for part in right[it]] for it in ("bits", "e", "f")}
             value |= {"E": right["E"], "d": right["d"]}
             with self.subTest(form):
@@ -85,7 +93,7 @@ class Right(Checked):
         single |= {"E": one["E"][0], "e": one["e"][0]}
         self.assertEqual(self.check(single)[0], 0)
 
-    def test_plain(self):
+    def test_plain(self) -> None:
         right = conform_shared.suite().values["mask-hole"]
         words = {"id": "mask-hole", **right["plan"]} | {name: right[name] for name in ("attached", "k0", "Ncb", "sent")}
         words |= {name: ",".join(map(str, right[name])) for name in ("E", "bits", "d", "e", "f")}
@@ -93,7 +101,7 @@ class Right(Checked):
         self.assertEqual(status, 0)
         self.assertEqual(self.numbers("interleaving", lines)[0], 1)
 
-    def test_json_and_html(self):
+    def test_json_and_html(self) -> None:
         page = self.folder / "report.html"
         path = self.answers(*(conform_shared.lines()[name] for name in conform_shared.FEW))
         status, output, _ = conform_shared.conform("check", conform_shared.few_path(), path, "--json", "--html", page)
@@ -106,27 +114,27 @@ class Right(Checked):
 class Differences(Checked):
     """The first difference of each step, in the terms of its clause."""
 
-    def changed(self, name, field, place, r=0):
+    def changed(self, name: str, field: str, place: int, r: int = 0) -> dict[str, typing.Any]:
         """A right answer to a case with one bit changed: of a code block or of the list."""
         right = conform_shared.suite().values[name][field]
         text = right if isinstance(right, str) else right[r]
         text = text[:place] + {"0": "1", "1": "0", "-": "0"}[text[place]] + text[place + 1 :]
         return {"id": name, field: text if isinstance(right, str) else right[:r] + [text] + right[r + 1 :]}
 
-    def test_crc(self):
+    def test_crc(self) -> None:
         lines = self.first(self.changed("kb-560", "attached", 546))
         self.assertEqual(lines[0], "first difference, step CRC, in the smallest case that fails: kb-560")
         self.assertRegex(lines[2], r"bit 546 is [01], right is [01]: parity bit p_2 of 16 \(5.1\)")
         self.assertIn("bit a_5 of the block itself", self.first(self.changed("kb-560", "attached", 5))[2])
 
-    def test_plan(self):
+    def test_plan(self) -> None:
         lines = self.first({"id": "kb-560", "plan": {"graph": 1, "z": 64}})
         self.assertEqual(lines[2], "base graph 1, right is 2: A = 544, R = 1024 / 2048 (6.2.2, 7.2.2)")
         lines = self.first({"id": "kb-560", "plan": {"graph": 2, "z": 64, "set": 0, "kb": 8}})
         wanted = ["Zc is 64, right is 72 (5.2.2, 5.3.2)", "the set index is 0, right is 4 (5.2.2, 5.3.2)"]
         self.assertEqual(lines[2:], wanted)
 
-    def test_code_blocks(self):
+    def test_code_blocks(self) -> None:
         plan = conform_shared.suite().values["mask-hole"]["plan"]
         part = plan["kdash"] - 24
         lines = self.first(self.changed("mask-hole", "bits", part + 3, r=1))
@@ -135,7 +143,7 @@ class Differences(Checked):
         self.assertEqual(lines[3], f"it is bit b_{2 * part + 7} of the block with its CRC (5.2.2)")
         self.assertIn("the bits of 1 code blocks, right is C = 3", self.first({"id": "mask-hole", "bits": ["01"]})[2])
 
-    def test_codeword(self):
+    def test_codeword(self) -> None:
         z = 72
         lines = self.first(self.changed("kb-560", "d", 3 * z + 11))
         self.assertIn(f"column j = 5, bit t = 11 of Zc = {z}: bit {5 * z + 11} of the code block", lines[3])
@@ -151,7 +159,7 @@ class Differences(Checked):
         lines = self.first(self.changed("kb-560", "d", 560 - 2 * z))
         self.assertIn("bit 416 is 0, right is a filler", lines[2])
 
-    def test_buffer_and_lengths(self):
+    def test_buffer_and_lengths(self) -> None:
         lines = self.first({"id": "limited-2-rv1", "Ncb": 70, "k0": 7})
         self.assertRegex(lines[2], r"Ncb is 70, right is \d+: N = 350, TBS_LBRM = \d+, C = 1 \(5.4.2.1\)")
         lines = self.first({"id": "limited-2-rv1", "k0": 8})
@@ -160,7 +168,7 @@ class Differences(Checked):
         self.assertEqual(lines[2], "E of code block r = 0 is 2, right is 0 (5.4.2.1)")
         self.assertIn("E of 2 code blocks, right is C = 3", self.first({"id": "shares-zero", "E": [2, 2]})[2])
 
-    def test_selection_and_interleaving(self):
+    def test_selection_and_interleaving(self) -> None:
         right = conform_shared.suite().values["fillers-2"]
         systematic = 40 - 2 * 7
         lines = self.first(self.changed("fillers-2", "e", systematic))
@@ -172,13 +180,13 @@ class Differences(Checked):
         lines = self.first(self.changed("limited-2-n", "e", count - 1))
         self.assertIn(", in round 3 (", lines[3])
 
-    def test_sent(self):
+    def test_sent(self) -> None:
         right = conform_shared.suite().values["mask-hole"]
         lines = self.first(self.changed("mask-hole", "sent", right["E"][0] + 6))
         self.assertEqual(lines[3], "it is f_6 of code block r = 2 (5.5)")
         self.assertIn("symbol 1, bit 2 of Qm = 4: f_6 is e_", lines[4])
 
-    def test_too_few_and_too_many_bits(self):
+    def test_too_few_and_too_many_bits(self) -> None:
         right = conform_shared.suite().values["kb-560"]
         lines = self.first({"id": "kb-560", "sent": right["sent"][:100]})
         wanted = f"the bits sent: 100 bits, right are {len(right['sent'])}; the first 100 agree (5.5)"
@@ -194,14 +202,14 @@ class Differences(Checked):
 class Unjudged(Checked):
     """Answers that cannot be judged: one line that says why, and status 2."""
 
-    def refused(self, said, *lines, plain=False):
+    def refused(self, said: str, *lines: str, plain: bool = False) -> None:
         """These lines are refused in one line that ends so."""
         path = self.answers(*lines)
         with self.assertRaises(Failed) as refused:
             conform_answers.read(path, conform_shared.few(), plain)
         self.assertEqual(str(refused.exception), f"{path} line {len(lines)}: {said}")
 
-    def test_lines(self):
+    def test_lines(self) -> None:
         self.refused("not JSON: Expecting value: line 1 column 1 (char 0)", "attached")
         self.refused("no JSON object", "[1]")
         self.refused("no id", "{}")
@@ -210,7 +218,7 @@ class Unjudged(Checked):
         self.refused("case kb-560 was answered before", '{"id": "kb-560"}', "", '{"id": "kb-560"}')
         self.refused("case kb-560: a name that is none: bit", '{"id": "kb-560", "bit": 1}')
 
-    def test_a_long_line(self):
+    def test_a_long_line(self) -> None:
         most = conform_shared.lines()
         self.assertGreater(10_000_000, max(len(json.dumps(it)) for it in most.values()))
         path = self.file("answers.jsonl", '{"id": "' + "x" * 10_000_000 + '"}\n')
@@ -218,7 +226,7 @@ class Unjudged(Checked):
         self.assertEqual(status, 2)
         self.assertRegex(error, r"line 1: longer than \d+ octets, and no answer of this suite can be\n$")
 
-    def test_values(self):
+    def test_values(self) -> None:
         for said, value in {
             "attached says 24 bits, and its hex has 20": {"attached": {"count": 24, "hex": "01102"}},
             "attached has other characters than hexadecimal digits": {"attached": {"count": 24, "hex": "0x1102"}},
@@ -236,14 +244,16 @@ class Unjudged(Checked):
             "codeblocks has d for some code blocks alone": {"codeblocks": [{"d": [0]}, {}]},
         }.items():
             with self.subTest(said):
-                self.refused("case kb-560: " + said, json.dumps({"id": "kb-560"} | value))
+                self.refused(
+                    "case kb-560: " + said, json.dumps({"id": "kb-560", **typing.cast(typing.Dict[str, object], value)})
+                )
         forms = ", ".join(f'"{name}"' for name in conform_bits.READERS)
         said = f'case kb-560: f is no object of "count" and one of {forms}'
         self.refused(said, '{"id": "kb-560", "f": {"hex": "00"}}')
         said = "case kb-560: plan has other names than a, b, graph, c, l, kdash, kb, z, set, k, n"
         self.refused(said, '{"id": "kb-560", "plan": 3}')
 
-    def test_plain(self):
+    def test_plain(self) -> None:
         self.refused("an odd number of words: each name has one value", "id kb-560 k0", plain=True)
         self.refused("k0 is no whole number: -1", "id kb-560 k0 -1", plain=True)
         self.refused("k0 stands there twice", "id kb-560 k0 1 k0 1", plain=True)
@@ -251,7 +261,7 @@ class Unjudged(Checked):
         self.refused(said, "id kb-560 sent 0a", plain=True)
         self.refused("case kb-560: a name that is none: rv", "id kb-560 rv 0", plain=True)
 
-    def test_files(self):
+    def test_files(self) -> None:
         nowhere = "tools/conform: /nowhere cannot be read: No such file or directory\n"
         path = self.answers("[1]")
         status, output, error = conform_shared.conform("check", conform_shared.few_path(), path)

@@ -1,8 +1,12 @@
 """`tools/conform run`: templates, encoders in C with nothing wrong and with a mistake each, and commands that stop."""
 
+from __future__ import annotations
+
 import json
+import pathlib
 import shutil
 import sys
+import typing
 import unittest
 
 import conform_shared
@@ -21,13 +25,18 @@ PLANTED = {
 class Run(shared.InFolder):
     """A test that runs commands."""
 
-    def run_(self, *command, suite=None, more=()):
+    def run_(
+        self,
+        *command: str | pathlib.Path,
+        suite: str | pathlib.Path | None = None,
+        more: typing.Sequence[str | pathlib.Path] = (),
+    ) -> tuple[int, list[str], list[str]]:
         """The status, the lines of the report and those on standard error."""
         words = ["run", suite or conform_shared.few_path(), *more, "--", *command]
         status, output, error = conform_shared.conform(*words)
         return status, output.splitlines(), error.splitlines()
 
-    def python(self, text, **options):
+    def python(self, text: str, **options: typing.Any) -> tuple[int, list[str], list[typing.Any]]:
         """The same of a command in Python."""
         return self.run_(sys.executable, self.file("command.py", text), **options)
 
@@ -36,7 +45,7 @@ class Run(shared.InFolder):
 class InC(Run):
     """The examples in C, on the whole suite."""
 
-    def built(self, name):
+    def built(self, name: str) -> pathlib.Path:
         """The path of the program of an example."""
         path = self.folder / name
         words = ["cc", "-std=c99", "-Wall", "-Wextra", "-Werror", "-O2", "-o", path, FOLDER / f"{name}.c"]
@@ -44,23 +53,25 @@ class InC(Run):
         self.assertEqual((status, output, error), (0, b"", b""))
         return path
 
-    def run_plain(self, *command, more=()):
+    def run_plain(
+        self, *command: pathlib.Path, more: list[pathlib.Path | str] | tuple[typing.Any, ...] = ()
+    ) -> tuple[int, list[str], list[typing.Any]]:
         return self.run_(*command, suite=conform_shared.suite_path(), more=["--plain", *more])
 
-    def test_template(self):
+    def test_template(self) -> None:
         status, lines, error = self.run_plain(self.built("template"))
         count = len(conform_shared.lines())
         self.assertEqual((status, error, lines[-1]), (0, [], "all that was answered agrees"))
         self.assertEqual(lines[2].split(), ["CRC", str(count), "0", "0"])
         self.assertEqual(lines[6].split(), ["LDPC", "0", "0", str(count)])
 
-    def test_encoder(self):
+    def test_encoder(self) -> None:
         status, lines, error = self.run_plain(self.built("encoder"), conform_shared.table())
         count = str(len(conform_shared.lines()))
         self.assertEqual((status, error, lines[-1]), (0, [], "all that was answered agrees"))
         self.assertEqual([line.split()[-3:] for line in lines[2:-1]], [[count, "0", "0"]] * 10)
 
-    def test_planted(self):
+    def test_planted(self) -> None:
         for name, mistake in PLANTED.items():
             with self.subTest(name):
                 page = self.folder / "report.html"
@@ -72,7 +83,7 @@ class InC(Run):
                 self.assertEqual([[it["name"] for it in pair] for pair in found["mistakes"]], [[mistake]])
                 self.assertIn(f"<code>{mistake}</code>", page.read_text())
 
-    def test_plain_lines(self):
+    def test_plain_lines(self) -> None:
         status, output, error = conform_shared.conform("plain", conform_shared.few_path())
         self.assertEqual((status, error), (0, ""))
         lines = [dict(zip(line.split()[::2], line.split()[1::2])) for line in output.splitlines()]
@@ -82,8 +93,8 @@ class InC(Run):
         hole = by_id["mask-hole"]
         self.assertEqual((hole["mask"], hole["lbrm"], by_id["kb-560"]["mask"]), ("101", "-", "all"))
         self.assertEqual(by_id["limited-2-n"]["lbrm"], str(cases["limited-2-n"].lbrm))
-        status, answers, error = shared.run([self.built("encoder"), conform_shared.table()], output.encode())
-        self.assertEqual((status, error), (0, b""))
+        status, answers, said = shared.run([self.built("encoder"), conform_shared.table()], output.encode())
+        self.assertEqual((status, said), (0, b""))
         path = self.file("answers.txt", answers)
         status, output, error = conform_shared.conform("check", "--plain", conform_shared.few_path(), path)
         self.assertEqual((status, error, output.splitlines()[-1]), (0, "", "all that was answered agrees"))
@@ -100,16 +111,16 @@ for line in sys.stdin:
     print(json.dumps({"id": case["id"], "plan": {"a": case["a"]["count"]}}), flush=True)
 """
 
-    def good(self, extra="pass", **options):
+    def good(self, extra: str = "pass", **options: list[str]) -> tuple[int, list[str], list[typing.Any]]:
         return self.python(self.GOOD % extra, **options)
 
-    def test_template(self):
+    def test_template(self) -> None:
         status, lines, error = self.run_(sys.executable, FOLDER / "template.py", suite=conform_shared.suite_path())
         count = len(conform_shared.lines())
         self.assertEqual((status, error, lines[-1]), (0, [], "all that was answered agrees"))
         self.assertEqual(lines[2].split(), ["CRC", str(count), "0", "0"])
 
-    def test_a_case_has_no_answer_in_it(self):
+    def test_a_case_has_no_answer_in_it(self) -> None:
         seen = self.folder / "seen.txt"
         self.good(f"print(line, end='', file=open({str(seen)!r}, 'a'))", more=["--pack", "octets"])
         cases = [json.loads(line) for line in seen.read_text().splitlines()]
@@ -121,16 +132,16 @@ for line in sys.stdin:
             for name in ("rate2048", "lbrm", "transmission"):
                 self.assertEqual(case[name], line[name])
 
-    def stopped(self, said, answered, status, lines, error):
+    def stopped(self, said: str, answered: int, status: int, lines: list[str], error: list[typing.Any]) -> None:
         """The run ended with this trouble, and the rest was judged."""
         self.assertEqual((status, error), (1, []))
         self.assertEqual(lines[0], f"suite quick: {len(conform_shared.FEW)} cases, {answered} answered")
         self.assertEqual([line for line in lines if said in line], lines[-1:])
 
-    def names(self):
+    def names(self) -> list[str]:
         return list(conform_shared.few().cases)
 
-    def test_the_command_dies(self):
+    def test_the_command_dies(self) -> None:
         third = self.names()[2]
         said = f"at case {third}, number 3 of 9: the command ended with status 7; what it answered before is judged"
         self.stopped(said, 2, *self.good(f"sys.exit(7) if case['id'] == {third!r} else 0"))
@@ -140,7 +151,7 @@ for line in sys.stdin:
         first = self.names()[0]
         self.stopped(f"at case {first}, number 1 of 9: the command ended with status 0", 0, *self.run_("true"))
 
-    def test_the_command_hangs(self):
+    def test_the_command_hangs(self) -> None:
         second = self.names()[1]
         said = f"at case {second}, number 2 of 9: the command gave no answer for 0.5 s; "
         more = ["--seconds", "0.5"]
@@ -149,11 +160,11 @@ for line in sys.stdin:
         self.stopped(said, 0, *self.run_("sleep", "60", more=more))
         self.stopped(said, 0, *self.python("import os\nos.close(0)\nimport time\ntime.sleep(60)", more=more))
 
-    def test_the_command_closes_its_output(self):
+    def test_the_command_closes_its_output(self) -> None:
         said = f"at case {self.names()[0]}, number 1 of 9: the command has closed its standard output; "
         self.stopped(said, 0, *self.python("import os, time\nos.close(1)\ntime.sleep(60)"))
 
-    def test_a_line_too_many(self):
+    def test_a_line_too_many(self) -> None:
         first, second, *_ = self.names()
         # The second line comes with the first one, or later than the next question.
         for text in ("'{0}\\n{0}', flush=True", "'{0}', flush=True); time.sleep(0.1); print('{0}', flush=True"):
@@ -162,19 +173,19 @@ for line in sys.stdin:
             self.assertEqual((status, error, lines[-1]), (1, [], f"at case {second}: case {first} was answered before"))
             self.assertIn("9 cases, 9 answered", lines[0])
 
-    def test_nothing_can_be_judged(self):
+    def test_nothing_can_be_judged(self) -> None:
         path = conform_shared.suite_path()
         status, lines, error = self.python("import sys\nfor line in sys.stdin: print('x', flush=True)", suite=path)
         names = list(conform_shared.suite().cases)
         self.assertEqual((status, error, len(lines)), (1, [], 12 + 21))
         self.assertIn(f"at case {names[20]}, number 21 of {len(names)}: 20 lines could not be judged; ", lines[-1])
 
-    def test_a_line_without_end(self):
+    def test_a_line_without_end(self) -> None:
         said = "the command's line is longer than "
         self.stopped(said, 0, *self.python("while True: print('x' * 9999, end='')"))
         self.stopped(said, 0, *self.python("print('x' * 10_000_000, flush=True)\nimport time\ntime.sleep(60)"))
 
-    def test_answers_that_cannot_be_judged(self):
+    def test_answers_that_cannot_be_judged(self) -> None:
         first, second, third, *_ = self.names()
         wrong = {
             "not JSON: Expecting value: line 1 column 1 (char 0)": "print('ready', flush=True); continue",
@@ -192,12 +203,12 @@ for line in sys.stdin:
         said = f"at case {second}: an answer to case {third} where {second} was asked"
         self.assertEqual((status, lines[-1]), (1, said))
 
-    def test_no_command(self):
+    def test_no_command(self) -> None:
         status, lines, error = self.run_("/nowhere/encoder")
         said = "tools/conform: /nowhere/encoder cannot be started: No such file or directory"
         self.assertEqual((status, lines, error), (2, [], [said]))
-        status, _, error = conform_shared.conform("run", conform_shared.few_path())
-        self.assertEqual((status, error), (2, "tools/conform: no command: write it behind --\n"))
+        status, _, told = conform_shared.conform("run", conform_shared.few_path())
+        self.assertEqual((status, told), (2, "tools/conform: no command: write it behind --\n"))
         status, lines, error = self.run_("true", suite="/nowhere")
         said = "tools/conform: /nowhere cannot be read: No such file or directory"
         self.assertEqual((status, lines, error), (2, [], [said]))

@@ -1,12 +1,14 @@
 """`tools/conform suite`: every point of the clauses has a case, and cases are what the program and other models say."""
 
+from __future__ import annotations
+
 import json
 import unittest
 
 import conform_shared
 import encoder
 import shared
-from linksim_tools import conform_design, conform_points, conform_suite, program
+from linksim_tools import conform_design, conform_plan, conform_points, conform_suite, program
 
 # The most cases of a profile.
 MOST = {"quick": 150, "full": 1200}
@@ -15,16 +17,16 @@ MOST = {"quick": 150, "full": 1200}
 class Points(unittest.TestCase):
     """The design, which needs no program."""
 
-    def covered(self, profile):
+    def covered(self, profile: str) -> dict[str, list[str]]:
         """By case the points that it covers."""
         return {case.id: conform_points.covered(case) for case in conform_design.designed(profile, 1)}
 
-    def test_names(self):
+    def test_names(self) -> None:
         names = [point.name for part in conform_points.PARTS for point in part()]
         self.assertEqual(len(names), len(set(names)))
         self.assertEqual(set(names), set(conform_points.POINTS))
 
-    def test_every_point_has_a_case(self):
+    def test_every_point_has_a_case(self) -> None:
         for profile, most in MOST.items():
             found = self.covered(profile)
             self.assertLessEqual(len(found), most)
@@ -34,21 +36,21 @@ class Points(unittest.TestCase):
             wanted = {name for name, point in conform_points.POINTS.items() if profile == "full" or not point.long}
             self.assertEqual(wanted - set().union(*found.values()), set(), profile)
 
-    def test_full_has_the_cases_of_quick(self):
+    def test_full_has_the_cases_of_quick(self) -> None:
         self.assertLess(set(conform_design.designed("quick", 7)), set(conform_design.designed("full", 7)))
 
-    def test_long_blocks_stand_in_full_alone(self):
+    def test_long_blocks_stand_in_full_alone(self) -> None:
         longest = {name: max(len(case.a) for case in conform_design.designed(name, 1)) for name in MOST}
         self.assertGreater(longest["full"], 1_310_000)
         self.assertLess(longest["quick"], 30_000)
 
-    def test_lifting_sizes(self):
+    def test_lifting_sizes(self) -> None:
         sizes = conform_points.first_sizes()
         self.assertEqual([z for graph, z in sizes if graph == 1][:3], [15, 16, 18])
         missing = {2, 3, 5, 9, 13}
-        self.assertEqual({z for graph, z in sizes if graph == 2}, set(conform_points.planning.SIZES) - missing)
+        self.assertEqual({z for graph, z in sizes if graph == 2}, set(conform_plan.SIZES) - missing)
 
-    def test_command(self):
+    def test_command(self) -> None:
         status, output, error = conform_shared.conform("points")
         self.assertEqual((status, error), (0, ""))
         lines = [line.split() for line in output.splitlines()]
@@ -62,14 +64,14 @@ class Suite(shared.InFolder):
 
     maxDiff = 1000
 
-    def test_head_and_order(self):
+    def test_head_and_order(self) -> None:
         head, *cases = map(json.loads, conform_shared.suite_path().read_text().splitlines())
         self.assertEqual((head["conform"], head["profile"], head["seed"], head["cases"]), (1, "quick", 1, len(cases)))
         designed = conform_design.designed("quick", 1)
         self.assertEqual([case["id"] for case in cases], [case.id for case in designed])
         self.assertEqual([case["covers"] for case in cases], [conform_points.covered(case) for case in designed])
 
-    def test_a_case_is_a_vector(self):
+    def test_a_case_is_a_vector(self) -> None:
         for name in ("kb-560", "limited-floor", "mask-hole"):
             case = conform_shared.lines()[name]
             limit = f"lbrm = {case['lbrm']}\n" if case["lbrm"] is not None else ""
@@ -83,7 +85,7 @@ class Suite(shared.InFolder):
             status, output, _ = conform_shared.conform("show", conform_shared.suite_path(), name)
             self.assertEqual((status, json.loads(output)), (0, case))
 
-    def test_against_another_encoder(self):
+    def test_against_another_encoder(self) -> None:
         suite = conform_shared.suite()
         entries = {graph: conform_shared.entries(graph) for graph in (1, 2)}
         for name in list(suite.cases)[::9]:
@@ -95,7 +97,8 @@ class Suite(shared.InFolder):
                 for bits, d, count, e, f in zip(*(right[it] for it in ("bits", "d", "E", "e", "f"))):
                     info = list(map(int, bits)) + [0] * (plan["k"] - plan["kdash"])
                     columns = plan["k"] // plan["z"]
-                    word = encoder.codeword(entries[plan["graph"]], columns, plan["set"], plan["z"], info)
+                    word: list[int | None] = []
+                    word += encoder.codeword(entries[plan["graph"]], columns, plan["set"], plan["z"], info)
                     word[plan["kdash"] : plan["k"]] = [None] * (plan["k"] - plan["kdash"])
                     word = word[2 * plan["z"] :]
                     self.assertEqual(d, "".join("-" if bit is None else str(bit) for bit in word))
@@ -103,7 +106,7 @@ class Suite(shared.InFolder):
                     self.assertEqual(e, "".join(map(str, selected)))
                     self.assertEqual(f, "".join(map(str, encoder.interleaved(selected, case.qm))))
 
-    def test_seeds_and_packings(self):
+    def test_seeds_and_packings(self) -> None:
         words = ["suite", "--table", shared.EXAMPLES / "practice.csv", "--seed=2", "--pack=le32"]
         status, output, error = shared.tool("conform", *words)
         self.assertEqual(status, 0)
@@ -118,15 +121,15 @@ class Suite(shared.InFolder):
         one = read.cases["limit-8-511"].a
         self.assertNotEqual(int(one, 2), int(other["limit-8-511"]["a"]["hex"], 16))
 
-    def test_the_model_is_the_program_on_every_case(self):
+    def test_the_model_is_the_program_on_every_case(self) -> None:
         """All cases of `full`; a suite is written only where the model has the program's bits."""
         path, tables = conform_shared.table(), conform_suite.table_of(shared.program(), conform_shared.table())
         cases = conform_suite.cases_of(tables, "full", 3)
         self.assertEqual(len(cases), len(conform_design.designed("full", 3)))
-        count = sum(1 for _ in conform_suite.judged(shared.program(), path, tables, cases))
+        count = len(list(conform_suite.judged(shared.program(), path, tables, cases)))
         self.assertEqual(count, len(cases))
 
-    def test_another_model_is_no_suite(self):
+    def test_another_model_is_no_suite(self) -> None:
         tables = conform_suite.table_of(shared.program(), conform_shared.table())
         tables[2][20] = [(column, tuple(value + 1 for value in values)) for column, values in tables[2][20]]
         case = conform_shared.suite().cases["kb-560"]
@@ -137,13 +140,13 @@ class Suite(shared.InFolder):
 class Refused(shared.InFolder):
     """What is no suite, and no table."""
 
-    def refused(self, said, text):
+    def refused(self, said: str, text: str) -> None:
         words = ["check", self.file("suite.jsonl", text), self.file("answers.jsonl", "")]
         status, output, error = conform_shared.conform(*words)
         self.assertEqual((status, output, error.count("\n")), (2, "", 1))
         self.assertIn(said, error)
 
-    def test_suites(self):
+    def test_suites(self) -> None:
         head, case = conform_shared.suite_path().read_text().splitlines()[:2]
         self.refused("is no suite: its first line", "")
         self.refused("line 1: not JSON", "suite\n")
@@ -156,7 +159,7 @@ class Refused(shared.InFolder):
         for table in (3, [], [[2, 0, 0]], json.loads(head)["table"][1:300], [[3] + [0] * 10]):
             self.refused("has no table", json.dumps(json.loads(head) | {"table": table}) + "\n")
 
-    def test_tables_and_cases(self):
+    def test_tables_and_cases(self) -> None:
         status, _, error = shared.tool("conform", "suite", "--table", "/nowhere")
         self.assertEqual((status, error), (2, "tools/conform: linksim: refused: table Read\n"))
         status, _, error = conform_shared.conform("suite", "--table", "/nowhere", "--program", "/nowhere")

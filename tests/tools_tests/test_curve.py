@@ -1,5 +1,7 @@
 """Tests of `tools/curve`: chunks in any order, runs that are interrupted, and what theory says."""
 
+from __future__ import annotations
+
 import dataclasses
 import hashlib
 import math
@@ -8,11 +10,11 @@ import signal
 import subprocess
 import sys
 import time
+import typing
 import unittest
 
 import shared
 from linksim_tools import curve_chunks, curve_outlook, curve_results, curve_run, curve_setting, curve_theory
-from linksim_tools.program import Failed
 
 # A curve of 40 rounds a chunk over the practice table, small enough for a test.
 CONF = f"""
@@ -35,18 +37,18 @@ chunks = 2
 class Conf(shared.InFolder):
     """A test with a curve in its folder."""
 
-    def setUp(self):
+    def setUp(self) -> None:
         super().setUp()
         self.conf = self.file("c.toml", CONF)
         self.setting = curve_setting.read_setting(self.conf)
 
-    def curve(self, *words, folder=None):
+    def curve(self, *words: typing.Any, folder: typing.Any = None) -> str:
         """What `tools/curve` writes, run in this folder or in that of the tests; a failure is a failed test."""
         status, output, error = shared.tool("curve", *words, folder=folder)
         self.assertEqual(status, 0, error)
         return output
 
-    def refused(self, *words):
+    def refused(self, *words: str | pathlib.Path) -> str:
         """The line with which `tools/curve` refuses."""
         status, output, error = shared.tool("curve", *words, with_program=words[0] != "merge")
         self.assertEqual((status, output), (1, ""))
@@ -55,13 +57,15 @@ class Conf(shared.InFolder):
 
 
 class Chunks(Conf):
-    def test_seed_is_the_hash_of_five_numbers(self):
+    def test_seed_is_the_hash_of_five_numbers(self) -> None:
         threshold = 2**31
         text = b"7 2147483648 3 39 1"
-        self.assertEqual(curve_chunks.seed_of(self.setting, threshold, 3, 39, 1), int(hashlib.sha256(text).hexdigest()[:16], 16))
+        self.assertEqual(
+            curve_chunks.seed_of(self.setting, threshold, 3, 39, 1), int(hashlib.sha256(text).hexdigest()[:16], 16)
+        )
         self.assertEqual([curve_results.threshold_of(p) for p in (0, 0.5, 1)], [0, 2**31, 2**32 - 1])
 
-    def test_schedule_is_rounds_of_process_0(self):
+    def test_schedule_is_rounds_of_process_0(self) -> None:
         lines = curve_chunks.schedule_of(self.setting, 0.5, 0, [4], 2).splitlines()
         seeds = [curve_chunks.seed_of(self.setting, 2**31, 0, 4, k) for k in (0, 1)]
         self.assertEqual(lines, [
@@ -70,7 +74,7 @@ class Chunks(Conf):
             f"1,2,120,2,1,pcg:{seeds[1]}:2147483648,-,all,0,0",
         ])
 
-    def test_long_chunks_take_several_schedules(self):
+    def test_long_chunks_take_several_schedules(self) -> None:
         setting = dataclasses.replace(self.setting, rvs=(0, 2, 3, 1))
         parts = curve_chunks.parts_of(setting, 0.5, range(3000), 4)
         self.assertEqual([(part[0], part[-1]) for part in parts], [(0, 1023), (1024, 2047), (2048, 2999)])
@@ -81,18 +85,20 @@ class Chunks(Conf):
         schedule = curve_chunks.schedule_of(long, 0.5, 0, curve_chunks.parts_of(long, 0.5, range(3000), 1)[0][:4], 1)
         self.assertLess(len(curve_chunks.parts_of(long, 0.5, range(3000), 1)[0]) * len(schedule) / 4, 16_777_216)
 
-    def test_nothing_erased_delivers_and_all_erased_leaves_all(self):
+    def test_nothing_erased_delivers_and_all_erased_leaves_all(self) -> None:
         self.assertEqual(self.curve("point", self.conf, "0", "0"), "0.0,0,40,1,0,0,0,0,0,0\n")
         # The greatest threshold is 2^32 - 1, so that a word of all ones would still be heard. K' is 40 + 16.
         bits = 40 * 56
         self.assertEqual(self.curve("point", self.conf, "1", "0"), f"1.0,0,40,1,40,40,40,40,{bits},{bits}\n")
 
-    def test_flipped_places_are_those_that_the_program_would_erase(self):
+    def test_flipped_places_are_those_that_the_program_would_erase(self) -> None:
         # The first words for the seed 42 are a15c02b7, 7b47f409, ba1d3330, 83d2f293, bfa4784b, cbed606e.
-        for threshold, wanted in [(0x7B47F409, []), (0x7B47F40A, [1]), (0xA15C02B8, [0, 1, 3]), (2**32 - 1, list(range(6)))]:
+        for threshold, wanted in [
+            (0x7B47F409, []), (0x7B47F40A, [1]), (0xA15C02B8, [0, 1, 3]), (2**32 - 1, list(range(6)))
+        ]:
             self.assertEqual(curve_chunks.drawn_places(42, threshold, 6), wanted)
 
-    def test_flipped_bits_are_failures(self):
+    def test_flipped_bits_are_failures(self) -> None:
         self.conf.write_text(CONF + 'link = "flip"\n')
         self.assertEqual(self.curve("point", self.conf, "0", "0"), "0.0,0,40,1,0,0,0,0,0,0\n")
         numbers = [int(n) for n in self.curve("point", self.conf, "0.01", "0").split(",")[1:]]
@@ -100,14 +106,17 @@ class Chunks(Conf):
         setting = curve_setting.read_setting(self.conf)
         for after in (1, 2):
             clean = sum(
-                not any(curve_chunks.link_of(setting, curve_results.threshold_of(0.01), 0, turn, k)[1] != "-" for k in range(after))
+                not any(
+                    curve_chunks.link_of(setting, curve_results.threshold_of(0.01), 0, turn, k)[1] != "-"
+                    for k in range(after)
+                )
                 for turn in range(40)
             )
             self.assertEqual(numbers[2 + after], 40 - clean)
         self.assertIn("flips bits", self.refused("sets", self.conf, "0.01", "0"))
         self.assertIn("flips bits", self.refused("failed", self.conf, "0.01", "0", self.folder / "failed"))
 
-    def test_two_orders_give_the_same_results(self):
+    def test_two_orders_give_the_same_results(self) -> None:
         tasks = [("0.2", "0"), ("0.2", "1"), ("0.4", "0")]
         one = [self.curve("point", self.conf, *task) for task in tasks]
         other = [self.curve("point", self.conf, *task) for task in reversed(tasks)]
@@ -122,7 +131,7 @@ class Chunks(Conf):
         sums[1] = 1
         self.assertEqual(total[1], "0.2,2," + ",".join(map(str, sums)))
 
-    def test_stopping_sets_are_of_the_rounds_that_failed(self):
+    def test_stopping_sets_are_of_the_rounds_that_failed(self) -> None:
         counts = [int(n) for n in self.curve("point", self.conf, "0.2", "0").split(",")[1:]]
         for after in (1, 2):
             rows = self.curve("sets", self.conf, "0.2", "0", "--after", after).splitlines()
@@ -137,7 +146,7 @@ class Chunks(Conf):
 
 
 class Runs(Conf):
-    def test_threads_and_parallel_and_a_resumed_run_agree(self):
+    def test_threads_and_parallel_and_a_resumed_run_agree(self) -> None:
         wanted = self.folder / "c.csv"
         self.curve("run", self.conf, "--threads", "--jobs", "2")
         lines = wanted.read_text().splitlines(keepends=True)
@@ -149,15 +158,16 @@ class Runs(Conf):
         self.curve("run", self.conf, "--out", cut)
         self.assertEqual(self.curve("merge", cut), results)
 
-    def test_an_interrupted_run_keeps_its_chunks(self):
-        for words in ([], ["--threads"]):
+    def test_an_interrupted_run_keeps_its_chunks(self) -> None:
+        for words in (["--jobs", "1"], ["--threads", "--jobs", "1"]):
             with self.subTest(words):
                 self.interrupt(self.folder / f"{len(words)}.csv", words)
 
-    def interrupt(self, out, more):
+    def interrupt(self, out: pathlib.Path, more: list[str]) -> None:
         """Ends a run when its first chunk is there, and goes on with it."""
-        words = [sys.executable, shared.TOOLS / "curve", "run", self.conf, *more, "--jobs", "1", "--out", out]
-        with subprocess.Popen([*words, "--program", shared.program()], stderr=subprocess.DEVNULL) as child:
+        words = [sys.executable, shared.TOOLS / "curve", "run", self.conf, *more, "--out", out]
+        program = ["--program", shared.program()]
+        with subprocess.Popen([*map(str, [*words, *program])], stderr=subprocess.DEVNULL) as child:
             while child.poll() is None and not (out.exists() and out.read_text().count("\n") > 1):
                 time.sleep(0.01)
             child.send_signal(signal.SIGTERM)
@@ -169,7 +179,7 @@ class Runs(Conf):
         found = {line.split(",")[0] for line in out.read_text().splitlines()[1:]}
         self.assertEqual(found, {"0.2", "0.3", "0.4"})
 
-    def test_results_of_another_setting_are_refused(self):
+    def test_results_of_another_setting_are_refused(self) -> None:
         out = self.file("c.csv", self.curve("point", self.conf, "0.2", "0"))
         self.conf.write_text(CONF.replace("seed = 7", "seed = 8"))
         self.assertIn("results of another setting", self.refused("run", self.conf))
@@ -181,12 +191,12 @@ class Runs(Conf):
 class Wanted(Conf):
     """Which chunks come next, without the program: lines are made by hand."""
 
-    def line(self, p, chunk, *failed):
+    def line(self, p: float, chunk: int, *failed: int) -> curve_results.Line:
         return curve_results.Line(p, chunk, 40, 1, failed, failed, failed)
 
-    def test_the_grid_then_the_fall_then_more(self):
+    def test_the_grid_then_the_fall_then_more(self) -> None:
         setting = dataclasses.replace(self.setting, points=(0.2, 0.6), chunks=4)
-        lines = []
+        lines: list[curve_results.Line] = []
         self.assertEqual(curve_run.wanted(setting, lines), [(0.2, 0), (0.6, 0)])
         lines += [self.line(0.2, 0, 1, 0), self.line(0.6, 0, 40, 40)]
         self.assertEqual(curve_run.wanted(setting, lines), [(0.4, 0)])
@@ -202,7 +212,7 @@ class Wanted(Conf):
         lines.append(self.line(0.2, 2, 2, 0))
         self.assertEqual(curve_run.wanted(setting, lines), [])
 
-    def test_of_points_without_a_failure_the_greatest_has_all_chunks(self):
+    def test_of_points_without_a_failure_the_greatest_has_all_chunks(self) -> None:
         setting = dataclasses.replace(self.setting, points=(0.1, 0.2, 0.3, 0.4), step=0.1, chunks=4)
         lines = [self.line(p, 0, failed, 0) for p, failed in ((0.1, 0), (0.2, 0), (0.3, 0), (0.4, 30))]
         # 0.2 and 0.1 wait for what is above them.
@@ -214,13 +224,16 @@ class Wanted(Conf):
         lines[-1] = self.line(0.3, 3, 1, 0)
         self.assertEqual(curve_run.wanted(setting, lines), [(0.2, 1)])
 
-    def test_how_many_come_is_foreseen(self):
-        """From the grid on, where the shares fall on straight lines, a run wants what was foreseen of it, phase by phase."""
+    def test_how_many_come_is_foreseen(self) -> None:
+        """From the grid on, where the shares fall on straight lines, a run wants what was foreseen of it, phase by
+        phase."""
         setting = dataclasses.replace(self.setting, points=(0.2, 0.6), chunks=4)
         lines = [self.line(0.2, 0, 1, 0)]
-        self.assertEqual([curve_outlook.outlook(setting, some, curve_run.wanted) for some in ([], lines)], [None, None])
+        self.assertIsNone(curve_outlook.outlook(setting, [], curve_run.wanted))
+        self.assertIsNone(curve_outlook.outlook(setting, lines, curve_run.wanted))
         lines.append(self.line(0.6, 0, 40, 40))
         points, foreseen = curve_results.totals(lines), curve_outlook.outlook(setting, lines, curve_run.wanted)
+        assert foreseen is not None
         self.assertGreater(foreseen, 4)
         while tasks := curve_run.wanted(setting, lines):
             lines += [curve_outlook.predicted(points, p, chunk) for p, chunk in tasks]
@@ -229,31 +242,33 @@ class Wanted(Conf):
         endless = dataclasses.replace(setting, chunks=10**9, errors=10**9)
         self.assertIsNone(curve_outlook.outlook(endless, lines, curve_run.wanted))
 
-    def test_no_step_adds_no_point(self):
+    def test_no_step_adds_no_point(self) -> None:
         setting = dataclasses.replace(self.setting, points=(0.2, 0.6), step=0.0, chunks=1)
         lines = [self.line(0.2, 0, 0, 0), self.line(0.6, 0, 40, 40)]
         self.assertEqual(curve_run.wanted(setting, lines), [])
 
 
 class Merging(Conf):
-    def test_a_chunk_with_other_numbers_is_refused(self):
+    def test_a_chunk_with_other_numbers_is_refused(self) -> None:
         one, other = self.file("1.csv", "0.2,0,40,1,3,2,9\n"), self.file("2.csv", "0.2,0,40,1,4,2,9\n")
         self.assertIn("with other numbers", self.refused("merge", one, other))
 
-    def test_another_curve_and_other_text_are_refused(self):
+    def test_another_curve_and_other_text_are_refused(self) -> None:
         one, other = self.file("1.csv", "0.2,0,40,1,3,2,9\n"), self.file("2.csv", "0.2,1,40,2,4,2,9\n")
         self.assertIn("different curves", self.refused("merge", one, other))
         for text in ("0.2,0,40,1,3,2\n", "x,0,40,1,3,2,9\n", "0.2,0,0,1,3,2,9\n", "1.2,0,40,1,3,2,9\n"):
             self.assertIn("line 1 is no line", self.refused("merge", self.file("3.csv", text)))
 
-    def test_a_line_without_an_end_is_left_out(self):
+    def test_a_line_without_an_end_is_left_out(self) -> None:
         status, output, error = shared.tool("curve", "merge", self.file("1.csv", "0.2,0,40,1,3,2,9\n0.2,1,40,1,3"))
-        self.assertEqual((status, output), (0, "p,chunk,rounds,c,failed_1,failed_codeblocks_1,left_1\n0.2,0,40,1,3,2,9\n"))
+        self.assertEqual(
+            (status, output), (0, "p,chunk,rounds,c,failed_1,failed_codeblocks_1,left_1\n0.2,0,40,1,3,2,9\n")
+        )
         self.assertIn("has no end", error)
 
 
 class Faults(Conf):
-    def test_each_wrong_key_has_one_line(self):
+    def test_each_wrong_key_has_one_line(self) -> None:
         cases = [
             ("seed = 7", "", "the key seed is missing"),
             ("seed = 7", "seed = -1", "seed is not an integer from 0"),
@@ -276,23 +291,26 @@ class Faults(Conf):
 
 
 class Theory(Conf):
-    def test_density_evolution_of_codes_that_are_known(self):
+    def test_density_evolution_of_codes_that_are_known(self) -> None:
         # Regular codes with j ones a column and k a row; thresholds of Richardson and Urbanke, Modern Coding Theory,
         # and for (2, k) by hand: 1 / (k - 1).
         for j, k, known in [(3, 6, 0.42944), (4, 8, 0.38345), (3, 4, 0.64743), (2, 4, 1 / 3), (2, 3, 1 / 2)]:
             found = curve_theory.evolution_threshold((tuple(range(k)),) * j, [{1: 1.0}] * k, k)
             self.assertAlmostEqual(found, known, delta=1e-3, msg=(j, k))
 
-    def test_density_evolution_by_hand(self):
+    def test_density_evolution_by_hand(self) -> None:
         # One parity check of two columns, the second never erased: all is found up to 1. Sent twice, the (2, 4) code's
         # threshold is that of the square. A column that is never sent and in one row is found where the rest is.
         rows = (tuple(range(4)),) * 2
         self.assertAlmostEqual(curve_theory.evolution_threshold(((0, 1),), [{1: 1.0}, {None: 1.0}], 1), 1, delta=1e-3)
         self.assertAlmostEqual(curve_theory.evolution_threshold(rows, [{2: 1.0}] * 4, 4), math.sqrt(1 / 3), delta=1e-3)
         more = (*rows, (0, 4))
-        self.assertAlmostEqual(curve_theory.evolution_threshold(more, [{1: 1.0}] * 4 + [{0: 1.0}], 5), 1 / 3, delta=1e-3)
+        shares: list[dict[int | None, float]] = [{1: 1.0}, {1: 1.0}, {1: 1.0}, {1: 1.0}, {0: 1.0}]
+        self.assertAlmostEqual(
+            curve_theory.evolution_threshold(more, shares, 5), 1 / 3, delta=1e-3
+        )
 
-    def test_places_are_those_of_the_clauses(self):
+    def test_places_are_those_of_the_clauses(self) -> None:
         code = curve_theory.code_of(self.setting, shared.program())
         # A 40, B 56: base graph 2, Kb 6, Zc 10, K' 56, K 100, N 500; k0 of rv 2 is 25 Zc.
         plan = [code.plan[name] for name in ("graph", "c", "l", "b", "kdash", "z", "k", "n")]
@@ -308,12 +326,12 @@ class Theory(Conf):
         self.assertEqual(curve_theory.free_bits(code), 40)
         self.assertAlmostEqual(curve_theory.erasure_limit(self.setting, 1), 2 / 3)
 
-    def test_limits(self):
+    def test_limits(self) -> None:
         lines = self.curve("limits", self.conf).splitlines()
         self.assertEqual(lines[0], "transmissions,erasure_limit,density_evolution")
         self.assertEqual([line.split(",")[:2] for line in lines[1:]], [["1", "0.6667"], ["2", "0.8333"]])
 
-    def test_wilson_intervals_that_are_known(self):
+    def test_wilson_intervals_that_are_known(self) -> None:
         # Newcombe, Statistics in Medicine 17 (1998), Table I, method 3.
         cases = [(81, 263, 0.2553, 0.3662), (15, 148, 0.0624, 0.1605), (0, 20, 0.0, 0.1611), (1, 29, 0.0061, 0.1718)]
         for failed, rounds, low, high in cases:
@@ -324,7 +342,7 @@ class Theory(Conf):
 
 
 class Picture(Conf):
-    def test_the_picture_and_what_it_prints(self):
+    def test_the_picture_and_what_it_prints(self) -> None:
         status, _, _ = shared.run(["/usr/bin/python3", "-c", "import matplotlib, numpy"])
         if status:
             self.skipTest("matplotlib and numpy are not there")

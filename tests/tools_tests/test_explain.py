@@ -58,7 +58,10 @@ SCHEDULES = [
     (f"{HEADER},flip\n1,0,24,1,1,-,x\n", "Flip 2", ["flip is 'x'"]),
     (f"{HEADER},flip,mask\n1,0,24,1,1,-,-,-\n", "Mask 2", ["mask is '-'"]),
     (f"{HEADER},flip,mask,process,fresh\n1,0,24,1,1,-,-,all,16,1\n", "Process 2", ["process is '16'"]),
-    (f"{HEADER},flip,mask,process,fresh\n1,0,24,1,1,-,-,all,5,0\n", "Fresh 2", ["no round of its process began before"]),
+    (
+        f"{HEADER},flip,mask,process,fresh\n1,0,24,1,1,-,-,all,5,0\n", "Fresh 2",
+        ["no round of its process began before"],
+    ),
 ]
 
 
@@ -84,7 +87,9 @@ class Files(shared.InFolder):
 
     def setUp(self) -> None:
         super().setUp()
-        self.paths = {"table": TABLE, "settings": self.file("s.toml", SETTINGS), "blocks": self.file("b.txt", "01\n")}
+        self.paths: dict[str, object] = {
+            "table": TABLE, "settings": self.file("s.toml", SETTINGS), "blocks": self.file("b.txt", "01\n")
+        }
         self.paths["schedule"] = self.file("d.csv", f"{HEADER}\n1,0,24,1,1,-\n")
 
     def explained(self, command: str, **paths: object) -> str:
@@ -130,7 +135,9 @@ class Files(shared.InFolder):
         output = self.explained("send", blocks=self.file("g", "00" * 500 + "\n"))
         self.assertIn("  rate2048 2048: base graph 1\n", output)
         self.assertIn("graph 2 entries 105\n", output)
-        self.assertIn("NoBuffer: lbrm keeps no bit", self.explained("send", settings=self.file("l", SETTINGS + "lbrm = 0\n")))
+        self.assertIn(
+            "NoBuffer: lbrm keeps no bit", self.explained("send", settings=self.file("l", SETTINGS + "lbrm = 0\n"))
+        )
 
     def test_transmissions(self) -> None:
         output = self.explained("run", schedule=self.file("t", f"{HEADER}\n" + "1,4,24,1,1,-\n" * 12))

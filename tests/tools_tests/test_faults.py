@@ -1,10 +1,14 @@
 """Where a word or a file is wrong a tool writes one line and ends with status 2; how it finds the program; and which
 Pythons run it."""
 
+from __future__ import annotations
+
 import ast
 import os
+import pathlib
 import shutil
 import sys
+import typing
 import unittest
 
 import shared
@@ -13,7 +17,7 @@ from test_curve import CONF
 PYTHONS = [f"python3.{minor}" for minor in range(8, 14)]
 
 
-def interpreters():
+def interpreters() -> typing.Iterator[tuple[str, str]]:
     """The Pythons that are there, of those that the tools are for."""
     for name in PYTHONS:
         found = shutil.which(name)
@@ -24,48 +28,49 @@ def interpreters():
 class Lines(shared.InFolder):
     """What ended in a traceback once."""
 
-    def setUp(self):
+    def setUp(self) -> None:
         super().setUp()
         self.conf = self.file("c.toml", CONF)
 
-    def refused(self, *words, status=2, **how):
+    def refused(self, name: str, *words: object, status: int = 2, **how: typing.Any) -> str:
         """The one line that a tool writes on standard error."""
-        found, output, error = shared.tool(*words, **how)
+        found, output, error = shared.tool(name, *words, **how)
         self.assertEqual((found, output, error.count("\n")), (status, "", 1), error)
         return error
 
-    def test_results_in_no_folder(self):
+    def test_results_in_no_folder(self) -> None:
         self.assertIn("No such file", self.refused("curve", "run", self.conf, "--out", self.folder / "none" / "x.csv"))
 
-    def test_results_in_no_regular_file(self):
+    def test_results_in_no_regular_file(self) -> None:
         for path in ("/dev/full", "/dev/null", self.folder):
             self.assertIn("no regular file", self.refused("curve", "run", self.conf, "--out", path))
 
-    def test_failed_rounds_in_no_folder(self):
+    def test_failed_rounds_in_no_folder(self) -> None:
         self.assertIn("/dev/null", self.refused("curve", "failed", self.conf, "0.4", "0", "/dev/null/x"))
 
-    def test_no_failed_round(self):
+    def test_no_failed_round(self) -> None:
         status, output, error = shared.tool("curve", "failed", self.conf, "0", "0", self.folder / "failed")
         self.assertEqual((status, output), (0, ""))
         self.assertEqual(error, "tools/curve: no round failed: nothing is written\n")
         self.assertFalse((self.folder / "failed").exists())
 
-    def test_pictures(self):
+    def test_pictures(self) -> None:
         if shared.run(["/usr/bin/python3", "-c", "import matplotlib, numpy"])[0]:
             self.skipTest("matplotlib and numpy are not there")
         self.file("c.csv", "0.2,0,40,1,40,3,40,3,900,9\n0.1,0,40,1,21,0,21,0,200,0\n")
         self.assertIn("x.xyz: ", self.refused("curve", "plot", self.conf, self.folder / "x.xyz"))
         self.assertIn("No such file", self.refused("curve", "plot", self.conf, self.folder / "none" / "x.svg"))
 
-    def test_output_that_is_full(self):
-        for words in (["curve", "point", self.conf, "0", "0"], ["vectors", "--near", "1000"]):
+    def test_output_that_is_full(self) -> None:
+        cases: list[list[typing.Any]] = [["curve", "point", self.conf, "0", "0"], ["vectors", "--near", "1000"]]
+        for words in cases:
             script = 'exec "$@" > /dev/full'
             run = [sys.executable, shared.TOOLS / words[0], *words[1:], "--program", shared.program()]
             status, _, error = shared.run(["bash", "-c", script, "-", *run])
             said = f"tools/{words[0]}: standard output: No space left on device\n"
             self.assertEqual((status, error.decode()), (2, said))
 
-    def test_blocks_of_standard_input(self):
+    def test_blocks_of_standard_input(self) -> None:
         words = ["--table", shared.EXAMPLES / "practice.csv", "--settings", shared.EXAMPLES / "settings.toml"]
         words += ["--rv", "0", "--g", "24"]
         blocks = (shared.EXAMPLES / "blocks.txt").read_bytes()
@@ -77,13 +82,15 @@ class Lines(shared.InFolder):
 class Program(shared.InFolder):
     """How the tools find the program."""
 
-    def near(self, folder, *words, path="/usr/bin:/bin", name="vectors"):
+    def near(
+        self, folder: pathlib.Path, *words: str, path: str = "/usr/bin:/bin", name: str = "vectors"
+    ) -> tuple[int, str]:
         """The status and the output of a tool below a folder."""
         run = [sys.executable, folder / name, "--near", "1000", *words]
         status, output, error = shared.run(run, environment={**os.environ, "PATH": path})
         return status, output.decode() + error.decode()
 
-    def test_places(self):
+    def test_places(self) -> None:
         wanted = shared.tool("vectors", "--near", "1000")[1]
         tools = self.folder / "share" / "linksim" / "tools"
         shutil.copytree(shared.TOOLS, tools, ignore=shutil.ignore_patterns("__pycache__"))
@@ -92,7 +99,8 @@ class Program(shared.InFolder):
         self.assertIn("no program linksim beside the tools or in PATH", said)
         (self.folder / "path").mkdir()
         in_path = f"{self.folder / 'path'}:/usr/bin:/bin"
-        for name, words in [("linksim", []), ("linksim", ["--program", "linksim"]), ("other", ["--program", "other"])]:
+        named: list[tuple[str, list[str]]] = [("linksim", []), ("linksim", ["--program", "linksim"])]
+        for name, words in [*named, ("other", ["--program", "other"])]:
             program = self.folder / "path" / name
             program.symlink_to(shared.program())
             self.assertEqual(self.near(tools, *words, path=in_path), (0, wanted))
@@ -103,7 +111,7 @@ class Program(shared.InFolder):
             self.assertEqual(self.near(tools), (0, wanted))
             (place / "linksim").unlink()
 
-    def test_name(self):
+    def test_name(self) -> None:
         """A tool that is called as it is installed names itself so."""
         for tool in ("curve", "table", "vectors"):
             link = self.folder / f"linksim-{tool}"
@@ -117,18 +125,25 @@ class Program(shared.InFolder):
 class Pythons(shared.InFolder):
     """Python 3.8 to 3.13."""
 
-    def test_grammar(self):
+    def test_grammar(self) -> None:
         for path in sorted(shared.TOOLS.glob("**/*")):
             text = path.read_text() if path.is_file() and path.suffix in ("", ".py") else ""
             if path.suffix or text.startswith("#!/usr/bin/env python3"):
                 with self.subTest(path.name):
                     ast.parse(text, feature_version=(3, 8))
 
-    def test_each_that_is_there(self):
+    def test_each_that_is_there(self) -> None:
         conf = self.file("c.toml", CONF)
         for name, python in interpreters():
             with self.subTest(name):
-                for words in (["vectors", "--near", "1000"], ["curve", "point", conf, "0", "0"]):
+                cases: list[list[typing.Any]] = [
+                    ["vectors", "--near", "1000"],
+                    ["curve", "point", conf, "0", "0"],
+                    ["conform", "suite", "--table", shared.EXAMPLES / "drawn.csv"],
+                    ["explain", "check", "--table", shared.EXAMPLES / "practice.csv"],
+                    ["table", "fingerprint", shared.EXAMPLES / "practice.csv"],
+                ]
+                for words in cases:
                     run = [python, shared.TOOLS / words[0], *words[1:], "--program", shared.program()]
                     status, output, error = shared.run(run)
                     said = error.decode()

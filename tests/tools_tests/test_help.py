@@ -1,5 +1,7 @@
 """The man page and the completion name every command and every option that the program's help does, and no other."""
 
+from __future__ import annotations
+
 import re
 import shutil
 import subprocess
@@ -13,19 +15,19 @@ COMPLETION = shared.ROOT / "share" / "bash-completion" / "completions" / "linksi
 OPTION = r"(?<![\w-])--?[A-Za-z][a-z]*"
 
 
-def options(text):
+def options(text: str) -> set[str]:
     """The options of a help text, in the section Options."""
     section = text.partition("\nOptions:\n")[2].partition("\n\n")[0]
     return {option for line in section.splitlines() for option in re.findall(OPTION, line.strip().partition("  ")[0])}
 
 
-def commands():
+def commands() -> list[str]:
     """The commands of the program's help."""
     section = shared.linksim("--help").partition("\nCommands:\n")[2].partition("\n\n")[0]
     return [line.split()[0] for line in section.splitlines()]
 
 
-def helps():
+def helps() -> dict[str, set[str]]:
     """Each command's options, that of no command under the empty word."""
     return {"": options(shared.linksim("-h"))} | {
         it: options(shared.linksim(it, "-h")) for it in commands() if it != "help"
@@ -35,7 +37,7 @@ def helps():
 class Tools(unittest.TestCase):
     """What all tools have."""
 
-    def test_help_has_an_example(self):
+    def test_help_has_an_example(self) -> None:
         tools = [path for path in sorted(shared.TOOLS.iterdir()) if path.is_file() and not path.suffix]
         self.assertLessEqual({"table", "vectors"}, {path.name for path in tools})
         for path in tools:
@@ -44,26 +46,25 @@ class Tools(unittest.TestCase):
                 self.assertEqual((status, error), (0, b""))
                 self.assertRegex(output.decode(), rf"(?is)example.*tools/{path.name} ")
 
-
-    def commands_of(self, tool):
+    def commands_of(self, tool: str) -> list[str]:
         """The commands of a tool's help, if it has any."""
         said = shared.run([shared.TOOLS / tool, "--help"])[1].decode()
         return re.findall(r"(?m)^    ([a-z]+)(?: |$)", said.partition("COMMAND\n")[2].partition("\n\n")[0])
 
-    def test_manuals(self):
+    def test_manuals(self) -> None:
         """A tool's man page has every command and every option that its help does, and no other."""
         found = {tool: self.commands_of(tool) for tool in ("conform", "curve", "explain", "table", "vectors")}
         self.assertEqual(found["table"], ["read", "fingerprint"])
         for tool, names in found.items():
-            words = [[], *([name] for name in names)]
+            words: list[list[str]] = [[], *([name] for name in names)]
             helps = [shared.run([shared.TOOLS / tool, *name, "--help"])[1].decode() for name in words]
             known = {option for text in helps for option in re.findall(r"(?m)^  (?:(-h), )?(--[a-z]+)", text)}
             text = (MANUAL.parent / f"linksim-{tool}.1").read_text().replace("\\-", "-")
             section = text.partition("\n.SH OPTIONS\n")[2].partition("\n.SH ")[0]
             with self.subTest(tool):
-                shown = re.findall(r"(?m)^\.TP\n\.BR? (--?[a-z]+)(?: \", \" (--[a-z]+))?", section)
-                shown, known = ({it for pair in pairs for it in pair if it} for pairs in (shown, known))
-                self.assertEqual(shown, known)
+                pairs = re.findall(r"(?m)^\.TP\n\.BR? (--?[a-z]+)(?: \", \" (--[a-z]+))?", section)
+                shown = {it for pair in pairs for it in pair if it}
+                self.assertEqual(shown, {it for pair in known for it in pair if it})
                 for name in names:
                     self.assertRegex(text, rf"(?m)^\.B (linksim-{tool} )?{name}\b|^\.B {name}$")
 
@@ -71,18 +72,18 @@ class Tools(unittest.TestCase):
 class Help(unittest.TestCase):
     """Against the help texts of the program."""
 
-    def test_version(self):
+    def test_version(self) -> None:
         """The program and its man page have the version of the file VERSION."""
         said = f"linksim {(shared.ROOT / 'VERSION').read_text()}"
         self.assertEqual(shared.linksim("--version"), said)
         self.assertIn(f'"{said.strip()}"', MANUAL.read_text().splitlines()[0])
 
-    def test_help_is_understood(self):
+    def test_help_is_understood(self) -> None:
         self.assertEqual(helps()["cut"], {"--blocks", "--rate", "-h", "--help"})
         self.assertEqual(helps()[""], {"-h", "--help", "-V", "--version"})
         self.assertLess({"cut", "check", "send", "run", "audit"}, set(commands()))
 
-    def test_manual(self):
+    def test_manual(self) -> None:
         text = MANUAL.read_text().replace("\\-", "-")
         section = text.partition("\n.SH OPTIONS\n")[2].partition("\n.SH ")[0]
         self.assertEqual(set(re.findall(OPTION, section)), set.union(*helps().values()))
@@ -93,8 +94,9 @@ class Help(unittest.TestCase):
             if command:
                 self.assertEqual(set(re.findall(OPTION, parts[command])), wanted - {"-h", "--help"}, command)
 
-    def test_refusals(self):
-        """The man page has each fault with its cause and remedy, in the order of the tests; docs/formats.md has their names."""
+    def test_refusals(self) -> None:
+        """The man page has each fault with its cause and remedy, in the order of the tests; docs/formats.md has their
+        names."""
         text = MANUAL.read_text().replace("\\-", "-").replace("\\(aq", "'")
         document = (shared.ROOT / "docs" / "formats.md").read_text()
         titles = {"table": "The shift table file", "settings": "The settings file", "blocks": "The blocks file"}
@@ -110,7 +112,7 @@ class Help(unittest.TestCase):
         for fault in [it for kind in faults.FILES.values() for it in kind.later]:
             self.assertIn(f"`{fault.name}`" if fault.name[0] != "U" else "Uneven`", document.replace("<n> ", "`"))
 
-    def completions(self, *words):
+    def completions(self, *words: str) -> set[str]:
         """What the completion offers for the last one of these words."""
         script = '. "$0"; COMP_WORDS=("$@"); COMP_CWORD=$(($# - 1)); _linksim; printf "%s\\n" "${COMPREPLY[@]}"'
         ended = subprocess.run(
@@ -119,7 +121,7 @@ class Help(unittest.TestCase):
         return set(ended.stdout.decode().split())
 
     @unittest.skipUnless(shutil.which("bash"), "bash is not there")
-    def test_completion(self):
+    def test_completion(self) -> None:
         self.assertEqual(self.completions(""), set(commands()) | helps()[""])
         self.assertEqual(self.completions("help", ""), set(commands()))
         for command, wanted in helps().items():
@@ -134,7 +136,7 @@ class Help(unittest.TestCase):
         self.assertEqual(self.completions("cut", "--rate", ""), set())
         self.assertEqual(self.completions("cut", "--rate", "=", "1"), set())
 
-    def test_other_shells(self):
+    def test_other_shells(self) -> None:
         """The completions of zsh and of fish have the same commands and options."""
         options = {it[2:] for it in set.union(*helps().values()) if it.startswith("--")}
         forms = {"zsh/site-functions/_linksim": r"--([a-z]+)", "fish/vendor_completions.d/linksim.fish": r"-l ([a-z]+)"}

@@ -1,10 +1,14 @@
 """`tools/table read`: a table with drawn numbers of the published shape, printed in each layout and read back; and the
 row that is named where a text is damaged."""
 
+from __future__ import annotations
+
+import pathlib
 import random
 import re
 import shutil
 import sys
+import typing
 import unittest
 
 import layouts
@@ -18,34 +22,38 @@ INDEXES = ["first", "middle", "last", "each", "alone"]
 class Reading(shared.InFolder):
     """What is written is the table that was printed."""
 
+    entries: typing.ClassVar[dict[int, dict[tuple[int, int], list[int]]]]
+
     @classmethod
-    def setUpClass(cls):
+    def setUpClass(cls) -> None:
         cls.entries = {graph: shared.drawn_entries(graph) for graph in (1, 2)}
 
-    def reads(self, text):
+    def reads(self, text: str | bytes) -> None:
         """A text is read back as both tables."""
         octets = text if isinstance(text, bytes) else text.encode()
         read = table_reading.read(table_text.lines_of("text", octets))
         found = {graph: {(row, column): values for row, column, *values in rows} for graph, rows in read.items()}
         self.assertEqual(found, self.entries)
 
-    def tool_reads(self, words, graphs=(1, 2), stdin=b""):
+    def tool_reads(
+        self, words: list[str | pathlib.Path], graphs: tuple[int, int] | list[int] = (1, 2), stdin: bytes = b""
+    ) -> str:
         """The tool writes the tables of these graphs."""
         status, output, error = shared.tool("table", "read", *words, stdin=stdin)
         self.assertEqual((status, output), (0, shared.table_text({it: self.entries[it] for it in graphs})), error)
         return error
 
-    def both(self, print_one):
+    def both(self, print_one: typing.Callable[..., typing.Any]) -> str:
         """The text of both tables, from a function of a graph and its entries."""
         return "".join(print_one(graph, entries) for graph, entries in self.entries.items())
 
-    def test_one_half(self):
+    def test_one_half(self) -> None:
         for index in INDEXES:
             for form in (layouts.aligned, layouts.single_spaces, layouts.tabs):
                 with self.subTest(index=index, form=form.__name__):
                     self.reads(self.both(lambda it, rows: layouts.text(it, [layouts.halves(rows, index)], form)))
 
-    def test_two_halves_side_by_side(self):
+    def test_two_halves_side_by_side(self) -> None:
         for index in INDEXES:
             # An index that stands alone in its half cannot be told from the other half's where columns are not kept.
             forms = [layouts.aligned, layouts.tabs, *[layouts.single_spaces] * (index != "alone")]
@@ -56,7 +64,7 @@ class Reading(shared.InFolder):
                             it, layouts.pages_of(layouts.side_by_side(layouts.halves(rows, index), count), 47), form
                         )))
 
-    def test_pages_one_after_the_other(self):
+    def test_pages_one_after_the_other(self) -> None:
         for index in INDEXES:
             for feed in ("\f", "\n\n"):
                 with self.subTest(index=index, feed=feed):
@@ -64,18 +72,20 @@ class Reading(shared.InFolder):
                         it, layouts.page_by_page(layouts.halves(rows, index), 29), feed=feed
                     )))
 
-    def test_page_numbers_alone(self):
-        def printed(graph, rows):
+    def test_page_numbers_alone(self) -> None:
+        def printed(graph: int, rows: dict[tuple[int, int], list[int]]) -> str:
             cells = layouts.side_by_side(layouts.halves(rows, "middle"))
             return layouts.text(graph, layouts.pages_of(cells, 40), foot=("", "                21", ""))
 
         self.reads(self.both(printed))
 
-    def test_whole_document(self):
+    def test_whole_document(self) -> None:
         before = (
-            "5.3.2 Low density parity check coding\nThe matrix is obtained by\nTable 5.3.2-2 for LDPC base graph 1 and by\n"
+            "5.3.2 Low density parity check coding\n"
+            "The matrix is obtained by\nTable 5.3.2-2 for LDPC base graph 1 and by\n"
             "Table 5.3.2-3 for the other, with the sizes of\n\nTable 5.3.2-1: Sets of LDPC lifting size Z\n"
-            "Set index (iLS)  Set of lifting sizes (Z)\n0 {2, 4, 8, 16, 32, 64, 128, 256}\n1 {3, 6, 12, 24, 48, 96, 192, 384}\n"
+            "Set index (iLS)  Set of lifting sizes (Z)\n0 {2, 4, 8, 16, 32, 64, 128, 256}\n"
+            "1 {3, 6, 12, 24, 48, 96, 192, 384}\n"
         )
         after = (
             "5.3.3 Channel coding of small block lengths\nTable 5.3.3.1-1: Encoding of 1-bit information\n"
@@ -84,7 +94,7 @@ class Reading(shared.InFolder):
         body = self.both(lambda it, rows: layouts.text(it, [layouts.side_by_side(layouts.halves(rows))]))
         self.reads(before + body + after)
 
-    def test_one_graph_named_by_an_option(self):
+    def test_one_graph_named_by_an_option(self) -> None:
         text = "\n".join(layouts.single_spaces(cells) for cells in layouts.halves(self.entries[2]))
         path = self.file("text.txt", text)
         self.assertIn("graph 2: 42 rows, 197 entries\n", self.tool_reads(["--graph", "2", path], graphs=[2]))
@@ -92,7 +102,7 @@ class Reading(shared.InFolder):
         self.assertEqual((status, output), (1, ""))
         self.assertIn("--graph", error)
 
-    def test_odd_characters(self):
+    def test_odd_characters(self) -> None:
         text = self.both(lambda it, rows: layouts.text(it, [layouts.side_by_side(layouts.halves(rows, "middle"))]))
         odd = {
             "byte order mark": "\ufeff" + text,
@@ -109,11 +119,11 @@ class Reading(shared.InFolder):
                 it, [layouts.halves(rows)], lambda cells: "\t".join(cell or "\u2212" for cell in cells)
             )),
         }
-        for name, octets in odd.items():
+        for name, octets in typing.cast(typing.Dict[str, typing.Any], odd).items():
             with self.subTest(name):
                 self.reads(octets)
 
-    def test_other_separators(self):
+    def test_other_separators(self) -> None:
         plain = shared.table_text(self.entries)
         head = "graph,row,column,s0,s1,s2,s3,s4,s5,s6,s7\n"
         lines = plain.splitlines(keepends=True)
@@ -124,41 +134,45 @@ class Reading(shared.InFolder):
             "spaces": plain.replace(",", "   "),
             "quotes": re.sub("([0-9]+)", r'"\1"', plain),
             "a header": head + plain,
-            "a header, a byte order mark, semicolons and CRLF": "\ufeff" + (head + plain).replace(",", ";").replace("\n", "\r\n"),
+            "a header, a byte order mark, semicolons and CRLF": "\ufeff" + (head + plain).replace(",", ";").replace(
+                "\n", "\r\n"
+            ),
             "another order": "".join(shuffled),
         }
         for name, text in texts.items():
             with self.subTest(name):
                 self.reads(text)
 
-    def test_documents(self):
+    def test_documents(self) -> None:
         for index in ("first", "middle"):
             with self.subTest(index):
-                parts = ["5.3.2 Low density parity check coding"]
+                parts: list[typing.Any] = ["5.3.2 Low density parity check coding"]
                 for graph, entries in self.entries.items():
                     cells = layouts.side_by_side(layouts.halves(entries, index))
                     heads = [["HBG", "Vi,j"], ["i", "j", *"01234567"] * 2]
                     parts += [layouts.CAPTIONS[graph], heads + cells]
                 self.reads(layouts.document([*parts, "5.3.3 Channel coding of small block lengths"]))
 
-    def test_a_document_in_an_archive(self):
-        parts = [part for it, rows in self.entries.items() for part in (layouts.CAPTIONS[it], layouts.halves(rows))]
+    def test_a_document_in_an_archive(self) -> None:
+        parts: list[typing.Any] = [
+            part for it, rows in self.entries.items() for part in (layouts.CAPTIONS[it], layouts.halves(rows))
+        ]
         self.reads(layouts.archive({"cover.txt": "", "38212-f20.docx": layouts.document(parts)}))
 
     @unittest.skipUnless(shutil.which("pdftotext"), "pdftotext is not there")
-    def test_pdf(self):
+    def test_pdf(self) -> None:
         for at_top in (True, False):
             with self.subTest(at_top=at_top):
                 self.reads(layouts.pdf_of_tables(self.entries, at_top))
 
-    def test_pdf_without_its_reader(self):
+    def test_pdf_without_its_reader(self) -> None:
         path = self.file("table.pdf", layouts.pdf_of_tables(self.entries, True))
         words = [sys.executable, shared.TOOLS / "table", "read", path]
         status, output, error = shared.run(words, environment={"PATH": "/nowhere"})
         said = f"tools/table: {path} is a PDF, which pdftotext reads: apt-get install poppler-utils\n"
         self.assertEqual((status, output, error.decode()), (1, b"", said))
 
-    def test_a_text_in_several_files(self):
+    def test_a_text_in_several_files(self) -> None:
         cells = layouts.side_by_side(layouts.halves(self.entries[1]))
         files = [
             self.file(f"page-{number}.txt", "\n".join(map(layouts.aligned, page)))
@@ -166,7 +180,7 @@ class Reading(shared.InFolder):
         ]
         self.tool_reads(["--graph", "1", *files], graphs=[1])
 
-    def test_the_program_accepts_what_was_read(self):
+    def test_the_program_accepts_what_was_read(self) -> None:
         text = self.both(lambda it, rows: layouts.text(it, [layouts.side_by_side(layouts.halves(rows, "middle"))]))
         self.tool_reads(["-"], stdin=text.encode())
         _, output, _ = shared.tool("table", "read", self.file("text.txt", text))
@@ -177,12 +191,12 @@ class Reading(shared.InFolder):
 class Refusals(shared.InFolder):
     """A text with one damage is refused, with nothing written, in one line that names the row."""
 
-    LAYOUTS = {
+    LAYOUTS: typing.ClassVar[dict[str, typing.Callable[[typing.Any], typing.Any]]] = {
         "one half": lambda lines: lines,
         "two halves": layouts.side_by_side,
     }
 
-    def fails(self, text):
+    def fails(self, text: str) -> str:
         """The line of a text that is refused."""
         with self.assertRaises(Failed) as caught:
             table_reading.read(table_text.lines_of("text", text.encode()))
@@ -190,11 +204,11 @@ class Refusals(shared.InFolder):
         self.assertNotIn("\n", said)
         return said
 
-    def refused(self, text, row):
+    def refused(self, text: str, row: int) -> None:
         """A text is refused, and the row named is this one."""
         self.assertRegex(self.fails(text), rf"graph 1, row {row}\b")
 
-    def damaged(self, damage, rows=(0, 5, 30, 45)):
+    def damaged(self, damage: typing.Callable[..., typing.Any], rows: tuple[int, ...] = (0, 5, 30, 45)) -> None:
         """Each layout of the table with a damage to the middle entry of some row is refused, and the row is named."""
         for index in ("first", "middle"):
             for name, layout in self.LAYOUTS.items():
@@ -206,44 +220,44 @@ class Refusals(shared.InFolder):
                         damage(lines, places[len(places) // 2])
                         self.refused(layouts.text(1, [layout(lines)]), row)
 
-    def test_value_too_large(self):
-        def damage(lines, place):
+    def test_value_too_large(self) -> None:
+        def damage(lines: list[list[str]], place: int) -> None:
             lines[place][5] = "224"
 
         self.damaged(damage)
 
-    def test_letter_in_a_number(self):
-        def damage(lines, place):
+    def test_letter_in_a_number(self) -> None:
+        def damage(lines: list[list[str]], place: int) -> None:
             lines[place][4] = "1O2"
 
         self.damaged(damage)
 
-    def test_minus_sign(self):
-        def damage(lines, place):
+    def test_minus_sign(self) -> None:
+        def damage(lines: list[list[str]], place: int) -> None:
             lines[place][4] = "\u22121"
 
         self.damaged(damage)
 
-    def test_value_lost(self):
-        def damage(lines, place):
+    def test_value_lost(self) -> None:
+        def damage(lines: list[list[str]], place: int) -> None:
             lines[place][6] = ""
 
         self.damaged(damage)
 
-    def test_column_of_another_row(self):
-        def damage(lines, place):
+    def test_column_of_another_row(self) -> None:
+        def damage(lines: list[list[str]], place: int) -> None:
             lines[place][1] = "67"
 
         self.damaged(damage, rows=(0, 5, 30))
 
-    def test_row_left_out(self):
+    def test_row_left_out(self) -> None:
         for row in (4, 17, 30, 44):
             for name, layout in self.LAYOUTS.items():
                 with self.subTest(row=row, layout=name):
                     entries = {place: values for place, values in shared.drawn_entries(1).items() if place[0] != row}
                     self.refused(layouts.text(1, [layout(layouts.halves(entries))]), row)
 
-    def test_row_not_named(self):
+    def test_row_not_named(self) -> None:
         for row in (4, 17, 30, 45):
             with self.subTest(row=row):
                 lines = layouts.halves(shared.drawn_entries(1))
@@ -251,28 +265,28 @@ class Refusals(shared.InFolder):
                     cells[0] = "" if cells[0] == str(row) else cells[0]
                 self.refused(layouts.text(1, [lines]), row)
 
-    def test_rows_exchanged(self):
+    def test_rows_exchanged(self) -> None:
         entries = shared.drawn_entries(1)
         lines = layouts.halves(entries)
         named = [[cells for cells, (row, _) in zip(lines, entries) if row == it] for it in range(46)]
         named[20], named[21] = named[21], named[20]
         self.refused(layouts.text(1, [sum(named, [])]), 20)
 
-    def test_cut_off(self):
+    def test_cut_off(self) -> None:
         for name, layout in self.LAYOUTS.items():
             with self.subTest(name):
                 entries = {place: values for place, values in shared.drawn_entries(1).items() if place <= (40, 62)}
                 lines = layouts.halves(entries)[:-1]
                 self.refused(layouts.text(1, [layout(lines)]), 40)
 
-    def test_one_entry_less(self):
+    def test_one_entry_less(self) -> None:
         entries = shared.drawn_entries(1)
         columns = [column for row, column in entries if row == 17]
         del entries[17, columns[1]]
         text = layouts.text(1, [layouts.halves(entries)])
         self.assertIn("graph 1 has 315 entries, and Table 5.3.2-2 has 316", self.fails(text))
 
-    def test_records(self):
+    def test_records(self) -> None:
         lines = shared.table_text({1: shared.drawn_entries(1)}).splitlines()
         at = next(place for place, line in enumerate(lines) if line.startswith("1,17,"))
         fields = lines[at].split(",")
@@ -281,16 +295,18 @@ class Refusals(shared.InFolder):
             "a column that the row has not": [",".join([*fields[:2], "40", *fields[3:]])],
             "twice": [lines[at], lines[at]],
         }
-        for name, new in damages.items():
+        for name, some in damages.items():
             with self.subTest(name):
-                self.refused(";".join("\n".join([*lines[:at], *new, *lines[at + 1 :]]).split(",")), 17)
+                self.refused(";".join("\n".join([*lines[:at], *some, *lines[at + 1 :]]).split(",")), 17)
         for name, new in {"a field less": ",".join(fields[:-1]), "a comment": "# a note"}.items():
             with self.subTest(name):
                 text = "\n".join([*lines[:at], new, *lines[at + 1 :]])
                 self.assertIn(f"line {at + 1}: no record of 11 numbers", self.fails(text))
 
-    def test_no_table_in_it(self):
-        for name, octets in {"nothing": b"", "words": b"some words\n", "zeros": bytes(50), "a .doc": b"\xd0\xcf\x11\xe0"}.items():
+    def test_no_table_in_it(self) -> None:
+        for name, octets in {
+            "nothing": b"", "words": b"some words\n", "zeros": bytes(50), "a .doc": b"\xd0\xcf\x11\xe0"
+        }.items():
             with self.subTest(name):
                 status, output, error = shared.tool("table", "read", self.file("text.txt", octets))
                 self.assertEqual((status, output, error.count("\n")), (1, "", 1))

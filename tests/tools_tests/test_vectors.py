@@ -1,8 +1,12 @@
-"""`tools/vectors`: from the block to d, and from d to the sent bits, by another implementation of the clauses; packings;
-and the sizes that can be cut."""
+"""`tools/vectors`: from the block to d, and from d to the sent bits, by another implementation of the clauses;
+packings; and the sizes that can be cut."""
+
+from __future__ import annotations
 
 import json
+import pathlib
 import sys
+import typing
 import unittest
 
 import encoder
@@ -14,22 +18,29 @@ from linksim_tools.graphs import GRAPHS
 STARTS = {1: [0, 17, 33, 56], 2: [0, 13, 25, 43]}
 
 
-def setUpModule():
+def setUpModule() -> None:
     """The tool reads the settings with tomllib."""
     if sys.version_info < (3, 11):
         raise unittest.SkipTest("Python 3.11 is not there")
 
 
-def bits_of(packed):
+def bits_of(packed: dict[str, typing.Any]) -> list[int]:
     """The bits of a list that was packed as bits."""
     assert packed["count"] == len(packed["bits"])
-    return packed["bits"]
+    bits: list[int] = packed["bits"]
+    return bits
 
 
 class Rebuilt(shared.InFolder):
     """Everything in a vector follows from what stands before it."""
 
-    def vector(self, entries, settings, octets, **transmission):
+    def vector(
+        self,
+        entries: dict[int, dict[tuple[int, int], list[int]]],
+        settings: str,
+        octets: bytes,
+        **transmission: str | int,
+    ) -> dict[str, typing.Any]:
         """The vector of a block of these octets, its lists as bits."""
         files = {
             "table": self.file("table.csv", shared.table_text(entries)),
@@ -39,11 +50,21 @@ class Rebuilt(shared.InFolder):
         words = [f"--{name}={value}" for name, value in (files | transmission).items()]
         status, output, error = shared.tool("vectors", *words, "--block", "2", "--pack", "bits")
         self.assertEqual((status, error), (0, ""))
-        return json.loads(output)
+        made: dict[str, typing.Any] = json.loads(output)
+        return made
 
-    def check(self, entries, settings, octets, mask="all", scheduled=None, lbrm=None, **transmission):
-        """A vector is what the clauses make of the block, step by step. `scheduled` are the code blocks that `mask` names, or
-        all."""
+    def check(
+        self,
+        entries: dict[int, dict[tuple[int, int], list[int]]],
+        settings: str,
+        octets: bytes,
+        mask: str = "all",
+        scheduled: list[int] | None = None,
+        lbrm: int | None = None,
+        **transmission: int,
+    ) -> dict[str, typing.Any]:
+        """A vector is what the clauses make of the block, step by step. `scheduled` are the code blocks that `mask`
+        names, or all."""
         found = self.vector(entries, settings, octets, mask=mask, **transmission)
         plan, blocks = found["plan"], found["codeblocks"]
         a = encoder.bits_of(octets)
@@ -52,14 +73,14 @@ class Rebuilt(shared.InFolder):
         self.cut(bits_of(found["attached"]), plan, blocks)
         self.coded(entries, plan, blocks)
         length = plan["n"] if lbrm is None else min(plan["n"], 3 * lbrm // (2 * plan["c"]))
-        scheduled = range(plan["c"]) if scheduled is None else scheduled
-        for r in set(range(plan["c"])) - set(scheduled):
+        sent_blocks = list(range(plan["c"])) if scheduled is None else scheduled
+        for r in set(range(plan["c"])) - set(sent_blocks):
             self.assertEqual([blocks[r]["E"], bits_of(blocks[r]["e"]), bits_of(blocks[r]["f"])], [0, [], []])
-        sent = self.matched(plan, [blocks[r] for r in scheduled], length, **transmission)
+        sent = self.matched(plan, [blocks[r] for r in sent_blocks], length, **transmission)
         self.assertEqual(bits_of(found["sent"]), sent)
         return found
 
-    def cut(self, b, plan, blocks):
+    def cut(self, b: list[int], plan: dict[str, int], blocks: list[dict[str, typing.Any]]) -> None:
         """The code blocks are the parts of the attached block, with a CRC each where there are several (5.2.2)."""
         self.assertEqual(len(blocks), plan["c"])
         part = plan["kdash"] - plan["l"]
@@ -68,17 +89,31 @@ class Rebuilt(shared.InFolder):
             wanted = encoder.with_crc(bits, encoder.CRC_24B) if plan["c"] > 1 else bits
             self.assertEqual((block["r"], bits_of(block["bits"])), (r, wanted))
 
-    def coded(self, entries, plan, blocks):
+    def coded(
+        self,
+        entries: dict[int, dict[tuple[int, int], list[int]]],
+        plan: dict[str, int],
+        blocks: list[dict[str, typing.Any]],
+    ) -> None:
         """d is the codeword of the code block, from its third column on, with fillers as null (5.3.2)."""
         size, fillers = plan["z"], [0] * (plan["k"] - plan["kdash"])
         for block in blocks:
-            word = encoder.codeword(
-                entries[plan["graph"]], GRAPHS[plan["graph"]].information, plan["set"], size, bits_of(block["bits"]) + fillers
-            )
+            information, bits = GRAPHS[plan["graph"]].information, bits_of(block["bits"]) + fillers
+            word: list[int | None] = []
+            word += encoder.codeword(entries[plan["graph"]], information, plan["set"], size, bits)
             word[plan["kdash"] : plan["k"]] = [None] * len(fillers)
             self.assertEqual(block["d"], word[2 * size :])
 
-    def matched(self, plan, blocks, length, rv, g, qm=1, nl=1):
+    def matched(
+        self,
+        plan: dict[str, int],
+        blocks: list[dict[str, typing.Any]],
+        length: int,
+        rv: int,
+        g: int,
+        qm: int = 1,
+        nl: int = 1,
+    ) -> list[int]:
         """e and f of these code blocks are selected from d and interleaved (5.4.2), and joined (5.5)."""
         count, symbols = len(blocks), g // (nl * qm)
         start = STARTS[plan["graph"]][rv] * length // (GRAPHS[plan["graph"]].sent * plan["z"]) * plan["z"]
@@ -91,17 +126,17 @@ class Rebuilt(shared.InFolder):
             sent += bits_of(block["f"])
         return sent
 
-    def test_one_code_block_of_base_graph_2(self):
+    def test_one_code_block_of_base_graph_2(self) -> None:
         entries = {2: shared.drawn_entries(2)}
         for rv, qm, nl, g in [(0, 1, 1, 184), (1, 2, 1, 100), (2, 4, 2, 160), (3, 6, 3, 180), (0, 8, 4, 3200)]:
             with self.subTest(rv=rv, qm=qm, nl=nl):
                 self.check(entries, "rate2048 = 1024\n", bytes(range(3, 20)), rv=rv, g=g, qm=qm, nl=nl)
 
-    def test_one_code_block_of_base_graph_1(self):
+    def test_one_code_block_of_base_graph_1(self) -> None:
         octets = bytes(it * 7 % 256 for it in range(600))
         self.check({1: shared.drawn_entries(1)}, "rate2048 = 0x7_00\n", octets, rv=2, g=6000, qm=6)
 
-    def test_several_code_blocks_and_a_limited_buffer(self):
+    def test_several_code_blocks_and_a_limited_buffer(self) -> None:
         entries = {2: shared.drawn_entries(2)}
         octets = bytes(it * it % 251 for it in range(480))
         settings = "rate2048 = 512\nlbrm = 6000\n"
@@ -110,18 +145,18 @@ class Rebuilt(shared.InFolder):
                 found = self.check(entries, settings, octets, lbrm=6000, rv=rv, g=g, qm=2)
                 self.assertEqual((found["plan"]["c"], found["lbrm"]), (2, 6000))
 
-    def test_scheduled_code_blocks(self):
+    def test_scheduled_code_blocks(self) -> None:
         entries = {2: shared.drawn_entries(2)}
         octets = bytes(it * it % 241 for it in range(1200))
         found = self.check(entries, "rate2048 = 512\n", octets, rv=1, g=1204, qm=4, mask="0 2", scheduled=[0, 2])
         self.assertEqual([block["E"] for block in found["codeblocks"]], [600, 0, 604])
 
-    def test_fewer_symbols_than_code_blocks(self):
+    def test_fewer_symbols_than_code_blocks(self) -> None:
         octets = bytes(it * it % 241 for it in range(1200))
         found = self.check({2: shared.drawn_entries(2)}, "rate2048 = 512\n", octets, rv=0, g=4, qm=2)
         self.assertEqual([block["E"] for block in found["codeblocks"]], [0, 2, 2])
 
-    def test_worked_by_hand(self):
+    def test_worked_by_hand(self) -> None:
         # The practice table's rows over the six columns of 011021 (Z = 4); the first bits that are sent.
         found = self.vector({2: self.practice()}, "rate2048 = 2048\n", b"\x01", rv=0, g=24)
         block, = found["codeblocks"]
@@ -132,7 +167,7 @@ class Rebuilt(shared.InFolder):
         self.assertEqual(encoder.octets_of(bits_of(found["sent"])).hex(), "102103")
 
     @staticmethod
-    def practice():
+    def practice() -> dict[tuple[int, int], list[int]]:
         """The entries of the practice table."""
         lines = [list(map(int, line.split(","))) for line in (shared.EXAMPLES / "practice.csv").read_text().split()]
         return {(row, column): values for _, row, column, *values in lines}
@@ -141,7 +176,7 @@ class Rebuilt(shared.InFolder):
 class Refused(shared.InFolder):
     """What cannot be done is said in one line, with nothing written."""
 
-    def refused(self, said, *words):
+    def refused(self, said: str, *words: str | pathlib.Path) -> None:
         """These words after the files are refused, and the line has this in it."""
         files = [f"--{it}={shared.EXAMPLES / name}" for it, name in self.FILES.items()]
         status, output, error = shared.tool("vectors", *files, *words)
@@ -150,7 +185,7 @@ class Refused(shared.InFolder):
 
     FILES = {"table": "practice.csv", "settings": "settings.toml", "blocks": "blocks.txt"}
 
-    def test_refusals(self):
+    def test_refusals(self) -> None:
         self.refused("the program refuses the transmission: Rv", "--rv=4", "--g=8")
         self.refused("the program refuses the transmission: Ragged", "--rv=0", "--g=9", "--qm=2")
         self.refused("the program refuses the transmission: NoneScheduled", "--rv=0", "--g=8", "--mask=7")
@@ -159,10 +194,15 @@ class Refused(shared.InFolder):
         self.refused("--mask is all", "--rv=0", "--g=8", "--mask=x")
         self.refused("linksim: refused: table Read", "--rv=0", "--g=8", "--table=/nowhere")
         self.refused("has no whole number rate2048", "--rv=0", "--g=8", "--settings", self.file("empty.toml", ""))
-        self.refused("linksim: refused: blocks Digit 1", "--rv=0", "--g=8", "--blocks", self.file("blocks.txt", "0x01\n"))
-        self.refused("linksim: refused: settings Unknown", "--rv=0", "--g=8", "--settings", self.file("more.toml", "rate2048 = 1\nx = 2"))
+        self.refused(
+            "linksim: refused: blocks Digit 1", "--rv=0", "--g=8", "--blocks", self.file("blocks.txt", "0x01\n")
+        )
+        self.refused(
+            "linksim: refused: settings Unknown", "--rv=0", "--g=8", "--settings",
+            self.file("more.toml", "rate2048 = 1\nx = 2"),
+        )
 
-    def test_usage(self):
+    def test_usage(self) -> None:
         status, _, error = shared.tool("vectors", "--rv=0")
         self.assertEqual(status, 2)
         self.assertIn("--settings", error)
@@ -173,7 +213,7 @@ class Packings(unittest.TestCase):
 
     BITS = [int(bit) for bit in "1000" "0001" "0111" "1111" "0000" "0010" "1010" "1010" "1100" "1100" "01"]
 
-    def test_by_hand(self):
+    def test_by_hand(self) -> None:
         wanted = {
             "hex": "817f02aacc4",
             "octets": [0x81, 0x7F, 0x02, 0xAA, 0xCC, 0x40],
@@ -186,11 +226,11 @@ class Packings(unittest.TestCase):
                 self.assertEqual(packing.packed(name, self.BITS), {"count": 42, name: value})
         self.assertEqual(packing.unpacked("817f02aacc4", 42), self.BITS)
 
-    def test_nothing(self):
+    def test_nothing(self) -> None:
         for name, value in {"hex": "", "octets": [], "lsb": [], "le32": [], "bits": []}.items():
             self.assertEqual(packing.packed(name, []), {"count": 0, name: value})
 
-    def test_the_tool_writes_each(self):
+    def test_the_tool_writes_each(self) -> None:
         files = [f"--{it}={shared.EXAMPLES / name}" for it, name in Refused.FILES.items()]
         for name, value in {"hex": "102103", "octets": [16, 33, 3], "lsb": [8, 132, 192], "le32": ["0x032110"]}.items():
             with self.subTest(name):
@@ -201,31 +241,35 @@ class Packings(unittest.TestCase):
 class Near(unittest.TestCase):
     """The sizes that can be cut, worked out by hand from 5.2.2."""
 
-    def sizes(self, wanted, rate=2048):
+    def sizes(self, wanted: int, rate: int = 2048) -> dict[str, int]:
         """By `exact`, `below` and `above` the size, as `near` names it."""
         lines = near.near(shared.program(), rate, wanted)
         return {line.split()[0]: vector.plan_of("block 1 " + line.partition(" ")[2])["a"] for line in lines}
 
-    def test_base_graph_1(self):
+    def test_base_graph_1(self) -> None:
         # Three code blocks: B, a multiple of 8 as A is, must be a multiple of 24, and is A + 24.
         self.assertEqual(self.sizes(20000), {"below": 19992, "above": 20016})
         self.assertEqual(self.sizes(19992), {"exact": 19992, "below": 19968, "above": 20016})
         # Up to 8448 bits with the CRC there is one code block.
         self.assertEqual(self.sizes(8424), {"exact": 8424, "below": 8416, "above": 8432})
 
-    def test_base_graph_2(self):
+    def test_base_graph_2(self) -> None:
         # At the rate 0.25: B above 3840 has two code blocks, and every whole octet can be halved.
         self.assertEqual(self.sizes(3816, 512), {"exact": 3816, "below": 3808, "above": 3824})
         # Three code blocks: B from 7633 to 11448.
         self.assertEqual(self.sizes(8001, 512), {"below": 7992, "above": 8016})
 
-    def test_ends(self):
+    def test_ends(self) -> None:
         self.assertEqual(self.sizes(3), {"above": 8})
         self.assertEqual(self.sizes(8), {"exact": 8, "above": 16})
 
-    def test_tool(self):
+    def test_tool(self) -> None:
         status, output, error = shared.tool("vectors", "--near", "20000")
         self.assertEqual((status, error), (0, ""))
-        self.assertEqual([line.split()[:3] for line in output.splitlines()], [["below", "a", "19992"], ["above", "a", "20016"]])
+        self.assertEqual(
+            [line.split()[:3] for line in output.splitlines()], [["below", "a", "19992"], ["above", "a", "20016"]]
+        )
         status, output, error = shared.tool("vectors", "--near", "0")
-        self.assertEqual((status, output, error), (1, "", "tools/vectors: a transport block has 1 to 1310720 bits here: 0\n"))
+        self.assertEqual(
+            (status, output, error), (1, "", "tools/vectors: a transport block has 1 to 1310720 bits here: 0\n")
+        )
