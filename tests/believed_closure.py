@@ -5,10 +5,15 @@ words of its own file and those that its file brings in by `use`, where they sta
 (`specs.declared`) and std's words end the walk.
 """
 
+from __future__ import annotations
+
 import dataclasses
 import functools
 import pathlib
 import re
+import typing
+
+import crate_list
 
 ROOT = pathlib.Path(__file__).resolve().parent.parent
 USE = re.compile(r"^(?:ghost )?use Rattle\.(\w+)\.specs\.(\w+)\.(?:\{([^}]*)\}|([^\s;{}]+));?", re.MULTILINE)
@@ -35,13 +40,13 @@ class Definition:
     lines: list
 
 
-def specification(crate, module):
+def specification(crate: str, module: str) -> pathlib.Path:
     """The path of a module of a crate's specifications."""
     return ROOT / "crates" / crate / "specs" / f"{module}.antt"
 
 
 @functools.lru_cache(maxsize=None)
-def definitions(crate, module):
+def definitions(crate: str, module: str) -> list[Definition]:
     """The definitions of a specification in their order, the constructors of a kind of data under its name."""
     path = specification(crate, module)
     found, comment, current = [], [], None
@@ -61,7 +66,7 @@ def definitions(crate, module):
 
 
 @functools.lru_cache(maxsize=None)
-def in_sight(crate, module):
+def in_sight(crate: str, module: str) -> dict[str, Word]:
     """What the names of a specification stand for: its own words, their constructors, and what it brings in."""
     path = specification(crate, module)
     names = brought(path.read_text()) if path.exists() else {}
@@ -73,7 +78,7 @@ def in_sight(crate, module):
     return names
 
 
-def brought(text):
+def brought(text: str) -> dict[str, Word]:
     """The words that a text brings in by `use`, by the names that it has for them."""
     names = {}
     for crate, module, several, one in USE.findall(text):
@@ -85,12 +90,12 @@ def brought(text):
     return names
 
 
-def owner(word):
+def owner(word: Word) -> Word:
     """The word itself, or the kind of data that it constructs."""
     return in_sight(word.crate, word.module).get(word.name, word)
 
 
-def cited_in(text, names):
+def cited_in(text: str, names: dict[str, Word]) -> set[Word]:
     """The words that stand in a text, by these names."""
     bare = re.sub(r"--[^\n]*", "", text)
     own = set(OWN_FIELD.findall(bare))
@@ -103,7 +108,7 @@ def cited_in(text, names):
     return found
 
 
-def closure(roots):
+def closure(roots: typing.Iterable[Word]) -> set[Word]:
     """All words that these rest on, with them."""
     found, waiting = set(), list(roots)
     while waiting:
@@ -117,21 +122,20 @@ def closure(roots):
     return found
 
 
-def reading_order(words):
+def reading_order(words: set[Word]) -> typing.Iterator[tuple[str, str, list[Definition]]]:
     """(crate, module, definitions) for the specifications that define these words, each behind those that it cites."""
-    listed = [line.partition(":")[0].split()[0] for line in (ROOT / "crates.txt").read_text().splitlines() if ":" in line]
-    for crate in (name for name in listed if any(word.crate == name for word in words)):
+    for crate in (name for name in crate_list.crates_and_direct() if any(word.crate == name for word in words)):
         for module in modules_in_order(crate):
             those = [it for it in definitions(crate, module) if it.word in words]
             if those:
                 yield crate, module, those
 
 
-def modules_in_order(crate):
+def modules_in_order(crate: str) -> list[str]:
     """The modules of a crate's specifications, each behind those of the crate that it brings words in from."""
     placed = []
 
-    def place(module):
+    def place(module: str) -> None:
         if module not in placed and specification(crate, module).exists():
             for word in brought(specification(crate, module).read_text()).values():
                 if word.crate == crate and word.module != module:
@@ -144,12 +148,12 @@ def modules_in_order(crate):
     return placed
 
 
-def first_sentence(comment):
+def first_sentence(comment: str) -> str:
     """A comment as far as its first full stop or semicolon."""
     return re.split(r"(?<=[\w)`'])(?:\. |; |\.$)", comment)[0].strip()
 
 
-def lines_of(crate, module, those):
+def lines_of(crate: str, module: str, those: list[Definition]) -> list[str]:
     """A line for each of these definitions; one without a comment of its own stands with the one above it."""
     named, said = [], []
     for definition in definitions(crate, module):
@@ -184,7 +188,7 @@ class NoClause(Exception):
     """A function or a clause that the lists above name and the sources lack."""
 
 
-def words_of_clauses(clauses):
+def words_of_clauses(clauses: typing.Iterable[tuple[str, str, str, tuple[str, ...]]]) -> set[Word]:
     """The words that these clauses cite."""
     found = set()
     for crate, file, function, wanted in clauses:
@@ -199,7 +203,7 @@ def words_of_clauses(clauses):
     return found
 
 
-def page():
+def page() -> str:
     """What docs/theorem.md lists: the theorem's definitions, a line each, and the names of those that `run` needs besides."""
     theorem = closure(words_of_clauses(THEOREM))
     besides = closure(words_of_clauses(PROGRAM)) - theorem

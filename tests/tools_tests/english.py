@@ -5,7 +5,10 @@ cell of a table are read by themselves. A sentence ends at a full stop, a questi
 letter, a digit or an opening mark. A piece of code is one word, and a link is its text.
 """
 
+from __future__ import annotations
+
 import re
+import typing
 
 SCRIPT_PARTS = re.compile(r"<!-- made by .*?-->.*?<!-- end of .*?-->", re.DOTALL)
 COMMENT = re.compile(r"<!--.*?-->", re.DOTALL)
@@ -17,7 +20,7 @@ LINK = re.compile(r"!?\[([^\]]*)\]\([^)]*\)")
 END = re.compile(r"(?<=[.?!])(?:[)\"*]*)\s+(?=[A-Z0-9\"(`*\[a-z])|(?<=[.?!][*)\"])\s+|(?<=[.?!]\*\*)\s+")
 
 
-def parts(text):
+def parts(text: str) -> list[str]:
     """The paragraphs, headings, items and cells of a page, each on one line."""
     found, current, in_code, last = [], [], False, 0
     for line in COMMENT.sub("", SCRIPT_PARTS.sub("", text)).splitlines():
@@ -44,18 +47,18 @@ def parts(text):
     return found + ([" ".join(current)] if current else [])
 
 
-def sentences(text):
+def sentences(text: str) -> typing.Iterator[str]:
     """The sentences of a page."""
     for part in parts(text):
         plain = LINK.sub(r"\1", CODE.sub("`x`", part))
         yield from (it for it in END.split(plain) if it.strip())
 
 
-def words(sentence):
+def words(sentence: str) -> int:
     """How many words a sentence has."""
     return sum(1 for word in sentence.split() if re.search(r"\w", word))
 
 
-def length(text):
+def length(text: str) -> int:
     """How many words a page has outside of blocks of code and of what scripts made."""
     return sum(words(part) for part in parts(text))

@@ -1,5 +1,8 @@
 """Each command in the documents answers what stands behind it there; links lead somewhere; sentences are short."""
 
+from __future__ import annotations
+
+import pathlib
 import re
 import shutil
 import subprocess
@@ -21,13 +24,13 @@ MOST_WORDS_OF_DOCS = 24_000
 LINK = re.compile(r"\]\(([^)\s]+)\)")
 
 
-def every_page():
+def every_page() -> list[pathlib.Path]:
     """All pages of the repository."""
     tops = [shared.ROOT / name for name in ("README.md", "CONTRIBUTING.md", "CHANGELOG.md")]
     return [*tops, *sorted(shared.ROOT.glob("docs/*.md")), *sorted(shared.ROOT.glob("crates/*/README.md"))]
 
 
-def headline():
+def headline() -> str:
     """The theorem, as README has it."""
     return re.search(r"^\*\*For every accepted table.*\*\*$", (shared.ROOT / "README.md").read_text(), re.MULTILINE)[0]
 
@@ -37,7 +40,7 @@ class Documents(shared.InFolder):
 
     maxDiff = None
 
-    def test_pages(self):
+    def test_pages(self) -> None:
         for page in PAGES:
             found = documents.commands((shared.ROOT / page).read_text())
             self.assertTrue(found, f"{page} has no command")
@@ -51,7 +54,7 @@ class Documents(shared.InFolder):
                         self.skipTest(f"{missing[0]} is not there")
                     self.assertEqual(answer, wanted)
 
-    def test_first_output(self):
+    def test_first_output(self) -> None:
         """What README shows behind its first commands, which prove and build before they run the program."""
         text = (shared.ROOT / "README.md").read_text()
         for command in ("&& printf '01\\n' | crates/linksim/out/linksim cut --blocks -", "printf '01\\n' | rt try -- cut --blocks -"):
@@ -62,7 +65,7 @@ class Documents(shared.InFolder):
 class English(unittest.TestCase):
     """Sentences are short, and the pages are no longer than a reader bears."""
 
-    def test_sentences(self):
+    def test_sentences(self) -> None:
         theorem = headline()
         for page in every_page():
             found = list(english.sentences(page.read_text().replace(theorem, "")))
@@ -71,12 +74,12 @@ class English(unittest.TestCase):
                 self.assertEqual([sentence for sentence in found if english.words(sentence) > MANY], [])
                 self.assertLessEqual(sum(count > FEW for count in whole), len(whole) / 4)
 
-    def test_lengths(self):
+    def test_lengths(self) -> None:
         self.assertLessEqual(len((shared.ROOT / "README.md").read_text().split()), MOST_WORDS_OF_README)
         pages = [page.read_text() for page in shared.ROOT.glob("docs/*.md")]
         self.assertLessEqual(sum(english.length(page) for page in pages), MOST_WORDS_OF_DOCS)
 
-    def test_theorem(self):
+    def test_theorem(self) -> None:
         for page in ("docs/theorem.md", "docs/proved.md"):
             self.assertIn(headline(), (shared.ROOT / page).read_text().splitlines())
 
@@ -84,7 +87,7 @@ class English(unittest.TestCase):
 class Made(unittest.TestCase):
     """What the pages show and lead to is there."""
 
-    def test_links(self):
+    def test_links(self) -> None:
         for page in every_page():
             for target in LINK.findall(page.read_text()):
                 path = target.partition("#")[0]
@@ -92,7 +95,7 @@ class Made(unittest.TestCase):
                     with self.subTest(page=str(page.relative_to(shared.ROOT)), target=target):
                         self.assertTrue((page.parent / path).exists())
 
-    def test_picture(self):
+    def test_picture(self) -> None:
         drawn = subprocess.run([sys.executable, "-B", "docs/draw-pipeline", "--check"], cwd=shared.ROOT, check=False)
         self.assertEqual(drawn.returncode, 0)
 
@@ -100,7 +103,7 @@ class Made(unittest.TestCase):
 class Kit(unittest.TestCase):
     """The kit that the documents name is the one that is here. Kits of one logic differ in name, so the logic counts."""
 
-    def test_logic(self):
+    def test_logic(self) -> None:
         if not shutil.which("rt"):
             self.skipTest("rt is not there")
         version = subprocess.run(["rt", "version"], capture_output=True, check=True, text=True).stdout
