@@ -2,7 +2,6 @@
 use Rattle.std.proofs.Common.{◌≡◌, ◌≢◌, ℕ, ◌⊎◌, inl, inr, Result, Ok, Err, IsOkAnd, IsErr, List, ap, sym, ◌∙◌, refl, subst, Option}
 use Rattle.nr_commands.specs.Command.{Delivers, IsBlockFault, Writes}
 use Rattle.nr_files.specs.Reading.{FailsAs}
-use Rattle.nr_graphpick.specs.Refusal.{with_fault}
 use Rattle.nr_commands.proofs.WrittenLemmas.{writes_refused}
 use Rattle.nr_commands.specs.declared.fault.RunFault.{RunFault}
 use Rattle.nr_commands.specs.declared.fault.RunFault.TheVariants.{Memory, Write}

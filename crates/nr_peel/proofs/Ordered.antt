@@ -4,7 +4,7 @@ use Rattle.std.proofs.Math.Seq.{take-append_seam}
 use Rattle.std.proofs.lemmas.Bool.{and_parts, and_from, or_cases, or_left, or_right, ltb-true, lt-ltb, eqb-true}
 use Rattle.nr_ldpcenc.specs.Rows.{Checks}
 use Rattle.nr_peel.specs.Closure.{AreSound, Within, closure, fixes}
-use Rattle.nr_peel.specs.Certificates.{GoesOn, accepts, after_steps, all_accepted, is_fixed_by, with_position}
+use Rattle.nr_peel.specs.Certificates.{Extends, accepts, after_steps, all_accepted, is_fixed_by, with_position}
 use Rattle.nr_peel.specs.declared.fix.Fix.{Fix}
 use Rattle.nr_peel.proofs.Closed.{closure_closed, closure_keeps}
 use Rattle.nr_peel.proofs.Standing.{fixes_more}
@@ -106,11 +106,11 @@ is_fixed_by-push (x ∷ ss) s p = ap (λ b. (x.pos == p) || b) (is_fixed_by-push
 
 -- ---- steps that go on
 
-pub goes_none : (ss : List Fix) → GoesOn ss ss
+pub goes_none : (ss : List Fix) → Extends ss ss
 goes_none ss = record { more = []; is = sym (append-nil ss) }
 
-pub goes_then : (a b d : List Fix) → GoesOn a b → GoesOn b d → GoesOn a d
+pub goes_then : (a b d : List Fix) → Extends a b → Extends b d → Extends a d
 goes_then a b d one two = record { more = one.more ++ two.more; is = two.is ∙ ap (λ v. v ++ two.more) one.is ∙ append_assoc a one.more two.more }
 
-pub goes_taken : (a b : List Fix) → GoesOn a b → take (length a) b ≡ a
+pub goes_taken : (a b : List Fix) → Extends a b → take (length a) b ≡ a
 goes_taken a b on = ap (take (length a)) on.is ∙ take-append_seam a on.more

@@ -4,7 +4,7 @@ use Rattle.nr_bitvec.specs.Bit.{bit}
 use Rattle.nr_lifting.specs.Rings.{marked}
 use Rattle.nr_shifttable.specs.Accepted.{IsTable}
 use Rattle.nr_ldpcenc.specs.Rows.{Checks, Meets}
-use Rattle.nr_peel.specs.Certificates.{GoesOn, all_accepted, is_fixed_by}
+use Rattle.nr_peel.specs.Certificates.{Extends, all_accepted, is_fixed_by}
 use Rattle.nr_peel.specs.Counters.{AreTied, IsListed, IsSettled}
 use Rattle.nr_peel.specs.Peeling.{HasBits, Peeling, left_of}
 use Rattle.nr_peel.specs.State.{lifted_checks, seen_of}
@@ -39,7 +39,7 @@ pub record Grows (c : Checks) (old new : ByPosition) : Type 0 where
   pub known : (p : ℕ) → bit old.known.items p ≡ true → bit new.known.items p ≡ true
   pub bits : (p : ℕ) → bit old.known.items p ≡ true → bit new.bits.items p ≡ bit old.bits.items p
   pub words : (w : ℕ → Bool) → Meets c w → HasBits old.known.items old.bits.items w → HasBits new.known.items new.bits.items w
-  pub order : GoesOn old.order.items new.order.items
+  pub order : Extends old.order.items new.order.items
   pub visited : old.counters.touches ≤ new.counters.touches
 
 -- n visits were made, and nothing else has changed

@@ -29,7 +29,7 @@ abbrev pub is_fixed_by : List Fix → ℕ → Bool
 is_fixed_by steps p = list_any (λ s. s.pos == p) steps
 
 -- steps after others: none of these is lost, and more may stand behind them
-pub record GoesOn (old new : List Fix) : Type 0 where
+pub record Extends (old new : List Fix) : Type 0 where
   pub more : List Fix
   pub is : new ≡ old ++ more
 

@@ -3,7 +3,7 @@ use Rattle.std.specs.Prelude.{◌≡◌, ℕ, ◌+◌, ◌*◌, ◌^◌, ◌<◌
 use Rattle.nr_bitvec.specs.Bit.{bit}
 use Rattle.nr_lifting.specs.Rings.{marked}
 use Rattle.nr_ldpcenc.specs.Rows.{Checks, Meets}
-use Rattle.nr_peel.specs.Certificates.{GoesOn, all_accepted, is_fixed_by}
+use Rattle.nr_peel.specs.Certificates.{Extends, all_accepted, is_fixed_by}
 use Rattle.nr_peel.specs.Peeling.{HasBits}
 use Rattle.nr_peel.specs.Sweeps.{AreLanes, CountsOf, counted_in, has_count}
 use Rattle.nr_peel.specs.Touches.{all_pairs, spent_pairs, step_pairs}
@@ -55,4 +55,4 @@ pub record Keeps (c : Checks) (old new : Lanes) : Type 0 where
   pub bits : (p : ℕ) → bit old.known.items p ≡ true → bit new.bits.items p ≡ bit old.bits.items p
   pub words : (w : ℕ → Bool) → Meets c w → HasBits old.known.items old.bits.items w → HasBits new.known.items new.bits.items w
   pub reaches : (G : ℕ → Bool) → Reaches c G old → Reaches c G new
-  pub order : GoesOn old.order.items new.order.items
+  pub order : Extends old.order.items new.order.items
