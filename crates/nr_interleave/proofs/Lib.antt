@@ -1,2 +1,4 @@
-mod Seats
+pub mod Seats
+mod Tested
 mod Spreads
+mod Unspread

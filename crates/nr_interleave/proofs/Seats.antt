@@ -1,7 +1,8 @@
 -- The seats of interleaving: each index is given once.
-use Rattle.std.proofs.Common.{◌≡◌, ℕ, ◌+◌, ◌*◌, ◌/◌, ◌%◌, ◌<◌, ◌≤◌, sym, ◌∙◌, ap, arith}
-use Rattle.std.proofs.Math.Nat.{div-add-mod, div-lt_iff_lt-mul, mod-lt, mul-le-mul_right}
-use Rattle.std.proofs.lemmas.Nat.{div-mul-add, mod-mul-add}
+use Rattle.std.proofs.Common.{◌≡◌, ℕ, ◌+◌, ◌*◌, ◌/◌, ◌%◌, ◌<◌, ◌≤◌, inl, inr, sym, ◌∙◌, ap, arith}
+use Rattle.std.proofs.Math.Nat.{div-add-mod, div-lt_iff_lt-mul, mod-lt, mul-le-mul_right, mul_comm}
+use Rattle.std.proofs.lemmas.Bool.{cases_lt}
+use Rattle.std.proofs.lemmas.Nat.{div-mul-add, mod-mul-add, mul-add-lt}
 use Rattle.nr_interleave.specs.Interleaving.{seat_of, IsSeating}
 
 -- a multiple of qm is so often qm
@@ -44,3 +45,48 @@ seating qm e some whole = record {
   inside = λ m inside. seat-inside qm e m some whole inside;
   apart = λ m n inside other same. seat-apart qm e m n some whole inside other same;
 }
+
+-- each index is given: a place of it
+pub record IsGiven (qm e k : ℕ) : Type 0 where
+  pub at : ℕ
+  pub inside : at < e
+  pub is : seat_of qm e at ≡ k
+
+-- a matrix that has an index has a column
+pub columns-some : (qm e k : ℕ) → e % qm ≡ 0 → k < e → 0 < e / qm
+columns-some qm e k whole inside = elim (cases_lt 0 (e / qm)) [
+  | inl some ↦ some
+  | inr none ↦
+      let zero-is : e / qm ≡ 0 = omega (arith, none) in
+      let product : qm * (e / qm) ≡ qm * 0 = ap (λ n. qm * n) zero-is in
+      absurd (omega (arith, whole-is qm e whole, product, inside))
+]
+
+pub row-below : (qm e k : ℕ) → e % qm ≡ 0 → k < e → k / (e / qm) < qm
+row-below qm e k whole inside =
+    (div-lt_iff_lt-mul (columns-some qm e k whole inside)).1 (omega (arith, inside, whole-is qm e whole))
+
+-- the place of row k / columns in column k % columns
+pub place-below : (qm e k : ℕ) → e % qm ≡ 0 → k < e → qm * (k % (e / qm)) + k / (e / qm) < e
+place-below qm e k whole inside =
+    let columns : ℕ = e / qm in
+    let below : k % columns * qm + k / columns < qm * columns =
+    mul-add-lt (k % columns) qm (k / columns) columns (mod-lt k (columns-some qm e k whole inside)) (row-below qm e k whole inside) in
+    omega (arith, below, whole-is qm e whole, mul_comm qm (k % columns))
+
+pub seat-given : (qm e k : ℕ) → e % qm ≡ 0 → k < e → IsGiven qm e k
+seat-given qm e k whole inside =
+    let columns : ℕ = e / qm in
+    let column : ℕ = k % columns in
+    let row : ℕ = k / columns in
+    let low : row < qm = row-below qm e k whole inside in
+    let turned : qm * column + row ≡ column * qm + row = ap (λ n. n + row) (mul_comm qm column) in
+    record {
+      at = qm * column + row;
+      inside = place-below qm e k whole inside;
+      is = ap (λ m. (m % qm) * columns + m / qm) turned
+          ∙ ap (λ r. r * columns + (column * qm + row) / qm) (mod-mul-add column qm row low)
+          ∙ ap (λ c. row * columns + c) (div-mul-add column qm row low)
+          ∙ ap (λ n. n + column) (mul_comm row columns)
+          ∙ div-add-mod k columns;
+    }

@@ -15,26 +15,13 @@ use Rattle.nr_bitvec.proofs.Lists.{length-low_first, bit-low_first}
 use Rattle.nr_bitvec.proofs.Places.{same_from_bits}
 use Rattle.nr_bitvec.specs.Bit.{bit}
 use Rattle.nr_bitvec.specs.BitList.{low_first}
+use Rattle.nr_interleave.proofs.Tested.{all_under, all_under-at}
 use Rattle.nr_interleave.proofs.Seats.{whole-is}
 use Rattle.nr_interleave.specs.Interleaving.{seat_of, interleaved}
 use Rattle.nr_interleave.specs.Spreading.{first_of, HasRows, IsSpread}
 use Rattle.nr_interleave.specs.declared.columns.TheConstants.{BY_2, BY_4, BY_6, BY_8}
 
 -- ---- tables, tested
-
--- a test of all numbers below n
-all_under : ℕ → (ℕ → Bool) → Bool
-all_under zero test = true
-all_under (suc n) test = all_under n test && test n
-
-all_under-at : (n : ℕ) (test : ℕ → Bool) → all_under n test ≡ true → (i : ℕ) → i < n → test i ≡ true
-unfolding all_under
-all_under-at zero test all i h = absurd (omega (arith, h))
-all_under-at (suc n) test all i h =
-    elim (cases_eq i n) [
-      | inl here ↦ ap test here ∙ (and_parts (all_under n test) (test n) all).1
-      | inr other ↦ all_under-at n test (and_parts (all_under n test) (test n) all).0 i (omega (arith, h, other))
-    ]
 
 -- whether a table spreads
 short_at : ℕ → List ℕ → ℕ → Bool

@@ -1,2 +1,3 @@
 pub mod Interleaving
 pub mod Spreading
+pub mod Unspreading

@@ -1,17 +1,20 @@
 //! The bit interleaver of TS 38.212, 5.4.2.2.
-//! `spread` and `spread_onto` put the selected bits of a code block in the order in which they are sent, and `seat` says
-//! which of them stands at a place. Their contracts cite specs/Interleaving.antt, which has the standard's index and the whole list.
+//! `spread` and `spread_onto` put the selected bits of a code block in the order in which they are sent, `unspread_into`
+//! puts them back, and `seat` says which of them stands at a place. Their contracts cite specs/Interleaving.antt, which
+//! has the standard's index and the whole list.
 //! Law: where the number of bits is a multiple of Qm, each bit is taken once.
-//! Stands on nr_bitvec; `seat` takes no memory.
+//! Stands on nr_bitvec; of these calls `spread` alone takes memory.
 #![tactic(auto)]
 
-ghost use Rattle.std.specs.Prelude.{◌≡◌, ◌+◌, ◌%◌, ◌<◌, ◌≤◌, ◌++◌, length, IfOk};
+ghost use Rattle.std.specs.Prelude.{◌≡◌, ◌+◌, ◌%◌, ◌<◌, ◌≤◌, ◌++◌, length, take, drop, IfOk};
 ghost use Rattle.nr_interleave.specs.Interleaving.{seat_of, interleaved, SeatsAreSeating};
 
 mod columns;
+mod rows;
 
 use columns::{BY_2, BY_4, BY_6, BY_8, by_columns};
 use nr_bitvec::Bits;
+use rows::{OF_2, OF_4, OF_6, OF_8, by_rows, by_seats};
 use std::alloc::{AllocError, Global};
 
 /// The index among the `e` selected bits of the bit at place `m` of the interleaved ones, for the modulation order
@@ -73,6 +76,30 @@ fn by_places(qm: u32, bits: &Bits, spread: &mut Bits)
     let e = bits.len() as u32;
     for m in 0..e {
         spread.push_in_room(bits.get(seat(qm, e, m) as usize));
+    }
+}
+
+/// What `spread` undoes: puts into `selected`, in place of its bits, those of which the `count` bits of a list from bit
+/// `from` on are the interleaved ones, for the modulation order `qm` (TS 38.212, 5.4.2.2). Takes no memory.
+pub fn unspread_into(qm: u32, bits: &Bits, from: usize, count: usize, selected: &mut Bits)
+    requires some { 0 < qm }
+    requires whole { count % qm ≡ 0 }
+    requires inside { from + count ≤ length bits.now.items }
+    requires room { count ≤ length selected.old.items + selected.old.room }
+    ensures items { interleaved qm selected.new.items ≡ take count (drop from bits.now.items) }
+    ensures room { length selected.old.items + selected.old.room
+        ≤ length selected.new.items + selected.new.room }
+{
+    let past = bits.len();
+    prove!(from + count <= past);
+    selected.clear();
+    match qm {
+        1 => selected.extend_range(bits, from, count),
+        2 => by_rows::<2>(&OF_2, bits, from, count, selected),
+        4 => by_rows::<4>(&OF_4, bits, from, count, selected),
+        6 => by_rows::<6>(&OF_6, bits, from, count, selected),
+        8 => by_rows::<8>(&OF_8, bits, from, count, selected),
+        _ => by_seats(qm as usize, bits, from, count, selected),
     }
 }
 

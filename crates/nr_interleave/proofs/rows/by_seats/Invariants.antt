@@ -1,0 +1,12 @@
+-- The bits so far stand in the list, which has room for the others.
+use Rattle.std.proofs.Common.{◌≡◌, ◌+◌, ◌*◌, ◌/◌, ◌%◌, ◌++◌, map}
+use Rattle.std.specs.List.{range_with_len}
+use Rattle.nr_bitvec.specs.Bit.{bit}
+use Rattle.nr_interleave.proofs.rows.by_seats.Given as goal
+
+abbrev pub invariant-loop-k : goal.invariant-loop-k
+invariant-loop-k l = record {
+  items : l.selected.items ≡ l.initial.selected.items
+      ++ map (λ k. bit l.bits.items (l.from + (l.qm * (k % (l.count / l.qm)) + k / (l.count / l.qm)))) (range_with_len 0 l.k);
+  room : l.selected.room + l.k ≡ l.initial.selected.room;
+}
