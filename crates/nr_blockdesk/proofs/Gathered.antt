@@ -1,14 +1,12 @@
 -- Words that places are gathered in, one after another from the lowest on.
-use Rattle.std.proofs.Common.{◌≡◌, ℕ, ◌+◌, ◌-◌, ◌*◌, ◌%◌, ◌^◌, ◌<◌, ◌≤◌, ◌==◌, ◌&&◌, inl, inr, Bool, List, max, sym, ap, ◌∙◌, arith}
-use Rattle.std.specs.Bool.{beq}
+use Rattle.std.proofs.Common.{◌≡◌, ℕ, ◌+◌, ◌-◌, ◌*◌, ◌%◌, ◌^◌, ◌<◌, ◌≤◌, ◌==◌, inl, inr, List, max, sym, ap, ◌∙◌, arith}
 use Rattle.std.specs.Int.{bit_at}
 use Rattle.std.specs.Int.RustNames.{bit_or}
 use Rattle.std.proofs.lemmas.Bool.{cases_lt}
 use Rattle.std.proofs.lemmas.Nat.Bits.{bit_at-zero, bit_at_above, bit_at_or}
 use Rattle.nr_bitvec.proofs.BitFacts.{bit_at_mod, bit_at_mod_above, bit_at_shl_high, bit_at_shl_low}
 use Rattle.nr_blockdesk.specs.Explains.{heard_at}
-use Rattle.nr_blockdesk.specs.Hearing.{heard_bit, tells}
-use Rattle.nr_blockdesk.specs.Telling.{bit_tells}
+use Rattle.nr_blockdesk.specs.Marks.{marked}
 use Rattle.nr_blockdesk.specs.declared.heard.Heard.{Heard}
 
 -- a word has no bit from bit n on
@@ -43,40 +41,40 @@ module _ (word next digit n : ℕ) (small : digit ≤ 1) (inside : n < 64) (is :
       ] in
       omega (arith, both j, none, low j (omega (arith, past)))
 
--- n places, the first at `from` and each `step` behind the one before it, stand in a word of marks and one of bits
-pub record IsGathered (places : List Heard) (from step now bits n : ℕ) : Type 0 where
-  pub told : (j : ℕ) (v : Bool) → j < n → bit_tells now bits j v ≡ tells (heard_bit (heard_at places (from + step * j))) v
+-- n places from place `from` on stand in a word of marks and one of bits
+pub record IsGathered (places : List Heard) (from now bits n : ℕ) : Type 0 where
+  pub told : (j : ℕ) → j < n → marked (bit_at now j == 1) (bit_at bits j == 1) ≡ heard_at places (from + j)
   pub marks : (j : ℕ) → n ≤ j → bit_at now j ≡ 0
   pub digits : (j : ℕ) → n ≤ j → bit_at bits j ≡ 0
 
-pub gathered-none : (places : List Heard) (from step : ℕ) → IsGathered places from step 0 0 0
-gathered-none places from step = record {
-  told = λ j v below. absurd (omega (arith, below));
+pub gathered-none : (places : List Heard) (from : ℕ) → IsGathered places from 0 0 0
+gathered-none places from = record {
+  told = λ j below. absurd (omega (arith, below));
   marks = λ j _. bit_at-zero j;
   digits = λ j _. bit_at-zero j;
 }
 
-pub gathered-more : (places : List Heard) (from step now bits n now' bits' mark bit : ℕ) → n < 64 → mark ≤ 1 → bit ≤ 1
+pub gathered-more : (places : List Heard) (from now bits n now' bits' mark bit : ℕ) → n < 64 → mark ≤ 1 → bit ≤ 1
     → now' ≡ bit_or now (mark * 2 ^ n % 2 ^ 64) → bits' ≡ bit_or bits (bit * 2 ^ n % 2 ^ 64)
-    → ((v : Bool) → ((mark == 1) && beq (bit == 1) v) ≡ tells (heard_bit (heard_at places (from + step * n))) v)
-    → IsGathered places from step now bits n → IsGathered places from step now' bits' (n + 1)
-gathered-more places from step now bits n now' bits' mark bit inside small small-too is is-too here gathered = record {
+    → marked (mark == 1) (bit == 1) ≡ heard_at places (from + n)
+    → IsGathered places from now bits n → IsGathered places from now' bits' (n + 1)
+gathered-more places from now bits n now' bits' mark bit inside small small-too is is-too here gathered = record {
   told = told;
   marks = digit-low now now' mark n small inside is gathered.marks;
   digits = digit-low bits bits' bit n small-too inside is-too gathered.digits;
 }
   where
-    told : (j : ℕ) (v : Bool) → j < n + 1 → bit_tells now' bits' j v ≡ tells (heard_bit (heard_at places (from + step * j))) v
-    told j v below = elim (cases_lt j n) [
+    told : (j : ℕ) → j < n + 1 → marked (bit_at now' j == 1) (bit_at bits' j == 1) ≡ heard_at places (from + j)
+    told j below = elim (cases_lt j n) [
       | inl before ↦
-          ap (λ m. (m == 1) && beq (bit_at bits' j == 1) v) (digit-before now now' mark n small inside is gathered.marks j before)
-          ∙ ap (λ m. (bit_at now j == 1) && beq (m == 1) v) (digit-before bits bits' bit n small-too inside is-too gathered.digits j before)
-          ∙ gathered.told j v before
+          ap (λ m. marked (m == 1) (bit_at bits' j == 1)) (digit-before now now' mark n small inside is gathered.marks j before)
+          ∙ ap (λ m. marked (bit_at now j == 1) (m == 1)) (digit-before bits bits' bit n small-too inside is-too gathered.digits j before)
+          ∙ gathered.told j before
       | inr past ↦
           let last : j ≡ n = omega (arith, below, past) in
-          ap (λ i. bit_tells now' bits' i v) last
-          ∙ ap (λ m. (m == 1) && beq (bit_at bits' n == 1) v) (digit-here now now' mark n small inside is gathered.marks)
-          ∙ ap (λ m. (mark == 1) && beq (m == 1) v) (digit-here bits bits' bit n small-too inside is-too gathered.digits)
-          ∙ here v
-          ∙ ap (λ i. tells (heard_bit (heard_at places (from + step * i))) v) (sym last)
+          ap (λ i. marked (bit_at now' i == 1) (bit_at bits' i == 1)) last
+          ∙ ap (λ m. marked (m == 1) (bit_at bits' n == 1)) (digit-here now now' mark n small inside is gathered.marks)
+          ∙ ap (λ m. marked (mark == 1) (m == 1)) (digit-here bits bits' bit n small-too inside is-too gathered.digits)
+          ∙ here
+          ∙ ap (λ i. heard_at places (from + i)) (sym last)
     ]

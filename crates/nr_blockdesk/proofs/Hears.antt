@@ -1,14 +1,12 @@
 -- What hearing does to a code block's store and its peeler.
-use Rattle.std.proofs.Common.{◌≡◌, ◌≢◌, ℕ, zero, suc, ◌+◌, ◌<◌, ◌≤◌, ◌||◌, ◌&&◌, Bool, true, false, not, cond, List, [], ◌∷◌, ◌++◌, length, get_or, set, take, drop, refl, sym, ap, subst, ◌∙◌, ⊎_elim, append_assoc, arith}
-use Rattle.std.specs.Prelude.{Option, Some, None, option_map, sum, slice_index}
+use Rattle.std.proofs.Common.{◌≡◌, ◌≢◌, ℕ, zero, suc, ◌+◌, ◌<◌, ◌≤◌, ◌||◌, ◌&&◌, Bool, true, false, not, cond, List, [], ◌∷◌, ◌++◌, length, get_or, set, refl, sym, ap, subst, ◌∙◌, ⊎_elim, append_assoc, arith}
+use Rattle.std.specs.Prelude.{Option, Some, None, option_map}
 use Rattle.std.specs.Bool.{beq}
 use Rattle.std.specs.List.{cons_option, filter_map, range_with_len}
 use Rattle.std.proofs.lemmas.Bool.{cases_eq, true≢false}
 use Rattle.std.proofs.lemmas.Grind.{get_or-set_at}
 use Rattle.std.proofs.lemmas.List.{get_or-set_other, get_or_read, length-set}
 use Rattle.std.proofs.lemmas.List.Elements.{filter_map-append}
-use Rattle.std.proofs.lemmas.List.Sums.{sum_by_more}
-use Rattle.std.proofs.Math.ListN.{drop_of_length-le}
 use Rattle.nr_bitvec.specs.Bit.{bit}
 use Rattle.nr_graphpick.specs.declared.Graph.{Graph}
 use Rattle.nr_harqbuf.specs.Record.{HasFirsts, Heardbits, Hearing, RecordContinues, differs, first_at, is_heard, record_of, with_hearing}
@@ -229,23 +227,6 @@ hears-same b tx part part' s s' t t' p p' q q' e1 e2 e3 e4 e5 hears =
     (subst (λ x. HearsPart b tx part' s' x t q) e3
     (subst (λ x. HearsPart b tx part' x p t q) e2
     (subst (λ x. HearsPart b tx x s p t q) e1 hears))))
-
--- what is left of a list after two parts
-pub drop-again : {X : Type 0} (n m : ℕ) (xs : List X) → drop m (drop n xs) ≡ drop (n + m) xs
-drop-again zero m xs = let none : m ≡ 0 + m = omega arith in ap (λ k. drop k xs) none
-drop-again {X} (suc n) m [] =
-    let empty : List X = [] in drop_of_length-le empty (omega arith) ∙ sym (drop_of_length-le empty (omega arith))
-drop-again (suc n) m (x ∷ xs) =
-    let more : suc (n + m) ≡ suc n + m = omega arith in drop-again n m xs ∙ ap (λ k. drop k (x ∷ xs)) more
-
-pub rest-more : (lengths : List ℕ) (heard rest later : List Heard) (r : ℕ) → r < length lengths
-    → rest ≡ drop (sum (take r lengths)) heard → later ≡ drop (slice_index lengths r) rest
-    → later ≡ drop (sum (take (r + 1) lengths)) heard
-rest-more lengths heard rest later r inside rest-is later-is =
-    later-is
-    ∙ ap (λ (xs : List Heard). drop (slice_index lengths r) xs) rest-is
-    ∙ drop-again (sum (take r lengths)) (slice_index lengths r) heard
-    ∙ ap (λ n. drop n heard) (sym (sum_by_more (λ (x : ℕ). x) lengths r 0 inside))
 
 -- one code block more has heard its part
 pub done-more : (b : Circular) (tx : Tx) (pieces : ℕ → List Heard) (S₀ S : List Heardbits) (P₀ P : List Peeling) (r : ℕ)

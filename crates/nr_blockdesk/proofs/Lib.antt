@@ -13,6 +13,7 @@ mod Taking
 mod Decided
 mod Kept
 mod Gathered
+mod Marked
 mod Telling
 mod Merging
 mod Nothing

@@ -19,11 +19,11 @@ bit-selected : (b : Circular) (word : List Bool) (rv e p : ℕ) → p < e → bi
 unfolding selected
 bit-selected b word rv e p inside = get_or-map-range_with_len (λ k. bit word (place_of b rv k)) 0 e p p false inside (omega arith)
 
-length-interleaved : (qm : ℕ) (bits : List Bool) → length (interleaved qm bits) ≡ length bits
+pub length-interleaved : (qm : ℕ) (bits : List Bool) → length (interleaved qm bits) ≡ length bits
 unfolding interleaved
 length-interleaved qm bits = length-map-range_with_len (λ m. bit bits (seat_of qm (length bits) m)) 0 (length bits)
 
-bit-interleaved : (qm : ℕ) (bits : List Bool) (p : ℕ) → p < length bits → bit (interleaved qm bits) p ≡ bit bits (seat_of qm (length bits) p)
+pub bit-interleaved : (qm : ℕ) (bits : List Bool) (p : ℕ) → p < length bits → bit (interleaved qm bits) p ≡ bit bits (seat_of qm (length bits) p)
 unfolding interleaved
 bit-interleaved qm bits p inside =
     get_or-map-range_with_len (λ m. bit bits (seat_of qm (length bits) m)) 0 (length bits) p p false inside (omega arith)

@@ -1,25 +1,28 @@
--- What words and rows of places tell is what the places tell one by one.
-use Rattle.std.proofs.Common.{◌≡◌, ℕ, zero, suc, ◌+◌, ◌-◌, ◌*◌, ◌/◌, ◌%◌, ◌<◌, ◌≤◌, ◌==◌, ◌||◌, ◌&&◌, Bool, true, false, nat_le, nat_lt, List, [], ◌∷◌, length, refl, sym, ap, ◌∙◌, ⊎_elim, arith}
+-- What words tell of selected bits is what their places tell one by one.
+use Rattle.std.proofs.Common.{◌≡◌, ℕ, zero, suc, ◌+◌, ◌-◌, ◌%◌, ◌<◌, ◌≤◌, ◌==◌, ◌||◌, ◌&&◌, Bool, true, false, nat_le, nat_lt, List, [], ◌∷◌, length, take, drop, refl, sym, ap, ◌∙◌, ⊎_elim, arith}
 use Rattle.std.specs.Prelude.{Option, Some, None, option_map}
 use Rattle.std.specs.Bool.{beq}
 use Rattle.std.specs.Int.{bit_at}
 use Rattle.std.specs.List.{cons_option, filter_map, list_any, range_with_len}
 use Rattle.std.proofs.lemmas.Bool.{and_from, and_parts, cases_eq, eq-eqb, eqb-true, false≢true, le-leb, lt-ltb, leb-true, ltb-true, or_left, or_right}
+use Rattle.std.proofs.lemmas.List.{get_or-drop, get_or-take, length-drop, length-take-le}
 use Rattle.std.proofs.lemmas.List.Folds.{list_any-append}
-use Rattle.std.proofs.lemmas.Nat.{div-mul-add, mod-mul-add, mul-add-lt}
 use Rattle.std.proofs.Math.Bool.{or_assoc}
-use Rattle.std.proofs.Math.Nat.{div-add-mod, div-lt_iff_lt-mul, mod-lt, mul-add, mul_comm}
-use Rattle.nr_harqbuf.specs.Masks.{word_says}
+use Rattle.nr_bitvec.specs.Bit.{bit}
+use Rattle.nr_harqbuf.specs.Masks.{says, word_says}
 use Rattle.nr_harqbuf.specs.Record.{Hearing, heard_as}
-use Rattle.nr_interleave.specs.Interleaving.{seat_of}
+use Rattle.nr_interleave.proofs.Seats.{seat-given, seat-inside}
+use Rattle.nr_interleave.specs.Interleaving.{interleaved, seat_of}
 use Rattle.nr_ratematch.specs.Selection.{Circular, place_of}
 use Rattle.nr_blockdesk.specs.Explains.{heard_at}
 use Rattle.nr_blockdesk.specs.Hearing.{heard_bit, tells}
+use Rattle.nr_blockdesk.specs.Marks.{bit_says, heards_from}
 use Rattle.nr_blockdesk.specs.Receiving.{part_hearing, part_hearings}
-use Rattle.nr_blockdesk.specs.Telling.{bit_tells, place_tells, row_tells}
 use Rattle.nr_blockdesk.specs.declared.heard.Heard.{Heard}
 use Rattle.nr_transmission.specs.declared.tx.Tx.{Tx}
 use Rattle.nr_blockdesk.proofs.Hears.{range-split}
+use Rattle.nr_blockdesk.proofs.Marked.{heard-at, length-heards, tells-marked}
+use Rattle.nr_blockdesk.proofs.Places.{bit-interleaved, length-interleaved}
 
 -- two tests are one where each follows from the other
 same_test : (a b : Bool) → (a ≡ true → b ≡ true) → (b ≡ true → a ≡ true) → a ≡ b
@@ -60,62 +63,71 @@ any-more f n k =
     ∙ list_any-append f (range_with_len 0 n) (range_with_len (0 + n) k)
     ∙ ap (λ a. list_any f (range_with_len 0 n) || list_any f (range_with_len a k)) start
 
--- a run of columns of a row, whose places stand one after another in the codeword
-module _ (b : Circular) (tx : Tx) (places : List Heard) (r c position count now bits : ℕ)
-    (run : (j : ℕ) → j < count → place_of b tx.rv (r * (length places / tx.qm) + c + j) ≡ position + j)
-    (gathered : (j : ℕ) (v : Bool) → j < count → bit_tells now bits j v ≡ tells (heard_bit (heard_at places (tx.qm * c + r + tx.qm * j))) v) where
-  -- column c + j
-  column : (p : ℕ) (v : Bool) (j : ℕ) → j < count
-      → place_tells b tx places r p v (c + j) ≡ ((position + j == p) && bit_tells now bits j v)
-  column p v j inside =
-      let at : r * (length places / tx.qm) + (c + j) ≡ r * (length places / tx.qm) + c + j = omega arith in
-      let place : tx.qm * (c + j) + r ≡ tx.qm * c + r + tx.qm * j = omega arith in
-      ap (λ q. (q == p) && tells (heard_bit (heard_at places (tx.qm * (c + j) + r))) v) (ap (place_of b tx.rv) at ∙ run j inside)
-      ∙ ap (λ m. (position + j == p) && tells (heard_bit (heard_at places m)) v) place
-      ∙ ap (λ t. (position + j == p) && t) (sym (gathered j v inside))
+-- place j of a word of marks and a word of bits tells this bit
+abbrev bit_tells : ℕ → ℕ → ℕ → Bool → Bool
+bit_tells now bits j v = (bit_at now j == 1) && beq (bit_at bits j == 1) v
+
+-- a run of selected bits, whose places stand one after another in the codeword
+module _ (b : Circular) (rv : ℕ) (marks bits : List Bool) (k position count now word : ℕ) (few : count ≤ 64)
+    (run : (j : ℕ) → j < count → place_of b rv (k + j) ≡ position + j)
+    (reads : (j : ℕ) → j < 64 → (bit_at now j == 1) ≡ bit marks (k + j))
+    (reads-too : (j : ℕ) → j < 64 → (bit_at word j == 1) ≡ bit bits (k + j)) where
+  -- selected bit k + j
+  one-says : (p : ℕ) (v : Bool) (j : ℕ) → j < count
+      → bit_says b rv marks bits p v (k + j) ≡ ((position + j == p) && bit_tells now word j v)
+  one-says p v j inside =
+      ap (λ q. (q == p) && says marks bits (k + j) v) (run j inside)
+      ∙ ap (λ m. (position + j == p) && (m && beq (bit bits (k + j)) v)) (sym (reads j (omega (arith, inside, few))))
+      ∙ ap (λ m. (position + j == p) && ((bit_at now j == 1) && beq m v)) (sym (reads-too j (omega (arith, inside, few))))
 
   word-tells : (p : ℕ) (v : Bool)
-      → word_says position count now bits p v ≡ list_any (place_tells b tx places r p v) (range_with_len c count)
-  word-tells p v = same_test (word_says position count now bits p v) (list_any (place_tells b tx places r p v) (range_with_len c count)) forth back
+      → word_says position count now word p v ≡ list_any (bit_says b rv marks bits p v) (range_with_len k count)
+  word-tells p v = same_test (word_says position count now word p v) (list_any (bit_says b rv marks bits p v) (range_with_len k count)) forth back
     where
-      forth : word_says position count now bits p v ≡ true → list_any (place_tells b tx places r p v) (range_with_len c count) ≡ true
-      forth says =
-          let one = and_parts (nat_le position p && nat_lt p (position + count) && (bit_at now (p - position) == 1)) (beq (bit_at bits (p - position) == 1) v) says in
+      forth : word_says position count now word p v ≡ true → list_any (bit_says b rv marks bits p v) (range_with_len k count) ≡ true
+      forth said =
+          let one = and_parts (nat_le position p && nat_lt p (position + count) && (bit_at now (p - position) == 1)) (beq (bit_at word (p - position) == 1) v) said in
           let two = and_parts (nat_le position p && nat_lt p (position + count)) (bit_at now (p - position) == 1) one.0 in
           let three = and_parts (nat_le position p) (nat_lt p (position + count)) two.0 in
           let low : position ≤ p = leb-true position p three.0 in
           let high : p < position + count = ltb-true p (position + count) three.1 in
           let inside : p - position < count = omega (arith, low, high) in
           let there : position + (p - position) ≡ p = omega (arith, low) in
-          found (place_tells b tx places r p v) c count (c + (p - position)) (omega arith) (omega (arith, inside))
-          (column p v (p - position) inside
-          ∙ and_from (position + (p - position) == p) (bit_tells now bits (p - position) v) (eq-eqb (position + (p - position)) p there)
-          (and_from (bit_at now (p - position) == 1) (beq (bit_at bits (p - position) == 1) v) two.1 one.1))
+          found (bit_says b rv marks bits p v) k count (k + (p - position)) (omega arith) (omega (arith, inside))
+          (one-says p v (p - position) inside
+          ∙ and_from (position + (p - position) == p) (bit_tells now word (p - position) v) (eq-eqb (position + (p - position)) p there)
+          (and_from (bit_at now (p - position) == 1) (beq (bit_at word (p - position) == 1) v) two.1 one.1))
 
-      back : list_any (place_tells b tx places r p v) (range_with_len c count) ≡ true → word_says position count now bits p v ≡ true
+      back : list_any (bit_says b rv marks bits p v) (range_with_len k count) ≡ true → word_says position count now word p v ≡ true
       back any =
-          let it = find_it (place_tells b tx places r p v) c count any in
-          let j : ℕ = it.at - c in
+          let it = find_it (bit_says b rv marks bits p v) k count any in
+          let j : ℕ = it.at - k in
           let inside : j < count = omega (arith, it.low, it.high) in
-          let at : c + j ≡ it.at = omega (arith, it.low) in
-          let both = and_parts (position + j == p) (bit_tells now bits j v)
-          (sym (column p v j inside) ∙ ap (place_tells b tx places r p v) at ∙ it.is) in
+          let at : k + j ≡ it.at = omega (arith, it.low) in
+          let both = and_parts (position + j == p) (bit_tells now word j v)
+          (sym (one-says p v j inside) ∙ ap (bit_says b rv marks bits p v) at ∙ it.is) in
           let here : position + j ≡ p = eqb-true (position + j) p both.0 in
           let back : j ≡ p - position = omega (arith, here) in
-          let told = and_parts (bit_at now j == 1) (beq (bit_at bits j == 1) v) both.1 in
-          and_from (nat_le position p && nat_lt p (position + count) && (bit_at now (p - position) == 1)) (beq (bit_at bits (p - position) == 1) v)
+          let told = and_parts (bit_at now j == 1) (beq (bit_at word j == 1) v) both.1 in
+          and_from (nat_le position p && nat_lt p (position + count) && (bit_at now (p - position) == 1)) (beq (bit_at word (p - position) == 1) v)
           (and_from (nat_le position p && nat_lt p (position + count)) (bit_at now (p - position) == 1)
           (and_from (nat_le position p) (nat_lt p (position + count)) (le-leb position p (omega (arith, here))) (lt-ltb p (position + count) (omega (arith, here, inside))))
           (sym (ap (λ i. bit_at now i == 1) back) ∙ told.0))
-          (sym (ap (λ i. beq (bit_at bits i == 1) v) back) ∙ told.1)
+          (sym (ap (λ i. beq (bit_at word i == 1) v) back) ∙ told.1)
 
--- the places of a row's columns are places
-pub place-inside : (qm n c r j : ℕ) → n % qm ≡ 0 → r < qm → c + j < n / qm → qm * c + r + qm * j < n
-place-inside qm n c r j whole low inside =
-    let below : (c + j) * qm + r < qm * (n / qm) = mul-add-lt (c + j) qm r (n / qm) inside low in
-    let split : qm * (n / qm) + n % qm ≡ n = div-add-mod n qm in
-    let spread : (c + j) * qm ≡ qm * c + qm * j = mul_comm (c + j) qm ∙ mul-add qm c j in
-    omega (arith, below, split, spread, whole)
+  -- a run more
+  pub run-more : (first old new : ℕ → Bool → Bool) (one more : Bool)
+      → (one ≡ true → (p : ℕ) (v : Bool) → old p v ≡ (first p v || list_any (bit_says b rv marks bits p v) (range_with_len 0 k)))
+      → (more ≡ true → (p : ℕ) (v : Bool) → new p v ≡ (old p v || word_says position count now word p v))
+      → (one && more) ≡ true → (p : ℕ) (v : Bool) → new p v ≡ (first p v || list_any (bit_says b rv marks bits p v) (range_with_len 0 (k + count)))
+  run-more first old new one more before said both p v =
+      let clean = and_parts one more both in
+      let f : ℕ → Bool = bit_says b rv marks bits p v in
+      said clean.1 p v
+      ∙ ap (λ t. t || word_says position count now word p v) (before clean.0 p v)
+      ∙ or_assoc (first p v) (list_any f (range_with_len 0 k)) (word_says position count now word p v)
+      ∙ ap (λ t. first p v || (list_any f (range_with_len 0 k) || t)) (word-tells p v)
+      ∙ ap (λ t. first p v || t) (sym (any-more f k count))
 
 -- what is heard at a place, as a hearing, and whether it tells this bit of this position
 told_by : ℕ → Bool → Option Hearing → Bool
@@ -142,95 +154,65 @@ told-at p q v None = go (q == p)
     go false = refl
 told-at p q v (Some b) = refl
 
--- the rows of an interleaver have each place once
-pub rows-are-places : (b : Circular) (tx : Tx) (places : List Heard) (p : ℕ) (v : Bool) → 0 < tx.qm → length places % tx.qm ≡ 0
-    → list_any (row_tells b tx places p v) (range_with_len 0 tx.qm) ≡ heard_as (part_hearings b tx places (length places)) p v
-unfolding heard_as
-rows-are-places b tx places p v some whole =
-    same_test (list_any (row_tells b tx places p v) (range_with_len 0 tx.qm)) (list_any by_place (range_with_len 0 n)) forth back
-    ∙ sym (any-told (part_hearing b tx places) p v (range_with_len 0 n))
-  where
-    n : ℕ
-    n = length places
+-- bits that interleave to the marks and bits of a part say what its places tell
+module _ (b : Circular) (tx : Tx) (marks bits chosen chosen-too : List Bool) (from n : ℕ) (some : 0 < tx.qm) (whole : n % tx.qm ≡ 0)
+    (inside : from + n ≤ length marks) (long : length bits ≡ length marks)
+    (is : interleaved tx.qm chosen ≡ take n (drop from marks)) (is-too : interleaved tx.qm chosen-too ≡ take n (drop from bits)) where
+  abbrev places : List Heard
+  places = heards_from marks bits from n
 
-    by_place : ℕ → Bool
-    by_place m = told_by p v (part_hearing b tx places m)
+  many : (xs ys : List Bool) → from + n ≤ length ys → interleaved tx.qm xs ≡ take n (drop from ys) → length xs ≡ n
+  many xs ys within e =
+      sym (length-interleaved tx.qm xs) ∙ ap length e ∙ length-take-le n (drop from ys) (omega (arith, length-drop from ys, within))
 
-    columns : ℕ
-    columns = n / tx.qm
+  seated : (xs ys : List Bool) → from + n ≤ length ys → interleaved tx.qm xs ≡ take n (drop from ys)
+      → (m : ℕ) → m < n → bit xs (seat_of tx.qm n m) ≡ bit ys (from + m)
+  seated xs ys within e m below =
+      let all : length xs ≡ n = many xs ys within e in
+      ap (λ k. bit xs (seat_of tx.qm k m)) (sym all)
+      ∙ sym (bit-interleaved tx.qm xs m (omega (arith, below, all)))
+      ∙ ap (λ l. bit l m) e
+      ∙ get_or-take n (drop from ys) m false below
+      ∙ get_or-drop from ys m false
 
-    whole-is : tx.qm * columns ≡ n
-    whole-is = let split = div-add-mod n tx.qm in omega (arith, split, whole)
+  abbrev by_place : ℕ → Bool → ℕ → Bool
+  by_place p v m = told_by p v (part_hearing b tx places m)
 
-    seat-here : (r c m : ℕ) → m ≡ c * tx.qm + r → r < tx.qm → seat_of tx.qm n m ≡ r * columns + c
-    seat-here r c m is low =
-        ap (λ k. (k % tx.qm) * columns + k / tx.qm) is
-        ∙ ap (λ k. k * columns + (c * tx.qm + r) / tx.qm) (mod-mul-add c tx.qm r low)
-        ∙ ap (λ k. r * columns + k) (div-mul-add c tx.qm r low)
+  -- a place tells what the bit says that is seated there
+  place-says : (p : ℕ) (v : Bool) (m : ℕ) → m < n → by_place p v m ≡ bit_says b tx.rv chosen chosen-too p v (seat_of tx.qm n m)
+  place-says p v m below =
+      let at : ℕ = place_of b tx.rv (seat_of tx.qm n m) in
+      told-at p (place_of b tx.rv (seat_of tx.qm (length places) m)) v (heard_bit (heard_at places m))
+      ∙ ap (λ k. (place_of b tx.rv (seat_of tx.qm k m) == p) && tells (heard_bit (heard_at places m)) v) (length-heards marks bits from n)
+      ∙ ap (λ h. (at == p) && tells (heard_bit h) v) (heard-at marks bits from n m below)
+      ∙ ap (λ t. (at == p) && t) (tells-marked (bit marks (from + m)) (bit bits (from + m)) v)
+      ∙ ap (λ a. (at == p) && (a && beq (bit bits (from + m)) v)) (sym (seated chosen marks inside is m below))
+      ∙ ap (λ a. (at == p) && (bit chosen (seat_of tx.qm n m) && beq a v)) (sym (seated chosen-too bits (omega (arith, inside, long)) is-too m below))
 
-    forth : list_any (row_tells b tx places p v) (range_with_len 0 tx.qm) ≡ true → list_any by_place (range_with_len 0 n) ≡ true
-    forth any =
-        let row = find_it (row_tells b tx places p v) 0 tx.qm any in
-        let r : ℕ = row.at in
-        let low : r < tx.qm = omega (arith, row.high) in
-        let col = find_it (place_tells b tx places r p v) 0 columns row.is in
-        let c : ℕ = col.at in
-        let inside : c < columns = omega (arith, col.high) in
-        let m : ℕ = tx.qm * c + r in
-        let turned : m ≡ c * tx.qm + r = ap (λ k. k + r) (mul_comm tx.qm c) in
-        let below : c * tx.qm + r < tx.qm * columns = mul-add-lt c tx.qm r columns inside low in
-        found by_place 0 n m (omega arith) (omega (arith, turned, below, whole-is))
-        (told-at p (place_of b tx.rv (seat_of tx.qm n m)) v (heard_bit (heard_at places m))
-        ∙ ap (λ k. (place_of b tx.rv k == p) && tells (heard_bit (heard_at places m)) v) (seat-here r c m turned low)
-        ∙ col.is)
+  forth : (p : ℕ) (v : Bool) → list_any (bit_says b tx.rv chosen chosen-too p v) (range_with_len 0 (length chosen)) ≡ true
+      → list_any (by_place p v) (range_with_len 0 (length places)) ≡ true
+  forth p v any =
+      let it = find_it (bit_says b tx.rv chosen chosen-too p v) 0 (length chosen) any in
+      let seat = seat-given tx.qm n it.at whole (omega (arith, it.high, many chosen marks inside is)) in
+      found (by_place p v) 0 (length places) seat.at (omega arith) (omega (arith, seat.inside, length-heards marks bits from n))
+      (place-says p v seat.at seat.inside ∙ ap (bit_says b tx.rv chosen chosen-too p v) seat.is ∙ it.is)
 
-    back : list_any by_place (range_with_len 0 n) ≡ true → list_any (row_tells b tx places p v) (range_with_len 0 tx.qm) ≡ true
-    back any =
-        let it = find_it by_place 0 n any in
-        let m : ℕ = it.at in
-        let r : ℕ = m % tx.qm in
-        let c : ℕ = m / tx.qm in
-        let low : r < tx.qm = mod-lt m some in
-        let high : m < columns * tx.qm = omega (arith, it.high, whole-is, mul_comm tx.qm columns) in
-        let inside : c < columns = (div-lt_iff_lt-mul some).1 high in
-        let here : tx.qm * c + r ≡ m = div-add-mod m tx.qm in
-        found (row_tells b tx places p v) 0 tx.qm r (omega arith) (omega (arith, low))
-        (found (place_tells b tx places r p v) 0 columns c (omega arith) (omega (arith, inside))
-        (ap (λ k. (place_of b tx.rv (r * columns + c) == p) && tells (heard_bit (heard_at places k)) v) here
-        ∙ sym (told-at p (place_of b tx.rv (seat_of tx.qm n m)) v (heard_bit (heard_at places m)))
-        ∙ it.is))
+  back : (p : ℕ) (v : Bool) → list_any (by_place p v) (range_with_len 0 (length places)) ≡ true
+      → list_any (bit_says b tx.rv chosen chosen-too p v) (range_with_len 0 (length chosen)) ≡ true
+  back p v any =
+      let it = find_it (by_place p v) 0 (length places) any in
+      let below : it.at < n = omega (arith, it.high, length-heards marks bits from n) in
+      found (bit_says b tx.rv chosen chosen-too p v) 0 (length chosen) (seat_of tx.qm n it.at) (omega arith)
+      (omega (arith, seat-inside tx.qm n it.at some whole below, many chosen marks inside is))
+      (sym (place-says p v it.at below) ∙ it.is)
 
--- a run more of a row
-pub run-more : (b : Circular) (tx : Tx) (places : List Heard) (r c position count now bits : ℕ)
-    → ((j : ℕ) → j < count → place_of b tx.rv (r * (length places / tx.qm) + c + j) ≡ position + j)
-    → ((j : ℕ) (v : Bool) → j < count → bit_tells now bits j v ≡ tells (heard_bit (heard_at places (tx.qm * c + r + tx.qm * j))) v)
-    → (first old new : ℕ → Bool → Bool) (one more : Bool)
-    → (one ≡ true → (p : ℕ) (v : Bool) → old p v ≡ (first p v || list_any (place_tells b tx places r p v) (range_with_len 0 c)))
-    → (more ≡ true → (p : ℕ) (v : Bool) → new p v ≡ (old p v || word_says position count now bits p v))
-    → (one && more) ≡ true → (p : ℕ) (v : Bool) → new p v ≡ (first p v || list_any (place_tells b tx places r p v) (range_with_len 0 (c + count)))
-run-more b tx places r c position count now bits run gathered first old new one more before word both p v =
-    let clean = and_parts one more both in
-    let f : ℕ → Bool = place_tells b tx places r p v in
-    word clean.1 p v
-    ∙ ap (λ t. t || word_says position count now bits p v) (before clean.0 p v)
-    ∙ or_assoc (first p v) (list_any f (range_with_len 0 c)) (word_says position count now bits p v)
-    ∙ ap (λ t. first p v || (list_any f (range_with_len 0 c) || t)) (word-tells b tx places r c position count now bits run gathered p v)
-    ∙ ap (λ t. first p v || t) (sym (any-more f c count))
+  pub says-part : (p : ℕ) (v : Bool) → list_any (bit_says b tx.rv chosen chosen-too p v) (range_with_len 0 (length chosen))
+      ≡ heard_as (part_hearings b tx (heards_from marks bits from n) (length (heards_from marks bits from n))) p v
+  unfolding heard_as
+  says-part p v =
+      same_test (list_any (bit_says b tx.rv chosen chosen-too p v) (range_with_len 0 (length chosen))) (list_any (by_place p v) (range_with_len 0 (length places))) (forth p v) (back p v)
+      ∙ sym (any-told (part_hearing b tx places) p v (range_with_len 0 (length places)))
 
 pub none-more : (a : Bool) → a ≡ (a || false)
 none-more true = refl
 none-more false = refl
-
--- a row more
-pub row-more : (b : Circular) (tx : Tx) (places : List Heard) (r : ℕ) (first old new : ℕ → Bool → Bool) (one more : Bool)
-    → (one ≡ true → (p : ℕ) (v : Bool) → old p v ≡ (first p v || list_any (row_tells b tx places p v) (range_with_len 0 r)))
-    → (more ≡ true → (p : ℕ) (v : Bool) → new p v ≡ (old p v || row_tells b tx places p v r))
-    → (one && more) ≡ true → (p : ℕ) (v : Bool) → new p v ≡ (first p v || list_any (row_tells b tx places p v) (range_with_len 0 (r + 1)))
-row-more b tx places r first old new one more before row both p v =
-    let clean = and_parts one more both in
-    let f : ℕ → Bool = row_tells b tx places p v in
-    row clean.1 p v
-    ∙ ap (λ t. t || f r) (before clean.0 p v)
-    ∙ or_assoc (first p v) (list_any f (range_with_len 0 r)) (f r)
-    ∙ ap (λ t. first p v || (list_any f (range_with_len 0 r) || t)) (none-more (f r))
-    ∙ ap (λ t. first p v || t) (sym (any-more f r 1))

@@ -42,12 +42,16 @@ explains link list block = list_all (λ x. all_agree x.heard (sent link x.tx blo
 abbrev pub Explains : Link → List Reception → List Bool → Type 0
 Explains link list block = explains link list block ≡ true
 
--- E_r of each code block of a reception, or its first fault: as many places are heard as are sent
-abbrev pub reception_said_of : ℕ → Reception → Result (List ℕ) DeskFault
-reception_said_of c x = do
-  lengths ← tx_said_of c x.tx
-  whole ← demanded fault.Length (length x.heard == x.tx.g)
+-- E_r of each code block of a transmission of which n places are heard, or the first fault: as many are heard as are sent
+abbrev pub hearing_said_of : ℕ → Tx → ℕ → Result (List ℕ) DeskFault
+hearing_said_of c tx n = do
+  lengths ← tx_said_of c tx
+  whole ← demanded fault.Length (n == tx.g)
   Ok lengths
+
+-- the same of a reception
+abbrev pub reception_said_of : ℕ → Reception → Result (List ℕ) DeskFault
+reception_said_of c x = hearing_said_of c x.tx (length x.heard)
 
 -- the same over a link
 abbrev pub reception_said : Link → Reception → Result (List ℕ) DeskFault

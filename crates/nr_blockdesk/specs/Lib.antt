@@ -8,5 +8,6 @@ pub mod ReceiverLaws
 pub mod OutcomeLaws
 pub mod Receiving
 pub mod Telling
+pub mod Marks
 pub mod Processing
 pub mod Calls

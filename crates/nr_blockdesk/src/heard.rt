@@ -1,7 +1,6 @@
 //! What a receiver hears.
 
-ghost use Rattle.std.specs.Prelude.{◌≡◌, ◌≤◌, ◌==◌, ◌&&◌, Bool};
-ghost use Rattle.std.specs.Bool.{beq};
+ghost use Rattle.std.specs.Prelude.{◌≡◌, ◌≤◌, ◌==◌};
 
 /// What a receiver hears at one place of a transmission.
 #[derive(Clone, Copy, Debug, PartialEq, Eq)]
@@ -15,25 +14,13 @@ pub enum Heard {
 }
 
 impl Heard {
-    ghost use Rattle.nr_blockdesk.specs.Hearing.{heard_bit, tells};
-
-    // The bit that is heard, if one is.
-    pub(crate) fn bit(self) -> Option<bool>
-        ensures { result ≡ heard_bit self }
-    {
-        match self {
-            Heard::Zero => Some(false),
-            Heard::One => Some(true),
-            Heard::Erased => None,
-        }
-    }
+    ghost use Rattle.nr_blockdesk.specs.Marks.{marked};
 
     // 1 where a bit is heard, and the bit: zero where none is.
     pub(crate) fn marks(self) -> (u64, u64)
         ensures mark { result.0 ≤ 1 }
         ensures digit { result.1 ≤ 1 }
-        ensures tells { (v : Bool) → ((result.0 == 1) && beq (result.1 == 1) v)
-            ≡ tells (heard_bit self) v }
+        ensures same { marked (result.0 == 1) (result.1 == 1) ≡ self }
     {
         let mark = u64::from(!matches!(self, Heard::Erased));
         let digit = u64::from(matches!(self, Heard::One));

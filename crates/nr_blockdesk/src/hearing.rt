@@ -1,24 +1,27 @@
 //! Hearing one transmission: what it tells of a code block is put together first, and then the store and the peeler hear
 //! all of it at once.
 
-ghost use Rattle.std.specs.Prelude.{◌≡◌, ℕ, ◌*◌, ◌%◌, ◌^◌, ◌<◌, ◌≤◌, length, slice_index_or, List, IfOk, MatchResult, Ok, Err};
+ghost use Rattle.std.specs.Prelude.{◌≡◌, ℕ, ◌*◌, ◌%◌, ◌^◌, ◌<◌, ◌≤◌, length, slice_index, slice_index_or, List, IfOk, MatchResult, Ok, Err};
 ghost use Rattle.nr_bitvec.specs.Bit.{bit};
 ghost use Rattle.nr_graphpick.specs.Graph.{cols_of};
 ghost use Rattle.nr_harqbuf.specs.Masks.{AreMasks};
 ghost use Rattle.nr_harqbuf.specs.Record.{Hearing, Heardbits};
 ghost use Rattle.nr_peel.specs.Peeling.{Peeling, checks_for};
 ghost use Rattle.nr_ratematch.specs.Lengths.{IsShared};
-ghost use Rattle.nr_blockdesk.specs.Explains.{reception, reception_said_of};
+ghost use Rattle.nr_blockdesk.specs.Explains.{hearing_said_of};
 ghost use Rattle.nr_blockdesk.specs.Heard.{heard_of};
 ghost use Rattle.nr_blockdesk.specs.Link.{Link};
+ghost use Rattle.nr_blockdesk.specs.Marks.{HasRoom, heards, heards_of};
 ghost use Rattle.nr_blockdesk.specs.Receiving.{AllTell, AreWords, HearsAll, HearsPart, IsNews, IsSized, IsTied, Tells, piece};
 ghost use Rattle.nr_blockdesk.specs.Telling.{IsUntold};
 
 use crate::deposit::deposit;
-use crate::heard::Heard;
+use crate::part::Part;
+use crate::selected::Selected;
 use crate::sender::judge;
 use crate::told::Told;
 use arrayvec::ArrayVec;
+use nr_bitvec::Bits;
 use nr_harqbuf::{Store, agrees, record_continues, record_merges};
 use nr_interleave::seat;
 use nr_ldpcenc::Word;
@@ -27,56 +30,62 @@ use nr_ratematch::Buffer;
 use nr_segment::Plan;
 use nr_transmission::{DeskFault, Tx};
 
-// E_r of each code block, or the first cause against what was heard of a transmission. Takes no memory.
+// E_r of each code block, or the first cause against a transmission of which `count` places were heard. Takes no memory.
 pub(crate) fn judge_heard(
     plan: &Plan,
     tx: &Tx,
-    heard: &[Heard],
+    count: usize,
 ) -> Result<ArrayVec<u32, 344>, DeskFault>
     ensures said { MatchResult result
-        (λ lengths. reception_said_of plan.now.c (reception tx.now heard.now) ≡ Ok lengths.items)
-        (λ e. reception_said_of plan.now.c (reception tx.now heard.now) ≡ Err e) }
+        (λ lengths. hearing_said_of plan.now.c tx.now count ≡ Ok lengths.items)
+        (λ e. hearing_said_of plan.now.c tx.now count ≡ Err e) }
     ensures version { IfOk result (λ lengths. tx.now.rv < 4) }
     ensures shared { IfOk result
         (λ lengths. IsShared plan.now.c tx.now.g tx.now.qm lengths.items) }
-    ensures whole { IfOk result (λ lengths. length heard.now ≡ tx.now.g) }
+    ensures whole { IfOk result (λ lengths. count ≡ tx.now.g) }
 {
     let lengths = judge(plan, tx)?;
-    if heard.len() != tx.g as usize {
+    if count != tx.g as usize {
         return Err(DeskFault::Length);
     }
     Ok(lengths)
 }
 
-// Fewer places than these are heard one by one: to go over the words of a code block would take longer.
-const FEW: usize = 32;
+// To hear a place by itself takes as long as to go over so many positions by words.
+const POSITIONS_PER_PLACE: usize = 128;
 
 // Hears one code block's part of a transmission: only the first bit of a position is learned. Answers whether each bit
 // heard is that of `word`.
 fn hear_part(
     buffer: &Buffer,
     tx: &Tx,
-    heard: &[Heard],
+    part: &Part<'_>,
     store: &mut Store,
     peeler: &mut Peeler<'_>,
     word: &Word,
     told: &mut Told,
+    selected: &mut Selected,
 ) -> bool
     requires version { tx.now.rv < 4 }
     requires order { 0 < tx.now.qm }
-    requires whole { length heard.now % tx.now.qm ≡ 0 }
-    requires short { length heard.now < 2 ^ 32 }
+    requires whole { part.now.count % tx.now.qm ≡ 0 }
     requires sized { IsSized (cols_of buffer.now.graph * buffer.now.z) store.old peeler.old }
     requires long { length word.now ≡ cols_of buffer.now.graph * buffer.now.z }
     requires untold { IsUntold (cols_of buffer.now.graph * buffer.now.z) told.old }
-    ensures hears { HearsPart buffer.now tx.now heard.now store.old peeler.old store.new peeler.new }
+    requires room { HasRoom part.now.count selected.old }
+    ensures hears { HearsPart buffer.now tx.now (heards_of part.now) store.old peeler.old store.new peeler.new }
     ensures agreed { Tells result (bit word.now) store.old store.new }
     ensures untold { IsUntold (cols_of buffer.now.graph * buffer.now.z) told.new }
+    ensures room { (n : ℕ) → HasRoom n selected.old → HasRoom n selected.new }
 {
-    if heard.len() >= FEW && deposit(buffer, tx, heard, told) {
+    if (part.count as usize) < told.heard.len() / POSITIONS_PER_PLACE {
+        return hear_by_places(buffer, tx, part, store, peeler, word, told);
+    }
+    selected.read(tx.qm, part);
+    if deposit(buffer, tx.rv, selected, told) {
         teach(told, store, peeler, word)
     } else {
-        hear_by_places(buffer, tx, heard, store, peeler, word, told)
+        hear_by_places(buffer, tx, part, store, peeler, word, told)
     }
 }
 
@@ -119,7 +128,7 @@ fn learn_told(told: &mut Told, peeler: &mut Peeler<'_>)
 fn hear_by_places(
     buffer: &Buffer,
     tx: &Tx,
-    heard: &[Heard],
+    part: &Part<'_>,
     store: &mut Store,
     peeler: &mut Peeler<'_>,
     word: &Word,
@@ -127,21 +136,21 @@ fn hear_by_places(
 ) -> bool
     requires version { tx.now.rv < 4 }
     requires order { 0 < tx.now.qm }
-    requires whole { length heard.now % tx.now.qm ≡ 0 }
-    requires short { length heard.now < 2 ^ 32 }
+    requires whole { part.now.count % tx.now.qm ≡ 0 }
     requires sized { IsSized (cols_of buffer.now.graph * buffer.now.z) store.old peeler.old }
     requires long { length word.now ≡ cols_of buffer.now.graph * buffer.now.z }
     requires untold { IsUntold (cols_of buffer.now.graph * buffer.now.z) told.old }
-    ensures hears { HearsPart buffer.now tx.now heard.now store.old peeler.old store.new peeler.new }
+    ensures hears { HearsPart buffer.now tx.now (heards_of part.now) store.old peeler.old store.new peeler.new }
     ensures agreed { Tells result (bit word.now) store.old store.new }
     ensures untold { IsUntold (cols_of buffer.now.graph * buffer.now.z) told.new }
 {
     record_continues();
-    let count = heard.len() as u32;
     let mut agreed = true;
-    for m in 0..count {
-        if let Some(bit) = heard[m as usize].bit() {
-            let pos = buffer.place(tx.rv, seat(tx.qm, count, m));
+    for m in 0..part.count {
+        let at = (part.from + m) as usize;
+        if part.heard.get(at) {
+            let bit = part.value.get(at);
+            let pos = buffer.place(tx.rv, seat(tx.qm, part.count, m));
             if store.heard(pos).is_none() {
                 told.heard.set(pos as usize, true);
                 told.value.set(pos as usize, bit);
@@ -160,39 +169,49 @@ pub(crate) fn hear(
     buffer: &Buffer,
     tx: &Tx,
     lengths: &[u32],
-    heard: &[Heard],
+    heard: &Bits,
+    value: &Bits,
     stores: &mut [Store],
     peelers: &mut [Peeler<'_>],
     words: &[Word],
     told: &mut Told,
+    selected: &mut Selected,
 ) -> bool
     requires version { tx.now.rv < 4 }
     requires shared { IsShared (length stores.old) tx.now.g tx.now.qm lengths.now }
-    requires whole { length heard.now ≡ tx.now.g }
-    requires both { length peelers.old ≡ length stores.old }
+    requires whole { length heard.now.items ≡ tx.now.g }
+    requires both { length value.now.items ≡ length heard.now.items }
+    requires peeled { length peelers.old ≡ length stores.old }
     requires sized { (r : ℕ) (d : Peeling) → r < length stores.old
         → IsSized (cols_of buffer.now.graph * buffer.now.z)
         (heard_of stores.old r) (slice_index_or peelers.old r d) }
     requires words { AreWords (length stores.old)
         (cols_of buffer.now.graph * buffer.now.z) words.now }
     requires untold { IsUntold (cols_of buffer.now.graph * buffer.now.z) told.old }
+    requires room { (r : ℕ) → r < length lengths.now → HasRoom (slice_index lengths.now r) selected.old }
     ensures stores { length stores.new ≡ length stores.old }
     ensures peelers { length peelers.new ≡ length peelers.old }
     ensures parts { (r : ℕ) (d : Peeling) → r < length stores.old
-        → HearsPart buffer.now tx.now (piece lengths.now heard.now r)
+        → HearsPart buffer.now tx.now (piece lengths.now (heards heard.now.items value.now.items) r)
         (heard_of stores.old r) (slice_index_or peelers.old r d)
         (heard_of stores.new r) (slice_index_or peelers.new r d) }
     ensures agreed { AllTell result (length stores.old) words.now stores.old stores.new }
     ensures untold { IsUntold (cols_of buffer.now.graph * buffer.now.z) told.new }
 {
     let mut agreed = true;
-    let mut rest = heard;
+    let mut from = 0;
     for r in 0..lengths.len() {
-        let (part, later) = rest.split_at(lengths[r] as usize);
+        let count = lengths[r];
+        let part = Part {
+            heard,
+            value,
+            from,
+            count,
+        };
         let store = &mut stores[r];
         let peeler = &mut peelers[r];
-        agreed &= hear_part(buffer, tx, part, store, peeler, &words[r], told);
-        rest = later;
+        agreed &= hear_part(buffer, tx, &part, store, peeler, &words[r], told, selected);
+        from += count;
     }
     agreed
 }

@@ -2,6 +2,7 @@
 //! A `Sender` encodes a transport block once and sends its bits for any transmission: `send` answers `sent` of the block
 //! and the transmission (specs/Sent.antt), whatever was sent before. A `Receiver` keeps the record of all that arrived
 //! (specs/Heard.antt), and `take` answers its outcome (specs/Outcome.antt): a delivered block is the only one possible.
+//! `take_marks` is the same of places as two lists of bits (specs/Marks.antt).
 //! Stands on every layer below it, with `arrayvec` for the lengths.
 #![tactic(auto)]
 
@@ -12,10 +13,13 @@ mod heard;
 mod hearing;
 mod laws;
 mod link;
+mod marks;
 mod outcome;
+mod part;
 mod processes;
 mod receiver;
 mod receiver_laws;
+mod selected;
 mod sender;
 mod told;
 

@@ -14,19 +14,19 @@ ghost use Rattle.nr_blockdesk.specs.Link.{IsBlock, IsLink, link_of, link_said, w
 ghost use Rattle.nr_blockdesk.specs.Outcome.{all_fixed, contradiction, delivered, given, left, outcome_of};
 ghost use Rattle.nr_blockdesk.specs.Receiving.{AreWords, IsDecided, RefusesAs, peeling_of, verdict};
 
+mod taking;
+
 use crate::again::{attach_in_room, explains};
 use crate::candidate::{Standing, all_known, candidate, copy_bits};
 use crate::heard::Heard;
-use crate::hearing::{hear, judge_heard};
-use crate::laws::{accepted_are_matched, parts_are_at, words_are_plain};
+use crate::hearing::judge_heard;
+use crate::laws::words_are_plain;
 use crate::link::agree;
+use crate::marks::marks_of;
 use crate::outcome::Outcome;
-use crate::receiver_laws::{
-    delivered_is_only, explained_is_delivered, explained_never_contradicts, explains_by_record,
-};
+use crate::receiver_laws::explains_by_record;
 use crate::told::Told;
 use nr_bitvec::Bits;
-use nr_cbconcat::places_have_one_owner;
 use nr_crcattach::attachment_lengthens;
 use nr_harqbuf::Store;
 use nr_ldpcenc::Word;
@@ -41,8 +41,8 @@ use std::marker::Model;
 /// The receiver of one transport block: it keeps the first bit heard of each position of each code block, and what
 /// follows from them. From where every position below K' is known it keeps the codewords of the one transport block that
 /// may explain all: a bit more for each position. What a transmission tells of a code block is put together in two bits
-/// for each position of one. It keeps its allocator. All memory but that of a delivered transport block is taken by
-/// `new`.
+/// for each position of one. It keeps its allocator. `new` takes all memory but that of a delivered transport block, and
+/// but two bits a place of a transmission's longest code block; `take` asks for two bits a place of all.
 #[derive(Drop)]
 pub struct Receiver<'t> {
     table: &'t Table,
@@ -168,27 +168,9 @@ impl<'t> Receiver<'t> {
             → Explains self.old.link (list ++ reception tx.now heard.now ∷ []) y
             → verdict answer ≢ contradiction) }
     {
-        let lengths = judge_heard(&self.plan, tx, heard)?;
-        let list = Bits::zeros(self.alloc, self.a)?;
-        accepted_are_matched();
-        parts_are_at();
-        places_have_one_owner();
-        explains_by_record();
-        explained_is_delivered();
-        delivered_is_only();
-        explained_never_contradicts();
-        let agreed = hear(
-            &self.buffer,
-            tx,
-            &lengths,
-            heard,
-            &mut self.stores,
-            &mut self.peelers,
-            &self.words,
-            &mut self.told,
-        );
-        self.standing = self.standing.after(agreed);
-        Ok(self.answer(list))
+        judge_heard(&self.plan, tx, heard.len())?;
+        let (marks, bits) = marks_of(self.alloc, heard)?;
+        self.take_marks(tx, &marks, &bits)
     }
 
     /// How many positions below K' of code block `r`, counted from 0 and below C, aren't fixed.

@@ -202,7 +202,7 @@ pub(crate) fn judge(plan: &Plan, tx: &Tx) -> Result<ArrayVec<u32, 344>, DeskFaul
 }
 
 // The longest of some lengths.
-fn longest(lengths: &[u32]) -> u32
+pub(crate) fn longest(lengths: &[u32]) -> u32
     ensures all { (r : ℕ) → r < length lengths.now → slice_index lengths.now r ≤ result }
     ensures together { result ≤ sum lengths.now }
 {

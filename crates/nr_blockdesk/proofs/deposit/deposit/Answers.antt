@@ -1,40 +1,42 @@
-use Rattle.std.proofs.Common.{◌≡◌, ◌*◌, ◌||◌, ◌&&◌, false, refl, sym, ap, ◌∙◌, arith}
+use Rattle.std.proofs.Common.{◌≡◌, ◌*◌, ◌||◌, ◌&&◌, false, refl, ap, ◌∙◌, length, arith}
 use Rattle.std.specs.Bool.{beq}
 use Rattle.std.specs.List.{list_any, range_with_len}
 use Rattle.nr_bitvec.specs.Bit.{bit}
 use Rattle.nr_graphpick.specs.Graph.{cols_of}
 use Rattle.nr_harqbuf.specs.Masks.{says}
-use Rattle.nr_blockdesk.specs.Telling.{row_tells}
+use Rattle.nr_blockdesk.specs.Marks.{bit_says}
 use Rattle.nr_blockdesk.proofs.Merging.{untold-bit}
-use Rattle.nr_blockdesk.proofs.Telling.{none-more, row-more, rows-are-places}
+use Rattle.nr_blockdesk.proofs.Telling.{none-more, run-more}
 use Rattle.nr_blockdesk.proofs.deposit.deposit.Goals as goal
 
-pub loop-r-init : goal.loop-r-init
-loop-r-init c = record {
+pub loop-k-init : goal.loop-k-init
+loop-k-init c = record {
   told = λ _ p v. none-more (says c.args.told.now.heard.items c.args.told.now.value.items p v);
+  below = omega arith;
   marks = refl;
   bits = refl;
 }
 
-pub loop-r-preserved : goal.loop-r-preserved
-loop-r-preserved c = record {
-  told = row-more c.args.buffer.now c.args.tx.now c.args.places.now c.loop-r.r
+pub loop-k-preserved : goal.loop-k-preserved
+loop-k-preserved c = record {
+  told = run-more c.args.buffer.now c.args.rv c.args.selected.now.heard.items c.args.selected.now.value.items c.loop-k.k c.run-position.result.0 c.run-position.result.1
+      c.window-now.result c.window-bits.result (omega (arith, c.run-position.ensures.most, c.min.ensures)) c.run-position.ensures.places c.window-now.ensures c.window-bits.ensures
       (says c.args.told.now.heard.items c.args.told.now.value.items)
-      (says c.loop-r.told.heard.items c.loop-r.told.value.items)
-      (says c.deposit_row-one_bit.new.told.heard.items c.deposit_row-one_bit.new.told.value.items)
-      c.loop-r.one_bit c.deposit_row-one_bit.result c.loop-r.invariant.told c.deposit_row-one_bit.ensures.told;
-  marks = c.deposit_row-one_bit.ensures.marks ∙ c.loop-r.invariant.marks;
-  bits = c.deposit_row-one_bit.ensures.bits ∙ c.loop-r.invariant.bits;
+      (says c.loop-k.told.heard.items c.loop-k.told.value.items)
+      (says c.merge_word-one_bit.new.heard.items c.merge_word-one_bit.new.value.items)
+      c.loop-k.one_bit c.merge_word-one_bit.result c.loop-k.invariant.told c.merge_word-one_bit.ensures.says;
+  below = omega (arith, c.run-position.ensures.most, c.min.ensures, c.loop-k-test.true);
+  marks = c.merge_word-one_bit.ensures.heard ∙ c.loop-k.invariant.marks;
+  bits = c.merge_word-one_bit.ensures.value ∙ c.loop-k.invariant.bits;
 }
 
 pub returns-then-one_bit-clause-told : goal.returns-then-one_bit-clause-told
 returns-then-one_bit-clause-told c = λ _ p v.
     let b = c.args.buffer.now in
-    let tx = c.args.tx.now in
-    let places = c.args.places.now in
-    let all : c.loop-r.r ≡ tx.qm = omega (arith, c.loop-r-test.false, c.loop-r.auto.r-end) in
+    let marks = c.args.selected.now.heard.items in
+    let bits = c.args.selected.now.value.items in
+    let all : c.loop-k.k ≡ length c.args.selected.now.heard.items = omega (arith, c.loop-k-test.false, c.loop-k.invariant.below, c.len-count.ensures.value) in
     let none : bit c.args.told.now.heard.items p ≡ false = untold-bit c.args.told.now.heard.items (cols_of b.graph * b.z) p c.requires.untold.marks in
-    sym (c.loop-r.invariant.told c.if-one_bit.true p v
-    ∙ ap (λ t. t && beq (bit c.args.told.now.value.items p) v || list_any (row_tells b tx places p v) (range_with_len 0 c.loop-r.r)) none
-    ∙ ap (λ n. list_any (row_tells b tx places p v) (range_with_len 0 n)) all
-    ∙ rows-are-places b tx places p v c.requires.order c.requires.whole)
+    c.loop-k.invariant.told c.if-one_bit.true p v
+    ∙ ap (λ t. t && beq (bit c.args.told.now.value.items p) v || list_any (bit_says b c.args.rv marks bits p v) (range_with_len 0 c.loop-k.k)) none
+    ∙ ap (λ n. list_any (bit_says b c.args.rv marks bits p v) (range_with_len 0 n)) all

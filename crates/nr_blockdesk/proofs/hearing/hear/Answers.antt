@@ -1,8 +1,11 @@
-use Rattle.std.proofs.Common.{◌<◌, [], false, length, take, get_or, refl, sym, ap, ◌∙◌, arith}
-use Rattle.std.specs.Prelude.{slice_index}
+use Rattle.std.proofs.Common.{◌≡◌, ℕ, ◌+◌, ◌<◌, ◌≤◌, [], false, length, take, get_or, refl, sym, ap, ◌∙◌, arith}
+use Rattle.std.specs.Prelude.{sum, slice_index}
 use Rattle.std.proofs.lemmas.List.{get_or_read, length-set}
+use Rattle.std.proofs.lemmas.List.Sums.{sum_by_more, sum_by_more_le}
+use Rattle.nr_blockdesk.specs.Marks.{heards, heards_from}
 use Rattle.nr_blockdesk.specs.Receiving.{HearsPart, piece}
-use Rattle.nr_blockdesk.proofs.Hears.{all-tell-more, done-more, hears-same, later-kept, peelers-kept, rest-more}
+use Rattle.nr_blockdesk.proofs.Hears.{all-tell-more, done-more, hears-same, later-kept, peelers-kept}
+use Rattle.nr_blockdesk.proofs.Marked.{piece-heards}
 use Rattle.nr_blockdesk.proofs.hearing.hear.Goals as goal
 
 pub loop-r-preserved : goal.loop-r-preserved
@@ -14,7 +17,13 @@ loop-r-preserved c =
     let peeled : r < length c.loop-r.peelers = omega (arith, inv.peelers, c.requires.shared.counted, c.loop-r-test.true) in
     let S = c.loop-r.stores in
     let P = c.loop-r.peelers in
-    let part = c.split_at.result.0.now in
+    let H = c.args.heard.now.items in
+    let V = c.args.value.now.items in
+    let count = slice_index lengths r in
+    let part = heards_from H V c.loop-r.from count in
+    let together : sum lengths ≡ length H = c.requires.shared.together ∙ sym c.requires.whole in
+    let part-is : heards_from H V c.loop-r.from (slice_index lengths r) ≡ piece lengths (heards H V) r =
+    ap (λ n. heards_from H V n (slice_index lengths r)) inv.from ∙ piece-heards H V lengths r together c.loop-r-test.true in
     let s = c.index-stores-r.result in
     let p = c.index-peelers-r.result in
     let hears : HearsPart c.args.buffer.now c.args.tx.now part s p c.hear_part-agreed.new.store c.hear_part-agreed.new.peeler =
@@ -22,17 +31,37 @@ loop-r-preserved c =
     refl (sym c.index-stores-r.is) (sym c.index-peelers-r.is) refl refl c.hear_part-agreed.ensures.hears in
     let worded : r < length c.args.words.now = omega (arith, c.requires.words.many, c.requires.shared.counted, c.loop-r-test.true) in
     record {
-      rest = rest-more lengths c.args.heard.now c.loop-r.rest.now c.split_at.result.1.now r c.loop-r-test.true inv.rest c.split_at.ensures.back;
+      from =
+          let more : sum (take (r + 1) lengths) ≡ sum (take r lengths) + slice_index lengths r = sum_by_more (λ (x : ℕ). x) lengths r 0 c.loop-r-test.true in
+          omega (arith, more, inv.from);
       stores = length-set c.loop-r.stores r c.hear_part-agreed.new.store ∙ inv.stores;
       peelers = length-set c.loop-r.peelers r c.hear_part-agreed.new.peeler ∙ inv.peelers;
-      done = done-more c.args.buffer.now c.args.tx.now (piece lengths c.args.heard.now) c.args.stores.now c.loop-r.stores c.args.peelers.now c.loop-r.peelers r
-          c.split_at.result.0.now c.index-stores-r.result c.hear_part-agreed.new.store c.index-peelers-r.result c.hear_part-agreed.new.peeler stored peeled
-          (c.split_at.ensures.front ∙ ap (take (slice_index lengths r)) inv.rest) c.index-stores-r.is c.index-peelers-r.is hears inv.done inv.later inv.later_peelers;
+      done = done-more c.args.buffer.now c.args.tx.now (piece lengths (heards H V)) c.args.stores.now c.loop-r.stores c.args.peelers.now c.loop-r.peelers r
+          part c.index-stores-r.result c.hear_part-agreed.new.store c.index-peelers-r.result c.hear_part-agreed.new.peeler stored peeled
+          part-is c.index-stores-r.is c.index-peelers-r.is hears inv.done inv.later inv.later_peelers;
       later = later-kept c.args.stores.now c.loop-r.stores r c.hear_part-agreed.new.store inv.later;
       later_peelers = peelers-kept c.args.peelers.now c.loop-r.peelers r c.hear_part-agreed.new.peeler inv.later_peelers;
       untold = c.hear_part-agreed.ensures.untold;
+      room = λ n has. c.hear_part-agreed.ensures.room n (inv.room n has);
       agreed = all-tell-more c.loop-r.agreed c.hear_part-agreed.result c.args.words.now c.index-words-r.result c.args.stores.now S r (get_or S r s) c.hear_part-agreed.new.store stored
           (get_or_read c.args.words.now r c.index-words-r.result worded c.index-words-r.is [])
           (sym c.index-stores-r.is ∙ get_or_read S r s stored c.index-stores-r.is (record { first = []; clash = false }) ∙ inv.later r (omega arith))
           c.hear_part-agreed.ensures.agreed inv.agreed;
     }
+
+pub invariant_of-part : goal.invariant_of-part
+invariant_of-part c =
+    let r = c.loop-r.r in
+    let lengths = c.args.lengths.now in
+    let most : sum (take r lengths) + slice_index lengths r ≤ sum lengths = sum_by_more_le (λ (x : ℕ). x) lengths r 0 c.loop-r-test.true in
+    let ends : c.loop-r.from + slice_index lengths r ≤ length c.args.heard.now.items =
+    omega (arith, most, c.loop-r.invariant.from, c.requires.shared.together, c.requires.whole) in
+    record {
+      both = c.requires.both;
+      inside = ends;
+      short = omega (arith, ends, c.requires.shared.few, c.requires.whole);
+    }
+
+pub hear_part-agreed-requires-clause-room : goal.hear_part-agreed-requires-clause-room
+hear_part-agreed-requires-clause-room c =
+    c.loop-r.invariant.room (slice_index c.args.lengths.now c.loop-r.r) (c.requires.room c.loop-r.r c.loop-r-test.true)

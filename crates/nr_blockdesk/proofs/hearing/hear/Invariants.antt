@@ -1,21 +1,23 @@
 -- The code blocks so far have heard their parts, and the others nothing yet.
-use Rattle.std.proofs.Common.{◌≡◌, ℕ, ◌*◌, ◌<◌, ◌≤◌, length, take, drop, sum, slice_index_or}
+use Rattle.std.proofs.Common.{◌≡◌, ℕ, ◌*◌, ◌<◌, ◌≤◌, length, take, sum, slice_index_or}
 use Rattle.nr_graphpick.specs.Graph.{cols_of}
 use Rattle.nr_peel.specs.Peeling.{Peeling}
 use Rattle.nr_blockdesk.specs.Heard.{heard_of}
+use Rattle.nr_blockdesk.specs.Marks.{HasRoom, heards}
 use Rattle.nr_blockdesk.specs.Receiving.{AllTell, HearsPart, piece}
 use Rattle.nr_blockdesk.specs.Telling.{IsUntold}
 use Rattle.nr_blockdesk.proofs.hearing.hear.Given as goal
 
 abbrev pub invariant-loop-r : goal.invariant-loop-r
 invariant-loop-r l = record {
-  rest : l.rest ≡ drop (sum (take l.r l.lengths)) l.heard;
+  from : l.from ≡ sum (take l.r l.lengths);
   stores : length l.stores ≡ length l.fn.stores;
   peelers : length l.peelers ≡ length l.fn.stores;
-  done : (q : ℕ) (d : Peeling) → q < l.r → HearsPart l.buffer l.tx (piece l.lengths l.heard q)
+  done : (q : ℕ) (d : Peeling) → q < l.r → HearsPart l.buffer l.tx (piece l.lengths (heards l.heard.items l.value.items) q)
       (heard_of l.fn.stores q) (slice_index_or l.fn.peelers q d) (heard_of l.stores q) (slice_index_or l.peelers q d);
   later : (q : ℕ) → l.r ≤ q → heard_of l.stores q ≡ heard_of l.fn.stores q;
   later_peelers : (q : ℕ) (d : Peeling) → l.r ≤ q → slice_index_or l.peelers q d ≡ slice_index_or l.fn.peelers q d;
   untold : IsUntold (cols_of l.buffer.graph * l.buffer.z) l.told;
+  room : (n : ℕ) → HasRoom n l.fn.selected → HasRoom n l.selected;
   agreed : AllTell l.agreed l.r l.words l.fn.stores l.stores;
 }

@@ -3,13 +3,14 @@ use Rattle.std.proofs.Common.{◌≡◌, ℕ, ◌*◌, Bool, List, ◌++◌, len
 use Rattle.nr_bitvec.specs.Bit.{bit}
 use Rattle.nr_graphpick.specs.Graph.{cols_of}
 use Rattle.nr_harqbuf.specs.Record.{Hearing, record_of}
+use Rattle.nr_blockdesk.specs.Marks.{heards_of}
 use Rattle.nr_blockdesk.specs.Receiving.{Fits, IsNews, Tells, part_hearings}
 use Rattle.nr_blockdesk.proofs.hearing.hear_by_places.Given as goal
 
 abbrev pub invariant-loop-m : goal.invariant-loop-m
 invariant-loop-m l = record {
   recorded : (hs : List Hearing) → l.fn.store ≡ record_of (length l.fn.store.first) hs
-      → l.store ≡ record_of (length l.fn.store.first) (hs ++ part_hearings l.buffer l.tx l.heard l.m);
+      → l.store ≡ record_of (length l.fn.store.first) (hs ++ part_hearings l.buffer l.tx (heards_of l.part) l.m);
   news : IsNews l.fn.store l.store l.told.heard.items l.told.value.items;
   marks : length l.told.heard.items ≡ cols_of l.buffer.graph * l.buffer.z;
   bits : length l.told.value.items ≡ cols_of l.buffer.graph * l.buffer.z;

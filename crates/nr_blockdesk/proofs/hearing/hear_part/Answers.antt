@@ -1,6 +1,15 @@
-use Rattle.std.proofs.Common.{length}
+use Rattle.std.proofs.Common.{length, sym, ◌∙◌}
+use Rattle.nr_blockdesk.specs.Marks.{heards_of}
 use Rattle.nr_blockdesk.specs.Receiving.{part_hearings}
+use Rattle.nr_blockdesk.proofs.Telling.{says-part}
 use Rattle.nr_blockdesk.proofs.hearing.hear_part.Goals as goal
 
 pub returns-then-deposit-clause-hears : goal.returns-then-deposit-clause-hears
-returns-then-deposit-clause-hears c = c.teach.ensures.hears (part_hearings c.args.buffer.now c.args.tx.now c.args.heard.now (length c.args.heard.now)) (c.deposit.ensures.told c.if-deposit.true)
+returns-then-deposit-clause-hears c =
+    let part = c.args.part.now in
+    let b = c.args.buffer.now in
+    let tx = c.args.tx.now in
+    c.teach.ensures.hears (part_hearings b tx (heards_of part) (length (heards_of part)))
+    (λ p v. sym (c.deposit.ensures.told c.if-deposit.true p v
+    ∙ says-part b tx part.heard.now.items part.value.now.items c.read.new.self.heard.items c.read.new.self.value.items part.from part.count c.requires.order c.requires.whole
+    part.inside part.both c.read.ensures.marks c.read.ensures.bits p v))

@@ -1,6 +1,6 @@
 -- The places so far stand in the words, and no marks behind them.
 use Rattle.nr_blockdesk.proofs.Gathered.{IsGathered}
-use Rattle.nr_blockdesk.proofs.deposit.gather.Given as goal
+use Rattle.nr_blockdesk.proofs.marks.gather.Given as goal
 
 abbrev pub invariant-loop-j : goal.invariant-loop-j
-invariant-loop-j l = IsGathered l.places l.from l.step l.now l.bits l.j
+invariant-loop-j l = IsGathered l.places l.from l.marks l.bits l.j

@@ -1,0 +1,40 @@
+use Rattle.std.proofs.Common.{◌≡◌, ◌+◌, ◌*◌, ◌++◌, min, length, ap, ◌∙◌, arith, length-append}
+use Rattle.nr_bitvec.proofs.Lists.{length-low_first}
+use Rattle.nr_bitvec.specs.Bit.{bit}
+use Rattle.nr_bitvec.specs.BitList.{low_first}
+use Rattle.nr_blockdesk.specs.Marks.{marked}
+use Rattle.nr_blockdesk.proofs.Marked.{heards-are, heards-more}
+use Rattle.nr_blockdesk.proofs.marks.marks_of.Goals as goal
+
+pub loop-i-preserved : goal.loop-i-preserved
+loop-i-preserved c =
+    let inv = c.loop-i.invariant in
+    let places = c.args.places.now in
+    let marks = c.loop-i.heard.items in
+    let bits = c.loop-i.value.items in
+    let wide = c.min-wide.result in
+    let now = c.gather-marks.result.0 in
+    let word = c.gather-marks.result.1 in
+    let start : min (64 * c.loop-i.i) (length c.args.places.now) ≡ 64 * c.loop-i.i = omega (arith, c.loop-i-test.true, c.div_ceil-i-end.ensures) in
+    let next : min (64 * (c.loop-i.i + 1)) (length c.args.places.now) ≡ 64 * c.loop-i.i + c.min-wide.result = omega (arith, c.min-wide.ensures, c.loop-i-test.true, c.div_ceil-i-end.ensures) in
+    let one : length c.push_word.new.self.items ≡ length c.loop-i.heard.items + c.min-wide.result =
+    ap length c.push_word.ensures.items ∙ length-append marks (low_first wide now) ∙ ap (λ n. length marks + n) (length-low_first wide now) in
+    let two : length c.push_word-in-loop-i.new.self.items ≡ length c.loop-i.value.items + c.min-wide.result =
+    ap length c.push_word-in-loop-i.ensures.items ∙ length-append bits (low_first wide word) ∙ ap (λ n. length bits + n) (length-low_first wide word) in
+    record {
+      marks = omega (arith, one, next, start, inv.marks);
+      bits = omega (arith, two, next, start, inv.bits);
+      marks_room = omega (arith, one, c.push_word.ensures.room, inv.marks_room);
+      bits_room = omega (arith, two, c.push_word-in-loop-i.ensures.room, inv.bits_room);
+      told = λ m below.
+          ap (λ l. marked (bit l m) (bit c.push_word-in-loop-i.new.self.items m)) c.push_word.ensures.items
+          ∙ ap (λ l. marked (bit (marks ++ low_first wide now) m) (bit l m)) c.push_word-in-loop-i.ensures.items
+          ∙ heards-more places marks bits (64 * c.loop-i.i) wide now word (inv.marks ∙ start) (inv.bits ∙ start)
+          (λ k low. inv.told k (omega (arith, low, start))) c.gather-marks.ensures m (omega (arith, below, next));
+    }
+
+pub returns-clause-same : goal.returns-clause-same
+returns-clause-same c =
+    let inv = c.loop-i.invariant in
+    let all : min (64 * c.loop-i.i) (length c.args.places.now) ≡ length c.args.places.now = omega (arith, c.loop-i-test.false, c.div_ceil-i-end.ensures) in
+    heards-are c.loop-i.heard.items c.loop-i.value.items c.args.places.now (inv.marks ∙ all) (λ m below. inv.told m (omega (arith, below, all)))

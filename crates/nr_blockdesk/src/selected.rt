@@ -1,0 +1,45 @@
+//! What was heard of a code block, in the order in which its bits were selected.
+
+ghost use Rattle.std.specs.Prelude.{◌≡◌, ℕ, ◌%◌, ◌^◌, ◌≤◌, ◌<◌, length, take, drop, IfOk};
+ghost use Rattle.nr_interleave.specs.Interleaving.{interleaved};
+ghost use Rattle.nr_blockdesk.specs.Marks.{HasRoom};
+
+use crate::part::Part;
+use nr_bitvec::Bits;
+use nr_interleave::unspread_into;
+use std::alloc::{AllocError, Global};
+
+/// Marks of the selected bits that were heard, and their bits.
+#[derive(Drop)]
+pub(crate) struct Selected {
+    pub(crate) heard: Bits,
+    pub(crate) value: Bits,
+}
+
+impl Selected {
+    // Lists that have room for `most` bits.
+    pub(crate) fn new(alloc: Global, most: u32) -> Result<Selected, AllocError>
+        requires { most ≤ 2 ^ 24 }
+        ensures { IfOk result (HasRoom most) }
+    {
+        let heard = Bits::with_room(alloc, most)?;
+        let value = Bits::with_room(alloc, most)?;
+        Ok(Selected { heard, value })
+    }
+
+    // Takes up a code block's part.
+    pub(crate) fn read(&mut self, qm: u32, part: &Part<'_>)
+        requires order { 0 < qm }
+        requires whole { part.now.count % qm ≡ 0 }
+        requires room { HasRoom part.now.count self.old }
+        ensures marks { interleaved qm self.new.heard.items
+            ≡ take part.now.count (drop part.now.from part.now.heard.now.items) }
+        ensures bits { interleaved qm self.new.value.items
+            ≡ take part.now.count (drop part.now.from part.now.value.now.items) }
+        ensures room { (n : ℕ) → HasRoom n self.old → HasRoom n self.new }
+    {
+        let (from, count) = (part.from as usize, part.count as usize);
+        unspread_into(qm, part.heard, from, count, &mut self.heard);
+        unspread_into(qm, part.value, from, count, &mut self.value);
+    }
+}
