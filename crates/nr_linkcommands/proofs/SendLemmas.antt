@@ -1,13 +1,11 @@
 -- The text of `send`, line by line.
-use Rattle.std.proofs.Common.{◌≡◌, ℕ, ◌+◌, ◌-◌, ◌<◌, Bool, Some, Result, Ok, Err, List, ◌∷◌, ◌++◌, length, take, drop, flat_map, slice_get, get_or, codes, ap, sym, ◌∙◌, arith, append_assoc}
+use Rattle.std.proofs.Common.{◌≡◌, ℕ, ◌+◌, ◌-◌, ◌<◌, Bool, Some, Result, Ok, Err, List, ◌∷◌, ◌++◌, length, take, drop, flat_map, slice_get, get_or, codes, ap, sym, ◌∙◌, append_assoc}
 use Rattle.std.proofs.lemmas.List.{take-append-drop, drop_more}
 use Rattle.std.proofs.lemmas.Grind.{flat_map-append}
-use Rattle.std.proofs.lemmas.Option.{slice_get-get_or}
 use Rattle.std.specs.Fmt.{decimal}
 use Rattle.nr_commands.specs.Hex.{hex}
 use Rattle.nr_linkcommands.specs.SendLines.{answer_line, refusal_name, refused_line, sent_line}
 use Rattle.nr_linkcommands.specs.SendText.{line_by, transmission_line}
-use Rattle.nr_files.specs.Schedule.{HasBlock}
 use Rattle.nr_blockdesk.specs.Sent.{Sending, sent_said}
 use Rattle.nr_transmission.specs.declared.fault.DeskFault.{DeskFault}
 use Rattle.nr_files.specs.declared.schedule.Transmission.{Transmission}
@@ -23,12 +21,9 @@ lines-parts line xs i x none within is =
     ∙ sym (append_assoc (flat_map line (take i xs)) (line x) (flat_map line (drop (i + 1) xs)))
 
 -- the line of a transmission by the sender of its block
-pub transmission_line-by : (senders : List Sending) (x : Transmission) (sender : Sending) → HasBlock (length senders) x → sender ≡ get_or senders (x.block - 1) sender → transmission_line senders x ≡ answer_line x.number x.block (sent_said sender.link x.tx sender.block)
+pub transmission_line-at : (senders : List Sending) (x : Transmission) (sender : Sending) → slice_get senders (x.block - 1) ≡ Some sender → transmission_line senders x ≡ answer_line x.number x.block (sent_said sender.link x.tx sender.block)
 unfolding transmission_line
-transmission_line-by senders x sender named is =
-    let within : x.block - 1 < length senders = omega (arith, named.0, named.1) in
-    let at : slice_get senders (x.block - 1) ≡ Some sender = slice_get-get_or senders (x.block - 1) sender within ∙ ap Some (sym is) in
-    ap (λ o. line_by o x) at
+transmission_line-at senders x sender is = ap (λ o. line_by o x) is
 
 -- a line is not empty
 sent_line-some : (t n : ℕ) (bits : List Bool) → 0 < length (sent_line t n bits)

@@ -1,13 +1,11 @@
 -- What the receiving ends of a run keep.
-use Rattle.std.specs.Prelude.{◌≡◌, ℕ, ◌+◌, ◌*◌, ◌<◌, ◌≤◌, ◌==◌, Bool, true, false, not, if◌then◌else◌, List, [], ◌∷◌, Option, Some, None, Ok, length, take, slice_index_or}
-use Rattle.nr_shifttable.specs.Accepted.{Entries}
+use Rattle.std.specs.Prelude.{◌≡◌, ℕ, ◌+◌, ◌*◌, ◌<◌, ◌≤◌, ◌==◌, Bool, true, false, not, if◌then◌else◌, List, [], ◌∷◌, Option, Some, None, length, take, slice_index_or}
 use Rattle.nr_blockdesk.specs.Explains.{Reception}
 use Rattle.nr_blockdesk.specs.Heard.{IsRecordOf, heard_record}
-use Rattle.nr_blockdesk.specs.Link.{IsLink, Link, link_said}
+use Rattle.nr_blockdesk.specs.Link.{Link}
 use Rattle.nr_blockdesk.specs.Outcome.{outcome_of}
 use Rattle.nr_blockdesk.specs.Receiving.{verdict}
 use Rattle.nr_blockdesk.specs.Sent.{Sending}
-use Rattle.nr_transmission.specs.declared.settings.Settings.{Settings}
 use Rattle.nr_linkcommands.specs.RoundTexts.{sender_of}
 use Rattle.nr_files.specs.Rounds.{round_of}
 use Rattle.nr_linkcommands.specs.RunLines.{unfixed_blocks}
@@ -17,11 +15,6 @@ use Rattle.nr_linkcommands.specs.declared.received.Kept.{Kept}
 use Rattle.nr_linkcommands.specs.declared.received.Place.{Place}
 use Rattle.nr_linkcommands.specs.declared.received.Totals.{Totals}
 use Rattle.nr_files.specs.declared.schedule.Transmission.{Transmission}
-
--- a sender's link is what both ends agree on, and sound
-pub record IsLinked (table : Entries) (settings : Settings) (link : Link) : Type 0 where
-  pub said : link_said table settings link.a ≡ Ok link
-  pub is_link : IsLink link
 
 -- an end has received this list: its receiver keeps the record, with the outcome and the number of receptions
 pub record IsEnd (link : Link) (list : List Reception) (end : End) : Type 0 where

@@ -1,9 +1,11 @@
 pub mod AuditLines
 pub mod AuditText
 pub mod Ends
+pub mod Exchanges
 pub mod FourFiles
 pub mod Hearing
 pub mod Inputs
+pub mod Linked
 pub mod RoundCalls
 pub mod RoundTexts
 pub mod RunLines

@@ -6,16 +6,15 @@ ghost use Rattle.nr_linkcommands.specs.AuditText.{audit_lines, audit_of, audit_s
 ghost use Rattle.nr_linkcommands.specs.RoundTexts.{pieces_joined, round_lines, written};
 ghost use Rattle.nr_commands.specs.Command.{Writes};
 ghost use Rattle.nr_files.specs.Reading.{FailsAs};
-ghost use Rattle.nr_linkcommands.specs.Ends.{IsLinked};
-ghost use Rattle.nr_files.specs.Schedule.{HasBlock, IsTimetable, timetable_by};
+ghost use Rattle.nr_files.specs.Schedule.{HasBlock};
 ghost use Rattle.nr_files.specs.Rounds.{IsOfBlock, round_of};
 ghost use Rattle.nr_linkcommands.specs.AuditLines.{audit_block};
 
 use crate::audit_lines::code_line;
-use crate::inputs::Inputs;
 use crate::over_files::{Text, over_files};
 use crate::replaying::end_of;
 use crate::run_lines::process_words;
+use crate::ready::Ready;
 use crate::walking::{Walk, end_all, follow};
 use nr_blockdesk::{Receiver, Sender};
 use nr_commands::{RunFault, Sink, put_line};
@@ -68,16 +67,11 @@ struct AuditCommand;
 impl Text for AuditCommand {
     ghost text = { text_of_audit };
 
-    fn write<O: Sink>(
-        alloc: Global,
-        inputs: &Inputs,
-        senders: &[Sender],
-        out: &mut O,
-    ) -> Result<(), RunFault> {
-        if inputs.schedule.by_process {
-            audit_rounds(alloc, inputs, senders, out)
+    fn write<O: Sink>(ready: &Ready, out: &mut O) -> Result<(), RunFault> {
+        if ready.inputs.schedule.by_process {
+            audit_rounds(ready, out)
         } else {
-            audit_blocks(alloc, inputs, senders, out)
+            audit_blocks(ready, out)
         }
     }
 }
@@ -95,21 +89,17 @@ impl<'t> Walk<'t> for AuditRounds {
 
     fn end_round<O: Sink>(
         &mut self,
-        alloc: Global,
-        inputs: &'t Inputs,
-        senders: &[Sender],
+        ready: &Ready<'t>,
         process: u32,
         before: &[Transmission],
         out: &mut O,
     ) -> Result<(), RunFault> {
-        write_round(alloc, inputs, senders, process, before, out)
+        write_round(ready, process, before, out)
     }
 
     fn make<O: Sink>(
         &mut self,
-        _: Global,
-        _: &'t Inputs,
-        senders: &[Sender],
+        ready: &Ready<'t>,
         transmission: &Transmission,
         _: &[Transmission],
         _: &mut O,
@@ -120,97 +110,77 @@ impl<'t> Walk<'t> for AuditRounds {
 
 // Writes the lines of each round of a HARQ process: first of those that a transmission ends, in their order, and then
 // of the others, by process.
-fn audit_rounds<O: Sink>(
-    alloc: Global,
-    inputs: &Inputs,
-    senders: &[Sender],
-    out: &mut O,
-) -> Result<(), RunFault>
+fn audit_rounds<O: Sink>(ready: &Ready, out: &mut O) -> Result<(), RunFault>
     requires puts { O.failures out.old < 2 ^ 32 }
-    requires linked { All (λ sender. IsLinked inputs.now.table inputs.now.settings sender.link)
-        senders.now }
-    requires timetable { IsTimetable (length senders.now) (timetable_by inputs.now.schedule) }
-    requires by_process { inputs.now.schedule.by_process ≡ true }
+    requires by_process { ready.now.inputs.now.schedule.by_process ≡ true }
     ensures text { Writes (O.written out.old) (O.written out.new) result
-        (pieces_joined (written audit_words senders.now inputs.now.schedule.transmissions.items)) }
+        (pieces_joined (written audit_words ready.now.senders.items ready.now.inputs.now.schedule.transmissions.items)) }
     ensures put { FailsAs RunFault.Write result (O.failures out.old) (O.failures out.new) }
 {
     let mut rounds = AuditRounds;
-    follow(alloc, inputs, senders, &mut rounds, out)?;
-    end_all(alloc, inputs, senders, &mut rounds, out)
+    follow(ready, &mut rounds, out)?;
+    end_all(ready, &mut rounds, out)
 }
 
 // Writes the lines of the round that a process is in after these transmissions, if it is in one.
 fn write_round<O: Sink>(
-    alloc: Global,
-    inputs: &Inputs,
-    senders: &[Sender],
+    ready: &Ready,
     process: u32,
     before: &[Transmission],
     out: &mut O,
 ) -> Result<(), RunFault>
     requires puts { O.failures out.old < 2 ^ 32 }
-    requires linked { All (λ sender. IsLinked inputs.now.table inputs.now.settings sender.link)
-        senders.now }
-    requires named { All (HasBlock (length senders.now)) before.now }
+    requires named { All (HasBlock (length ready.now.senders.items)) before.now }
     ensures text { Writes (O.written out.old) (O.written out.new) result
-        (round_lines audit_words senders.now process (round_of process before.now)) }
+        (round_lines audit_words ready.now.senders.items process (round_of process before.now)) }
     ensures put { FailsAs RunFault.Write result (O.failures out.old) (O.failures out.new) }
 {
     plans_are_sound();
     match round_block(process, before) {
         None => Ok(()),
         Some(number) => {
-            let sender = &senders[number as usize - 1];
+            let sender = ready.sender(number);
+            sender.is_sound();
             let round = &before[round_start(process, before)..];
-            let end = end_of(alloc, inputs, sender, process, round)?;
-            let head = process_words(alloc, process)?;
-            write_codes(alloc, &head, number, &end.receiver, out)
+            let end = end_of(ready.alloc, sender, process, round)?;
+            let head = process_words(ready.alloc, process)?;
+            write_codes(ready.alloc, &head, number, &end.receiver, out)
         }
     }
 }
 
 // Writes the lines of each transport block.
-fn audit_blocks<O: Sink>(
-    alloc: Global,
-    inputs: &Inputs,
-    senders: &[Sender],
-    out: &mut O,
-) -> Result<(), RunFault>
+fn audit_blocks<O: Sink>(ready: &Ready, out: &mut O) -> Result<(), RunFault>
     requires puts { O.failures out.old < 2 ^ 32 }
-    requires few { length senders.now ≤ 256 }
-    requires linked { All (λ sender. IsLinked inputs.now.table inputs.now.settings sender.link)
-        senders.now }
-    requires placed { All IsOfBlock inputs.now.schedule.transmissions.items }
+    requires placed { All IsOfBlock ready.now.inputs.now.schedule.transmissions.items }
     ensures text { Writes (O.written out.old) (O.written out.new) result
-        (audit_lines inputs.now.schedule.transmissions.items 1 senders.now) }
+        (audit_lines ready.now.inputs.now.schedule.transmissions.items 1 ready.now.senders.items) }
     ensures put { FailsAs RunFault.Write result (O.failures out.old) (O.failures out.new) }
 {
-    for (index, sender) in senders.iter().enumerate() {
-        write_block(alloc, inputs, index as u32 + 1, sender, out)?;
+    for (index, sender) in ready.senders.iter().enumerate() {
+        write_block(ready, index as u32 + 1, sender, out)?;
     }
     Ok(())
 }
 
 // Writes the lines of block `number`, by its sender.
 fn write_block<O: Sink>(
-    alloc: Global,
-    inputs: &Inputs,
+    ready: &Ready,
     number: u32,
     sender: &Sender,
     out: &mut O,
 ) -> Result<(), RunFault>
     requires puts { O.failures out.old < 2 ^ 32 }
-    requires linked { IsLinked inputs.now.table inputs.now.settings sender.now.link }
-    requires placed { All IsOfBlock inputs.now.schedule.transmissions.items }
+    requires placed { All IsOfBlock ready.now.inputs.now.schedule.transmissions.items }
     ensures text { Writes (O.written out.old) (O.written out.new) result
-        (audit_of inputs.now.schedule.transmissions.items number sender.now) }
+        (audit_of ready.now.inputs.now.schedule.transmissions.items number sender.now) }
     ensures put { FailsAs RunFault.Write result (O.failures out.old) (O.failures out.new) }
 {
     plans_are_sound();
-    let schedule = &inputs.schedule.transmissions;
-    let end = end_of(alloc, inputs, sender, number, schedule)?;
-    write_codes(alloc, "", number, &end.receiver, out)
+    sender.is_sound();
+    let schedule = &ready.inputs.schedule.transmissions;
+    let end = end_of(ready.alloc, sender, number, schedule)?;
+    write_codes(ready.alloc, "", number, &end.receiver, out)
 }
 
 // Writes the line of each code block of block `number`, by its receiver, each behind `head`.

@@ -1,22 +1,18 @@
 //! What `run` does with a transmission: it is sent, received, and written.
 
-ghost use Rattle.std.specs.Prelude.{List, Ok, OnOk, ◌++◌, ◌+◌, ◌-◌, ◌<◌, ◌^◌, ◌≡◌};
+ghost use Rattle.std.specs.Prelude.{List, OnOk, ◌++◌, ◌+◌, ◌-◌, ◌<◌, ◌^◌, ◌≡◌};
 ghost use Rattle.nr_commands.specs.Command.{Writes};
 ghost use Rattle.nr_files.specs.Reading.{FailsAs};
-ghost use Rattle.nr_linkcommands.specs.Ends.{HasReceived, HoldsEnd, IsLinked, IsOver};
+ghost use Rattle.nr_linkcommands.specs.Ends.{HasReceived, HoldsEnd, IsOver};
 ghost use Rattle.nr_linkcommands.specs.RunLines.{left_lines};
 ghost use Rattle.nr_linkcommands.specs.RunText.{lines_of, received_of};
 ghost use Rattle.nr_blockdesk.specs.Explains.{Reception};
-ghost use Rattle.nr_blockdesk.specs.Sent.{sent_said};
 
-use crate::hearing::heard_through;
-use crate::inputs::Inputs;
+use crate::exchange::exchange;
 use crate::received::{End, receive};
 use crate::run_lines::left_line;
 use crate::send_lines::{refused_line, sent_line};
-use crate::sending::said_of;
-use nr_bitvec::Bits;
-use nr_blockdesk::{Receiver, Sender, accepted_send_all};
+use nr_blockdesk::{Receiver, Sender};
 use nr_commands::{RunFault, Sink, put_line};
 use nr_files::Transmission;
 use nr_segment::plans_are_sound;
@@ -25,46 +21,14 @@ use std::alloc::Global;
 // Makes a transmission of a sender's transport block, and writes its lines.
 pub(crate) fn carry<'t, O: Sink>(
     alloc: Global,
-    inputs: &'t Inputs,
-    sender: &Sender,
+    sender: &Sender<'t>,
     end: &mut Option<End<'t>>,
     transmission: &Transmission,
     out: &mut O,
 ) -> Result<(), RunFault>
     requires puts { O.failures out.old < 2 ^ 32 }
-    requires linked { IsLinked inputs.now.table inputs.now.settings sender.now.link }
     requires room { HasReceived (2 ^ 64 - 2) end.old }
     requires same_link { IsOver sender.now.link end.old }
-    ensures text { (list : List Reception) → HoldsEnd sender.now.link list end.old
-        → Writes (O.written out.old) (O.written out.new) result
-        (lines_of sender.now list transmission.now) }
-    ensures held { OnOk result ((list : List Reception) → HoldsEnd sender.now.link list end.old
-        → HoldsEnd sender.now.link (list ++ received_of sender.now transmission.now) end.new) }
-    ensures put { FailsAs RunFault.Write result (O.failures out.old) (O.failures out.new) }
-{
-    let (number, block) = (transmission.number, transmission.block);
-    match said_of(sender, &transmission.tx)? {
-        Ok(bits) => carry_bits(alloc, inputs, sender, end, transmission, &bits, out),
-        Err(fault) => put_line(out, refused_line(alloc, number, block, fault)),
-    }
-}
-
-// Makes a transmission that sends these bits, and writes its lines.
-fn carry_bits<'t, O: Sink>(
-    alloc: Global,
-    inputs: &'t Inputs,
-    sender: &Sender,
-    end: &mut Option<End<'t>>,
-    transmission: &Transmission,
-    bits: &Bits,
-    out: &mut O,
-) -> Result<(), RunFault>
-    requires puts { O.failures out.old < 2 ^ 32 }
-    requires linked { IsLinked inputs.now.table inputs.now.settings sender.now.link }
-    requires room { HasReceived (2 ^ 64 - 2) end.old }
-    requires same_link { IsOver sender.now.link end.old }
-    requires sent { sent_said sender.now.link transmission.now.tx sender.now.block
-        ≡ Ok bits.now.items }
     ensures text { (list : List Reception) → HoldsEnd sender.now.link list end.old
         → Writes (O.written out.old) (O.written out.new) result
         (lines_of sender.now list transmission.now) }
@@ -73,14 +37,19 @@ fn carry_bits<'t, O: Sink>(
     ensures put { FailsAs RunFault.Write result (O.failures out.old) (O.failures out.new) }
 {
     plans_are_sound();
-    accepted_send_all();
+    sender.is_sound();
     let (number, block) = (transmission.number, transmission.block);
-    put_line(out, sent_line(alloc, number, block, bits))?;
-    let heard = heard_through(alloc, transmission, bits)?;
-    let after = receive(alloc, inputs, sender, end.take(), &transmission.tx, &heard)?;
-    write_left(alloc, transmission, &after.receiver, out)?;
-    *end = Some(after);
-    Ok(())
+    match exchange(alloc, sender, transmission)? {
+        Ok(exchange) => {
+            put_line(out, sent_line(alloc, number, block, &exchange.bits))?;
+            let tx = &transmission.tx;
+            let after = receive(sender, end.take(), tx, &exchange.heard)?;
+            write_left(alloc, transmission, &after.receiver, out)?;
+            *end = Some(after);
+            Ok(())
+        }
+        Err(fault) => put_line(out, refused_line(alloc, number, block, fault)),
+    }
 }
 
 // Writes the line of each code block after a transmission.

@@ -7,30 +7,18 @@ ghost use Rattle.nr_shifttable.specs.Accepted.{IsTable};
 ghost use Rattle.nr_files.specs.Blocks.{IsBlockLength};
 ghost use Rattle.nr_files.specs.Reading.{FailsAs};
 ghost use Rattle.nr_commands.specs.Command.{IsBlockFault};
-ghost use Rattle.nr_linkcommands.specs.Inputs.{AreInputsOf, IsFirst, IsFoundIn, LeavesLater, OfFour, files_said, given_by, sender_said, senders_from};
 ghost use Rattle.nr_files.specs.Schedule.{HasBlock, IsTimetable, timetable_by};
+ghost use Rattle.nr_linkcommands.specs.Inputs.{AreInputsOf, IsFirst, IsFoundIn, LeavesLater, OfFour, files_said, given_by, sender_said, senders_from};
 
+use crate::four_files::Inputs;
 use nr_bitvec::Bits;
 use nr_blockdesk::{DeskFault, Sender, Settings};
 use nr_commands::RunFault;
 use nr_files::{
-    BlocksFault, Schedule, ScheduleFault, SettingsFault, read_blocks, read_schedule, read_settings,
+    BlocksFault, ScheduleFault, SettingsFault, read_blocks, read_schedule, read_settings,
 };
 use nr_shifttable::{Source, Table, TableFault};
 use std::alloc::Global;
-
-/// What the four files of a command over a schedule say.
-#[derive(Drop)]
-pub struct Inputs {
-    /// The accepted shift table.
-    pub table: Table,
-    /// The code rate and the limit of the buffer.
-    pub settings: Settings,
-    /// The transport blocks as octets, in their order.
-    pub blocks: Vec<Vec<u8>>,
-    /// The transmissions, in their order, and whether they name HARQ processes.
-    pub schedule: Schedule,
-}
 
 /// Reads the four files of a command over a schedule, each to its end, and judges them, in the order of the
 /// parameters.
@@ -100,8 +88,6 @@ pub fn read<T: Source, S: Source, B: Source, D: Source>(
 /// # Errors
 /// `Desk`, the first transport block that is refused, counted from 1, and why. `Memory` where a growth is refused.
 pub fn senders(alloc: Global, inputs: &Inputs) -> Result<Vec<Sender>, RunFault>
-    requires few { length inputs.now.blocks.items ≤ 256 }
-    requires sizes { All (λ block. IsBlockLength (length block.items)) inputs.now.blocks.items }
     ensures said { Gives RunFault.Memory (λ senders. senders.items) result
         (senders_from inputs.now.table inputs.now.settings 1
         (map (λ block. block.items) inputs.now.blocks.items)) }

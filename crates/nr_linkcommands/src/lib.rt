@@ -9,6 +9,8 @@
 mod audit_lines;
 mod auditing;
 mod carrying;
+mod exchange;
+mod four_files;
 mod hearing;
 mod inputs;
 mod over_files;
@@ -20,11 +22,13 @@ mod run_rounds;
 mod running;
 mod send_lines;
 mod sending;
+mod ready;
 mod walking;
 
 pub use auditing::audit;
+pub use four_files::Inputs;
 pub use hearing::heard_through;
-pub use inputs::{Inputs, read, senders};
+pub use inputs::{read, senders};
 pub use run_laws::{erasures_alone_are_safe, lines_are_own, rounds_are_calls, runs_are_safe};
 pub use run_lines::process_words;
 pub use running::run;

@@ -1,15 +1,14 @@
 //! What the commands over a schedule have in common: four files, read and judged whole, and a sender for each block.
 
-ghost use Rattle.std.specs.Prelude.{◌≡◌, ℕ, ◌^◌, ◌<◌, ◌≤◌, List, All, length};
+ghost use Rattle.std.specs.Prelude.{ℕ, ◌^◌, ◌<◌, List};
 ghost use Rattle.nr_blockdesk.specs.Sent.{Sending};
 ghost use Rattle.nr_commands.specs.Command.{Writes};
 ghost use Rattle.nr_files.specs.Reading.{FailsAs};
-ghost use Rattle.nr_files.specs.Schedule.{IsTimetable, Timetable, timetable_by};
-ghost use Rattle.nr_linkcommands.specs.Ends.{IsLinked};
+ghost use Rattle.nr_files.specs.Schedule.{Timetable, timetable_by};
 ghost use Rattle.nr_linkcommands.specs.FourFiles.{IsOverFourFiles, said_over, used};
 
-use crate::inputs::{Inputs, read, senders};
-use nr_blockdesk::{Sender, links_are_sound};
+use crate::inputs::read;
+use crate::ready::Ready;
 use nr_commands::{RunFault, Sink};
 use nr_shifttable::Source;
 use std::alloc::Global;
@@ -23,19 +22,10 @@ pub(crate) trait Text {
     ///
     /// # Errors
     /// `Write` where a put failed, and `Memory` where a growth is refused: then a first part of the text is written.
-    fn write<O: Sink>(
-        alloc: Global,
-        inputs: &Inputs,
-        senders: &[Sender],
-        out: &mut O,
-    ) -> Result<(), RunFault>
+    fn write<O: Sink>(ready: &Ready, out: &mut O) -> Result<(), RunFault>
         requires puts { O.failures out.old < 2 ^ 32 }
-        requires few { length senders.now ≤ 256 }
-        requires linked { All (λ sender. IsLinked inputs.now.table inputs.now.settings sender.link)
-            senders.now }
-        requires timetable { IsTimetable (length senders.now) (timetable_by inputs.now.schedule) }
         ensures text { Writes (O.written out.old) (O.written out.new) result
-            (text senders.now (timetable_by inputs.now.schedule)) }
+            (text ready.now.senders.items (timetable_by ready.now.inputs.now.schedule)) }
         ensures put { FailsAs RunFault.Write result (O.failures out.old) (O.failures out.new) };
 }
 
@@ -66,8 +56,7 @@ pub(crate) fn over_files<C: Text, T: Source, S: Source, B: Source, D: Source, O:
         (used D.remaining D.failures schedule.old schedule.new)
         (used O.written O.failures out.old out.new) }
 {
-    links_are_sound();
     let inputs = read(alloc, table, settings, blocks, schedule)?;
-    let senders = senders(alloc, &inputs)?;
-    C::write(alloc, &inputs, &senders, out)
+    let ready = Ready::new(alloc, &inputs)?;
+    C::write(&ready, out)
 }

@@ -3,15 +3,15 @@
 ghost use Rattle.std.specs.Prelude.{◌≡◌, ℕ, ◌+◌, ◌-◌, ◌^◌, ◌<◌, ◌≤◌, ◌++◌, [], ◌∷◌, All, List, length, replicate, true, IfOk, OnOk};
 ghost use Rattle.nr_blockdesk.specs.Explains.{IsAccepted, Reception, reception};
 ghost use Rattle.nr_blockdesk.specs.Heard.{IsRecordOf};
-ghost use Rattle.nr_blockdesk.specs.Link.{IsLink, Link};
+ghost use Rattle.nr_blockdesk.specs.Link.{Link};
 ghost use Rattle.nr_blockdesk.specs.Outcome.{outcome_of};
 ghost use Rattle.nr_blockdesk.specs.Receiving.{verdict};
-ghost use Rattle.nr_linkcommands.specs.Ends.{AllHold, HasReceived, HoldsEnd, HoldsKept, HoldsPlace, IsEnd, IsKept, IsLinked, IsOver, IsWithin, no_place};
+ghost use Rattle.nr_linkcommands.specs.Ends.{AllHold, HasReceived, HoldsEnd, HoldsKept, HoldsPlace, IsEnd, IsKept, IsOver, IsWithin, no_place};
 ghost use Rattle.nr_linkcommands.specs.RunText.{counted, no_totals, totals_from};
 ghost use Rattle.nr_linkcommands.specs.RunLines.{unfixed_blocks};
 ghost use Rattle.nr_files.specs.declared.schedule.Transmission.{Transmission};
 
-use crate::inputs::Inputs;
+use crate::ready::Ready;
 use nr_blockdesk::{DeskFault, Heard, Outcome, Receiver, Sender, Tx, nothing_is_open};
 use std::alloc::{AllocError, Global};
 
@@ -94,34 +94,25 @@ pub fn no_places<'t>(alloc: Global, count: usize) -> Result<Vec<Place<'t>>, Allo
 ///
 /// # Errors
 /// `AllocError` where memory is refused.
-pub fn receive<'t>(
-    alloc: Global,
-    inputs: &'t Inputs,
-    sender: &Sender,
+pub(crate) fn receive<'t>(
+    sender: &Sender<'t>,
     end: Option<End<'t>>,
     tx: &Tx,
     heard: &[Heard],
 ) -> Result<End<'t>, AllocError>
-    requires linked { IsLinked inputs.now.table inputs.now.settings sender.now.link }
     requires room { HasReceived (2 ^ 64 - 2) end }
     requires same_link { IsOver sender.now.link end }
     requires accepted { IsAccepted sender.now.link (reception tx.now heard.now) }
     ensures { IfOk result (λ after. (list : List Reception) → HoldsEnd sender.now.link list end.entry
         → IsEnd sender.now.link (list ++ reception tx.now heard.now ∷ []) after) }
 {
-    let mut end = end_of(alloc, inputs, sender, end)?;
+    let mut end = end_of(sender, end)?;
     hear(&mut end, tx, heard)?;
     Ok(end)
 }
 
 // The end, which is made where there is none.
-fn end_of<'t>(
-    alloc: Global,
-    inputs: &'t Inputs,
-    sender: &Sender,
-    end: Option<End<'t>>,
-) -> Result<End<'t>, AllocError>
-    requires linked { IsLinked inputs.now.table inputs.now.settings sender.now.link }
+fn end_of<'t>(sender: &Sender<'t>, end: Option<End<'t>>) -> Result<End<'t>, AllocError>
     requires room { HasReceived (2 ^ 64 - 2) end }
     requires same_link { IsOver sender.now.link end }
     ensures same_link { IfOk result (λ after. after.receiver.link ≡ sender.now.link) }
@@ -131,31 +122,23 @@ fn end_of<'t>(
 {
     match end {
         Some(end) => Ok(end),
-        None => new_end(alloc, inputs, sender),
+        None => new_end(sender),
     }
 }
 
 // The end of a sender's transport block before anything is received.
-pub(crate) fn new_end<'t>(
-    alloc: Global,
-    inputs: &'t Inputs,
-    sender: &Sender,
-) -> Result<End<'t>, AllocError>
-    requires { IsLinked inputs.now.table inputs.now.settings sender.now.link }
+pub(crate) fn new_end<'t>(sender: &Sender<'t>) -> Result<End<'t>, AllocError>
     ensures end { IfOk result (IsEnd sender.now.link []) }
     ensures room { IfOk result (λ end. end.count ≤ 2 ^ 64 - 2) }
 {
     nothing_is_open();
-    match Receiver::new(alloc, &inputs.table, inputs.settings, sender.a()) {
-        Ok(receiver) => Ok(End {
-            receiver,
-            outcome: Outcome::Open,
-            count: 0,
-        }),
-        Err(DeskFault::Memory) => Err(AllocError),
-        // The sender has this link, so there is no other fault.
-        Err(_) => unreachable!(),
-    }
+    sender.is_sound();
+    let receiver = sender.receiver()?;
+    Ok(End {
+        receiver,
+        outcome: Outcome::Open,
+        count: 0,
+    })
 }
 
 // Hears a transmission.
@@ -229,15 +212,13 @@ fn kept_of(end: End) -> Kept
 }
 
 /// How the transport blocks of senders end, by what is kept at their places.
-pub fn sum_up(senders: &[Sender], places: &[Place]) -> Totals
-    requires few { length senders.now ≤ 256 }
-    requires long { length places.now ≡ length senders.now }
-    requires linked { All (λ sender. IsLink sender.link) senders.now }
-    ensures { (schedule : List Transmission) → AllHold senders.now schedule places.now
-        → result ≡ totals_from no_totals 1 senders.now schedule }
+pub(crate) fn sum_up(ready: &Ready, places: &[Place]) -> Totals
+    requires long { length places.now ≡ length ready.now.senders.items }
+    ensures { (schedule : List Transmission) → AllHold ready.now.senders.items schedule places.now
+        → result ≡ totals_from no_totals 1 ready.now.senders.items schedule }
 {
     let mut totals = no_totals();
-    for (index, sender) in senders.iter().enumerate() {
+    for (index, sender) in ready.senders.iter().enumerate() {
         totals = counted(totals, sender, &places[index].kept);
     }
     totals
@@ -261,12 +242,12 @@ pub fn no_totals() -> Totals
 /// The totals with a transport block or a round more.
 pub fn counted(totals: Totals, sender: &Sender, kept: &Option<Kept>) -> Totals
     requires few { IsWithin 65535 totals }
-    requires linked { IsLink sender.now.link }
     ensures value { (list : List Reception) → HoldsKept sender.now.link list kept.now
         → result ≡ counted totals sender.now.link list }
     ensures grows { (n : ℕ) → IsWithin n totals → IsWithin (n + 1) result }
 {
     nothing_is_open();
+    sender.is_sound();
     let code_blocks = u64::from(sender.plan().c);
     let totals = Totals {
         blocks: totals.blocks + 1,

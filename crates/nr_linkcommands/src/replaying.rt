@@ -1,35 +1,28 @@
 //! What a receiver has heard after the transmissions of a schedule, sent and received without a line.
 
-ghost use Rattle.std.specs.Prelude.{IfOk, List, Ok, OnOk, [], ◌++◌, ◌+◌, ◌∷◌, ◌≡◌};
+ghost use Rattle.std.specs.Prelude.{IfOk, List, OnOk, [], ◌++◌, ◌+◌, ◌∷◌, ◌≡◌};
 ghost use Rattle.nr_linkcommands.specs.AuditText.{HasHeard};
-ghost use Rattle.nr_linkcommands.specs.Ends.{IsLinked};
 ghost use Rattle.nr_files.specs.Rounds.{of_process};
-ghost use Rattle.nr_linkcommands.specs.RunText.{received, received_if, received_of};
+ghost use Rattle.nr_linkcommands.specs.RunText.{received, received_of};
 ghost use Rattle.nr_blockdesk.specs.Explains.{Reception};
-ghost use Rattle.nr_blockdesk.specs.Sent.{sent_said};
 
-use crate::hearing::heard_through;
-use crate::inputs::Inputs;
+use crate::exchange::exchange;
 use crate::received::{End, new_end, take};
-use crate::sending::said_of;
-use nr_bitvec::Bits;
-use nr_blockdesk::{Receiver, Sender, accepted_send_all};
+use nr_blockdesk::{Receiver, Sender};
 use nr_files::Transmission;
 use std::alloc::{AllocError, Global};
 
 // The receiving end of a sender's transport block after those of these transmissions that are of a process.
 pub(crate) fn end_of<'t>(
     alloc: Global,
-    inputs: &'t Inputs,
-    sender: &Sender,
+    sender: &Sender<'t>,
     process: u32,
     transmissions: &[Transmission],
 ) -> Result<End<'t>, AllocError>
-    requires { IsLinked inputs.now.table inputs.now.settings sender.now.link }
     ensures { IfOk result (λ end. HasHeard sender.now
         (received sender.now (of_process process transmissions.now)) end.receiver) }
 {
-    let mut end = new_end(alloc, inputs, sender)?;
+    let mut end = new_end(sender)?;
     hear_all(alloc, sender, process, &mut end.receiver, transmissions)?;
     Ok(end)
 }
@@ -82,29 +75,11 @@ fn hear(
     ensures { OnOk result ((list : List Reception) → HasHeard sender.now list receiver.old
         → HasHeard sender.now (list ++ received_of sender.now transmission.now) receiver.new) }
 {
-    match said_of(sender, &transmission.tx)? {
-        Ok(bits) => hear_bits(alloc, sender, receiver, transmission, &bits),
+    match exchange(alloc, sender, transmission)? {
+        Ok(exchange) => {
+            take(receiver, &transmission.tx, &exchange.heard)?;
+            Ok(())
+        }
         Err(_) => Ok(()),
     }
-}
-
-// Has the receiver hear what arrives of a transmission, of which a sender sends these bits.
-fn hear_bits(
-    alloc: Global,
-    sender: &Sender,
-    receiver: &mut Receiver,
-    transmission: &Transmission,
-    bits: &Bits,
-) -> Result<(), AllocError>
-    requires same_link { receiver.old.link ≡ sender.now.link }
-    requires sent { sent_said sender.now.link transmission.now.tx sender.now.block
-        ≡ Ok bits.now.items }
-    ensures { OnOk result ((list : List Reception) → HasHeard sender.now list receiver.old
-        → HasHeard sender.now (list ++ received_if transmission.now (Ok bits.now.items))
-        receiver.new) }
-{
-    accepted_send_all();
-    let heard = heard_through(alloc, transmission, bits)?;
-    take(receiver, &transmission.tx, &heard)?;
-    Ok(())
 }

@@ -4,7 +4,6 @@ ghost use Rattle.std.specs.Prelude.{IfOk, List, ◌++◌, ◌+◌, ◌≡◌};
 ghost use Rattle.nr_linkcommands.specs.Ends.{HoldsKept};
 ghost use Rattle.nr_linkcommands.specs.RunLines.{contradiction_line, delivered_line, last_line, left_line, open_line, outcome_line, process_words};
 ghost use Rattle.nr_blockdesk.specs.Explains.{Reception};
-ghost use Rattle.nr_blockdesk.specs.Link.{IsLink};
 ghost use Rattle.std.specs.String.{string_bytes};
 
 use crate::received::{Kept, Totals};
@@ -22,7 +21,6 @@ pub(crate) fn round_line(
     sender: &Sender,
     kept: &Option<Kept>,
 ) -> Result<Vec<u8>, AllocError>
-    requires { IsLink sender.now.link }
     ensures { IfOk result (λ line. (list : List Reception) → HoldsKept sender.now.link list kept.now
         → line.items ≡ process_words process ++ outcome_line number sender.now.link list) }
 {
@@ -54,11 +52,11 @@ pub(crate) fn outcome_line(
     sender: &Sender,
     kept: &Option<Kept>,
 ) -> Result<Vec<u8>, AllocError>
-    requires { IsLink sender.now.link }
     ensures { IfOk result (λ line. (list : List Reception) → HoldsKept sender.now.link list kept.now
         → line.items ≡ outcome_line number sender.now.link list) }
 {
     nothing_is_open();
+    sender.is_sound();
     let blocks = sender.plan().c;
     match kept {
         None => open_line(alloc, number, 0, blocks, blocks),

@@ -6,17 +6,15 @@ ghost use Rattle.nr_commands.specs.Command.{Writes};
 ghost use Rattle.nr_files.specs.Reading.{FailsAs};
 ghost use Rattle.nr_files.specs.Rounds.{round_of};
 ghost use Rattle.nr_files.specs.Schedule.{HasBlock};
-ghost use Rattle.nr_blockdesk.specs.Link.{IsLink};
 ghost use Rattle.nr_linkcommands.specs.Ends.{HoldsRound, IsWithin, KeepsRounds, goes_on, no_place};
 ghost use Rattle.nr_linkcommands.specs.RoundTexts.{round_lines};
 ghost use Rattle.nr_linkcommands.specs.RunText.{no_totals, round_counted, run_words};
 
 use crate::carrying::carry;
-use crate::inputs::Inputs;
 use crate::received::{Place, Totals, close, counted, no_places, no_totals};
 use crate::run_lines::round_line;
+use crate::ready::Ready;
 use crate::walking::Walk;
-use nr_blockdesk::Sender;
 use nr_commands::{RunFault, Sink, put_line};
 use nr_files::{Transmission, round_block};
 use std::alloc::{AllocError, Global};
@@ -57,31 +55,27 @@ impl<'t> Walk<'t> for RunRounds<'t> {
 
     fn end_round<O: Sink>(
         &mut self,
-        alloc: Global,
-        _: &'t Inputs,
-        senders: &[Sender],
+        ready: &Ready<'t>,
         process: u32,
         before: &[Transmission],
         out: &mut O,
     ) -> Result<(), RunFault> {
         let place = &self.places[process as usize];
-        self.totals = end_round(alloc, senders, before, process, place, self.totals, out)?;
+        self.totals = end_round(ready, before, process, place, self.totals, out)?;
         Ok(())
     }
 
     fn make<O: Sink>(
         &mut self,
-        alloc: Global,
-        inputs: &'t Inputs,
-        senders: &[Sender],
+        ready: &Ready<'t>,
         transmission: &Transmission,
         later: &[Transmission],
         out: &mut O,
     ) -> Result<(), RunFault> {
-        let sender = &senders[transmission.block as usize - 1];
+        let sender = ready.sender(transmission.block);
         let place = &mut self.places[transmission.process as usize];
         begin_round(transmission.fresh, place);
-        carry(alloc, inputs, sender, &mut place.end, transmission, out)?;
+        carry(ready.alloc, sender, &mut place.end, transmission, out)?;
         close(goes_on(transmission.process, later), place);
         Ok(())
     }
@@ -113,8 +107,7 @@ fn goes_on(process: u32, later: &[Transmission]) -> bool
 
 // Writes the line of the round that a process is in after these transmissions, and counts it, if it is in one.
 fn end_round<O: Sink>(
-    alloc: Global,
-    senders: &[Sender],
+    ready: &Ready,
     before: &[Transmission],
     process: u32,
     place: &Place,
@@ -122,22 +115,24 @@ fn end_round<O: Sink>(
     out: &mut O,
 ) -> Result<Totals, RunFault>
     requires puts { O.failures out.old < 2 ^ 32 }
-    requires linked { All (λ sender. IsLink sender.link) senders.now }
-    requires named { All (HasBlock (length senders.now)) before.now }
+    requires named { All (HasBlock (length ready.now.senders.items)) before.now }
     requires few { IsWithin 65535 totals }
-    requires held { HoldsRound false senders.now (round_of process before.now) place.now }
+    requires held { HoldsRound false ready.now.senders.items (round_of process before.now) place.now }
     ensures text { Writes (O.written out.old) (O.written out.new) result
-        (round_lines run_words senders.now process (round_of process before.now)) }
+        (round_lines run_words ready.now.senders.items process (round_of process before.now)) }
     ensures totals { IfOk result
-        (λ t. t ≡ round_counted totals senders.now (round_of process before.now)) }
+        (λ t. t ≡ round_counted totals ready.now.senders.items (round_of process before.now)) }
     ensures grows { IfOk result (λ t. (n : ℕ) → IsWithin n totals → IsWithin (n + 1) t) }
     ensures put { FailsAs RunFault.Write result (O.failures out.old) (O.failures out.new) }
 {
     match round_block(process, before) {
         None => Ok(totals),
         Some(number) => {
-            let sender = &senders[number as usize - 1];
-            put_line(out, round_line(alloc, process, number, sender, &place.kept))?;
+            let sender = ready.sender(number);
+            put_line(
+                out,
+                round_line(ready.alloc, process, number, sender, &place.kept),
+            )?;
             Ok(counted(totals, sender, &place.kept))
         }
     }

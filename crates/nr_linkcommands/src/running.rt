@@ -5,19 +5,16 @@ ghost use Rattle.nr_linkcommands.specs.FourFiles.{IsOverFourFiles, used};
 ghost use Rattle.nr_linkcommands.specs.RunText.{outcome_lines, run_ends, run_said, text_of_run};
 ghost use Rattle.nr_commands.specs.Command.{Writes};
 ghost use Rattle.nr_files.specs.Reading.{FailsAs};
-ghost use Rattle.nr_linkcommands.specs.Ends.{AllHold, IsLinked, KeepsRounds};
+ghost use Rattle.nr_linkcommands.specs.Ends.{AllHold, KeepsRounds};
 ghost use Rattle.nr_files.specs.declared.schedule.Transmission.{Transmission};
-ghost use Rattle.nr_blockdesk.specs.Link.{IsLink};
 ghost use Rattle.nr_files.specs.Rounds.{ended_rounds};
-ghost use Rattle.nr_files.specs.Schedule.{HasBlock};
 
-use crate::inputs::Inputs;
 use crate::over_files::{Text, over_files};
 use crate::received::{Place, sum_up};
 use crate::run_lines::{last_line, outcome_line};
 use crate::run_rounds::RunRounds;
+use crate::ready::Ready;
 use crate::walking::{end_all, follow};
-use nr_blockdesk::Sender;
 use nr_commands::{RunFault, Sink, put_line};
 use nr_files::PROCESSES;
 use nr_shifttable::Source;
@@ -66,19 +63,15 @@ struct RunCommand;
 impl Text for RunCommand {
     ghost text = { text_of_run };
 
-    fn write<O: Sink>(
-        alloc: Global,
-        inputs: &Inputs,
-        senders: &[Sender],
-        out: &mut O,
-    ) -> Result<(), RunFault> {
-        let by_process = inputs.schedule.by_process;
-        let mut rounds = RunRounds::new(alloc, places(by_process, senders.len()))?;
-        follow(alloc, inputs, senders, &mut rounds, out)?;
+    fn write<O: Sink>(ready: &Ready, out: &mut O) -> Result<(), RunFault> {
+        let by_process = ready.inputs.schedule.by_process;
+        let places = places(by_process, ready.senders.len());
+        let mut rounds = RunRounds::new(ready.alloc, places)?;
+        follow(ready, &mut rounds, out)?;
         if by_process {
-            write_rounds(alloc, inputs, senders, &mut rounds, out)
+            write_rounds(ready, &mut rounds, out)
         } else {
-            write_blocks(alloc, senders, &rounds.places[1..], out)
+            write_blocks(ready, &rounds.places[1..], out)
         }
     }
 }
@@ -97,70 +90,53 @@ fn places(by_process: bool, blocks: usize) -> usize
 
 // Writes the line of each round that no transmission ends, by process, and the totals.
 fn write_rounds<'t, O: Sink>(
-    alloc: Global,
-    inputs: &'t Inputs,
-    senders: &[Sender],
+    ready: &Ready<'t>,
     rounds: &mut RunRounds<'t>,
     out: &mut O,
 ) -> Result<(), RunFault>
     requires puts { O.failures out.old < 2 ^ 32 }
-    requires linked { All (λ sender. IsLinked inputs.now.table inputs.now.settings sender.link)
-        senders.now }
-    requires named { All (HasBlock (length senders.now)) inputs.now.schedule.transmissions.items }
-    requires few { length inputs.now.schedule.transmissions.items ≤ 4096 }
     requires long { length rounds.old.places.items ≡ 16 }
-    requires kept { KeepsRounds senders.now inputs.now.schedule.transmissions.items []
-        (ended_rounds [] inputs.now.schedule.transmissions.items)
+    requires kept { KeepsRounds ready.now.senders.items ready.now.inputs.now.schedule.transmissions.items []
+        (ended_rounds [] ready.now.inputs.now.schedule.transmissions.items)
         rounds.old.places.items rounds.old.totals }
     ensures text { Writes (O.written out.old) (O.written out.new) result
-        (run_ends true senders.now inputs.now.schedule.transmissions.items) }
+        (run_ends true ready.now.senders.items ready.now.inputs.now.schedule.transmissions.items) }
     ensures put { FailsAs RunFault.Write result (O.failures out.old) (O.failures out.new) }
 {
-    end_all(alloc, inputs, senders, rounds, out)?;
-    put_line(out, last_line(alloc, "rounds", &rounds.totals))
+    end_all(ready, rounds, out)?;
+    put_line(out, last_line(ready.alloc, "rounds", &rounds.totals))
 }
 
 // Writes the line of each transport block, and the totals.
-fn write_blocks<O: Sink>(
-    alloc: Global,
-    senders: &[Sender],
-    places: &[Place],
-    out: &mut O,
-) -> Result<(), RunFault>
+fn write_blocks<O: Sink>(ready: &Ready, places: &[Place], out: &mut O) -> Result<(), RunFault>
     requires puts { O.failures out.old < 2 ^ 32 }
-    requires few { length senders.now ≤ 256 }
-    requires long { length places.now ≡ length senders.now }
-    requires linked { All (λ sender. IsLink sender.link) senders.now }
-    ensures text { (schedule : List Transmission) → AllHold senders.now schedule places.now
+    requires long { length places.now ≡ length ready.now.senders.items }
+    ensures text { (schedule : List Transmission) → AllHold ready.now.senders.items schedule places.now
         → Writes (O.written out.old) (O.written out.new) result
-        (run_ends false senders.now schedule) }
+        (run_ends false ready.now.senders.items schedule) }
     ensures put { FailsAs RunFault.Write result (O.failures out.old) (O.failures out.new) }
 {
-    write_outcomes(alloc, senders, places, out)?;
-    put_line(out, last_line(alloc, "blocks", &sum_up(senders, places)))
+    write_outcomes(ready, places, out)?;
+    put_line(
+        out,
+        last_line(ready.alloc, "blocks", &sum_up(ready, places)),
+    )
 }
 
 // Writes the line of each transport block, by what is kept at its place.
-fn write_outcomes<O: Sink>(
-    alloc: Global,
-    senders: &[Sender],
-    places: &[Place],
-    out: &mut O,
-) -> Result<(), RunFault>
+fn write_outcomes<O: Sink>(ready: &Ready, places: &[Place], out: &mut O) -> Result<(), RunFault>
     requires puts { O.failures out.old < 2 ^ 32 }
-    requires few { length senders.now ≤ 256 }
-    requires long { length places.now ≡ length senders.now }
-    requires linked { All (λ sender. IsLink sender.link) senders.now }
-    ensures text { (schedule : List Transmission) → AllHold senders.now schedule places.now
+    requires long { length places.now ≡ length ready.now.senders.items }
+    ensures text { (schedule : List Transmission) → AllHold ready.now.senders.items schedule places.now
         → Writes (O.written out.old) (O.written out.new) result
-        (outcome_lines 1 senders.now schedule) }
+        (outcome_lines 1 ready.now.senders.items schedule) }
     ensures put { FailsAs RunFault.Write result (O.failures out.old) (O.failures out.new) }
 {
-    for (index, sender) in senders.iter().enumerate() {
+    for (index, sender) in ready.senders.iter().enumerate() {
         let number = index as u32 + 1;
         put_line(
             out,
-            outcome_line(alloc, number, sender, &places[index].kept),
+            outcome_line(ready.alloc, number, sender, &places[index].kept),
         )?;
     }
     Ok(())

@@ -1,18 +1,18 @@
 //! The command `send`.
 
-ghost use Rattle.std.specs.Prelude.{All, IfOk, length, ◌<◌, ◌^◌, ◌≡◌};
+ghost use Rattle.std.specs.Prelude.{IfOk, length, ◌<◌, ◌^◌, ◌≡◌};
 ghost use Rattle.nr_linkcommands.specs.FourFiles.{IsOverFourFiles, used};
 ghost use Rattle.nr_linkcommands.specs.SendLines.{answer_line};
-ghost use Rattle.nr_linkcommands.specs.SendText.{send_said, text_of_send, transmission_line, transmission_lines};
+ghost use Rattle.nr_linkcommands.specs.SendText.{send_said, text_of_send, transmission_line};
 ghost use Rattle.nr_commands.specs.Command.{Writes};
 ghost use Rattle.nr_files.specs.Reading.{FailsAs};
 ghost use Rattle.nr_files.specs.Schedule.{HasBlock};
 ghost use Rattle.nr_blockdesk.specs.Sent.{sent_said};
 ghost use Rattle.std.specs.Result.{result_map_both};
 
-use crate::inputs::Inputs;
 use crate::over_files::{Text, over_files};
 use crate::send_lines::{refused_line, sent_line};
+use crate::ready::Ready;
 use nr_bitvec::Bits;
 use nr_blockdesk::{DeskFault, Sender, Tx};
 use nr_commands::{RunFault, Sink, put_line};
@@ -60,50 +60,28 @@ struct SendCommand;
 impl Text for SendCommand {
     ghost text = { text_of_send };
 
-    fn write<O: Sink>(
-        alloc: Global,
-        inputs: &Inputs,
-        senders: &[Sender],
-        out: &mut O,
-    ) -> Result<(), RunFault> {
-        send_lines(alloc, senders, &inputs.schedule.transmissions, out)
+    fn write<O: Sink>(ready: &Ready, out: &mut O) -> Result<(), RunFault> {
+        for transmission in &ready.inputs.schedule.transmissions {
+            write_transmission(ready, transmission, out)?;
+        }
+        Ok(())
     }
-}
-
-// Writes the line of each transmission.
-fn send_lines<O: Sink>(
-    alloc: Global,
-    senders: &[Sender],
-    schedule: &[Transmission],
-    out: &mut O,
-) -> Result<(), RunFault>
-    requires puts { O.failures out.old < 2 ^ 32 }
-    requires named { All (HasBlock (length senders.now)) schedule.now }
-    ensures text { Writes (O.written out.old) (O.written out.new) result
-        (transmission_lines senders.now schedule.now) }
-    ensures put { FailsAs RunFault.Write result (O.failures out.old) (O.failures out.new) }
-{
-    for transmission in schedule {
-        write_transmission(alloc, senders, transmission, out)?;
-    }
-    Ok(())
 }
 
 // Writes the line of a transmission.
 fn write_transmission<O: Sink>(
-    alloc: Global,
-    senders: &[Sender],
+    ready: &Ready,
     transmission: &Transmission,
     out: &mut O,
 ) -> Result<(), RunFault>
     requires puts { O.failures out.old < 2 ^ 32 }
-    requires named { HasBlock (length senders.now) transmission.now }
+    requires named { HasBlock (length ready.now.senders.items) transmission.now }
     ensures text { Writes (O.written out.old) (O.written out.new) result
-        (transmission_line senders.now transmission.now) }
+        (transmission_line ready.now.senders.items transmission.now) }
     ensures put { FailsAs RunFault.Write result (O.failures out.old) (O.failures out.new) }
 {
-    let sender = &senders[transmission.block as usize - 1];
-    put_line(out, line_of(alloc, sender, transmission))
+    let sender = ready.sender(transmission.block);
+    put_line(out, line_of(ready.alloc, sender, transmission))
 }
 
 // The line of a transmission by the sender of its block.

@@ -8,14 +8,12 @@ ghost use Rattle.nr_files.specs.Reading.{FailsAs};
 ghost use Rattle.nr_files.specs.Rounds.{all_rounds, continued, ended_by, ended_rounds, round_of};
 ghost use Rattle.nr_files.specs.Schedule.{HasBlock};
 ghost use Rattle.nr_files.specs.declared.schedule.Transmission.{Transmission};
-ghost use Rattle.nr_linkcommands.specs.Ends.{AreOfRounds, IsLinked, IsOfRound, goes_on};
+ghost use Rattle.nr_linkcommands.specs.Ends.{IsOfRound, goes_on};
 ghost use Rattle.nr_linkcommands.specs.RoundTexts.{Words, last_rounds, pieces_joined, round_lines, said_if, sender_of, turns};
 
-use crate::inputs::Inputs;
-use nr_blockdesk::Sender;
+use crate::ready::Ready;
 use nr_commands::{RunFault, Sink};
 use nr_files::{PROCESSES, Transmission};
-use std::alloc::Global;
 
 /// What a command makes of transmissions and of rounds, and what it keeps from one to the next.
 pub(crate) trait Walk<'t> {
@@ -35,26 +33,22 @@ pub(crate) trait Walk<'t> {
     /// `Write` where a put failed, and `Memory` where a growth is refused: then a first part of the lines is written.
     fn end_round<O: Sink>(
         &mut self,
-        alloc: Global,
-        inputs: &'t Inputs,
-        senders: &[Sender],
+        ready: &Ready<'t>,
         process: u32,
         before: &[Transmission],
         out: &mut O,
     ) -> Result<(), RunFault>
         requires puts { O.failures out.old < 2 ^ 32 }
-        requires linked { All (λ sender. IsLinked inputs.now.table inputs.now.settings sender.link)
-            senders.now }
-        requires named { All (HasBlock (length senders.now)) before.now }
+        requires named { All (HasBlock (length ready.now.senders.items)) before.now }
         requires placed { process < places self.old }
         requires kept { (later : List Transmission) × (ended : List (List Transmission))
             × (length ended ≤ 65535) × (goes_on process later ≡ false)
-            × Keeps self.old senders.now before.now later ended }
+            × Keeps self.old ready.now.senders.items before.now later ended }
         ensures text { Writes (O.written out.old) (O.written out.new) result
-            (round_lines words senders.now process (round_of process before.now)) }
+            (round_lines words ready.now.senders.items process (round_of process before.now)) }
         ensures kept { OnOk result ((later : List Transmission) (ended : List (List Transmission))
-            → Keeps self.old senders.now before.now later ended
-            → Keeps self.new senders.now before.now later
+            → Keeps self.old ready.now.senders.items before.now later ended
+            → Keeps self.new ready.now.senders.items before.now later
             (ended ++ round_of process before.now ∷ [])) }
         ensures places { OnOk result (places self.new ≡ places self.old) }
         ensures put { FailsAs RunFault.Write result (O.failures out.old) (O.failures out.new) };
@@ -66,31 +60,27 @@ pub(crate) trait Walk<'t> {
     /// `Write` where a put failed, and `Memory` where a growth is refused: then a first part of the lines is written.
     fn make<O: Sink>(
         &mut self,
-        alloc: Global,
-        inputs: &'t Inputs,
-        senders: &[Sender],
+        ready: &Ready<'t>,
         transmission: &Transmission,
         later: &[Transmission],
         out: &mut O,
     ) -> Result<(), RunFault>
         requires puts { O.failures out.old < 2 ^ 32 }
-        requires linked { All (λ sender. IsLinked inputs.now.table inputs.now.settings sender.link)
-            senders.now }
-        requires named { HasBlock (length senders.now) transmission.now }
+        requires named { HasBlock (length ready.now.senders.items) transmission.now }
         requires placed { transmission.now.process < places self.old }
         requires kept { (before : List Transmission) × (ended : List (List Transmission))
             × (length before ≤ 4096) × IsOfRound (continued before transmission.now) transmission.now
-            × Keeps self.old senders.now before (transmission.now ∷ later.now) ended }
+            × Keeps self.old ready.now.senders.items before (transmission.now ∷ later.now) ended }
         ensures text { (before : List Transmission) (ended : List (List Transmission))
             → IsOfRound (continued before transmission.now) transmission.now
-            → Keeps self.old senders.now before (transmission.now ∷ later.now) ended
+            → Keeps self.old ready.now.senders.items before (transmission.now ∷ later.now) ended
             → Writes (O.written out.old) (O.written out.new) result
-            (said_if words (sender_of senders.now transmission.now)
+            (said_if words (sender_of ready.now.senders.items transmission.now)
             (continued before transmission.now) transmission.now) }
         ensures kept { OnOk result ((before : List Transmission) (ended : List (List Transmission))
             → IsOfRound (continued before transmission.now) transmission.now
-            → Keeps self.old senders.now before (transmission.now ∷ later.now) ended
-            → Keeps self.new senders.now (before ++ transmission.now ∷ []) later.now ended) }
+            → Keeps self.old ready.now.senders.items before (transmission.now ∷ later.now) ended
+            → Keeps self.new ready.now.senders.items (before ++ transmission.now ∷ []) later.now ended) }
         ensures places { OnOk result (places self.new ≡ places self.old) }
         ensures put { FailsAs RunFault.Write result (O.failures out.old) (O.failures out.new) };
 }
@@ -100,71 +90,53 @@ pub(crate) trait Walk<'t> {
 /// # Errors
 /// `Write` where a put failed, and `Memory` where a growth is refused: then a first part of the lines is written.
 pub(crate) fn follow<'t, W: Walk<'t>, O: Sink>(
-    alloc: Global,
-    inputs: &'t Inputs,
-    senders: &[Sender],
+    ready: &Ready<'t>,
     walk: &mut W,
     out: &mut O,
 ) -> Result<(), RunFault>
     requires puts { O.failures out.old < 2 ^ 32 }
-    requires linked { All (λ sender. IsLinked inputs.now.table inputs.now.settings sender.link)
-        senders.now }
-    requires named { All (HasBlock (length senders.now)) inputs.now.schedule.transmissions.items }
-    requires few { length inputs.now.schedule.transmissions.items ≤ 4096 }
     requires placed { All (λ x. x.process < W.places walk.old)
-        inputs.now.schedule.transmissions.items }
-    requires rounds { AreOfRounds inputs.now.schedule.transmissions.items }
-    requires nothing { W.Keeps walk.old senders.now [] inputs.now.schedule.transmissions.items [] }
+        ready.now.inputs.now.schedule.transmissions.items }
+    requires nothing { W.Keeps walk.old ready.now.senders.items [] ready.now.inputs.now.schedule.transmissions.items [] }
     ensures text { Writes (O.written out.old) (O.written out.new) result
-        (pieces_joined (turns W.words senders.now [] inputs.now.schedule.transmissions.items)) }
+        (pieces_joined (turns W.words ready.now.senders.items [] ready.now.inputs.now.schedule.transmissions.items)) }
     ensures kept { OnOk result
-        (W.Keeps walk.new senders.now inputs.now.schedule.transmissions.items []
-        (ended_rounds [] inputs.now.schedule.transmissions.items)) }
+        (W.Keeps walk.new ready.now.senders.items ready.now.inputs.now.schedule.transmissions.items []
+        (ended_rounds [] ready.now.inputs.now.schedule.transmissions.items)) }
     ensures places { OnOk result (W.places walk.new ≡ W.places walk.old) }
     ensures put { FailsAs RunFault.Write result (O.failures out.old) (O.failures out.new) }
 {
-    let schedule = inputs.schedule.transmissions.as_slice();
+    let schedule = ready.inputs.schedule.transmissions.as_slice();
     for (index, transmission) in schedule.iter().enumerate() {
         let before = &schedule[..index];
-        end_before(alloc, inputs, senders, before, transmission, walk, out)?;
-        walk.make(
-            alloc,
-            inputs,
-            senders,
-            transmission,
-            &schedule[index + 1..],
-            out,
-        )?;
+        end_before(ready, before, transmission, walk, out)?;
+        walk.make(ready, transmission, &schedule[index + 1..], out)?;
     }
     Ok(())
 }
 
 // Ends the round of a transmission's process, where it is fresh.
 fn end_before<'t, W: Walk<'t>, O: Sink>(
-    alloc: Global,
-    inputs: &'t Inputs,
-    senders: &[Sender],
+    ready: &Ready<'t>,
     before: &[Transmission],
     transmission: &Transmission,
     walk: &mut W,
     out: &mut O,
 ) -> Result<(), RunFault>
     requires puts { O.failures out.old < 2 ^ 32 }
-    requires linked { All (λ sender. IsLinked inputs.now.table inputs.now.settings sender.link)
-        senders.now }
-    requires named { All (HasBlock (length senders.now)) before.now }
+    requires named { All (HasBlock (length ready.now.senders.items)) before.now }
     requires placed { transmission.now.process < W.places walk.old }
     requires kept { (later : List Transmission) × (ended : List (List Transmission))
         × (length ended ≤ 65535)
-        × W.Keeps walk.old senders.now before.now (transmission.now ∷ later) ended }
+        × W.Keeps walk.old ready.now.senders.items before.now (transmission.now ∷ later) ended }
     ensures text { Writes (O.written out.old) (O.written out.new) result
         (if transmission.now.fresh
-        then round_lines W.words senders.now transmission.now.process
+        then round_lines W.words ready.now.senders.items transmission.now.process
         (round_of transmission.now.process before.now)
         else []) }
     ensures kept { OnOk result ((later : List Transmission) (ended : List (List Transmission))
-        → W.Keeps walk.old senders.now before.now later ended
-        → W.Keeps walk.new senders.now before.now later
+        → W.Keeps walk.old ready.now.senders.items before.now later ended
+        → W.Keeps walk.new ready.now.senders.items before.now later
         (ended ++ ended_by before.now transmission.now)) }
     ensures places { OnOk result (W.places walk.new ≡ W.places walk.old) }
     ensures put { FailsAs RunFault.Write result (O.failures out.old) (O.failures out.new) }
@@ -172,7 +144,7 @@ fn end_before<'t, W: Walk<'t>, O: Sink>(
     if !transmission.fresh {
         return Ok(());
     }
-    walk.end_round(alloc, inputs, senders, transmission.process, before, out)
+    walk.end_round(ready, transmission.process, before, out)
 }
 
 /// Ends the rounds that no transmission ends, by process, and writes their lines.
@@ -180,30 +152,24 @@ fn end_before<'t, W: Walk<'t>, O: Sink>(
 /// # Errors
 /// `Write` where a put failed, and `Memory` where a growth is refused: then a first part of the lines is written.
 pub(crate) fn end_all<'t, W: Walk<'t>, O: Sink>(
-    alloc: Global,
-    inputs: &'t Inputs,
-    senders: &[Sender],
+    ready: &Ready<'t>,
     walk: &mut W,
     out: &mut O,
 ) -> Result<(), RunFault>
     requires puts { O.failures out.old < 2 ^ 32 }
-    requires linked { All (λ sender. IsLinked inputs.now.table inputs.now.settings sender.link)
-        senders.now }
-    requires named { All (HasBlock (length senders.now)) inputs.now.schedule.transmissions.items }
-    requires few { length inputs.now.schedule.transmissions.items ≤ 4096 }
     requires placed { 16 ≤ W.places walk.old }
-    requires kept { W.Keeps walk.old senders.now inputs.now.schedule.transmissions.items []
-        (ended_rounds [] inputs.now.schedule.transmissions.items) }
+    requires kept { W.Keeps walk.old ready.now.senders.items ready.now.inputs.now.schedule.transmissions.items []
+        (ended_rounds [] ready.now.inputs.now.schedule.transmissions.items) }
     ensures text { Writes (O.written out.old) (O.written out.new) result
-        (pieces_joined (last_rounds W.words senders.now inputs.now.schedule.transmissions.items)) }
+        (pieces_joined (last_rounds W.words ready.now.senders.items ready.now.inputs.now.schedule.transmissions.items)) }
     ensures kept { OnOk result
-        (W.Keeps walk.new senders.now inputs.now.schedule.transmissions.items []
-        (all_rounds inputs.now.schedule.transmissions.items)) }
+        (W.Keeps walk.new ready.now.senders.items ready.now.inputs.now.schedule.transmissions.items []
+        (all_rounds ready.now.inputs.now.schedule.transmissions.items)) }
     ensures put { FailsAs RunFault.Write result (O.failures out.old) (O.failures out.new) }
 {
-    let schedule = inputs.schedule.transmissions.as_slice();
+    let schedule = ready.inputs.schedule.transmissions.as_slice();
     for process in 0..PROCESSES {
-        walk.end_round(alloc, inputs, senders, process, schedule, out)?;
+        walk.end_round(ready, process, schedule, out)?;
     }
     Ok(())
 }

@@ -7,6 +7,6 @@ use Rattle.nr_linkcommands.proofs.auditing.audit_blocks.Given as goal
 abbrev pub invariant-loop-index : goal.invariant-loop-index
 invariant-loop-index g l = record {
   written : g.O.Sink.written l.out ≡ with_text (g.O.Sink.written l.fn.out)
-      (audit_lines l.inputs.schedule.transmissions.items 1 (take l.index l.senders));
+      (audit_lines l.ready.inputs.now.schedule.transmissions.items 1 (take l.index l.ready.senders.items));
   sound : g.O.Sink.failures l.out ≡ g.O.Sink.failures l.fn.out;
 }

@@ -10,10 +10,10 @@ pub returns-in_err-end-clause-text : goal.returns-in_err-end-clause-text
 returns-in_err-end-clause-text g c =
     let sender = c.args.sender.now in
     let p = err_from_is_err_and c.from_residual.result c.from_residual.ensures.1 in
-    writes_none _ _ p.0 _ p.1 p.2 (audit_block-some c.plans_are_sound.ensures [] c.args.number sender.link (heard_record sender.link (received sender (own c.args.number c.args.inputs.now.schedule.transmissions.items))) c.requires.linked.is_link)
+    writes_none _ _ p.0 _ p.1 p.2 (audit_block-some c.plans_are_sound.ensures [] c.args.number sender.link (heard_record sender.link (received sender (own c.args.number c.args.ready.now.inputs.now.schedule.transmissions.items))) c.is_sound.ensures)
 
 pub returns-clause-text : goal.returns-clause-text
 returns-clause-text g c =
-    let schedule = c.args.inputs.now.schedule.transmissions.items in
+    let schedule = c.args.ready.now.inputs.now.schedule.transmissions.items in
     let heard = rw c.deref.ensures.value at c.in_ok-end.ensures in
     rw (sym (audit_of-heard schedule c.args.number c.args.sender.now _ c.requires.placed heard)) c.write_codes.ensures.text

@@ -1,6 +1,5 @@
-use Rattle.std.proofs.Common.{Err, ap, sym, subst, refl, ◌∙◌, inr, length, arith}
+use Rattle.std.proofs.Common.{Err, ap, refl, inr}
 use Rattle.std.proofs.lemmas.Result.{err_from_is_err_and}
-use Rattle.nr_files.specs.Schedule.{IsTimetable, timetable_by}
 use Rattle.nr_commands.specs.declared.fault.RunFault.TheVariants.{Write}
 use Rattle.nr_commands.proofs.CommandLemmas.{delivers-writes, writes_said}
 use Rattle.nr_commands.proofs.WrittenLemmas.{writes_refused}
@@ -9,7 +8,6 @@ use Rattle.nr_linkcommands.specs.Inputs.{given_by}
 use Rattle.nr_linkcommands.proofs.FoundFaults.{found_block, found_written, sound_ok}
 use Rattle.nr_linkcommands.proofs.FourFiles.{over-err, refused-text, said-ready, said-refused, said-unsent, unread-block, unread-written}
 use Rattle.nr_linkcommands.proofs.InputLemmas.{first_block, first_written, later_block, later_written, of_block_or_memory, of_four_then}
-use Rattle.nr_linkcommands.proofs.RunInputs.{senders-linked}
 use Rattle.nr_linkcommands.proofs.over_files.over_files.Goals as goal
 
 pub returns-in_err-inputs : goal.returns-in_err-inputs
@@ -34,55 +32,44 @@ returns-in_err-inputs g c =
       put = inr ((λ is. c.in_err-inputs.ensures.unput (ap Err is)), refl);
     })
 
-pub returns-in_err-senders : goal.returns-in_err-senders
-returns-in_err-senders g c =
-    let p = err_from_is_err_and c.from_residual-in_err-senders.result c.from_residual-in_err-senders.ensures.1 in
-    let e = c.in_err-senders.field-0.0 in
+pub returns-in_err-ready : goal.returns-in_err-ready
+returns-in_err-ready g c =
+    let p = err_from_is_err_and c.from_residual-in_err-ready.result c.from_residual-in_err-ready.ensures.1 in
+    let e = c.in_err-ready.field-0.0 in
     let given = given_by c.in_ok-inputs.inputs in
-    over-err _ c.from_residual-in_err-senders.result p.0 e _ _ _ _ _ p.1 p.2 (record {
+    over-err _ c.from_residual-in_err-ready.result p.0 e _ _ _ _ _ p.1 p.2 (record {
       text = λ same_t same_s same_b same_d.
           of_four_then (g.T.Source.remaining c.args.table.now) (g.S.Source.remaining c.args.settings.now) (g.B.Source.remaining c.args.blocks.now) (g.D.Source.remaining c.args.schedule.now)
           (c.in_ok-inputs.ensures.said same_t same_s same_b same_d)
           (λ t s b d said. refused-text (Unit {0}) (g.O.Sink.written c.args.out.now) e (said_over g.C.Text.text t s b d)
-          (of_block_or_memory e Write c.in_err-senders.ensures.of_block (λ is. cc) (λ none. none))
-          (said-unsent g.C.Text.text t s b d given e said c.in_err-senders.ensures.said));
+          (of_block_or_memory e Write c.in_err-ready.ensures.of_block (λ is. cc) (λ none. none))
+          (said-unsent g.C.Text.text t s b d given e said c.in_err-ready.ensures.said));
       untouched = λ refused no_write no_memory. refl;
-      table = unread-block (Unit {0}) e _ _ _ c.in_err-senders.ensures.of_block (λ is. cc) (λ none. none) c.in_ok-inputs.ensures.table;
-      settings = unread-block (Unit {0}) e _ _ _ c.in_err-senders.ensures.of_block (λ is. cc) (λ none. none) c.in_ok-inputs.ensures.settings;
-      blocks = unread-block (Unit {0}) e _ _ _ c.in_err-senders.ensures.of_block (λ is. cc) (λ none. none) c.in_ok-inputs.ensures.blocks;
-      schedule = unread-block (Unit {0}) e _ _ _ c.in_err-senders.ensures.of_block (λ is. cc) (λ none. none) c.in_ok-inputs.ensures.schedule;
+      table = unread-block (Unit {0}) e _ _ _ c.in_err-ready.ensures.of_block (λ is. cc) (λ none. none) c.in_ok-inputs.ensures.table;
+      settings = unread-block (Unit {0}) e _ _ _ c.in_err-ready.ensures.of_block (λ is. cc) (λ none. none) c.in_ok-inputs.ensures.settings;
+      blocks = unread-block (Unit {0}) e _ _ _ c.in_err-ready.ensures.of_block (λ is. cc) (λ none. none) c.in_ok-inputs.ensures.blocks;
+      schedule = unread-block (Unit {0}) e _ _ _ c.in_err-ready.ensures.of_block (λ is. cc) (λ none. none) c.in_ok-inputs.ensures.schedule;
       sound = tt;
-      found = found_block given e _ _ _ _ c.in_ok-inputs.ensures.files c.in_err-senders.ensures.of_block c.in_err-senders.ensures.said;
-      first = first_block e _ _ _ c.in_err-senders.ensures.of_block;
-      later = later_block e _ _ _ _ _ _ c.in_err-senders.ensures.of_block;
-      put = unread-block (Unit {0}) e Write _ _ c.in_err-senders.ensures.of_block (λ is. cc) (λ none. none) refl;
+      found = found_block given e _ _ _ _ c.in_ok-inputs.ensures.files c.in_err-ready.ensures.of_block c.in_err-ready.ensures.said;
+      first = first_block e _ _ _ c.in_err-ready.ensures.of_block;
+      later = later_block e _ _ _ _ _ _ c.in_err-ready.ensures.of_block;
+      put = unread-block (Unit {0}) e Write _ _ c.in_err-ready.ensures.of_block (λ is. cc) (λ none. none) refl;
     })
-
-pub write-requires-clause-few : goal.write-requires-clause-few
-write-requires-clause-few g c = omega (arith, ap length c.deref.ensures.value, c.in_ok-senders.ensures.each, c.in_ok-inputs.ensures.few)
-
-pub write-requires-clause-linked : goal.write-requires-clause-linked
-write-requires-clause-linked g c =
-    rw c.deref.ensures.value (senders-linked c.links_are_sound.ensures c.in_ok-inputs.inputs.table c.in_ok-inputs.inputs.settings _ c.in_ok-senders.senders.items c.in_ok-inputs.ensures.accepted c.in_ok-senders.ensures.said)
-
-pub write-requires-clause-timetable : goal.write-requires-clause-timetable
-write-requires-clause-timetable g c =
-    subst (λ n. IsTimetable n (timetable_by c.in_ok-inputs.inputs.schedule)) (sym (ap length c.deref.ensures.value ∙ c.in_ok-senders.ensures.each)) c.in_ok-inputs.ensures.timetable
 
 pub returns : goal.returns
 returns g c =
     let r = c.write.result in
     let given = given_by c.in_ok-inputs.inputs in
-    let senders = c.in_ok-senders.senders.items in
+    let senders = c.in_ok-ready.ready.senders.items in
     let text = g.C.Text.text senders given.schedule in
-    let writes = rw c.deref.ensures.value at c.write.ensures.text in
+    let writes = rw c.in_ok-ready.ensures.inputs at c.write.ensures.text in
     record {
       text = λ same_t same_s same_b same_d.
           of_four_then (g.T.Source.remaining c.args.table.now) (g.S.Source.remaining c.args.settings.now) (g.B.Source.remaining c.args.blocks.now) (g.D.Source.remaining c.args.schedule.now)
           (c.in_ok-inputs.ensures.said same_t same_s same_b same_d)
           (λ t s b d said. delivers-writes _ _ r (said_over g.C.Text.text t s b d)
           (writes_said _ _ r text (said_over g.C.Text.text t s b d)
-          (said-ready g.C.Text.text t s b d given senders said c.in_ok-senders.ensures.said) writes));
+          (said-ready g.C.Text.text t s b d given senders said c.in_ok-ready.ensures.said) writes));
       untouched = λ refused no_write no_memory. writes_refused _ _ r text writes refused no_write no_memory;
       table = unread-written _ _ r text _ _ _ writes (λ is. cc) (λ is. cc) c.in_ok-inputs.ensures.table;
       settings = unread-written _ _ r text _ _ _ writes (λ is. cc) (λ is. cc) c.in_ok-inputs.ensures.settings;

@@ -7,4 +7,4 @@ pub returns-in-None-clause-value : goal.returns-in-None-clause-value
 returns-in-None-clause-value c = λ list holds.
     let none = rw c.in-None.is at holds in
     let count = c.from-code_blocks.ensures ∙ ap (λ (n : Numbers). n.c) c.plan.ensures.numbers in
-    counted-none c.nothing_is_open.ensures c.args.totals _ c.args.sender.now.link list c.requires.linked count none
+    counted-none c.nothing_is_open.ensures c.args.totals _ c.args.sender.now.link list c.is_sound.ensures count none

@@ -7,7 +7,7 @@ use Rattle.nr_linkcommands.proofs.received.sum_up.Given as goal
 -- the totals so far, with the blocks that are left, are those of all
 abbrev pub invariant-loop-index : goal.invariant-loop-index
 invariant-loop-index l = record {
-  so_far : (schedule : List Transmission) → AllHold l.senders schedule l.places
-      → totals_from l.totals (l.index + 1) (drop l.index l.senders) schedule ≡ totals_from no_totals 1 l.senders schedule;
+  so_far : (schedule : List Transmission) → AllHold l.ready.senders.items schedule l.places
+      → totals_from l.totals (l.index + 1) (drop l.index l.ready.senders.items) schedule ≡ totals_from no_totals 1 l.ready.senders.items schedule;
   within : IsWithin l.index l.totals;
 }

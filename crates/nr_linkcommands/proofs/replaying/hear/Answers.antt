@@ -1,25 +1,37 @@
-use Rattle.std.proofs.Common.{◌++◌, List, ap, sym, subst}
-use Rattle.std.proofs.lemmas.Result.{on_ok_weaker}
-use Rattle.nr_blockdesk.specs.Explains.{Reception}
+use Rattle.std.proofs.Common.{◌++◌, ◌∷◌, [], ◌∙◌, List, subst, sym}
+use Rattle.nr_blockdesk.specs.Explains.{IsAccepted, Reception, reception}
+use Rattle.nr_blockdesk.specs.Heard.{IsRecordOf}
+use Rattle.nr_blockdesk.specs.Link.{Link}
+use Rattle.nr_blockdesk.specs.declared.heard.Heard.{Heard}
 use Rattle.nr_linkcommands.specs.AuditText.{HasHeard}
-use Rattle.nr_linkcommands.specs.RunText.{received_if, received_of}
+use Rattle.nr_linkcommands.specs.Exchanges.{IsExchanged}
+use Rattle.nr_linkcommands.specs.RunText.{received_of}
 use Rattle.nr_linkcommands.proofs.AuditLemmas.{heard_same}
-use Rattle.nr_linkcommands.proofs.RunLines.{received_of-refused}
+use Rattle.nr_linkcommands.proofs.RunLines.{received_of-refused, received_of-sent}
 use Rattle.nr_linkcommands.proofs.replaying.hear.Goals as goal
 
-pub hear_bits-requires-clause-sent : goal.hear_bits-requires-clause-sent
-hear_bits-requires-clause-sent c = sym (rw c.in-Ok.is at c.in_ok-bits.ensures)
+pub take-requires : goal.take-requires
+take-requires c =
+    let x = c.args.transmission.now in
+    let made : IsExchanged c.args.sender.now x c.in-Ok.exchange = rw c.in-Ok.is at c.in_ok-exchange.ensures in
+    subst (λ (l : Link). IsAccepted l (reception x.tx c.deref.result.now)) (sym c.requires)
+    (subst (λ (h : List Heard). IsAccepted c.args.sender.now.link (reception x.tx h)) (sym c.deref.ensures.value) made.accepted)
 
-pub returns-in-Ok : goal.returns-in-Ok
-returns-in-Ok c =
+pub returns-in_ok-take-in-Ok : goal.returns-in_ok-take-in-Ok
+returns-in_ok-take-in-Ok c = λ list has.
     let sender = c.args.sender.now in
-    let said = rw c.in-Ok.is at c.in_ok-bits.ensures in
-    on_ok_weaker c.hear_bits.result
-    (λ heard list has. subst (λ (more : List Reception). HasHeard sender (list ++ more) c.hear_bits.new.receiver) (ap (received_if c.args.transmission.now) said) (heard list has)) c.hear_bits.ensures
+    let x = c.args.transmission.now in
+    let made : IsExchanged sender x c.in-Ok.exchange = rw c.in-Ok.is at c.in_ok-exchange.ensures in
+    let after = (rw has.link at c.in_ok-take-in-Ok.ensures.heard) list has.heard in
+    subst (λ (more : List Reception). HasHeard sender (list ++ more) c.take.new.receiver) (sym (received_of-sent sender x c.in-Ok.exchange.bits.items made.sent))
+    (record {
+      link = c.take.ensures.link ∙ has.link;
+      heard = subst (λ (l : List Heard). IsRecordOf sender.link (list ++ reception x.tx l ∷ []) c.take.new.receiver.heard) (c.deref.ensures.value ∙ made.heard) after;
+    })
 
 pub returns-in-Err : goal.returns-in-Err
 returns-in-Err c = λ list has.
     let sender = c.args.sender.now in
     let x = c.args.transmission.now in
-    let said = rw c.in-Err.is at c.in_ok-bits.ensures in
-    heard_same sender list (received_of sender x) c.args.receiver.now (received_of-refused sender x c.in-Err.field-0 (sym said)) has
+    let said = rw c.in-Err.is at c.in_ok-exchange.ensures in
+    heard_same sender list (received_of sender x) c.args.receiver.now (received_of-refused sender x c.in-Err.field-0 said) has

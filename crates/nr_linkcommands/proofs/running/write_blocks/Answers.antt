@@ -9,14 +9,14 @@ use Rattle.nr_linkcommands.proofs.running.write_blocks.Goals as goal
 pub returns-in_err-write_outcomes-clause-text : goal.returns-in_err-write_outcomes-clause-text
 returns-in_err-write_outcomes-clause-text g c = λ schedule held.
     let p = err_from_is_err_and c.from_residual.result c.from_residual.ensures.1 in
-    let outcomes : List ℕ = outcome_lines 1 c.args.senders.now schedule in
-    let last : List ℕ = last_line (codes "blocks") (totals_from no_totals 1 c.args.senders.now schedule) in
+    let outcomes : List ℕ = outcome_lines 1 c.args.ready.now.senders.items schedule in
+    let last : List ℕ = last_line (codes "blocks") (totals_from no_totals 1 c.args.ready.now.senders.items schedule) in
     writes_behind _ _ _ c.from_residual.result p.0 _ _ [] outcomes last p.1 p.2 refl
     (sym (with_text-nil _)) (c.in_err-write_outcomes.ensures.text schedule held)
 
 pub returns-clause-text : goal.returns-clause-text
 returns-clause-text g c = λ schedule held.
-    let outcomes : List ℕ = outcome_lines 1 c.args.senders.now schedule in
-    let last : List ℕ = last_line (codes "blocks") (totals_from no_totals 1 c.args.senders.now schedule) in
+    let outcomes : List ℕ = outcome_lines 1 c.args.ready.now.senders.items schedule in
+    let last : List ℕ = last_line (codes "blocks") (totals_from no_totals 1 c.args.ready.now.senders.items schedule) in
     let text = rw (c.sum_up.ensures schedule held) at (c.put_line.ensures.text _ (last_line-some _ _) c.last_line.ensures) in
     writes_last _ _ _ c.put_line.result outcomes last (c.in_ok-write_outcomes.ensures.text schedule held) text

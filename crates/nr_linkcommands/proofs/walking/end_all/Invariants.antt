@@ -9,9 +9,9 @@ use Rattle.nr_linkcommands.proofs.walking.end_all.Given as goal
 abbrev pub invariant-loop-process : goal.invariant-loop-process
 invariant-loop-process g l = record {
   written : g.O.Sink.written l.out ≡ with_text (g.O.Sink.written l.fn.out)
-      (flat_map (λ p. round_lines g.W.Walk.words l.senders p (round_of p l.inputs.schedule.transmissions.items)) (range_with_len 0 l.process));
-  kept : g.W.Walk.Keeps l.walk l.senders l.inputs.schedule.transmissions.items []
-      (ended_rounds [] l.inputs.schedule.transmissions.items ++ map (λ p. round_of p l.inputs.schedule.transmissions.items) (range_with_len 0 l.process));
+      (flat_map (λ p. round_lines g.W.Walk.words l.ready.senders.items p (round_of p l.ready.inputs.now.schedule.transmissions.items)) (range_with_len 0 l.process));
+  kept : g.W.Walk.Keeps l.walk l.ready.senders.items l.ready.inputs.now.schedule.transmissions.items []
+      (ended_rounds [] l.ready.inputs.now.schedule.transmissions.items ++ map (λ p. round_of p l.ready.inputs.now.schedule.transmissions.items) (range_with_len 0 l.process));
   places : g.W.Walk.places l.walk ≡ g.W.Walk.places l.fn.walk;
   sound : g.O.Sink.failures l.out ≡ g.O.Sink.failures l.fn.out;
 }

@@ -9,6 +9,7 @@ use Rattle.nr_linkcommands.proofs.RoundEnds.{of-continued, turn-parts}
 use Rattle.nr_linkcommands.proofs.RoundTurns.{all-behind, ended-few, ended-more, left-turn, taken-more, turns-end}
 use Rattle.nr_linkcommands.proofs.RunLines.{all-at}
 use Rattle.nr_linkcommands.proofs.RunTexts.{left-first, left-last, left-more, left-stopped}
+use Rattle.nr_linkcommands.proofs.Timetables.{timetable-of_rounds}
 use Rattle.nr_linkcommands.proofs.walking.follow.Goals as goal
 
 pub loop-index-init : goal.loop-index-init
@@ -17,33 +18,33 @@ loop-index-init g c = record { lines = left-first _ _; kept = c.requires.nothing
 
 pub end_before-requires : goal.end_before-requires
 end_before-requires g c =
-    let senders = c.args.senders.now in
-    let xs = c.args.inputs.now.schedule.transmissions.items in
+    let senders = c.args.ready.now.senders.items in
+    let xs = c.args.ready.now.inputs.now.schedule.transmissions.items in
     let i = c.loop-index.index in
     let x = c.index-schedule-index.result in
     let within : i < length xs = rw c.as_slice-schedule.ensures.value at c.loop-index-test.true in
     let at : x ≡ get_or xs i x = rw c.as_slice-schedule.ensures.value at c.index-schedule-index.is in
     let placed = all-at (λ (y : Transmission). y.process < g.W.Walk.places c.args.walk.now) xs i x c.requires.placed within at in
-    λ k. ((refl, tt), (omega (arith, c.requires.puts, c.loop-index.invariant.sound), (c.requires.linked, (rw c.as_slice-schedule.ensures.value (All-take (HasBlock (length senders)) i xs c.requires.named), (omega (arith, placed, c.loop-index.invariant.places), rw c.as_slice-schedule.ensures.value (drop (i + 1) xs, ended_rounds [] (take i xs), omega (arith, ended-few [] (take i xs), length-take-le i xs (omega (arith, within)), within, c.requires.few), rw (left-turn xs i x within at) at c.loop-index.invariant.kept))))))
+    λ k. ((refl, tt), (omega (arith, c.requires.puts, c.loop-index.invariant.sound), ((rw c.as_slice-schedule.ensures.value (All-take (HasBlock (length senders)) i xs c.args.ready.now.timetable.named), (omega (arith, placed, c.loop-index.invariant.places), rw c.as_slice-schedule.ensures.value (drop (i + 1) xs, ended_rounds [] (take i xs), omega (arith, ended-few [] (take i xs), length-take-le i xs (omega (arith, within)), within, c.args.ready.now.timetable.few), rw (left-turn xs i x within at) at c.loop-index.invariant.kept))))))
 
 pub make-requires : goal.make-requires
 make-requires g c =
-    let senders = c.args.senders.now in
-    let xs = c.args.inputs.now.schedule.transmissions.items in
+    let senders = c.args.ready.now.senders.items in
+    let xs = c.args.ready.now.inputs.now.schedule.transmissions.items in
     let i = c.loop-index.index in
     let x = c.index-schedule-index.result in
     let within : i < length xs = rw c.as_slice-schedule.ensures.value at c.loop-index-test.true in
     let at : x ≡ get_or xs i x = rw c.as_slice-schedule.ensures.value at c.index-schedule-index.is in
     let ended : List (List Transmission) = ended_rounds [] (take i xs) ++ ended_by (take i xs) x in
-    let of = of-continued (take i xs) x (c.requires.rounds i x within at) in
+    let of = of-continued (take i xs) x ((timetable-of_rounds _ _ c.args.ready.now.timetable) i x within at) in
     let keeps = (rw c.as_slice-schedule.ensures.value at c.in_ok-end_before.ensures.kept) (x ∷ drop (i + 1) xs) (ended_rounds [] (take i xs)) (rw (left-turn xs i x within at) at c.loop-index.invariant.kept) in
     let placed = all-at (λ (y : Transmission). y.process < g.W.Walk.places c.args.walk.now) xs i x c.requires.placed within at in
-    λ k. ((refl, tt), (omega (arith, c.requires.puts, c.loop-index.invariant.sound, c.in_ok-end_before.ensures.put), (c.requires.linked, (all-at (HasBlock (length senders)) xs i x c.requires.named within at, (omega (arith, placed, c.loop-index.invariant.places, c.in_ok-end_before.ensures.places), rw (c.as_slice-schedule.ensures.value, all-behind (i + 1) xs) (take i xs, ended, omega (arith, length-take-le i xs (omega (arith, within)), within, c.requires.few), of, keeps))))))
+    λ k. ((refl, tt), (omega (arith, c.requires.puts, c.loop-index.invariant.sound, c.in_ok-end_before.ensures.put), ((all-at (HasBlock (length senders)) xs i x c.args.ready.now.timetable.named within at, (omega (arith, placed, c.loop-index.invariant.places, c.in_ok-end_before.ensures.places), rw (c.as_slice-schedule.ensures.value, all-behind (i + 1) xs) (take i xs, ended, omega (arith, length-take-le i xs (omega (arith, within)), within, c.args.ready.now.timetable.few), of, keeps))))))
 
 pub returns-in_err-end_before-clause-text : goal.returns-in_err-end_before-clause-text
 returns-in_err-end_before-clause-text g c =
-    let senders = c.args.senders.now in
-    let xs = c.args.inputs.now.schedule.transmissions.items in
+    let senders = c.args.ready.now.senders.items in
+    let xs = c.args.ready.now.inputs.now.schedule.transmissions.items in
     let i = c.loop-index.index in
     let x = c.index-schedule-index.result in
     let within : i < length xs = rw c.as_slice-schedule.ensures.value at c.loop-index-test.true in
@@ -54,14 +55,14 @@ returns-in_err-end_before-clause-text g c =
 
 pub returns-in_err-make-clause-text : goal.returns-in_err-make-clause-text
 returns-in_err-make-clause-text g c =
-    let senders = c.args.senders.now in
-    let xs = c.args.inputs.now.schedule.transmissions.items in
+    let senders = c.args.ready.now.senders.items in
+    let xs = c.args.ready.now.inputs.now.schedule.transmissions.items in
     let i = c.loop-index.index in
     let x = c.index-schedule-index.result in
     let within : i < length xs = rw c.as_slice-schedule.ensures.value at c.loop-index-test.true in
     let at : x ≡ get_or xs i x = rw c.as_slice-schedule.ensures.value at c.index-schedule-index.is in
     let ended : List (List Transmission) = ended_rounds [] (take i xs) ++ ended_by (take i xs) x in
-    let of = of-continued (take i xs) x (c.requires.rounds i x within at) in
+    let of = of-continued (take i xs) x ((timetable-of_rounds _ _ c.args.ready.now.timetable) i x within at) in
     let keeps = (rw c.as_slice-schedule.ensures.value at c.in_ok-end_before.ensures.kept) (x ∷ drop (i + 1) xs) (ended_rounds [] (take i xs)) (rw (left-turn xs i x within at) at c.loop-index.invariant.kept) in
     let parts = turn-parts g.W.Walk.words senders xs i x within at in
     let before = rw c.as_slice-schedule.ensures.value at c.in_ok-end_before.ensures.text in
@@ -71,14 +72,14 @@ returns-in_err-make-clause-text g c =
 
 pub loop-index-preserved : goal.loop-index-preserved
 loop-index-preserved g c =
-    let senders = c.args.senders.now in
-    let xs = c.args.inputs.now.schedule.transmissions.items in
+    let senders = c.args.ready.now.senders.items in
+    let xs = c.args.ready.now.inputs.now.schedule.transmissions.items in
     let i = c.loop-index.index in
     let x = c.index-schedule-index.result in
     let within : i < length xs = rw c.as_slice-schedule.ensures.value at c.loop-index-test.true in
     let at : x ≡ get_or xs i x = rw c.as_slice-schedule.ensures.value at c.index-schedule-index.is in
     let ended : List (List Transmission) = ended_rounds [] (take i xs) ++ ended_by (take i xs) x in
-    let of = of-continued (take i xs) x (c.requires.rounds i x within at) in
+    let of = of-continued (take i xs) x ((timetable-of_rounds _ _ c.args.ready.now.timetable) i x within at) in
     let keeps = (rw c.as_slice-schedule.ensures.value at c.in_ok-end_before.ensures.kept) (x ∷ drop (i + 1) xs) (ended_rounds [] (take i xs)) (rw (left-turn xs i x within at) at c.loop-index.invariant.kept) in
     let parts = turn-parts g.W.Walk.words senders xs i x within at in
     let before = rw c.as_slice-schedule.ensures.value at c.in_ok-end_before.ensures.text in
@@ -94,7 +95,7 @@ loop-index-preserved g c =
 
 pub returns-clause-text : goal.returns-clause-text
 returns-clause-text g c =
-    let xs = c.args.inputs.now.schedule.transmissions.items in
+    let xs = c.args.ready.now.inputs.now.schedule.transmissions.items in
     let i = c.loop-index.index in
     let none : length xs ≤ i = rw c.as_slice-schedule.ensures.value at c.loop-index-test.false in
-    left-last _ _ _ (rw (turns-end g.W.Walk.words c.args.senders.now (take i xs) (drop i xs) (drop_all i xs none)) at c.loop-index.invariant.lines)
+    left-last _ _ _ (rw (turns-end g.W.Walk.words c.args.ready.now.senders.items (take i xs) (drop i xs) (drop_all i xs none)) at c.loop-index.invariant.lines)

@@ -9,10 +9,10 @@ use Rattle.nr_linkcommands.proofs.walking.follow.Given as goal
 abbrev pub invariant-loop-index : goal.invariant-loop-index
 invariant-loop-index g l = record {
   lines : IsLeft (g.O.Sink.written l.fn.out) (g.O.Sink.written l.out)
-      (pieces_joined (turns g.W.Walk.words l.senders (take l.index l.inputs.schedule.transmissions.items) (drop l.index l.inputs.schedule.transmissions.items)))
-      (pieces_joined (turns g.W.Walk.words l.senders [] l.inputs.schedule.transmissions.items));
-  kept : g.W.Walk.Keeps l.walk l.senders (take l.index l.inputs.schedule.transmissions.items) (drop l.index l.inputs.schedule.transmissions.items)
-      (ended_rounds [] (take l.index l.inputs.schedule.transmissions.items));
+      (pieces_joined (turns g.W.Walk.words l.ready.senders.items (take l.index l.ready.inputs.now.schedule.transmissions.items) (drop l.index l.ready.inputs.now.schedule.transmissions.items)))
+      (pieces_joined (turns g.W.Walk.words l.ready.senders.items [] l.ready.inputs.now.schedule.transmissions.items));
+  kept : g.W.Walk.Keeps l.walk l.ready.senders.items (take l.index l.ready.inputs.now.schedule.transmissions.items) (drop l.index l.ready.inputs.now.schedule.transmissions.items)
+      (ended_rounds [] (take l.index l.ready.inputs.now.schedule.transmissions.items));
   places : g.W.Walk.places l.walk ≡ g.W.Walk.places l.fn.walk;
   sound : g.O.Sink.failures l.out ≡ g.O.Sink.failures l.fn.out;
 }

@@ -7,6 +7,6 @@ use Rattle.nr_linkcommands.proofs.auditing.AuditRoundsWalk.make.Goals as goal
 
 pub returns-clause-text : goal.returns-clause-text
 returns-clause-text g c = λ before ended of keeps.
-    let senders = c.args.senders.now in
+    let senders = c.args.ready.now.senders.items in
     let x = c.args.transmission.now in
     rw (unsaid (sender_of senders x) (continued before x) x) (sym (with_text-nil _))

@@ -16,15 +16,15 @@ end_round-requires-clause-few g c =
 pub end_round-requires-clause-held : goal.end_round-requires-clause-held
 end_round-requires-clause-held g c =
     let kept = c.requires.kept in
-    subst (λ b. HoldsRound b c.args.senders.now (round_of c.args.process c.args.before.now) c.index-place.result.now) kept.3
-    (holds-round c.args.senders.now c.args.before.now kept.0 c.args.self.now.places.items c.args.process c.index-place.result.now c.requires.placed c.index-place.ensures kept.4.held)
+    subst (λ b. HoldsRound b c.args.ready.now.senders.items (round_of c.args.process c.args.before.now) c.index-place.result.now) kept.3
+    (holds-round c.args.ready.now.senders.items c.args.before.now kept.0 c.args.self.now.places.items c.args.process c.index-place.result.now c.requires.placed c.index-place.ensures kept.4.held)
 
 pub returns-clause-kept : goal.returns-clause-kept
 returns-clause-kept g c = λ later ended keeps.
     let round = round_of c.args.process c.args.before.now in
     record {
       held = keeps.held;
-      counted = c.in_ok-self.ensures.totals ∙ ap (λ (t : Totals). round_counted t c.args.senders.now round) keeps.counted
-          ∙ sym (counted-more no_totals c.args.senders.now ended round);
+      counted = c.in_ok-self.ensures.totals ∙ ap (λ (t : Totals). round_counted t c.args.ready.now.senders.items round) keeps.counted
+          ∙ sym (counted-more no_totals c.args.ready.now.senders.items ended round);
       within = within-more (length ended + 1) (length (ended ++ round ∷ [])) _ (omega (arith, length-append ended (round ∷ []))) (c.in_ok-self.ensures.grows (length ended) keeps.within);
     }

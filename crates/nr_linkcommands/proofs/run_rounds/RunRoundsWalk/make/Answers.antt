@@ -11,30 +11,30 @@ use Rattle.nr_linkcommands.proofs.run_rounds.RunRoundsWalk.make.Goals as goal
 
 pub carry-requires-clause-room : goal.carry-requires-clause-room
 carry-requires-clause-room g c =
-    let senders = c.args.senders.now in
+    let senders = c.args.ready.now.senders.items in
     let x = c.args.transmission.now in
-    let sender = c.index-senders-transmission.result in
-    let there = sender-there senders x x.block sender refl (omega (arith, c.requires.named.0, c.requires.named.1)) c.index-senders-transmission.is in
+    let sender = c.sender-sender.result.now in
+    let there = sender-there senders x x.block sender refl (omega (arith, c.requires.named.0, c.requires.named.1)) c.sender-sender.ensures.at in
     let kept = c.requires.kept in
     let held = made-held senders kept.0 c.args.later.now kept.1 x sender c.args.self.now.places.items c.args.self.now.totals c.index_mut-place.result.now c.begin_round.new.place kept.4 kept.3 c.requires.placed c.index_mut-place.ensures.value c.begin_round.ensures there in
     continued-room sender kept.0 _ x c.begin_round.new.place.end (omega (arith, kept.2)) held.0
 
 pub carry-requires-clause-same_link : goal.carry-requires-clause-same_link
 carry-requires-clause-same_link g c =
-    let senders = c.args.senders.now in
+    let senders = c.args.ready.now.senders.items in
     let x = c.args.transmission.now in
-    let sender = c.index-senders-transmission.result in
-    let there = sender-there senders x x.block sender refl (omega (arith, c.requires.named.0, c.requires.named.1)) c.index-senders-transmission.is in
+    let sender = c.sender-sender.result.now in
+    let there = sender-there senders x x.block sender refl (omega (arith, c.requires.named.0, c.requires.named.1)) c.sender-sender.ensures.at in
     let kept = c.requires.kept in
     let held = made-held senders kept.0 c.args.later.now kept.1 x sender c.args.self.now.places.items c.args.self.now.totals c.index_mut-place.result.now c.begin_round.new.place kept.4 kept.3 c.requires.placed c.index_mut-place.ensures.value c.begin_round.ensures there in
     held-over sender.link _ c.begin_round.new.place.end held.0
 
 pub returns-in_err-carry-clause-text : goal.returns-in_err-carry-clause-text
 returns-in_err-carry-clause-text g c = λ before ended of keeps.
-    let senders = c.args.senders.now in
+    let senders = c.args.ready.now.senders.items in
     let x = c.args.transmission.now in
-    let sender = c.index-senders-transmission.result in
-    let there = sender-there senders x x.block sender refl (omega (arith, c.requires.named.0, c.requires.named.1)) c.index-senders-transmission.is in
+    let sender = c.sender-sender.result.now in
+    let there = sender-there senders x x.block sender refl (omega (arith, c.requires.named.0, c.requires.named.1)) c.sender-sender.ensures.at in
     let held = made-held senders before c.args.later.now ended x sender c.args.self.now.places.items c.args.self.now.totals c.index_mut-place.result.now c.begin_round.new.place keeps of c.requires.placed c.index_mut-place.ensures.value c.begin_round.ensures there in
     let p = err_from_is_err_and c.from_residual.result c.from_residual.ensures.1 in
     rw (ap (λ (o : Option Sending). said_if run_words o (continued before x) x) there)
@@ -42,19 +42,19 @@ returns-in_err-carry-clause-text g c = λ before ended of keeps.
 
 pub returns-clause-text : goal.returns-clause-text
 returns-clause-text g c = λ before ended of keeps.
-    let senders = c.args.senders.now in
+    let senders = c.args.ready.now.senders.items in
     let x = c.args.transmission.now in
-    let sender = c.index-senders-transmission.result in
-    let there = sender-there senders x x.block sender refl (omega (arith, c.requires.named.0, c.requires.named.1)) c.index-senders-transmission.is in
+    let sender = c.sender-sender.result.now in
+    let there = sender-there senders x x.block sender refl (omega (arith, c.requires.named.0, c.requires.named.1)) c.sender-sender.ensures.at in
     let held = made-held senders before c.args.later.now ended x sender c.args.self.now.places.items c.args.self.now.totals c.index_mut-place.result.now c.begin_round.new.place keeps of c.requires.placed c.index_mut-place.ensures.value c.begin_round.ensures there in
     rw (ap (λ (o : Option Sending). said_if run_words o (continued before x) x) there) (c.in_ok-carry.ensures.text _ held.0)
 
 pub returns-clause-kept : goal.returns-clause-kept
 returns-clause-kept g c = λ before ended of keeps.
-    let senders = c.args.senders.now in
+    let senders = c.args.ready.now.senders.items in
     let x = c.args.transmission.now in
-    let sender = c.index-senders-transmission.result in
-    let there = sender-there senders x x.block sender refl (omega (arith, c.requires.named.0, c.requires.named.1)) c.index-senders-transmission.is in
+    let sender = c.sender-sender.result.now in
+    let there = sender-there senders x x.block sender refl (omega (arith, c.requires.named.0, c.requires.named.1)) c.sender-sender.ensures.at in
     let held = made-held senders before c.args.later.now ended x sender c.args.self.now.places.items c.args.self.now.totals c.index_mut-place.result.now c.begin_round.new.place keeps of c.requires.placed c.index_mut-place.ensures.value c.begin_round.ensures there in
     record {
       held = rounds-more senders before c.args.later.now x sender c.args.self.now.places.items c.close.new.place of there c.requires.placed keeps.held

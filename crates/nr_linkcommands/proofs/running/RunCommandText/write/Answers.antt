@@ -9,44 +9,46 @@ use Rattle.nr_files.specs.Schedule.{timetable_by}
 use Rattle.nr_linkcommands.specs.declared.received.Place.{Place}
 use Rattle.nr_linkcommands.proofs.RoundEnds.{rounds-first}
 use Rattle.nr_linkcommands.proofs.RunOutcomes.{none-within, text_of_run-some}
-use Rattle.nr_linkcommands.proofs.Timetables.{blocks-hold, placed-in, timetable-of_rounds}
+use Rattle.nr_linkcommands.proofs.Timetables.{blocks-hold, placed-in}
 use Rattle.nr_commands.proofs.WrittenLemmas.{with_text-nil, writes_behind, writes_last, writes_none}
 use Rattle.nr_linkcommands.proofs.running.RunCommandText.write.Goals as goal
 
 pub returns-in_err-rounds-clause-text : goal.returns-in_err-rounds-clause-text
 returns-in_err-rounds-clause-text g c =
     let p = err_from_is_err_and c.from_residual.result c.from_residual.ensures.1 in
-    writes_none _ _ p.0 _ p.1 p.2 (text_of_run-some c.args.senders.now (timetable_by c.args.inputs.now.schedule))
+    writes_none _ _ p.0 _ p.1 p.2 (text_of_run-some c.args.ready.now.senders.items (timetable_by c.args.ready.now.inputs.now.schedule))
 
 pub follow-requires : goal.follow-requires
 unfolding rounds_counted
 follow-requires g c =
-    let schedule = c.args.inputs.now.schedule in
-    let count : length c.in_ok-rounds.rounds.places.items ≡ cond schedule.by_process 16 (length c.args.senders.now + 1) =
-    ap length c.in_ok-rounds.ensures.places ∙ length-replicate {A = Place} c.places.result no_place ∙ c.places.ensures in
-    λ k. ((refl, tt), (c.requires.puts, (c.requires.linked, (c.requires.timetable.named, (c.requires.timetable.few, (placed-in schedule.by_process (length c.args.senders.now) _ schedule.transmissions.items c.requires.timetable.placed c.requires.timetable.named count, (timetable-of_rounds _ _ c.requires.timetable, record { held = rw c.in_ok-rounds.ensures.places (rounds-first c.args.senders.now schedule.transmissions.items c.places.result); counted = c.in_ok-rounds.ensures.totals; within = rw c.in_ok-rounds.ensures.totals none-within })))))))
+    let schedule = c.args.ready.now.inputs.now.schedule in
+    let senders : c.len.result ≡ length c.args.ready.now.senders.items = omega arith in
+    let count : length c.in_ok-rounds.rounds.places.items ≡ cond schedule.by_process 16 (length c.args.ready.now.senders.items + 1) =
+    ap length c.in_ok-rounds.ensures.places ∙ length-replicate {A = Place} c.places-places.result no_place ∙ (rw senders at c.places-places.ensures) in
+    λ k. ((refl, tt), (c.requires.puts, (placed-in schedule.by_process (length c.args.ready.now.senders.items) _ schedule.transmissions.items c.args.ready.now.timetable.placed c.args.ready.now.timetable.named count, record { held = rw c.in_ok-rounds.ensures.places (rounds-first c.args.ready.now.senders.items schedule.transmissions.items c.places-places.result); counted = c.in_ok-rounds.ensures.totals; within = rw c.in_ok-rounds.ensures.totals none-within })))
 
 pub returns-in_err-follow-clause-text : goal.returns-in_err-follow-clause-text
 returns-in_err-follow-clause-text g c =
-    let senders = c.args.senders.now in
-    let schedule = c.args.inputs.now.schedule in
+    let senders = c.args.ready.now.senders.items in
+    let schedule = c.args.ready.now.inputs.now.schedule in
     let p = err_from_is_err_and c.from_residual-in_err-follow.result c.from_residual-in_err-follow.ensures.1 in
     writes_behind _ _ _ c.from_residual-in_err-follow.result p.0 _ _ [] (pieces_joined (turns run_words senders [] schedule.transmissions.items)) (run_ends schedule.by_process senders schedule.transmissions.items) p.1 p.2 refl
     (sym (with_text-nil _)) c.in_err-follow.ensures.text
 
 pub returns-then-by_process-clause-text : goal.returns-then-by_process-clause-text
 returns-then-by_process-clause-text g c =
-    let senders = c.args.senders.now in
-    let schedule = c.args.inputs.now.schedule.transmissions.items in
+    let senders = c.args.ready.now.senders.items in
+    let schedule = c.args.ready.now.inputs.now.schedule.transmissions.items in
     rw c.if-by_process.true (writes_last _ _ _ c.write_rounds.result (pieces_joined (turns run_words senders [] schedule)) (run_ends true senders schedule) c.in_ok-follow.ensures.text c.write_rounds.ensures.text)
 
 pub returns-clause-text : goal.returns-clause-text
 returns-clause-text g c =
-    let senders = c.args.senders.now in
-    let schedule = c.args.inputs.now.schedule.transmissions.items in
+    let senders = c.args.ready.now.senders.items in
+    let schedule = c.args.ready.now.inputs.now.schedule.transmissions.items in
     let places = c.deref.result.now in
-    let all : All IsOfBlock schedule = rw c.if-by_process.false at c.requires.timetable.placed in
-    let blocks : c.places.result ≡ length senders + 1 = rw c.if-by_process.false at c.places.ensures in
+    let all : All IsOfBlock schedule = rw c.if-by_process.false at c.args.ready.now.timetable.placed in
+    let many : c.len.result ≡ length c.args.ready.now.senders.items = omega arith in
+    let blocks : c.places-places.result ≡ length senders + 1 = rw c.if-by_process.false at (rw many at c.places-places.ensures) in
     let long : length places ≡ length senders + 1 =
     omega (arith, blocks, ap length c.deref.ensures.value, c.in_ok-follow.ensures.places, ap length c.in_ok-rounds.ensures.places, length-replicate {A = Place}) in
     let held : HoldRounds senders schedule [] places = subst (HoldRounds senders schedule []) (sym c.deref.ensures.value) c.in_ok-follow.ensures.kept.held in
