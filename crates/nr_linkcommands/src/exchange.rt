@@ -1,6 +1,7 @@
 //! A transmission: what its sender sends, and what a receiver hears of it.
 
-ghost use Rattle.std.specs.Prelude.{IfOk};
+ghost use Rattle.std.specs.Prelude.{IfOk, IsErr, IsOk};
+ghost use Rattle.nr_blockdesk.specs.Sent.{tx_said};
 ghost use Rattle.nr_linkcommands.specs.Exchanges.{IsExchange};
 
 use crate::hearing::heard_through;
@@ -23,13 +24,14 @@ pub(crate) struct Arrival {
 /// it is refused.
 ///
 /// # Errors
-/// `AllocError` where memory is refused.
+/// `AllocError` where memory is refused to a transmission that is not.
 pub(crate) fn exchange(
     alloc: Global,
     sender: &Sender,
     transmission: &Transmission,
 ) -> Result<Result<Arrival, DeskFault>, AllocError>
-    ensures { IfOk result (IsExchange sender.now transmission.now) }
+    ensures made { IfOk result (IsExchange sender.now transmission.now) }
+    ensures judged { IsErr result → IsOk (tx_said sender.now.link transmission.now.tx) }
 {
     accepted_send_all();
     match said_of(sender, &transmission.tx)? {

@@ -1,13 +1,13 @@
 //! What a command over a schedule works from: its four files, read and judged whole, and a sender for each
 //! transport block.
 
-ghost use Rattle.std.specs.Prelude.{◌≡◌, ◌≢◌, ◌^◌, ◌<◌, ◌≤◌, All, length, map, IfOk, IfErr, IsErr, Err};
+ghost use Rattle.std.specs.Prelude.{◌≡◌, ◌≢◌, ◌^◌, ◌<◌, ◌≤◌, All, length, map, IfOk, IfErr, IfSome, IsErr, Err};
 ghost use Rattle.nr_graphpick.specs.Refusal.{Gives};
 ghost use Rattle.nr_shifttable.specs.Accepted.{IsTable};
 ghost use Rattle.nr_files.specs.Blocks.{IsBlockLength};
 ghost use Rattle.nr_files.specs.Reading.{FailsAs};
 ghost use Rattle.nr_commands.specs.Command.{IsBlockFault};
-ghost use Rattle.nr_files.specs.Schedule.{HasBlock, IsTimetable, timetable_by};
+ghost use Rattle.nr_files.specs.Schedule.{HasBlock, IsTimetable, schedule_said, timetable_by};
 ghost use Rattle.nr_linkcommands.specs.Inputs.{AreInputsOf, IsFirst, IsFoundIn, LeavesLater, OfFour, files_said, given_by, sender_said, senders_from};
 
 use crate::four_files::Inputs;
@@ -15,7 +15,7 @@ use nr_bitvec::Bits;
 use nr_blockdesk::{DeskFault, Sender, Settings};
 use nr_commands::RunFault;
 use nr_files::{
-    BlocksFault, ScheduleFault, SettingsFault, read_blocks, read_schedule, read_settings,
+    BlocksFault, Schedule, ScheduleFault, SettingsFault, read_blocks, read_schedule, read_settings,
 };
 use nr_shifttable::{Source, Table, TableFault};
 use std::alloc::Global;
@@ -73,13 +73,31 @@ pub fn read<T: Source, S: Source, B: Source, D: Source>(
     let table = Table::read(alloc, table)?;
     let settings = read_settings(alloc, settings)?;
     let blocks = read_blocks(alloc, blocks)?;
-    let schedule = read_schedule(alloc, blocks.len() as u32, schedule)?;
+    let schedule = schedule_for(alloc, &blocks, schedule)?;
     Ok(Inputs {
         table,
         settings,
         blocks,
         schedule,
     })
+}
+
+// Reads the schedule file of these transport blocks.
+fn schedule_for<D: Source>(
+    alloc: Global,
+    blocks: &[Vec<u8>],
+    schedule: &mut D,
+) -> Result<Schedule, ScheduleFault>
+    requires few { length blocks.now ≤ 256 }
+    requires pulls { D.failures schedule.old < 2 ^ 32 }
+    ensures said { D.failures schedule.new ≡ D.failures schedule.old → IfSome (D.remaining schedule.old)
+        (λ octets. Gives ScheduleFault.Memory timetable_by result
+        (schedule_said (length blocks.now) octets)) }
+    ensures timetable { IfOk result (λ s. IsTimetable (length blocks.now) (timetable_by s)) }
+    ensures pulled { FailsAs ScheduleFault.Read result
+        (D.failures schedule.old) (D.failures schedule.new) }
+{
+    read_schedule(alloc, blocks.len() as u32, schedule)
 }
 
 /// A sender for each transport block of files that were read, which encodes it (TS 38.212, 6.2.1 to 6.2.4 and 7.2.1

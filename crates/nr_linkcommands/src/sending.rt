@@ -1,13 +1,13 @@
 //! The command `send`.
 
-ghost use Rattle.std.specs.Prelude.{IfOk, length, ◌<◌, ◌^◌, ◌≡◌};
+ghost use Rattle.std.specs.Prelude.{IfOk, IsErr, IsOk, length, ◌<◌, ◌^◌, ◌≡◌};
 ghost use Rattle.nr_linkcommands.specs.FourFiles.{IsOverFourFiles, used};
 ghost use Rattle.nr_linkcommands.specs.SendLines.{answer_line};
 ghost use Rattle.nr_linkcommands.specs.SendText.{send_said, text_of_send, transmission_line};
 ghost use Rattle.nr_commands.specs.Command.{Writes};
 ghost use Rattle.nr_files.specs.Reading.{FailsAs};
 ghost use Rattle.nr_files.specs.Schedule.{HasBlock};
-ghost use Rattle.nr_blockdesk.specs.Sent.{sent_said};
+ghost use Rattle.nr_blockdesk.specs.Sent.{sent_said, tx_said};
 ghost use Rattle.std.specs.Result.{result_map_both};
 
 use crate::over_files::{Text, over_files};
@@ -104,10 +104,12 @@ fn line_of(
 /// What a sender says of a transmission: the bits, or why it is refused.
 ///
 /// # Errors
-/// `AllocError` where memory is refused.
+/// `AllocError` where memory is refused to a transmission that is not.
 pub(crate) fn said_of(sender: &Sender, tx: &Tx) -> Result<Result<Bits, DeskFault>, AllocError>
-    ensures { IfOk result (λ said. result_map_both (λ bits. bits.items) (λ fault. fault) said
+    ensures said { IfOk result
+        (λ said. result_map_both (λ bits. bits.items) (λ fault. fault) said
         ≡ sent_said sender.now.link tx.now sender.now.block) }
+    ensures judged { IsErr result → IsOk (tx_said sender.now.link tx.now) }
 {
     match sender.send(tx) {
         Ok(bits) => Ok(Ok(bits)),

@@ -17,7 +17,7 @@ use Rattle.nr_linkcommands.proofs.carrying.carry.Goals as goal
 
 pub receive-requires-clause-accepted : goal.receive-requires-clause-accepted
 receive-requires-clause-accepted g c =
-    let made : IsExchanged c.args.sender.now c.args.transmission.now c.in-Ok.exchange = rw c.in-Ok.is at c.in_ok-exchange.ensures in
+    let made : IsExchanged c.args.sender.now c.args.transmission.now c.in-Ok.exchange = rw c.in-Ok.is at c.in_ok-exchange.ensures.made in
     subst (λ (h : List Heard). IsAccepted c.args.sender.now.link (reception c.args.transmission.now.tx h)) (sym c.deref.ensures.value) made.accepted
 
 pub returns-in_err-exchange-clause-text : goal.returns-in_err-exchange-clause-text
@@ -27,7 +27,7 @@ returns-in_err-exchange-clause-text g c = λ list holds.
 
 pub returns-in_err-put_line-in-Ok-clause-text : goal.returns-in_err-put_line-in-Ok-clause-text
 returns-in_err-put_line-in-Ok-clause-text g c = λ list holds.
-    let made : IsExchanged c.args.sender.now c.args.transmission.now c.in-Ok.exchange = rw c.in-Ok.is at c.in_ok-exchange.ensures in
+    let made : IsExchanged c.args.sender.now c.args.transmission.now c.in-Ok.exchange = rw c.in-Ok.is at c.in_ok-exchange.ensures.made in
     let bits = c.in-Ok.exchange.bits.items in
     let p = err_from_is_err_and c.from_residual-in_err-put_line-in-Ok.result c.from_residual-in_err-put_line-in-Ok.ensures.1 in
     let whole = lines_of-sent c.args.sender.now list c.args.transmission.now bits made.sent in
@@ -35,7 +35,7 @@ returns-in_err-put_line-in-Ok-clause-text g c = λ list holds.
 
 pub returns-in_err-after-in-Ok-clause-text : goal.returns-in_err-after-in-Ok-clause-text
 returns-in_err-after-in-Ok-clause-text g c = λ list holds.
-    let made : IsExchanged c.args.sender.now c.args.transmission.now c.in-Ok.exchange = rw c.in-Ok.is at c.in_ok-exchange.ensures in
+    let made : IsExchanged c.args.sender.now c.args.transmission.now c.in-Ok.exchange = rw c.in-Ok.is at c.in_ok-exchange.ensures.made in
     let bits = c.in-Ok.exchange.bits.items in
     let p = err_from_is_err_and c.from_residual-in_err-after-in-Ok.result c.from_residual-in_err-after-in-Ok.ensures.1 in
     let whole = lines_of-sent c.args.sender.now list c.args.transmission.now bits made.sent in
@@ -46,7 +46,7 @@ pub returns-in_err-write_left-in-Ok-clause-text : goal.returns-in_err-write_left
 returns-in_err-write_left-in-Ok-clause-text g c = λ list holds.
     let x = c.args.transmission.now in
     let link = c.args.sender.now.link in
-    let made : IsExchanged c.args.sender.now x c.in-Ok.exchange = rw c.in-Ok.is at c.in_ok-exchange.ensures in
+    let made : IsExchanged c.args.sender.now x c.in-Ok.exchange = rw c.in-Ok.is at c.in_ok-exchange.ensures.made in
     let bits = c.in-Ok.exchange.bits.items in
     let p = err_from_is_err_and c.from_residual-in_err-write_left-in-Ok.result c.from_residual-in_err-write_left-in-Ok.ensures.1 in
     let whole = lines_of-sent c.args.sender.now list x bits made.sent in
@@ -61,7 +61,7 @@ pub returns-in_ok-write_left-in-Ok-clause-text : goal.returns-in_ok-write_left-i
 returns-in_ok-write_left-in-Ok-clause-text g c = λ list holds.
     let x = c.args.transmission.now in
     let link = c.args.sender.now.link in
-    let made : IsExchanged c.args.sender.now x c.in-Ok.exchange = rw c.in-Ok.is at c.in_ok-exchange.ensures in
+    let made : IsExchanged c.args.sender.now x c.in-Ok.exchange = rw c.in-Ok.is at c.in_ok-exchange.ensures.made in
     let bits = c.in-Ok.exchange.bits.items in
     let whole = lines_of-sent c.args.sender.now list x bits made.sent in
     let more = list ++ reception x.tx (heard_through x bits) ∷ [] in
@@ -74,16 +74,16 @@ returns-in_ok-write_left-in-Ok-clause-text g c = λ list holds.
 pub returns-in_ok-write_left-in-Ok-clause-held : goal.returns-in_ok-write_left-in-Ok-clause-held
 returns-in_ok-write_left-in-Ok-clause-held g c = λ list holds.
     let x = c.args.transmission.now in
-    let made : IsExchanged c.args.sender.now x c.in-Ok.exchange = rw c.in-Ok.is at c.in_ok-exchange.ensures in
+    let made : IsExchanged c.args.sender.now x c.in-Ok.exchange = rw c.in-Ok.is at c.in_ok-exchange.ensures.made in
     let is = rw (c.take.ensures.value, c.deref.ensures.value, made.heard) at c.in_ok-after-in-Ok.ensures list holds in
     rw (received_of-sent c.args.sender.now x c.in-Ok.exchange.bits.items made.sent) is
 
 pub returns-in-Err-clause-text : goal.returns-in-Err-clause-text
 returns-in-Err-clause-text g c = λ list holds.
-    let said = rw c.in-Err.is at c.in_ok-exchange.ensures in
+    let said = rw c.in-Err.is at c.in_ok-exchange.ensures.made in
     rw (lines_of-refused c.args.sender.now list c.args.transmission.now c.in-Err.fault said) (c.put_line-in-Err.ensures.text _ (answer_line-some _ _ (Err c.in-Err.fault)) c.refused_line.ensures)
 
 pub returns-in-Err-clause-held : goal.returns-in-Err-clause-held
 returns-in-Err-clause-held g c = on_ok-any c.put_line-in-Err.result (λ list holds.
-    let said = rw c.in-Err.is at c.in_ok-exchange.ensures in
+    let said = rw c.in-Err.is at c.in_ok-exchange.ensures.made in
     rw (received_of-refused c.args.sender.now c.args.transmission.now c.in-Err.fault said, append-nil list) holds)

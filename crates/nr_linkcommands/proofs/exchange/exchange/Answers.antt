@@ -4,11 +4,11 @@ use Rattle.nr_blockdesk.specs.declared.heard.Heard.{Heard}
 use Rattle.nr_linkcommands.proofs.Receptions.{sent-accepted}
 use Rattle.nr_linkcommands.proofs.exchange.exchange.Goals as goal
 
-pub returns-in_ok-heard-in-Ok : goal.returns-in_ok-heard-in-Ok
-returns-in_ok-heard-in-Ok c =
+pub returns-in_ok-heard-in-Ok-clause-made : goal.returns-in_ok-heard-in-Ok-clause-made
+returns-in_ok-heard-in-Ok-clause-made c =
     let sender = c.args.sender.now in
     let x = c.args.transmission.now in
-    let sent = sym (rw c.in-Ok.is at c.in_ok-bits.ensures) in
+    let sent = sym (rw c.in-Ok.is at c.in_ok-bits.ensures.said) in
     record {
       sent = sent;
       heard = c.in_ok-heard-in-Ok.ensures;

@@ -1,4 +1,4 @@
-use Rattle.std.proofs.Common.{◌≡◌, length, map, arith}
+use Rattle.std.proofs.Common.{◌≡◌, ◌∙◌, ap, length, map, sym, arith}
 use Rattle.std.proofs.lemmas.List.{length-map}
 use Rattle.std.proofs.lemmas.Option.{IfSome_then}
 use Rattle.std.proofs.lemmas.Result.{err_from_is_err_and}
@@ -36,8 +36,8 @@ returns-in_err-blocks-clause-said g c = λ same_t same_s same_b same_d.
 pub returns-in_err-schedule-clause-said : goal.returns-in_err-schedule-clause-said
 returns-in_err-schedule-clause-said g c = λ same_t same_s same_b same_d.
     let p = err_from_is_err_and c.from_residual-in_err-schedule.result c.from_residual-in_err-schedule.ensures.1 in
-    let count : c.len.result ≡ length (map (λ block. block.items) c.in_ok-blocks.blocks.items) =
-    omega (arith, length-map c.in_ok-blocks.blocks.items (λ block. block.items)) in
+    let count : length c.deref.result.now ≡ length (map (λ block. block.items) c.in_ok-blocks.blocks.items) =
+    ap length c.deref.ensures.value ∙ sym (length-map c.in_ok-blocks.blocks.items (λ block. block.items)) in
     let schedule = rw count at c.in_err-schedule.ensures.said same_d in
     of_all (g.T.Source.remaining c.args.table.now) (g.S.Source.remaining c.args.settings.now) (g.B.Source.remaining c.args.blocks.now) (g.D.Source.remaining c.args.schedule.now) c.in_ok-table.ensures.said (c.in_ok-settings.ensures.said same_s) (c.in_ok-blocks.ensures.said same_b) schedule
     (λ t s b d table settings blocks said. gives-refused given_by c.from_residual-in_err-schedule.result p.0 _ (files_said t s b d) p.1 p.2
@@ -46,8 +46,8 @@ returns-in_err-schedule-clause-said g c = λ same_t same_s same_b same_d.
 
 pub returns-clause-said : goal.returns-clause-said
 returns-clause-said g c = λ same_t same_s same_b same_d.
-    let count : c.len.result ≡ length (map (λ block. block.items) c.in_ok-blocks.blocks.items) =
-    omega (arith, length-map c.in_ok-blocks.blocks.items (λ block. block.items)) in
+    let count : length c.deref.result.now ≡ length (map (λ block. block.items) c.in_ok-blocks.blocks.items) =
+    ap length c.deref.ensures.value ∙ sym (length-map c.in_ok-blocks.blocks.items (λ block. block.items)) in
     let schedule = rw count at c.in_ok-schedule.ensures.said same_d in
     of_all (g.T.Source.remaining c.args.table.now) (g.S.Source.remaining c.args.settings.now) (g.B.Source.remaining c.args.blocks.now) (g.D.Source.remaining c.args.schedule.now) c.in_ok-table.ensures.said (c.in_ok-settings.ensures.said same_s) (c.in_ok-blocks.ensures.said same_b) schedule
     (λ t s b d table settings blocks said. given-all t s b d c.in_ok-table.table c.in_ok-settings.settings (map (λ block. block.items) c.in_ok-blocks.blocks.items) (timetable_by c.in_ok-schedule.schedule)
@@ -123,8 +123,8 @@ returns-in_err-blocks-clause-found g c =
 pub returns-in_err-schedule-clause-found : goal.returns-in_err-schedule-clause-found
 returns-in_err-schedule-clause-found g c =
     let p = err_from_is_err_and c.from_residual-in_err-schedule.result c.from_residual-in_err-schedule.ensures.1 in
-    let count : c.len.result ≡ length (map (λ block. block.items) c.in_ok-blocks.blocks.items) =
-    omega (arith, length-map c.in_ok-blocks.blocks.items (λ block. block.items)) in
+    let count : length c.deref.result.now ≡ length (map (λ block. block.items) c.in_ok-blocks.blocks.items) =
+    ap length c.deref.ensures.value ∙ sym (length-map c.in_ok-blocks.blocks.items (λ block. block.items)) in
     let schedule = rw count at c.in_err-schedule.ensures.said in
     found_err c.from_residual-in_err-schedule.result p.0 _ (g.T.Source.remaining c.args.table.now) (g.S.Source.remaining c.args.settings.now) (g.B.Source.remaining c.args.blocks.now) (g.D.Source.remaining c.args.schedule.now) p.1 p.2
     (found_schedule (map (λ block. block.items) c.in_ok-blocks.blocks.items) c.in_err-schedule.field-0.0 _ _ _ _ _ _ c.in_err-schedule.ensures.pulled
@@ -132,8 +132,8 @@ returns-in_err-schedule-clause-found g c =
 
 pub returns-clause-files : goal.returns-clause-files
 returns-clause-files g c =
-    let count : c.len.result ≡ length (map (λ block. block.items) c.in_ok-blocks.blocks.items) =
-    omega (arith, length-map c.in_ok-blocks.blocks.items (λ block. block.items)) in
+    let count : length c.deref.result.now ≡ length (map (λ block. block.items) c.in_ok-blocks.blocks.items) =
+    ap length c.deref.ensures.value ∙ sym (length-map c.in_ok-blocks.blocks.items (λ block. block.items)) in
     let schedule = rw count at c.in_ok-schedule.ensures.said in
     record {
       table = IfSome_then (g.T.Source.remaining c.args.table.now) c.in_ok-table.ensures.said (λ text is. table_read _ text c.in_ok-table.table (λ read. cc) is);

@@ -13,7 +13,7 @@ use Rattle.nr_linkcommands.proofs.replaying.hear.Goals as goal
 pub take-requires : goal.take-requires
 take-requires c =
     let x = c.args.transmission.now in
-    let made : IsExchanged c.args.sender.now x c.in-Ok.exchange = rw c.in-Ok.is at c.in_ok-exchange.ensures in
+    let made : IsExchanged c.args.sender.now x c.in-Ok.exchange = rw c.in-Ok.is at c.in_ok-exchange.ensures.made in
     subst (λ (l : Link). IsAccepted l (reception x.tx c.deref.result.now)) (sym c.requires)
     (subst (λ (h : List Heard). IsAccepted c.args.sender.now.link (reception x.tx h)) (sym c.deref.ensures.value) made.accepted)
 
@@ -21,7 +21,7 @@ pub returns-in_ok-take-in-Ok : goal.returns-in_ok-take-in-Ok
 returns-in_ok-take-in-Ok c = λ list has.
     let sender = c.args.sender.now in
     let x = c.args.transmission.now in
-    let made : IsExchanged sender x c.in-Ok.exchange = rw c.in-Ok.is at c.in_ok-exchange.ensures in
+    let made : IsExchanged sender x c.in-Ok.exchange = rw c.in-Ok.is at c.in_ok-exchange.ensures.made in
     let after = (rw has.link at c.in_ok-take-in-Ok.ensures.heard) list has.heard in
     subst (λ (more : List Reception). HasHeard sender (list ++ more) c.take.new.receiver) (sym (received_of-sent sender x c.in-Ok.exchange.bits.items made.sent))
     (record {
@@ -33,5 +33,5 @@ pub returns-in-Err : goal.returns-in-Err
 returns-in-Err c = λ list has.
     let sender = c.args.sender.now in
     let x = c.args.transmission.now in
-    let said = rw c.in-Err.is at c.in_ok-exchange.ensures in
+    let said = rw c.in-Err.is at c.in_ok-exchange.ensures.made in
     heard_same sender list (received_of sender x) c.args.receiver.now (received_of-refused sender x c.in-Err.field-0 said) has
