@@ -4,10 +4,10 @@ use Rattle.std.specs.List.{range_with_len}
 use Rattle.std.proofs.lemmas.List.FromFn.{map-range_with_len_more}
 use Rattle.std.proofs.lemmas.List.{get_or_default}
 use Rattle.nr_blockdesk.specs.Sent.{Sending}
-use Rattle.nr_linkcommands.specs.Ends.{HoldRounds, HoldsRound, goes_on, no_place}
+use Rattle.nr_linkcommands.specs.Ends.{HoldRounds, HoldsRound, goes_on, empty_slot}
 use Rattle.nr_linkcommands.specs.RoundTexts.{Words, last_rounds, pieces_joined, round_lines}
 use Rattle.nr_files.specs.Rounds.{round_of}
-use Rattle.nr_linkcommands.specs.declared.received.Place.{Place}
+use Rattle.nr_linkcommands.specs.declared.run_command.slot.Slot.{Slot}
 use Rattle.nr_files.specs.declared.schedule.Transmission.{Transmission}
 
 -- their lines
@@ -25,7 +25,7 @@ last-more ended schedule p =
     append_assoc ended (map (λ q. round_of q schedule) (range_with_len 0 p)) (round_of p schedule ∷ [])
     ∙ ap (λ (rounds : List (List Transmission)). ended ++ rounds) (sym (map-range_with_len_more (λ q. round_of q schedule) 0 p p (omega arith)))
 
--- what the place of a process has received
-pub holds-round : (senders : List Sending) (schedule later : List Transmission) (places : List Place) (p : ℕ) (place : Place) → p < length places → place ≡ get_or places p place → HoldRounds senders schedule later places → HoldsRound (goes_on p later) senders (round_of p schedule) place
-holds-round senders schedule later places p place within is held =
-    subst (HoldsRound (goes_on p later) senders (round_of p schedule)) (sym (is ∙ get_or_default places p place no_place within)) (held p within)
+-- what the slot of a process has received
+pub holds-round : (senders : List Sending) (schedule later : List Transmission) (slots : List Slot) (p : ℕ) (slot : Slot) → p < length slots → slot ≡ get_or slots p slot → HoldRounds senders schedule later slots → HoldsRound (goes_on p later) senders (round_of p schedule) slot
+holds-round senders schedule later slots p slot within is held =
+    subst (HoldsRound (goes_on p later) senders (round_of p schedule)) (sym (is ∙ get_or_default slots p slot empty_slot within)) (held p within)

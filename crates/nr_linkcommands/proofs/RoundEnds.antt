@@ -1,4 +1,4 @@
--- What each place has received of the round that its process is in, one transmission after the other.
+-- What each slot has received of the round that its process is in, one transmission after the other.
 use Rattle.std.proofs.Common.{◌≡◌, ℕ, suc, ◌+◌, ◌-◌, ◌<◌, ◌≤◌, ◌==◌, All, Bool, true, false, not, cond, Option, None, Some, List, [], ◌∷◌, ◌++◌, length, take, drop, set, replicate, slice_get, get_or, ap, sym, subst, refl, ◌∙◌, ⊎_elim, arith, append_assoc, length-append}
 use Rattle.std.specs.List.{list_any}
 use Rattle.std.specs.Option.{option_map}
@@ -12,15 +12,15 @@ use Rattle.std.proofs.lemmas.Option.{slice_get-get_or}
 use Rattle.nr_blockdesk.specs.Explains.{Reception}
 use Rattle.nr_blockdesk.specs.Link.{Link}
 use Rattle.nr_blockdesk.specs.Sent.{Sending}
-use Rattle.nr_linkcommands.specs.Ends.{HasReceived, HoldRounds, HoldsEnd, HoldsIf, HoldsKept, HoldsPlace, HoldsRound, IsOfRound, IsOver, KeepsRounds, goes_on, no_place}
+use Rattle.nr_linkcommands.specs.Ends.{HasReceived, HoldRounds, HoldsState, HoldsIf, HoldsSummary, HoldsSlot, HoldsRound, IsOfRound, IsOver, KeepsRounds, goes_on, empty_slot}
 use Rattle.nr_linkcommands.specs.RunText.{counted, counted_if, received, received_of, round_counted, run_words}
 use Rattle.nr_linkcommands.specs.RunLines.{outcome_line, process_words}
 use Rattle.nr_linkcommands.specs.RoundTexts.{Words, ended_if, pieces_joined, round_lines, said_if, sender_of, turns}
 use Rattle.nr_files.specs.Rounds.{continued, of_process, round_of, since_fresh}
 use Rattle.nr_files.specs.Schedule.{HasBlock}
-use Rattle.nr_linkcommands.specs.declared.received.End.{End}
-use Rattle.nr_linkcommands.specs.declared.received.Place.{Place}
-use Rattle.nr_linkcommands.specs.declared.received.Totals.{Totals}
+use Rattle.nr_linkcommands.specs.declared.run_command.slot.RxState.{RxState}
+use Rattle.nr_linkcommands.specs.declared.run_command.slot.Slot.{Slot}
+use Rattle.nr_linkcommands.specs.declared.run_command.totals.Totals.{Totals}
 use Rattle.nr_files.specs.declared.schedule.Transmission.{Transmission}
 use Rattle.nr_linkcommands.proofs.LastRounds.{holds-round}
 use Rattle.nr_linkcommands.proofs.RoundTurns.{continued-more, other-more, received-more, turns-turn}
@@ -83,12 +83,12 @@ round-named n number p before is all =
     let named = block-named n number (round_of p before) is (round-all (HasBlock n) p before all) in
     (named.0, omega (arith, named.0, named.1))
 
-pub round-held : (senders : List Sending) (number : ℕ) (sender : Sending) (round : List Transmission) (place : Place) → Some number ≡ option_map (λ x. x.block) (slice_get round 0) → number - 1 < length senders → sender ≡ get_or senders (number - 1) sender → HoldsRound false senders round place → HoldsKept sender.link (received sender round) place.kept
-round-held senders number sender [] place is within at held = absurd (cc)
-round-held senders number sender (x ∷ more) place is within at held =
+pub round-held : (senders : List Sending) (number : ℕ) (sender : Sending) (round : List Transmission) (slot : Slot) → Some number ≡ option_map (λ x. x.block) (slice_get round 0) → number - 1 < length senders → sender ≡ get_or senders (number - 1) sender → HoldsRound false senders round slot → HoldsSummary sender.link (received sender round) slot.summary
+round-held senders number sender [] slot is within at held = absurd (cc)
+round-held senders number sender (x ∷ more) slot is within at held =
     let block : x.block ≡ number = cc in
-    let holds : HoldsPlace false sender.link (received sender (x ∷ more)) place =
-    subst (λ (s : Option Sending). HoldsIf false s (x ∷ more) place) (sender-there senders x number sender block within at) held in
+    let holds : HoldsSlot false sender.link (received sender (x ∷ more)) slot =
+    subst (λ (s : Option Sending). HoldsIf false s (x ∷ more) slot) (sender-there senders x number sender block within at) held in
     holds.1
 
 pub round_lines-some : (senders : List Sending) (p number : ℕ) (sender : Sending) (round : List Transmission) → Some number ≡ option_map (λ x. x.block) (slice_get round 0) → number - 1 < length senders → sender ≡ get_or senders (number - 1) sender → round_lines run_words senders p round ≡ process_words p ++ outcome_line number sender.link (received sender round)
@@ -138,72 +138,72 @@ pub goes_on-other : (p : ℕ) (x : Transmission) (later : List Transmission) →
 goes_on-other p x later other = ap (λ b. cond b (not x.fresh) (goes_on p later)) other
 
 -- what is received of the round that a transmission goes on with, by the sender of its block
-holds-by : (senders : List Sending) (round : List Transmission) (x : Transmission) (sender : Sending) (place : Place) → sender_of senders x ≡ Some sender → IsOfRound round x → HoldsRound true senders round place → HoldsPlace true sender.link (received sender round) place
-holds-by senders [] x sender place there of held = subst (HoldsPlace true sender.link []) (sym held) (refl, refl)
-holds-by senders (y ∷ more) x sender place there of held =
-    subst (λ (s : Option Sending). HoldsIf true s (y ∷ more) place) (ap (λ n. slice_get senders (n - 1)) of ∙ there) held
+holds-by : (senders : List Sending) (round : List Transmission) (x : Transmission) (sender : Sending) (slot : Slot) → sender_of senders x ≡ Some sender → IsOfRound round x → HoldsRound true senders round slot → HoldsSlot true sender.link (received sender round) slot
+holds-by senders [] x sender slot there of held = subst (HoldsSlot true sender.link []) (sym held) (refl, refl)
+holds-by senders (y ∷ more) x sender slot there of held =
+    subst (λ (s : Option Sending). HoldsIf true s (y ∷ more) slot) (ap (λ n. slice_get senders (n - 1)) of ∙ there) held
 
 -- where a fresh one forgets what was received
-begun-holds : (senders : List Sending) (before later : List Transmission) (x : Transmission) (old new : Place) → new ≡ cond x.fresh no_place old → HoldsRound (goes_on x.process (x ∷ later)) senders (round_of x.process before) old → HoldsRound true senders (continued before x) new
+begun-holds : (senders : List Sending) (before later : List Transmission) (x : Transmission) (old new : Slot) → new ≡ cond x.fresh empty_slot old → HoldsRound (goes_on x.process (x ∷ later)) senders (round_of x.process before) old → HoldsRound true senders (continued before x) new
 begun-holds senders before later x old new is held =
     go x.fresh is (subst (λ b. HoldsRound b senders (round_of x.process before) old) (goes_on-turn x later) held)
   where
-    go : (b : Bool) → new ≡ cond b no_place old → HoldsRound (not b) senders (round_of x.process before) old → HoldsRound true senders (cond b [] (round_of x.process before)) new
+    go : (b : Bool) → new ≡ cond b empty_slot old → HoldsRound (not b) senders (round_of x.process before) old → HoldsRound true senders (cond b [] (round_of x.process before)) new
     go true none holds = none
     go false same holds = subst (HoldsRound true senders (round_of x.process before)) (sym same) holds
 
-pub made-held : (senders : List Sending) (before later : List Transmission) (ended : List (List Transmission)) (x : Transmission) (sender : Sending) (places : List Place) (totals : Totals) (old new : Place)
-    → KeepsRounds senders before (x ∷ later) ended places totals → IsOfRound (continued before x) x → x.process < length places → old ≡ get_or places x.process old → new ≡ cond x.fresh no_place old → sender_of senders x ≡ Some sender → HoldsPlace true sender.link (received sender (continued before x)) new
-made-held senders before later ended x sender places totals old new keeps of inside at is there =
-    holds-by senders (continued before x) x sender new there of (begun-holds senders before later x old new is (holds-round senders before (x ∷ later) places x.process old inside at keeps.held))
+pub made-held : (senders : List Sending) (before later : List Transmission) (ended : List (List Transmission)) (x : Transmission) (sender : Sending) (slots : List Slot) (totals : Totals) (old new : Slot)
+    → KeepsRounds senders before (x ∷ later) ended slots totals → IsOfRound (continued before x) x → x.process < length slots → old ≡ get_or slots x.process old → new ≡ cond x.fresh empty_slot old → sender_of senders x ≡ Some sender → HoldsSlot true sender.link (received sender (continued before x)) new
+made-held senders before later ended x sender slots totals old new keeps of inside at is there =
+    holds-by senders (continued before x) x sender new there of (begun-holds senders before later x old new is (holds-round senders before (x ∷ later) slots x.process old inside at keeps.held))
 
 -- it is no more than the transmissions before
-pub continued-room : (sender : Sending) (before : List Transmission) (n : ℕ) (x : Transmission) (end : Option End) → length before ≤ n → HoldsEnd sender.link (received sender (continued before x)) end → HasReceived n end
-continued-room sender before n x end few held =
-    has_received sender.link (received sender (continued before x)) n end held
+pub continued-room : (sender : Sending) (before : List Transmission) (n : ℕ) (x : Transmission) (state : Option RxState) → length before ≤ n → HoldsState sender.link (received sender (continued before x)) state → HasReceived n state
+continued-room sender before n x state few held =
+    has_received sender.link (received sender (continued before x)) n state held
     (omega (arith, few, received-few sender (continued before x), continued-few before x))
 
 -- and its receiver has the sender's link
-pub held-over : (link : Link) (list : List Reception) (end : Option End) → HoldsEnd link list end → IsOver link end
+pub held-over : (link : Link) (list : List Reception) (state : Option RxState) → HoldsState link list state → IsOver link state
 held-over link list None held = tt
-held-over link list (Some end) held = held.same_link
+held-over link list (Some state) held = held.same_link
 
 -- and with the transmission
-holds-more : (goes : Bool) (senders : List Sending) (round : List Transmission) (x : Transmission) (sender : Sending) (place : Place) → sender_of senders x ≡ Some sender → IsOfRound round x → HoldsPlace goes sender.link (received sender round ++ received_of sender x) place → HoldsRound goes senders (round ++ x ∷ []) place
-holds-more goes senders [] x sender place there of holds =
-    subst (λ (s : Option Sending). HoldsIf goes s (x ∷ []) place) (sym there)
-    (subst (λ list. HoldsPlace goes sender.link list place) (sym (received-more sender [] x)) holds)
-holds-more goes senders (y ∷ more) x sender place there of holds =
-    subst (λ (s : Option Sending). HoldsIf goes s (y ∷ more ++ x ∷ []) place) (sym (ap (λ n. slice_get senders (n - 1)) of ∙ there))
-    (subst (λ list. HoldsPlace goes sender.link list place) (sym (received-more sender (y ∷ more) x)) holds)
+holds-more : (goes : Bool) (senders : List Sending) (round : List Transmission) (x : Transmission) (sender : Sending) (slot : Slot) → sender_of senders x ≡ Some sender → IsOfRound round x → HoldsSlot goes sender.link (received sender round ++ received_of sender x) slot → HoldsRound goes senders (round ++ x ∷ []) slot
+holds-more goes senders [] x sender slot there of holds =
+    subst (λ (s : Option Sending). HoldsIf goes s (x ∷ []) slot) (sym there)
+    (subst (λ list. HoldsSlot goes sender.link list slot) (sym (received-more sender [] x)) holds)
+holds-more goes senders (y ∷ more) x sender slot there of holds =
+    subst (λ (s : Option Sending). HoldsIf goes s (y ∷ more ++ x ∷ []) slot) (sym (ap (λ n. slice_get senders (n - 1)) of ∙ there))
+    (subst (λ list. HoldsSlot goes sender.link list slot) (sym (received-more sender (y ∷ more) x)) holds)
 
--- before any transmission no place has received anything
-pub rounds-first : (senders : List Sending) (later : List Transmission) (n : ℕ) → HoldRounds senders [] later (replicate n no_place)
+-- before any transmission no slot has received anything
+pub rounds-first : (senders : List Sending) (later : List Transmission) (n : ℕ) → HoldRounds senders [] later (replicate n empty_slot)
 unfolding since_fresh
-rounds-first senders later n = λ p within. get_or-replicate n p no_place no_place (omega (arith, within, length-replicate {A = Place} n no_place))
+rounds-first senders later n = λ p within. get_or-replicate n p empty_slot empty_slot (omega (arith, within, length-replicate {A = Slot} n empty_slot))
 
 -- after a transmission more
-pub rounds-more : (senders : List Sending) (before later : List Transmission) (x : Transmission) (sender : Sending) (places : List Place) (after : Place) → IsOfRound (continued before x) x → sender_of senders x ≡ Some sender → x.process < length places → HoldRounds senders before (x ∷ later) places
-    → HoldsPlace (goes_on x.process later) sender.link (received sender (continued before x) ++ received_of sender x) after → HoldRounds senders (before ++ x ∷ []) later (set places x.process after)
-rounds-more senders before later x sender places after of there inside held holds = λ p low.
+pub rounds-more : (senders : List Sending) (before later : List Transmission) (x : Transmission) (sender : Sending) (slots : List Slot) (after : Slot) → IsOfRound (continued before x) x → sender_of senders x ≡ Some sender → x.process < length slots → HoldRounds senders before (x ∷ later) slots
+    → HoldsSlot (goes_on x.process later) sender.link (received sender (continued before x) ++ received_of sender x) after → HoldRounds senders (before ++ x ∷ []) later (set slots x.process after)
+rounds-more senders before later x sender slots after of there inside held holds = λ p low.
     ⊎_elim (same p) (other p low) (cases_eq p x.process)
   where
     more : HoldsRound (goes_on x.process later) senders (continued before x ++ x ∷ []) after
     more = holds-more (goes_on x.process later) senders (continued before x) x sender after there of holds
 
-    same : (p : ℕ) → p ≡ x.process → HoldsRound (goes_on p later) senders (round_of p (before ++ x ∷ [])) (get_or (set places x.process after) p no_place)
+    same : (p : ℕ) → p ≡ x.process → HoldsRound (goes_on p later) senders (round_of p (before ++ x ∷ [])) (get_or (set slots x.process after) p empty_slot)
     same p equal =
-        subst (λ q. HoldsRound (goes_on q later) senders (round_of q (before ++ x ∷ [])) (get_or (set places x.process after) q no_place)) (sym equal)
-        (subst (λ round. HoldsRound (goes_on x.process later) senders round (get_or (set places x.process after) x.process no_place)) (sym (continued-more before x))
-        (subst (HoldsRound (goes_on x.process later) senders (continued before x ++ x ∷ [])) (sym (get_or-set_at places x.process x.process after no_place refl inside)) more))
+        subst (λ q. HoldsRound (goes_on q later) senders (round_of q (before ++ x ∷ [])) (get_or (set slots x.process after) q empty_slot)) (sym equal)
+        (subst (λ round. HoldsRound (goes_on x.process later) senders round (get_or (set slots x.process after) x.process empty_slot)) (sym (continued-more before x))
+        (subst (HoldsRound (goes_on x.process later) senders (continued before x ++ x ∷ [])) (sym (get_or-set_at slots x.process x.process after empty_slot refl inside)) more))
 
-    other : (p : ℕ) → p < length (set places x.process after) → (p ≡ x.process → ⊥) → HoldsRound (goes_on p later) senders (round_of p (before ++ x ∷ [])) (get_or (set places x.process after) p no_place)
+    other : (p : ℕ) → p < length (set slots x.process after) → (p ≡ x.process → ⊥) → HoldsRound (goes_on p later) senders (round_of p (before ++ x ∷ [])) (get_or (set slots x.process after) p empty_slot)
     other p low differ =
         let apart : (x.process == p) ≡ false = grind (arith, nat_tests) in
-        let there_too : p < length places = omega (arith, low, length-set places x.process after) in
-        subst (λ round. HoldsRound (goes_on p later) senders round (get_or (set places x.process after) p no_place)) (sym (other-more p before x apart))
-        (subst (λ b. HoldsRound b senders (round_of p before) (get_or (set places x.process after) p no_place)) (goes_on-other p x later apart)
-        (subst (HoldsRound (goes_on p (x ∷ later)) senders (round_of p before)) (sym (get_or-set_other places x.process p after no_place differ)) (held p there_too)))
+        let there_too : p < length slots = omega (arith, low, length-set slots x.process after) in
+        subst (λ round. HoldsRound (goes_on p later) senders round (get_or (set slots x.process after) p empty_slot)) (sym (other-more p before x apart))
+        (subst (λ b. HoldsRound b senders (round_of p before) (get_or (set slots x.process after) p empty_slot)) (goes_on-other p x later apart)
+        (subst (HoldsRound (goes_on p (x ∷ later)) senders (round_of p before)) (sym (get_or-set_other slots x.process p after empty_slot differ)) (held p there_too)))
 
 -- the lines of the transmission at index i: those of the round that it ends, its own, and those behind them
 pub turn-parts : (words : Words) (senders : List Sending) (xs : List Transmission) (i : ℕ) (x : Transmission) → i < length xs → x ≡ get_or xs i x

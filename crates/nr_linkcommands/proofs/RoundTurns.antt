@@ -8,7 +8,7 @@ use Rattle.nr_blockdesk.specs.Sent.{Sending}
 use Rattle.nr_linkcommands.specs.RunText.{received, received_of, round_counted, rounds_counted}
 use Rattle.nr_linkcommands.specs.RoundTexts.{Words, pieces_joined, turn_lines, turns}
 use Rattle.nr_files.specs.Rounds.{continued, ended_by, ended_rounds, round_of}
-use Rattle.nr_linkcommands.specs.declared.received.Totals.{Totals}
+use Rattle.nr_linkcommands.specs.declared.run_command.totals.Totals.{Totals}
 use Rattle.nr_files.specs.declared.schedule.Transmission.{Transmission}
 use Rattle.nr_files.proofs.RoundFacts.{round-more}
 

@@ -10,13 +10,13 @@ use Rattle.nr_blockdesk.specs.Link.{Link}
 use Rattle.nr_blockdesk.specs.Outcome.{left}
 use Rattle.nr_blockdesk.specs.Sent.{Sending, sent_said}
 use Rattle.nr_transmission.specs.declared.fault.DeskFault.{DeskFault}
-use Rattle.nr_linkcommands.specs.Ends.{AllHold, HasReceived, HoldsEnd, HoldsKept, no_place}
+use Rattle.nr_linkcommands.specs.Ends.{AllHold, HasReceived, HoldsState, HoldsSummary, empty_slot}
 use Rattle.nr_linkcommands.specs.Hearing.{heard_through}
 use Rattle.nr_linkcommands.specs.RunLines.{left_line, left_lines}
 use Rattle.nr_linkcommands.specs.RunText.{lines_if, lines_of, own, received, received_if, received_of}
 use Rattle.nr_linkcommands.specs.SendLines.{refused_line, sent_line}
-use Rattle.nr_linkcommands.specs.declared.received.End.{End}
-use Rattle.nr_linkcommands.specs.declared.received.Place.{Place}
+use Rattle.nr_linkcommands.specs.declared.run_command.slot.RxState.{RxState}
+use Rattle.nr_linkcommands.specs.declared.run_command.slot.Slot.{Slot}
 use Rattle.nr_files.specs.declared.schedule.Transmission.{Transmission}
 use Rattle.nr_linkcommands.proofs.RunOutcomes.{left_line-some}
 use Rattle.nr_linkcommands.proofs.SendLemmas.{answer_line-some}
@@ -32,10 +32,10 @@ received-few sender (x ∷ xs) =
     let one : length (received_of sender x) ≤ 1 = received_if-few x (sent_said sender.link x.tx sender.block) in
     omega (arith, one, received-few sender xs, length-append (received_of sender x) (received sender xs))
 
--- an end's count, by what it has received
-pub has_received : (link : Link) (list : List Reception) (n : ℕ) (end : Option End) → HoldsEnd link list end → length list ≤ n → HasReceived n end
+-- a state's count, by what it has received
+pub has_received : (link : Link) (list : List Reception) (n : ℕ) (state : Option RxState) → HoldsState link list state → length list ≤ n → HasReceived n state
 has_received link list n None holds few = tt
-has_received link list n (Some end) holds few = omega (arith, holds.count, few)
+has_received link list n (Some state) holds few = omega (arith, holds.count, few)
 
 -- the lines of a transmission, by what its sender says
 pub lines_of-said : (sender : Sending) (list : List Reception) (x : Transmission) (said : Result (List Bool) DeskFault) → sent_said sender.link x.tx sender.block ≡ said → lines_of sender list x ≡ lines_if x sender.link (list ++ received_if x said) said
@@ -85,6 +85,6 @@ on_ok-any (Ok x) p = p
 on_ok-any (Err e) p = tt
 
 -- what is kept of a block
-pub holds-at : (senders : List Sending) (schedule : List Transmission) (places : List Place) (i : ℕ) (sender : Sending) (any : Place) → i < length senders → sender ≡ get_or senders i sender → i < length places → AllHold senders schedule places → HoldsKept sender.link (received sender (own (i + 1) schedule)) (get_or places i any).kept
-holds-at senders schedule places i sender any within at inside held =
-    subst (λ (p : Place). HoldsKept sender.link (received sender (own (i + 1) schedule)) p.kept) (sym (get_or_default places i any no_place inside)) (held i sender within at).1
+pub holds-at : (senders : List Sending) (schedule : List Transmission) (slots : List Slot) (i : ℕ) (sender : Sending) (any : Slot) → i < length senders → sender ≡ get_or senders i sender → i < length slots → AllHold senders schedule slots → HoldsSummary sender.link (received sender (own (i + 1) schedule)) (get_or slots i any).summary
+holds-at senders schedule slots i sender any within at inside held =
+    subst (λ (p : Slot). HoldsSummary sender.link (received sender (own (i + 1) schedule)) p.summary) (sym (get_or_default slots i any empty_slot inside)) (held i sender within at).1

@@ -23,7 +23,7 @@ use Rattle.nr_linkcommands.specs.RunText.{counted, counted_by, no_totals, open_c
 use Rattle.nr_linkcommands.specs.RoundTexts.{last_rounds, pieces_joined, turns}
 use Rattle.nr_files.specs.Rounds.{all_rounds}
 use Rattle.nr_files.specs.Schedule.{Timetable}
-use Rattle.nr_linkcommands.specs.declared.received.Totals.{Totals}
+use Rattle.nr_linkcommands.specs.declared.run_command.totals.Totals.{Totals}
 use Rattle.nr_files.specs.declared.schedule.Transmission.{Transmission}
 use Rattle.nr_commands.proofs.WrittenLemmas.{some_at_end}
 

@@ -7,11 +7,11 @@ use Rattle.std.proofs.lemmas.Grind.{get_or_after_one}
 use Rattle.std.proofs.lemmas.List.Elements.{All-get_or, All-head, All-take, filter_passes}
 use Rattle.std.proofs.lemmas.Option.{slice_get-get_or}
 use Rattle.nr_blockdesk.specs.Sent.{Sending}
-use Rattle.nr_linkcommands.specs.Ends.{AllHold, AreOfRounds, HoldRounds, HoldsIf, HoldsPlace, HoldsRound, IsOfRound, no_place}
+use Rattle.nr_linkcommands.specs.Ends.{AllHold, AreOfRounds, HoldRounds, HoldsIf, HoldsSlot, HoldsRound, IsOfRound, empty_slot}
 use Rattle.nr_files.specs.Rounds.{IsOfBlock, round_of}
 use Rattle.nr_linkcommands.specs.RunText.{own, received}
 use Rattle.nr_files.specs.Schedule.{EachGoesOn, HasBlock, IsPlaced, IsTimetable, Timetable, fresh_block}
-use Rattle.nr_linkcommands.specs.declared.received.Place.{Place}
+use Rattle.nr_linkcommands.specs.declared.run_command.slot.Slot.{Slot}
 use Rattle.nr_files.specs.declared.schedule.Transmission.{Transmission}
 use Rattle.nr_files.proofs.BlockRounds.{blocks_are_rounds}
 use Rattle.nr_linkcommands.proofs.RoundTurns.{all-behind}
@@ -46,32 +46,32 @@ of_rounds false xs placed goes_on = λ i x within at stale.
 pub timetable-of_rounds : (n : ℕ) (s : Timetable) → IsTimetable n s → AreOfRounds s.transmissions
 timetable-of_rounds n s is = of_rounds s.by_process s.transmissions is.placed is.rounds
 
--- each has a place: one of sixteen, or that of its block
-pub placed-in : (b : Bool) (n places : ℕ) (xs : List Transmission) → All (IsPlaced b) xs → All (HasBlock n) xs → places ≡ cond b 16 (n + 1) → All (λ (x : Transmission). x.process < places) xs
-placed-in b n places xs placed named count = λ k d within. one b (get_or xs k d) (placed k d within) (named k d within) count
+-- each has a slot: one of sixteen, or that of its block
+pub placed-in : (b : Bool) (n slots : ℕ) (xs : List Transmission) → All (IsPlaced b) xs → All (HasBlock n) xs → slots ≡ cond b 16 (n + 1) → All (λ (x : Transmission). x.process < slots) xs
+placed-in b n slots xs placed named count = λ k d within. one b (get_or xs k d) (placed k d within) (named k d within) count
   where
-    one : (c : Bool) (x : Transmission) → IsPlaced c x → HasBlock n x → places ≡ cond c 16 (n + 1) → x.process < places
+    one : (c : Bool) (x : Transmission) → IsPlaced c x → HasBlock n x → slots ≡ cond c 16 (n + 1) → x.process < slots
     one true x low there is = omega (arith, low, is)
     one false x alone there is = omega (arith, alone.process, there.1, is)
 
--- a place that holds a round of transmissions of one block
-round-holds : (senders : List Sending) (n : ℕ) (sender : Sending) (round : List Transmission) (place : Place) → slice_get senders (n - 1) ≡ Some sender → All (λ (y : Transmission). (y.block == n) ≡ true) round → HoldsRound false senders round place → HoldsPlace false sender.link (received sender round) place
-round-holds senders n sender [] place there all holds = subst (HoldsPlace false sender.link []) (sym holds) (refl, refl)
-round-holds senders n sender (y ∷ more) place there all holds =
+-- a slot that holds a round of transmissions of one block
+round-holds : (senders : List Sending) (n : ℕ) (sender : Sending) (round : List Transmission) (slot : Slot) → slice_get senders (n - 1) ≡ Some sender → All (λ (y : Transmission). (y.block == n) ≡ true) round → HoldsRound false senders round slot → HoldsSlot false sender.link (received sender round) slot
+round-holds senders n sender [] slot there all holds = subst (HoldsSlot false sender.link []) (sym holds) (refl, refl)
+round-holds senders n sender (y ∷ more) slot there all holds =
     let first : (y.block == n) ≡ true = All-head (λ (z : Transmission). (z.block == n) ≡ true) y more all in
     let number : y.block ≡ n = grind (arith, nat_tests) in
-    subst (λ (o : Option Sending). HoldsIf false o (y ∷ more) place) (ap (λ k. slice_get senders (k - 1)) number ∙ there) holds
+    subst (λ (o : Option Sending). HoldsIf false o (y ∷ more) slot) (ap (λ k. slice_get senders (k - 1)) number ∙ there) holds
 
--- where no processes are named, place i + 1 has received the transmissions of block i + 1
-pub blocks-hold : (senders : List Sending) (schedule : List Transmission) (places : List Place) → All IsOfBlock schedule → length places ≡ length senders + 1 → HoldRounds senders schedule [] places → AllHold senders schedule (take (length places - 1) (drop 1 places))
-blocks-hold senders schedule places all long held = subst (AllHold senders schedule) (sym (all-behind 1 places)) each
+-- where no processes are named, slot i + 1 has received the transmissions of block i + 1
+pub blocks-hold : (senders : List Sending) (schedule : List Transmission) (slots : List Slot) → All IsOfBlock schedule → length slots ≡ length senders + 1 → HoldRounds senders schedule [] slots → AllHold senders schedule (take (length slots - 1) (drop 1 slots))
+blocks-hold senders schedule slots all long held = subst (AllHold senders schedule) (sym (all-behind 1 slots)) each
   where
-    each : AllHold senders schedule (drop 1 places)
+    each : AllHold senders schedule (drop 1 slots)
     each = λ i sender within at.
         let number : i + 1 - 1 ≡ i = omega arith in
         let there : slice_get senders (i + 1 - 1) ≡ Some sender = ap (slice_get senders) number ∙ slice_get-get_or senders i sender within ∙ ap Some (sym at) in
-        let place : get_or (drop 1 places) i no_place ≡ get_or places (i + 1) no_place = get_or_after_one places i no_place ∙ ap (λ k. get_or places k no_place) (omega arith) in
-        let round : HoldsRound false senders (own (i + 1) schedule) (get_or places (i + 1) no_place) =
-        subst (λ (xs : List Transmission). HoldsRound false senders xs (get_or places (i + 1) no_place)) (blocks_are_rounds schedule all (i + 1)) (held (i + 1) (omega (arith, long, within))) in
-        subst (HoldsPlace false sender.link (received sender (own (i + 1) schedule))) (sym place)
-        (round-holds senders (i + 1) sender (own (i + 1) schedule) (get_or places (i + 1) no_place) there (filter_passes (λ x. x.block == i + 1) schedule) round)
+        let slot : get_or (drop 1 slots) i empty_slot ≡ get_or slots (i + 1) empty_slot = get_or_after_one slots i empty_slot ∙ ap (λ k. get_or slots k empty_slot) (omega arith) in
+        let round : HoldsRound false senders (own (i + 1) schedule) (get_or slots (i + 1) empty_slot) =
+        subst (λ (xs : List Transmission). HoldsRound false senders xs (get_or slots (i + 1) empty_slot)) (blocks_are_rounds schedule all (i + 1)) (held (i + 1) (omega (arith, long, within))) in
+        subst (HoldsSlot false sender.link (received sender (own (i + 1) schedule))) (sym slot)
+        (round-holds senders (i + 1) sender (own (i + 1) schedule) (get_or slots (i + 1) empty_slot) there (filter_passes (λ x. x.block == i + 1) schedule) round)

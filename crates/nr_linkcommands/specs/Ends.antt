@@ -1,4 +1,4 @@
--- What the receiving ends of a run keep.
+-- What the slots of a run keep.
 use Rattle.std.specs.Prelude.{◌≡◌, ℕ, ◌+◌, ◌*◌, ◌<◌, ◌≤◌, ◌==◌, Bool, true, false, not, if◌then◌else◌, List, [], ◌∷◌, Option, Some, None, length, take, slice_index_or}
 use Rattle.nr_blockdesk.specs.Explains.{Reception}
 use Rattle.nr_blockdesk.specs.Heard.{IsRecordOf, heard_record}
@@ -10,81 +10,81 @@ use Rattle.nr_linkcommands.specs.RoundTexts.{sender_of}
 use Rattle.nr_files.specs.Rounds.{round_of}
 use Rattle.nr_linkcommands.specs.RunLines.{unfixed_blocks}
 use Rattle.nr_linkcommands.specs.RunText.{no_totals, own, received, rounds_counted}
-use Rattle.nr_linkcommands.specs.declared.received.End.{End}
-use Rattle.nr_linkcommands.specs.declared.received.Kept.{Kept}
-use Rattle.nr_linkcommands.specs.declared.received.Place.{Place}
-use Rattle.nr_linkcommands.specs.declared.received.Totals.{Totals}
+use Rattle.nr_linkcommands.specs.declared.run_command.slot.RxState.{RxState}
+use Rattle.nr_linkcommands.specs.declared.run_command.slot.RxSummary.{RxSummary}
+use Rattle.nr_linkcommands.specs.declared.run_command.slot.Slot.{Slot}
+use Rattle.nr_linkcommands.specs.declared.run_command.totals.Totals.{Totals}
 use Rattle.nr_files.specs.declared.schedule.Transmission.{Transmission}
 
--- an end has received this list: its receiver keeps the record, with the outcome and the number of receptions
-pub record IsEnd (link : Link) (list : List Reception) (end : End) : Type 0 where
-  pub same_link : end.receiver.link ≡ link
-  pub recorded : IsRecordOf link list end.receiver.heard
-  pub outcome : verdict end.outcome ≡ outcome_of link list
-  pub count : end.count ≡ length list
+-- a state has received this list: its receiver keeps the record, with the outcome and the number of receptions
+pub record IsRxState (link : Link) (list : List Reception) (state : RxState) : Type 0 where
+  pub same_link : state.receiver.link ≡ link
+  pub recorded : IsRecordOf link list state.receiver.heard
+  pub outcome : verdict state.outcome ≡ outcome_of link list
+  pub count : state.count ≡ length list
 
--- the same where an end is only made once something is received
-abbrev pub HoldsEnd : Link → List Reception → Option End → Type 0
-HoldsEnd link list None = list ≡ []
-HoldsEnd link list (Some end) = IsEnd link list end
+-- the same where a state is only made once something is received
+abbrev pub HoldsState : Link → List Reception → Option RxState → Type 0
+HoldsState link list None = list ≡ []
+HoldsState link list (Some state) = IsRxState link list state
 
--- an end's count is no more than this
-abbrev pub HasReceived : ℕ → Option End → Type 0
+-- a state's count is no more than this
+abbrev pub HasReceived : ℕ → Option RxState → Type 0
 HasReceived n None = Unit {0}
-HasReceived n (Some end) = end.count ≤ n
+HasReceived n (Some state) = state.count ≤ n
 
--- an end's receiver has this link
-abbrev pub IsOver : Link → Option End → Type 0
+-- a state's receiver has this link
+abbrev pub IsOver : Link → Option RxState → Type 0
 IsOver link None = Unit {0}
-IsOver link (Some end) = end.receiver.link ≡ link
+IsOver link (Some state) = state.receiver.link ≡ link
 
 -- what is kept of this list once nothing more is received: the outcome, the number of receptions, and how many code
 -- blocks have a position that is not fixed
-pub record IsKept (link : Link) (list : List Reception) (kept : Kept) : Type 0 where
-  pub outcome : verdict kept.outcome ≡ outcome_of link list
-  pub count : kept.count ≡ length list
-  pub failed : kept.failed ≡ unfixed_blocks link (heard_record link list)
+pub record IsSummary (link : Link) (list : List Reception) (summary : RxSummary) : Type 0 where
+  pub outcome : verdict summary.outcome ≡ outcome_of link list
+  pub count : summary.count ≡ length list
+  pub failed : summary.failed ≡ unfixed_blocks link (heard_record link list)
 
 -- the same; nothing is kept where nothing was received
-abbrev pub HoldsKept : Link → List Reception → Option Kept → Type 0
-HoldsKept link list None = list ≡ []
-HoldsKept link list (Some kept) = IsKept link list kept
+abbrev pub HoldsSummary : Link → List Reception → Option RxSummary → Type 0
+HoldsSummary link list None = list ≡ []
+HoldsSummary link list (Some summary) = IsSummary link list summary
 
--- a place at which nothing was received
-abbrev pub no_place : Place
-no_place = record { end = None; kept = None }
+-- a slot in which nothing was received
+abbrev pub empty_slot : Slot
+empty_slot = record { state = None; summary = None }
 
--- A place has received this list. While later transmissions go on with it, its receiving end has, and nothing is kept;
+-- A slot has received this list. While later transmissions go on with it, its state has, and nothing is kept;
 -- once none does, it has no receiver.
-abbrev pub HoldsPlace : Bool → Link → List Reception → Place → Type 0
-HoldsPlace true link list place = (HoldsEnd link list place.end) × (place.kept ≡ None)
-HoldsPlace false link list place = (place.end ≡ None) × HoldsKept link list place.kept
+abbrev pub HoldsSlot : Bool → Link → List Reception → Slot → Type 0
+HoldsSlot true link list slot = (HoldsState link list slot.state) × (slot.summary ≡ None)
+HoldsSlot false link list slot = (slot.state ≡ None) × HoldsSummary link list slot.summary
 
 -- of each transport block what its sender's transmissions among these gave is kept, and no receiver is left
-abbrev pub AllHold : List Sending → List Transmission → List Place → Type 0
-AllHold senders transmissions places = (i : ℕ) (sender : Sending) → i < length senders
+abbrev pub AllHold : List Sending → List Transmission → List Slot → Type 0
+AllHold senders transmissions slots = (i : ℕ) (sender : Sending) → i < length senders
     → sender ≡ slice_index_or senders i sender
-    → HoldsPlace false sender.link (received sender (own (i + 1) transmissions)) (slice_index_or places i no_place)
+    → HoldsSlot false sender.link (received sender (own (i + 1) transmissions)) (slice_index_or slots i empty_slot)
 
--- a place has received what a round gave, by the sender of the round's block
-abbrev pub HoldsIf : Bool → Option Sending → List Transmission → Place → Type 0
-HoldsIf goes_on None round place = Unit {0}
-HoldsIf goes_on (Some sender) round place = HoldsPlace goes_on sender.link (received sender round) place
+-- a slot has received what a round gave, by the sender of the round's block
+abbrev pub HoldsIf : Bool → Option Sending → List Transmission → Slot → Type 0
+HoldsIf goes_on None round slot = Unit {0}
+HoldsIf goes_on (Some sender) round slot = HoldsSlot goes_on sender.link (received sender round) slot
 
--- the same by the block that the round's first transmission names; a place that is in no round has received nothing
-abbrev pub HoldsRound : Bool → List Sending → List Transmission → Place → Type 0
-HoldsRound goes_on senders [] place = place ≡ no_place
-HoldsRound goes_on senders (x ∷ more) place = HoldsIf goes_on (sender_of senders x) (x ∷ more) place
+-- the same by the block that the round's first transmission names; a slot that is in no round has received nothing
+abbrev pub HoldsRound : Bool → List Sending → List Transmission → Slot → Type 0
+HoldsRound goes_on senders [] slot = slot ≡ empty_slot
+HoldsRound goes_on senders (x ∷ more) slot = HoldsIf goes_on (sender_of senders x) (x ∷ more) slot
 
 -- whether a later transmission goes on with the round that process p is in: the first that is of p is not fresh
 abbrev pub goes_on : ℕ → List Transmission → Bool
 goes_on p [] = false
 goes_on p (x ∷ more) = if x.process == p then not x.fresh else goes_on p more
 
--- each place has received its process's round
-abbrev pub HoldRounds : List Sending → List Transmission → List Transmission → List Place → Type 0
-HoldRounds senders before later places = (p : ℕ) → p < length places
-    → HoldsRound (goes_on p later) senders (round_of p before) (slice_index_or places p no_place)
+-- each slot has received its process's round
+abbrev pub HoldRounds : List Sending → List Transmission → List Transmission → List Slot → Type 0
+HoldRounds senders before later slots = (p : ℕ) → p < length slots
+    → HoldsRound (goes_on p later) senders (round_of p before) (slice_index_or slots p empty_slot)
 
 -- a transmission is of the block of the round that it goes on with
 abbrev pub IsOfRound : List Transmission → Transmission → Type 0
@@ -105,8 +105,8 @@ pub record IsWithin (n : ℕ) (t : Totals) : Type 0 where
   pub code_blocks : t.code_blocks ≤ n * 4294967296
   pub failed : t.failed ≤ n * 4294967296
 
--- A run's places after these transmissions and before those later, and its totals of the rounds that ended.
-pub record KeepsRounds (senders : List Sending) (before later : List Transmission) (ended : List (List Transmission)) (places : List Place) (totals : Totals) : Type 0 where
-  pub held : HoldRounds senders before later places
+-- A run's slots after these transmissions and before those later, and its totals of the rounds that ended.
+pub record KeepsRounds (senders : List Sending) (before later : List Transmission) (ended : List (List Transmission)) (slots : List Slot) (totals : Totals) : Type 0 where
+  pub held : HoldRounds senders before later slots
   pub counted : totals ≡ rounds_counted no_totals senders ended
   pub within : IsWithin (length ended) totals

@@ -4,7 +4,7 @@ use Rattle.nr_blockdesk.specs.Explains.{IsAccepted, reception}
 use Rattle.nr_blockdesk.specs.Sent.{Sending, sent_said}
 use Rattle.nr_transmission.specs.declared.fault.DeskFault.{DeskFault}
 use Rattle.nr_linkcommands.specs.Hearing.{heard_through}
-use Rattle.nr_linkcommands.specs.declared.exchange.Arrival.{Arrival}
+use Rattle.nr_linkcommands.specs.declared.link.Arrival.{Arrival}
 use Rattle.nr_files.specs.declared.schedule.Transmission.{Transmission}
 
 -- what a sender's transmission gives that is not refused: a receiver of the sender's link accepts what is heard

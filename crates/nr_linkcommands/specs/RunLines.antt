@@ -8,7 +8,7 @@ use Rattle.nr_blockdesk.specs.Heard.{heard_record}
 use Rattle.nr_blockdesk.specs.Link.{Link}
 use Rattle.nr_blockdesk.specs.Outcome.{Verdict, contradiction, delivered, left, open_still, outcome_of}
 use Rattle.nr_commands.specs.Hex.{hex}
-use Rattle.nr_linkcommands.specs.declared.received.Totals.{Totals}
+use Rattle.nr_linkcommands.specs.declared.run_command.totals.Totals.{Totals}
 
 -- the line of code block r after transmission t of block n: how many positions below K' are not fixed
 unfoldable pub left_line : ℕ → ℕ → ℕ → ℕ → List ℕ

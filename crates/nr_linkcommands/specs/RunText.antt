@@ -11,7 +11,7 @@ use Rattle.nr_transmission.specs.declared.fault.DeskFault.{DeskFault}
 use Rattle.nr_linkcommands.specs.Hearing.{heard_through}
 use Rattle.nr_linkcommands.specs.SendLines.{refused_line, sent_line}
 use Rattle.nr_files.specs.declared.schedule.Transmission.{Transmission}
-use Rattle.nr_linkcommands.specs.declared.received.Totals.{Totals}
+use Rattle.nr_linkcommands.specs.declared.run_command.totals.Totals.{Totals}
 use Rattle.nr_linkcommands.specs.FourFiles.{said_over}
 use Rattle.nr_linkcommands.specs.RoundTexts.{Words, last_rounds, pieces_joined, sender_of, turns}
 use Rattle.nr_files.specs.Rounds.{all_rounds}

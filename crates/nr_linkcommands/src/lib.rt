@@ -6,30 +6,21 @@
 //! Stands on nr_files and nr_commands, and on nr_blockdesk and the layers below it for the standard.
 #![tactic(auto)]
 
-mod audit_lines;
-mod auditing;
-mod carrying;
-mod exchange;
+mod audit_command;
 mod four_files;
-mod hearing;
 mod inputs;
+mod link;
 mod over_files;
-mod received;
-mod replaying;
-mod run_laws;
-mod run_lines;
-mod run_rounds;
-mod running;
-mod send_lines;
-mod sending;
 mod ready;
-mod walking;
+mod run_command;
+mod schedule_walk;
+mod send_command;
 
-pub use auditing::audit;
+pub use audit_command::audit;
 pub use four_files::Inputs;
-pub use hearing::heard_through;
 pub use inputs::{read, senders};
-pub use run_laws::{erasures_alone_are_safe, lines_are_own, rounds_are_calls, runs_are_safe};
-pub use run_lines::process_words;
-pub use running::run;
-pub use sending::send;
+pub use link::heard_through;
+pub use run_command::{
+    erasures_alone_are_safe, lines_are_own, process_words, rounds_are_calls, run, runs_are_safe,
+};
+pub use send_command::send;

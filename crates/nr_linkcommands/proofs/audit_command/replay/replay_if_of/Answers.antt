@@ -1,0 +1,22 @@
+use Rattle.std.proofs.Common.{◌≡◌, ◌==◌, ◌++◌, ◌∷◌, [], true, false, sym, subst, List, arith}
+use Rattle.std.specs.Prelude.{OnOk}
+use Rattle.std.proofs.lemmas.Bool.Decides.{nat_tests}
+use Rattle.nr_blockdesk.specs.Explains.{Reception}
+use Rattle.nr_linkcommands.specs.AuditText.{HasHeard}
+use Rattle.nr_files.specs.Rounds.{of_process}
+use Rattle.nr_linkcommands.specs.RunText.{received}
+use Rattle.nr_linkcommands.proofs.AuditLemmas.{heard_same, received-other, received-own}
+use Rattle.nr_linkcommands.proofs.audit_command.replay.replay_if_of.Goals as goal
+
+pub returns-then-transmission-process : goal.returns-then-transmission-process
+returns-then-transmission-process c =
+    let x = c.args.transmission.now in
+    let other : (x.process == c.args.process) ≡ false = grind (arith, nat_tests) in
+    λ list has. heard_same c.args.sender.now list (received c.args.sender.now (of_process c.args.process (x ∷ []))) c.args.receiver.now (received-other c.args.process c.args.sender.now x other) has
+
+pub returns : goal.returns
+returns c =
+    let x = c.args.transmission.now in
+    let mine : (x.process == c.args.process) ≡ true = grind (arith, nat_tests) in
+    subst (λ (more : List Reception). OnOk c.replay_one.result ((list : List Reception) → HasHeard c.args.sender.now list c.args.receiver.now → HasHeard c.args.sender.now (list ++ more) c.replay_one.new.receiver))
+    (sym (received-own c.args.process c.args.sender.now x mine)) c.replay_one.ensures

@@ -1,0 +1,37 @@
+use Rattle.std.proofs.Common.{◌++◌, ◌∷◌, [], ◌∙◌, List, subst, sym}
+use Rattle.nr_blockdesk.specs.Explains.{IsAccepted, Reception, reception}
+use Rattle.nr_blockdesk.specs.Heard.{IsRecordOf}
+use Rattle.nr_blockdesk.specs.Link.{Link}
+use Rattle.nr_blockdesk.specs.declared.heard.Heard.{Heard}
+use Rattle.nr_linkcommands.specs.AuditText.{HasHeard}
+use Rattle.nr_linkcommands.specs.Exchanges.{IsExchanged}
+use Rattle.nr_linkcommands.specs.RunText.{received_of}
+use Rattle.nr_linkcommands.proofs.AuditLemmas.{heard_same}
+use Rattle.nr_linkcommands.proofs.RunLines.{received_of-refused, received_of-sent}
+use Rattle.nr_linkcommands.proofs.audit_command.replay.replay_one.Goals as goal
+
+pub receive-requires : goal.receive-requires
+receive-requires c =
+    let x = c.args.transmission.now in
+    let made : IsExchanged c.args.sender.now x c.in-Ok.exchange = rw c.in-Ok.is at c.in_ok-exchange.ensures.made in
+    subst (λ (l : Link). IsAccepted l (reception x.tx c.deref.result.now)) (sym c.requires)
+    (subst (λ (h : List Heard). IsAccepted c.args.sender.now.link (reception x.tx h)) (sym c.deref.ensures.value) made.accepted)
+
+pub returns-in_ok-receive-in-Ok : goal.returns-in_ok-receive-in-Ok
+returns-in_ok-receive-in-Ok c = λ list has.
+    let sender = c.args.sender.now in
+    let x = c.args.transmission.now in
+    let made : IsExchanged sender x c.in-Ok.exchange = rw c.in-Ok.is at c.in_ok-exchange.ensures.made in
+    let after = (rw has.link at c.in_ok-receive-in-Ok.ensures.heard) list has.heard in
+    subst (λ (more : List Reception). HasHeard sender (list ++ more) c.receive.new.receiver) (sym (received_of-sent sender x c.in-Ok.exchange.bits.items made.sent))
+    (record {
+      link = c.receive.ensures.link ∙ has.link;
+      heard = subst (λ (l : List Heard). IsRecordOf sender.link (list ++ reception x.tx l ∷ []) c.receive.new.receiver.heard) (c.deref.ensures.value ∙ made.heard) after;
+    })
+
+pub returns-in-Err : goal.returns-in-Err
+returns-in-Err c = λ list has.
+    let sender = c.args.sender.now in
+    let x = c.args.transmission.now in
+    let said = rw c.in-Err.is at c.in_ok-exchange.ensures.made in
+    heard_same sender list (received_of sender x) c.args.receiver.now (received_of-refused sender x c.in-Err.field-0 said) has

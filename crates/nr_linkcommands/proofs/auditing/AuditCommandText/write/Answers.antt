@@ -1,7 +1,0 @@
-use Rattle.std.proofs.Common.{◌≡◌, true}
-use Rattle.nr_linkcommands.proofs.auditing.AuditCommandText.write.Goals as goal
-
-pub returns-then-ready-clause-text : goal.returns-then-ready-clause-text
-returns-then-ready-clause-text g c =
-    let by : c.args.ready.now.inputs.now.schedule.by_process ≡ true = cc in
-    rw by c.audit_rounds.ensures.text

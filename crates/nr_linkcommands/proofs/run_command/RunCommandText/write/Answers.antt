@@ -1,0 +1,56 @@
+use Rattle.std.proofs.Common.{◌≡◌, ◌+◌, [], All, cond, false, true, length, ap, sym, refl, subst, ◌∙◌, arith}
+use Rattle.std.proofs.lemmas.List.{length-replicate}
+use Rattle.std.proofs.lemmas.Result.{err_from_is_err_and}
+use Rattle.nr_linkcommands.specs.Ends.{HoldRounds, empty_slot}
+use Rattle.nr_linkcommands.specs.RunText.{rounds_counted, run_ends, run_words}
+use Rattle.nr_linkcommands.specs.RoundTexts.{pieces_joined, turns}
+use Rattle.nr_files.specs.Rounds.{IsOfBlock}
+use Rattle.nr_files.specs.Schedule.{timetable_by}
+use Rattle.nr_linkcommands.specs.declared.run_command.slot.Slot.{Slot}
+use Rattle.nr_linkcommands.proofs.RoundEnds.{rounds-first}
+use Rattle.nr_linkcommands.proofs.RunOutcomes.{none-within, text_of_run-some}
+use Rattle.nr_linkcommands.proofs.Timetables.{blocks-hold, placed-in}
+use Rattle.nr_commands.proofs.WrittenLemmas.{with_text-nil, writes_behind, writes_last, writes_none}
+use Rattle.nr_linkcommands.proofs.run_command.RunCommandText.write.Goals as goal
+
+pub returns-in_err-rounds-clause-text : goal.returns-in_err-rounds-clause-text
+returns-in_err-rounds-clause-text g c =
+    let p = err_from_is_err_and c.from_residual.result c.from_residual.ensures.1 in
+    writes_none _ _ p.0 _ p.1 p.2 (text_of_run-some c.args.ready.now.senders.items (timetable_by c.args.ready.now.inputs.now.schedule))
+
+pub follow-requires : goal.follow-requires
+unfolding rounds_counted
+follow-requires g c =
+    let schedule = c.args.ready.now.inputs.now.schedule in
+    let senders : c.len.result ≡ length c.args.ready.now.senders.items = omega arith in
+    let count : length c.in_ok-rounds.rounds.slots.items ≡ cond schedule.by_process 16 (length c.args.ready.now.senders.items + 1) =
+    ap length c.in_ok-rounds.ensures.slots ∙ length-replicate {A = Slot} c.slot_count-slots.result empty_slot ∙ (rw senders at c.slot_count-slots.ensures) in
+    λ k. ((refl, tt), (c.requires.puts, (placed-in schedule.by_process (length c.args.ready.now.senders.items) _ schedule.transmissions.items c.args.ready.now.timetable.placed c.args.ready.now.timetable.named count, record { held = rw c.in_ok-rounds.ensures.slots (rounds-first c.args.ready.now.senders.items schedule.transmissions.items c.slot_count-slots.result); counted = c.in_ok-rounds.ensures.totals; within = rw c.in_ok-rounds.ensures.totals none-within })))
+
+pub returns-in_err-follow-clause-text : goal.returns-in_err-follow-clause-text
+returns-in_err-follow-clause-text g c =
+    let senders = c.args.ready.now.senders.items in
+    let schedule = c.args.ready.now.inputs.now.schedule in
+    let p = err_from_is_err_and c.from_residual-in_err-follow.result c.from_residual-in_err-follow.ensures.1 in
+    writes_behind _ _ _ c.from_residual-in_err-follow.result p.0 _ _ [] (pieces_joined (turns run_words senders [] schedule.transmissions.items)) (run_ends schedule.by_process senders schedule.transmissions.items) p.1 p.2 refl
+    (sym (with_text-nil _)) c.in_err-follow.ensures.text
+
+pub returns-then-by_process-clause-text : goal.returns-then-by_process-clause-text
+returns-then-by_process-clause-text g c =
+    let senders = c.args.ready.now.senders.items in
+    let schedule = c.args.ready.now.inputs.now.schedule.transmissions.items in
+    rw c.if-by_process.true (writes_last _ _ _ c.write_rounds.result (pieces_joined (turns run_words senders [] schedule)) (run_ends true senders schedule) c.in_ok-follow.ensures.text c.write_rounds.ensures.text)
+
+pub returns-clause-text : goal.returns-clause-text
+returns-clause-text g c =
+    let senders = c.args.ready.now.senders.items in
+    let schedule = c.args.ready.now.inputs.now.schedule.transmissions.items in
+    let slots = c.deref.result.now in
+    let all : All IsOfBlock schedule = rw c.if-by_process.false at c.args.ready.now.timetable.placed in
+    let many : c.len.result ≡ length c.args.ready.now.senders.items = omega arith in
+    let blocks : c.slot_count-slots.result ≡ length senders + 1 = rw c.if-by_process.false at (rw many at c.slot_count-slots.ensures) in
+    let long : length slots ≡ length senders + 1 =
+    omega (arith, blocks, ap length c.deref.ensures.value, c.in_ok-follow.ensures.slots, ap length c.in_ok-rounds.ensures.slots, length-replicate {A = Slot}) in
+    let held : HoldRounds senders schedule [] slots = subst (HoldRounds senders schedule []) (sym c.deref.ensures.value) c.in_ok-follow.ensures.kept.held in
+    rw c.if-by_process.false (writes_last _ _ _ c.write_blocks.result (pieces_joined (turns run_words senders [] schedule)) (run_ends false senders schedule) c.in_ok-follow.ensures.text
+    (c.write_blocks.ensures.text schedule (blocks-hold senders schedule slots all long held)))

@@ -1,0 +1,11 @@
+use Rattle.std.proofs.Common.{◌≡◌, ◌+◌, ◌≤◌, replicate}
+use Rattle.std.specs.Prelude.{vec_len, vec_capacity}
+use Rattle.nr_linkcommands.specs.Ends.{empty_slot}
+use Rattle.nr_linkcommands.proofs.run_command.slot.empty_slots.Given as goal
+
+-- so many slots so far
+abbrev pub invariant-loop : goal.invariant-loop
+invariant-loop l = record {
+  none : l.slots.items ≡ replicate l.counter empty_slot;
+  room : vec_len l.slots + l.count ≤ vec_capacity l.slots + l.counter;
+}

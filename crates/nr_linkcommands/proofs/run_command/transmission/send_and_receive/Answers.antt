@@ -1,0 +1,89 @@
+use Rattle.std.proofs.Common.{Err, Ok, ◌++◌, [], ◌∷◌, List, ℕ, ap, sym, subst, ◌∙◌}
+use Rattle.std.proofs.lemmas.List.{append-nil}
+use Rattle.std.proofs.lemmas.Result.{err_from_is_err_and}
+use Rattle.nr_blockdesk.specs.Explains.{IsAccepted, reception}
+use Rattle.nr_blockdesk.specs.Heard.{heard_record}
+use Rattle.nr_blockdesk.specs.declared.heard.Heard.{Heard}
+use Rattle.nr_linkcommands.specs.Exchanges.{IsExchanged}
+use Rattle.nr_linkcommands.specs.Hearing.{heard_through}
+use Rattle.nr_linkcommands.specs.RunLines.{left_lines}
+use Rattle.nr_linkcommands.specs.SendLines.{sent_line}
+use Rattle.nr_commands.specs.Written.{with_text}
+use Rattle.nr_linkcommands.proofs.RunLines.{left_lines-some, lines_of-refused, lines_of-sent, lines_of-some, on_ok-any, received_of-refused, received_of-sent}
+use Rattle.nr_linkcommands.proofs.RunTexts.{writes_so_far}
+use Rattle.nr_linkcommands.proofs.SendLemmas.{answer_line-some}
+use Rattle.nr_commands.proofs.WrittenLemmas.{with_text-append, with_text-nil, writes_behind, writes_none}
+use Rattle.nr_linkcommands.proofs.run_command.transmission.send_and_receive.Goals as goal
+
+pub next_state-requires-clause-accepted : goal.next_state-requires-clause-accepted
+next_state-requires-clause-accepted g c =
+    let made : IsExchanged c.args.sender.now c.args.transmission.now c.in-Ok.exchange = rw c.in-Ok.is at c.in_ok-exchange.ensures.made in
+    subst (λ (h : List Heard). IsAccepted c.args.sender.now.link (reception c.args.transmission.now.tx h)) (sym c.deref.ensures.value) made.accepted
+
+pub returns-in_err-exchange-clause-text : goal.returns-in_err-exchange-clause-text
+returns-in_err-exchange-clause-text g c = λ list holds.
+    let p = err_from_is_err_and c.from_residual.result c.from_residual.ensures.1 in
+    writes_none _ _ p.0 _ p.1 p.2 (lines_of-some c.args.sender.now list c.args.transmission.now)
+
+pub returns-in_err-put_line-in-Ok-clause-text : goal.returns-in_err-put_line-in-Ok-clause-text
+returns-in_err-put_line-in-Ok-clause-text g c = λ list holds.
+    let made : IsExchanged c.args.sender.now c.args.transmission.now c.in-Ok.exchange = rw c.in-Ok.is at c.in_ok-exchange.ensures.made in
+    let bits = c.in-Ok.exchange.bits.items in
+    let p = err_from_is_err_and c.from_residual-in_err-put_line-in-Ok.result c.from_residual-in_err-put_line-in-Ok.ensures.1 in
+    let whole = lines_of-sent c.args.sender.now list c.args.transmission.now bits made.sent in
+    writes_behind _ _ _ c.from_residual-in_err-put_line-in-Ok.result p.0 _ _ [] _ _ p.1 p.2 whole (sym (with_text-nil _)) (c.in_err-put_line-in-Ok.ensures.text _ (answer_line-some _ _ (Ok bits)) c.sent_line.ensures)
+
+pub returns-in_err-after-in-Ok-clause-text : goal.returns-in_err-after-in-Ok-clause-text
+returns-in_err-after-in-Ok-clause-text g c = λ list holds.
+    let made : IsExchanged c.args.sender.now c.args.transmission.now c.in-Ok.exchange = rw c.in-Ok.is at c.in_ok-exchange.ensures.made in
+    let bits = c.in-Ok.exchange.bits.items in
+    let p = err_from_is_err_and c.from_residual-in_err-after-in-Ok.result c.from_residual-in_err-after-in-Ok.ensures.1 in
+    let whole = lines_of-sent c.args.sender.now list c.args.transmission.now bits made.sent in
+    let sound = c.plans_are_sound.ensures _ _ _ c.is_sound.ensures.planned in
+    writes_so_far _ _ c.from_residual-in_err-after-in-Ok.result p.0 _ _ _ p.1 p.2 whole (left_lines-some _ _ c.args.sender.now.link _ sound.some) (c.in_ok-put_line-in-Ok.ensures.text _ (answer_line-some _ _ (Ok bits)) c.sent_line.ensures)
+
+pub returns-in_err-write_left-in-Ok-clause-text : goal.returns-in_err-write_left-in-Ok-clause-text
+returns-in_err-write_left-in-Ok-clause-text g c = λ list holds.
+    let x = c.args.transmission.now in
+    let link = c.args.sender.now.link in
+    let made : IsExchanged c.args.sender.now x c.in-Ok.exchange = rw c.in-Ok.is at c.in_ok-exchange.ensures.made in
+    let bits = c.in-Ok.exchange.bits.items in
+    let p = err_from_is_err_and c.from_residual-in_err-write_left-in-Ok.result c.from_residual-in_err-write_left-in-Ok.ensures.1 in
+    let whole = lines_of-sent c.args.sender.now list x bits made.sent in
+    let more = list ++ reception x.tx (heard_through x bits) ∷ [] in
+    let lines : List ℕ = left_lines x.number x.block link (heard_record link more) in
+    let is = rw (c.take.ensures.value, c.deref.ensures.value, made.heard) at c.in_ok-after-in-Ok.ensures list holds in
+    let stops = rw (is.same_link, is.recorded.same) at c.in_err-write_left-in-Ok.ensures.text in
+    writes_behind _ _ _ c.from_residual-in_err-write_left-in-Ok.result p.0 _ _ (sent_line x.number x.block bits) lines [] p.1 p.2
+    (whole ∙ sym (append-nil (sent_line x.number x.block bits ++ lines))) (c.in_ok-put_line-in-Ok.ensures.text _ (answer_line-some _ _ (Ok bits)) c.sent_line.ensures) stops
+
+pub returns-in_ok-write_left-in-Ok-clause-text : goal.returns-in_ok-write_left-in-Ok-clause-text
+returns-in_ok-write_left-in-Ok-clause-text g c = λ list holds.
+    let x = c.args.transmission.now in
+    let link = c.args.sender.now.link in
+    let made : IsExchanged c.args.sender.now x c.in-Ok.exchange = rw c.in-Ok.is at c.in_ok-exchange.ensures.made in
+    let bits = c.in-Ok.exchange.bits.items in
+    let whole = lines_of-sent c.args.sender.now list x bits made.sent in
+    let more = list ++ reception x.tx (heard_through x bits) ∷ [] in
+    let lines : List ℕ = left_lines x.number x.block link (heard_record link more) in
+    let is = rw (c.take.ensures.value, c.deref.ensures.value, made.heard) at c.in_ok-after-in-Ok.ensures list holds in
+    let left = rw (is.same_link, is.recorded.same) at c.in_ok-write_left-in-Ok.ensures.text in
+    left ∙ ap (λ w. with_text w lines) (c.in_ok-put_line-in-Ok.ensures.text _ (answer_line-some _ _ (Ok bits)) c.sent_line.ensures)
+    ∙ with_text-append _ (sent_line x.number x.block bits) lines ∙ ap (with_text (g.O.Sink.written c.args.out.now)) (sym whole)
+
+pub returns-in_ok-write_left-in-Ok-clause-held : goal.returns-in_ok-write_left-in-Ok-clause-held
+returns-in_ok-write_left-in-Ok-clause-held g c = λ list holds.
+    let x = c.args.transmission.now in
+    let made : IsExchanged c.args.sender.now x c.in-Ok.exchange = rw c.in-Ok.is at c.in_ok-exchange.ensures.made in
+    let is = rw (c.take.ensures.value, c.deref.ensures.value, made.heard) at c.in_ok-after-in-Ok.ensures list holds in
+    rw (received_of-sent c.args.sender.now x c.in-Ok.exchange.bits.items made.sent) is
+
+pub returns-in-Err-clause-text : goal.returns-in-Err-clause-text
+returns-in-Err-clause-text g c = λ list holds.
+    let said = rw c.in-Err.is at c.in_ok-exchange.ensures.made in
+    rw (lines_of-refused c.args.sender.now list c.args.transmission.now c.in-Err.fault said) (c.put_line-in-Err.ensures.text _ (answer_line-some _ _ (Err c.in-Err.fault)) c.refused_line.ensures)
+
+pub returns-in-Err-clause-held : goal.returns-in-Err-clause-held
+returns-in-Err-clause-held g c = on_ok-any c.put_line-in-Err.result (λ list holds.
+    let said = rw c.in-Err.is at c.in_ok-exchange.ensures.made in
+    rw (received_of-refused c.args.sender.now c.args.transmission.now c.in-Err.fault said, append-nil list) holds)

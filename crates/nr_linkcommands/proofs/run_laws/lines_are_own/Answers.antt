@@ -1,5 +1,0 @@
-use Rattle.nr_linkcommands.proofs.RoundLaws.{lines_are_own}
-use Rattle.nr_linkcommands.proofs.run_laws.lines_are_own.Goals as goal
-
-pub returns : goal.returns
-returns c = lines_are_own

@@ -1,6 +1,0 @@
--- The command is what it hands on: the text over four files.
-use Rattle.std.proofs.Common.{◌≡◌}
-use Rattle.nr_linkcommands.proofs.running.run.Goals as goal
-
-pub returns : goal.returns
-returns g c = c.over_files.ensures

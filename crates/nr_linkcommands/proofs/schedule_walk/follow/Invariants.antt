@@ -1,0 +1,18 @@
+use Rattle.std.proofs.Common.{◌≡◌, [], take, drop}
+use Rattle.nr_linkcommands.specs.RoundTexts.{pieces_joined, turns}
+use Rattle.nr_files.specs.Rounds.{ended_rounds}
+use Rattle.nr_linkcommands.proofs.RunTexts.{IsLeft}
+use Rattle.nr_linkcommands.proofs.schedule_walk.follow.Given as goal
+
+-- the lines of the transmissions so far are written, what is kept of them and of the rounds that they ended is kept, and
+-- no put failed
+abbrev pub invariant-loop-index : goal.invariant-loop-index
+invariant-loop-index g l = record {
+  lines : IsLeft (g.O.Sink.written l.fn.out) (g.O.Sink.written l.out)
+      (pieces_joined (turns g.W.Walk.words l.ready.senders.items (take l.index l.ready.inputs.now.schedule.transmissions.items) (drop l.index l.ready.inputs.now.schedule.transmissions.items)))
+      (pieces_joined (turns g.W.Walk.words l.ready.senders.items [] l.ready.inputs.now.schedule.transmissions.items));
+  kept : g.W.Walk.Keeps l.walk l.ready.senders.items (take l.index l.ready.inputs.now.schedule.transmissions.items) (drop l.index l.ready.inputs.now.schedule.transmissions.items)
+      (ended_rounds [] (take l.index l.ready.inputs.now.schedule.transmissions.items));
+  slots : g.W.Walk.slots l.walk ≡ g.W.Walk.slots l.fn.walk;
+  sound : g.O.Sink.failures l.out ≡ g.O.Sink.failures l.fn.out;
+}

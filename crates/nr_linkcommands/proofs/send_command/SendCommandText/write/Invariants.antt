@@ -1,0 +1,12 @@
+use Rattle.std.proofs.Common.{◌≡◌, take}
+use Rattle.nr_linkcommands.specs.SendText.{transmission_lines}
+use Rattle.nr_commands.specs.Written.{with_text}
+use Rattle.nr_linkcommands.proofs.send_command.SendCommandText.write.Given as goal
+
+-- the lines of the transmissions so far are written, and no put failed
+abbrev pub invariant-loop-transmission : goal.invariant-loop-transmission
+invariant-loop-transmission g l = record {
+  written : g.O.Sink.written l.out ≡ with_text (g.O.Sink.written l.fn.out)
+      (transmission_lines l.ready.senders.items (take l.transmission-index l.ready.inputs.now.schedule.transmissions.items));
+  sound : g.O.Sink.failures l.out ≡ g.O.Sink.failures l.fn.out;
+}

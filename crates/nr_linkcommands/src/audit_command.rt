@@ -1,0 +1,206 @@
+//! The command `audit`.
+
+ghost use Rattle.std.specs.Prelude.{All, length, true, ◌+◌, ◌<◌, ◌^◌, ◌≡◌, ◌≤◌};
+ghost use Rattle.nr_linkcommands.specs.FourFiles.{IsOverFourFiles, used};
+ghost use Rattle.nr_linkcommands.specs.AuditText.{audit_lines, audit_of, audit_said, audit_words, text_of_audit};
+ghost use Rattle.nr_linkcommands.specs.RoundTexts.{pieces_joined, round_lines, written};
+ghost use Rattle.nr_commands.specs.Command.{Writes};
+ghost use Rattle.nr_files.specs.Reading.{FailsAs};
+ghost use Rattle.nr_files.specs.Schedule.{HasBlock};
+ghost use Rattle.nr_files.specs.Rounds.{IsOfBlock, round_of};
+ghost use Rattle.nr_linkcommands.specs.AuditLines.{audit_block};
+
+mod lines;
+mod replay;
+
+use crate::over_files::{Text, over_files};
+use crate::ready::Ready;
+use crate::run_command::process_words;
+use crate::schedule_walk::{Walk, end_all, follow};
+use lines::code_line;
+use nr_blockdesk::{Receiver, Sender};
+use nr_commands::{RunFault, Sink, put_line};
+use nr_files::{Transmission, round_block, round_start};
+use nr_segment::plans_are_sound;
+use nr_shifttable::Source;
+use replay::replay;
+use std::alloc::Global;
+
+/// Sends and receives each transmission of a schedule as `run` does, without a line, and then writes for each transport
+/// block, counted from 1, a line for each of its code blocks, counted from 0:
+///
+/// - `order <n> <r> <steps>`, where every position below K' is fixed: how many positions peeling fixed, which are
+///   those fixed but neither heard nor fillers;
+/// - `stuck <n> <r> <count> <positions>`, where one is not: all positions that are not fixed, ascending. They are a
+///   stopping set, which is why peeling can't go on (TS 38.212, 5.3.2).
+///
+/// The four files are read to their ends and judged whole, in the order of the parameters, and then every transport
+/// block, before the first put. Then each line is written as soon as it is made.
+///
+/// # Errors
+/// In this order: `Table`, `Settings`, `Blocks`, `Schedule`, the first fault of a file; `Desk`, the first transport
+/// block that cannot be sent. These leave the Sink as it was. `Write` where a put failed, and then a first part of the
+/// text is written; `Memory` where a growth is refused, and then nothing or a first part of the text is written.
+pub fn audit<T: Source, S: Source, B: Source, D: Source, O: Sink>(
+    alloc: Global,
+    table: &mut T,
+    settings: &mut S,
+    blocks: &mut B,
+    schedule: &mut D,
+    out: &mut O,
+) -> Result<(), RunFault>
+    requires table { T.failures table.old < 2 ^ 32 }
+    requires settings { S.failures settings.old < 2 ^ 32 }
+    requires blocks { B.failures blocks.old < 2 ^ 32 }
+    requires schedule { D.failures schedule.old < 2 ^ 32 }
+    requires puts { O.failures out.old < 2 ^ 32 }
+    ensures { IsOverFourFiles audit_said result
+        (used T.remaining T.failures table.old table.new)
+        (used S.remaining S.failures settings.old settings.new)
+        (used B.remaining B.failures blocks.old blocks.new)
+        (used D.remaining D.failures schedule.old schedule.new)
+        (used O.written O.failures out.old out.new) }
+{
+    over_files::<AuditCommand, _, _, _, _, _>(alloc, table, settings, blocks, schedule, out)
+}
+
+// The text of `audit`.
+struct AuditCommand;
+
+impl Text for AuditCommand {
+    ghost text = { text_of_audit };
+
+    fn write<O: Sink>(ready: &Ready, out: &mut O) -> Result<(), RunFault> {
+        if ready.inputs.schedule.by_process {
+            audit_rounds(ready, out)
+        } else {
+            audit_blocks(ready, out)
+        }
+    }
+}
+
+// What `audit` keeps of the rounds of HARQ processes: nothing. A round is sent and received where it ends.
+#[derive(Drop)]
+struct AuditRounds;
+
+impl<'t> Walk<'t> for AuditRounds {
+    ghost words = { audit_words };
+
+    ghost Keeps = { λ rounds senders before later ended. Unit {0} };
+
+    ghost slots = { λ rounds. 16 };
+
+    fn end_round<O: Sink>(
+        &mut self,
+        ready: &Ready<'t>,
+        process: u32,
+        before: &[Transmission],
+        out: &mut O,
+    ) -> Result<(), RunFault> {
+        write_round(ready, process, before, out)
+    }
+
+    fn transmit<O: Sink>(
+        &mut self,
+        ready: &Ready<'t>,
+        transmission: &Transmission,
+        _: &[Transmission],
+        _: &mut O,
+    ) -> Result<(), RunFault> {
+        Ok(())
+    }
+}
+
+// Writes the lines of each round of a HARQ process: first of those that a transmission ends, in their order, and then
+// of the others, by process.
+fn audit_rounds<O: Sink>(ready: &Ready, out: &mut O) -> Result<(), RunFault>
+    requires puts { O.failures out.old < 2 ^ 32 }
+    requires by_process { ready.now.inputs.now.schedule.by_process ≡ true }
+    ensures text { Writes (O.written out.old) (O.written out.new) result
+        (pieces_joined (written audit_words ready.now.senders.items ready.now.inputs.now.schedule.transmissions.items)) }
+    ensures put { FailsAs RunFault.Write result (O.failures out.old) (O.failures out.new) }
+{
+    let mut rounds = AuditRounds;
+    follow(ready, &mut rounds, out)?;
+    end_all(ready, &mut rounds, out)
+}
+
+// Writes the lines of the round that a process is in after these transmissions, if it is in one.
+fn write_round<O: Sink>(
+    ready: &Ready,
+    process: u32,
+    before: &[Transmission],
+    out: &mut O,
+) -> Result<(), RunFault>
+    requires puts { O.failures out.old < 2 ^ 32 }
+    requires named { All (HasBlock (length ready.now.senders.items)) before.now }
+    ensures text { Writes (O.written out.old) (O.written out.new) result
+        (round_lines audit_words ready.now.senders.items process (round_of process before.now)) }
+    ensures put { FailsAs RunFault.Write result (O.failures out.old) (O.failures out.new) }
+{
+    plans_are_sound();
+    match round_block(process, before) {
+        None => Ok(()),
+        Some(number) => {
+            let sender = ready.sender(number);
+            sender.is_sound();
+            let round = &before[round_start(process, before)..];
+            let receiver = replay(ready.alloc, sender, process, round)?;
+            let head = process_words(ready.alloc, process)?;
+            write_codes(ready.alloc, &head, number, &receiver, out)
+        }
+    }
+}
+
+// Writes the lines of each transport block.
+fn audit_blocks<O: Sink>(ready: &Ready, out: &mut O) -> Result<(), RunFault>
+    requires puts { O.failures out.old < 2 ^ 32 }
+    requires placed { All IsOfBlock ready.now.inputs.now.schedule.transmissions.items }
+    ensures text { Writes (O.written out.old) (O.written out.new) result
+        (audit_lines ready.now.inputs.now.schedule.transmissions.items 1 ready.now.senders.items) }
+    ensures put { FailsAs RunFault.Write result (O.failures out.old) (O.failures out.new) }
+{
+    for (index, sender) in ready.senders.iter().enumerate() {
+        write_block(ready, index as u32 + 1, sender, out)?;
+    }
+    Ok(())
+}
+
+// Writes the lines of block `number`, by its sender.
+fn write_block<O: Sink>(
+    ready: &Ready,
+    number: u32,
+    sender: &Sender,
+    out: &mut O,
+) -> Result<(), RunFault>
+    requires puts { O.failures out.old < 2 ^ 32 }
+    requires placed { All IsOfBlock ready.now.inputs.now.schedule.transmissions.items }
+    ensures text { Writes (O.written out.old) (O.written out.new) result
+        (audit_of ready.now.inputs.now.schedule.transmissions.items number sender.now) }
+    ensures put { FailsAs RunFault.Write result (O.failures out.old) (O.failures out.new) }
+{
+    plans_are_sound();
+    sender.is_sound();
+    let schedule = &ready.inputs.schedule.transmissions;
+    let receiver = replay(ready.alloc, sender, number, schedule)?;
+    write_codes(ready.alloc, "", number, &receiver, out)
+}
+
+// Writes the line of each code block of block `number`, by its receiver, each behind `head`.
+fn write_codes<O: Sink>(
+    alloc: Global,
+    head: &str,
+    number: u32,
+    receiver: &Receiver,
+    out: &mut O,
+) -> Result<(), RunFault>
+    requires { O.failures out.old < 2 ^ 32 }
+    ensures text { Writes (O.written out.old) (O.written out.new) result
+        (audit_block head.now number receiver.now.link receiver.now.heard) }
+    ensures put { FailsAs RunFault.Write result (O.failures out.old) (O.failures out.new) }
+{
+    for r in 0..receiver.plan().c {
+        put_line(out, code_line(alloc, head, number, receiver, r))?;
+    }
+    Ok(())
+}

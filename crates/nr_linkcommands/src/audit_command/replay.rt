@@ -1,0 +1,84 @@
+//! What a receiver has heard after the transmissions of a schedule, sent and received without a line.
+
+ghost use Rattle.std.specs.Prelude.{IfOk, List, OnOk, [], ◌++◌, ◌+◌, ◌∷◌, ◌≡◌};
+ghost use Rattle.nr_linkcommands.specs.AuditText.{HasHeard};
+ghost use Rattle.nr_files.specs.Rounds.{of_process};
+ghost use Rattle.nr_linkcommands.specs.RunText.{received, received_of};
+ghost use Rattle.nr_blockdesk.specs.Explains.{Reception};
+
+use crate::link::{exchange, receive};
+use nr_blockdesk::{Receiver, Sender};
+use nr_files::Transmission;
+use std::alloc::{AllocError, Global};
+
+// The receiver of a sender's transport block after those of these transmissions that are of a process.
+pub(crate) fn replay<'t>(
+    alloc: Global,
+    sender: &Sender<'t>,
+    process: u32,
+    transmissions: &[Transmission],
+) -> Result<Receiver<'t>, AllocError>
+    ensures { IfOk result (λ receiver. HasHeard sender.now
+        (received sender.now (of_process process transmissions.now)) receiver) }
+{
+    let mut receiver = sender.receiver()?;
+    replay_all(alloc, sender, process, &mut receiver, transmissions)?;
+    Ok(receiver)
+}
+
+// Makes those of these transmissions that are of a process, and has a receiver hear what arrives.
+fn replay_all(
+    alloc: Global,
+    sender: &Sender,
+    process: u32,
+    receiver: &mut Receiver,
+    transmissions: &[Transmission],
+) -> Result<(), AllocError>
+    requires { HasHeard sender.now [] receiver.old }
+    ensures { OnOk result (HasHeard sender.now
+        (received sender.now (of_process process transmissions.now)) receiver.new) }
+{
+    for transmission in transmissions {
+        replay_if_of(alloc, sender, process, receiver, transmission)?;
+    }
+    Ok(())
+}
+
+// Sends a transmission if it is one of a process, and has the receiver hear what arrives.
+fn replay_if_of(
+    alloc: Global,
+    sender: &Sender,
+    process: u32,
+    receiver: &mut Receiver,
+    transmission: &Transmission,
+) -> Result<(), AllocError>
+    requires { receiver.old.link ≡ sender.now.link }
+    ensures { OnOk result ((list : List Reception) → HasHeard sender.now list receiver.old
+        → HasHeard sender.now
+        (list ++ received sender.now (of_process process (transmission.now ∷ []))) receiver.new) }
+{
+    if transmission.process != process {
+        return Ok(());
+    }
+    replay_one(alloc, sender, receiver, transmission)
+}
+
+// Sends a transmission, and has the receiver hear what arrives, where it is not refused.
+fn replay_one(
+    alloc: Global,
+    sender: &Sender,
+    receiver: &mut Receiver,
+    transmission: &Transmission,
+) -> Result<(), AllocError>
+    requires { receiver.old.link ≡ sender.now.link }
+    ensures { OnOk result ((list : List Reception) → HasHeard sender.now list receiver.old
+        → HasHeard sender.now (list ++ received_of sender.now transmission.now) receiver.new) }
+{
+    match exchange(alloc, sender, transmission)? {
+        Ok(exchange) => {
+            receive(receiver, &transmission.tx, &exchange.heard)?;
+            Ok(())
+        }
+        Err(_) => Ok(()),
+    }
+}

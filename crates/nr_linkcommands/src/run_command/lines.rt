@@ -1,0 +1,162 @@
+//! The lines of `run`, each made once, but those that it shares with `send`.
+
+ghost use Rattle.std.specs.Prelude.{IfOk, List, ◌++◌, ◌+◌, ◌≡◌};
+ghost use Rattle.nr_linkcommands.specs.Ends.{HoldsSummary};
+ghost use Rattle.nr_linkcommands.specs.RunLines.{contradiction_line, delivered_line, last_line, left_line, open_line, outcome_line, process_words};
+ghost use Rattle.nr_blockdesk.specs.Explains.{Reception};
+ghost use Rattle.std.specs.String.{string_bytes};
+
+use super::slot::RxSummary;
+use super::totals::Totals;
+use nr_bitvec::Bits;
+use nr_blockdesk::{Outcome, Sender, nothing_is_open};
+use nr_commands::hex_line;
+use std::alloc::{AllocError, Global};
+use std::fmt::Write;
+
+// The line of a round of a process, and of transport block `number`.
+pub(crate) fn round_line(
+    alloc: Global,
+    process: u32,
+    number: u32,
+    sender: &Sender,
+    summary: &Option<RxSummary>,
+) -> Result<Vec<u8>, AllocError>
+    ensures { IfOk result (λ line. (list : List Reception) → HoldsSummary sender.now.link list summary.now
+        → line.items ≡ process_words process ++ outcome_line number sender.now.link list) }
+{
+    let mut line = process_words(alloc, process)?.into_bytes();
+    line.extend_from_slice(&outcome_line(alloc, number, sender, summary)?)?;
+    Ok(line)
+}
+
+// The line of code block `r` after transmission `number` of block `block`.
+#[tactic(auto, unfolding(crate::specs::RunLines::left_line))]
+pub(crate) fn left_line(
+    alloc: Global,
+    number: u32,
+    block: u32,
+    r: u32,
+    left: u32,
+) -> Result<Vec<u8>, AllocError>
+    ensures { IfOk result (λ line. line.items ≡ left_line number block r left) }
+{
+    let mut line = String::new(alloc);
+    writeln!(line, "left {number} {block} {r} {left}")?;
+    Ok(line.into_bytes())
+}
+
+// The line of transport block `number`.
+pub(crate) fn outcome_line(
+    alloc: Global,
+    number: u32,
+    sender: &Sender,
+    summary: &Option<RxSummary>,
+) -> Result<Vec<u8>, AllocError>
+    ensures { IfOk result (λ line. (list : List Reception) → HoldsSummary sender.now.link list summary.now
+        → line.items ≡ outcome_line number sender.now.link list) }
+{
+    nothing_is_open();
+    sender.is_sound();
+    let blocks = sender.plan().c;
+    match summary {
+        None => open_line(alloc, number, 0, blocks, blocks),
+        Some(summary) => match &summary.outcome {
+            Outcome::Delivered(block) => delivered_line(
+                alloc,
+                number,
+                summary.count,
+                blocks,
+                block,
+            ),
+            Outcome::Open => open_line(alloc, number, summary.count, summary.failed, blocks),
+            Outcome::Contradiction => contradiction_line(alloc, number, summary.count, blocks),
+        },
+    }
+}
+
+// The line of transport block `number` of so many code blocks, which is delivered after so many transmissions.
+fn delivered_line(
+    alloc: Global,
+    number: u32,
+    count: u64,
+    blocks: u32,
+    block: &Bits,
+) -> Result<Vec<u8>, AllocError>
+    ensures { IfOk result
+        (λ line. line.items ≡ delivered_line number count blocks block.now.items) }
+{
+    let mut head = String::new(alloc);
+    write!(
+        head,
+        "block {number} delivered tx {count} failed 0 of {blocks} "
+    )?;
+    hex_line(head, block)
+}
+
+// The line of transport block `number` of so many code blocks, which is open after so many transmissions.
+fn open_line(
+    alloc: Global,
+    number: u32,
+    count: u64,
+    failed: u32,
+    blocks: u32,
+) -> Result<Vec<u8>, AllocError>
+    ensures { IfOk result (λ line. line.items ≡ open_line number count failed blocks) }
+{
+    let mut line = String::new(alloc);
+    writeln!(
+        line,
+        "block {number} open tx {count} failed {failed} of {blocks}"
+    )?;
+    Ok(line.into_bytes())
+}
+
+// The line of transport block `number` of so many code blocks, which nothing explains after so many transmissions.
+#[tactic(auto, unfolding(crate::specs::RunLines::contradiction_line))]
+fn contradiction_line(
+    alloc: Global,
+    number: u32,
+    count: u64,
+    blocks: u32,
+) -> Result<Vec<u8>, AllocError>
+    ensures { IfOk result (λ line. line.items ≡ contradiction_line number count blocks) }
+{
+    let mut line = String::new(alloc);
+    writeln!(
+        line,
+        "block {number} contradiction tx {count} failed 0 of {blocks}"
+    )?;
+    Ok(line.into_bytes())
+}
+
+// The last line: how so many blocks or rounds end.
+pub(crate) fn last_line(alloc: Global, name: &str, totals: &Totals) -> Result<Vec<u8>, AllocError>
+    ensures { IfOk result (λ line. line.items ≡ last_line name.now totals.now) }
+{
+    let mut line = String::new(alloc);
+    write!(
+        line,
+        "total {name} {} delivered {} open {}",
+        totals.blocks, totals.delivered, totals.open_still
+    )?;
+    writeln!(
+        line,
+        " contradiction {} codeblocks {} failed {}",
+        totals.contradiction, totals.code_blocks, totals.failed
+    )?;
+    Ok(line.into_bytes())
+}
+
+/// What stands before each line about a round of a process.
+///
+/// # Errors
+/// `AllocError` where memory is refused.
+#[tactic(auto, unfolding(crate::specs::RunLines::process_words))]
+pub fn process_words(alloc: Global, process: u32) -> Result<String, AllocError>
+    ensures { IfOk result (λ words. string_bytes words ≡ process_words process) }
+{
+    let mut words = String::new(alloc);
+    write!(words, "process {process} ")?;
+    Ok(words)
+}

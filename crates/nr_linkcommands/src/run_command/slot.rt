@@ -1,0 +1,172 @@
+//! A slot of a run: what the receiver of a transport block has received, and what is kept of it.
+
+ghost use Rattle.std.specs.Prelude.{◌≡◌, ◌+◌, ◌-◌, ◌^◌, ◌<◌, ◌≤◌, ◌++◌, [], ◌∷◌, List, replicate, true, IfOk, OnOk};
+ghost use Rattle.nr_blockdesk.specs.Explains.{IsAccepted, Reception, reception};
+ghost use Rattle.nr_blockdesk.specs.Link.{Link};
+ghost use Rattle.nr_linkcommands.specs.Ends.{HasReceived, HoldsSlot, HoldsState, IsOver, IsRxState, IsSummary, empty_slot};
+ghost use Rattle.nr_linkcommands.specs.RunLines.{unfixed_blocks};
+
+use crate::link::receive;
+use nr_blockdesk::{Heard, Outcome, Receiver, Sender, Tx, nothing_is_open};
+use std::alloc::{AllocError, Global};
+
+/// The receiver of a transport block with what it made of all that was received. It is made once something is.
+#[derive(Drop)]
+pub struct RxState<'t> {
+    /// The receiver.
+    pub receiver: Receiver<'t>,
+    /// What may be handed up of it.
+    pub outcome: Outcome,
+    /// How many transmissions were received.
+    pub count: u64,
+}
+
+/// What is kept of a receiver's state once nothing more is received.
+#[derive(Drop)]
+pub struct RxSummary {
+    /// What may be handed up of all that was received.
+    pub outcome: Outcome,
+    /// How many transmissions were received.
+    pub count: u64,
+    /// How many code blocks have a position below K' that isn't fixed.
+    pub failed: u32,
+}
+
+/// A slot of a run: that of a transport block, or of a HARQ process. It has a receiver from the first transmission that is
+/// received to the last one.
+#[derive(Drop)]
+pub struct Slot<'t> {
+    /// The receiver's state, while later transmissions go on with it.
+    pub state: Option<RxState<'t>>,
+    /// What is kept of it behind the last one.
+    pub summary: Option<RxSummary>,
+}
+
+impl<'t> Slot<'t> {
+    /// A slot in which nothing was received.
+    pub fn new() -> Slot<'t>
+        ensures { result ≡ empty_slot }
+    {
+        Slot {
+            state: None,
+            summary: None,
+        }
+    }
+}
+
+/// So many slots in which nothing was received.
+///
+/// # Errors
+/// `AllocError` where memory is refused.
+pub fn empty_slots<'t>(alloc: Global, count: usize) -> Result<Vec<Slot<'t>>, AllocError>
+    ensures { IfOk result (λ slots. slots.items ≡ replicate count empty_slot) }
+{
+    let mut slots = Vec::with_capacity(alloc, count)?;
+    for _ in 0..count {
+        slots.push_reserved(Slot::new());
+    }
+    Ok(slots)
+}
+
+/// The state of a receiver of a sender's transport block once it has heard a transmission more.
+///
+/// # Errors
+/// `AllocError` where memory is refused.
+pub(crate) fn next_state<'t>(
+    sender: &Sender<'t>,
+    state: Option<RxState<'t>>,
+    tx: &Tx,
+    heard: &[Heard],
+) -> Result<RxState<'t>, AllocError>
+    requires room { HasReceived (2 ^ 64 - 2) state }
+    requires same_link { IsOver sender.now.link state }
+    requires accepted { IsAccepted sender.now.link (reception tx.now heard.now) }
+    ensures { IfOk result (λ after. (list : List Reception) → HoldsState sender.now.link list state.entry
+        → IsRxState sender.now.link (list ++ reception tx.now heard.now ∷ []) after) }
+{
+    let mut state = state_or_new(sender, state)?;
+    hear_more(&mut state, tx, heard)?;
+    Ok(state)
+}
+
+// The state, which is made where there is none.
+fn state_or_new<'t>(
+    sender: &Sender<'t>,
+    state: Option<RxState<'t>>,
+) -> Result<RxState<'t>, AllocError>
+    requires room { HasReceived (2 ^ 64 - 2) state }
+    requires same_link { IsOver sender.now.link state }
+    ensures same_link { IfOk result (λ after. after.receiver.link ≡ sender.now.link) }
+    ensures state { IfOk result (λ after. (list : List Reception)
+        → HoldsState sender.now.link list state.entry → IsRxState sender.now.link list after) }
+    ensures room { IfOk result (λ after. after.count ≤ 2 ^ 64 - 2) }
+{
+    match state {
+        Some(state) => Ok(state),
+        None => new_state(sender),
+    }
+}
+
+// The state before anything is received.
+pub(crate) fn new_state<'t>(sender: &Sender<'t>) -> Result<RxState<'t>, AllocError>
+    ensures state { IfOk result (IsRxState sender.now.link []) }
+    ensures room { IfOk result (λ state. state.count ≤ 2 ^ 64 - 2) }
+{
+    nothing_is_open();
+    sender.is_sound();
+    let receiver = sender.receiver()?;
+    Ok(RxState {
+        receiver,
+        outcome: Outcome::Open,
+        count: 0,
+    })
+}
+
+// Hears a transmission.
+fn hear_more(state: &mut RxState, tx: &Tx, heard: &[Heard]) -> Result<(), AllocError>
+    requires room { state.old.count ≤ 2 ^ 64 - 2 }
+    requires accepted { IsAccepted state.old.receiver.link (reception tx.now heard.now) }
+    ensures { OnOk result ((link : Link) (list : List Reception) → IsRxState link list state.old
+        → IsRxState link (list ++ reception tx.now heard.now ∷ []) state.new) }
+{
+    let outcome = receive(&mut state.receiver, tx, heard)?;
+    state.outcome = outcome;
+    state.count += 1;
+    Ok(())
+}
+
+/// How many code blocks have a position below K' that isn't fixed.
+pub fn unfixed(receiver: &Receiver) -> u32
+    ensures value { result ≡ unfixed_blocks receiver.now.link receiver.now.heard }
+    ensures few { result < 2 ^ 32 }
+{
+    let blocks = receiver.plan().c;
+    let mut count = 0;
+    for r in 0..blocks {
+        count += u32::from(receiver.left(r) > 0);
+    }
+    count
+}
+
+/// Lets a slot's receiver go, unless a later transmission goes on with what it has received.
+pub fn close(goes_on: bool, slot: &mut Slot)
+    ensures { (link : Link) (list : List Reception) → HoldsSlot true link list slot.old
+        → HoldsSlot goes_on link list slot.new }
+{
+    if !goes_on {
+        slot.summary = slot.state.take().map(summary_of);
+    }
+}
+
+// What is kept of a state.
+fn summary_of(state: RxState) -> RxSummary
+    ensures { (link : Link) (list : List Reception) → IsRxState link list state.entry
+        → IsSummary link list result }
+{
+    let failed = unfixed(&state.receiver);
+    RxSummary {
+        outcome: state.outcome,
+        count: state.count,
+        failed,
+    }
+}
