@@ -22,7 +22,7 @@ static struct table practice, drawn;
 
 /* What the measured call is given. */
 static struct table *table;
-static const NrSettings settings = {2048, 0};
+static const NrSettings settings = {2048, 0, {0, 0}};
 static uint8_t block[1024], bits[1 << 16], delivered[1024];
 static size_t octets;
 static NrTx tx;

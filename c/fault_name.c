@@ -11,6 +11,8 @@ const char *nr_fault_name(uint32_t status) {
     case NR_MANY: return "Many";
     case NR_POLY: return "Poly";
     case NR_BIT: return "Bit";
+    case NR_LIFTING: return "Lifting";
+    case NR_CODE_BLOCK: return "CodeBlock";
     case NR_READ: return "Read";
     case NR_CSV: return "Csv";
     case NR_FIELDS: return "Fields";

@@ -3,10 +3,14 @@
    A shift table is read once: nr_table_entries makes of its text entries that the caller keeps, and the other calls take these.
    Each call answers a status: 0, or the number of its first fault, by the lists below. One that answers another number than 0
    has written nothing (nr_table_check alone writes what is wrong, and nr_table_entries how many entries want room). No call
-   keeps memory, opens a file or starts a thread, and none depends on the calls before it.
+   opens a file or starts a thread, and none depends on the calls before it. None keeps memory, which is tested.
 
    A list is a pointer and then the count of its items. Octets of a transport block are eight bits each, the first bit highest.
    Bits that are sent, and places that are heard, have an octet each.
+
+   `reserved` in a struct is room for fields of later versions: the caller sets it to 0, as by {.g = 300, .qm = 2, .nl = 1}, and
+   the calls write it as 0. So a struct keeps its length, also in an array, where a field for its size would not help, and
+   programs that leave the new fields 0 go on as before. NrEntry has none: it has the fields of a table's record.
 
    What each call promises is proved, and stands in docs/c-library.md. No proof sees what a caller passes; so these are yours:
    - No pointer is null, but one with the count 0 behind it may be: NULL, 0 is a list of no items. Each is aligned for its type.
@@ -15,7 +19,7 @@
    - What a call may write overlaps nothing else that it is given, and no other thread reads or writes it meanwhile.
    - malloc, realloc and free are of one allocator.
    - No call is made from a signal handler, nor in the forked child of a process with several threads; a thread that calls has
-     256 KiB of stack.
+     64 KiB of stack.
    Any number of threads may call at once. */
 
 #ifndef NR_H
@@ -45,11 +49,13 @@ extern "C" {
 /* The statuses. Those of one group come from one thing that a call is given; each call lists its own in their order. */
 enum NrStatus {
     NR_OK = 0,
-    NR_MEMORY = 1, /* a growth of memory was refused; the call may be made again */
-    NR_ROOM = 2,   /* the room for the answer does not have the answer's length */
-    NR_MANY = 3,   /* there is more than the call takes */
-    NR_POLY = 4,   /* there is no generator polynomial of this number */
-    NR_BIT = 5,    /* an octet that stands for a bit is neither 0 nor 1 */
+    NR_MEMORY = 1,     /* a growth of memory was refused; the call may be made again */
+    NR_ROOM = 2,       /* the room for the answer does not have the answer's length */
+    NR_MANY = 3,       /* there is more than the call takes */
+    NR_POLY = 4,       /* there is no generator polynomial of this number */
+    NR_BIT = 5,        /* an octet that stands for a bit is neither 0 nor 1 */
+    NR_LIFTING = 6,    /* no code block of the base graph has this lifting size */
+    NR_CODE_BLOCK = 7, /* there is no code block of this number */
     /* of the shift table's text */
     NR_READ = 20, /* never answered: it is that of a file */
     NR_CSV = 21,
@@ -94,6 +100,7 @@ const char *nr_version(void);
 typedef struct NrSettings {
     uint32_t rate2048; /* the code rate in 2048ths, 1 to 2048: twice the "target code rate x 1024" of TS 38.214's MCS tables */
     uint32_t lbrm;     /* TBS_LBRM in bits, where the circular buffer is limited (5.4.2.1); 0 where it is not */
+    uint32_t reserved[2];
 } NrSettings;
 
 /* How a transport block is sent once (5.4.2). */
@@ -104,6 +111,7 @@ typedef struct NrTx {
     uint32_t nl;        /* NL, transmission layers, 1 to 4 */
     uint64_t some;      /* 0 where every code block is scheduled, else `blocks` says which */
     uint64_t blocks[6]; /* code block r, from 0, is scheduled where bit r % 64 of word r / 64 is set */
+    uint32_t reserved[4];
 } NrTx;
 
 /* The numbers by which a transport block with its CRC is cut into code blocks (5.2.2, 5.3.2). */
@@ -118,6 +126,7 @@ typedef struct NrPlan {
     uint32_t set;   /* the set index of Zc, 0 to 7 */
     uint32_t k;     /* K, bits of a code block with its fillers */
     uint32_t n;     /* N, bits that a code block is coded into */
+    uint32_t reserved[2];
 } NrPlan;
 
 /* What judging a shift table tells. */
@@ -126,6 +135,7 @@ typedef struct NrReport {
     uint32_t two;   /* entries of base graph 2, of an accepted table; else 0 */
     uint32_t place; /* the record, from 1, that NR_CSV, NR_NUMBER, NR_RANGE or NR_TWICE is of; the base graph that NR_CORE,
                        NR_EXTENSION or NR_MISSING_ROW is of; else 0 */
+    uint32_t reserved;
 } NrReport;
 
 /* Judges the shift table of a text (5.3.2): comma-separated values, a record for each entry of Tables 5.3.2-2 and 5.3.2-3, with
@@ -163,16 +173,33 @@ NR_CHECKED uint32_t nr_lengths(uint32_t rate2048, uint32_t a, const NrTx *tx, ui
 typedef struct NrBuffer {
     uint32_t ncb; /* Ncb, the bits that the buffer keeps of a code block: 1 to N */
     uint32_t k0;  /* the place in the buffer where the redundancy version begins: below ncb */
+    uint32_t reserved[2];
 } NrBuffer;
 
 /* The same buffer for each code block of a transport block of `a` bits, and where `rv` begins in it. Takes no memory.
    Faults: SIZE, RATE_RANGE, UNEVEN, NO_BUFFER, RV. */
 NR_CHECKED uint32_t nr_buffer(const NrSettings *settings, uint32_t a, uint32_t rv, NrBuffer *out);
 
+/* The K' bits of code block r, counted from 0, of a transport block, 0 or 1 in an octet each: c_r without its fillers (5.2.2). They
+   are its share of the transport block with its CRC and, where there are several code blocks, the CRC24B of these. `out` has room
+   for K' octets, no more and no fewer. The K - K' fillers that follow them in c_r are not among them.
+   Faults: SIZE, RATE_RANGE, UNEVEN; CODE_BLOCK, where r is not below C; ROOM; MEMORY, in place of none of these. */
+NR_CHECKED uint32_t nr_cut(uint32_t rate2048, const uint8_t *block, size_t block_len, uint32_t r, uint8_t *out, size_t out_len);
+
 enum NrFiller { NR_FILLER = 2 };
 
+/* The N bits d that the K bits c are coded into (5.3.2), by the base graph and the lifting size Zc alone: K is 22 Zc in base graph 1
+   and 10 Zc in base graph 2, N is 66 Zc and 50 Zc. `bits` has c, an octet each: 0, 1, or NR_FILLER, which is coded as 0. `out` has
+   room for d: 0, 1, or NR_FILLER where c has one. Zc is a lifting size of Table 5.3.2-1; 2 and 3 are refused in base graph 2,
+   where no code block has them, since each has 24 bits at least.
+   Faults: of the table as nr_codeword has them; GRAPH, where `graph` is neither 1 nor 2, or the table lacks it; LIFTING; LENGTH,
+   where `bits` does not have K octets; BIT, where one of them is none of 0, 1 and NR_FILLER; ROOM; MEMORY, where it is met. */
+NR_CHECKED uint32_t nr_encode(const NrEntry *table, size_t table_len, uint32_t graph, uint32_t z, const uint8_t *bits,
+                              size_t bits_len, uint8_t *out, size_t out_len);
+
 /* The N bits d that a code block of a transport block of `a` bits is coded into (5.3.2), an octet each: 0, 1, or NR_FILLER, which is
-   never sent; `out` has room for N octets. `bits` has its K' bits with its CRC, without fillers, an octet of 0 or 1 each.
+   never sent; `out` has room for N octets. `bits` has its K' bits with its CRC, without fillers, an octet of 0 or 1 each, as
+   nr_cut gives them.
    Faults: ENTRIES, whatever memory there is; EMPTY; by base graph CORE, EXTENSION, MISSING_ROW; SIZE, RATE_RANGE, UNEVEN, GRAPH;
    LENGTH, where `bits` does not have K' octets; BIT; ROOM; MEMORY, where it is met. */
 NR_CHECKED uint32_t nr_codeword(const NrEntry *table, size_t table_len, uint32_t rate2048, uint32_t a, const uint8_t *bits,
@@ -197,15 +224,16 @@ enum NrHeard { NR_ZERO = 0, NR_ONE = 1, NR_ERASED = 2 };
 /* What may be handed up: some bit is not fixed yet; the one transport block that explains all that was heard; there is none. */
 enum NrOutcome { NR_OPEN = 0, NR_DELIVERED = 1, NR_CONTRADICTION = 2 };
 
-/* What may be handed up of a transport block of `a` bits after each of the transmissions `txs`, at most 256. `heard` has the places
-   of the first one, then those of the second, and so on: txs[0].g + txs[1].g + .. octets. Parity rows (5.3.2) are applied one
-   unknown at a time; a block is delivered where they fix all K' bits of each code block, and its bits equal all that was heard.
+/* What may be handed up of a transport block of `a` bits after each of the transmissions `txs`. `heard` has the places of the first
+   one, then those of the second, and so on: txs[0].g + txs[1].g + .. octets. Parity rows (5.3.2) are applied one unknown at a time;
+   a block is delivered where they fix all K' bits of each code block, and its bits equal all that was heard.
    `outcomes` has room for txs_len numbers, each the NrOutcome of its transmission and those before it. `left` has room for C
-   numbers: how many of the K' bits of each code block are not fixed after the last transmission. Where the last outcome is
-   NR_DELIVERED, `block` has room for a / 8 octets, which are written; else it is not written.
-   Faults: MANY, whatever memory there is; of the table as nr_codeword has them; SIZE, RATE_RANGE, UNEVEN, GRAPH, NO_BUFFER; for
-   each transmission in turn LENGTH, where fewer than g octets are left, RV, ORDER, LAYERS, TOTAL, RAGGED, NONE_SCHEDULED;
-   LENGTH, where octets are left over; ROOM; MEMORY, where it is met. */
+   numbers: how many of the K' bits of each code block are not fixed after the last transmission. `block` has room for a / 8
+   octets, whatever comes of it: they are written where the last outcome is NR_DELIVERED, and else as they were. All three rooms
+   are judged before the first transmission is heard.
+   Faults: of the table as nr_codeword has them; SIZE, RATE_RANGE, UNEVEN; ROOM; GRAPH, NO_BUFFER; for each transmission in turn
+   LENGTH, where fewer than g octets are left, RV, ORDER, LAYERS, TOTAL, RAGGED, NONE_SCHEDULED; LENGTH, where octets are left
+   over; MEMORY, where it is met. */
 NR_CHECKED uint32_t nr_receive(const NrEntry *table, size_t table_len, const NrSettings *settings, uint32_t a, const NrTx *txs,
                                size_t txs_len, const uint8_t *heard, size_t heard_len, uint32_t *outcomes, size_t outcomes_len,
                                uint32_t *left, size_t left_len, uint8_t *block, size_t block_len);

@@ -28,7 +28,7 @@ int main(int count, char **words) {
     static uint8_t heard[MOST * G];
     static NrTx txs[MOST];
     const uint8_t block[9] = {'1', '2', '3', '4', '5', '6', '7', '8', '9'};
-    const NrSettings settings = {2048, 0};
+    const NrSettings settings = {.rate2048 = 2048};
     uint8_t delivered[sizeof block];
     uint32_t status, outcomes[MOST], left;
     NrEntry *table = NULL;

@@ -36,7 +36,7 @@ from ._values import (MOST_BITS, Octets, Rate1024, Rate2048, block_of, fresh_roo
                       settings, tx_struct, whole_octets_of)
 
 __all__ = ["Buffer", "CRC16", "CRC24A", "CRC24B", "ERASED", "FILLER", "Fault", "Outcome", "Plan", "Received", "ReceivedMany",
-           "Report", "Table", "Tx", "buffer", "check_table", "codeword", "crc", "fault_name", "lengths", "plan", "receive",
+           "Report", "Table", "Tx", "buffer", "check_table", "codeword", "crc", "cut", "encode", "fault_name", "lengths", "plan", "receive",
            "receive_many", "send", "send_many"]
 
 __version__: str = library.nr_version().decode()
@@ -60,6 +60,30 @@ def crc(octets: Octets, poly: int = CRC24A) -> int:
     given, parity = whole_octets_of(octets), ctypes.c_uint32()
     judge(library.nr_crc(number(poly), given, len(given), byref(parity)))
     return parity.value
+
+
+def cut(
+    block: typing.Optional[Octets] = None, r: int = 0, *, bits: typing.Optional[Octets] = None, rate2048: Rate2048 = None,
+    rate1024: Rate1024 = None,
+) -> bytearray:
+    """The K' bits of code block `r`, from 0, of a transport block's octets, an octet 0 or 1 each: its share of the block with its
+    CRC, with the CRC24B of these where there are several code blocks, and without fillers (5.2.2). In place of the octets `bits`
+    may have the block's bits."""
+    octets, in2048ths = block_of(block, bits), rate(rate2048, rate1024)
+    shared = bytearray(plan_struct(in2048ths, min(8 * len(octets), MOST_BITS + 8)).kdash)
+    first, room = room_of(shared)
+    judge(library.nr_cut(in2048ths, octets, len(octets), number(r), byref(first), room))
+    return shared
+
+
+def encode(table: Table, bits: Octets, *, graph: int, z: int) -> bytearray:
+    """The N bits d that the K bits of a code block are coded into (5.3.2) by a Table, the base graph 1 or 2 and the lifting size
+    alone, an octet each: 0, 1 or FILLER. `bits` has 22 or 10 z of these: a FILLER is coded as 0, and stays one in d."""
+    entries, given = entries_of(table), octets_of(bits)
+    coded = bytearray({1: 66, 2: 50}.get(number(graph), 0) * min(number(z), 384))
+    first, room = room_of(coded)
+    judge(library.nr_encode(*entries, graph, z, given, len(given), byref(first), room))
+    return coded
 
 
 def codeword(table: Table, bits: Octets, a: int, *, rate2048: Rate2048 = None, rate1024: Rate1024 = None) -> bytearray:
@@ -122,7 +146,7 @@ def receive(
     table: Table, a: int, receptions: typing.Iterable[typing.Tuple[Tx, Octets]], *, rate2048: Rate2048 = None,
     rate1024: Rate1024 = None, lbrm: int = 0,
 ) -> Received:
-    """What may be handed up of a transport block of `a` bits by a Table, as a Received. `receptions` are pairs, at most 256: a
+    """What may be handed up of a transport block of `a` bits by a Table, as a Received. `receptions` are pairs: a
     Tx, and what was heard at its G places, each an octet 0 or 1, or another one (ERASED) where nothing was."""
     entries, pairs = entries_of(table), [(tx_struct(tx), octets_of(places)) for tx, places in receptions]
     if any(tx.g != len(places) for tx, places in pairs):

@@ -14,24 +14,24 @@ class Entry(ctypes.Structure):
 
 
 class SettingsStruct(ctypes.Structure):
-    _fields_ = [("rate2048", ctypes.c_uint32), ("lbrm", ctypes.c_uint32)]
+    _fields_ = [("rate2048", ctypes.c_uint32), ("lbrm", ctypes.c_uint32), ("reserved", ctypes.c_uint32 * 2)]
 
 
 class TxStruct(ctypes.Structure):
     _numbers = [(name, ctypes.c_uint32) for name in ("rv", "g", "qm", "nl")]
-    _fields_ = [*_numbers, ("some", ctypes.c_uint64), ("blocks", ctypes.c_uint64 * 6)]
+    _fields_ = [*_numbers, ("some", ctypes.c_uint64), ("blocks", ctypes.c_uint64 * 6), ("reserved", ctypes.c_uint32 * 4)]
 
 
 class PlanStruct(ctypes.Structure):
-    _fields_ = [(name, ctypes.c_uint32) for name in Plan._fields]
+    _fields_ = [*((name, ctypes.c_uint32) for name in Plan._fields), ("reserved", ctypes.c_uint32 * 2)]
 
 
 class BufferStruct(ctypes.Structure):
-    _fields_ = [(name, ctypes.c_uint32) for name in Buffer._fields]
+    _fields_ = [*((name, ctypes.c_uint32) for name in Buffer._fields), ("reserved", ctypes.c_uint32 * 2)]
 
 
 class ReportStruct(ctypes.Structure):
-    _fields_ = [(name, ctypes.c_uint32) for name in ("one", "two", "place")]
+    _fields_ = [(name, ctypes.c_uint32) for name in ("one", "two", "place", "reserved")]
 
 
 # Where the library is beside this folder: in a wheel, in the sources, and as `make install` puts it.
@@ -52,6 +52,8 @@ def load() -> ctypes.CDLL:
         "nr_table_entries": [*octets, *octets, place],
         "nr_plan": [number, number, place],
         "nr_crc": [number, *octets, place],
+        "nr_cut": [number, *octets, number, *octets],
+        "nr_encode": [*octets, number, number, *octets, *octets],
         "nr_codeword": [*octets, number, number, *octets, *octets],
         "nr_buffer": [place, number, number, place],
         "nr_lengths": [number, number, place, *octets],

@@ -48,7 +48,7 @@ def receive_many(
     rate1024: Rate1024 = None, lbrm: int = 0,
 ) -> ReceivedMany:
     """What receive() answers of each of many transport blocks of `a` bits, as a ReceivedMany. `txs` is the Tx of all, or a list of
-    at most 256 that each block was sent by; `heard` is an array, or a list, with a row for each block: the places of its first
+    those that each block was sent by; `heard` is an array, or a list, with a row for each block: the places of its first
     transmission, then those of the second, and so on."""
     entries, rows, octets = entries_of(table), rows_of(heard), min(number(a), MOST_BITS) // 8
     structs = [tx_struct(tx) for tx in ([txs] if isinstance(txs, Tx) else txs)]

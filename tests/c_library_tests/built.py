@@ -110,7 +110,7 @@ class Tx(ctypes.Structure):
     """A transmission, as nr.h has it."""
 
     _fields_ = [(name, ctypes.c_uint32) for name in ("rv", "g", "qm", "nl")]
-    _fields_ += [("some", ctypes.c_uint64), ("blocks", ctypes.c_uint64 * 6)]
+    _fields_ += [("some", ctypes.c_uint64), ("blocks", ctypes.c_uint64 * 6), ("reserved", ctypes.c_uint32 * 4)]
 
 
 def tx(g, rv=0, qm=1, nl=1, blocks=None):
@@ -185,13 +185,13 @@ def counter():
 
 
 def struct(count=1):
-    """A room for a struct of so many numbers of 32 bits."""
+    """A room for a struct of so many numbers of 32 bits, the reserved ones among them."""
     return Room(count, item=4, counted=False)
 
 
 def settings(rate2048, lbrm=0):
     """The settings of a link."""
-    return (ctypes.c_uint32 * 2)(rate2048, lbrm)
+    return (ctypes.c_uint32 * 4)(rate2048, lbrm)
 
 
 def call(name, *given):

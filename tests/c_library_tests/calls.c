@@ -5,7 +5,7 @@
 static uint8_t *text;
 static NrEntry *table;
 static size_t text_len, table_len;
-static const NrSettings settings = {2048, 0};
+static const NrSettings settings = {2048, 0, {0, 0}};
 
 static void *filled(size_t length) {
     void *room = malloc(length);
@@ -14,9 +14,9 @@ static void *filled(size_t length) {
 }
 
 static void tables(void) {
-    NrReport report = {7, 7, 7};
+    NrReport report = {7, 7, 7, 7};
     CHECK(nr_table_check(text, text_len, &report) == NR_OK);
-    CHECK(report.one == 0 && report.two == 105 && report.place == 0);
+    CHECK(report.one == 0 && report.two == 105 && report.place == 0 && report.reserved == 0);
     CHECK(nr_table_check((const uint8_t *)"1,2\n", 4, &report) == NR_FIELDS);
     CHECK(report.one == 0 && report.two == 0 && report.place == 0);
     CHECK(nr_table_check(text, text_len - 3, &report) == NR_CSV);
@@ -49,7 +49,7 @@ static void entries(void) {
 }
 
 static void plans(void) {
-    static const NrPlan wanted = {2, 24, 0, 1, 24, 6, 4, 0, 40, 200};
+    static const NrPlan wanted = {2, 24, 0, 1, 24, 6, 4, 0, 40, 200, {0, 0}};
     NrPlan plan;
     memset(&plan, 0xA5, sizeof plan);
     CHECK(nr_plan(2049, 8, &plan) == NR_RATE_RANGE);
@@ -76,14 +76,20 @@ static void parities(void) {
 static void coding(void) {
     static const uint8_t attached[] = {0x01, 0x10, 0x21}, first[] = {0x10, 0x21}, last[] = {0x80, 0x00, 0x00};
     NrTx tx = transmission(0, 184, 1);
-    NrBuffer buffer = {7, 7};
-    uint8_t bits[24], wanted[24], *out = (uint8_t *)filled(200);
+    NrBuffer buffer = {7, 7, {7, 7}};
+    const uint8_t block[] = {1};
+    uint8_t bits[24], wanted[24], code[40], *out = (uint8_t *)filled(200), *encoded = (uint8_t *)filled(200);
     uint32_t length = 7;
     CHECK(nr_lengths(2048, 8, &tx, &length, 0) == NR_ROOM && length == 7);
     CHECK(nr_lengths(2048, 8, &tx, &length, 1) == NR_OK && length == 184);
     CHECK(nr_buffer(&settings, 8, 4, &buffer) == NR_RV && buffer.ncb == 7 && buffer.k0 == 7);
     CHECK(nr_buffer(&settings, 8, 3, &buffer) == NR_OK && buffer.ncb == 200 && buffer.k0 == 172);
+    CHECK(buffer.reserved[0] == 0 && buffer.reserved[1] == 0);
     bits_of(attached, sizeof attached, bits);
+    memset(code, 0xA5, sizeof code);
+    CHECK(nr_cut(2048, block, 1, 1, code, 24) == NR_CODE_BLOCK && nr_cut(2048, block, 1, 0, code, 23) == NR_ROOM);
+    CHECK(is_filled(code, sizeof code));
+    CHECK(nr_cut(2048, block, 1, 0, code, 24) == NR_OK && !memcmp(code, bits, 24) && is_filled(code + 24, 16));
     bits[23] = 2;
     CHECK(nr_codeword(table, table_len, 2048, 8, bits, 24, out, 200) == NR_BIT && is_filled(out, 200));
     bits[23] = 1;
@@ -93,6 +99,10 @@ static void coding(void) {
     for (int filler = 16; filler < 32; filler++) CHECK(out[filler] == NR_FILLER);
     bits_of(last, sizeof last, wanted);
     CHECK(!memcmp(out + 172, wanted, 24));
+    memset(code + 24, NR_FILLER, 16);
+    CHECK(nr_encode(table, table_len, 2, 3, code, 30, encoded, 150) == NR_LIFTING && is_filled(encoded, 200));
+    CHECK(nr_encode(table, table_len, 2, 4, code, 40, encoded, 200) == NR_OK && !memcmp(encoded, out, 200));
+    free(encoded);
     free(out);
 }
 
@@ -153,7 +163,7 @@ static void receiving(void) {
 static void no_items(void) {
     const uint8_t block[] = {1}, zeros[24] = {0};
     NrTx tx = transmission(0, 24, 1);
-    NrReport report = {7, 7, 7};
+    NrReport report = {7, 7, 7, 7};
     size_t count = 7;
     uint32_t parity = 7;
     uint8_t *out = (uint8_t *)filled(200);
@@ -168,6 +178,10 @@ static void no_items(void) {
     CHECK(nr_send(NULL, 0, &settings, block, 1, &tx, out, 24) == NR_EMPTY);
     CHECK(nr_send(table, table_len, &settings, NULL, 0, &tx, out, 24) == NR_SIZE);
     CHECK(nr_send(table, table_len, &settings, block, 1, &tx, NULL, 0) == NR_ROOM);
+    CHECK(nr_cut(2048, NULL, 0, 0, out, 24) == NR_SIZE);
+    CHECK(nr_cut(2048, block, 1, 0, NULL, 0) == NR_ROOM);
+    CHECK(nr_encode(NULL, 0, 2, 4, zeros, 24, out, 200) == NR_EMPTY);
+    CHECK(nr_encode(table, table_len, 2, 4, NULL, 0, out, 200) == NR_LENGTH);
     CHECK(is_filled(out, 200));
     free(out);
 }
@@ -177,15 +191,19 @@ static void nothing_received(void) {
     static const uint8_t erased[] = {2, 2, 2, 2}, zeros[32] = {0};
     NrTx tx = transmission(0, 4, 1);
     uint32_t outcome = 7, left = 7;
+    uint8_t block = 7;
     CHECK(nr_receive(NULL, 0, &settings, 8, &tx, 1, erased, 4, &outcome, 1, &left, 1, NULL, 0) == NR_EMPTY);
-    CHECK(nr_receive(table, table_len, &settings, 8, NULL, 0, erased, 1, NULL, 0, &left, 1, NULL, 0) == NR_LENGTH);
-    CHECK(nr_receive(table, table_len, &settings, 8, &tx, 1, NULL, 0, &outcome, 1, &left, 1, NULL, 0) == NR_LENGTH);
-    CHECK(nr_receive(table, table_len, &settings, 8, &tx, 1, erased, 4, NULL, 0, &left, 1, NULL, 0) == NR_ROOM);
-    CHECK(nr_receive(table, table_len, &settings, 8, &tx, 1, erased, 4, &outcome, 1, NULL, 0, NULL, 0) == NR_ROOM);
+    CHECK(nr_receive(table, table_len, &settings, 8, NULL, 0, erased, 1, NULL, 0, &left, 1, &block, 1) == NR_LENGTH);
+    CHECK(nr_receive(table, table_len, &settings, 8, &tx, 1, NULL, 0, &outcome, 1, &left, 1, &block, 1) == NR_LENGTH);
+    CHECK(nr_receive(table, table_len, &settings, 8, &tx, 1, erased, 4, NULL, 0, &left, 1, &block, 1) == NR_ROOM);
+    CHECK(nr_receive(table, table_len, &settings, 8, &tx, 1, erased, 4, &outcome, 1, NULL, 0, &block, 1) == NR_ROOM);
+    CHECK(nr_receive(table, table_len, &settings, 8, &tx, 1, erased, 4, &outcome, 1, &left, 1, NULL, 0) == NR_ROOM);
     tx.g = 32;
     CHECK(nr_receive(table, table_len, &settings, 8, &tx, 1, zeros, 32, &outcome, 1, &left, 1, NULL, 0) == NR_ROOM);
     CHECK(outcome == 7 && left == 7);
-    CHECK(nr_receive(table, table_len, &settings, 8, NULL, 0, NULL, 0, NULL, 0, &left, 1, NULL, 0) == NR_OK && left == 24);
+    CHECK(nr_receive(table, table_len, &settings, 8, NULL, 0, NULL, 0, NULL, 0, &left, 1, NULL, 0) == NR_ROOM && left == 7);
+    CHECK(nr_receive(table, table_len, &settings, 8, NULL, 0, NULL, 0, NULL, 0, &left, 1, &block, 1) == NR_OK && left == 24);
+    CHECK(block == 7);
 }
 
 int main(int count, char **words) {

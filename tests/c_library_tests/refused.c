@@ -41,7 +41,7 @@ enum { OCTETS = 37, G = 1056, ENTRIES = 421, LONG = 4194305 };
 static uint8_t *text, long_text[LONG];
 static NrEntry *table, unplaced[ENTRIES];
 static size_t text_len, table_len;
-static const NrSettings settings = {2048, 0};
+static const NrSettings settings = {2048, 0, {0, 0}};
 static uint8_t block[OCTETS], heard[2 * G];
 static NrTx txs[2];
 static struct {
@@ -74,6 +74,15 @@ static uint32_t codeword(void) {
     return nr_codeword(table, table_len, 2048, 8 * OCTETS, bits, sizeof bits, rooms.coded, sizeof rooms.coded);
 }
 
+/* The same by base graph 1 and Zc = 15: 330 zeros and 990 without fillers. */
+static uint32_t encode(void) {
+    static const uint8_t bits[330];
+    return nr_encode(table, table_len, 1, 15, bits, sizeof bits, rooms.coded, sizeof rooms.coded);
+}
+
+/* 37 octets with CRC16. */
+static uint32_t cut(void) { return nr_cut(2048, block, OCTETS, 0, rooms.bits, 312); }
+
 static uint32_t send(void) { return nr_send(table, table_len, &settings, block, OCTETS, txs, rooms.bits, G); }
 
 static uint32_t receive(void) {
@@ -89,10 +98,13 @@ static uint32_t receive_unplaced(void) {
     return nr_receive(unplaced, ENTRIES, &settings, 0, txs, 2, heard, 1, rooms.outcomes, 1, &rooms.left, 0, rooms.block, 0);
 }
 
-static uint32_t receive_many(void) {
-    static NrTx many[257];
-    return nr_receive(unplaced, ENTRIES, &settings, 0, many, 257, heard, 1, rooms.outcomes, 1, &rooms.left, 0, rooms.block, 0);
-}
+static uint32_t encode_unplaced(void) { return nr_encode(unplaced, ENTRIES, 0, 0, block, 1, rooms.coded, 1); }
+
+static uint32_t cut_nothing(void) { return nr_cut(2048, block, 0, 0, rooms.bits, 0); }
+
+static uint32_t cut_past_the_end(void) { return nr_cut(2048, block, OCTETS, 1, rooms.bits, 312); }
+
+static uint32_t cut_in_less(void) { return nr_cut(2048, block, OCTETS, 0, rooms.bits, 311); }
 
 static int is_right(const char *name) {
     if (!strcmp(name, "nr_table_entries")) return rooms.count == ENTRIES && !memcmp(rooms.entries, table, sizeof rooms.entries);
@@ -161,6 +173,8 @@ int main(int count, char **words) {
     sweep("nr_table_entries, refused", list_bad, NR_CSV);
     sweep("nr_crc", crc, NR_OK);
     sweep("nr_codeword", codeword, NR_OK);
+    sweep("nr_cut", cut, NR_OK);
+    sweep("nr_encode", encode, NR_OK);
     sweep("nr_send", send, NR_OK);
     sweep("nr_receive", receive, NR_OK);
     refused_first("nr_table_check", check_long_table, NR_TOO_LONG, 0);
@@ -168,7 +182,10 @@ int main(int count, char **words) {
     refused_first("nr_codeword", code_unplaced, NR_ENTRIES, 1);
     refused_first("nr_send", send_unplaced, NR_ENTRIES, 1);
     refused_first("nr_receive", receive_unplaced, NR_ENTRIES, 1);
-    refused_first("nr_receive", receive_many, NR_MANY, 0);
+    refused_first("nr_encode", encode_unplaced, NR_ENTRIES, 1);
+    refused_first("nr_cut", cut_nothing, NR_SIZE, 0);
+    refused_first("nr_cut", cut_past_the_end, NR_CODE_BLOCK, 0);
+    refused_first("nr_cut", cut_in_less, NR_ROOM, 0);
     printf("%d wrong\n", wrong);
     return wrong != 0;
 }

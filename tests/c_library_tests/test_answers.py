@@ -32,23 +32,23 @@ class Answers(unittest.TestCase):
         for a in [8, 176, 184, 192, 288, 296, 544, 552, 624, 632, 3816, 3824, 3832, 8424, 8432, 12264, 100_008, 1_310_688]:
             for rate2048 in [1, 511, 512, 513, 1372, 1373, 2048]:
                 with self.subTest(a=a, rate2048=rate2048):
-                    room, wanted = built.struct(10), model.plan(a, rate2048)
+                    room, wanted = built.struct(12), model.plan(a, rate2048)
                     self.assertEqual(built.call("nr_plan", rate2048, a, room), 0 if wanted else 45)
                     if wanted:
-                        self.assertEqual(room.numbers(), list(wanted.values()))
+                        self.assertEqual(room.numbers(), [*wanted.values(), 0, 0])
                     else:
                         self.assertTrue(room.is_unwritten())
 
     def test_the_plan_of_readme(self):
-        room = built.struct(10)
+        room = built.struct(12)
         self.assertEqual(built.call("nr_plan", 2048, 8, room), 0)
-        self.assertEqual(room.numbers(), [2, 24, 0, 1, 24, 6, 4, 0, 40, 200])
+        self.assertEqual(room.numbers(), [2, 24, 0, 1, 24, 6, 4, 0, 40, 200, 0, 0])
 
     def test_tables(self):
         for text, counts in [(PRACTICE, [0, 105]), (DRAWN, [316, 0]), (PRACTICE + DRAWN, [316, 105])]:
-            room = built.struct(3)
+            room = built.struct(4)
             self.assertEqual(built.call("nr_table_check", text, room), 0)
-            self.assertEqual(room.numbers(), [*counts, 0])
+            self.assertEqual(room.numbers(), [*counts, 0, 0])
 
     def test_entries(self):
         """The entries of a text, in the order of their places whatever the order of its records."""
@@ -95,23 +95,57 @@ class Answers(unittest.TestCase):
             self.assertEqual(encoder.octets_of(list(room.octets())).hex(), wanted)
 
     def test_coded(self):
-        """The codewords of each code block, the lengths and the buffer, by which the model sends."""
+        """The code blocks and their codewords, with fillers and without, and the buffer, by which the model sends."""
         both, draw = PRACTICE + DRAWN, random.Random(5)
         table = built.table(both)
         for octets, rate2048 in [(1, 2048), (37, 2048), (37, 512), (479, 512), (1065, 2048)]:
             a = 8 * octets
             plan = model.plan(a, rate2048)
-            for bits in model.code_blocks(draw.randbytes(octets), plan):
-                room = built.Room(plan["n"])
-                self.assertEqual(built.call("nr_codeword", table, rate2048, a, bytes(bits), room), 0)
+            block, fillers = draw.randbytes(octets), bytes([2]) * (plan["k"] - plan["kdash"])
+            for r, bits in enumerate(model.code_blocks(block, plan)):
+                cut = built.Room(plan["kdash"])
+                self.assertEqual(built.call("nr_cut", rate2048, block, r, cut), 0)
+                self.assertEqual(list(cut.octets()), bits)
                 wanted = model.coded(model.tables(both)[plan["graph"]], plan, bits)
-                self.assertEqual(list(room.octets()), [2 if it is None else it for it in wanted])
+                for call in [
+                    ("nr_codeword", table, rate2048, a, cut.octets()),
+                    ("nr_encode", table, plan["graph"], plan["z"], cut.octets() + fillers),
+                ]:
+                    room = built.Room(plan["n"])
+                    self.assertEqual(built.call(*call, room), 0)
+                    self.assertEqual(list(room.octets()), [2 if it is None else it for it in wanted])
             for rv in range(4):
                 for lbrm in [0, a, 3 * a]:
-                    room = built.struct(2)
+                    room = built.struct(4)
                     self.assertEqual(built.call("nr_buffer", built.settings(rate2048, lbrm), a, rv, room), 0)
                     ncb = rate_matching.buffer_length(plan, lbrm or None)
-                    self.assertEqual(room.numbers(), [ncb, rate_matching.start(plan, ncb, rv)])
+                    self.assertEqual(room.numbers(), [ncb, rate_matching.start(plan, ncb, rv), 0, 0])
+
+    def test_encoded(self):
+        """Bits and fillers at any place, by each base graph and lifting size that a code block has."""
+        both, draw = PRACTICE + DRAWN, random.Random(8)
+        table, entries = built.table(both), model.tables(both)
+        for graph, columns in model.INFORMATION.items():
+            for z, index in sorted(model.SETS.items()):
+                with self.subTest(graph=graph, z=z):
+                    octets, room = bytes(draw.choices([0, 1, 2], [4, 4, 1], k=columns * z)), built.Room(model.SENT[graph] * z)
+                    small = graph == 2 and z < 4
+                    self.assertEqual(built.call("nr_encode", table, graph, z, octets, room), 6 if small else 0)
+                    if small:
+                        self.assertTrue(room.is_unwritten())
+                        continue
+                    word = encoder.codeword(entries[graph], columns, index, z, [octet % 2 for octet in octets])
+                    word[: len(octets)] = octets
+                    self.assertEqual(list(room.octets()), word[2 * z :])
+
+    def test_cut(self):
+        """Each of the 344 code blocks of the longest transport block of base graph 2."""
+        block = random.Random(9).randbytes(163_827)
+        plan = model.plan(8 * len(block), 512)
+        for r, bits in enumerate(model.code_blocks(block, plan)):
+            room = built.Room(plan["kdash"])
+            self.assertEqual(built.call("nr_cut", 512, block, r, room), 0)
+            self.assertEqual(list(room.octets()), bits)
 
     def test_lengths(self):
         draw = random.Random(6)

@@ -42,7 +42,7 @@ class ByHand(unittest.TestCase):
         """24 bits have 40 with their CRC, so that Zc is 7 and N 350. A limit of 200 bits keeps 300 (5.4.2.1)."""
         cases = [(0, 1, [350, 91]), (0, 3, [350, 301]), (200, 2, [300, 147]), (1, 3, [1, 0])]
         for lbrm, rv, wanted in cases:
-            room = built.struct(2)
+            room = built.struct(4)
             self.assertEqual(built.call("nr_buffer", built.settings(2048, lbrm), 24, rv, room), 0)
             self.assertEqual(room.numbers(), wanted, f"version {rv}, limit {lbrm}")
 

@@ -18,7 +18,7 @@ DOCUMENT = """#include "{checked}"
 int main(int words_len, char **words) {{
     size_t length;
     uint8_t bits[300], block[9] = {{0}}, *text = text_of(words_len > 1 ? words[1] : NULL, &length);
-    NrSettings settings = {{2048, 0}};
+    NrSettings settings = {{2048, 0, {{0, 0}}}};
     NrTx tx = transmission(0, 300, 2);
 {lines}
     printf("%u\\n", (unsigned)status);
@@ -79,7 +79,7 @@ class Programs(InFolder):
 
     def test_memory_refused(self):
         output = built.done([self.compiled("refused.c", *WRAPPED), self.both_graphs()])
-        for call in ["nr_table_check", "nr_table_entries", "nr_crc", "nr_codeword", "nr_send", "nr_receive"]:
+        for call in ["nr_table_check", "nr_table_entries", "nr_crc", "nr_codeword", "nr_cut", "nr_encode", "nr_send", "nr_receive"]:
             self.assertRegex(output.decode(), rf"(?m)^{call}: [1-9]\d* growths refused$")
 
     def test_threads(self):

@@ -3,6 +3,7 @@
 import unittest
 
 import built
+import model
 
 PRACTICE = built.PRACTICE.read_bytes()
 LINES = PRACTICE.splitlines(keepends=True)
@@ -101,6 +102,12 @@ TXS = [
 ]
 
 
+def code_blocks(a, rate2048):
+    """How many code blocks a transport block has; 1 where there is no plan."""
+    numbers = model.plan(a, rate2048) if a else None
+    return numbers["c"] if numbers else 1
+
+
 class Statuses(unittest.TestCase):
     """Of each call, with the rooms that it may write."""
 
@@ -113,9 +120,17 @@ class Statuses(unittest.TestCase):
     def refused_send(self, status, table=TABLE, settings=SETTINGS, block=b"\1", tx=TX, room=24):
         self.refused(status, "nr_send", table, settings, block, tx, built.Room(room))
 
-    def refused_receive(self, status, table=TABLE, settings=SETTINGS, a=8, txs=(TX,), heard=bytes(24), room=1):
-        outcomes, left = built.Room(len(txs), item=4), built.Room(1, item=4)
-        self.refused(status, "nr_receive", table, settings, a, list(txs), heard, outcomes, left, built.Room(room))
+    def refused_receive(self, status, table=TABLE, settings=SETTINGS, a=8, txs=(TX,), heard=bytes(24), rooms=None):
+        """The rooms are those for the outcomes, for what is left of each code block, and for the transport block."""
+        outcomes, left, room = rooms or (len(txs), code_blocks(a, settings[0]), a // 8)
+        places = built.Room(outcomes, item=4), built.Room(left, item=4), built.Room(room)
+        self.refused(status, "nr_receive", table, settings, a, list(txs), heard, *places)
+
+    def refused_cut(self, status, rate2048=2048, block=b"\1", r=0, room=24):
+        self.refused(status, "nr_cut", rate2048, block, r, built.Room(room))
+
+    def refused_encode(self, status, table=TABLE, graph=2, z=4, bits=bytes(40), room=200):
+        self.refused(status, "nr_encode", table, graph, z, bits, built.Room(room))
 
     def refused_codeword(self, status, table=TABLE, rate2048=2048, a=8, bits=bytes(24), room=200):
         self.refused(status, "nr_codeword", table, rate2048, a, bits, built.Room(room))
@@ -123,21 +138,22 @@ class Statuses(unittest.TestCase):
     def test_tables(self):
         for status, place, text in TABLES:
             with self.subTest(status=status, text=text[:40]):
-                report = built.struct(3)
+                report = built.struct(4)
                 self.assertEqual(built.call("nr_table_check", text, report), status)
-                self.assertEqual(report.numbers(), [0, 0, place])
+                self.assertEqual(report.numbers(), [0, 0, place, 0])
                 for room in [0, 1, 105]:
                     self.refused(status, "nr_table_entries", text, built.Room(room, item=22), built.counter())
 
     def test_entries(self):
         for status, rows in ENTRIES:
             with self.subTest(status=status, first=rows[:1], last=rows[-1:]):
-                # The first cause of all, but for too many transmissions.
+                # The first cause of all.
                 table = built.Table(rows)
                 self.refused_send(status, table, built.settings(0), b"", built.tx(0, 4), 1)
-                self.refused_receive(status, table, built.settings(0), 7, [built.tx(0, 4)], b"", 0)
-                self.refused_receive(3, table, txs=[TX] * 257)
+                self.refused_receive(status, table, built.settings(0), 7, [built.tx(0, 4)], b"", (0, 0, 0))
+                self.refused_receive(status, table, txs=[TX] * 257)
                 self.refused_codeword(status, table, 0, 0, b"\2", 1)
+                self.refused_encode(status, table, 3, 0, b"\3", 1)
 
     def test_rooms_for_entries(self):
         for room in [0, 1, 104, 106, 1000]:
@@ -151,16 +167,19 @@ class Statuses(unittest.TestCase):
             with self.subTest(status=status, a=a):
                 rate2048 = settings[0]
                 if status < 46:
-                    self.refused(status, "nr_plan", rate2048, a, built.struct(10))
+                    self.refused(status, "nr_plan", rate2048, a, built.struct(12))
                     self.refused(status, "nr_lengths", rate2048, a, built.tx(0, 4), built.Room(0, item=4))
+                    self.refused_cut(status, rate2048, bytes(a // 8), 1000, 0)
                 if status < 47:
                     self.refused_codeword(status, rate2048=rate2048, a=a, bits=b"\2", room=1)
                 if status != 46:
-                    self.refused(status, "nr_buffer", settings, a, 4, built.struct(2))
+                    self.refused(status, "nr_buffer", settings, a, 4, built.struct(4))
                 self.refused_send(status, settings=settings, block=bytes(a // 8), tx=built.tx(0, 4), room=1)
-                self.refused_receive(status, settings=settings, a=a, txs=[built.tx(0, 4)], heard=b"", room=0)
+                self.refused_receive(status, settings=settings, a=a, txs=[built.tx(0, 4)], heard=b"")
+                wrong = code_blocks(a, rate2048) + 1
+                self.refused_receive(status if status < 46 else 2, settings=settings, a=a, heard=b"", rooms=(0, wrong, 0))
         for a in [1, 7, 9, 1_310_721, 0xFFFFFFFF]:
-            self.refused(40, "nr_plan", 0, a, built.struct(10))
+            self.refused(40, "nr_plan", 0, a, built.struct(12))
             self.refused_receive(40, settings=built.settings(0), a=a)
 
     def test_transmissions(self):
@@ -168,25 +187,26 @@ class Statuses(unittest.TestCase):
             with self.subTest(status=status, g=tx.g):
                 self.refused_send(status, tx=tx, room=tx.g + 1 if tx.g < 100 else 1)
                 self.refused(status, "nr_lengths", 2048, 8, tx, built.Room(2, item=4))
-                self.refused_receive(status, txs=[tx], heard=bytes(tx.g), room=0)
-                self.refused_receive(status, txs=[TX, tx], heard=bytes(24 + tx.g), room=0)
+                self.refused_receive(status, txs=[tx], heard=bytes(tx.g))
+                self.refused_receive(status, txs=[TX, tx], heard=bytes(24 + tx.g))
                 # Fewer places than G come before what else is wrong with a transmission.
                 if tx.g:
-                    self.refused_receive(56, txs=[tx], heard=bytes(tx.g - 1), room=0)
-        self.refused(50, "nr_buffer", SETTINGS, 8, 4, built.struct(2))
-        self.refused_receive(56, txs=[], heard=b"\0", room=0)
-        self.refused_receive(56, heard=bytes(25), room=0)
-        self.refused_receive(56, txs=[TX, TX], heard=bytes(47), room=0)
+                    self.refused_receive(56, txs=[tx], heard=bytes(tx.g - 1))
+        self.refused(50, "nr_buffer", SETTINGS, 8, 4, built.struct(4))
+        self.refused_receive(56, txs=[], heard=b"\0")
+        self.refused_receive(56, heard=bytes(25))
+        self.refused_receive(56, txs=[TX, TX], heard=bytes(47))
 
     def test_rooms(self):
         for room in [0, 1, 23, 25, 1000]:
             self.refused_send(2, room=room)
-        # All zeros are the code word of the block of zeros, and G = 32 are enough to fix it.
-        for room in [0, 2, 100]:
-            self.refused_receive(2, txs=[built.tx(32)], heard=bytes(32), room=room)
-        for outcomes, left in [(0, 1), (2, 1), (1, 0), (1, 2)]:
-            rooms = built.Room(outcomes, item=4), built.Room(left, item=4), built.Room(1)
-            self.refused(2, "nr_receive", TABLE, SETTINGS, 8, [TX], bytes(24), *rooms)
+        # All zeros are the code word of the block of zeros, and G = 32 are enough to fix it; G = 24 leave it open.
+        for tx in [built.tx(32), TX]:
+            for rooms in [(1, 1, 0), (1, 1, 2), (1, 1, 100), (0, 1, 1), (2, 1, 1), (1, 0, 1), (1, 2, 1)]:
+                self.refused_receive(2, txs=[tx], heard=bytes(tx.g), rooms=rooms)
+        # They are judged before the first transmission is heard, and also where there is none.
+        self.refused_receive(2, txs=[built.tx(0, 4)], heard=b"", rooms=(1, 1, 0))
+        self.refused_receive(2, txs=[], heard=b"", rooms=(0, 1, 0))
         for room in [0, 2, 344]:
             self.refused(2, "nr_lengths", 2048, 8, TX, built.Room(room, item=4))
 
@@ -198,6 +218,33 @@ class Statuses(unittest.TestCase):
             self.refused_codeword(5, bits=bytes(place) + b"\xff" + bytes(23 - place))
         for bits in [b"", bytes(23), b"\2" * 25]:
             self.refused_codeword(56, bits=bits, room=0)
+
+    def test_cuts(self):
+        for room in [0, 23, 25]:
+            self.refused_cut(2, room=room)
+        for r in [1, 344, 0xFFFFFFFF]:
+            self.refused_cut(7, r=r, room=0)
+        # Two code blocks of 1,952 bits.
+        self.refused_cut(7, 512, bytes(479), 2, 0)
+        self.refused_cut(2, 512, bytes(479), 1, 1951)
+        self.refused_cut(40, 0, b"", 1, 0)
+        self.refused_cut(40, 0, bytes(163_841), 344, 0)
+
+    def test_encoding(self):
+        for room in [0, 199, 201]:
+            self.refused_encode(2, room=room)
+        for place in [0, 39]:
+            for wrong in [b"\3", b"\xff"]:
+                self.refused_encode(5, bits=bytes(place) + wrong + bytes(39 - place), room=0)
+        for bits in [b"", bytes(39), b"\3" * 41]:
+            self.refused_encode(56, bits=bits, room=0)
+        for z in [0, 1, 2, 3, 17, 31, 33, 383, 385, 388, 1 << 31, 0xFFFFFFFF]:
+            self.refused_encode(6, z=z, bits=b"\3", room=0)
+        for graph in [0, 1, 3, 258, 0xFFFFFFFF]:
+            self.refused_encode(46, graph=graph, z=17, bits=b"\3", room=0)
+        for z in [0, 1, 17, 22, 385]:
+            known = {22: 56}.get(z, 6)
+            self.refused_encode(known, built.table((built.ROOT / "examples" / "drawn.csv").read_bytes()), 1, z, b"\3", 0)
 
     def test_parities(self):
         for poly in [3, 4, 0xFFFFFFFF]:

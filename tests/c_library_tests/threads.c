@@ -1,14 +1,18 @@
 /* Four threads at once: each sends and receives a block of its own over erasures of its own, again and again, and each answer is
-   the one that was given when no other thread ran. */
+   the one that was given when no other thread ran. Then one thread makes every call with what is longest. Each has the stack that
+   nr.h asks for. */
 #include <pthread.h>
 
 #include "checked.h"
 
-enum { THREADS = 4, ROUNDS = 40, OCTETS = 60, G = 2000 };
+enum { THREADS = 4, ROUNDS = 40, OCTETS = 60, G = 2000, STACK = 64 << 10 };
+
+/* What the longest calls are given: transmissions of eight bits, and a transport block of 344 code blocks. */
+enum { MANY = 4096, EACH = 8, LONG = 163827, BLOCKS = 344, KDASH = 3834, K = 3840, N = 19200, PARITY_OCTETS = 2097152 };
 
 static NrEntry *table;
 static size_t table_len;
-static const NrSettings settings = {2048, 0};
+static const NrSettings settings = {2048, 0, {0, 0}};
 
 struct answer {
     uint32_t status, outcome, parity, left;
@@ -47,14 +51,65 @@ static void *work(void *given) {
     return NULL;
 }
 
+static uint8_t *text;
+static size_t text_len;
+
+/* Many transmissions: of a short block, which the last one delivers, and of a long one, of which nothing is heard. */
+static void receive_many(const NrSettings *low, const uint8_t *block) {
+    static NrTx txs[MANY];
+    static uint8_t heard[EACH * (MANY - 1) + G], found[LONG];
+    static uint32_t outcomes[MANY], left[BLOCKS];
+    for (uint32_t at = 0; at < MANY; at++) {
+        txs[at] = transmission(at % 4, at < MANY - 1 ? EACH : G, 2);
+        CHECK(nr_send(table, table_len, &settings, block, OCTETS, &txs[at], heard + EACH * at, txs[at].g) == NR_OK);
+    }
+    CHECK(nr_receive(table, table_len, &settings, 8 * OCTETS, txs, MANY, heard, sizeof heard, outcomes, MANY, left, 1, found, OCTETS) ==
+          NR_OK);
+    CHECK(outcomes[MANY - 2] == NR_OPEN && outcomes[MANY - 1] == NR_DELIVERED && !memcmp(found, block, OCTETS));
+    memset(heard, NR_ERASED, sizeof heard);
+    CHECK(nr_receive(table, table_len, low, 8 * LONG, txs, MANY, heard, sizeof heard, outcomes, MANY, left, BLOCKS, found, LONG) ==
+          NR_OK);
+    CHECK(outcomes[MANY - 1] == NR_OPEN && left[BLOCKS - 1] == KDASH);
+}
+
+/* Every call with what is longest. */
+static void *make_long_calls(void *given) {
+    static const NrSettings low = {512, 0, {0, 0}};
+    static uint8_t block[PARITY_OCTETS], bits[K], d[N], again[N], sent[BLOCKS * EACH];
+    static uint32_t shares[BLOCKS];
+    NrTx tx = transmission(2, BLOCKS * EACH, 8);
+    NrReport report;
+    NrBuffer buffer;
+    NrPlan plan;
+    NrEntry *entries;
+    size_t count;
+    uint32_t parity;
+    for (size_t at = 0; at < LONG; at++) block[at] = (uint8_t)(at * at >> 3);
+    CHECK(nr_table_check(text, text_len, &report) == NR_OK && report.one + report.two == table_len);
+    entries = entries_of(text, text_len, &count);
+    CHECK(count == table_len);
+    free(entries);
+    CHECK(nr_plan(512, 8 * LONG, &plan) == NR_OK && plan.c == BLOCKS && plan.kdash == KDASH && plan.k == K && plan.n == N);
+    CHECK(nr_crc(NR_CRC24A, block, PARITY_OCTETS, &parity) == NR_OK);
+    CHECK(nr_lengths(512, 8 * LONG, &tx, shares, BLOCKS) == NR_OK && shares[BLOCKS - 1] == EACH);
+    CHECK(nr_buffer(&low, 8 * LONG, 3, &buffer) == NR_OK && buffer.ncb == N);
+    CHECK(nr_cut(512, block, LONG, BLOCKS - 1, bits, KDASH) == NR_OK);
+    CHECK(nr_codeword(table, table_len, 512, 8 * LONG, bits, KDASH, d, N) == NR_OK);
+    memset(bits + KDASH, NR_FILLER, K - KDASH);
+    CHECK(nr_encode(table, table_len, 2, 384, bits, K, again, N) == NR_OK && !memcmp(d, again, N));
+    CHECK(nr_send(table, table_len, &low, block, LONG, &tx, sent, sizeof sent) == NR_OK);
+    receive_many(&low, block);
+    return given;
+}
+
 int main(int count, char **words) {
     static struct job jobs[THREADS];
     pthread_t threads[THREADS];
+    pthread_attr_t small;
     int delivered = 0;
-    size_t text_len;
-    uint8_t *text = text_of(count > 1 ? words[1] : NULL, &text_len);
+    text = text_of(count > 1 ? words[1] : NULL, &text_len);
     table = entries_of(text, text_len, &table_len);
-    free(text);
+    if (pthread_attr_init(&small) || pthread_attr_setstacksize(&small, STACK)) return 2;
     for (uint32_t at = 0; at < THREADS; at++) {
         jobs[at].seed = at + 1;
         answer(jobs[at].seed, &jobs[at].alone);
@@ -63,12 +118,15 @@ int main(int count, char **words) {
     }
     CHECK(delivered > 0);
     for (int at = 0; at < THREADS; at++)
-        if (pthread_create(&threads[at], NULL, work, &jobs[at])) return 2;
+        if (pthread_create(&threads[at], &small, work, &jobs[at])) return 2;
     for (int at = 0; at < THREADS; at++) {
         pthread_join(threads[at], NULL);
         CHECK(jobs[at].wrong == 0);
     }
+    if (pthread_create(&threads[0], &small, make_long_calls, NULL)) return 2;
+    pthread_join(threads[0], NULL);
     printf("%d threads, %d rounds each, %d of the blocks delivered, %d wrong\n", THREADS, ROUNDS, delivered, wrong);
     free(table);
+    free(text);
     return wrong != 0;
 }

@@ -1,15 +1,17 @@
 //! The data coding chain of NR's shared channels (3GPP TS 38.212, Release 15) for callers in C: a static library.
 //! Each export answers a status, 0 or the number of its first fault (nr_calls/specs/Statuses.antt), and has no `requires`: its
 //! body in nr_calls tests all that it is given, and what it writes is a stated function of that; a refusal writes nothing. A
-//! slice is a pointer and a length, a `Global` no argument; no memory outlives a call. A shift table is entries that the caller
-//! keeps. The main contracts are those of `nr_send` and `nr_receive`. Stands on nr_calls, which has the bodies.
+//! slice is a pointer and a length, a `Global` no argument. A shift table is entries that the caller keeps. That no memory
+//! outlives a call is tested, by tests/c-library. The main contracts are those of `nr_send` and `nr_receive`. Stands on nr_calls, which has the bodies.
 #![tactic(auto)]
 
-ghost use Rattle.std.specs.Prelude.{◌≡◌, ◌<◌, ◌≤◌, false, length};
+ghost use Rattle.std.specs.Prelude.{◌≡◌, ◌<◌, false, length};
 ghost use Rattle.nr_graphpick.specs.Refusal.{with_fault};
 ghost use Rattle.nr_shifttable.specs.Accepted.{table_said};
 ghost use Rattle.nr_calls.specs.Coding.{Codes, coded_into_said};
 ghost use Rattle.nr_calls.specs.Crossing.{settings_in, tx_of};
+ghost use Rattle.nr_calls.specs.Cutting.{Cuts, cut_said};
+ghost use Rattle.nr_calls.specs.Encoding.{Encodes, encode_said};
 ghost use Rattle.nr_calls.specs.Entries.{are_placed, table_by};
 ghost use Rattle.nr_calls.specs.Findings.{Decides, places, room_in};
 ghost use Rattle.nr_calls.specs.Judging.{Lists, Reports, listing};
@@ -128,6 +130,54 @@ pub extern "C" fn nr_buffer(settings: &NrSettings, a: u32, rv: u32, out: &mut Nr
     nr_calls::rates::nr_buffer(settings, a, rv, out)
 }
 
+/// The K' bits of code block `r`, counted from 0, of a transport block at the code rate `rate2048` / 2048, one to an octet of
+/// `out`, which has K' octets (TS 38.212, 5.2.2): c_r without the fillers that follow them. `block` has eight bits to an octet,
+/// the first most significant.
+///
+/// # Errors
+///
+/// In this order: 40 `Size`, 41 `RateRange` and 45 `Uneven`, as `nr_plan` has them; 7 `CodeBlock`, where `r` is not below C; 2
+/// `Room`, where `out` does not have K' octets; 1, where memory is refused, never in place of these. `out` is as it was then.
+#[unsafe(no_mangle)]
+pub extern "C" fn nr_cut(
+    alloc: Global,
+    rate2048: u32,
+    block: &[u8],
+    r: u32,
+    out: &mut [u8],
+) -> u32
+    ensures { Cuts result out.old out.new (cut_said rate2048 block.now r (length out.old)) }
+{
+    nr_calls::cutting::nr_cut(alloc, rate2048, block, r, out)
+}
+
+/// The bits d that the K bits c of a code block are coded into (TS 38.212, 5.3.2), one to an octet of `out`, which has N octets,
+/// by the base graph and the lifting size `z` alone. `bits` has c, an octet for each: 0 and 1 are bits, and 2 is a filler, which
+/// is coded as 0; `out` has 2 where c has a filler.
+///
+/// # Errors
+///
+/// In this order: of the shift table 31 `Entries`, 29 `Empty`, 26 `Core`, 27 `Extension`, 28 `MissingRow`, as `nr_send` has
+/// them; 46 `Graph`, where `graph` is neither 1 nor 2, or the table lacks it; 6 `Lifting`, where code blocks of the base graph
+/// do not have the lifting size; 56 `Length`, where `bits` does not have K octets; 5 `Bit`, where one of them is none of 0, 1 and
+/// 2; 2 `Room`, where `out` does not have N octets; 1, want of memory, where it is met, never in place of 31. `out` is as it was
+/// then.
+#[unsafe(no_mangle)]
+pub extern "C" fn nr_encode(
+    alloc: Global,
+    table: &[NrEntry],
+    graph: u32,
+    z: u32,
+    bits: &[u8],
+    out: &mut [u8],
+) -> u32
+    ensures said { Encodes result bits.now out.old out.new
+        (encode_said table.now graph z bits.now (length out.old)) }
+    ensures placed { are_placed table.now ≡ false → result ≡ 31 }
+{
+    nr_calls::encoding::nr_encode(alloc, table, graph, z, bits, out)
+}
+
 /// The bits d that a code block is coded into (TS 38.212, 5.3.2), one to an octet of `out`, which has N octets: 0 and 1 are
 /// bits, and 2 is a filler, which is never sent. The code block is one of a transport block of `a` bits at the code rate
 /// `rate2048` / 2048; `bits` has its K' bits with its CRC, without fillers, an octet of 0 or 1 for each.
@@ -185,17 +235,18 @@ pub extern "C" fn nr_send(
 /// erased place (TS 38.212, 5.4.2 and 5.5). Writes to `outcomes`, which has an entry for each transmission, the outcome of
 /// that transmission and those before it: 0, where a position below K' is left that isn't fixed; 1, where the one transport
 /// block that explains all is delivered; 2, where no transport block explains all. Writes to `left`, which has an entry for
-/// each of the C code blocks, how many positions below K' are left after the last transmission. Where the last outcome is 1
-/// the transport block goes to `block`, eight bits to an octet, the first most significant; else `block` is as it was.
+/// each of the C code blocks, how many positions below K' are left after the last transmission. `block` has a / 8 octets. Where
+/// the last outcome is 1 the transport block goes there, eight bits to an octet, the first most significant; else `block` is as
+/// it was.
 ///
 /// # Errors
 ///
-/// In this order: 3 `Many`, where there are more than 256 transmissions; of the shift table 31 `Entries`, 29 `Empty`, 26
-/// `Core`, 27 `Extension`, 28 `MissingRow`, as `nr_send` has them; of the block 40 `Size`, 41 `RateRange`, 45 `Uneven`, 46 `Graph`, 47 `NoBuffer`; for each
-/// transmission in turn 56 `Length`, where fewer than G octets are left, 50 `Rv`, 51 `Order`, 52 `Layers`, 53 `Total`, 54
-/// `Ragged`, 55 `NoneScheduled`; 56 `Length`, where octets are left over; 2 `Room`, where `outcomes` or `left` does not have
-/// so many entries, or a block is delivered at last and `block` does not have a / 8 octets; 1, want of memory, where it is
-/// met, never in place of 3 and 31. `outcomes`, `left` and `block` are as they were then.
+/// In this order: of the shift table 31 `Entries`, 29 `Empty`, 26 `Core`, 27 `Extension`, 28 `MissingRow`, as `nr_send` has
+/// them; of the block 40 `Size`, 41 `RateRange`, 45 `Uneven`; 2 `Room`, where `outcomes`, `left` or `block` does not have so
+/// many entries, before anything is heard; of the block 46 `Graph`, 47 `NoBuffer`; for each transmission in turn 56 `Length`,
+/// where fewer than G octets are left, 50 `Rv`, 51 `Order`, 52 `Layers`, 53 `Total`, 54 `Ragged`, 55 `NoneScheduled`; 56
+/// `Length`, where octets are left over; 1, want of memory, where it is met, never in place of 31. `outcomes`, `left` and
+/// `block` are as they were then.
 #[unsafe(no_mangle)]
 pub extern "C" fn nr_receive(
     alloc: Global,
@@ -212,8 +263,7 @@ pub extern "C" fn nr_receive(
         (places outcomes.new left.new block.new)
         (receive_into_said table.now (settings_in settings.now) a txs.now heard.now
         (room_in (places outcomes.old left.old block.old))) }
-    ensures many { 256 < length txs.now → result ≡ 3 }
-    ensures placed { length txs.now ≤ 256 → are_placed table.now ≡ false → result ≡ 31 }
+    ensures placed { are_placed table.now ≡ false → result ≡ 31 }
 {
     nr_calls::receiving::nr_receive(alloc, table, settings, a, txs, heard, outcomes, left, block)
 }

@@ -1,4 +1,9 @@
 mod Columns
 mod Digits
+mod Encoded
+mod Hearings
+mod Liftings
+mod Octets
 mod Outcomes
 mod Placed
+mod Rooms

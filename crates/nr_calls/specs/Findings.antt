@@ -1,5 +1,5 @@
 -- What is found over a list of receptions, and what a call leaves of it in its caller's places.
-use Rattle.std.specs.Prelude.{◌≡◌, ◌⊎◌, ℕ, ◌+◌, ◌*◌, ◌==◌, ◌&&◌, Bool, true, Result, Ok, Err, List, length, map, take}
+use Rattle.std.specs.Prelude.{◌≡◌, ◌⊎◌, ℕ, ◌+◌, ◌*◌, ◌/◌, ◌==◌, ◌&&◌, Bool, true, Result, Ok, Err, List, length, map, take}
 use Rattle.std.specs.List.{range_with_len}
 use Rattle.nr_harqbuf.specs.Record.{Heardbits}
 use Rattle.nr_blockdesk.specs.Explains.{Reception}
@@ -54,11 +54,19 @@ places outcomes left block = record { outcomes = outcomes; left = left; block = 
 abbrev pub room_in : Places → Room
 room_in p = record { outcomes = length p.outcomes; left = length p.left; block = length p.block }
 
+-- room for what is found over n transmissions of a transport block of a bits in c code blocks
+abbrev pub is_room : Room → ℕ → ℕ → ℕ → Bool
+is_room room c a n = (room.outcomes == n) && (room.left == c) && (room.block == a / 8)
+
 -- a block that is delivered fills so many octets
 abbrev pub block_fits : ℕ → Verdict → Bool
 block_fits octets (delivered block) = length block == 8 * octets
 block_fits octets open_still = true
 block_fits octets contradiction = true
+
+-- a block that is delivered has a bits
+abbrev pub IsLastBlock : ℕ → Verdict → Type 0
+IsLastBlock a v = (block : List Bool) → v ≡ delivered block → length block ≡ a
 
 -- what is found fills the room
 abbrev pub has_room : Room → Findings → Bool

@@ -25,8 +25,8 @@ fault_place table.Memory = 0
 
 -- how many entries an accepted table has of each base graph, and where a refused one has its fault
 abbrev pub report_of : Result Entries TableFault → NrReport
-report_of (Ok t) = record { one = length t.one; two = length t.two; place = 0 }
-report_of (Err e) = record { one = 0; two = 0; place = fault_place e }
+report_of (Ok t) = record { one = length t.one; two = length t.two; place = 0; reserved = 0 }
+report_of (Err e) = record { one = 0; two = 0; place = fault_place e; reserved = 0 }
 
 -- the number of a table's fault, and 0 for none
 abbrev pub judged_status : Result Entries TableFault → ℕ

@@ -7,4 +7,6 @@ pub mod Receiving
 pub mod Numbers
 pub mod Rates
 pub mod Coding
+pub mod Cutting
+pub mod Encoding
 pub mod Judging

@@ -1,5 +1,5 @@
 -- The plan of a transport block, and the parity bits of octets.
-use Rattle.std.specs.Prelude.{ℕ, ◌==◌, nat_le, if◌then◌else◌, Option, Some, None, Result, Ok, List, length}
+use Rattle.std.specs.Prelude.{ℕ, ◌==◌, nat_le, if◌then◌else◌, Option, Some, None, Result, Ok, List, [], ◌∷◌, length}
 use Rattle.nr_bitvec.specs.BitList.{bits_of}
 use Rattle.nr_crcattach.specs.Attachment.{attached_length}
 use Rattle.nr_crcattach.specs.Crc.{crc_of}
@@ -31,6 +31,7 @@ shown graph b p = record {
   set = p.set;
   k = p.k;
   n = p.n;
+  reserved = 0 ∷ 0 ∷ [];
 }
 
 -- a base graph, and the numbers of a plan

@@ -1,6 +1,6 @@
 -- How a transmission shares its bits out to the code blocks, and the circular buffer that they are selected from (TS 38.212,
 -- 5.4.2.1).
-use Rattle.std.specs.Prelude.{ℕ, ◌==◌, nat_le, Result, Ok, List, length}
+use Rattle.std.specs.Prelude.{ℕ, ◌==◌, nat_le, Result, Ok, List, [], ◌∷◌, length}
 use Rattle.nr_graphpick.specs.Refusal.{◌>>=◌, with_fault}
 use Rattle.nr_ratematch.specs.Lengths.{lengths_said, scheduled}
 use Rattle.nr_ratematch.specs.Selection.{buffer_said, start_of}
@@ -33,4 +33,4 @@ buffer_told settings a rv = do
   p ← planned_said settings.rate2048 a
   buffer ← with_fault (λ e. fault.Desk (desk.Rm e)) (buffer_said p.graph p.plan settings.lbrm)
   version ← demanded (fault.Desk desk.Rv) (nat_le rv 3)
-  Ok (record { ncb = buffer.ncb; k0 = start_of buffer rv })
+  Ok (record { ncb = buffer.ncb; k0 = start_of buffer rv; reserved = 0 ∷ 0 ∷ [] })

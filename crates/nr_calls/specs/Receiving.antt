@@ -11,7 +11,8 @@ use Rattle.nr_blockdesk.specs.declared.heard.Heard.TheVariants as heard
 use Rattle.nr_transmission.specs.declared.settings.Settings.{Settings}
 use Rattle.nr_calls.specs.Crossing.{tx_of}
 use Rattle.nr_calls.specs.Entries.{table_by}
-use Rattle.nr_calls.specs.Findings.{Findings, findings, has_room}
+use Rattle.nr_calls.specs.Findings.{Findings, findings, is_room}
+use Rattle.nr_calls.specs.Numbers.{planned_said}
 use Rattle.nr_calls.specs.declared.crossing.NrTx.{NrTx}
 use Rattle.nr_shifttable.specs.declared.entry.KeptEntry.{KeptEntry}
 use Rattle.nr_calls.specs.declared.fault.Fault.{Fault}
@@ -40,21 +41,15 @@ heard_said link list (t ∷ ts) octets =
     with_fault fault.Desk (reception_said link (arrival t octets)) >>= λ _.
     heard_said link (list ++ arrival t octets ∷ []) ts (drop t.g octets)
 
--- what is found over some transmissions of a transport block of a bits, by a shift table, or the first fault
-unfoldable pub receive_by : Entries → Settings → ℕ → List NrTx → List ℕ → Result Findings Fault
-receive_by table settings a ts octets =
-    with_fault fault.Desk (link_said table settings a) >>= λ link. heard_said link [] ts octets
+-- what is found over some transmissions of a transport block of a bits, by a shift table, where there is room for it, or the
+-- first fault; how much room is wanted does not hang on what is found
+unfoldable pub receive_by : Entries → Settings → ℕ → List NrTx → List ℕ → Room → Result Findings Fault
+receive_by table settings a ts octets room = do
+  p ← planned_said settings.rate2048 a
+  fits ← demanded fault.Room (is_room room p.plan.c a (length ts))
+  link ← with_fault fault.Desk (link_said table settings a)
+  heard_said link [] ts octets
 
--- the same of at most 256, by a shift table's entries
-unfoldable pub receive_said : List KeptEntry → Settings → ℕ → List NrTx → List ℕ → Result Findings Fault
-receive_said entries settings a ts octets = do
-  few ← demanded fault.Many (nat_le (length ts) 256)
-  table ← table_by entries
-  receive_by table settings a ts octets
-
--- the same, where there is room for what is found
-abbrev pub receive_into_said : List KeptEntry → Settings → ℕ → List NrTx → List ℕ → Room → Result Findings Fault
-receive_into_said entries settings a ts octets room = do
-  found ← receive_said entries settings a ts octets
-  fits ← demanded fault.Room (has_room room found)
-  Ok found
+-- the same by a shift table's entries
+unfoldable pub receive_into_said : List KeptEntry → Settings → ℕ → List NrTx → List ℕ → Room → Result Findings Fault
+receive_into_said entries settings a ts octets room = table_by entries >>= λ table. receive_by table settings a ts octets room

@@ -20,6 +20,8 @@ pub struct NrSettings {
     pub rate2048: u32,
     /// TBS_LBRM, in bits, where the circular buffer is limited (TS 38.212, 5.4.2.1); 0 where it is not.
     pub lbrm: u32,
+    /// Room for later fields: it is not read.
+    pub reserved: [u32; 2],
 }
 
 impl NrSettings {
@@ -55,6 +57,8 @@ pub struct NrTx {
     pub some: u64,
     /// Code block r, counted from 0, is scheduled where bit r mod 64 of word r div 64 is set.
     pub blocks: [u64; 6],
+    /// Room for later fields: it is not read.
+    pub reserved: [u32; 4],
 }
 
 impl NrTx {

@@ -23,6 +23,10 @@ pub enum Fault {
     Poly,
     /// An octet that stands for a bit is neither 0 nor 1.
     Bit,
+    /// No code block of the base graph has this lifting size.
+    Lifting,
+    /// There is no code block of this number.
+    CodeBlock,
     /// An entry of a shift table is outside its base graph, or does not stand past those before it.
     Entries,
     /// The shift table is refused.
@@ -42,6 +46,8 @@ impl Fault {
             Fault::Many => 3,
             Fault::Poly => 4,
             Fault::Bit => 5,
+            Fault::Lifting => 6,
+            Fault::CodeBlock => 7,
             Fault::Entries => 31,
             Fault::Table(fault) => table_status(fault),
             Fault::Desk(fault) => desk_status(fault),

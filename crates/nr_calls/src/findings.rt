@@ -2,7 +2,7 @@
 
 ghost use Rattle.std.specs.Prelude.{◌≡◌, true};
 ghost use Rattle.nr_blockdesk.specs.Receiving.{verdict};
-ghost use Rattle.nr_calls.specs.Findings.{AreWritten, block_fits, findings_of, has_room, outcome_number, places, room_in};
+ghost use Rattle.nr_calls.specs.Findings.{AreWritten, findings_of, has_room, is_room, outcome_number, places, room_in};
 
 use crate::crossing::write_octets;
 use nr_blockdesk::Outcome;
@@ -24,16 +24,16 @@ pub(crate) struct Room {
     pub(crate) block: usize,
 }
 
-impl Found {
-    // Whether all of it fits the room.
-    pub(crate) fn fits(&self, room: &Room) -> bool
-        ensures { result ≡ has_room room.now (findings_of self.now) }
+impl Room {
+    // Whether it is room for what is found over so many transmissions of a transport block of `a` bits in `c` code blocks.
+    pub(crate) fn is_for(&self, c: u32, a: u32, transmissions: usize) -> bool
+        ensures { result ≡ is_room self.now c a transmissions }
     {
-        self.outcomes.len() == room.outcomes
-            && self.left.len() == room.left
-            && block_fits(&self.last, room.block)
+        self.outcomes == transmissions && self.left == c as usize && self.block == a as usize / 8
     }
+}
 
+impl Found {
     // Writes all of it.
     pub(crate) fn write(&self, outcomes: &mut [u32], left: &mut [u32], block: &mut [u8])
         requires { has_room (room_in (places outcomes.old left.old block.old))
@@ -46,16 +46,6 @@ impl Found {
         if let Outcome::Delivered(bits) = &self.last {
             write_octets(bits, block);
         }
-    }
-}
-
-// Whether a block that is delivered fills so many octets.
-fn block_fits(outcome: &Outcome, octets: usize) -> bool
-    ensures { result ≡ block_fits octets (verdict outcome.now) }
-{
-    match outcome {
-        Outcome::Delivered(bits) => bits.len() / 8 == octets && bits.len() % 8 == 0,
-        _ => true,
     }
 }
 

@@ -8,6 +8,8 @@
 mod coded;
 pub mod coding;
 pub mod crossing;
+pub mod cutting;
+pub mod encoding;
 pub mod entries;
 pub mod fault;
 mod findings;

@@ -45,6 +45,8 @@ pub struct NrPlan {
     pub k: u32,
     /// N, the bits that a code block is coded into.
     pub n: u32,
+    /// Room for later fields: 0.
+    pub reserved: [u32; 2],
 }
 
 impl NrPlan {
@@ -63,6 +65,7 @@ impl NrPlan {
             set: plan.set,
             k: plan.k,
             n: plan.n,
+            reserved: [0; 2],
         }
     }
 }

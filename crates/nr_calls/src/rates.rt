@@ -20,6 +20,8 @@ pub struct NrBuffer {
     pub ncb: u32,
     /// k0, the place in the buffer where the redundancy version begins: below Ncb.
     pub k0: u32,
+    /// Room for later fields: 0.
+    pub reserved: [u32; 2],
 }
 
 /// E_r of each code block, written to `out`: the body of nr_c's export of this name, which says what each status is.
@@ -102,5 +104,6 @@ fn buffer_on(settings: Settings, a: u32, rv: u32) -> Result<NrBuffer, Fault>
     Ok(NrBuffer {
         ncb: buffer.ncb(),
         k0: buffer.start(rv),
+        reserved: [0; 2],
     })
 }

@@ -1,30 +1,28 @@
 //! Receiving a transport block over its transmissions.
 
-ghost use Rattle.std.specs.Prelude.{◌≡◌, ◌<◌, ◌≤◌, ◌++◌, ◌∷◌, [], Err, List, length, map, true, false, IfOk, IsOk};
+ghost use Rattle.std.specs.Prelude.{◌≡◌, ◌++◌, ◌∷◌, [], Err, List, length, map, true, false, IfOk, IsOk};
 ghost use Rattle.nr_graphpick.specs.Refusal.{Gives, with_fault};
 ghost use Rattle.nr_shifttable.specs.Accepted.{IsTable};
 ghost use Rattle.nr_blockdesk.specs.Explains.{Reception, reception, reception_said};
 ghost use Rattle.nr_blockdesk.specs.Heard.{IsRecordOf};
 ghost use Rattle.nr_blockdesk.specs.Link.{IsLink, link_said};
-ghost use Rattle.nr_blockdesk.specs.Outcome.{outcome_of};
 ghost use Rattle.nr_blockdesk.specs.Receiving.{RefusesAs, verdict};
 ghost use Rattle.nr_calls.specs.Crossing.{settings_in, tx_of};
 ghost use Rattle.nr_calls.specs.Entries.{are_placed};
-ghost use Rattle.nr_calls.specs.Findings.{Decides, findings_of, has_room, lefts, outcome_number, outcomes_of, places, room_in};
-ghost use Rattle.nr_calls.specs.Receiving.{heard_octet, heard_said, one_more_said, receive_by, receive_into_said, receive_said};
+ghost use Rattle.nr_calls.specs.Findings.{Decides, IsLastBlock, findings_of, has_room, lefts, outcome_number, outcomes_of, places, room_in};
+ghost use Rattle.nr_calls.specs.Receiving.{heard_octet, heard_said, one_more_said, receive_by, receive_into_said};
 
 use crate::crossing::{NrSettings, NrTx};
 use crate::entries::{NrEntry, table_by};
 use crate::fault::Fault;
 use crate::findings::{Found, Room, outcome_number};
+use crate::numbers::plan_on;
 use nr_blockdesk::{
-    DeskFault, Heard, Outcome, Receiver, Settings, Tx, links_are_sound, nothing_is_open,
+    DeskFault, Heard, Outcome, Receiver, Settings, Tx, delivered_is_only, links_are_sound,
+    nothing_is_open,
 };
 use nr_shifttable::Table;
 use std::alloc::{AllocError, Global};
-
-// The most transmissions of a call, each of which takes a place on the stack.
-const MOST_TRANSMISSIONS: usize = 256;
 
 /// What may be handed up of a transport block after each of the transmissions `txs`: the body of nr_c's export of this name,
 /// which says what each status is, and what is written.
@@ -43,15 +41,14 @@ pub fn nr_receive(
         (places outcomes.new left.new block.new)
         (receive_into_said table.now (settings_in settings.now) a txs.now heard.now
         (room_in (places outcomes.old left.old block.old))) }
-    ensures many { 256 < length txs.now → result ≡ 3 }
-    ensures placed { length txs.now ≤ 256 → are_placed table.now ≡ false → result ≡ 31 }
+    ensures placed { are_placed table.now ≡ false → result ≡ 31 }
 {
     let room = Room {
         outcomes: outcomes.len(),
         left: left.len(),
         block: block.len(),
     };
-    match receive_into(alloc, table, settings.settings(), a, txs, heard, room) {
+    match receive(alloc, table, settings.settings(), a, txs, heard, room) {
         Ok(found) => {
             found.write(outcomes, left, block);
             0
@@ -61,7 +58,8 @@ pub fn nr_receive(
 }
 
 // What is found, for so much room.
-fn receive_into(
+#[tactic(auto, unfolding(crate::specs::Receiving::receive_into_said))]
+fn receive(
     alloc: Global,
     table: &[NrEntry],
     settings: Settings,
@@ -73,41 +71,13 @@ fn receive_into(
     ensures said { Gives Fault.Memory findings_of result
         (receive_into_said table.now settings a txs.now octets.now room) }
     ensures room { IfOk result (λ found. has_room room (findings_of found) ≡ true) }
-    ensures many { 256 < length txs.now → result ≡ Err Fault.Many }
-    ensures placed { length txs.now ≤ 256 → are_placed table.now ≡ false
-        → result ≡ Err Fault.Entries }
+    ensures placed { are_placed table.now ≡ false → result ≡ Err Fault.Entries }
 {
-    let found = receive(alloc, table, settings, a, txs, octets)?;
-    if !found.fits(&room) {
-        return Err(Fault::Room);
-    }
-    Ok(found)
-}
-
-// What is found.
-#[tactic(auto, unfolding(crate::specs::Receiving::receive_said))]
-fn receive(
-    alloc: Global,
-    table: &[NrEntry],
-    settings: Settings,
-    a: u32,
-    txs: &[NrTx],
-    octets: &[u8],
-) -> Result<Found, Fault>
-    ensures said { Gives Fault.Memory findings_of result
-        (receive_said table.now settings a txs.now octets.now) }
-    ensures many { 256 < length txs.now → result ≡ Err Fault.Many }
-    ensures placed { length txs.now ≤ 256 → are_placed table.now ≡ false
-        → result ≡ Err Fault.Entries }
-{
-    if txs.len() > MOST_TRANSMISSIONS {
-        return Err(Fault::Many);
-    }
     let table = table_by(alloc, table)?;
-    receive_by(alloc, &table, settings, a, txs, octets)
+    receive_by(alloc, &table, settings, a, txs, octets, room)
 }
 
-// What is found by a shift table.
+// What is found by a shift table. The room is judged before the receiver takes memory.
 #[tactic(auto, unfolding(crate::specs::Receiving::receive_by))]
 fn receive_by(
     alloc: Global,
@@ -116,29 +86,19 @@ fn receive_by(
     a: u32,
     txs: &[NrTx],
     octets: &[u8],
+    room: Room,
 ) -> Result<Found, Fault>
     requires { IsTable table.now }
-    ensures { Gives Fault.Memory findings_of result
-        (receive_by table.now settings a txs.now octets.now) }
+    ensures said { Gives Fault.Memory findings_of result
+        (receive_by table.now settings a txs.now octets.now room) }
+    ensures room { IfOk result (λ found. has_room room (findings_of found) ≡ true) }
 {
+    let plan = plan_on(settings.rate2048, a)?;
+    if !room.is_for(plan.c, a, txs.len()) {
+        return Err(Fault::Room);
+    }
     let mut receiver = receiver_of(alloc, table, settings, a)?;
-    hear_first(alloc, &mut receiver, txs, octets)
-}
-
-// What a receiver finds that has heard nothing yet.
-fn hear_first(
-    alloc: Global,
-    receiver: &mut Receiver<'_>,
-    txs: &[NrTx],
-    octets: &[u8],
-) -> Result<Found, Fault>
-    requires sound { IsLink receiver.old.link }
-    requires empty { IsRecordOf receiver.old.link [] receiver.old.heard }
-    ensures { Gives Fault.Memory findings_of result
-        (heard_said receiver.old.link [] txs.now octets.now) }
-{
-    nothing_is_open();
-    hear_all(alloc, receiver, txs, octets, Vec::new(alloc), Outcome::Open)
+    hear_all(alloc, &mut receiver, txs, octets)
 }
 
 // The receiver of a transport block, which has heard nothing yet. Memory is wanted only where the block has no fault.
@@ -163,42 +123,46 @@ fn receiver_of<'t>(
     }
 }
 
-// What is found after some more transmissions; `outcomes` has the outcome after each of those before them, and `last` is
-// the last of these.
-#[tactic(auto, unfolding(crate::specs::Receiving::heard_said))]
+// What is found over some transmissions, whose places stand one transmission after the other, by a receiver that has heard
+// nothing yet.
 fn hear_all(
     alloc: Global,
     receiver: &mut Receiver<'_>,
     txs: &[NrTx],
     octets: &[u8],
-    mut outcomes: Vec<u32>,
-    last: Outcome,
 ) -> Result<Found, Fault>
-    ensures { (list : List Reception) → IsRecordOf receiver.old.link list receiver.old.heard
-        → outcomes.items ≡ outcomes_of receiver.old.link list
-        → verdict last ≡ outcome_of receiver.old.link list
-        → Gives Fault.Memory findings_of result
-        (heard_said receiver.old.link list txs.now octets.now) }
+    requires sound { IsLink receiver.old.link }
+    requires empty { IsRecordOf receiver.old.link [] receiver.old.heard }
+    ensures said { Gives Fault.Memory findings_of result
+        (heard_said receiver.old.link [] txs.now octets.now) }
+    ensures outcomes { IfOk result (λ found. length found.outcomes.items ≡ length txs.now) }
+    ensures left { IfOk result (λ found. length found.left.items ≡ receiver.old.link.plan.c) }
+    ensures block { IfOk result (λ found. IsLastBlock receiver.old.link.a (verdict found.last)) }
 {
-    let [tx, rest @ ..] = txs else {
-        if octets.is_empty() {
-            let left = left_of(alloc, receiver)?;
-            return Ok(Found {
-                outcomes,
-                left,
-                last,
-            });
+    nothing_is_open();
+    delivered_is_only();
+    let mut outcomes = Vec::new(alloc);
+    let mut last = Outcome::Open;
+    let (mut later, mut places) = (txs, octets);
+    while let Some((tx, rest)) = later.split_first() {
+        let g = tx.g as usize;
+        if places.len() < g {
+            return Err(Fault::Desk(DeskFault::Length));
         }
-        return Err(Fault::Desk(DeskFault::Length));
-    };
-    let g = tx.g as usize;
-    if octets.len() < g {
+        let (heard, behind) = places.split_at(g);
+        last = hear_next(alloc, receiver, &tx.tx(), heard, &mut outcomes)?;
+        later = rest;
+        places = behind;
+    }
+    if !places.is_empty() {
         return Err(Fault::Desk(DeskFault::Length));
     }
-    match hear_next(alloc, receiver, &tx.tx(), &octets[..g], &mut outcomes) {
-        Ok(outcome) => hear_all(alloc, receiver, rest, &octets[g..], outcomes, outcome),
-        Err(fault) => Err(fault),
-    }
+    let left = left_of(alloc, receiver)?;
+    Ok(Found {
+        outcomes,
+        left,
+        last,
+    })
 }
 
 // How many positions below K' of each code block aren't fixed.

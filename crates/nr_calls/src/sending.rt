@@ -19,7 +19,7 @@ use nr_shifttable::Table;
 use std::alloc::Global;
 
 // The most octets of a transport block.
-const MOST_OCTETS: usize = 163_840;
+pub(crate) const MOST_OCTETS: usize = 163_840;
 
 /// The bits that a transmission sends of a transport block, one to an octet of `out`: the body of nr_c's export of this name,
 /// which says what each status is.

@@ -25,6 +25,8 @@ pub struct NrReport {
     /// Of a refused table, the number of the record, counted from 1, at which 21, 23, 24 and 25 are met; the base
     /// graph, 1 or 2, of 26 to 28; else 0.
     pub place: u32,
+    /// Room for later fields: 0.
+    pub reserved: u32,
 }
 
 /// Judges the shift table of a text, and writes what it tells to `out`: the body of nr_c's export of this name, which says
@@ -45,7 +47,12 @@ fn tell(judged: Result<Table, TableFault>, out: &mut NrReport) -> u32
     match judged {
         Ok(table) => {
             let (one, two) = (table.entries(Graph::One), table.entries(Graph::Two));
-            *out = NrReport { one, two, place: 0 };
+            *out = NrReport {
+                one,
+                two,
+                place: 0,
+                reserved: 0,
+            };
             0
         }
         Err(TableFault::Memory) => 1,
@@ -55,6 +62,7 @@ fn tell(judged: Result<Table, TableFault>, out: &mut NrReport) -> u32
                 one: 0,
                 two: 0,
                 place,
+                reserved: 0,
             };
             table_status(fault)
         }

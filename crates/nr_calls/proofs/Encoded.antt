@@ -1,0 +1,67 @@
+-- The word of K bits, and what refuses them.
+use Rattle.std.proofs.Common.{◌≡◌, ◌≢◌, ℕ, ◌+◌, ◌-◌, ◌*◌, ◌<◌, ◌≤◌, ◌==◌, Bool, true, false, Option, Some, unwrap_or, Result, Ok, Err, List, length, map, take, get_or, refl, sym, ap, ◌∙◌, arith, eq-eqb}
+use Rattle.std.proofs.lemmas.Bool.{ne_eqb}
+use Rattle.std.proofs.lemmas.List.{ext_get_or, get_or-map, get_or-take, length-map, length-take-le}
+use Rattle.std.specs.List.{list_all}
+use Rattle.nr_bitvec.specs.Bit.{bit}
+use Rattle.nr_graphpick.specs.Graph.{cols_of, info_cols_of, rows_of}
+use Rattle.nr_graphpick.specs.declared.Graph.{Graph}
+use Rattle.nr_graphpick.specs.declared.Graph.TheVariants.{One, Two}
+use Rattle.nr_graphpick.specs.Refusal.{◌>>=◌, or_fault}
+use Rattle.nr_lifting.specs.Sizes.{set_index}
+use Rattle.nr_segment.specs.Plan.{Numbers}
+use Rattle.nr_shifttable.specs.Accepted.{Entries, entries_in, has_graph}
+use Rattle.nr_ldpcenc.specs.Codeword.{completed}
+use Rattle.nr_ldpcenc.specs.Solving.{word_of}
+use Rattle.nr_blockdesk.specs.Link.{demanded}
+use Rattle.nr_transmission.specs.declared.fault.DeskFault.TheVariants as desk
+use Rattle.nr_calls.specs.Coding.{is_one}
+use Rattle.nr_calls.specs.Encoding.{can_lift, encode_judged, graph_of, is_coded, word_for}
+use Rattle.nr_calls.specs.declared.fault.Fault.{Fault}
+use Rattle.nr_calls.specs.declared.fault.Fault.TheVariants as fault
+
+-- the K bits are within the word
+pub info_within : (g : Graph) (z k i : ℕ) → i < k → k ≡ info_cols_of g * z → i < cols_of g * z
+info_within One z k i below is = omega arith
+info_within Two z k i below is = omega arith
+
+-- and all of them are
+pub info_most : (g : Graph) (z k : ℕ) → k ≡ info_cols_of g * z → k ≤ cols_of g * z
+info_most One z k is = omega arith
+info_most Two z k is = omega arith
+
+-- the word of a plan is that of its base graph and Zc
+pub word-for : (t : Entries) (g : Graph) (p : Numbers) (info : List Bool) → set_index p.z ≡ Some p.set → completed t g p info ≡ word_for t g p.z info
+unfolding completed word_for
+word-for t g p info is =
+    ap (λ s. word_of (entries_in g t) s (info_cols_of g) (rows_of g) p.z info) (sym (ap (λ (o : Option ℕ). unwrap_or o 0) is))
+
+-- a word that begins with the bits of K octets
+pub begins : (word : List Bool) (octets : List ℕ) (k : ℕ) → length octets ≡ k → k ≤ length word
+    → ((i : ℕ) → i < k → bit word i ≡ is_one (get_or octets i 0)) → take k word ≡ map is_one octets
+begins word octets k long fits each =
+    let taken : length (take k word) ≡ k = length-take-le k word fits in
+    let made : length (map is_one octets) ≡ length octets = length-map octets is_one in
+    ext_get_or false (take k word) (map is_one octets) (omega (arith, taken, made, long))
+    (λ i lt.
+    let below : i < k = omega (arith, lt, taken) in
+    let inside : i < length octets = omega (arith, below, long) in
+    get_or-take k word i false below ∙ each i below ∙ sym (get_or-map is_one octets i 0 false inside))
+
+-- octets that have no other fault are refused for the room
+room-steps : (o : Option Graph) (g : Graph) (has lift whole : Graph → Bool) (coded : Bool) (fits : Graph → Bool) → o ≡ Some g → has g ≡ true
+    → lift g ≡ true → whole g ≡ true → coded ≡ true → fits g ≡ false
+    → (or_fault (fault.Desk desk.Graph) o >>= λ graph. demanded (fault.Desk desk.Graph) (has graph) >>= λ _. demanded fault.Lifting (lift graph) >>= λ _.
+      demanded (fault.Desk desk.Length) (whole graph) >>= λ _. demanded fault.Bit coded >>= λ _. demanded fault.Room (fits graph) >>= λ _. Ok graph)
+      ≡ Err fault.Room
+room-steps o g has lift whole coded fits a b c d e f = rw (a, b, c, d, e, f) refl
+
+pub room_refused : (t : Entries) (number z : ℕ) (octets : List ℕ) (room : ℕ) (g : Graph) (k n : ℕ) → graph_of number ≡ Some g → has_graph g t ≡ true
+    → can_lift g z ≡ true → length octets ≡ k → k ≡ info_cols_of g * z → list_all is_coded octets ≡ true → n ≢ room → n ≡ (cols_of g - 2) * z
+    → encode_judged t number z octets room ≡ Err fault.Room
+unfolding encode_judged
+room_refused t number z octets room g k n picked there lift long is-k coded other is-n =
+    let differs : (cols_of g - 2) * z ≢ room = λ same. other (is-n ∙ same) in
+    room-steps (graph_of number) g (λ x. has_graph x t) (λ x. can_lift x z) (λ x. length octets == info_cols_of x * z) (list_all is_coded octets)
+    (λ x. (cols_of x - 2) * z == room) picked there lift (eq-eqb (length octets) (info_cols_of g * z) (long ∙ is-k)) coded
+    (ne_eqb ((cols_of g - 2) * z) room differs)

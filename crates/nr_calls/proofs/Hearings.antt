@@ -1,0 +1,164 @@
+-- What was heard so far of a list of transmissions, and what is said of all of them.
+use Rattle.std.proofs.Common.{◌≡◌, ◌≢◌, ◌⊎◌, inl, inr, refl, sym, ap, subst, ◌∙◌, ℕ, ◌+◌, ◌<◌, ◌≤◌, nat_le, Bool, true, false, Result, Ok, Err, List, [], ◌∷◌, ◌++◌, length, drop, take, arith, length-append}
+use Rattle.std.proofs.lemmas.Bool.{le-leb, lt-leb}
+use Rattle.std.proofs.lemmas.List.FromFn.{length-map-range_with_len}
+use Rattle.nr_graphpick.specs.Refusal.{◌>>=◌, Gives, with_fault}
+use Rattle.nr_harqbuf.specs.Record.{Heardbits}
+use Rattle.nr_blockdesk.specs.Explains.{Reception, reception_said}
+use Rattle.nr_blockdesk.specs.Heard.{IsRecordOf, heard_record}
+use Rattle.nr_blockdesk.specs.Link.{IsLink, Link, demanded}
+use Rattle.nr_blockdesk.specs.Outcome.{Verdict, outcome_of}
+use Rattle.nr_blockdesk.specs.ReceiverLaws.{DeliveredIsOnly}
+use Rattle.nr_transmission.specs.declared.fault.DeskFault.{DeskFault}
+use Rattle.nr_transmission.specs.declared.fault.DeskFault.TheVariants as desk
+use Rattle.nr_calls.specs.Findings.{Findings, IsLastBlock, findings, findings_of, lefts, outcome_number, outcomes_of}
+use Rattle.nr_calls.specs.Receiving.{arrival, heard_said, one_more_said}
+use Rattle.nr_calls.specs.declared.crossing.NrTx.{NrTx}
+use Rattle.nr_calls.specs.declared.fault.Fault.{Fault}
+use Rattle.nr_calls.specs.declared.fault.Fault.TheVariants as fault
+use Rattle.nr_calls.specs.declared.findings.Found.{Found}
+
+-- Some receptions were heard, of n transmissions in all, and these are their record, the outcomes after each, and the last one.
+-- What is said of all is said of them and the transmissions ts that are left.
+pub record HasHeard (link : Link) (records : List Heardbits) (outcomes : List ℕ) (last : Verdict) (n : ℕ) (said : Result Findings Fault)
+    (ts : List NrTx) (octets : List ℕ) : Type 0 where
+  pub list : List Reception
+  pub recorded : IsRecordOf link list records
+  pub outcomes_are : outcomes ≡ outcomes_of link list
+  pub last_is : last ≡ outcome_of link list
+  pub many : length list + length ts ≡ n
+  pub said_is : said ≡ heard_said link list ts octets
+
+-- a transmission that has its places and no fault leads to what is said next
+step-ok : (fits : Bool) (said : Result (List ℕ) DeskFault) (v w : Verdict) (next : Result Findings Fault) → fits ≡ true
+    → (with_fault fault.Desk said >>= λ _. Ok w) ≡ Ok v
+    → (demanded (fault.Desk desk.Length) fits >>= λ _. with_fault fault.Desk said >>= λ _. next) ≡ next
+step-ok true (Ok l) v w next fits is = refl
+step-ok true (Err e) v w next fits is = cc
+step-ok false said v w next fits is = cc
+
+-- one that has its places and a fault is refused by it
+step-err : (fits : Bool) (said : Result (List ℕ) DeskFault) (e : Fault) (next : Result Findings Fault) → fits ≡ true
+    → with_fault {X = List ℕ} fault.Desk said ≡ Err e
+    → (demanded (fault.Desk desk.Length) fits >>= λ _. with_fault fault.Desk said >>= λ _. next) ≡ Err e
+step-err true (Ok l) e next fits is = cc
+step-err true (Err f) e next fits is = cc
+step-err false said e next fits is = cc
+
+-- one that lacks places is refused for it
+step-short : (fits : Bool) (rest : Result Findings Fault) → fits ≡ false
+    → (demanded (fault.Desk desk.Length) fits >>= λ _. rest) ≡ Err (fault.Desk desk.Length)
+step-short false rest is = refl
+step-short true rest is = cc
+
+-- the outcome that is answered is that of the longer list
+told : (said : Result (List ℕ) DeskFault) (w v : Verdict) → (with_fault fault.Desk said >>= λ _. Ok w) ≡ Ok v → v ≡ w
+told (Ok l) w v is = cc
+told (Err e) w v is = cc
+
+-- what is left begins with the next transmission
+split : (link : Link) (records : List Heardbits) (outcomes : List ℕ) (last : Verdict) (n : ℕ) (said : Result Findings Fault) (all : List NrTx)
+    (t : NrTx) (ts : List NrTx) (octets : List ℕ) → HasHeard link records outcomes last n said all octets → all ≡ t ∷ ts
+    → HasHeard link records outcomes last n said (t ∷ ts) octets
+split link records outcomes last n said all t ts octets h is = subst (λ (l : List NrTx). HasHeard link records outcomes last n said l octets) is h
+
+-- one more was heard
+more-heard : (link : Link) (records later : List Heardbits) (outcomes more : List ℕ) (last next : Verdict) (n : ℕ) (said : Result Findings Fault)
+    (t : NrTx) (ts : List NrTx) (octets : List ℕ) → HasHeard link records outcomes last n said (t ∷ ts) octets → t.g ≤ length octets
+    → ((list : List Reception) → IsRecordOf link list records → IsRecordOf link (list ++ arrival t octets ∷ []) later)
+    → ((list : List Reception) → IsRecordOf link list records → one_more_said link list (arrival t octets) ≡ Ok next)
+    → ((list : List Reception) → IsRecordOf link list records → outcomes ≡ outcomes_of link list
+      → more ≡ outcomes_of link (list ++ arrival t octets ∷ []))
+    → HasHeard link later more next n said ts (drop t.g octets)
+unfolding heard_said
+more-heard link records later outcomes more last next n said t ts octets h fits recorded told-next outcomes-more = record {
+  list = h.list ++ arrival t octets ∷ [];
+  recorded = recorded h.list h.recorded;
+  outcomes_are = outcomes-more h.list h.recorded h.outcomes_are;
+  last_is = told (reception_said link (arrival t octets)) _ next (told-next h.list h.recorded);
+  many =
+    let longer = length-append h.list (arrival t octets ∷ []) in
+    let before = h.many in
+    omega (arith, longer, before);
+  said_is = h.said_is
+    ∙ step-ok (nat_le t.g (length octets)) (reception_said link (arrival t octets)) next _ _ (le-leb t.g (length octets) fits) (told-next h.list h.recorded);
+}
+
+-- the same of what a call says of it
+pub heard-more : (new link : Link) (records later : List Heardbits) (outcomes more : List ℕ) (last next : Verdict) (n : ℕ) (said : Result Findings Fault)
+    (all : List NrTx) (t : NrTx) (ts : List NrTx) (octets behind : List ℕ) (x : Reception) → HasHeard link records outcomes last n said all octets
+    → t.g ≤ length octets
+    → ((list : List Reception) → IsRecordOf link list records → IsRecordOf link (list ++ x ∷ []) later)
+    → ((list : List Reception) → IsRecordOf link list records → one_more_said link list x ≡ Ok next)
+    → ((list : List Reception) → IsRecordOf link list records → outcomes ≡ outcomes_of link list → more ≡ outcomes_of link (list ++ x ∷ []))
+    → new ≡ link → all ≡ t ∷ ts → x ≡ arrival t octets → behind ≡ drop t.g octets → HasHeard new later more next n said ts behind
+heard-more new link records later outcomes more last next n said all t ts octets behind x h fits recorded told-next outcomes-more one is arrives rest =
+    subst (λ (k : Link). HasHeard k later more next n said ts behind) (sym one)
+    (subst (λ (o : List ℕ). HasHeard link later more next n said ts o) (sym rest)
+    (more-heard link records later outcomes more last next n said t ts octets (split link records outcomes last n said all t ts octets h is) fits
+    (subst (λ (y : Reception). (list : List Reception) → IsRecordOf link list records → IsRecordOf link (list ++ y ∷ []) later) arrives recorded)
+    (subst (λ (y : Reception). (list : List Reception) → IsRecordOf link list records → one_more_said link list y ≡ Ok next) arrives told-next)
+    (subst (λ (y : Reception). (list : List Reception) → IsRecordOf link list records → outcomes ≡ outcomes_of link list → more ≡ outcomes_of link (list ++ y ∷ [])) arrives outcomes-more)))
+
+-- the next one is refused
+pub heard-err : (link : Link) (records : List Heardbits) (outcomes : List ℕ) (last : Verdict) (n : ℕ) (said : Result Findings Fault)
+    (all : List NrTx) (t : NrTx) (ts : List NrTx) (octets : List ℕ) (x : Reception) (e : Fault) (r : Result Found Fault)
+    → HasHeard link records outcomes last n said all octets → t.g ≤ length octets
+    → ((e ≡ fault.Memory) ⊎ (with_fault {X = List ℕ} fault.Desk (reception_said link x) ≡ Err e)) → r ≡ Err e
+    → all ≡ t ∷ ts → x ≡ arrival t octets → Gives fault.Memory findings_of r said
+unfolding heard_said
+heard-err link records outcomes last n said all t ts octets x e r h fits (inl memory) answer is arrives =
+    subst (λ (y : Result Found Fault). Gives fault.Memory findings_of y said) (sym answer) (inl memory)
+heard-err link records outcomes last n said all t ts octets x e r h fits (inr refused) answer is arrives =
+    let begun = split link records outcomes last n said all t ts octets h is in
+    subst (λ (y : Result Found Fault). Gives fault.Memory findings_of y said) (sym answer)
+    (inr (begun.said_is ∙ step-err (nat_le t.g (length octets)) (reception_said link (arrival t octets)) e _ (le-leb t.g (length octets) fits)
+    (ap (λ (y : Reception). with_fault {X = List ℕ} fault.Desk (reception_said link y)) (sym arrives) ∙ refused)))
+
+-- the next one lacks places
+pub heard-short : (link : Link) (records : List Heardbits) (outcomes : List ℕ) (last : Verdict) (n : ℕ) (said : Result Findings Fault)
+    (all : List NrTx) (t : NrTx) (ts : List NrTx) (octets : List ℕ) → HasHeard link records outcomes last n said all octets → length octets < t.g
+    → all ≡ t ∷ ts → said ≡ Err (fault.Desk desk.Length)
+unfolding heard_said
+heard-short link records outcomes last n said all t ts octets h short is =
+    let begun = split link records outcomes last n said all t ts octets h is in
+    begun.said_is ∙ step-short (nat_le t.g (length octets)) _ (lt-leb t.g (length octets) short)
+
+-- places are left over
+pub heard-over : (link : Link) (records : List Heardbits) (outcomes : List ℕ) (last : Verdict) (n : ℕ) (said : Result Findings Fault)
+    (ts : List NrTx) (octets : List ℕ) → HasHeard link records outcomes last n said ts octets → length ts ≡ 0 → length octets ≢ 0
+    → said ≡ Err (fault.Desk desk.Length)
+unfolding heard_said
+heard-over link records outcomes last n said [] (o ∷ octets) h none some = h.said_is
+heard-over link records outcomes last n said [] [] h none some = absurd (some refl)
+heard-over link records outcomes last n said (t ∷ ts) octets h none some = absurd (omega (arith, none))
+
+-- all were heard
+pub heard-all : (link : Link) (records : List Heardbits) (outcomes left : List ℕ) (last : Verdict) (n : ℕ) (said : Result Findings Fault)
+    (ts : List NrTx) (octets : List ℕ) → HasHeard link records outcomes last n said ts octets → length ts ≡ 0 → length octets ≡ 0
+    → left ≡ lefts link records → said ≡ Ok (record { outcomes = outcomes; left = left; last = last })
+unfolding heard_said
+heard-all link records outcomes left last n said [] [] h none whole is =
+    let same = h.recorded.same in
+    let outcomes-are = h.outcomes_are in
+    let last-is = h.last_is in
+    let left-is : left ≡ lefts link (heard_record link h.list) = is ∙ ap (lefts link) same in
+    h.said_is ∙ cc
+heard-all link records outcomes left last n said [] (o ∷ octets) h none whole is = absurd (omega (arith, whole))
+heard-all link records outcomes left last n said (t ∷ ts) octets h none whole is = absurd (omega (arith, none))
+
+-- an outcome for each transmission
+pub heard-many : (link : Link) (records : List Heardbits) (outcomes : List ℕ) (last : Verdict) (n : ℕ) (said : Result Findings Fault)
+    (ts : List NrTx) (octets : List ℕ) → HasHeard link records outcomes last n said ts octets → length ts ≡ 0 → length outcomes ≡ n
+heard-many link records outcomes last n said ts octets h none =
+    let outcomes-are : length outcomes ≡ length h.list =
+    ap length h.outcomes_are ∙ length-map-range_with_len (λ k. outcome_number (outcome_of link (take (k + 1) h.list))) 0 (length h.list) in
+    let many = h.many in
+    omega (arith, outcomes-are, many, none)
+
+-- a block that is delivered has the link's bits
+pub heard-block : (link : Link) (records : List Heardbits) (outcomes : List ℕ) (last : Verdict) (n : ℕ) (said : Result Findings Fault)
+    (ts : List NrTx) (octets : List ℕ) → DeliveredIsOnly → IsLink link → HasHeard link records outcomes last n said ts octets
+    → IsLastBlock link.a last
+heard-block link records outcomes last n said ts octets only sound h block is =
+    (only link h.list block sound h.recorded.accepted (sym h.last_is ∙ is)).is_block

@@ -1,0 +1,25 @@
+-- How many octets a transport block has.
+use Rattle.std.proofs.Common.{◌≡◌, ℕ, ◌*◌, ◌%◌, ◌<◌, ◌&&◌, ◌==◌, nat_le, Bool, true, false, Result, Err, refl, arith, ap}
+use Rattle.std.proofs.lemmas.Bool.{lt-leb}
+use Rattle.nr_graphpick.specs.Refusal.{◌>>=◌}
+use Rattle.nr_blockdesk.specs.Link.{demanded, is_size}
+use Rattle.nr_transmission.specs.declared.fault.DeskFault.TheVariants as desk
+use Rattle.nr_calls.specs.Numbers.{Planned, planned_said}
+use Rattle.nr_calls.specs.declared.fault.Fault.{Fault}
+use Rattle.nr_calls.specs.declared.fault.Fault.TheVariants as fault
+
+last-false : (a b c : Bool) → c ≡ false → (a && (b && c)) ≡ false
+last-false true true c is = is
+last-false true false c is = refl
+last-false false b c is = refl
+
+refused : (b : Bool) (next : Unit {0} → Result Planned Fault) → b ≡ false → (demanded (fault.Desk desk.Size) b >>= next) ≡ Err (fault.Desk desk.Size)
+refused false next is = refl
+refused true next is = cc
+
+-- a transport block of more octets is too large
+pub too_long : (rate2048 n : ℕ) → 163840 < n → planned_said rate2048 (8 * n) ≡ Err (fault.Desk desk.Size)
+unfolding planned_said
+too_long rate2048 n long =
+    let above : 1310720 < 8 * n = omega arith in
+    refused (is_size (8 * n)) _ (last-false ((8 * n) % 8 == 0) (nat_le 8 (8 * n)) (nat_le (8 * n) 1310720) (lt-leb (8 * n) 1310720 above))

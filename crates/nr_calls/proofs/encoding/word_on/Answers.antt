@@ -1,0 +1,46 @@
+use Rattle.std.proofs.Common.{◌≡◌, ◌≢◌, ◌≤◌, ℕ, ◌<◌, ap, ◌∙◌, arith, below_more, get_or, get_or-set_other, get_or-set_same, false, length, map}
+use Rattle.std.proofs.Math.ListN.{length-set}
+use Rattle.nr_ldpcenc.specs.Codeword.{completed}
+use Rattle.nr_segment.specs.CodeBlock.{numbers}
+use Rattle.nr_calls.specs.Coding.{is_one}
+use Rattle.nr_calls.proofs.Encoded.{begins, info_most, info_within, word-for}
+use Rattle.nr_calls.proofs.encoding.word_on.Goals as goal
+
+pub set-requires : goal.set-requires
+set-requires c =
+    let p = c.args.plan.now in
+    let long = c.loop-i.invariant.long in
+    let below : c.loop-i.i < p.k = omega (arith, c.requires.whole) in
+    let within = info_within p.graph p.z p.k c.loop-i.i below p.sound.columns in
+    omega (arith, long, within)
+
+-- one more bit is set
+pub loop-i-preserved : goal.loop-i-preserved
+loop-i-preserved c =
+    let p = c.args.plan.now in
+    let n = c.loop-i.i in
+    let long = c.loop-i.invariant.long in
+    let below : n < p.k = omega (arith, c.requires.whole) in
+    let columns = info_within p.graph p.z p.k n below p.sound.columns in
+    let within : n < length c.loop-i.word = omega (arith, long, columns) in
+    let same : length c.set.new.self ≡ length c.loop-i.word = ap length c.set.ensures ∙ simp length-set in
+    record {
+      long = same ∙ long;
+      so_far = below_more _ _
+          (λ k lt.
+          let other : k ≢ n = omega arith in
+          ap (λ w. get_or w k false) c.set.ensures ∙ get_or-set_other c.loop-i.word n k _ false other ∙ c.loop-i.invariant.so_far k lt)
+          (ap (λ w. get_or w n false) c.set.ensures ∙ get_or-set_same c.loop-i.word n _ false within);
+    }
+
+pub returns-clause-word : goal.returns-clause-word
+returns-clause-word c =
+    let p = c.args.plan.now in
+    let most = info_most p.graph p.z p.k p.sound.columns in
+    let long = c.loop-i.invariant.long in
+    let fits : p.k ≤ length c.loop-i.word = omega (arith, most, long) in
+    c.fill.ensures.completed
+    ∙ ap (completed c.args.table.now p.graph (numbers p))
+        (begins c.loop-i.word c.args.octets.now p.k c.requires.whole fits
+        (λ i lt. let before : i < c.loop-i.i = omega (arith, lt, c.requires.whole) in c.loop-i.invariant.so_far i before))
+    ∙ word-for c.args.table.now p.graph (numbers p) (map is_one c.args.octets.now) p.sound.set_is

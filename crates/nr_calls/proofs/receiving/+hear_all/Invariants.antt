@@ -1,5 +1,0 @@
-use Rattle.std.proofs.Common.{length}
-use Rattle.nr_calls.proofs.receiving.+hear_all.Given as goal
-
-abbrev pub decreases-hear_all : goal.decreases-hear_all
-decreases-hear_all l = length l.txs.now

@@ -1,0 +1,52 @@
+use Rattle.std.proofs.Common.{◌≡◌, ◌≢◌, ◌⊎◌, inr, rules, Err, sym, ap, ◌∙◌, subst, length, arith}
+use Rattle.std.proofs.lemmas.List.FromFn.{length-map-range_with_len}
+use Rattle.std.proofs.lemmas.Result.{err_from_is_err_and}
+use Rattle.nr_blockdesk.specs.Link.{IsLink, Link}
+use Rattle.nr_blockdesk.specs.Outcome.{left}
+use Rattle.nr_calls.proofs.Hearings.{heard-all, heard-block, heard-err, heard-many, heard-more, heard-over, heard-short}
+use Rattle.nr_calls.proofs.receiving.hear_all.Goals as goal
+
+pub returns-then-places-g-clause-said : goal.returns-then-places-g-clause-said
+returns-then-places-g-clause-said c =
+    inr (heard-short _ _ _ _ _ _ _ c.in-Some.tx.now c.in-Some.rest.now c.loop-tx.places.now c.loop-tx.invariant.has c.if-places-g.true c.in-Some.ensures.cases.0)
+
+pub returns-in_err-last-clause-said : goal.returns-in_err-last-clause-said
+returns-in_err-last-clause-said c =
+    let p = err_from_is_err_and c.from_residual.result c.from_residual.ensures.1 in
+    heard-err _ _ _ _ _ _ _ c.in-Some.tx.now c.in-Some.rest.now c.loop-tx.places.now _ c.in_err-last.field-0.0 c.from_residual.result c.loop-tx.invariant.has
+    c.if-places-g.false c.in_err-last.ensures.refused (p.1 ∙ ap Err p.2) c.in-Some.ensures.cases.0 (cc)
+
+pub loop-tx-preserved : goal.loop-tx-preserved
+loop-tx-preserved c = record {
+  link = c.in_ok-last.ensures.link ∙ c.loop-tx.invariant.link;
+  has = heard-more c.hear_next.new.receiver.link c.loop-tx.receiver.link _ _ _ _ _ _ _ _ _ c.in-Some.tx.now c.in-Some.rest.now c.loop-tx.places.now _ _
+      c.loop-tx.invariant.has c.if-places-g.false c.in_ok-last.ensures.heard c.in_ok-last.ensures.outcome c.in_ok-last.ensures.outcomes
+      c.in_ok-last.ensures.link c.in-Some.ensures.cases.0 (cc) (cc);
+}
+
+pub returns-then-not-is_empty-clause-said : goal.returns-then-not-is_empty-clause-said
+returns-then-not-is_empty-clause-said c =
+    let none : length c.loop-tx.later.now ≡ 0 = search rules in
+    let some : length c.loop-tx.places.now ≢ 0 = search rules in
+    inr (heard-over _ _ _ _ _ _ _ c.loop-tx.places.now c.loop-tx.invariant.has none some)
+
+pub returns-clause-said : goal.returns-clause-said
+returns-clause-said c =
+    let none : length c.loop-tx.later.now ≡ 0 = search rules in
+    let whole : length c.loop-tx.places.now ≡ 0 = search rules in
+    heard-all _ _ _ _ _ _ _ _ c.loop-tx.places.now c.loop-tx.invariant.has none whole c.in_ok-left.ensures
+
+pub returns-clause-outcomes : goal.returns-clause-outcomes
+returns-clause-outcomes c =
+    let none : length c.loop-tx.later.now ≡ 0 = search rules in
+    heard-many _ _ _ _ _ _ _ _ c.loop-tx.invariant.has none
+
+pub returns-clause-left : goal.returns-clause-left
+returns-clause-left c =
+    ap length c.in_ok-left.ensures ∙ length-map-range_with_len (left c.loop-tx.receiver.link c.loop-tx.receiver.heard) 0 c.loop-tx.receiver.link.plan.c
+    ∙ ap (λ (k : Link). k.plan.c) c.loop-tx.invariant.link
+
+pub returns-clause-block : goal.returns-clause-block
+returns-clause-block c = λ block is.
+    heard-block _ _ _ _ _ _ _ _ c.delivered_is_only.ensures (subst (λ (k : Link). IsLink k) (sym c.loop-tx.invariant.link) c.requires.sound) c.loop-tx.invariant.has block is
+    ∙ ap (λ (k : Link). k.a) c.loop-tx.invariant.link

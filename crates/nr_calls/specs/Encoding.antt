@@ -1,0 +1,88 @@
+-- The bits that the K bits of a code block are coded into (TS 38.212, 5.3.2), by the base graph and Zc alone, for C.
+use Rattle.std.specs.Prelude.{◌≡◌, ◌⊎◌, ℕ, ◌+◌, ◌-◌, ◌*◌, ◌<◌, ◌==◌, ◌&&◌, nat_le, Bool, if◌then◌else◌, Option, Some, None, unwrap_or, Result, Ok, Err, List, length, map, slice_index_or}
+use Rattle.std.specs.List.{list_all}
+use Rattle.nr_bitvec.specs.Bit.{bit}
+use Rattle.nr_graphpick.specs.Graph.{cols_of, info_cols_of, rows_of}
+use Rattle.nr_graphpick.specs.Refusal.{◌>>=◌, or_fault}
+use Rattle.nr_graphpick.specs.declared.Graph.{Graph}
+use Rattle.nr_graphpick.specs.declared.Graph.TheVariants.{One, Two}
+use Rattle.nr_lifting.specs.Sizes.{is_in, set_index, sizes}
+use Rattle.nr_segment.specs.Plan.{info_columns}
+use Rattle.nr_shifttable.specs.Accepted.{Entries, entries_in, has_graph}
+use Rattle.nr_ldpcenc.specs.Solving.{word_of}
+use Rattle.nr_blockdesk.specs.Link.{demanded}
+use Rattle.nr_transmission.specs.declared.fault.DeskFault.TheVariants as desk
+use Rattle.nr_calls.specs.Coding.{is_one}
+use Rattle.nr_calls.specs.Crossing.{digit}
+use Rattle.nr_calls.specs.Entries.{table_by}
+use Rattle.nr_calls.specs.Statuses.{fault_number}
+use Rattle.nr_calls.specs.declared.coded.Coded.{Coded}
+use Rattle.nr_shifttable.specs.declared.entry.KeptEntry.{KeptEntry}
+use Rattle.nr_calls.specs.declared.fault.Fault.{Fault}
+use Rattle.nr_calls.specs.declared.fault.Fault.TheVariants as fault
+
+-- the base graph of a number
+abbrev pub graph_of : ℕ → Option Graph
+graph_of number = if number == 1 then Some One else (if number == 2 then Some Two else None)
+
+-- code blocks of a base graph have this lifting size: its columns hold the 24 bits that each has at least (5.2.2)
+abbrev pub can_lift : Graph → ℕ → Bool
+can_lift graph z = is_in z sizes && nat_le 24 (info_columns graph 24 * z)
+
+-- an octet is 0, 1, or 2 for a filler
+abbrev pub is_coded : ℕ → Bool
+is_coded o = nat_le o 2
+
+-- the word of a base graph and Zc that begins with K bits and meets every row
+unfoldable pub word_for : Entries → Graph → ℕ → List Bool → List Bool
+word_for table graph z info = word_of (entries_in graph table) (unwrap_or (set_index z) 0) (info_cols_of graph) (rows_of graph) z info
+
+-- a word, its base graph and Zc
+pub record Encoded : Type 0 where
+  pub graph : Graph
+  pub z : ℕ
+  pub word : List Bool
+
+-- the same, of what a call has encoded
+abbrev pub encoded_of : Coded → Encoded
+encoded_of c = record { graph = c.plan.graph; z = c.plan.z; word = c.word }
+
+-- the base graph by which K octets are encoded for a room of so many octets, or the first fault
+unfoldable pub encode_judged : Entries → ℕ → ℕ → List ℕ → ℕ → Result Graph Fault
+encode_judged table number z octets room = do
+  graph ← or_fault (fault.Desk desk.Graph) (graph_of number)
+  there ← demanded (fault.Desk desk.Graph) (has_graph graph table)
+  lifting ← demanded fault.Lifting (can_lift graph z)
+  whole ← demanded (fault.Desk desk.Length) (length octets == info_cols_of graph * z)
+  bits ← demanded fault.Bit (list_all is_coded octets)
+  fits ← demanded fault.Room ((cols_of graph - 2) * z == room)
+  Ok graph
+
+-- the word that they are encoded into, a filler as 0, or the first fault
+unfoldable pub encode_by : Entries → ℕ → ℕ → List ℕ → ℕ → Result Encoded Fault
+encode_by table number z octets room =
+    encode_judged table number z octets room >>= λ graph.
+    Ok (record { graph = graph; z = z; word = word_for table graph z (map is_one octets) })
+
+-- the same, by a shift table's entries
+unfoldable pub encode_said : List KeptEntry → ℕ → ℕ → List ℕ → ℕ → Result Encoded Fault
+encode_said entries number z octets room = table_by entries >>= λ table. encode_by table number z octets room
+
+-- d_n, as an octet: the bit of column n past the first two, and 2 where the K octets have a filler there
+abbrev pub encoded_octet : Encoded → List ℕ → ℕ → ℕ
+encoded_octet e octets n = let q = n + 2 * e.z in if slice_index_or octets q 0 == 2 then 2 else digit (bit e.word q)
+
+-- octets that have d
+pub record AreEncoded (e : Encoded) (octets d : List ℕ) : Type 0 where
+  pub long : length d ≡ (cols_of e.graph - 2) * e.z
+  pub each : (n : ℕ) → n < length d → slice_index_or d n 0 ≡ encoded_octet e octets n
+
+-- What a call leaves in a room for d: its octets, where it answers 0. Where it does not, the room is as it was.
+abbrev pub Encodes : ℕ → List ℕ → List ℕ → List ℕ → Result Encoded Fault → Type 0
+Encodes status octets old new (Ok e) = ((status ≡ 0) × AreEncoded e octets new) ⊎ ((status ≡ 1) × (new ≡ old))
+Encodes status octets old new (Err e) = ((status ≡ fault_number e) ⊎ (status ≡ 1)) × (new ≡ old)
+
+-- so many columns Kb that a code block of Kb z bits has the lifting size z (5.2.2), where any has it
+abbrev pub held_columns : Graph → ℕ → ℕ
+held_columns One z = 22
+held_columns Two z = if nat_le z 32 then 6 else (if nat_le z 64 then 8 else 10)
