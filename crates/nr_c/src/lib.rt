@@ -139,13 +139,7 @@ pub extern "C" fn nr_buffer(settings: &NrSettings, a: u32, rv: u32, out: &mut Nr
 /// In this order: 40 `Size`, 41 `RateRange` and 45 `Uneven`, as `nr_plan` has them; 7 `CodeBlock`, where `r` is not below C; 2
 /// `Room`, where `out` does not have K' octets; 1, where memory is refused, never in place of these. `out` is as it was then.
 #[unsafe(no_mangle)]
-pub extern "C" fn nr_cut(
-    alloc: Global,
-    rate2048: u32,
-    block: &[u8],
-    r: u32,
-    out: &mut [u8],
-) -> u32
+pub extern "C" fn nr_cut(alloc: Global, rate2048: u32, block: &[u8], r: u32, out: &mut [u8]) -> u32
     ensures { Cuts result out.old out.new (cut_said rate2048 block.now r (length out.old)) }
 {
     nr_calls::cutting::nr_cut(alloc, rate2048, block, r, out)

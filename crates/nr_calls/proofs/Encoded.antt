@@ -1,5 +1,5 @@
 -- The word of K bits, and what refuses them.
-use Rattle.std.proofs.Common.{◌≡◌, ◌≢◌, ℕ, ◌+◌, ◌-◌, ◌*◌, ◌<◌, ◌≤◌, ◌==◌, Bool, true, false, Option, Some, unwrap_or, Result, Ok, Err, List, length, map, take, get_or, refl, sym, ap, ◌∙◌, arith, eq-eqb}
+use Rattle.std.proofs.Common.{◌≡◌, ◌≢◌, ℕ, ◌-◌, ◌*◌, ◌<◌, ◌≤◌, ◌==◌, Bool, true, false, Option, Some, unwrap_or, Ok, Err, List, length, map, take, get_or, refl, sym, ap, ◌∙◌, arith, eq-eqb}
 use Rattle.std.proofs.lemmas.Bool.{ne_eqb}
 use Rattle.std.proofs.lemmas.List.{ext_get_or, get_or-map, get_or-take, length-map, length-take-le}
 use Rattle.std.specs.List.{list_all}
@@ -17,7 +17,6 @@ use Rattle.nr_blockdesk.specs.Link.{demanded}
 use Rattle.nr_transmission.specs.declared.fault.DeskFault.TheVariants as desk
 use Rattle.nr_calls.specs.Coding.{is_one}
 use Rattle.nr_calls.specs.Encoding.{can_lift, encode_judged, graph_of, is_coded, word_for}
-use Rattle.nr_calls.specs.declared.fault.Fault.{Fault}
 use Rattle.nr_calls.specs.declared.fault.Fault.TheVariants as fault
 
 -- the K bits are within the word
@@ -52,8 +51,8 @@ begins word octets k long fits each =
 room-steps : (o : Option Graph) (g : Graph) (has lift whole : Graph → Bool) (coded : Bool) (fits : Graph → Bool) → o ≡ Some g → has g ≡ true
     → lift g ≡ true → whole g ≡ true → coded ≡ true → fits g ≡ false
     → (or_fault (fault.Desk desk.Graph) o >>= λ graph. demanded (fault.Desk desk.Graph) (has graph) >>= λ _. demanded fault.Lifting (lift graph) >>= λ _.
-      demanded (fault.Desk desk.Length) (whole graph) >>= λ _. demanded fault.Bit coded >>= λ _. demanded fault.Room (fits graph) >>= λ _. Ok graph)
-      ≡ Err fault.Room
+    demanded (fault.Desk desk.Length) (whole graph) >>= λ _. demanded fault.Bit coded >>= λ _. demanded fault.Room (fits graph) >>= λ _. Ok graph)
+    ≡ Err fault.Room
 room-steps o g has lift whole coded fits a b c d e f = rw (a, b, c, d, e, f) refl
 
 pub room_refused : (t : Entries) (number z : ℕ) (octets : List ℕ) (room : ℕ) (g : Graph) (k n : ℕ) → graph_of number ≡ Some g → has_graph g t ≡ true

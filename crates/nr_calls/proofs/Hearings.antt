@@ -11,7 +11,7 @@ use Rattle.nr_blockdesk.specs.Outcome.{Verdict, outcome_of}
 use Rattle.nr_blockdesk.specs.ReceiverLaws.{DeliveredIsOnly}
 use Rattle.nr_transmission.specs.declared.fault.DeskFault.{DeskFault}
 use Rattle.nr_transmission.specs.declared.fault.DeskFault.TheVariants as desk
-use Rattle.nr_calls.specs.Findings.{Findings, IsLastBlock, findings, findings_of, lefts, outcome_number, outcomes_of}
+use Rattle.nr_calls.specs.Findings.{Findings, IsLastBlock, findings_of, lefts, outcome_number, outcomes_of}
 use Rattle.nr_calls.specs.Receiving.{arrival, heard_said, one_more_said}
 use Rattle.nr_calls.specs.declared.crossing.NrTx.{NrTx}
 use Rattle.nr_calls.specs.declared.fault.Fault.{Fault}
@@ -68,7 +68,7 @@ more-heard : (link : Link) (records later : List Heardbits) (outcomes more : Lis
     → ((list : List Reception) → IsRecordOf link list records → IsRecordOf link (list ++ arrival t octets ∷ []) later)
     → ((list : List Reception) → IsRecordOf link list records → one_more_said link list (arrival t octets) ≡ Ok next)
     → ((list : List Reception) → IsRecordOf link list records → outcomes ≡ outcomes_of link list
-      → more ≡ outcomes_of link (list ++ arrival t octets ∷ []))
+    → more ≡ outcomes_of link (list ++ arrival t octets ∷ []))
     → HasHeard link later more next n said ts (drop t.g octets)
 unfolding heard_said
 more-heard link records later outcomes more last next n said t ts octets h fits recorded told-next outcomes-more = record {
@@ -77,11 +77,11 @@ more-heard link records later outcomes more last next n said t ts octets h fits 
   outcomes_are = outcomes-more h.list h.recorded h.outcomes_are;
   last_is = told (reception_said link (arrival t octets)) _ next (told-next h.list h.recorded);
   many =
-    let longer = length-append h.list (arrival t octets ∷ []) in
-    let before = h.many in
-    omega (arith, longer, before);
+      let longer = length-append h.list (arrival t octets ∷ []) in
+      let before = h.many in
+      omega (arith, longer, before);
   said_is = h.said_is
-    ∙ step-ok (nat_le t.g (length octets)) (reception_said link (arrival t octets)) next _ _ (le-leb t.g (length octets) fits) (told-next h.list h.recorded);
+      ∙ step-ok (nat_le t.g (length octets)) (reception_said link (arrival t octets)) next _ _ (le-leb t.g (length octets) fits) (told-next h.list h.recorded);
 }
 
 -- the same of what a call says of it

@@ -1,5 +1,5 @@
 -- How many octets a transport block has.
-use Rattle.std.proofs.Common.{◌≡◌, ℕ, ◌*◌, ◌%◌, ◌<◌, ◌&&◌, ◌==◌, nat_le, Bool, true, false, Result, Err, refl, arith, ap}
+use Rattle.std.proofs.Common.{◌≡◌, ℕ, ◌*◌, ◌%◌, ◌<◌, ◌&&◌, ◌==◌, nat_le, Bool, true, false, Result, Err, refl, arith}
 use Rattle.std.proofs.lemmas.Bool.{lt-leb}
 use Rattle.nr_graphpick.specs.Refusal.{◌>>=◌}
 use Rattle.nr_blockdesk.specs.Link.{demanded, is_size}

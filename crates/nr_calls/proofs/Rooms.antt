@@ -1,5 +1,5 @@
 -- The room for what is found is the room that is asked for.
-use Rattle.std.proofs.Common.{◌≡◌, ℕ, ◌*◌, ◌/◌, ◌%◌, ◌&&◌, ◌==◌, Bool, true, false, Result, Ok, Err, List, length, IfOk, refl, sym, ap, ◌∙◌, arith, eq-eqb}
+use Rattle.std.proofs.Common.{◌≡◌, ℕ, ◌*◌, ◌/◌, ◌%◌, ◌&&◌, ◌==◌, Bool, true, false, Result, Ok, Err, length, IfOk, refl, sym, ap, ◌∙◌, arith, eq-eqb}
 use Rattle.std.proofs.lemmas.Bool.{eqb-true}
 use Rattle.nr_crcattach.specs.Attachment.{attached_length}
 use Rattle.nr_graphpick.specs.Graph.{picked}
@@ -44,7 +44,7 @@ last-step table graph q (Err e) a link p linked planned = cc
 
 plan-step : (table : Entries) (graph : Graph) (q : Result Numbers SegFault) (there : Bool) (b : Numbers → Result Circular RmFault) (a : ℕ) (link : Link) (p : Planned)
     → with_fault fault.Desk (with_fault desk.Seg q >>= λ plan. demanded desk.Graph there >>= λ _. with_fault desk.Rm (b plan) >>= λ buffer.
-      Ok (record { table = table; graph = graph; plan = plan; a = a; buffer = buffer })) ≡ Ok link
+    Ok (record { table = table; graph = graph; plan = plan; a = a; buffer = buffer })) ≡ Ok link
     → (with_fault (λ e. fault.Desk (desk.Seg e)) q >>= λ plan. Ok (record { graph = graph; plan = plan })) ≡ Ok p → (link.plan ≡ p.plan) × (link.a ≡ a)
 plan-step table graph (Ok q) true b a link p linked planned = last-step table graph q (b q) a link p linked planned
 plan-step table graph (Ok q) false b a link p linked planned = cc
@@ -53,10 +53,10 @@ plan-step table graph (Err e) there b a link p linked planned = cc
 link-step : (table : Entries) (size : Bool) (g : Result Graph PickFault) (q : Graph → Result Numbers SegFault) (there : Graph → Bool)
     (b : Graph → Numbers → Result Circular RmFault) (a : ℕ) (link : Link) (p : Planned)
     → with_fault fault.Desk (demanded desk.Size size >>= λ _. with_fault desk.Pick g >>= λ graph. with_fault desk.Seg (q graph) >>= λ plan.
-      demanded desk.Graph (there graph) >>= λ _. with_fault desk.Rm (b graph plan) >>= λ buffer.
-      Ok (record { table = table; graph = graph; plan = plan; a = a; buffer = buffer })) ≡ Ok link
+    demanded desk.Graph (there graph) >>= λ _. with_fault desk.Rm (b graph plan) >>= λ buffer.
+    Ok (record { table = table; graph = graph; plan = plan; a = a; buffer = buffer })) ≡ Ok link
     → (demanded (fault.Desk desk.Size) size >>= λ _. with_fault (λ e. fault.Desk (desk.Pick e)) g >>= λ graph.
-      with_fault (λ e. fault.Desk (desk.Seg e)) (q graph) >>= λ plan. Ok (record { graph = graph; plan = plan })) ≡ Ok p
+    with_fault (λ e. fault.Desk (desk.Seg e)) (q graph) >>= λ plan. Ok (record { graph = graph; plan = plan })) ≡ Ok p
     → (link.plan ≡ p.plan) × ((link.a ≡ a) × (size ≡ true))
 link-step table true (Ok graph) q there b a link p linked planned =
     let both = plan-step table graph (q graph) (there graph) (b graph) a link p linked planned in

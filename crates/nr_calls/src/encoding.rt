@@ -112,13 +112,7 @@ fn encode_by(
 
 // A plan with the base graph and the lifting size, or the first cause against the octets.
 #[tactic(auto, unfolding(crate::specs::Encoding::encode_judged))]
-fn encode_plan(
-    table: &Table,
-    graph: u32,
-    z: u32,
-    octets: &[u8],
-    room: usize,
-) -> Result<Plan, Fault>
+fn encode_plan(table: &Table, graph: u32, z: u32, octets: &[u8], room: usize) -> Result<Plan, Fault>
     ensures said { MatchResult result
         (λ plan. encode_judged table.now graph z octets.now room ≡ Ok plan.graph)
         (λ fault. encode_judged table.now graph z octets.now room ≡ Err fault) }

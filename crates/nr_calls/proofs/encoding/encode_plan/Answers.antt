@@ -1,8 +1,8 @@
-use Rattle.std.proofs.Common.{◌≡◌, ◌-◌, ◌*◌, Some, true, rules, length}
+use Rattle.std.proofs.Common.{◌≡◌, ◌-◌, ◌*◌, Some, true, rules}
 use Rattle.std.specs.List.{list_all}
 use Rattle.nr_graphpick.specs.Graph.{cols_of, info_cols_of}
 use Rattle.nr_shifttable.specs.Accepted.{has_graph}
-use Rattle.nr_calls.specs.Encoding.{can_lift, graph_of, is_coded}
+use Rattle.nr_calls.specs.Encoding.{graph_of, is_coded}
 use Rattle.nr_calls.proofs.Encoded.{room_refused}
 use Rattle.nr_calls.proofs.encoding.encode_plan.Goals as goal
 

@@ -1,4 +1,4 @@
-use Rattle.std.proofs.Common.{◌≡◌, ◌≢◌, ◌≤◌, ℕ, ◌<◌, ap, ◌∙◌, arith, below_more, get_or, get_or-set_other, get_or-set_same, false, length, map}
+use Rattle.std.proofs.Common.{◌≡◌, ◌≢◌, ◌≤◌, ◌<◌, ap, ◌∙◌, arith, below_more, get_or, get_or-set_other, get_or-set_same, false, length, map}
 use Rattle.std.proofs.Math.ListN.{length-set}
 use Rattle.nr_ldpcenc.specs.Codeword.{completed}
 use Rattle.nr_segment.specs.CodeBlock.{numbers}
@@ -41,6 +41,6 @@ returns-clause-word c =
     let fits : p.k ≤ length c.loop-i.word = omega (arith, most, long) in
     c.fill.ensures.completed
     ∙ ap (completed c.args.table.now p.graph (numbers p))
-        (begins c.loop-i.word c.args.octets.now p.k c.requires.whole fits
-        (λ i lt. let before : i < c.loop-i.i = omega (arith, lt, c.requires.whole) in c.loop-i.invariant.so_far i before))
+    (begins c.loop-i.word c.args.octets.now p.k c.requires.whole fits
+    (λ i lt. let before : i < c.loop-i.i = omega (arith, lt, c.requires.whole) in c.loop-i.invariant.so_far i before))
     ∙ word-for c.args.table.now p.graph (numbers p) (map is_one c.args.octets.now) p.sound.set_is
