@@ -63,8 +63,13 @@ static const NrEntry *entries(const mxArray *given, size_t *count) {
     return (const NrEntry *)mxGetData(given);
 }
 
-/* The bits of an array, an octet each; `erased` says whether NaN is one of them, for NR_ERASED. */
-static uint8_t *bits_of(const mxArray *given, int erased) {
+/* What else than 0 and 1 is a bit: nothing, NaN for NR_ERASED, or -1 for NR_FILLER. */
+enum also { NOTHING_ELSE, ERASED_TOO, FILLERS_TOO };
+
+/* The bits of an array, an octet each. */
+static uint8_t *bits_of(const mxArray *given, enum also also) {
+    static const char *const wanted[] = {
+        "bits are 0 or 1", "what is heard is 0, 1, or NaN where nothing was heard", "bits are 0 or 1, or -1 for a filler"};
     size_t count = mxGetNumberOfElements(given);
     uint8_t *bits = mxMalloc(count + 1);
     if (!is_plain(given)) wrong("bits are an array of logical values or of doubles");
@@ -72,10 +77,12 @@ static uint8_t *bits_of(const mxArray *given, int erased) {
         double value = item(given, at);
         if (value == 0 || value == 1)
             bits[at] = (uint8_t)value;
-        else if (erased && isnan(value))
+        else if (also == ERASED_TOO && isnan(value))
             bits[at] = NR_ERASED;
+        else if (also == FILLERS_TOO && value == FILLER)
+            bits[at] = NR_FILLER;
         else
-            wrong(erased ? "what is heard is 0, 1, or NaN where nothing was heard" : "bits are 0 or 1");
+            wrong(wanted[also]);
     }
     return bits;
 }
@@ -83,7 +90,7 @@ static uint8_t *bits_of(const mxArray *given, int erased) {
 /* The octets of a column of bits, the first bit of each highest. */
 static uint8_t *octets_of(const mxArray *given, size_t *count) {
     size_t bits = mxGetNumberOfElements(given);
-    const uint8_t *each = bits_of(given, 0);
+    const uint8_t *each = bits_of(given, NOTHING_ELSE);
     uint8_t *octets = mxCalloc(bits / 8 + 1, 1);
     if (bits % 8) judge(NR_SIZE, 0);
     for (size_t at = 0; at < bits; at++) octets[at / 8] |= (uint8_t)(each[at] << (7 - at % 8));
@@ -120,7 +127,9 @@ static NrTx tx_of(const mxArray *numbers, const mxArray *blocks, size_t at) {
 }
 
 static NrSettings settings_of(const mxArray *given) {
-    NrSettings settings = {number(given, 0, "the code rate in 2048ths"), number(given, 1, "lbrm")};
+    NrSettings settings = {0};
+    settings.rate2048 = number(given, 0, "the code rate in 2048ths");
+    settings.lbrm = number(given, 1, "lbrm");
     return settings;
 }
 
@@ -151,7 +160,7 @@ static void make_codeword(mxArray **out, const mxArray **in) {
     size_t count, rows = mxGetM(in[3]), columns = mxGetN(in[3]);
     const NrEntry *table = entries(in[0], &count);
     uint32_t rate = number(in[1], 0, "the code rate in 2048ths"), a = number(in[2], 0, "a");
-    const uint8_t *bits = bits_of(in[3], 0);
+    const uint8_t *bits = bits_of(in[3], NOTHING_ELSE);
     uint8_t *word;
     NrPlan plan;
     judge(nr_plan(rate, a, &plan), 0);
@@ -162,6 +171,39 @@ static void make_codeword(mxArray **out, const mxArray **in) {
         for (size_t bit = 0; bit < plan.n; bit++)
             mxGetPr(out[0])[at * plan.n + bit] = word[bit] == NR_FILLER ? FILLER : word[bit];
     }
+}
+
+/* nr_mex('encode', TABLE, GRAPH, BITS): the codewords of the columns of BITS, K bits each, as doubles. */
+static void make_encoded(mxArray **out, const mxArray **in) {
+    size_t count, rows = mxGetM(in[2]), columns = mxGetN(in[2]);
+    const NrEntry *table = entries(in[0], &count);
+    uint32_t graph = number(in[1], 0, "the base graph");
+    size_t information = graph == 1 ? 22 : 10, z = rows / information, coded = (graph == 1 ? 66 : 50) * z;
+    const uint8_t *bits = bits_of(in[2], FILLERS_TOO);
+    uint8_t *word = mxMalloc(coded + 1);
+    if (rows % information || z > 384) judge(NR_LIFTING, 0);
+    out[0] = mxCreateDoubleMatrix(coded, columns, mxREAL);
+    for (size_t at = 0; at < columns; at++) {
+        judge(nr_encode(table, count, graph, (uint32_t)z, bits + at * rows, rows, word, coded), 0);
+        for (size_t bit = 0; bit < coded; bit++)
+            mxGetPr(out[0])[at * coded + bit] = word[bit] == NR_FILLER ? FILLER : word[bit];
+    }
+}
+
+/* nr_mex('cut', RATE2048, BLOCK): the K' bits of each code block, a column each, of BLOCK's class. */
+static void make_cut(mxArray **out, const mxArray **in) {
+    size_t length;
+    uint32_t rate = number(in[0], 0, "the code rate in 2048ths");
+    const uint8_t *block = octets_of(in[1], &length);
+    uint8_t *all;
+    NrPlan plan;
+    judge(nr_plan(rate, length < MOST_BITS / 8 + 1 ? (uint32_t)(8 * length) : UINT32_MAX, &plan), 0);
+    all = mxMalloc((size_t)plan.c * plan.kdash);
+    for (uint32_t r = 0; r < plan.c; r++)
+        judge(nr_cut(rate, block, length, r, all + (size_t)r * plan.kdash, plan.kdash), 0);
+    out[0] = column(all, (size_t)plan.c * plan.kdash, in[1]);
+    mxSetM(out[0], plan.kdash);
+    mxSetN(out[0], plan.c);
 }
 
 /* nr_mex('send', TABLE, [RATE2048 LBRM], BLOCK, NUMBERS, BLOCKS): the bits sent, of BLOCK's class. */
@@ -189,7 +231,7 @@ static uint8_t *joined(const mxArray *given, const NrTx *txs, size_t count, size
     all = mxMalloc(*total + 1);
     *total = 0;
     for (size_t at = 0; at < count; at++) {
-        memcpy(all + *total, bits_of(mxGetCell(given, at), 1), txs[at].g);
+        memcpy(all + *total, bits_of(mxGetCell(given, at), ERASED_TOO), txs[at].g);
         *total += txs[at].g;
     }
     return all;
@@ -230,6 +272,10 @@ void mexFunction(int outs, mxArray **out, int ins, const mxArray **in) {
         make_plan(out, in + 1);
     else if (!strcmp(name, "codeword") && ins == 5)
         make_codeword(out, in + 1);
+    else if (!strcmp(name, "encode") && ins == 4)
+        make_encoded(out, in + 1);
+    else if (!strcmp(name, "cut") && ins == 3)
+        make_cut(out, in + 1);
     else if (!strcmp(name, "send") && ins == 6)
         make_sent(out, in + 1);
     else if (!strcmp(name, "receive") && ins == 7)
@@ -237,5 +283,5 @@ void mexFunction(int outs, mxArray **out, int ins, const mxArray **in) {
     else if (!strcmp(name, "version") && ins == 1)
         out[0] = mxCreateString(nr_version());
     else
-        wrong("nr_mex is called by nr_table, nr_plan, nr_codeword, nr_send and nr_receive");
+        wrong("nr_mex is called by the files nr_*.m beside it");
 }

@@ -6,6 +6,7 @@ use std::ffi::CStr;
 
 const MOST_PLACES: u32 = 4_194_304;
 const MOST_BITS: u32 = 1_310_720;
+const LARGEST: u32 = 384;
 
 fn judge(status: u32) -> Result<(), Fault> {
     match status {
@@ -20,14 +21,26 @@ fn entries(table: &Table) -> (*const Entry, usize) {
 
 impl From<&Settings> for raw::Settings {
     fn from(link: &Settings) -> raw::Settings {
-        raw::Settings { rate2048: link.rate2048, lbrm: link.lbrm.map_or(0, std::num::NonZeroU32::get) }
+        raw::Settings {
+            rate2048: link.rate2048,
+            lbrm: link.lbrm.map_or(0, std::num::NonZeroU32::get),
+            reserved: [0; 2],
+        }
     }
 }
 
 impl From<&Tx> for raw::Tx {
     fn from(tx: &Tx) -> raw::Tx {
         let some = u64::from(tx.scheduled.is_some());
-        raw::Tx { rv: tx.rv, g: tx.g, qm: tx.qm, nl: tx.nl, some, blocks: tx.scheduled.unwrap_or_default() }
+        raw::Tx {
+            rv: tx.rv,
+            g: tx.g,
+            qm: tx.qm,
+            nl: tx.nl,
+            some,
+            blocks: tx.scheduled.unwrap_or_default(),
+            reserved: [0; 4],
+        }
     }
 }
 
@@ -43,10 +56,11 @@ pub fn version() -> &'static str {
 /// # Errors
 /// `Size`, `RateRange`, `Uneven`.
 pub fn plan(rate2048: u32, a: u32) -> Result<Plan, Fault> {
-    let mut found = Plan::default();
+    let mut found = raw::Plan::default();
     // SAFETY: the plan can be written.
     judge(unsafe { raw::nr_plan(rate2048, a, &mut found) })?;
-    Ok(found)
+    let raw::Plan { graph, b, l, c, kdash, kb, z, set, k, n, .. } = found;
+    Ok(Plan { graph, b, l, c, kdash, kb, z, set, k, n })
 }
 
 /// E_r, how many bits a transmission sends of each code block of a transport block of `a` bits (5.4.2.1).
@@ -65,10 +79,37 @@ pub fn lengths(rate2048: u32, a: u32, tx: &Tx) -> Result<Vec<u32>, Fault> {
 /// # Errors
 /// `Size`, `RateRange`, `Uneven`, `NoBuffer`, `Rv`.
 pub fn buffer(link: &Settings, a: u32, rv: u32) -> Result<Buffer, Fault> {
-    let mut found = Buffer::default();
+    let mut found = raw::Buffer::default();
     // SAFETY: the buffer can be written; the settings are read alone.
     judge(unsafe { raw::nr_buffer(&link.into(), a, rv, &mut found) })?;
-    Ok(found)
+    Ok(Buffer { ncb: found.ncb, k0: found.k0 })
+}
+
+/// The K' bits of code block `r`, from 0, of a transport block's octets (5.2.2), each 0 or 1: its share of the block with its CRC, and the
+/// CRC of its own where there are several code blocks.
+///
+/// # Errors
+/// `Size`, `RateRange`, `Uneven`, `CodeBlock`, `Memory`.
+pub fn cut(rate2048: u32, block: &[u8], r: u32) -> Result<Vec<u8>, Fault> {
+    let a = u32::try_from(block.len()).ok().and_then(|octets| octets.checked_mul(8)).ok_or(Fault::Size)?;
+    let mut bits = vec![0; plan(rate2048, a)?.kdash as usize];
+    // SAFETY: the block is read over its length, and the bits are written over their own.
+    judge(unsafe { raw::nr_cut(rate2048, block.as_ptr(), block.len(), r, bits.as_mut_ptr(), bits.len()) })?;
+    Ok(bits)
+}
+
+/// The N bits that the K bits of a code block are coded into (5.3.2) by base graph `graph`, 1 or 2, and the lifting size `z`: each 0, 1 or
+/// `FILLER`, which `bits` may have too. K is 22 or 10 times `z`, and N 66 or 50 times.
+///
+/// # Errors
+/// `Graph`, `Lifting`, `Length`, `Bit`, `Memory`.
+pub fn encode(table: &Table, graph: u32, z: u32, bits: &[u8]) -> Result<Vec<u8>, Fault> {
+    let columns = if graph == 1 { 66 } else { 50 };
+    let mut word = vec![0; columns * z.min(LARGEST) as usize];
+    let (first, count) = entries(table);
+    // SAFETY: table and bits are read over their lengths, and the word is written over its own.
+    judge(unsafe { raw::nr_encode(first, count, graph, z, bits.as_ptr(), bits.len(), word.as_mut_ptr(), word.len()) })?;
+    Ok(word)
 }
 
 /// The N bits that a code block of a transport block of `a` bits is coded into (5.3.2): each 0, 1 or `FILLER`. `bits` has its K' bits,
@@ -119,11 +160,11 @@ pub fn send_into(table: &Table, link: &Settings, block: &[u8], tx: &Tx, out: &mu
     })
 }
 
-/// What may be handed up of a transport block of `a` bits after each of these transmissions, at most 256, each with what was heard at
-/// its G places: 0, 1, or another number where nothing was heard.
+/// What may be handed up of a transport block of `a` bits after each of these transmissions, each with what was heard at its G places:
+/// 0, 1, or another number where nothing was heard.
 ///
 /// # Errors
-/// `Many`; `Size`, `RateRange`, `Uneven`, `Graph`, `NoBuffer`; `Length`, `Rv`, `Order`, `Layers`, `Total`, `Ragged`, `NoneScheduled`;
+/// `Size`, `RateRange`, `Uneven`, `Graph`, `NoBuffer`; `Length`, `Rv`, `Order`, `Layers`, `Total`, `Ragged`, `NoneScheduled`;
 /// `Memory`.
 pub fn receive(table: &Table, link: &Settings, a: u32, receptions: &[(Tx, &[u8])]) -> Result<Received, Fault> {
     if receptions.iter().any(|(tx, places)| tx.g as usize != places.len()) {

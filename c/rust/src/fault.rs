@@ -47,8 +47,10 @@ faults! {
     Fault {
         1 Memory "the system gave no memory; the call may be made again",
         2 Room "the buffer that is to be written does not have the length of the answer",
-        3 Many "there are more than 256 transmissions, or more than 2,097,152 octets",
+        3 Many "there are more than 2,097,152 octets",
         5 Bit "an octet that stands for a bit is neither 0 nor 1",
+        6 Lifting "the code blocks of this base graph do not have this lifting size",
+        7 CodeBlock "the transport block has no code block of this number",
         40 Size "a transport block has 8 to 1,310,720 bits in whole octets",
         41 RateRange "the code rate is 1 to 2048 in 2048ths",
         45 Uneven "the code blocks of this transport block would not be equally long (5.2.2)",

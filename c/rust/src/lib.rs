@@ -11,7 +11,7 @@
 //! ```
 //!
 //! Octets of a transport block are eight bits each, the first bit highest. A bit that is sent or heard has an octet of its own. The
-//! calls keep nothing, so any number of threads may make them; a thread that does has a stack of 256 KiB or more, and no call is made
+//! calls keep nothing, so any number of threads may make them; a thread that does has a stack of 64 KiB or more, and no call is made
 //! in the forked child of a process with several threads.
 #![warn(missing_docs)]
 
@@ -20,13 +20,13 @@ mod fault;
 mod raw;
 mod table;
 
-pub use calls::{buffer, codeword, crc, lengths, plan, receive, send, send_into, version};
+pub use calls::{buffer, codeword, crc, cut, encode, lengths, plan, receive, send, send_into, version};
 pub use fault::{Fault, TableCause, TableFault};
 pub use table::{Entry, Table};
 
 /// A place at which nothing was heard; so is any number but 0 and 1.
 pub const ERASED: u8 = 2;
-/// A bit of a codeword that is never sent.
+/// A filler: a bit of a codeword that is never sent.
 pub const FILLER: u8 = 2;
 
 /// What both ends of a link are set to.
@@ -94,8 +94,7 @@ impl Tx {
 }
 
 /// The numbers by which a transport block with its CRC is cut into code blocks (5.2.2, 5.3.2).
-#[repr(C)]
-#[derive(Clone, Copy, Debug, Default, PartialEq, Eq, Hash)]
+#[derive(Clone, Copy, Debug, PartialEq, Eq, Hash)]
 pub struct Plan {
     /// The base graph, 1 or 2.
     pub graph: u32,
@@ -120,8 +119,7 @@ pub struct Plan {
 }
 
 /// The circular buffer of a code block, and where a redundancy version begins in it (5.4.2.1).
-#[repr(C)]
-#[derive(Clone, Copy, Debug, Default, PartialEq, Eq, Hash)]
+#[derive(Clone, Copy, Debug, PartialEq, Eq, Hash)]
 pub struct Buffer {
     /// Ncb, the bits that the buffer keeps of a code block: 1 to N.
     pub ncb: u32,

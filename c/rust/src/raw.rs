@@ -1,6 +1,6 @@
 //! The calls and structs of nr.h as C has them. tests/packages compares them with the header.
 
-use crate::{Buffer, Entry, Plan};
+use crate::Entry;
 use std::ffi::c_void;
 use std::os::raw::c_char;
 
@@ -8,6 +8,7 @@ use std::os::raw::c_char;
 pub(crate) struct Settings {
     pub(crate) rate2048: u32,
     pub(crate) lbrm: u32,
+    pub(crate) reserved: [u32; 2],
 }
 
 #[repr(C)]
@@ -18,6 +19,31 @@ pub(crate) struct Tx {
     pub(crate) nl: u32,
     pub(crate) some: u64,
     pub(crate) blocks: [u64; 6],
+    pub(crate) reserved: [u32; 4],
+}
+
+#[repr(C)]
+#[derive(Default)]
+pub(crate) struct Plan {
+    pub(crate) graph: u32,
+    pub(crate) b: u32,
+    pub(crate) l: u32,
+    pub(crate) c: u32,
+    pub(crate) kdash: u32,
+    pub(crate) kb: u32,
+    pub(crate) z: u32,
+    pub(crate) set: u32,
+    pub(crate) k: u32,
+    pub(crate) n: u32,
+    pub(crate) reserved: [u32; 2],
+}
+
+#[repr(C)]
+#[derive(Default)]
+pub(crate) struct Buffer {
+    pub(crate) ncb: u32,
+    pub(crate) k0: u32,
+    pub(crate) reserved: [u32; 2],
 }
 
 #[repr(C)]
@@ -26,9 +52,10 @@ pub(crate) struct Report {
     pub(crate) one: u32,
     pub(crate) two: u32,
     pub(crate) place: u32,
+    pub(crate) reserved: u32,
 }
 
-const _: () = assert!(std::mem::size_of::<Tx>() == 72 && std::mem::size_of::<Entry>() == 22);
+const _: () = assert!(std::mem::size_of::<Tx>() == 88 && std::mem::size_of::<Entry>() == 22);
 const _: () = assert!(std::mem::size_of::<usize>() == std::mem::size_of::<*const c_void>());
 
 extern "C" {
@@ -43,6 +70,24 @@ extern "C" {
     ) -> u32;
     pub(crate) fn nr_plan(rate2048: u32, a: u32, out: *mut Plan) -> u32;
     pub(crate) fn nr_lengths(rate2048: u32, a: u32, tx: *const Tx, out: *mut u32, out_len: usize) -> u32;
+    pub(crate) fn nr_cut(
+        rate2048: u32,
+        block: *const u8,
+        block_len: usize,
+        r: u32,
+        out: *mut u8,
+        out_len: usize,
+    ) -> u32;
+    pub(crate) fn nr_encode(
+        table: *const Entry,
+        table_len: usize,
+        graph: u32,
+        z: u32,
+        bits: *const u8,
+        bits_len: usize,
+        out: *mut u8,
+        out_len: usize,
+    ) -> u32;
     pub(crate) fn nr_buffer(settings: *const Settings, a: u32, rv: u32, out: *mut Buffer) -> u32;
     pub(crate) fn nr_codeword(
         table: *const Entry,

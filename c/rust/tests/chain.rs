@@ -1,7 +1,7 @@
 //! The calls over the practice table: base graph 2 with the core shape, and row i of 4 or more a copy of column i mod 10, shifted by i.
 //! So the wanted bits follow by hand.
 
-use nr::{buffer, codeword, crc, lengths, plan, receive, send, send_into};
+use nr::{buffer, codeword, crc, cut, encode, lengths, plan, receive, send, send_into};
 use nr::{Fault, Outcome, Poly, Settings, Table, TableCause, Tx, ERASED, FILLER};
 
 const LINK: Settings = Settings::new(2048);
@@ -58,6 +58,10 @@ fn a_codeword_and_the_bits_sent() {
     let mut wanted = bits(&WORD[2..]);
     wanted[16..32].fill(FILLER);
     assert_eq!(word, wanted);
+    assert_eq!(cut(2048, &[1], 0), Ok(bits("011021")));
+    let mut block = bits(&WORD[..10]);
+    block[24..].fill(FILLER);
+    assert_eq!(encode(&table(), 2, 4, &block), Ok(wanted.clone()));
     let sent = send(&table(), &LINK, &[1], &Tx::new(184, 1)).unwrap();
     let kept: Vec<u8> = wanted.into_iter().filter(|&bit| bit != FILLER).collect();
     assert_eq!(sent, kept);
@@ -86,6 +90,10 @@ fn refusals_are_told() {
     assert_eq!(send(&table, &LINK, &[1], &Tx::new(24, 1).rv(4)), Err(Fault::Rv));
     assert_eq!(send(&table, &LINK, &[1], &Tx::new(24, 1).blocks(&[])), Err(Fault::NoneScheduled));
     assert_eq!(send(&table, &LINK, &[0; 500], &Tx::new(24, 1)), Err(Fault::Graph));
+    assert_eq!(cut(2048, &[1], 1), Err(Fault::CodeBlock));
+    assert_eq!(encode(&table, 2, 17, &[0; 170]), Err(Fault::Lifting));
+    assert_eq!(encode(&table, 1, 4, &[0; 88]), Err(Fault::Graph));
+    assert_eq!(encode(&table, 2, 4, &[0; 39]), Err(Fault::Length));
     assert_eq!(codeword(&table, 2048, 8, &[0; 23]), Err(Fault::Length));
     assert_eq!(codeword(&table, 2048, 8, &[2; 24]), Err(Fault::Bit));
     assert_eq!(receive(&table, &LINK, 8, &[(Tx::new(24, 1), &[0; 23])]), Err(Fault::Length));
