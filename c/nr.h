@@ -156,7 +156,7 @@ typedef struct NrEntry {
 
 /* The entries of the shift table of a text, in the order that the calls below take them in, and in `count` how many they are. `out`
    has room for so many, no more and no fewer; where it has another length, as of NULL, 0, `count` says how many are wanted, and
-   `out` is not written. No table has more than 5,312; those of Tables 5.3.2-2 and 5.3.2-3 have 316 and 197.
+   `out` is not written. No table has more than 1,850; those of Tables 5.3.2-2 and 5.3.2-3 have 316 and 197.
    Faults: as nr_table_check has them; ROOM. With any but ROOM `count` is not written either. */
 NR_CHECKED uint32_t nr_table_entries(const uint8_t *text, size_t text_len, NrEntry *out, size_t out_len, size_t *count);
 

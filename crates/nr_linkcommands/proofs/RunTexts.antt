@@ -31,10 +31,6 @@ left-stopped old mid new r exit e line rest whole at same (front, is, before) st
 pub left-last : (old new : Option (List ℕ)) (whole : List ℕ) → IsLeft old new [] whole → new ≡ with_text old whole
 left-last old new whole (front, is, written) = written ∙ ap (with_text old) (sym (is ∙ append-nil front))
 
--- what is left is written last
-pub left-writes : {X : Type 0} (old mid new : Option (List ℕ)) (r : Result X RunFault) (rest whole : List ℕ) → IsLeft old mid rest whole → Writes mid new r rest → Writes old new r whole
-left-writes old mid new r rest whole (front, is, before) written = rw is (writes_last old mid new r front rest before written)
-
 -- where memory runs out between two lines
 pub writes_so_far : {X : Type 0} (old new : Option (List ℕ)) (r : Result X RunFault) (exit : RunFault) (whole front rest : List ℕ) → r ≡ Err exit → exit ≡ Memory → whole ≡ front ++ rest → 0 < length rest → new ≡ with_text old front → Writes old new r whole
 writes_so_far old new r exit whole front rest at is same some written = rw (at, is) (prefix_so_far old new whole front rest same some written)

@@ -54,6 +54,9 @@ fn lines_ask_for_jobs(rt: HostRuntime) {
         ("--help", "help"),
     ] {
         let found = asked(rt.alloc(), line);
-        assert!(rt; matches!(&found, Ok(text) if text.as_str() == want), "{line}");
+        assert!(rt;
+            matches!(&found, Ok(text) if text.as_str() == want),
+            "{line}"
+        );
     }
 }
