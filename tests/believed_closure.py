@@ -179,8 +179,8 @@ THEOREM = (
     ("nr_blockdesk", "receiver_laws.rt", "erasures_are_safe", ("",)),
 )
 PROGRAM = (
-    ("nr_linkcommands", "running.rt", "run", ("",)),
-    ("nr_linkcommands", "run_laws.rt", "runs_are_safe", ("",)),
+    ("nr_linkcommands", "run_command.rt", "run", ("",)),
+    ("nr_linkcommands", "run_command/laws.rt", "runs_are_safe", ("",)),
 )
 
 
