@@ -12,14 +12,14 @@ use Rattle.nr_blockdesk.specs.declared.selected.Selected.{Selected}
 use Rattle.nr_transmission.specs.declared.tx.Tx.{Tx}
 
 -- what a mark and a bit say: where there is no mark the place was erased, whatever the bit
-abbrev pub marked : Bool → Bool → Heard
-marked false b = heard.Erased
-marked true false = heard.Zero
-marked true true = heard.One
+abbrev pub heard_as : Bool → Bool → Heard
+heard_as false b = heard.Erased
+heard_as true false = heard.Zero
+heard_as true true = heard.One
 
 -- n places from place `from` on
 unfoldable pub heards_from : List Bool → List Bool → ℕ → ℕ → List Heard
-heards_from marks bits from n = map (λ m. marked (bit marks m) (bit bits m)) (range_with_len from n)
+heards_from marks bits from n = map (λ m. heard_as (bit marks m) (bit bits m)) (range_with_len from n)
 
 -- all places
 abbrev pub heards : List Bool → List Bool → List Heard
@@ -38,6 +38,6 @@ abbrev pub bit_says : Circular → ℕ → List Bool → List Bool → ℕ → B
 bit_says b rv marks bits p v k = (place_of b rv k == p) && says marks bits k v
 
 -- lists that have room for n bits
-pub record HasRoom (n : ℕ) (selected : Selected) : Type 0 where
+pub record HasRoomFor (n : ℕ) (selected : Selected) : Type 0 where
   pub marks : n ≤ length selected.heard.items + selected.heard.room
   pub bits : n ≤ length selected.value.items + selected.value.room

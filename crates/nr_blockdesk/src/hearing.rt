@@ -11,7 +11,7 @@ ghost use Rattle.nr_ratematch.specs.Lengths.{IsShared};
 ghost use Rattle.nr_blockdesk.specs.Explains.{hearing_said_of};
 ghost use Rattle.nr_blockdesk.specs.Heard.{heard_of};
 ghost use Rattle.nr_blockdesk.specs.Link.{Link};
-ghost use Rattle.nr_blockdesk.specs.Marks.{HasRoom, heards, heards_of};
+ghost use Rattle.nr_blockdesk.specs.Marks.{HasRoomFor, heards, heards_of};
 ghost use Rattle.nr_blockdesk.specs.Receiving.{AllTell, AreWords, HearsAll, HearsPart, IsNews, IsSized, IsTied, Tells, piece};
 ghost use Rattle.nr_blockdesk.specs.Telling.{IsUntold};
 
@@ -72,11 +72,11 @@ fn hear_part(
     requires sized { IsSized (cols_of buffer.now.graph * buffer.now.z) store.old peeler.old }
     requires long { length word.now ≡ cols_of buffer.now.graph * buffer.now.z }
     requires untold { IsUntold (cols_of buffer.now.graph * buffer.now.z) told.old }
-    requires room { HasRoom part.now.count selected.old }
+    requires room { HasRoomFor part.now.count selected.old }
     ensures hears { HearsPart buffer.now tx.now (heards_of part.now) store.old peeler.old store.new peeler.new }
     ensures agreed { Tells result (bit word.now) store.old store.new }
     ensures untold { IsUntold (cols_of buffer.now.graph * buffer.now.z) told.new }
-    ensures room { (n : ℕ) → HasRoom n selected.old → HasRoom n selected.new }
+    ensures room { (n : ℕ) → HasRoomFor n selected.old → HasRoomFor n selected.new }
 {
     if (part.count as usize) < told.heard.len() / POSITIONS_PER_PLACE {
         return hear_by_places(buffer, tx, part, store, peeler, word, told);
@@ -188,7 +188,7 @@ pub(crate) fn hear(
     requires words { AreWords (length stores.old)
         (cols_of buffer.now.graph * buffer.now.z) words.now }
     requires untold { IsUntold (cols_of buffer.now.graph * buffer.now.z) told.old }
-    requires room { (r : ℕ) → r < length lengths.now → HasRoom (slice_index lengths.now r) selected.old }
+    requires room { (r : ℕ) → r < length lengths.now → HasRoomFor (slice_index lengths.now r) selected.old }
     ensures stores { length stores.new ≡ length stores.old }
     ensures peelers { length peelers.new ≡ length peelers.old }
     ensures parts { (r : ℕ) (d : Peeling) → r < length stores.old

@@ -2,7 +2,7 @@
 
 ghost use Rattle.std.specs.Prelude.{◌≡◌, ℕ, ◌%◌, ◌^◌, ◌≤◌, ◌<◌, length, take, drop, IfOk};
 ghost use Rattle.nr_interleave.specs.Interleaving.{interleaved};
-ghost use Rattle.nr_blockdesk.specs.Marks.{HasRoom};
+ghost use Rattle.nr_blockdesk.specs.Marks.{HasRoomFor};
 
 use crate::part::Part;
 use nr_bitvec::Bits;
@@ -20,7 +20,7 @@ impl Selected {
     // Lists that have room for `most` bits.
     pub(crate) fn new(alloc: Global, most: u32) -> Result<Selected, AllocError>
         requires { most ≤ 2 ^ 24 }
-        ensures { IfOk result (HasRoom most) }
+        ensures { IfOk result (HasRoomFor most) }
     {
         let heard = Bits::with_room(alloc, most)?;
         let value = Bits::with_room(alloc, most)?;
@@ -31,12 +31,12 @@ impl Selected {
     pub(crate) fn read(&mut self, qm: u32, part: &Part<'_>)
         requires order { 0 < qm }
         requires whole { part.now.count % qm ≡ 0 }
-        requires room { HasRoom part.now.count self.old }
+        requires room { HasRoomFor part.now.count self.old }
         ensures marks { interleaved qm self.new.heard.items
             ≡ take part.now.count (drop part.now.from part.now.heard.now.items) }
         ensures bits { interleaved qm self.new.value.items
             ≡ take part.now.count (drop part.now.from part.now.value.now.items) }
-        ensures room { (n : ℕ) → HasRoom n self.old → HasRoom n self.new }
+        ensures room { (n : ℕ) → HasRoomFor n self.old → HasRoomFor n self.new }
     {
         let (from, count) = (part.from as usize, part.count as usize);
         unspread_into(qm, part.heard, from, count, &mut self.heard);

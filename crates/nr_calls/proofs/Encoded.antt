@@ -16,7 +16,7 @@ use Rattle.nr_ldpcenc.specs.Solving.{word_of}
 use Rattle.nr_blockdesk.specs.Link.{demanded}
 use Rattle.nr_transmission.specs.declared.fault.DeskFault.TheVariants as desk
 use Rattle.nr_calls.specs.Coding.{is_one}
-use Rattle.nr_calls.specs.Encoding.{can_lift, encode_judged, graph_of, is_coded, word_for}
+use Rattle.nr_calls.specs.Encoding.{can_lift, encode_judged, base_graph, is_coded, word_for}
 use Rattle.nr_calls.specs.declared.fault.Fault.TheVariants as fault
 
 -- the K bits are within the word
@@ -55,12 +55,12 @@ room-steps : (o : Option Graph) (g : Graph) (has lift whole : Graph → Bool) (c
     ≡ Err fault.Room
 room-steps o g has lift whole coded fits a b c d e f = rw (a, b, c, d, e, f) refl
 
-pub room_refused : (t : Entries) (number z : ℕ) (octets : List ℕ) (room : ℕ) (g : Graph) (k n : ℕ) → graph_of number ≡ Some g → has_graph g t ≡ true
+pub room_refused : (t : Entries) (number z : ℕ) (octets : List ℕ) (room : ℕ) (g : Graph) (k n : ℕ) → base_graph number ≡ Some g → has_graph g t ≡ true
     → can_lift g z ≡ true → length octets ≡ k → k ≡ info_cols_of g * z → list_all is_coded octets ≡ true → n ≢ room → n ≡ (cols_of g - 2) * z
     → encode_judged t number z octets room ≡ Err fault.Room
 unfolding encode_judged
 room_refused t number z octets room g k n picked there lift long is-k coded other is-n =
     let differs : (cols_of g - 2) * z ≢ room = λ same. other (is-n ∙ same) in
-    room-steps (graph_of number) g (λ x. has_graph x t) (λ x. can_lift x z) (λ x. length octets == info_cols_of x * z) (list_all is_coded octets)
+    room-steps (base_graph number) g (λ x. has_graph x t) (λ x. can_lift x z) (λ x. length octets == info_cols_of x * z) (list_all is_coded octets)
     (λ x. (cols_of x - 2) * z == room) picked there lift (eq-eqb (length octets) (info_cols_of g * z) (long ∙ is-k)) coded
     (ne_eqb ((cols_of g - 2) * z) room differs)

@@ -20,8 +20,8 @@ cut_planned rate2048 a r room = do
   Ok p
 
 -- the K' bits of code block r of a transport block of whole octets, without fillers, or the first fault
-abbrev pub cut_said : ℕ → List ℕ → ℕ → ℕ → Result (List Bool) Fault
-cut_said rate2048 octets r room =
+abbrev pub code_block_said : ℕ → List ℕ → ℕ → ℕ → Result (List Bool) Fault
+code_block_said rate2048 octets r room =
     cut_planned rate2048 (8 * length octets) r room >>= λ p. Ok (code_bits p.plan (attached (bits_of octets)) r)
 
 -- What a call leaves in a room for bits that wants memory only where nothing refuses it: them, where it answers 0. Where it

@@ -22,8 +22,8 @@ use Rattle.nr_calls.specs.declared.fault.Fault.{Fault}
 use Rattle.nr_calls.specs.declared.fault.Fault.TheVariants as fault
 
 -- the base graph of a number
-abbrev pub graph_of : ℕ → Option Graph
-graph_of number = if number == 1 then Some One else (if number == 2 then Some Two else None)
+abbrev pub base_graph : ℕ → Option Graph
+base_graph number = if number == 1 then Some One else (if number == 2 then Some Two else None)
 
 -- code blocks of a base graph have this lifting size: its columns hold the 24 bits that each has at least (5.2.2)
 abbrev pub can_lift : Graph → ℕ → Bool
@@ -50,7 +50,7 @@ encoded_of c = record { graph = c.plan.graph; z = c.plan.z; word = c.word }
 -- the base graph by which K octets are encoded for a room of so many octets, or the first fault
 unfoldable pub encode_judged : Entries → ℕ → ℕ → List ℕ → ℕ → Result Graph Fault
 encode_judged table number z octets room = do
-  graph ← or_fault (fault.Desk desk.Graph) (graph_of number)
+  graph ← or_fault (fault.Desk desk.Graph) (base_graph number)
   there ← demanded (fault.Desk desk.Graph) (has_graph graph table)
   lifting ← demanded fault.Lifting (can_lift graph z)
   whole ← demanded (fault.Desk desk.Length) (length octets == info_cols_of graph * z)

@@ -6,7 +6,7 @@ ghost use Rattle.nr_graphpick.specs.Refusal.{Gives};
 ghost use Rattle.nr_segment.specs.CodeBlock.{positions_of};
 ghost use Rattle.nr_shifttable.specs.Accepted.{has_graph};
 ghost use Rattle.nr_calls.specs.Coding.{is_one};
-ghost use Rattle.nr_calls.specs.Encoding.{AreEncoded, Encodes, can_lift, encode_by, encode_judged, encode_said, encoded_octet, encoded_of, graph_of, held_columns, is_coded, word_for};
+ghost use Rattle.nr_calls.specs.Encoding.{AreEncoded, Encodes, can_lift, encode_by, encode_judged, encode_said, encoded_octet, encoded_of, base_graph, held_columns, is_coded, word_for};
 ghost use Rattle.nr_calls.specs.Entries.{are_placed};
 
 use crate::coded::Coded;
@@ -142,7 +142,7 @@ fn encode_plan(table: &Table, graph: u32, z: u32, octets: &[u8], room: usize) ->
 
 // The base graph of a number.
 fn graph_of(number: u32) -> Option<Graph>
-    ensures { result ≡ graph_of number }
+    ensures { result ≡ base_graph number }
 {
     match number {
         1 => Some(Graph::One),

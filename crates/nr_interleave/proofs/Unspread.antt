@@ -18,7 +18,7 @@ use Rattle.nr_bitvec.specs.BitList.{low_first}
 use Rattle.nr_interleave.proofs.Tested.{all_under, all_under-at}
 use Rattle.nr_interleave.proofs.Seats.{column-below, seat-inside}
 use Rattle.nr_interleave.specs.Interleaving.{seat_of, interleaved}
-use Rattle.nr_interleave.specs.Unspreading.{BringTogether, apart, come_to, joined, kept, rows_of}
+use Rattle.nr_interleave.specs.Unspreading.{BringTogether, apart, come_to, come_joined, come_masked, by_rows}
 use Rattle.nr_interleave.specs.declared.rows.TheConstants.{OF_2, OF_4, OF_6, OF_8}
 
 -- ---- masks, tested
@@ -84,11 +84,11 @@ one-any : (b : Bool) → b ≡ (b || false)
 one-any true = refl
 one-any false = refl
 
-pub kept-comes : (x mask : ℕ) → Comes x (kept mask) (bit_and x mask)
+pub kept-comes : (x mask : ℕ) → Comes x (come_masked mask) (bit_and x mask)
 unfolding Comes
 kept-comes x mask p = and-one x mask p ∙ masked x (p ∷ []) (bit_at x p == 1) (bit_at mask p == 1) (one-any (bit_at x p == 1))
 
-pub joined-comes : (x w by mask : ℕ) (come : ℕ → List ℕ) → Comes x come w → Comes x (joined come by mask) (bit_and (bit_or w (w / 2 ^ by)) mask)
+pub joined-comes : (x w by mask : ℕ) (come : ℕ → List ℕ) → Comes x come w → Comes x (come_joined come by mask) (bit_and (bit_or w (w / 2 ^ by)) mask)
 unfolding Comes
 joined-comes x w by mask come before p =
     and-one (bit_or w (w / 2 ^ by)) mask p
@@ -203,8 +203,8 @@ row-then bits qm from count row =
 
 -- the rows of interleaved bits are the bits that were interleaved
 pub rows-unspread : (qm from count : ℕ) (bits : List Bool) → 0 < qm → count % qm ≡ 0 → from + count ≤ length bits
-    → interleaved qm (rows_of qm bits from count) ≡ take count (drop from bits)
-unfolding interleaved rows_of
+    → interleaved qm (by_rows qm bits from count) ≡ take count (drop from bits)
+unfolding interleaved by_rows
 rows-unspread qm from count bits some whole inside =
     let columns : ℕ = count / qm in
     let f : ℕ → Bool = λ k. bit bits (from + (qm * (k % columns) + k / columns)) in
@@ -229,8 +229,8 @@ rows-unspread qm from count bits some whole inside =
     ∙ sym (get_or-take count (drop from bits) t false low ∙ get_or-drop from bits t false))
 
 -- they are so many
-pub rows-many : (qm from count : ℕ) (bits old new : List Bool) → old ≡ [] → new ≡ old ++ rows_of qm bits from count → length new ≡ count
-unfolding rows_of
+pub rows-many : (qm from count : ℕ) (bits old new : List Bool) → old ≡ [] → new ≡ old ++ by_rows qm bits from count → length new ≡ count
+unfolding by_rows
 rows-many qm from count bits old new none is =
-    ap length (is ∙ ap (λ xs. xs ++ rows_of qm bits from count) none)
+    ap length (is ∙ ap (λ xs. xs ++ by_rows qm bits from count) none)
     ∙ length-map-range_with_len (λ k. bit bits (from + (qm * (k % (count / qm)) + k / (count / qm)))) 0 count

@@ -3,7 +3,7 @@ use Rattle.std.proofs.Common.{◌≡◌, ℕ, ◌*◌, ◌<◌, ◌≤◌, lengt
 use Rattle.nr_graphpick.specs.Graph.{cols_of}
 use Rattle.nr_peel.specs.Peeling.{Peeling}
 use Rattle.nr_blockdesk.specs.Heard.{heard_of}
-use Rattle.nr_blockdesk.specs.Marks.{HasRoom, heards}
+use Rattle.nr_blockdesk.specs.Marks.{HasRoomFor, heards}
 use Rattle.nr_blockdesk.specs.Receiving.{AllTell, HearsPart, piece}
 use Rattle.nr_blockdesk.specs.Telling.{IsUntold}
 use Rattle.nr_blockdesk.proofs.hearing.hear.Given as goal
@@ -18,6 +18,6 @@ invariant-loop-r l = record {
   later : (q : ℕ) → l.r ≤ q → heard_of l.stores q ≡ heard_of l.fn.stores q;
   later_peelers : (q : ℕ) (d : Peeling) → l.r ≤ q → slice_index_or l.peelers q d ≡ slice_index_or l.fn.peelers q d;
   untold : IsUntold (cols_of l.buffer.graph * l.buffer.z) l.told;
-  room : (n : ℕ) → HasRoom n l.fn.selected → HasRoom n l.selected;
+  room : (n : ℕ) → HasRoomFor n l.fn.selected → HasRoomFor n l.selected;
   agreed : AllTell l.agreed l.r l.words l.fn.stores l.stores;
 }

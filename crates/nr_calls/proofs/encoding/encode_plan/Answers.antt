@@ -2,7 +2,7 @@ use Rattle.std.proofs.Common.{◌≡◌, ◌-◌, ◌*◌, Some, true, rules}
 use Rattle.std.specs.List.{list_all}
 use Rattle.nr_graphpick.specs.Graph.{cols_of, info_cols_of}
 use Rattle.nr_shifttable.specs.Accepted.{has_graph}
-use Rattle.nr_calls.specs.Encoding.{graph_of, is_coded}
+use Rattle.nr_calls.specs.Encoding.{base_graph, is_coded}
 use Rattle.nr_calls.proofs.Encoded.{room_refused}
 use Rattle.nr_calls.proofs.encoding.encode_plan.Goals as goal
 
@@ -10,7 +10,7 @@ pub returns-then-plan-room-clause-said : goal.returns-then-plan-room-clause-said
 returns-then-plan-room-clause-said c =
     let p = c.in_ok-plan.plan in
     let g = c.in-Some.graph in
-    let picked : graph_of c.args.graph ≡ Some g = cc in
+    let picked : base_graph c.args.graph ≡ Some g = cc in
     let there : has_graph g c.args.table.now ≡ true = search rules in
     let coded : list_all is_coded c.args.octets.now ≡ true = search rules in
     let graph = c.in_ok-plan.ensures.graph in
