@@ -44,7 +44,7 @@ class ByHand(unittest.TestCase):
         for lbrm, rv, wanted in cases:
             room = built.struct(4)
             self.assertEqual(built.call("nr_buffer", built.settings(2048, lbrm), 24, rv, room), 0)
-            self.assertEqual(room.numbers(), wanted, f"version {rv}, limit {lbrm}")
+            self.assertEqual(room.numbers(), [*wanted, 0, 0], f"version {rv}, limit {lbrm}")
 
     def test_codeword(self):
         """The 24 bits are octet 01 and its CRC, 1021 in hexadecimal."""

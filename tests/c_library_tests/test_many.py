@@ -121,7 +121,6 @@ class Many(unittest.TestCase):
             (lambda: self.nr.send_many(self.table, [b""], self.tx, **RATE), "Size"),
             (lambda: self.nr.receive_many(self.table, 7, self.tx, [bytes(G)], **RATE), "Size"),
             (lambda: self.nr.receive_many(self.table, 8, self.tx, [bytes(G - 1)], **RATE), "Length"),
-            (lambda: self.nr.receive_many(self.table, 8, [self.nr.Tx(1)] * 257, [bytes(257)], **RATE), "Many"),
         ]:
             with self.assertRaises(self.nr.Fault) as raised:
                 call()
