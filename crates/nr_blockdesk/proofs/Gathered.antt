@@ -6,7 +6,7 @@ use Rattle.std.proofs.lemmas.Bool.{cases_lt}
 use Rattle.std.proofs.lemmas.Nat.Bits.{bit_at-zero, bit_at_above, bit_at_or}
 use Rattle.nr_bitvec.proofs.BitFacts.{bit_at_mod, bit_at_mod_above, bit_at_shl_high, bit_at_shl_low}
 use Rattle.nr_blockdesk.specs.Explains.{heard_at}
-use Rattle.nr_blockdesk.specs.Marks.{heard_as}
+use Rattle.nr_blockdesk.specs.Marks.{place_heard}
 use Rattle.nr_blockdesk.specs.declared.heard.Heard.{Heard}
 
 -- a word has no bit from bit n on
@@ -43,7 +43,7 @@ module _ (word next digit n : ℕ) (small : digit ≤ 1) (inside : n < 64) (is :
 
 -- n places from place `from` on stand in a word of marks and one of bits
 pub record IsGathered (places : List Heard) (from now bits n : ℕ) : Type 0 where
-  pub told : (j : ℕ) → j < n → heard_as (bit_at now j == 1) (bit_at bits j == 1) ≡ heard_at places (from + j)
+  pub told : (j : ℕ) → j < n → place_heard (bit_at now j == 1) (bit_at bits j == 1) ≡ heard_at places (from + j)
   pub marks : (j : ℕ) → n ≤ j → bit_at now j ≡ 0
   pub digits : (j : ℕ) → n ≤ j → bit_at bits j ≡ 0
 
@@ -56,7 +56,7 @@ gathered-none places from = record {
 
 pub gathered-more : (places : List Heard) (from now bits n now' bits' mark bit : ℕ) → n < 64 → mark ≤ 1 → bit ≤ 1
     → now' ≡ bit_or now (mark * 2 ^ n % 2 ^ 64) → bits' ≡ bit_or bits (bit * 2 ^ n % 2 ^ 64)
-    → heard_as (mark == 1) (bit == 1) ≡ heard_at places (from + n)
+    → place_heard (mark == 1) (bit == 1) ≡ heard_at places (from + n)
     → IsGathered places from now bits n → IsGathered places from now' bits' (n + 1)
 gathered-more places from now bits n now' bits' mark bit inside small small-too is is-too here gathered = record {
   told = told;
@@ -64,17 +64,17 @@ gathered-more places from now bits n now' bits' mark bit inside small small-too 
   digits = digit-low bits bits' bit n small-too inside is-too gathered.digits;
 }
   where
-    told : (j : ℕ) → j < n + 1 → heard_as (bit_at now' j == 1) (bit_at bits' j == 1) ≡ heard_at places (from + j)
+    told : (j : ℕ) → j < n + 1 → place_heard (bit_at now' j == 1) (bit_at bits' j == 1) ≡ heard_at places (from + j)
     told j below = elim (cases_lt j n) [
       | inl before ↦
-          ap (λ m. heard_as (m == 1) (bit_at bits' j == 1)) (digit-before now now' mark n small inside is gathered.marks j before)
-          ∙ ap (λ m. heard_as (bit_at now j == 1) (m == 1)) (digit-before bits bits' bit n small-too inside is-too gathered.digits j before)
+          ap (λ m. place_heard (m == 1) (bit_at bits' j == 1)) (digit-before now now' mark n small inside is gathered.marks j before)
+          ∙ ap (λ m. place_heard (bit_at now j == 1) (m == 1)) (digit-before bits bits' bit n small-too inside is-too gathered.digits j before)
           ∙ gathered.told j before
       | inr past ↦
           let last : j ≡ n = omega (arith, below, past) in
-          ap (λ i. heard_as (bit_at now' i == 1) (bit_at bits' i == 1)) last
-          ∙ ap (λ m. heard_as (m == 1) (bit_at bits' n == 1)) (digit-here now now' mark n small inside is gathered.marks)
-          ∙ ap (λ m. heard_as (mark == 1) (m == 1)) (digit-here bits bits' bit n small-too inside is-too gathered.digits)
+          ap (λ i. place_heard (bit_at now' i == 1) (bit_at bits' i == 1)) last
+          ∙ ap (λ m. place_heard (m == 1) (bit_at bits' n == 1)) (digit-here now now' mark n small inside is gathered.marks)
+          ∙ ap (λ m. place_heard (mark == 1) (m == 1)) (digit-here bits bits' bit n small-too inside is-too gathered.digits)
           ∙ here
           ∙ ap (λ i. heard_at places (from + i)) (sym last)
     ]

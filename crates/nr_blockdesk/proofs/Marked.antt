@@ -12,7 +12,7 @@ use Rattle.nr_bitvec.specs.Bit.{bit}
 use Rattle.nr_bitvec.specs.BitList.{low_first}
 use Rattle.nr_blockdesk.specs.Explains.{heard_at}
 use Rattle.nr_blockdesk.specs.Hearing.{heard_bit, tells}
-use Rattle.nr_blockdesk.specs.Marks.{HasRoomFor, heards, heards_from, heard_as}
+use Rattle.nr_blockdesk.specs.Marks.{HasRoomFor, heards, heards_from, place_heard}
 use Rattle.nr_blockdesk.specs.Receiving.{piece}
 use Rattle.nr_blockdesk.specs.declared.heard.Heard.{Heard}
 use Rattle.nr_blockdesk.specs.declared.heard.Heard.TheVariants as heard
@@ -20,24 +20,24 @@ use Rattle.nr_blockdesk.specs.declared.selected.Selected.{Selected}
 
 pub length-heards : (marks bits : List Bool) (from n : ℕ) → length (heards_from marks bits from n) ≡ n
 unfolding heards_from
-length-heards marks bits from n = length-map-range_with_len (λ m. heard_as (bit marks m) (bit bits m)) from n
+length-heards marks bits from n = length-map-range_with_len (λ m. place_heard (bit marks m) (bit bits m)) from n
 
 place-heard : (marks bits : List Bool) (from n m : ℕ) (d : Heard) → m < n
-    → get_or (heards_from marks bits from n) m d ≡ heard_as (bit marks (from + m)) (bit bits (from + m))
+    → get_or (heards_from marks bits from n) m d ≡ place_heard (bit marks (from + m)) (bit bits (from + m))
 unfolding heards_from
-place-heard marks bits from n m d inside = get_or-map-range_with_len (λ m. heard_as (bit marks m) (bit bits m)) from n m (from + m) d inside refl
+place-heard marks bits from n m d inside = get_or-map-range_with_len (λ m. place_heard (bit marks m) (bit bits m)) from n m (from + m) d inside refl
 
 pub heard-at : (marks bits : List Bool) (from n m : ℕ) → m < n
-    → heard_at (heards_from marks bits from n) m ≡ heard_as (bit marks (from + m)) (bit bits (from + m))
+    → heard_at (heards_from marks bits from n) m ≡ place_heard (bit marks (from + m)) (bit bits (from + m))
 heard-at marks bits from n m inside = place-heard marks bits from n m heard.Erased inside
 
 -- what a mark and a bit say
-pub tells-marked : (mark b v : Bool) → tells (heard_bit (heard_as mark b)) v ≡ (mark && beq b v)
+pub tells-marked : (mark b v : Bool) → tells (heard_bit (place_heard mark b)) v ≡ (mark && beq b v)
 tells-marked false b v = refl
 tells-marked true false v = refl
 tells-marked true true v = refl
 
-pub some-marked : (b : Bool) → heard_bit (heard_as true b) ≡ Some b
+pub some-marked : (b : Bool) → heard_bit (place_heard true b) ≡ Some b
 some-marked false = refl
 some-marked true = refl
 
@@ -57,13 +57,13 @@ piece-heards marks bits lengths r together inside =
     let low : k < e = omega (arith, below, one) in
     let none : 0 + (start + k) ≡ start + k = omega arith in
     place-heard marks bits start e k d low
-    ∙ ap (λ m. heard_as (bit marks m) (bit bits m)) (sym none)
+    ∙ ap (λ m. place_heard (bit marks m) (bit bits m)) (sym none)
     ∙ sym (get_or-take e (drop start all) k d low ∙ get_or-drop start all k d
     ∙ place-heard marks bits 0 (length marks) (start + k) d (omega (arith, low, most, together))))
 
 -- lists whose marks and bits are these places
 pub heards-are : (marks bits : List Bool) (places : List Heard) → length marks ≡ length places
-    → ((m : ℕ) → m < length places → heard_as (bit marks m) (bit bits m) ≡ heard_at places m) → heards marks bits ≡ places
+    → ((m : ℕ) → m < length places → place_heard (bit marks m) (bit bits m) ≡ heard_at places m) → heards marks bits ≡ places
 heards-are marks bits places long are =
     let all : length (heards marks bits) ≡ length marks = length-heards marks bits 0 (length marks) in
     same_lists (heards marks bits) places (all ∙ long)
@@ -71,25 +71,25 @@ heards-are marks bits places long are =
     let low : k < length marks = omega (arith, below, all) in
     let none : 0 + k ≡ k = omega arith in
     place-heard marks bits 0 (length marks) k d low
-    ∙ ap (λ m. heard_as (bit marks m) (bit bits m)) none
+    ∙ ap (λ m. place_heard (bit marks m) (bit bits m)) none
     ∙ are k (omega (arith, low, long))
     ∙ get_or_default places k heard.Erased d (omega (arith, low, long)))
 
 -- words of marks and bits at the end of two lists
 pub heards-more : (places : List Heard) (marks bits : List Bool) (n wide now word : ℕ) → length marks ≡ n → length bits ≡ n
-    → ((m : ℕ) → m < n → heard_as (bit marks m) (bit bits m) ≡ heard_at places m)
-    → ((j : ℕ) → j < wide → heard_as (bit_at now j == 1) (bit_at word j == 1) ≡ heard_at places (n + j))
-    → (m : ℕ) → m < n + wide → heard_as (bit (marks ++ low_first wide now) m) (bit (bits ++ low_first wide word) m) ≡ heard_at places m
+    → ((m : ℕ) → m < n → place_heard (bit marks m) (bit bits m) ≡ heard_at places m)
+    → ((j : ℕ) → j < wide → place_heard (bit_at now j == 1) (bit_at word j == 1) ≡ heard_at places (n + j))
+    → (m : ℕ) → m < n + wide → place_heard (bit (marks ++ low_first wide now) m) (bit (bits ++ low_first wide word) m) ≡ heard_at places m
 heards-more places marks bits n wide now word long long-too before here m below = elim (cases_lt m n) [
   | inl first ↦
-      ap (λ b. heard_as b (bit (bits ++ low_first wide word) m)) (get_or_append_left marks (low_first wide now) false m (omega (arith, first, long)))
-      ∙ ap (λ b. heard_as (bit marks m) b) (get_or_append_left bits (low_first wide word) false m (omega (arith, first, long-too)))
+      ap (λ b. place_heard b (bit (bits ++ low_first wide word) m)) (get_or_append_left marks (low_first wide now) false m (omega (arith, first, long)))
+      ∙ ap (λ b. place_heard (bit marks m) b) (get_or_append_left bits (low_first wide word) false m (omega (arith, first, long-too)))
       ∙ before m first
   | inr later ↦
       let there : n + (m - n) ≡ m = omega (arith, later) in
       let low : m - n < wide = omega (arith, below, later) in
-      ap (λ b. heard_as b (bit (bits ++ low_first wide word) m)) (get_or-append_right marks (low_first wide now) n m false long later ∙ bit-low_first wide now (m - n) low)
-      ∙ ap (λ b. heard_as (bit_at now (m - n) == 1) b) (get_or-append_right bits (low_first wide word) n m false long-too later ∙ bit-low_first wide word (m - n) low)
+      ap (λ b. place_heard b (bit (bits ++ low_first wide word) m)) (get_or-append_right marks (low_first wide now) n m false long later ∙ bit-low_first wide now (m - n) low)
+      ∙ ap (λ b. place_heard (bit_at now (m - n) == 1) b) (get_or-append_right bits (low_first wide word) n m false long-too later ∙ bit-low_first wide word (m - n) low)
       ∙ here (m - n) low
       ∙ ap (heard_at places) there
 ]

@@ -12,14 +12,14 @@ use Rattle.nr_blockdesk.specs.declared.selected.Selected.{Selected}
 use Rattle.nr_transmission.specs.declared.tx.Tx.{Tx}
 
 -- what a mark and a bit say: where there is no mark the place was erased, whatever the bit
-abbrev pub heard_as : Bool → Bool → Heard
-heard_as false b = heard.Erased
-heard_as true false = heard.Zero
-heard_as true true = heard.One
+abbrev pub place_heard : Bool → Bool → Heard
+place_heard false b = heard.Erased
+place_heard true false = heard.Zero
+place_heard true true = heard.One
 
 -- n places from place `from` on
 unfoldable pub heards_from : List Bool → List Bool → ℕ → ℕ → List Heard
-heards_from marks bits from n = map (λ m. heard_as (bit marks m) (bit bits m)) (range_with_len from n)
+heards_from marks bits from n = map (λ m. place_heard (bit marks m) (bit bits m)) (range_with_len from n)
 
 -- all places
 abbrev pub heards : List Bool → List Bool → List Heard

@@ -14,13 +14,13 @@ pub enum Heard {
 }
 
 impl Heard {
-    ghost use Rattle.nr_blockdesk.specs.Marks.{heard_as};
+    ghost use Rattle.nr_blockdesk.specs.Marks.{place_heard};
 
     // 1 where a bit is heard, and the bit: zero where none is.
     pub(crate) fn marks(self) -> (u64, u64)
         ensures mark { result.0 ≤ 1 }
         ensures digit { result.1 ≤ 1 }
-        ensures same { heard_as (result.0 == 1) (result.1 == 1) ≡ self }
+        ensures same { place_heard (result.0 == 1) (result.1 == 1) ≡ self }
     {
         let mark = u64::from(!matches!(self, Heard::Erased));
         let digit = u64::from(matches!(self, Heard::One));

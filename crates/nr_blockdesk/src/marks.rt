@@ -3,7 +3,7 @@
 ghost use Rattle.std.specs.Prelude.{◌≡◌, ℕ, ◌+◌, ◌^◌, ◌<◌, ◌≤◌, ◌==◌, length, IfOk};
 ghost use Rattle.std.specs.Int.{bit_at};
 ghost use Rattle.nr_blockdesk.specs.Explains.{heard_at};
-ghost use Rattle.nr_blockdesk.specs.Marks.{heards, heard_as};
+ghost use Rattle.nr_blockdesk.specs.Marks.{heards, place_heard};
 
 use crate::heard::Heard;
 use nr_bitvec::Bits;
@@ -33,7 +33,7 @@ fn gather(places: &[Heard], from: usize, count: usize) -> (u64, u64)
     requires count { count ≤ 64 }
     requires inside { from + count ≤ length places.now }
     ensures { (j : ℕ) → j < count
-        → heard_as (bit_at result.0 j == 1) (bit_at result.1 j == 1) ≡ heard_at places.now (from + j) }
+        → place_heard (bit_at result.0 j == 1) (bit_at result.1 j == 1) ≡ heard_at places.now (from + j) }
 {
     let mut marks = 0;
     let mut bits = 0;

@@ -10,7 +10,7 @@ ghost use Rattle.nr_graphpick.specs.Refusal.{with_fault};
 ghost use Rattle.nr_shifttable.specs.Accepted.{table_said};
 ghost use Rattle.nr_calls.specs.Coding.{Codes, coded_into_said};
 ghost use Rattle.nr_calls.specs.Crossing.{settings_in, tx_of};
-ghost use Rattle.nr_calls.specs.Cutting.{Cuts, cut_said};
+ghost use Rattle.nr_calls.specs.Cutting.{Cuts, code_block_said};
 ghost use Rattle.nr_calls.specs.Encoding.{Encodes, encode_said};
 ghost use Rattle.nr_calls.specs.Entries.{are_placed, table_by};
 ghost use Rattle.nr_calls.specs.Findings.{Decides, places, room_in};
@@ -140,7 +140,7 @@ pub extern "C" fn nr_buffer(settings: &NrSettings, a: u32, rv: u32, out: &mut Nr
 /// `Room`, where `out` does not have K' octets; 1, where memory is refused, never in place of these. `out` is as it was then.
 #[unsafe(no_mangle)]
 pub extern "C" fn nr_cut(alloc: Global, rate2048: u32, block: &[u8], r: u32, out: &mut [u8]) -> u32
-    ensures { Cuts result out.old out.new (cut_said rate2048 block.now r (length out.old)) }
+    ensures { Cuts result out.old out.new (code_block_said rate2048 block.now r (length out.old)) }
 {
     nr_calls::cutting::nr_cut(alloc, rate2048, block, r, out)
 }

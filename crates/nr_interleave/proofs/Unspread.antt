@@ -18,7 +18,7 @@ use Rattle.nr_bitvec.specs.BitList.{low_first}
 use Rattle.nr_interleave.proofs.Tested.{all_under, all_under-at}
 use Rattle.nr_interleave.proofs.Seats.{column-below, seat-inside}
 use Rattle.nr_interleave.specs.Interleaving.{seat_of, interleaved}
-use Rattle.nr_interleave.specs.Unspreading.{BringTogether, apart, come_to, come_joined, come_masked, by_rows}
+use Rattle.nr_interleave.specs.Unspreading.{BringTogether, apart, come_to, come_joined, come_masked, row_by_row}
 use Rattle.nr_interleave.specs.declared.rows.TheConstants.{OF_2, OF_4, OF_6, OF_8}
 
 -- ---- masks, tested
@@ -203,8 +203,8 @@ row-then bits qm from count row =
 
 -- the rows of interleaved bits are the bits that were interleaved
 pub rows-unspread : (qm from count : ℕ) (bits : List Bool) → 0 < qm → count % qm ≡ 0 → from + count ≤ length bits
-    → interleaved qm (by_rows qm bits from count) ≡ take count (drop from bits)
-unfolding interleaved by_rows
+    → interleaved qm (row_by_row qm bits from count) ≡ take count (drop from bits)
+unfolding interleaved row_by_row
 rows-unspread qm from count bits some whole inside =
     let columns : ℕ = count / qm in
     let f : ℕ → Bool = λ k. bit bits (from + (qm * (k % columns) + k / columns)) in
@@ -229,8 +229,8 @@ rows-unspread qm from count bits some whole inside =
     ∙ sym (get_or-take count (drop from bits) t false low ∙ get_or-drop from bits t false))
 
 -- they are so many
-pub rows-many : (qm from count : ℕ) (bits old new : List Bool) → old ≡ [] → new ≡ old ++ by_rows qm bits from count → length new ≡ count
-unfolding by_rows
+pub rows-many : (qm from count : ℕ) (bits old new : List Bool) → old ≡ [] → new ≡ old ++ row_by_row qm bits from count → length new ≡ count
+unfolding row_by_row
 rows-many qm from count bits old new none is =
-    ap length (is ∙ ap (λ xs. xs ++ by_rows qm bits from count) none)
+    ap length (is ∙ ap (λ xs. xs ++ row_by_row qm bits from count) none)
     ∙ length-map-range_with_len (λ k. bit bits (from + (qm * (k % (count / qm)) + k / (count / qm)))) 0 count

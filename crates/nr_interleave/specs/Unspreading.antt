@@ -4,11 +4,11 @@ use Rattle.std.specs.Int.{bit_at}
 use Rattle.std.specs.List.{range_with_len}
 use Rattle.nr_bitvec.specs.Bit.{bit}
 
--- the bits that come to a place where those of a mask are come_masked
+-- the bits that come to a place where those of a mask are kept
 abbrev pub come_masked : ℕ → ℕ → List ℕ
 come_masked mask p = if bit_at mask p == 1 then p ∷ [] else []
 
--- and where those `by` places higher are come_joined to them first
+-- and where those `by` places higher are joined to them first
 abbrev pub come_joined : (ℕ → List ℕ) → ℕ → ℕ → ℕ → List ℕ
 come_joined come by mask p = if bit_at mask p == 1 then come p ++ come (by + p) else []
 
@@ -26,6 +26,6 @@ abbrev pub apart : ℕ → List Bool → ℕ → ℕ → Bool
 apart qm bits from j = bit bits (from + qm * j)
 
 -- the bits of a list from one on that stand column by column in a matrix of qm rows, row by row
-unfoldable pub by_rows : ℕ → List Bool → ℕ → ℕ → List Bool
-by_rows qm bits from count =
+unfoldable pub row_by_row : ℕ → List Bool → ℕ → ℕ → List Bool
+row_by_row qm bits from count =
     map (λ k. bit bits (from + (qm * (k % (count / qm)) + k / (count / qm)))) (range_with_len 0 count)

@@ -4,7 +4,7 @@ ghost use Rattle.std.specs.Prelude.{◌≡◌, ℕ, ◌+◌, ◌*◌, ◌/◌, �
 ghost use Rattle.std.specs.Int.{bit_at};
 ghost use Rattle.std.specs.List.{range_with_len};
 ghost use Rattle.nr_bitvec.specs.Bit.{bit};
-ghost use Rattle.nr_interleave.specs.Unspreading.{apart, BringTogether, by_rows};
+ghost use Rattle.nr_interleave.specs.Unspreading.{apart, BringTogether, row_by_row};
 
 use nr_bitvec::Bits;
 
@@ -91,7 +91,7 @@ pub(crate) fn by_rows<const QM: usize>(
     requires whole { count % QM ≡ 0 }
     requires short { from + count ≤ 2 ^ 24 }
     requires room { count ≤ selected.old.room }
-    ensures items { selected.new.items ≡ selected.old.items ++ by_rows QM bits.now.items from count }
+    ensures items { selected.new.items ≡ selected.old.items ++ row_by_row QM bits.now.items from count }
     ensures room { selected.new.room + count ≡ selected.old.room }
 {
     let columns = count / QM;
@@ -107,7 +107,7 @@ pub(crate) fn by_seats(qm: usize, bits: &Bits, from: usize, count: usize, select
     requires inside { from + count ≤ length bits.now.items }
     requires short { from + count ≤ 2 ^ 24 }
     requires room { count ≤ selected.old.room }
-    ensures items { selected.new.items ≡ selected.old.items ++ by_rows qm bits.now.items from count }
+    ensures items { selected.new.items ≡ selected.old.items ++ row_by_row qm bits.now.items from count }
     ensures room { selected.new.room + count ≡ selected.old.room }
 {
     let columns = count / qm;

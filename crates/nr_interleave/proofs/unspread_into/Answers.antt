@@ -1,7 +1,7 @@
 use Rattle.std.proofs.Common.{◌≡◌, ℕ, ◌+◌, ◌%◌, ◌<◌, ◌≤◌, [], ◌++◌, List, Bool, length, take, drop, refl, sym, ap, ◌∙◌, arith}
 use Rattle.std.proofs.lemmas.List.{take_all}
 use Rattle.nr_interleave.specs.Interleaving.{interleaved}
-use Rattle.nr_interleave.specs.Unspreading.{by_rows}
+use Rattle.nr_interleave.specs.Unspreading.{row_by_row}
 use Rattle.nr_interleave.proofs.Unspread.{rows-many, of-2, of-4, of-6, of-8, rows-unspread}
 use Rattle.nr_interleave.proofs.Spreads.{one-row}
 use Rattle.nr_interleave.proofs.unspread_into.Goals as goal
@@ -20,9 +20,9 @@ by_rows-requires-in-8-clause-together c = of-8
 
 -- the rows, put into an empty list
 put : (qm from count order : ℕ) (bits old new : List Bool) → 0 < qm → count % qm ≡ 0 → from + count ≤ length bits → order ≡ qm
-    → old ≡ [] → new ≡ old ++ by_rows order bits from count → interleaved qm new ≡ take count (drop from bits)
+    → old ≡ [] → new ≡ old ++ row_by_row order bits from count → interleaved qm new ≡ take count (drop from bits)
 put qm from count order bits old new some whole inside same none is =
-    ap (interleaved qm) (is ∙ ap (λ xs. xs ++ by_rows order bits from count) none ∙ ap (λ q. by_rows q bits from count) same)
+    ap (interleaved qm) (is ∙ ap (λ xs. xs ++ row_by_row order bits from count) none ∙ ap (λ q. row_by_row q bits from count) same)
     ∙ rows-unspread qm from count bits some whole inside
 
 pub returns-in-1-clause-items : goal.returns-in-1-clause-items

@@ -7,7 +7,7 @@ use Rattle.nr_ratematch.specs.Selection.{place_of}
 use Rattle.nr_interleave.specs.Interleaving.{seat_of}
 use Rattle.nr_blockdesk.specs.Explains.{heard_at}
 use Rattle.nr_blockdesk.specs.Hearing.{heard_bit}
-use Rattle.nr_blockdesk.specs.Marks.{heards_of, heard_as}
+use Rattle.nr_blockdesk.specs.Marks.{heards_of, place_heard}
 use Rattle.nr_blockdesk.specs.Receiving.{Fits, IsNews, Tells, part_hearings}
 use Rattle.nr_blockdesk.specs.declared.told.Told.{Told}
 use Rattle.nr_blockdesk.proofs.Hears.{first-kept, first-set, fits-before, part-none, part-some, recorded-more, tells-more}
@@ -26,7 +26,7 @@ loop-m-preserved c =
     let H = part.heard.now.items in
     let V = part.value.now.items in
     let at = part.from + c.loop-m.m in
-    let here : heard_at places c.loop-m.m ≡ heard_as (bit part.heard.now.items (part.from + c.loop-m.m)) (bit part.value.now.items (part.from + c.loop-m.m)) =
+    let here : heard_at places c.loop-m.m ≡ place_heard (bit part.heard.now.items (part.from + c.loop-m.m)) (bit part.value.now.items (part.from + c.loop-m.m)) =
     heard-at H V part.from part.count c.loop-m.m c.loop-m-test.true in
     let m = c.loop-m.m in
     let s : Heardbits = c.loop-m.store in
@@ -39,7 +39,7 @@ loop-m-preserved c =
           let pos : ℕ = w.place-pos.result in
           let v : Bool = w.get-bit.result in
           let told : heard_bit (heard_at places m) ≡ Some v =
-          ap heard_bit here ∙ ap (λ a. heard_bit (heard_as a (bit V at))) (sym c.get.ensures ∙ w.if-get.true) ∙ some-marked (bit V at) ∙ ap Some (sym w.get-bit.ensures) in
+          ap heard_bit here ∙ ap (λ a. heard_bit (place_heard a (bit V at))) (sym c.get.ensures ∙ w.if-get.true) ∙ some-marked (bit V at) ∙ ap Some (sym w.get-bit.ensures) in
           let at : pos ≡ place_of b tx.rv (seat_of tx.qm (length places) m) = w.place-pos.ensures.value ∙ ap (place_of b tx.rv) (w.seat.ensures.value ∙ ap (λ n. seat_of tx.qm n m) (sym (length-heards H V part.from part.count))) in
           let store-is : c.if-get.store ≡ with_hearing s (pos, v) = w.store-is ∙ w.hear.ensures in
           let inside : pos < length s.first = omega (arith, w.place-pos.ensures.sent.coded, inv.news.long, c.requires.sized.stored) in
@@ -80,7 +80,7 @@ loop-m-preserved c =
           }
       | else-get w ↦
           let none : heard_bit (heard_at places m) ≡ None =
-          ap heard_bit here ∙ ap (λ a. heard_bit (heard_as a (bit V at))) (sym c.get.ensures ∙ w.if-get.false) in
+          ap heard_bit here ∙ ap (λ a. heard_bit (place_heard a (bit V at))) (sym c.get.ensures ∙ w.if-get.false) in
           record {
             recorded = λ hs e. w.store-is ∙ inv.recorded hs e ∙ ap (λ l. record_of n (hs ++ l)) (sym (part-none b tx places m none));
             news = subst (λ (t : Told). IsNews s₀ c.if-get.store t.heard.items t.value.items) (sym w.told-is)

@@ -2,7 +2,7 @@ use Rattle.std.proofs.Common.{◌≡◌, ◌+◌, ◌*◌, ◌++◌, min, length
 use Rattle.nr_bitvec.proofs.Lists.{length-low_first}
 use Rattle.nr_bitvec.specs.Bit.{bit}
 use Rattle.nr_bitvec.specs.BitList.{low_first}
-use Rattle.nr_blockdesk.specs.Marks.{heard_as}
+use Rattle.nr_blockdesk.specs.Marks.{place_heard}
 use Rattle.nr_blockdesk.proofs.Marked.{heards-are, heards-more}
 use Rattle.nr_blockdesk.proofs.marks.marks_of.Goals as goal
 
@@ -27,8 +27,8 @@ loop-i-preserved c =
       marks_room = omega (arith, one, c.push_word.ensures.room, inv.marks_room);
       bits_room = omega (arith, two, c.push_word-in-loop-i.ensures.room, inv.bits_room);
       told = λ m below.
-          ap (λ l. heard_as (bit l m) (bit c.push_word-in-loop-i.new.self.items m)) c.push_word.ensures.items
-          ∙ ap (λ l. heard_as (bit (marks ++ low_first wide now) m) (bit l m)) c.push_word-in-loop-i.ensures.items
+          ap (λ l. place_heard (bit l m) (bit c.push_word-in-loop-i.new.self.items m)) c.push_word.ensures.items
+          ∙ ap (λ l. place_heard (bit (marks ++ low_first wide now) m) (bit l m)) c.push_word-in-loop-i.ensures.items
           ∙ heards-more places marks bits (64 * c.loop-i.i) wide now word (inv.marks ∙ start) (inv.bits ∙ start)
           (λ k low. inv.told k (omega (arith, low, start))) c.gather-marks.ensures m (omega (arith, below, next));
     }

@@ -3,7 +3,7 @@ use Rattle.std.specs.List.{range_with_len}
 use Rattle.std.proofs.Math.Nat.{mul-le-mul_right}
 use Rattle.std.proofs.lemmas.List.{append_assoc}
 use Rattle.nr_bitvec.specs.Bit.{bit}
-use Rattle.nr_interleave.specs.Unspreading.{apart, by_rows}
+use Rattle.nr_interleave.specs.Unspreading.{apart, row_by_row}
 use Rattle.nr_interleave.proofs.Unspread.{row-then}
 use Rattle.nr_interleave.proofs.Seats.{whole-is}
 use Rattle.nr_interleave.proofs.rows.by_rows.Goals as goal
@@ -36,7 +36,7 @@ loop-row-preserved g c =
     }
 
 pub returns-clause-items : goal.returns-clause-items
-unfolding by_rows
+unfolding row_by_row
 returns-clause-items g c =
     let columns : ℕ = c.args.count / g.row.QM in
     let f : ℕ → Bool = λ k. bit c.args.bits.now.items (c.args.from + (g.row.QM * (k % columns) + k / columns)) in

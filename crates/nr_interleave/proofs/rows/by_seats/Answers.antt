@@ -3,7 +3,7 @@ use Rattle.std.specs.List.{range_with_len}
 use Rattle.std.proofs.lemmas.List.{append_assoc}
 use Rattle.std.proofs.lemmas.List.FromFn.{map-range_with_len_more}
 use Rattle.nr_bitvec.specs.Bit.{bit}
-use Rattle.nr_interleave.specs.Unspreading.{by_rows}
+use Rattle.nr_interleave.specs.Unspreading.{row_by_row}
 use Rattle.nr_interleave.proofs.Seats.{place-below}
 use Rattle.nr_interleave.proofs.rows.by_seats.Goals as goal
 
@@ -30,7 +30,7 @@ loop-k-preserved c =
     }
 
 pub returns-clause-items : goal.returns-clause-items
-unfolding by_rows
+unfolding row_by_row
 returns-clause-items c =
     let columns : ℕ = c.args.count / c.args.qm in
     let f : ℕ → Bool = λ k. bit c.args.bits.now.items (c.args.from + (c.args.qm * (k % columns) + k / columns)) in
