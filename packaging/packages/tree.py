@@ -10,7 +10,7 @@ import typing
 from packages import staging
 
 NAME = f"linksim-{staging.VERSION}-x86_64-linux"
-ABOUT = ["README.md", "CHANGELOG.md", "VERSION", "docs"]
+ABOUT = ["README.md", "CHANGELOG.md", "CONTRIBUTING.md", "VERSION", "docs"]
 # The folders of the repository's top that documents name, as they are here.
 LINKS = {"tools": "share/linksim/tools", "examples": "share/linksim/examples"}
 
@@ -29,7 +29,9 @@ def stage(top: pathlib.Path) -> None:
     """Puts all files below the folder of the archive."""
     staging.install(top, PREFIX="")
     relocate(top / "lib" / "pkgconfig" / "nr.pc")
-    for name in ABOUT:
+    # The pages lead to those of the crates.
+    readmes = sorted(path.relative_to(staging.ROOT).as_posix() for path in staging.ROOT.glob("crates/*/README.md"))
+    for name in ABOUT + readmes:
         staging.copy(name, top / name)
     staging.copy("c/examples", top / "share" / "nr" / "examples")
     (top / "LICENCE").write_text(staging.LICENCE + "\n")
