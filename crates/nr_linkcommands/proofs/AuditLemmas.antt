@@ -105,6 +105,14 @@ unknown-unfixed link s p of =
     ap (λ (f : ℕ → Bool). filter (λ k. not (f k)) (range_with_len 0 (length p.known))) (same_known link s p of)
     ∙ ap (λ (n : ℕ). filter (λ k. not (fixed link s k)) (range_with_len 0 n)) (of.peeled.known_long ∙ same_size link s p of)
 
+-- a bit is known where the mark says so
+pub known_at_some : (p : Peeling) (k : ℕ) → is_some (known_at p k) ≡ bit p.known k
+known_at_some p k = go (bit p.known k)
+  where
+    go : (b : Bool) → is_some (if b then Some (bit p.bits k) else None) ≡ b
+    go true = refl
+    go false = refl
+
 -- one number more is counted, or is not
 count-more : (test : ℕ → Bool) (n : ℕ) → count_by test (range_with_len 0 (n + 1)) ≡ count_by test (range_with_len 0 n) + cond (test n) 1 0
 count-more test n =
