@@ -125,16 +125,16 @@ class Answers(unittest.TestCase):
         """Bits and fillers at any place, by each base graph and lifting size that a code block has."""
         both, draw = PRACTICE + DRAWN, random.Random(8)
         table, entries = built.table(both), model.tables(both)
-        for graph, columns in model.INFORMATION.items():
+        for graph, sizes in model.GRAPHS.items():
             for z, index in sorted(model.SETS.items()):
                 with self.subTest(graph=graph, z=z):
-                    octets, room = bytes(draw.choices([0, 1, 2], [4, 4, 1], k=columns * z)), built.Room(model.SENT[graph] * z)
+                    octets, room = bytes(draw.choices([0, 1, 2], [4, 4, 1], k=sizes.information * z)), built.Room(sizes.sent * z)
                     small = graph == 2 and z < 4
                     self.assertEqual(built.call("nr_encode", table, graph, z, octets, room), 6 if small else 0)
                     if small:
                         self.assertTrue(room.is_unwritten())
                         continue
-                    word = encoder.codeword(entries[graph], columns, index, z, [octet % 2 for octet in octets])
+                    word = encoder.codeword(entries[graph], sizes.information, index, z, [octet % 2 for octet in octets])
                     word[: len(octets)] = octets
                     self.assertEqual(list(room.octets()), word[2 * z :])
 

@@ -12,7 +12,8 @@ import unittest
 import made
 from placed import Placed
 
-SOURCES = ["Makefile", "VERSION", "CHANGELOG.md", "README.md", "docs", "c", "tools", "share", "examples", "packaging"]
+SOURCES = ["Makefile", "VERSION", "CHANGELOG.md", "CONTRIBUTING.md", "README.md"]
+SOURCES += ["docs", "c", "tools", "share", "examples", "packaging"]
 
 COMPLETIONS = [
     "bash-completion/completions/linksim",
@@ -41,9 +42,9 @@ class Same(made.InFolder):
             else:
                 top.mkdir(exist_ok=True)
                 shutil.copyfile(made.ROOT / name, top / name)
-        for path in (made.PROGRAM, made.ARCHIVE):
+        for path in (made.PROGRAM, made.ARCHIVE, *made.ROOT.glob("crates/*/README.md")):
             to = top / path.relative_to(made.ROOT)
-            to.parent.mkdir(parents=True)
+            to.parent.mkdir(parents=True, exist_ok=True)
             shutil.copy(path, to)
         environment = {**os.environ, "TZ": "Asia/Tokyo", "LC_ALL": "C.UTF-8", "HOME": str(self.folder)}
         subprocess.run(

@@ -66,7 +66,7 @@ CASES = [
 MANY, OCTETS, KDASH, WHOLE = 66, 31_380, 3828, 19_188
 
 
-def each_by_itself(heard, flipped=None):
+def each_by_itself(heard: int, flipped: int | None = None) -> Row:
     """The text of `run` where so many of the 66 code blocks are sent, each by itself and the last one first; and then
     a part of one of them again, with a flip."""
     text, records = [], []
@@ -102,7 +102,7 @@ class LongLinks(Program):
             for command, text in wanted.items():
                 self.check(command, [Row(case.name, text, **files)])
 
-    def test_more_than_64_code_blocks(self):
+    def test_more_than_64_code_blocks(self) -> None:
         """Open until the last one is received, then delivered; a flip of the last or of the first contradicts."""
         rows = [(65, None), (66, None), (66, 65), (66, 0)]
         self.check("run", [each_by_itself(heard, flipped) for heard, flipped in rows])
