@@ -1,7 +1,7 @@
 -- What a round of a HARQ process gives: a transport block is sent once for each attempt, over a link that erases.
 use Rattle.std.specs.Prelude.{ℕ, Bool, nat_le, nat_lt, ◌&&◌, Result, Ok, List, [], ◌∷◌, length, map}
 use Rattle.std.specs.List.{range_with_len, zip}
-use Rattle.nr_graphpick.specs.Refusal.{◌>>=◌}
+use Rattle.nr_refusal.specs.Refusal.{◌>>=◌}
 use Rattle.nr_shifttable.specs.Accepted.{Entries}
 use Rattle.nr_blockdesk.specs.Explains.{Reception, reception_said}
 use Rattle.nr_blockdesk.specs.Link.{Link, link_said}

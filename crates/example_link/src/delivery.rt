@@ -1,7 +1,7 @@
 //! One round of a HARQ process: a transport block, sent as often as there are attempts over a link that erases.
 
 ghost use Rattle.std.specs.Prelude.{◌≡◌, ◌≢◌, ◌<◌, Bool, List, IfOk, length};
-ghost use Rattle.nr_graphpick.specs.Refusal.{Gives};
+ghost use Rattle.nr_refusal.specs.Refusal.{Gives};
 ghost use Rattle.nr_shifttable.specs.Accepted.{IsTable};
 ghost use Rattle.nr_blockdesk.specs.Outcome.{contradiction, delivered};
 ghost use Rattle.nr_blockdesk.specs.ReceiverLaws.{arrived_bit};

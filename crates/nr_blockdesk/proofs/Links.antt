@@ -4,7 +4,7 @@ use Rattle.nr_crcattach.specs.Attachment.{BlocksLengthen, attached, attached_len
 use Rattle.nr_graphpick.specs.declared.Graph.{Graph}
 use Rattle.nr_graphpick.specs.declared.PickFault.{PickFault}
 use Rattle.nr_graphpick.specs.Graph.{picked}
-use Rattle.nr_graphpick.specs.Refusal.{◌>>=◌, with_fault}
+use Rattle.nr_refusal.specs.Refusal.{◌>>=◌, with_fault}
 use Rattle.nr_ldpcenc.specs.Codeword.{CodewordsArePlain}
 use Rattle.nr_ratematch.specs.declared.fault.RmFault.{RmFault}
 use Rattle.nr_ratematch.specs.declared.fault.RmFault.TheVariants.{NoBuffer}

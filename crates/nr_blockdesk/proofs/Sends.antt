@@ -3,7 +3,7 @@ use Rattle.std.proofs.Common.{◌≡◌, ℕ, ◌*◌, ◌%◌, ◌<◌, ◌≤�
 use Rattle.std.proofs.lemmas.Bool.Decides.{nat_tests}
 use Rattle.std.proofs.lemmas.List.FromFn.{get_or-map-range_with_len, length-map-range_with_len}
 use Rattle.nr_graphpick.specs.Graph.{cols_of}
-use Rattle.nr_graphpick.specs.Refusal.{◌>>=◌}
+use Rattle.nr_refusal.specs.Refusal.{◌>>=◌}
 use Rattle.nr_ratematch.specs.Lengths.{IsShared, LengthsAreShared, lengths_said, scheduled}
 use Rattle.nr_ratematch.specs.Selection.{Circular}
 use Rattle.nr_ratematch.specs.declared.fault.RmFault.{RmFault}

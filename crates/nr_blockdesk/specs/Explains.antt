@@ -3,7 +3,7 @@
 use Rattle.std.specs.Prelude.{◌≡◌, ℕ, ◌==◌, Bool, true, not, Result, Ok, List, length, slice_index_or}
 use Rattle.std.specs.List.{list_all, range_with_len}
 use Rattle.nr_bitvec.specs.Bit.{bit}
-use Rattle.nr_graphpick.specs.Refusal.{◌>>=◌}
+use Rattle.nr_refusal.specs.Refusal.{◌>>=◌}
 use Rattle.nr_blockdesk.specs.Link.{Link, demanded}
 use Rattle.nr_blockdesk.specs.Sent.{sent, tx_said_of}
 use Rattle.nr_transmission.specs.declared.fault.DeskFault.{DeskFault}

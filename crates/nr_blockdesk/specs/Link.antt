@@ -4,7 +4,7 @@ use Rattle.std.specs.List.{range_with_len}
 use Rattle.nr_crcattach.specs.Attachment.{attached, attached_length}
 use Rattle.nr_graphpick.specs.declared.Graph.{Graph}
 use Rattle.nr_graphpick.specs.Graph.{picked}
-use Rattle.nr_graphpick.specs.Refusal.{◌>>=◌, with_fault}
+use Rattle.nr_refusal.specs.Refusal.{◌>>=◌, with_fault}
 use Rattle.nr_ldpcenc.specs.Codeword.{IsCodeword, codeword}
 use Rattle.nr_ratematch.specs.Selection.{Circular, IsCircular, buffer_said}
 use Rattle.nr_segment.specs.CodeBlock.{code_bits, numbers}

@@ -3,7 +3,7 @@ use Rattle.std.specs.Prelude.{◌≡◌, ℕ, ◌%◌, ◌<◌, Bool, nat_le, Re
 use Rattle.std.specs.List.{range_with_len}
 use Rattle.nr_bitvec.specs.Bit.{bit}
 use Rattle.nr_cbconcat.specs.Concatenation.{IsOwner, owner_of}
-use Rattle.nr_graphpick.specs.Refusal.{◌>>=◌, with_fault}
+use Rattle.nr_refusal.specs.Refusal.{◌>>=◌, with_fault}
 use Rattle.nr_interleave.specs.Interleaving.{interleaved, seat_of}
 use Rattle.nr_ratematch.specs.Lengths.{IsShared, lengths_said, scheduled}
 use Rattle.nr_ratematch.specs.Selection.{Circular, IsCircular, IsSent, place_of, selected}

@@ -3,7 +3,7 @@
 ghost use Rattle.std.specs.Prelude.{◌≡◌, ℕ, ◌<◌, ◌≤◌, ◌*◌, length, sum, All, IfOk, IfErr, IsErrOf, IsOk, MatchResult, Ok, Err, [], slice_index, slice_index_or};
 ghost use Rattle.nr_crcattach.specs.Attachment.{attached_length};
 ghost use Rattle.nr_graphpick.specs.Graph.{cols_of};
-ghost use Rattle.nr_graphpick.specs.Refusal.{Gives};
+ghost use Rattle.nr_refusal.specs.Refusal.{Gives};
 ghost use Rattle.nr_ldpcenc.specs.Codeword.{IsCodeword};
 ghost use Rattle.nr_ratematch.specs.Lengths.{IsShared};
 ghost use Rattle.nr_ratematch.specs.Selection.{Circular};

@@ -7,7 +7,7 @@ use Rattle.nr_bitvec.specs.Bit.{bit}
 use Rattle.nr_graphpick.specs.Graph.{cols_of, info_cols_of, rows_of}
 use Rattle.nr_graphpick.specs.declared.Graph.{Graph}
 use Rattle.nr_graphpick.specs.declared.Graph.TheVariants.{One, Two}
-use Rattle.nr_graphpick.specs.Refusal.{◌>>=◌, or_fault}
+use Rattle.nr_refusal.specs.Refusal.{◌>>=◌, or_fault}
 use Rattle.nr_lifting.specs.Sizes.{set_index}
 use Rattle.nr_segment.specs.Plan.{Numbers}
 use Rattle.nr_shifttable.specs.Accepted.{Entries, entries_in, has_graph}

@@ -4,7 +4,7 @@ use Rattle.std.specs.Prelude.{IfErr, IsErrOf, slice_get}
 use Rattle.std.proofs.lemmas.List.{length-map, get_or-map}
 use Rattle.std.proofs.lemmas.Option.{slice_get-get_or}
 use Rattle.nr_graphpick.specs.declared.Graph.TheVariants.{One}
-use Rattle.nr_graphpick.specs.Refusal.{with_fault}
+use Rattle.nr_refusal.specs.Refusal.{with_fault}
 use Rattle.nr_shifttable.specs.declared.entry.Item.{Item}
 use Rattle.nr_shifttable.specs.declared.fault.EntriesFault.{EntriesFault}
 use Rattle.nr_shifttable.specs.declared.fault.EntriesFault.TheVariants as kept

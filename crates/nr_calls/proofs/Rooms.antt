@@ -4,7 +4,7 @@ use Rattle.std.proofs.lemmas.Bool.{eqb-true}
 use Rattle.nr_crcattach.specs.Attachment.{attached_length}
 use Rattle.nr_graphpick.specs.Graph.{picked}
 use Rattle.nr_graphpick.specs.declared.Graph.{Graph}
-use Rattle.nr_graphpick.specs.Refusal.{◌>>=◌, with_fault}
+use Rattle.nr_refusal.specs.Refusal.{◌>>=◌, with_fault}
 use Rattle.nr_graphpick.specs.declared.PickFault.{PickFault}
 use Rattle.nr_ratematch.specs.Selection.{Circular, buffer_said}
 use Rattle.nr_ratematch.specs.declared.fault.RmFault.{RmFault}

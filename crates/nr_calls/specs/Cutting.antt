@@ -2,7 +2,7 @@
 use Rattle.std.specs.Prelude.{◌≡◌, ◌⊎◌, ℕ, ◌*◌, ◌==◌, nat_lt, Bool, Result, Ok, Err, List, length}
 use Rattle.nr_bitvec.specs.BitList.{bits_of}
 use Rattle.nr_crcattach.specs.Attachment.{attached}
-use Rattle.nr_graphpick.specs.Refusal.{◌>>=◌}
+use Rattle.nr_refusal.specs.Refusal.{◌>>=◌}
 use Rattle.nr_segment.specs.CodeBlock.{code_bits}
 use Rattle.nr_blockdesk.specs.Link.{demanded}
 use Rattle.nr_calls.specs.Crossing.{AreBits}

@@ -1,6 +1,6 @@
 -- The table of entries that a caller in C keeps (TS 38.212, 5.3.2).
 use Rattle.std.specs.Prelude.{Bool, is_ok, Result, List}
-use Rattle.nr_graphpick.specs.Refusal.{with_fault}
+use Rattle.nr_refusal.specs.Refusal.{with_fault}
 use Rattle.nr_shifttable.specs.declared.entry.KeptEntry.{KeptEntry}
 use Rattle.nr_shifttable.specs.declared.fault.EntriesFault.{EntriesFault}
 use Rattle.nr_shifttable.specs.declared.fault.EntriesFault.TheVariants as kept

@@ -6,7 +6,7 @@ use Rattle.nr_crcattach.specs.Crc.{crc_of}
 use Rattle.nr_crcattach.specs.declared.Poly.{Poly}
 use Rattle.nr_crcattach.specs.declared.Poly.TheVariants as poly
 use Rattle.nr_graphpick.specs.Graph.{picked}
-use Rattle.nr_graphpick.specs.Refusal.{◌>>=◌, or_fault, with_fault}
+use Rattle.nr_refusal.specs.Refusal.{◌>>=◌, or_fault, with_fault}
 use Rattle.nr_graphpick.specs.declared.Graph.{Graph}
 use Rattle.nr_segment.specs.CodeBlock.{numbers}
 use Rattle.nr_segment.specs.Plan.{Numbers, plan_of}

@@ -1,7 +1,7 @@
 -- What sending a transport block answers.
 use Rattle.std.specs.Prelude.{◌≡◌, ◌⊎◌, ℕ, ◌==◌, nat_le, Bool, Result, Ok, Err, List, length}
 use Rattle.nr_bitvec.specs.BitList.{bits_of}
-use Rattle.nr_graphpick.specs.Refusal.{◌>>=◌, with_fault}
+use Rattle.nr_refusal.specs.Refusal.{◌>>=◌, with_fault}
 use Rattle.nr_shifttable.specs.Accepted.{Entries}
 use Rattle.nr_blockdesk.specs.Link.{demanded}
 use Rattle.nr_blockdesk.specs.Sent.{sending_said, sent_said}

@@ -2,7 +2,7 @@
 
 ghost use Rattle.std.specs.Prelude.{◌≡◌, ◌<◌, ◌≤◌, false, Err, length, map, IfOk};
 ghost use Rattle.std.specs.List.{list_all};
-ghost use Rattle.nr_graphpick.specs.Refusal.{Gives};
+ghost use Rattle.nr_refusal.specs.Refusal.{Gives};
 ghost use Rattle.nr_calls.specs.Entries.{are_placed};
 ghost use Rattle.nr_calls.specs.Coding.{AreCoded, Codes, bits_said, coded_by, coded_into_said, coded_octet, coded_of, coded_said, is_digit, is_one};
 

@@ -1,7 +1,7 @@
 //! The entries of a shift table, as a caller keeps them: the table is read from its text once.
 
 ghost use Rattle.std.specs.Prelude.{◌≡◌, false, Err, IfOk};
-ghost use Rattle.nr_graphpick.specs.Refusal.{Gives};
+ghost use Rattle.nr_refusal.specs.Refusal.{Gives};
 ghost use Rattle.nr_shifttable.specs.Accepted.{IsTable};
 ghost use Rattle.nr_calls.specs.Entries.{are_placed, fault_of, table_by};
 

@@ -1,7 +1,7 @@
 //! Receiving a transport block over its transmissions.
 
 ghost use Rattle.std.specs.Prelude.{◌≡◌, ◌++◌, ◌∷◌, [], Err, List, length, map, true, false, IfOk, IsOk};
-ghost use Rattle.nr_graphpick.specs.Refusal.{Gives, with_fault};
+ghost use Rattle.nr_refusal.specs.Refusal.{Gives, with_fault};
 ghost use Rattle.nr_shifttable.specs.Accepted.{IsTable};
 ghost use Rattle.nr_blockdesk.specs.Explains.{Reception, reception, reception_said};
 ghost use Rattle.nr_blockdesk.specs.Heard.{IsRecordOf};

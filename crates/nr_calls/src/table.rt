@@ -1,7 +1,7 @@
 //! Judging the text of a shift table, and reading its entries.
 
 ghost use Rattle.std.specs.Prelude.{◌≡◌, ◌≢◌, ◌<◌, Ok, length};
-ghost use Rattle.nr_graphpick.specs.Refusal.{with_fault};
+ghost use Rattle.nr_refusal.specs.Refusal.{with_fault};
 ghost use Rattle.nr_shifttable.specs.Accepted.{table_said};
 ghost use Rattle.nr_shifttable.specs.Listed.{graph_number, kept_listed};
 ghost use Rattle.nr_calls.specs.Entries.{table_by};

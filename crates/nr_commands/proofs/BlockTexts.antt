@@ -11,7 +11,7 @@ use Rattle.nr_graphpick.specs.Graph.{picked}
 use Rattle.nr_graphpick.specs.declared.Graph.{Graph}
 use Rattle.nr_segment.specs.Plan.{Numbers, plan_of}
 use Rattle.nr_crcattach.specs.Attachment.{attached}
-use Rattle.nr_graphpick.specs.Refusal.{◌>>=◌, with_fault}
+use Rattle.nr_refusal.specs.Refusal.{◌>>=◌, with_fault}
 use Rattle.nr_graphpick.specs.Graph.{digits_of}
 use Rattle.nr_segment.specs.CodeBlock.{code_bits}
 use Rattle.std.specs.Fmt.{decimal}

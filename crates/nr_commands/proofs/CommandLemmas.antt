@@ -1,7 +1,7 @@
 -- What commands answer, step by step.
 use Rattle.std.proofs.Common.{◌≡◌, ◌≢◌, ℕ, ◌⊎◌, inl, inr, Result, Ok, Err, IsOkAnd, IsErr, List, ap, sym, ◌∙◌, refl, subst, Option}
 use Rattle.nr_commands.specs.Command.{Delivers, IsBlockFault, Writes}
-use Rattle.nr_files.specs.Reading.{FailsAs}
+use Rattle.nr_refusal.specs.Refusal.{FailsAs}
 use Rattle.nr_commands.proofs.WrittenLemmas.{writes_refused}
 use Rattle.nr_commands.specs.declared.fault.RunFault.{RunFault}
 use Rattle.nr_commands.specs.declared.fault.RunFault.TheVariants.{Memory, Write}

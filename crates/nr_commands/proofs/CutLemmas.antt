@@ -1,6 +1,6 @@
 -- What `cut` says of a blocks file, step by step.
 use Rattle.std.proofs.Common.{◌≡◌, ◌≢◌, ℕ, ◌⊎◌, inl, inr, Ok, Err, List, ap, refl}
-use Rattle.nr_graphpick.specs.Refusal.{◌>>=◌, with_fault}
+use Rattle.nr_refusal.specs.Refusal.{◌>>=◌, with_fault}
 use Rattle.nr_files.specs.Blocks.{blocks_said}
 use Rattle.nr_commands.specs.CutText.{lines_from, cut_said}
 use Rattle.nr_commands.specs.Faults.{blocks_refusal}

@@ -7,7 +7,7 @@ use Rattle.nr_graphpick.specs.declared.Graph.{Graph}
 use Rattle.nr_segment.specs.Plan.{Numbers, plan_of}
 use Rattle.nr_crcattach.specs.Attachment.{attached}
 use Rattle.nr_segment.specs.CodeBlock.{code_bits}
-use Rattle.nr_graphpick.specs.Refusal.{◌>>=◌, with_fault}
+use Rattle.nr_refusal.specs.Refusal.{◌>>=◌, with_fault}
 use Rattle.nr_files.specs.Blocks.{blocks_said}
 use Rattle.nr_commands.specs.CutLines.{block_line, attached_line, code_line}
 use Rattle.nr_commands.specs.declared.fault.RunFault.{RunFault}

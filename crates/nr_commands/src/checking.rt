@@ -2,7 +2,7 @@
 
 ghost use Rattle.std.specs.Prelude.{◌≡◌, ◌≢◌, ℕ, ◌^◌, ◌<◌, IfSome, IsErr};
 ghost use Rattle.nr_commands.specs.Command.{Delivers, Writes};
-ghost use Rattle.nr_files.specs.Reading.{FailsAs};
+ghost use Rattle.nr_refusal.specs.Refusal.{FailsAs};
 ghost use Rattle.nr_commands.specs.CheckText.{check_said, graph_lines, table_lines};
 
 use crate::check_lines::graph_line;

@@ -3,9 +3,8 @@
 ghost use Rattle.std.specs.Prelude.{◌≡◌, ◌≢◌, ℕ, ◌^◌, ◌<◌, ◌≤◌, All, length, map, IfOk, IfSome, IsErr};
 ghost use Rattle.nr_files.specs.Blocks.{blocks_said, IsBlockLength};
 ghost use Rattle.nr_commands.specs.Command.{Delivers};
-ghost use Rattle.nr_files.specs.Reading.{FailsAs};
+ghost use Rattle.nr_refusal.specs.Refusal.{FailsAs, Gives};
 ghost use Rattle.nr_commands.specs.CutText.{cut_said};
-ghost use Rattle.nr_graphpick.specs.Refusal.{Gives};
 
 use crate::fault::RunFault;
 use crate::sink::Sink;

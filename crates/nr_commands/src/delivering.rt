@@ -1,7 +1,7 @@
 //! A line of a command's text on its way into a Sink.
 
 ghost use Rattle.std.specs.Prelude.{◌≡◌, ℕ, ◌^◌, ◌<◌, IfOk, List, length};
-ghost use Rattle.nr_files.specs.Reading.{FailsAs};
+ghost use Rattle.nr_refusal.specs.Refusal.{FailsAs};
 ghost use Rattle.nr_commands.specs.Command.{Writes};
 
 use crate::fault::RunFault;

@@ -5,9 +5,8 @@ ghost use Rattle.std.specs.Prelude.{◌≡◌, ℕ, ◌≤◌, ◌<◌, ◌+◌,
 ghost use Rattle.nr_graphpick.specs.Graph.{picked};
 ghost use Rattle.nr_segment.specs.CodeBlock.{numbers};
 ghost use Rattle.nr_segment.specs.Plan.{plan_of};
-ghost use Rattle.nr_graphpick.specs.Refusal.{with_fault};
+ghost use Rattle.nr_refusal.specs.Refusal.{with_fault, FailsAs};
 ghost use Rattle.nr_files.specs.Blocks.{IsBlockLength};
-ghost use Rattle.nr_files.specs.Reading.{FailsAs};
 ghost use Rattle.nr_commands.specs.Command.{IsBlockFault, Judges, Writes};
 ghost use Rattle.nr_commands.specs.CutText.{planned_lines, block_lines, lines_from};
 

@@ -4,7 +4,7 @@ use Rattle.std.proofs.lemmas.List.{drop_more, drop_all, append-nil}
 use Rattle.std.proofs.lemmas.Bool.Decides.{nat_tests}
 use Rattle.nr_files.specs.declared.blocks.BlocksFault.{BlocksFault}
 use Rattle.nr_files.specs.declared.blocks.BlocksFault.TheVariants as fault
-use Rattle.nr_graphpick.specs.Refusal.{◌>>=◌}
+use Rattle.nr_refusal.specs.Refusal.{◌>>=◌}
 use Rattle.nr_files.specs.Blocks.{without_last, parts_of, block_said, blocks_from, blocks_said}
 
 -- blocks before those of a result

@@ -3,7 +3,7 @@ use Rattle.std.proofs.Common.{◌≡◌, ◌≢◌, ℕ, inl, inr, Bool, true, f
 use Rattle.std.specs.Prelude.{◌+◌, ◌==◌, ◌%◌, nat_lt, not, length}
 use Rattle.std.specs.List.{list_all}
 use Rattle.std.specs.Char.{is_ascii_hexdigit}
-use Rattle.nr_graphpick.specs.Refusal.{◌>>=◌, Gives}
+use Rattle.nr_refusal.specs.Refusal.{◌>>=◌, Gives}
 use Rattle.nr_files.specs.Blocks.{without_last, parts_of, block_said, blocks_from, blocks_said}
 use Rattle.nr_files.specs.declared.blocks.BlocksFault.{BlocksFault}
 use Rattle.nr_files.specs.declared.blocks.BlocksFault.TheVariants as blocks_fault

@@ -1,6 +1,6 @@
 -- How an answer tells of failures.
 use Rattle.std.proofs.Common.{◌≡◌, ◌≢◌, ℕ, inr, Result, Ok, Err, ap}
-use Rattle.nr_files.specs.Reading.{FailsAs}
+use Rattle.nr_refusal.specs.Refusal.{FailsAs}
 
 -- a call that does not answer the fault that tells of a failure
 pub fails_as-not : {X E : Type 0} (told : E) (r : Result X E) (before after : ℕ) → r ≢ Err told → after ≡ before → FailsAs told r before after

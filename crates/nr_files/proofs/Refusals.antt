@@ -1,6 +1,6 @@
 -- What holds of each answer that steps give, and which fault they never answer.
 use Rattle.std.proofs.Common.{◌≡◌, ◌≢◌, inl, inr, Bool, true, false, cond, Option, Some, None, Result, Ok, Err, IfOk, refl, ap, subst}
-use Rattle.nr_graphpick.specs.Refusal.{◌>>=◌, Gives, or_fault}
+use Rattle.nr_refusal.specs.Refusal.{◌>>=◌, Gives, or_fault}
 
 -- a choice
 pub holds_if : {X E : Type 0} (P : X → Type 0) (b : Bool) (r s : Result X E) → (b ≡ true → IfOk r P) → (b ≡ false → IfOk s P) → IfOk (cond b r s) P

@@ -4,7 +4,7 @@ use Rattle.std.specs.Prelude.{◌==◌, ◌&&◌, bytes_eq, codes, not}
 use Rattle.std.proofs.lemmas.Bool.Decides.{nat_tests}
 use Rattle.std.proofs.lemmas.List.{append-nil}
 use Rattle.std.proofs.lemmas.List.Elements.{All-nil, All-cons}
-use Rattle.nr_graphpick.specs.Refusal.{◌>>=◌, or_fault}
+use Rattle.nr_refusal.specs.Refusal.{◌>>=◌, or_fault}
 use Rattle.csv.specs.Records.{field_at}
 use Rattle.nr_shifttable.specs.Fields.{short_number, stripped}
 use Rattle.nr_shifttable.specs.Records.{Record, records_of}

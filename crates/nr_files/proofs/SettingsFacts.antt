@@ -10,7 +10,7 @@ use Rattle.toml.specs.Data.{Data, string, integer, float, boolean, datetime, arr
 use Rattle.toml.specs.Parse.{parse_document}
 use Rattle.toml.specs.View.{members_view}
 use Rattle.toml.specs.declared.value.Value.{Value}
-use Rattle.nr_graphpick.specs.Refusal.{◌>>=◌, or_fault, Gives}
+use Rattle.nr_refusal.specs.Refusal.{◌>>=◌, or_fault, Gives}
 use Rattle.nr_files.specs.Settings.{all_known, is_known, limit_of, number_in, settings_of, settings_said}
 use Rattle.nr_transmission.specs.declared.settings.Settings.{Settings}
 use Rattle.nr_files.specs.declared.settings.SettingsFault.{SettingsFault}

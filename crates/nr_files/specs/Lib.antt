@@ -4,7 +4,6 @@ pub mod Erasures
 pub mod Furthest
 pub mod Masks
 pub mod PlaceLists
-pub mod Reading
 pub mod Rounds
 pub mod Schedule
 pub mod Settings

@@ -1,6 +1,6 @@
 -- The schedule file: comma-separated records, the first one a header, each other one a transmission.
 use Rattle.std.specs.Prelude.{◌≡◌, ℕ, ◌+◌, ◌-◌, ◌<◌, ◌≤◌, ◌==◌, ◌&&◌, Bool, true, false, not, nat_lt, nat_le, if◌then◌else◌, List, [], ◌∷◌, ◌++◌, length, take, slice_index_or, codes, bytes_eq, All, Option, Some, None, option_and_then, Result, Ok, Err}
-use Rattle.nr_graphpick.specs.Refusal.{◌>>=◌, or_fault}
+use Rattle.nr_refusal.specs.Refusal.{◌>>=◌, or_fault}
 use Rattle.nr_shifttable.specs.Fields.{short_number}
 use Rattle.nr_shifttable.specs.Records.{Record, records_of}
 use Rattle.nr_files.specs.Columns.{field, has_column, is_schedule_header}

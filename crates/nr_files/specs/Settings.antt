@@ -3,7 +3,7 @@ use Rattle.std.specs.Prelude.{ℕ, pos, Bool, true, not, ◌&&◌, ◌||◌, nat
 use Rattle.std.specs.Str.{bytes_eq, is_utf8}
 use Rattle.toml.specs.Data.{Data, integer, Members, no_members, member, get_member}
 use Rattle.toml.specs.Parse.{parse_document}
-use Rattle.nr_graphpick.specs.Refusal.{◌>>=◌, or_fault}
+use Rattle.nr_refusal.specs.Refusal.{◌>>=◌, or_fault}
 use Rattle.nr_transmission.specs.declared.settings.Settings.{Settings}
 use Rattle.nr_files.specs.declared.settings.SettingsFault.{SettingsFault}
 use Rattle.nr_files.specs.declared.settings.SettingsFault.TheVariants as fault

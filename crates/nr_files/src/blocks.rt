@@ -4,8 +4,7 @@ ghost use Rattle.std.specs.Prelude.{◌≡◌, ◌≤◌, ◌<◌, ◌+◌, ◌*
 ghost use Rattle.std.specs.Char.{is_ascii_hexdigit, digit_value};
 ghost use Rattle.std.specs.List.{list_all};
 ghost use Rattle.nr_files.specs.Blocks.{without_last, octets_of_digits, block_said, blocks_said, IsBlockLength};
-ghost use Rattle.nr_files.specs.Reading.{FailsAs};
-ghost use Rattle.nr_graphpick.specs.Refusal.{Gives};
+ghost use Rattle.nr_refusal.specs.Refusal.{FailsAs, Gives};
 
 use nr_shifttable::{ReadFault, Source, read_to_end};
 use std::alloc::{AllocError, Global};

@@ -1,8 +1,7 @@
 -- The one contract of the commands over four files, and what they say by what they work from.
 use Rattle.std.proofs.Common.{◌≡◌, ◌≢◌, ℕ, ◌⊎◌, inl, inr, Option, Result, Ok, Err, List, ap, refl}
-use Rattle.nr_graphpick.specs.Refusal.{◌>>=◌}
+use Rattle.nr_refusal.specs.Refusal.{◌>>=◌, FailsAs}
 use Rattle.nr_blockdesk.specs.Sent.{Sending}
-use Rattle.nr_files.specs.Reading.{FailsAs}
 use Rattle.nr_files.specs.Schedule.{Timetable}
 use Rattle.nr_commands.specs.Command.{Delivers, IsBlockFault, Writes}
 use Rattle.nr_commands.specs.declared.fault.RunFault.{RunFault}

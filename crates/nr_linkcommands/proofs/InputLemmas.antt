@@ -2,7 +2,7 @@
 use Rattle.std.proofs.Common.{◌≡◌, ◌≢◌, ℕ, ◌+◌, ◌<◌, ◌≤◌, ◌⊎◌, inl, inr, Option, None, Some, IfSome, Result, Ok, Err, IsErrOf, IfErr, IsOk, List, [], ◌∷◌, ◌++◌, length, drop, get_or, ap, sym, ◌∙◌, refl, subst, append_assoc}
 use Rattle.std.proofs.lemmas.List.{append-nil, drop_all, drop_more}
 use Rattle.std.proofs.lemmas.Option.{IfSome_then}
-use Rattle.nr_graphpick.specs.Refusal.{◌>>=◌, Gives, with_fault}
+use Rattle.nr_refusal.specs.Refusal.{◌>>=◌, Gives, with_fault}
 use Rattle.nr_shifttable.specs.Accepted.{Entries, table_said}
 use Rattle.nr_shifttable.specs.declared.fault.TableFault.{TableFault}
 use Rattle.nr_shifttable.specs.declared.fault.TableFault.TheVariants as table_fault

@@ -2,7 +2,7 @@
 use Rattle.std.proofs.Common.{◌≡◌, ℕ, Result, Ok, Err, ap, refl, sym}
 use Rattle.nr_crcattach.specs.Attachment.{attached_length}
 use Rattle.nr_graphpick.specs.Graph.{picked}
-use Rattle.nr_graphpick.specs.Refusal.{◌>>=◌, with_fault}
+use Rattle.nr_refusal.specs.Refusal.{◌>>=◌, with_fault}
 use Rattle.nr_shifttable.specs.Accepted.{Entries, has_graph}
 use Rattle.nr_ratematch.specs.Selection.{buffer_said}
 use Rattle.nr_segment.specs.Plan.{plan_of}

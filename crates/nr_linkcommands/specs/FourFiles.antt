@@ -1,9 +1,8 @@
 -- The one contract of the commands over four files, `send`, `run` and `audit`: they differ by what they say.
 use Rattle.std.specs.Prelude.{◌≡◌, ◌≢◌, ℕ, List, Option, Result, Ok, Err, IsErr, IfErr, IfOk}
-use Rattle.nr_graphpick.specs.Refusal.{◌>>=◌}
+use Rattle.nr_refusal.specs.Refusal.{◌>>=◌, FailsAs}
 use Rattle.nr_shifttable.specs.declared.fault.TableFault.TheVariants as table_fault
 use Rattle.nr_blockdesk.specs.Sent.{Sending}
-use Rattle.nr_files.specs.Reading.{FailsAs}
 use Rattle.nr_files.specs.Schedule.{Timetable}
 use Rattle.nr_files.specs.declared.blocks.BlocksFault.TheVariants as blocks_fault
 use Rattle.nr_files.specs.declared.schedule.ScheduleFault.TheVariants as schedule_fault

@@ -1,7 +1,7 @@
 -- What the four files of a command over a schedule say: `send`, and those that follow its schedule.
 use Rattle.std.specs.Prelude.{◌≡◌, ◌≢◌, ℕ, ◌+◌, List, [], ◌∷◌, length, map, Option, IfSome, IsOk, IfOk, Result, Ok, Err}
 use Rattle.nr_bitvec.specs.BitList.{bits_of}
-use Rattle.nr_graphpick.specs.Refusal.{◌>>=◌, with_fault}
+use Rattle.nr_refusal.specs.Refusal.{◌>>=◌, with_fault}
 use Rattle.nr_shifttable.specs.Accepted.{Entries, table_said}
 use Rattle.nr_files.specs.Blocks.{blocks_said}
 use Rattle.nr_files.specs.Schedule.{Timetable, schedule_said, timetable_by}

@@ -5,7 +5,7 @@ ghost use Rattle.nr_linkcommands.specs.FourFiles.{IsOverFourFiles, used};
 ghost use Rattle.nr_linkcommands.specs.AuditText.{audit_lines, audit_of, audit_said, audit_words, text_of_audit};
 ghost use Rattle.nr_linkcommands.specs.RoundTexts.{pieces_joined, round_lines, written};
 ghost use Rattle.nr_commands.specs.Command.{Writes};
-ghost use Rattle.nr_files.specs.Reading.{FailsAs};
+ghost use Rattle.nr_refusal.specs.Refusal.{FailsAs};
 ghost use Rattle.nr_files.specs.Schedule.{HasBlock};
 ghost use Rattle.nr_files.specs.Rounds.{IsOfBlock, round_of};
 ghost use Rattle.nr_linkcommands.specs.AuditLines.{audit_block};

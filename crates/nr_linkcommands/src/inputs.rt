@@ -2,10 +2,9 @@
 //! transport block.
 
 ghost use Rattle.std.specs.Prelude.{◌≡◌, ◌≢◌, ◌^◌, ◌<◌, ◌≤◌, All, length, map, IfOk, IfErr, IfSome, IsErr, Err};
-ghost use Rattle.nr_graphpick.specs.Refusal.{Gives};
+ghost use Rattle.nr_refusal.specs.Refusal.{Gives, FailsAs};
 ghost use Rattle.nr_shifttable.specs.Accepted.{IsTable};
 ghost use Rattle.nr_files.specs.Blocks.{IsBlockLength};
-ghost use Rattle.nr_files.specs.Reading.{FailsAs};
 ghost use Rattle.nr_commands.specs.Command.{IsBlockFault};
 ghost use Rattle.nr_files.specs.Schedule.{HasBlock, IsTimetable, schedule_said, timetable_by};
 ghost use Rattle.nr_linkcommands.specs.Inputs.{AreInputsOf, IsFirst, IsFoundIn, LeavesLater, OfFour, files_said, given_by, sender_said, senders_from};

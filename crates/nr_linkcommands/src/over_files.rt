@@ -3,7 +3,7 @@
 ghost use Rattle.std.specs.Prelude.{ℕ, ◌^◌, ◌<◌, List};
 ghost use Rattle.nr_blockdesk.specs.Sent.{Sending};
 ghost use Rattle.nr_commands.specs.Command.{Writes};
-ghost use Rattle.nr_files.specs.Reading.{FailsAs};
+ghost use Rattle.nr_refusal.specs.Refusal.{FailsAs};
 ghost use Rattle.nr_files.specs.Schedule.{Timetable, timetable_by};
 ghost use Rattle.nr_linkcommands.specs.FourFiles.{IsOverFourFiles, said_over, used};
 

@@ -3,7 +3,7 @@
 ghost use Rattle.std.specs.Prelude.{IfErr, IfOk, Some, length, map, slice_get, slice_index_or, ◌-◌, ◌≡◌, ◌≢◌, ◌≤◌};
 ghost use Rattle.nr_commands.specs.Command.{IsBlockFault};
 ghost use Rattle.nr_files.specs.Schedule.{IsTimetable, timetable_by};
-ghost use Rattle.nr_graphpick.specs.Refusal.{Gives};
+ghost use Rattle.nr_refusal.specs.Refusal.{Gives};
 ghost use Rattle.nr_linkcommands.specs.Inputs.{senders_from};
 ghost use Rattle.nr_linkcommands.specs.Linked.{IsPlaced-prop};
 ghost use Rattle.std.proofs.Props.{props};

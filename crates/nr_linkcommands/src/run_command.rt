@@ -4,7 +4,7 @@ ghost use Rattle.std.specs.Prelude.{All, IfOk, List, [], false, if◌then◌else
 ghost use Rattle.nr_linkcommands.specs.FourFiles.{IsOverFourFiles, used};
 ghost use Rattle.nr_linkcommands.specs.RunText.{no_totals, outcome_lines, run_ends, run_said, text_of_run, totals_from};
 ghost use Rattle.nr_commands.specs.Command.{Writes};
-ghost use Rattle.nr_files.specs.Reading.{FailsAs};
+ghost use Rattle.nr_refusal.specs.Refusal.{FailsAs};
 ghost use Rattle.nr_linkcommands.specs.Ends.{AllHold, KeepsRounds};
 ghost use Rattle.nr_files.specs.declared.schedule.Transmission.{Transmission};
 ghost use Rattle.nr_files.specs.Rounds.{ended_rounds};

@@ -4,7 +4,7 @@
 ghost use Rattle.std.specs.Prelude.{All, List, OnOk, [], ◌∷◌, ◌++◌, false, if◌then◌else◌, length, ℕ, ◌<◌, ◌^◌, ◌≡◌, ◌≤◌};
 ghost use Rattle.nr_blockdesk.specs.Sent.{Sending};
 ghost use Rattle.nr_commands.specs.Command.{Writes};
-ghost use Rattle.nr_files.specs.Reading.{FailsAs};
+ghost use Rattle.nr_refusal.specs.Refusal.{FailsAs};
 ghost use Rattle.nr_files.specs.Rounds.{all_rounds, continued, ended_by, ended_rounds, round_of};
 ghost use Rattle.nr_files.specs.Schedule.{HasBlock};
 ghost use Rattle.nr_files.specs.declared.schedule.Transmission.{Transmission};

@@ -5,7 +5,7 @@ ghost use Rattle.nr_linkcommands.specs.FourFiles.{IsOverFourFiles, used};
 ghost use Rattle.nr_linkcommands.specs.SendLines.{answer_line};
 ghost use Rattle.nr_linkcommands.specs.SendText.{send_said, text_of_send, transmission_line};
 ghost use Rattle.nr_commands.specs.Command.{Writes};
-ghost use Rattle.nr_files.specs.Reading.{FailsAs};
+ghost use Rattle.nr_refusal.specs.Refusal.{FailsAs};
 ghost use Rattle.nr_files.specs.Schedule.{HasBlock};
 ghost use Rattle.nr_blockdesk.specs.Sent.{sent_said};
 

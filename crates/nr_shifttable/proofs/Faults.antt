@@ -8,7 +8,7 @@ use Rattle.std.proofs.lemmas.List.Elements.{All-weaker}
 use Rattle.nr_graphpick.specs.declared.Graph.{Graph}
 use Rattle.nr_graphpick.specs.declared.Graph.TheVariants.{One, Two}
 use Rattle.nr_graphpick.specs.Graph.{rows_of, info_cols_of}
-use Rattle.nr_graphpick.specs.Refusal.{◌>>=◌}
+use Rattle.nr_refusal.specs.Refusal.{◌>>=◌}
 use Rattle.nr_shifttable.specs.declared.entry.Entry.{Entry}
 use Rattle.nr_shifttable.specs.declared.fault.TableFault.{TableFault}
 use Rattle.nr_shifttable.specs.declared.fault.TableFault.TheVariants.{Core, Extension, MissingRow, Empty}

@@ -12,7 +12,7 @@ use Rattle.nr_graphpick.specs.declared.Graph.{Graph}
 use Rattle.nr_shifttable.specs.Fields.{numeral, short_number, stripped}
 use Rattle.nr_shifttable.specs.Items.{Apart, IsInside, graph_of, has_place, is_header, item_in, item_of, item_of_numbers, items_from, short_numbers, same_place, with_item}
 use Rattle.nr_shifttable.specs.Records.{Record}
-use Rattle.nr_graphpick.specs.Refusal.{◌>>=◌, Gives, or_fault}
+use Rattle.nr_refusal.specs.Refusal.{◌>>=◌, Gives, or_fault}
 use Rattle.nr_shifttable.proofs.RecordFacts.{some-same}
 use Rattle.nr_shifttable.specs.declared.entry.Item.{Item}
 use Rattle.nr_shifttable.specs.declared.fault.TableFault.{TableFault}

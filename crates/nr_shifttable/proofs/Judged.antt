@@ -9,7 +9,7 @@ use Rattle.nr_shifttable.specs.declared.entry.Entry.{Entry}
 use Rattle.nr_shifttable.specs.declared.entry.Item.{Item}
 use Rattle.nr_shifttable.specs.declared.fault.TableFault.{TableFault}
 use Rattle.nr_shifttable.specs.declared.fault.TableFault.TheVariants as fault
-use Rattle.nr_graphpick.specs.Refusal.{◌>>=◌, or_fault, Gives}
+use Rattle.nr_refusal.specs.Refusal.{◌>>=◌, or_fault, Gives}
 use Rattle.nr_shifttable.specs.Records.{Record}
 use Rattle.nr_shifttable.specs.Items.{is_header, short_numbers, item_of_numbers, has_place, item_of, with_item, items_from}
 use Rattle.nr_shifttable.specs.Accepted.{Entries, core_ok, extension_ok, rows_present, graph_checked, accepted, table_said}

@@ -19,7 +19,7 @@ use Rattle.nr_shifttable.specs.Accepted.{Entries, entry_place, with_entry, entri
 use Rattle.nr_shifttable.specs.Items.{graph_eq}
 use Rattle.nr_shifttable.specs.Listed.{item_key, is_of_graph, graph_number, kept_of, names_graph, item_kept, is_placed, places_from, places_said, entries_said, item_in_graph, items_listed, kept_listed}
 use Rattle.nr_shifttable.specs.Orders.{key_of}
-use Rattle.nr_graphpick.specs.Refusal.{◌>>=◌}
+use Rattle.nr_refusal.specs.Refusal.{◌>>=◌}
 use Rattle.nr_shifttable.proofs.ItemLaws.{both-true}
 use Rattle.nr_shifttable.proofs.Slices.{filter_within}
 

@@ -12,7 +12,7 @@ use Rattle.nr_graphpick.specs.Graph.{rows_of, info_cols_of}
 use Rattle.nr_shifttable.specs.declared.entry.Entry.{Entry}
 use Rattle.nr_shifttable.specs.declared.fault.TableFault.{TableFault}
 use Rattle.nr_shifttable.specs.declared.fault.TableFault.TheVariants.{Core, Extension, MissingRow, Empty}
-use Rattle.nr_graphpick.specs.Refusal.{◌>>=◌}
+use Rattle.nr_refusal.specs.Refusal.{◌>>=◌}
 use Rattle.nr_shifttable.specs.Accepted.{Entries, entry_place, row_of, tail, zero_at, lone_zero, zero_pair, two_agree, each_below, three_agree, rows_agree, first_column_ok, diagonals_ok, core_ok, lacks_row, own_column_ok, extension_ok, is_present, rows_present, graph_checked, accepted, IsAcceptedTable, Ascending}
 use Rattle.nr_shifttable.specs.Faults.{HasCoreRows}
 use Rattle.nr_shifttable.specs.Tails.{value_in, tail_of, HasMiddle, HasShape, AcceptedHasShape}

@@ -9,7 +9,7 @@ use Rattle.std.proofs.lemmas.List.Elements.{All-cons, All-head, All-nil, All-tai
 use Rattle.nr_shifttable.specs.Items.{Apart, has_place, is_header, item_of, item_of_numbers, items_from, same_place, short_numbers, with_item}
 use Rattle.nr_shifttable.specs.Records.{Record}
 use Rattle.nr_shifttable.specs.Written.{IsWritten, ItemsAreWritten, item_written, without_header}
-use Rattle.nr_graphpick.specs.Refusal.{◌>>=◌, or_fault}
+use Rattle.nr_refusal.specs.Refusal.{◌>>=◌, or_fault}
 use Rattle.nr_shifttable.specs.declared.entry.Item.{Item}
 use Rattle.nr_shifttable.specs.declared.fault.TableFault.{TableFault}
 use Rattle.nr_shifttable.proofs.ItemLaws.{bind-ok, if-ok, items-apart, ok-same, or-ok}

@@ -12,7 +12,7 @@ use Rattle.nr_shifttable.specs.declared.fault.TableFault.{TableFault}
 use Rattle.nr_shifttable.specs.declared.fault.TableFault.TheVariants.{Read, Core, Extension, MissingRow, Empty, TooLong, Memory}
 use Rattle.nr_shifttable.specs.Items.{graph_eq, IsInside, items_from, items_said}
 use Rattle.nr_shifttable.specs.Records.{Record}
-use Rattle.nr_graphpick.specs.Refusal.{◌>>=◌, Gives}
+use Rattle.nr_refusal.specs.Refusal.{◌>>=◌, Gives}
 
 -- the entries of each base graph, in ascending order of their places
 pub record Entries : Type 0 where

@@ -6,7 +6,7 @@ pub mod Accepted
 pub mod Orders
 pub mod Tails
 pub use Rattle.nr_graphpick.specs.Graph
-pub use Rattle.nr_graphpick.specs.Refusal
+pub use Rattle.nr_refusal.specs.Refusal
 pub mod CoreRows
 pub mod Written
 pub mod Faults

@@ -6,7 +6,7 @@ ghost use Rattle.csv.specs.Records.{fields_of};
 ghost use Rattle.nr_shifttable.specs.Items.{Apart, IsInside, has_place, is_header, item_of, item_of_numbers, items_said, short_numbers, short_values, same_place, with_item};
 ghost use Rattle.nr_shifttable.specs.Orders.{AreBefore, key_of};
 ghost use Rattle.nr_shifttable.specs.Records.{records_of};
-ghost use Rattle.nr_graphpick.specs.Refusal.{Gives};
+ghost use Rattle.nr_refusal.specs.Refusal.{Gives};
 
 use crate::entry::{Entry, Item};
 use crate::fault::TableFault;

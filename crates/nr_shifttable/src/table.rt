@@ -6,7 +6,7 @@ ghost use Rattle.nr_shifttable.specs.Items.{Apart, IsInside};
 ghost use Rattle.nr_shifttable.specs.Listed.{entries_said, item_kept, items_listed, kept_listed, places_said};
 ghost use Rattle.nr_shifttable.specs.Source.{KeepsCount, TellsFailure};
 ghost use Rattle.nr_graphpick.specs.declared.Graph.TheVariants.{One, Two};
-ghost use Rattle.nr_graphpick.specs.Refusal.{Gives};
+ghost use Rattle.nr_refusal.specs.Refusal.{Gives};
 
 use crate::accept::check;
 use crate::entry::{Entry, Item, KeptEntry};

@@ -3,7 +3,7 @@
 
 ghost use Rattle.std.specs.Prelude.{All, IfOk, false, if◌then◌else◌, length, replicate, ℕ, ◌+◌, ◌<◌, ◌^◌, ◌≡◌};
 ghost use Rattle.nr_commands.specs.Command.{Writes};
-ghost use Rattle.nr_files.specs.Reading.{FailsAs};
+ghost use Rattle.nr_refusal.specs.Refusal.{FailsAs};
 ghost use Rattle.nr_files.specs.Rounds.{round_of};
 ghost use Rattle.nr_files.specs.Schedule.{HasBlock};
 ghost use Rattle.nr_linkcommands.specs.Ends.{HoldsRound, IsWithin, KeepsRounds, empty_slot, goes_on};

@@ -2,7 +2,7 @@
 
 ghost use Rattle.std.specs.Prelude.{List, OnOk, ◌++◌, ◌+◌, ◌-◌, ◌<◌, ◌^◌, ◌≡◌};
 ghost use Rattle.nr_commands.specs.Command.{Writes};
-ghost use Rattle.nr_files.specs.Reading.{FailsAs};
+ghost use Rattle.nr_refusal.specs.Refusal.{FailsAs};
 ghost use Rattle.nr_linkcommands.specs.Ends.{HasReceived, HoldsState, IsOver};
 ghost use Rattle.nr_linkcommands.specs.RunLines.{left_lines};
 ghost use Rattle.nr_linkcommands.specs.RunText.{lines_of, received_of};

@@ -1,5 +1,5 @@
--- Calls that may be refused: what is said step by step, and what a call that may want memory answers.
-use Rattle.std.specs.Prelude.{◌≡◌, ◌⊎◌, Option, Some, None, Result, Ok, Err}
+-- Calls that may be refused: what is said of them step by step, and what a call that may be out of memory returns.
+use Rattle.std.specs.Prelude.{◌≡◌, ◌≢◌, ℕ, ◌+◌, ◌⊎◌, Option, Some, None, Result, Ok, Err}
 
 -- a step, and the next one where it is not refused
 infixl 10 ◌>>=◌
@@ -17,8 +17,14 @@ abbrev pub with_fault : {X E F : Type 0} → (E → F) → Result X E → Result
 with_fault fault (Ok x) = Ok x
 with_fault fault (Err e) = Err (fault e)
 
--- A call's answer, seen by view, is what is said of its input, unless memory ran out. The first argument is the
+-- A call's result, seen by view, is what is said of its input, unless it is out of memory. The first argument is the
 -- fault that tells so.
 abbrev pub Gives : {X Y E : Type 0} → E → (X → Y) → Result X E → Result Y E → Type 0
 Gives memory view (Ok x) said = said ≡ Ok (view x)
 Gives memory view (Err e) said = (e ≡ memory) ⊎ (said ≡ Err e)
+
+-- The count of failures of a Source or a Sink, before and after a call: it rose by one where the call returns the
+-- fault that tells of it, and stayed where the call returns anything else.
+abbrev pub FailsAs : {X E : Type 0} → E → Result X E → ℕ → ℕ → Type 0
+FailsAs told (Ok done) old new = new ≡ old
+FailsAs told (Err e) old new = ((e ≡ told) × (new ≡ old + 1)) ⊎ ((e ≢ told) × (new ≡ old))
