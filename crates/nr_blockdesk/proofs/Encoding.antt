@@ -16,15 +16,10 @@ use Rattle.nr_segment.specs.CodeBlock.{code_bits, code_block, part_of, share, sh
 use Rattle.nr_segment.specs.Plan.{Numbers}
 use Rattle.nr_blockdesk.specs.Receiving.{IsRead, known_bit}
 
-pub length-high_first : (n v : ℕ) → length (high_first n v) ≡ n
+length-high_first : (n v : ℕ) → length (high_first n v) ≡ n
 unfolding high_first
 length-high_first zero v = refl
 length-high_first (suc n) v = ap suc (length-high_first n v)
-
--- the highest of suc n bits stands before the others
-pub high_first-next : (n v : ℕ) (bits : List Bool) → (bits ++ (bit_at v n == 1) ∷ []) ++ high_first n v ≡ bits ++ high_first (suc n) v
-unfolding high_first
-high_first-next n v bits = append_assoc bits ((bit_at v n == 1) ∷ []) (high_first n v)
 
 bit-high_first : (n v k : ℕ) → k < n → bit (high_first n v) k ≡ (bit_at v (n - 1 - k) == 1)
 unfolding high_first

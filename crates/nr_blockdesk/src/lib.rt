@@ -6,9 +6,9 @@
 //! Stands on every layer below it, with `arrayvec` for the lengths.
 #![tactic(auto)]
 
-mod again;
 mod candidate;
 mod deposit;
+mod encoder;
 mod heard;
 mod hearing;
 mod laws;

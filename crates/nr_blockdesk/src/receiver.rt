@@ -16,8 +16,8 @@ ghost use Rattle.nr_blockdesk.specs.Receiving.{AreWords, IsDecided, RefusesAs, p
 
 mod taking;
 
-use crate::again::{attach_in_room, explains};
 use crate::candidate::{Standing, all_known, candidate, copy_bits};
+use crate::encoder::explains;
 use crate::heard::Heard;
 use crate::hearing::judge_heard;
 use crate::laws::words_are_plain;
@@ -27,7 +27,7 @@ use crate::outcome::Outcome;
 use crate::receiver_laws::explains_by_record;
 use crate::told::Told;
 use nr_bitvec::Bits;
-use nr_crcattach::attachment_lengthens;
+use nr_crcattach::{attach_into, attachment_lengthens};
 use nr_harqbuf::Store;
 use nr_ldpcenc::Word;
 use nr_peel::Peeler;
@@ -245,7 +245,7 @@ impl<'t> Receiver<'t> {
         words_are_plain();
         plans_are_sound();
         let block = candidate(&self.plan, &self.peelers, list);
-        attach_in_room(&block, &mut self.block);
+        attach_into(&block, &mut self.block);
         if explains(
             self.table,
             &self.plan,

@@ -1,6 +1,6 @@
 //! The sender of one transport block.
 
-ghost use Rattle.std.specs.Prelude.{◌≡◌, ℕ, ◌<◌, ◌≤◌, ◌*◌, length, sum, All, IfOk, IfErr, IsErrOf, IsOk, MatchResult, Ok, Err, [], slice_index, slice_index_or};
+ghost use Rattle.std.specs.Prelude.{◌≡◌, ℕ, ◌<◌, ◌≤◌, ◌*◌, length, sum, All, IfOk, IfErr, IsErrOf, IsOk, IsTrue, MatchResult, Ok, Err, [], slice_index, slice_index_or};
 ghost use Rattle.nr_crcattach.specs.Attachment.{attached_length};
 ghost use Rattle.nr_graphpick.specs.Graph.{cols_of};
 ghost use Rattle.nr_refusal.specs.Refusal.{Gives};
@@ -8,10 +8,12 @@ ghost use Rattle.nr_ldpcenc.specs.Codeword.{IsCodeword};
 ghost use Rattle.nr_ratematch.specs.Lengths.{IsShared};
 ghost use Rattle.nr_ratematch.specs.Selection.{Circular};
 ghost use Rattle.nr_segment.specs.CodeBlock.{numbers};
+ghost use Rattle.nr_shifttable.specs.Accepted.{has_graph};
 ghost use Rattle.nr_blockdesk.specs.Heard.{IsRecordOf};
 ghost use Rattle.nr_blockdesk.specs.Link.{IsLink, code_bits_of, link_of, link_said, word, words_of};
 ghost use Rattle.nr_blockdesk.specs.Sent.{matching_of, sending_said, sent_of, sent_said, tx_said, tx_said_of};
 
+use crate::encoder::encode_into;
 use crate::laws::words_are_plain;
 use crate::link::agree;
 use crate::receiver::Receiver;
@@ -19,9 +21,9 @@ use arrayvec::ArrayVec;
 use nr_bitvec::Bits;
 use nr_crcattach::{attach, attachment_lengthens};
 use nr_interleave::spread_onto;
-use nr_ldpcenc::{Word, encode};
+use nr_ldpcenc::Word;
 use nr_ratematch::{Buffer, lengths, select_onto};
-use nr_segment::{Plan, code_blocks_are_long, cut, plans_are_sound};
+use nr_segment::{Plan, plans_are_sound};
 use nr_shifttable::Table;
 use nr_transmission::{DeskFault, Settings, Tx};
 use std::alloc::{AllocError, Global};
@@ -164,20 +166,18 @@ impl<'t> Sender<'t> {
 
 // The codewords of a transport block.
 fn words_of(alloc: Global, table: &Table, plan: &Plan, block: &Bits) -> Result<Vec<Word>, DeskFault>
+    requires graph { IsTrue (has_graph plan.now.graph table.now) }
     requires whole { plan.now.b ≡ attached_length (length block.now.items) }
     ensures words { IfOk result (λ words. (a : ℕ) (buffer : Circular)
         → words.items ≡ words_of (link_of table.now plan.now a buffer) block.now.items) }
     ensures err { IfErr result (λ e. e ≡ DeskFault.Memory) }
 {
     attachment_lengthens();
-    code_blocks_are_long();
-    let bits = attach(alloc, block)?;
+    let attached = attach(alloc, block)?;
     let mut words = Vec::with_capacity(alloc, plan.c as usize)?;
     for r in 0..plan.c {
-        let code = cut(alloc, plan, &bits, r)?;
-        let Ok(word) = encode(alloc, table, plan, &code) else {
-            return Err(DeskFault::Memory);
-        };
+        let mut word = Word::new(alloc, plan)?;
+        encode_into(table, plan, &attached, r, &mut word);
         words.push_reserved(word);
     }
     Ok(words)

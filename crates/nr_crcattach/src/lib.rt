@@ -145,6 +145,18 @@ pub fn attach(alloc: Global, block: &Bits) -> Result<Bits, AllocError>
     followed_by_check(alloc, Poly::of_block(block.len()), block)
 }
 
+/// Puts a transport block followed by its parity bits, as `attach` gives them, in the place of a
+/// list's bits (TS 38.212, 6.2.1 and 7.2.1). The list has the room for all of them, and keeps what
+/// room it has. Takes no memory.
+pub fn attach_into(block: &Bits, list: &mut Bits)
+    requires room { length (attached block.now.items) ≤ length list.old.items + list.old.room }
+    ensures items { list.new.items ≡ attached block.now.items }
+    ensures room { length list.old.items + list.old.room
+        ≤ length list.new.items + list.new.room }
+{
+    put_with_check(Poly::of_block(block.len()), block, list);
+}
+
 /// The number of bits that a transport block of `a` bits has with its parity bits, which is B: `a`
 /// and 24 above 3824, else `a` and 16 (TS 38.212, 6.2.1 and 7.2.1).
 pub fn attached_len(a: u32) -> u32
@@ -167,19 +179,31 @@ pub fn attach_code(alloc: Global, bits: &Bits) -> Result<Bits, AllocError>
     followed_by_check(alloc, Poly::B24, bits)
 }
 
-// The bits followed by their parity bits, the highest first. The room for all of them is asked for
-// once.
+// The bits followed by their parity bits. The room for all of them is asked for once.
 fn followed_by_check(alloc: Global, poly: Poly, bits: &Bits) -> Result<Bits, AllocError>
     requires { length bits.now.items + 24 ≤ 2 ^ 24 }
     ensures { IfOk result (λ b. b.items ≡ with_check poly bits.now.items) }
 {
-    let check = crc(poly, bits);
     let mut checked = Bits::with_room(alloc, bits.len() as u32 + poly.degree())?;
-    checked.extend(bits)?;
-    for place in (0..poly.degree()).rev() {
-        checked.push(check >> place & 1 == 1)?;
-    }
+    put_with_check(poly, bits, &mut checked);
     Ok(checked)
+}
+
+// Puts bits followed by their parity bits, the highest first, in the place of a list's, in room that
+// it has.
+fn put_with_check(poly: Poly, bits: &Bits, list: &mut Bits)
+    requires room { length (with_check poly bits.now.items)
+        ≤ length list.old.items + list.old.room }
+    ensures items { list.new.items ≡ with_check poly bits.now.items }
+    ensures room { length list.old.items + list.old.room
+        ≤ length list.new.items + list.new.room }
+{
+    let check = crc(poly, bits);
+    list.clear();
+    list.extend_range(bits, 0, bits.len());
+    for place in (0..poly.degree()).rev() {
+        list.push_in_room(check >> place & 1 == 1);
+    }
 }
 
 /// The law of attachment: every list followed by its parity bits leaves remainder 0 by their

@@ -18,8 +18,8 @@ candidate-block-requires-clause-sized c = λ r d block.
     subst (λ (ps : List Peeling). s.plan.kdash ≤ (checks_for (get_or ps r d)).size) (sym c.deref.ensures.value)
     (wide-peelers c.plans_are_sound.ensures link s.stores.items s.peelers.items inv.is_link inv.desk r d block)
 
-pub attach_in_room-requires : goal.attach_in_room-requires
-attach_in_room-requires c =
+pub attach_into-requires : goal.attach_into-requires
+attach_into-requires c =
     let inv = c.self.invariant in
     let whole : length c.candidate-block.result.items ≡ c.self.inside.a =
     c.candidate-block.ensures.long ∙ c.requires.long ∙ sym (ap (λ (v : Receiving). v.link.a) c.self.view_is) in
@@ -31,7 +31,7 @@ pub explains-requires-clause-whole : goal.explains-requires-clause-whole
 explains-requires-clause-whole c =
     let whole : length c.candidate-block.result.items ≡ c.self.inside.a =
     c.candidate-block.ensures.long ∙ c.requires.long ∙ sym (ap (λ (v : Receiving). v.link.a) c.self.view_is) in
-    ap length c.attach_in_room.ensures.items
+    ap length c.attach_into.ensures.items
     ∙ c.attachment_lengthens.ensures.block c.candidate-block.result.items
     ∙ ap attached_length whole
     ∙ sym c.self.invariant.whole
@@ -51,7 +51,7 @@ invariant_of-self c =
     (λ i low. subst (λ (ps : List Peeling). IsRead link.plan ps bits i) c.deref.ensures.value
     (c.candidate-block.ensures.read i (subst (λ n. i < n) (sym (sym c.candidate-block.ensures.long ∙ whole)) low))) in
     let by : ExplainedBy link s.stores.items bits =
-    explained-by link s.stores.items c.deref-2.result.now c.attach_in_room.new.list.items bits c.deref-2.ensures.value c.attach_in_room.ensures.items
+    explained-by link s.stores.items c.deref-2.result.now c.attach_into.new.list.items bits c.deref-2.ensures.value c.attach_into.ensures.items
     (c.explains.ensures.fits c.if-explains.true) in
     let long : length W ≡ vec_len s.words = omega (arith, c.explains.ensures.words.many, inv.sized.many) in
     let kept : take (vec_len s.words) (W ++ drop (length W) s.words.items) ≡ W = written (vec_len s.words) W (drop (length W) s.words.items) long in
@@ -59,10 +59,10 @@ invariant_of-self c =
       is_link = inv.is_link;
       whole = inv.whole;
       desk = inv.desk;
-      room = omega (arith, inv.room, c.attach_in_room.ensures.room);
+      room = omega (arith, inv.room, c.attach_into.ensures.room);
       sized = subst (AreWords s.plan.c (word_size link.graph link.plan)) (sym kept) c.explains.ensures.words;
-      stands = subst (IsExplained link s.stores.items c.attach_in_room.new.list.items) (sym kept)
-          (kept-read link s.stores.items c.attach_in_room.new.list.items bits W c.attach_in_room.ensures.items whole by only
+      stands = subst (IsExplained link s.stores.items c.attach_into.new.list.items) (sym kept)
+          (kept-read link s.stores.items c.attach_into.new.list.items bits W c.attach_into.ensures.items whole by only
           (c.explains.ensures.encoded c.if-explains.true));
       untold = inv.untold;
     }
@@ -87,10 +87,10 @@ invariant_of-self-else-explains c =
       is_link = inv.is_link;
       whole = inv.whole;
       desk = inv.desk;
-      room = omega (arith, inv.room, c.attach_in_room.ensures.room);
+      room = omega (arith, inv.room, c.attach_into.ensures.room);
       sized = subst (AreWords s.plan.c (word_size link.graph link.plan)) (sym kept) c.explains.ensures.words;
       stands = λ y long-y by. c.explains.ensures.misfits c.if-explains.false
-          (explained-to link s.stores.items c.deref-2.result.now c.attach_in_room.new.list.items bits c.deref-2.ensures.value c.attach_in_room.ensures.items
+          (explained-to link s.stores.items c.deref-2.result.now c.attach_into.new.list.items bits c.deref-2.ensures.value c.attach_into.ensures.items
           (subst (ExplainedBy link s.stores.items) (only y long-y by) by));
       untold = inv.untold;
     }
@@ -103,7 +103,7 @@ returns-then-explains-clause-decided c =
     rw (← c.self.view_is) (
       ap (λ (v : Receiving). all_fixed v.link v.heard) c.self.view_is ∙ c.requires.all,
       c.candidate-block.ensures.long ∙ c.requires.long ∙ sym (ap (λ (v : Receiving). v.link.a) c.self.view_is),
-      explained-by link s.stores.items c.deref-2.result.now c.attach_in_room.new.list.items bits c.deref-2.ensures.value c.attach_in_room.ensures.items
+      explained-by link s.stores.items c.deref-2.result.now c.attach_into.new.list.items bits c.deref-2.ensures.value c.attach_into.ensures.items
           (c.explains.ensures.fits c.if-explains.true),
     )
 
@@ -123,6 +123,6 @@ returns-else-explains-clause-decided c =
     rw (← c.self.view_is) (
       all,
       λ y long-y by. c.explains.ensures.misfits c.if-explains.false
-          (explained-to link s.stores.items c.deref-2.result.now c.attach_in_room.new.list.items bits c.deref-2.ensures.value c.attach_in_room.ensures.items
+          (explained-to link s.stores.items c.deref-2.result.now c.attach_into.new.list.items bits c.deref-2.ensures.value c.attach_into.ensures.items
           (subst (ExplainedBy link s.stores.items) (only y long-y by) by)),
     )

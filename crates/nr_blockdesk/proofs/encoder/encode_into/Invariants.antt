@@ -3,16 +3,16 @@ use Rattle.std.proofs.Common.{◌≡◌, ℕ, ◌*◌, ◌<◌, drop, length, mi
 use Rattle.nr_bitvec.specs.Bit.{bit}
 use Rattle.nr_segment.specs.Plan.{word_size}
 use Rattle.nr_segment.specs.CodeBlock.{code_block, numbers}
-use Rattle.nr_blockdesk.proofs.again.encode_in.Given as goal
+use Rattle.nr_blockdesk.proofs.encoder.encode_into.Given as goal
 
 abbrev pub invariant-loop-i : goal.invariant-loop-i
 invariant-loop-i l = record {
   long : length l.word ≡ word_size l.plan.graph (numbers l.plan);
-  same : (q : ℕ) → q < min (64 * l.i) l.share → bit l.word q ≡ bit (drop l.start l.list.items) q;
+  same : (q : ℕ) → q < min (64 * l.i) l.share → bit l.word q ≡ bit (drop l.start l.attached.items) q;
 }
 
 abbrev pub invariant-loop-k : goal.invariant-loop-k
 invariant-loop-k l = record {
   long : length l.word ≡ word_size l.plan.graph (numbers l.plan);
-  same : (q : ℕ) → q < l.k → bit l.word q ≡ bit (code_block (numbers l.plan) l.list.items l.r) q;
+  same : (q : ℕ) → q < l.k → bit l.word q ≡ bit (code_block (numbers l.plan) l.attached.items l.r) q;
 }

@@ -1,8 +1,7 @@
-//! Encoding a transport block again, in memory that is there, and comparing it with what was heard.
+//! Encoding a transport block in memory that is there, and comparing its codewords with what was received.
 
 ghost use Rattle.std.specs.Prelude.{◌≡◌, ℕ, true, false, ◌+◌, ◌-◌, ◌^◌, ◌<◌, ◌≤◌, Bool, IsTrue, List, length};
 ghost use Rattle.nr_bitvec.specs.Bit.{bit};
-ghost use Rattle.nr_crcattach.specs.Attachment.{attached};
 ghost use Rattle.nr_crcattach.specs.Crc.{crc_of};
 ghost use Rattle.nr_crcattach.specs.declared.Poly.TheVariants.{B24};
 ghost use Rattle.nr_harqbuf.specs.Record.{Heardbits};
@@ -13,28 +12,11 @@ ghost use Rattle.nr_blockdesk.specs.Heard.{heard_of};
 ghost use Rattle.nr_blockdesk.specs.Receiving.{AreWords, Fits, word_at};
 
 use nr_bitvec::Bits;
-use nr_crcattach::{Poly, attachment_lengthens, crc, crc_range};
+use nr_crcattach::{Poly, crc_range};
 use nr_harqbuf::Store;
 use nr_ldpcenc::{Word, fill};
 use nr_segment::{Plan, code_blocks_are_long, part};
 use nr_shifttable::Table;
-
-// Puts a transport block with its CRC into a list that has the room.
-pub(crate) fn attach_in_room(block: &Bits, list: &mut Bits)
-    requires room { length (attached block.now.items) ≤ length list.old.items + list.old.room }
-    ensures items { list.new.items ≡ attached block.now.items }
-    ensures room { length list.old.items + list.old.room
-        ≤ length list.new.items + list.new.room }
-{
-    attachment_lengthens();
-    let poly = Poly::of_block(block.len());
-    let check = crc(poly, block);
-    list.clear();
-    list.extend_range(block, 0, block.len());
-    for place in (0..poly.degree()).rev() {
-        list.push_in_room(check >> place & 1 == 1);
-    }
-}
 
 // Bit `k` of code block `r` with its fillers, behind its bits of the transport block, of which `check` is the CRC24B.
 fn tail_bit(plan: &Plan, check: u32, k: u32) -> bool
@@ -51,23 +33,24 @@ fn tail_bit(plan: &Plan, check: u32, k: u32) -> bool
     }
 }
 
-// Encodes code block `r` of a transport block with its CRC.
-fn encode_in(table: &Table, plan: &Plan, list: &Bits, r: u32, word: &mut Word)
+// Encodes code block `r` of a transport block with its CRC: both ends of a link do it by this call (TS 38.212, 5.2.2 and
+// 5.3.2). Takes no memory.
+pub(crate) fn encode_into(table: &Table, plan: &Plan, attached: &Bits, r: u32, word: &mut Word)
     requires graph { IsTrue (has_graph plan.now.graph table.now) }
-    requires whole { length list.now.items ≡ plan.now.b }
+    requires whole { length attached.now.items ≡ plan.now.b }
     requires block { r < plan.now.c }
     requires long { length word.old ≡ positions_of plan.now }
     ensures encoded { word.new ≡ codeword table.now plan.now.graph (numbers plan.now)
-        (code_bits (numbers plan.now) list.now.items r) }
+        (code_bits (numbers plan.now) attached.now.items r) }
     ensures long { length word.new ≡ positions_of plan.now }
 {
     code_blocks_are_long();
     let share = (plan.kdash - plan.l) as usize;
     let start = part(plan, r, 0) as usize;
-    let check = crc_range(Poly::B24, list, start, share);
+    let check = crc_range(Poly::B24, attached, start, share);
     for i in 0..share.div_ceil(64) {
         let at = 64 * i;
-        word.put(at, (share - at).min(64), list.window(start + at));
+        word.put(at, (share - at).min(64), attached.window(start + at));
     }
     for k in share as u32..plan.k {
         word.set(k as usize, tail_bit(plan, check, k));
@@ -75,7 +58,7 @@ fn encode_in(table: &Table, plan: &Plan, list: &Bits, r: u32, word: &mut Word)
     fill(table, plan, word);
 }
 
-// Whether a word has every first bit that was heard, and no position was heard with both bits.
+// Whether a word has every first bit that was received, and no position was received with both bits.
 fn agrees(store: &Store, word: &Word) -> bool
     requires { length store.now.first ≡ length word.now }
     ensures fits { result ≡ true → Fits store.now (bit word.now) }
@@ -84,17 +67,17 @@ fn agrees(store: &Store, word: &Word) -> bool
     !store.clash() && store.fits(word.bits())
 }
 
-// Encodes a transport block with its CRC, and answers whether its codewords have every first bit, and no position was
-// heard with both.
+// Encodes a transport block with its CRC. Returns whether its codewords have every first bit, and no position was
+// received with both.
 pub(crate) fn explains(
     table: &Table,
     plan: &Plan,
     stores: &[Store],
-    list: &Bits,
+    attached: &Bits,
     words: &mut [Word],
 ) -> bool
     requires graph { IsTrue (has_graph plan.now.graph table.now) }
-    requires whole { length list.now.items ≡ plan.now.b }
+    requires whole { length attached.now.items ≡ plan.now.b }
     requires words { AreWords plan.now.c
         (positions_of plan.now) words.old }
     requires all { length stores.now ≡ plan.now.c }
@@ -102,19 +85,19 @@ pub(crate) fn explains(
         → length (heard_of stores.now r).first ≡ positions_of plan.now }
     ensures fits { result ≡ true → (r : ℕ) → r < plan.now.c → Fits (heard_of stores.now r)
         (bit (codeword table.now plan.now.graph (numbers plan.now)
-        (code_bits (numbers plan.now) list.now.items r))) }
+        (code_bits (numbers plan.now) attached.now.items r))) }
     ensures misfits { result ≡ false → ((r : ℕ) → r < plan.now.c → Fits (heard_of stores.now r)
         (bit (codeword table.now plan.now.graph (numbers plan.now)
-        (code_bits (numbers plan.now) list.now.items r)))) → ⊥ }
+        (code_bits (numbers plan.now) attached.now.items r)))) → ⊥ }
     ensures encoded { result ≡ true → (r : ℕ) → r < plan.now.c → word_at words.new r
         ≡ codeword table.now plan.now.graph (numbers plan.now)
-        (code_bits (numbers plan.now) list.now.items r) }
+        (code_bits (numbers plan.now) attached.now.items r) }
     ensures words { AreWords plan.now.c
         (positions_of plan.now) words.new }
 {
     for r in 0..plan.c {
         let word = &mut words[r as usize];
-        encode_in(table, plan, list, r, word);
+        encode_into(table, plan, attached, r, word);
         if !agrees(&stores[r as usize], word) {
             return false;
         }

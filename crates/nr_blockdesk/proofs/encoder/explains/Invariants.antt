@@ -6,13 +6,13 @@ use Rattle.nr_segment.specs.Plan.{word_size}
 use Rattle.nr_segment.specs.CodeBlock.{code_bits, numbers}
 use Rattle.nr_blockdesk.specs.Heard.{heard_of}
 use Rattle.nr_blockdesk.specs.Receiving.{AreWords, Fits, word_at}
-use Rattle.nr_blockdesk.proofs.again.explains.Given as goal
+use Rattle.nr_blockdesk.proofs.encoder.explains.Given as goal
 
 abbrev pub invariant-loop-r : goal.invariant-loop-r
 invariant-loop-r l = record {
   words : AreWords l.plan.c (word_size l.plan.graph (numbers l.plan)) l.words;
   fits : (q : ℕ) → q < l.r → Fits (heard_of l.stores q)
-      (bit (codeword l.table l.plan.graph (numbers l.plan) (code_bits (numbers l.plan) l.list.items q)));
+      (bit (codeword l.table l.plan.graph (numbers l.plan) (code_bits (numbers l.plan) l.attached.items q)));
   encoded : (q : ℕ) → q < l.r → word_at l.words q
-      ≡ codeword l.table l.plan.graph (numbers l.plan) (code_bits (numbers l.plan) l.list.items q);
+      ≡ codeword l.table l.plan.graph (numbers l.plan) (code_bits (numbers l.plan) l.attached.items q);
 }

@@ -9,10 +9,10 @@ use Rattle.nr_segment.specs.CodeBlock.{code_bits, numbers}
 use Rattle.nr_blockdesk.specs.Heard.{heard_of}
 use Rattle.nr_blockdesk.specs.Receiving.{Fits}
 use Rattle.nr_blockdesk.proofs.Kept.{words-more, words-set}
-use Rattle.nr_blockdesk.proofs.again.explains.Goals as goal
+use Rattle.nr_blockdesk.proofs.encoder.explains.Goals as goal
 
-pub encode_in-requires-clause-long : goal.encode_in-requires-clause-long
-encode_in-requires-clause-long c =
+pub encode_into-requires-clause-long : goal.encode_into-requires-clause-long
+encode_into-requires-clause-long c =
     let r = c.loop-r.r in
     let inv = c.loop-r.invariant in
     let inside : r < length c.loop-r.words = omega (arith, inv.words.many, c.loop-r-test.true) in
@@ -25,7 +25,7 @@ agrees-requires c =
     let inside : r < length c.args.stores.now = omega (arith, c.requires.all, c.loop-r-test.true) in
     ap (λ (s : Heardbits). length s.first) (get_or_read c.args.stores.now r elem inside c.index-stores-r.is (record { first = []; clash = false }))
     ∙ c.requires.stored r c.loop-r-test.true
-    ∙ sym c.encode_in.ensures.long
+    ∙ sym c.encode_into.ensures.long
 
 pub returns-then-not-agrees-clause-misfits : goal.returns-then-not-agrees-clause-misfits
 returns-then-not-agrees-clause-misfits c = λ _ all.
@@ -34,8 +34,8 @@ returns-then-not-agrees-clause-misfits c = λ _ all.
     let inside : r < length c.args.stores.now = omega (arith, c.requires.all, c.loop-r-test.true) in
     let is : elem ≡ heard_of c.args.stores.now r = get_or_read c.args.stores.now r elem inside c.index-stores-r.is (record { first = []; clash = false }) in
     c.agrees.ensures.misfits c.if-not-agrees.true
-    (subst (λ s. Fits s (bit c.encode_in.new.word)) (sym is)
-    (subst (λ w. Fits (heard_of c.args.stores.now r) (bit w)) (sym c.encode_in.ensures.encoded) (all r c.loop-r-test.true)))
+    (subst (λ s. Fits s (bit c.encode_into.new.word)) (sym is)
+    (subst (λ w. Fits (heard_of c.args.stores.now r) (bit w)) (sym c.encode_into.ensures.encoded) (all r c.loop-r-test.true)))
 
 pub loop-r-preserved : goal.loop-r-preserved
 loop-r-preserved c =
@@ -45,14 +45,14 @@ loop-r-preserved c =
     let inside : r < length c.args.stores.now = omega (arith, c.requires.all, c.loop-r-test.true) in
     let is : elem ≡ heard_of c.args.stores.now r = get_or_read c.args.stores.now r elem inside c.index-stores-r.is (record { first = []; clash = false }) in
     let fits = c.agrees.ensures.fits c.if-not-agrees.false in
-    let coded : ℕ → List Bool = λ q. codeword c.args.table.now plan.graph (numbers plan) (code_bits (numbers plan) c.args.list.now.items q) in
+    let coded : ℕ → List Bool = λ q. codeword c.args.table.now plan.graph (numbers plan) (code_bits (numbers plan) c.args.attached.now.items q) in
     let one : Fits (heard_of c.args.stores.now r) (bit (coded r)) =
-    subst (λ w. Fits (heard_of c.args.stores.now r) (bit w)) c.encode_in.ensures.encoded (subst (λ s. Fits s (bit c.encode_in.new.word)) is fits) in
+    subst (λ w. Fits (heard_of c.args.stores.now r) (bit w)) c.encode_into.ensures.encoded (subst (λ s. Fits s (bit c.encode_into.new.word)) is fits) in
     record {
-      words = words-set plan.c (word_size plan.graph (numbers plan)) c.loop-r.words r c.encode_in.new.word c.loop-r.invariant.words c.loop-r-test.true
-          c.encode_in.ensures.long;
-      encoded = words-more c.loop-r.words r c.encode_in.new.word coded (omega (arith, c.loop-r.invariant.words.many, c.loop-r-test.true))
-          c.encode_in.ensures.encoded c.loop-r.invariant.encoded;
+      words = words-set plan.c (word_size plan.graph (numbers plan)) c.loop-r.words r c.encode_into.new.word c.loop-r.invariant.words c.loop-r-test.true
+          c.encode_into.ensures.long;
+      encoded = words-more c.loop-r.words r c.encode_into.new.word coded (omega (arith, c.loop-r.invariant.words.many, c.loop-r-test.true))
+          c.encode_into.ensures.encoded c.loop-r.invariant.encoded;
       fits = λ q below. ⊎_elim
           (λ (here : q ≡ r). subst (λ k. Fits (heard_of c.args.stores.now k) (bit (coded k))) (sym here) one)
           (λ (there : q ≢ r). c.loop-r.invariant.fits q (omega (arith, below, there)))
