@@ -42,7 +42,7 @@ fn keep_freed_memory(alloc: Global) {
     let _ = Vec::<u8>::with_capacity(alloc, LARGE_PIECE);
 }
 
-// Does what the words of the command line ask for, and answers how it ended.
+// Does what the words of the command line ask for, and returns how it ended.
 fn ending_of<R: Env + Opens + Input + AllocGlobal, O: Sink>(rt: &R, out: &mut O) -> Ending
     requires { O.failures out.old < 2 ^ 32 }
 {

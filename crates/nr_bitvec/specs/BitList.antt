@@ -1,4 +1,5 @@
--- A list of bits, and the octets that stand for one. The first bit is the most significant (TS 38.212, 6.2.1 and 7.2.1: a_0).
+-- Believed, with internal helpers: a list of bits, and the octets that stand for one. The first bit is the most significant (TS 38.212, 6.2.1 and
+-- 7.2.1: a_0).
 use Rattle.std.specs.Prelude.{◌≡◌, ℕ, ◌+◌, ◌^◌, ◌<◌, suc, zero, ◌==◌, Bool, List, [], ◌∷◌, if◌then◌else◌, map, flat_map, All}
 use Rattle.std.specs.Bool.{beq}
 use Rattle.std.specs.Cmp.Lexicographic.{pointwise}

@@ -1,5 +1,5 @@
--- Bits that are packed into words of 64 places, place 0 the lowest bit of the first word. The place of a list's bit
--- is a choice of this crate's, and no rule of TS 38.212.
+-- Believed, with internal helpers: bits packed into words of 64 places, place 0 the lowest bit of the first word. TS 38.212 has no rule for this; it
+-- is a choice of this crate.
 use Rattle.std.specs.Prelude.{◌≡◌, ℕ, ◌+◌, ◌-◌, ◌*◌, ◌/◌, ◌%◌, ◌^◌, ◌<◌, ◌≤◌, ◌==◌, nat_lt, min, max, bit_and, Bool, List, length, map, if◌then◌else◌, slice_index_or}
 use Rattle.std.specs.Int.{bit_at}
 use Rattle.std.specs.List.{range_with_len}

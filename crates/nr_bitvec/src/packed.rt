@@ -50,7 +50,7 @@ impl Bits {
     ///
     /// # Errors
     ///
-    /// `AllocError` is want of memory.
+    /// `AllocError`, where memory runs out.
     pub fn with_room(alloc: Global, n: u32) -> Result<Bits, AllocError>
         requires { n ≤ 2 ^ 24 }
         ensures items { IfOk result (λ b. b.items ≡ []) }
@@ -64,7 +64,7 @@ impl Bits {
     ///
     /// # Errors
     ///
-    /// `AllocError` is want of memory.
+    /// `AllocError`, where memory runs out.
     pub fn zeros(alloc: Global, n: u32) -> Result<Bits, AllocError>
         requires { n ≤ 2 ^ 24 }
         ensures { IfOk result (λ b. b.items ≡ replicate n false) }
@@ -80,7 +80,7 @@ impl Bits {
     ///
     /// # Errors
     ///
-    /// `AllocError` is want of memory.
+    /// `AllocError`, where memory runs out.
     pub fn from_bytes(alloc: Global, octets: &[u8]) -> Result<Bits, AllocError>
         requires { 8 * length octets.now ≤ 2 ^ 24 }
         ensures { IfOk result (λ b. b.items ≡ bits_of octets.now) }
@@ -101,7 +101,7 @@ impl Bits {
     ///
     /// # Errors
     ///
-    /// `AllocError` is want of memory.
+    /// `AllocError`, where memory runs out.
     pub fn to_bytes(&self) -> Result<Vec<u8>, AllocError>
         ensures { IfOk result (λ v. v.items ≡ octets_of self.now.items) }
     {
@@ -124,8 +124,7 @@ impl Bits {
     ///
     /// # Errors
     ///
-    /// `AllocError` is want of memory where the list has no room, and leaves the list and its room
-    /// as they were.
+    /// `AllocError`, where the list has no room and memory runs out. The list and its room stay as they were.
     pub fn push(&mut self, bit: bool) -> Result<(), AllocError>
         requires { length self.old.items < 2 ^ 24 }
         ensures ok { OnOk result (self.new.items ≡ self.old.items ++ bit ∷ []) }
@@ -202,8 +201,7 @@ impl Bits {
     ///
     /// # Errors
     ///
-    /// `AllocError` is want of memory where the list lacks the room, and leaves the list and its
-    /// room as they were.
+    /// `AllocError`, where the list lacks the room and memory runs out. The list and its room stay as they were.
     pub fn extend(&mut self, more: &Bits) -> Result<(), AllocError>
         requires { length self.old.items + length more.now.items ≤ 2 ^ 24 }
         ensures ok { OnOk result (self.new.items ≡ self.old.items ++ more.now.items) }
@@ -292,7 +290,7 @@ impl Bits {
     ///
     /// # Errors
     ///
-    /// `AllocError` is want of memory.
+    /// `AllocError`, where memory runs out.
     pub fn copy_range(&self, from: usize, len: usize) -> Result<Bits, AllocError>
         requires { from + len ≤ length self.now.items }
         ensures { IfOk result (λ b. b.items ≡ take len (drop from self.now.items)) }
@@ -310,7 +308,7 @@ impl Bits {
     ///
     /// # Errors
     ///
-    /// `AllocError` is want of memory.
+    /// `AllocError`, where memory runs out.
     pub fn try_clone(&self) -> Result<Bits, AllocError>
         ensures { IfOk result (λ b. b.items ≡ self.now.items) }
     {

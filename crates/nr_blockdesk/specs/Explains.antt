@@ -1,5 +1,4 @@
--- Which transport blocks explain all that arrived: those whose sent bits are every bit that was heard, of every
--- transmission.
+-- Believed: which transport blocks explain all that arrived: those whose sent bits equal every bit received, of every transmission.
 use Rattle.std.specs.Prelude.{◌≡◌, ℕ, ◌==◌, Bool, true, not, Result, Ok, List, length, slice_index_or}
 use Rattle.std.specs.List.{list_all, range_with_len}
 use Rattle.nr_bitvec.specs.Bit.{bit}
@@ -12,7 +11,7 @@ use Rattle.nr_blockdesk.specs.declared.heard.Heard.{Heard}
 use Rattle.nr_blockdesk.specs.declared.heard.Heard.TheVariants as heard
 use Rattle.nr_transmission.specs.declared.tx.Tx.{Tx}
 
--- a transmission, and what was heard of it, place by place
+-- a transmission, and what was received of it, place by place
 pub record Reception : Type 0 where
   pub tx : Tx
   pub heard : List Heard
@@ -21,11 +20,11 @@ pub record Reception : Type 0 where
 abbrev pub reception : Tx → List Heard → Reception
 reception tx places = record { tx = tx; heard = places }
 
--- what was heard at a place
+-- what was received at a place
 abbrev pub heard_at : List Heard → ℕ → Heard
 heard_at places m = slice_index_or places m heard.Erased
 
--- what was heard at a place is the bit sent there; an erased place asks nothing
+-- what was received at a place is the bit sent there; an erased place asks nothing
 abbrev pub agrees : Heard → Bool → Bool
 agrees heard.Zero b = not b
 agrees heard.One b = b
@@ -42,7 +41,7 @@ explains link list block = list_all (λ x. all_agree x.heard (sent link x.tx blo
 abbrev pub Explains : Link → List Reception → List Bool → Type 0
 Explains link list block = explains link list block ≡ true
 
--- E_r of each code block of a transmission of which n places are heard, or the first fault: as many are heard as are sent
+-- E_r of each code block of a transmission of which n places are received, or the first fault: as many are received as are sent
 abbrev pub hearing_said_of : ℕ → Tx → ℕ → Result (List ℕ) DeskFault
 hearing_said_of c tx n = do
   lengths ← tx_said_of c tx

@@ -1,4 +1,4 @@
--- What a list of receptions tells of each code block: the bits heard of its codeword in turn, and the record of them.
+-- Believed: what a list of receptions gives each code block: the bits received of its codeword in turn, and the record of them.
 use Rattle.std.specs.Prelude.{◌≡◌, ℕ, ◌==◌, false, if◌then◌else◌, List, [], length, map, flat_map, All, Option, None, option_map, slice_index_or}
 use Rattle.std.specs.List.{filter_map, range_with_len}
 use Rattle.nr_harqbuf.specs.Record.{Hearing, Heardbits, record_of}
@@ -9,7 +9,7 @@ use Rattle.nr_blockdesk.specs.Link.{Link}
 use Rattle.nr_blockdesk.specs.Sent.{Matching, block_at, matching, position_at}
 use Rattle.nr_blockdesk.specs.declared.heard.Heard.{Heard}
 
--- what place m tells of code block r: the position in the codeword, and the bit heard
+-- what place m tells of code block r: the position in the codeword, and the bit received
 abbrev pub hearing_at : Matching → List Heard → ℕ → ℕ → Option Hearing
 hearing_at t places r m =
     if block_at t m == r then option_map (λ b. (position_at t m, b)) (heard_bit (heard_at places m)) else None

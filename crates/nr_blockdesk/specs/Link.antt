@@ -1,4 +1,5 @@
--- What both ends of a link agree on, and the words of a transport block (TS 38.212, 6.2.1 to 6.2.4 and 7.2.1 to 7.2.4).
+-- Believed, with internal helpers: what both ends of a link agree on, and the codewords of a transport block (TS 38.212, 6.2.1 to 6.2.4 and 7.2.1 to
+-- 7.2.4).
 use Rattle.std.specs.Prelude.{◌≡◌, ℕ, ◌%◌, ◌<◌, ◌==◌, Bool, true, false, nat_le, ◌&&◌, Result, Ok, Err, List, length, map}
 use Rattle.std.specs.List.{range_with_len}
 use Rattle.nr_crcattach.specs.Attachment.{attached, attached_length}

@@ -1,4 +1,4 @@
--- What two lists of bits say was heard: one marks the places at which a bit was heard, the other has the bits.
+-- Believed, with internal helpers: a reception as two lists of bits: one marks the places at which a bit was received, the other has the bits.
 use Rattle.std.specs.Prelude.{ℕ, ◌+◌, ◌≤◌, ◌==◌, ◌&&◌, Bool, true, false, List, length, map}
 use Rattle.std.specs.List.{range_with_len}
 use Rattle.nr_bitvec.specs.Bit.{bit}
@@ -25,7 +25,7 @@ heards_from marks bits from n = map (λ m. place_heard (bit marks m) (bit bits m
 abbrev pub heards : List Bool → List Bool → List Heard
 heards marks bits = heards_from marks bits 0 (length marks)
 
--- a transmission, and what two lists say was heard of it
+-- a transmission, and what two lists say was received of it
 abbrev pub reception_by : Tx → List Bool → List Bool → Reception
 reception_by tx marks bits = reception tx (heards marks bits)
 
@@ -33,7 +33,7 @@ reception_by tx marks bits = reception tx (heards marks bits)
 abbrev pub heards_of : Part → List Heard
 heards_of part = heards_from part.heard.now.items part.value.now.items part.from part.count
 
--- selected bit k of a code block was heard, has this bit, and stands at this position of its codeword
+-- selected bit k of a code block was received, has this bit, and stands at this position of its codeword
 abbrev pub bit_says : Circular → ℕ → List Bool → List Bool → ℕ → Bool → ℕ → Bool
 bit_says b rv marks bits p v k = (place_of b rv k == p) && says marks bits k v
 

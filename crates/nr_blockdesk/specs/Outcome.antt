@@ -1,4 +1,4 @@
--- What a receiver may hand up after a list of receptions.
+-- Believed: the outcome of a list of receptions, which a receiver returns.
 use Rattle.std.specs.Prelude.{◌≡◌, ℕ, ◌<◌, ◌==◌, ◌||◌, zero, suc, Bool, true, false, not, if◌then◌else◌, List, [], ◌∷◌, flat_map, find, count_by, Option, Some, None}
 use Rattle.std.specs.List.{list_all, range_with_len}
 use Rattle.nr_bitvec.specs.Bit.{bit}
@@ -10,7 +10,7 @@ use Rattle.nr_blockdesk.specs.Explains.{Reception, explains}
 use Rattle.nr_blockdesk.specs.Heard.{heard_of, heard_record}
 use Rattle.nr_blockdesk.specs.Link.{Link, word}
 
--- the positions of a code block that were heard, and its fillers
+-- the positions of a code block that were received, and its fillers
 abbrev pub given : Link → Heardbits → ℕ → Bool
 given link s p = is_heard (first_at s p) || filler link.plan.kdash link.plan.k p
 

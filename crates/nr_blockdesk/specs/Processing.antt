@@ -1,4 +1,4 @@
--- What sixteen HARQ processes keep, each with a receiver of its own, and what a call on one of them makes of it.
+-- Believed: what sixteen HARQ processes keep, each with a receiver of its own, and what a call on one of them makes of it.
 use Rattle.std.specs.Prelude.{◌≡◌, ◌≢◌, ℕ, List, [], ◌∷◌, ◌++◌, Bool, Option, Some, None, Result, Ok, IfOk, IsErrOf, IsOk, OnErr, OnOk, slice_index_or, slice_set}
 use Rattle.nr_shifttable.specs.Accepted.{Entries}
 use Rattle.nr_blockdesk.specs.Explains.{Explains, Reception, reception_said}
@@ -50,7 +50,7 @@ pub record TakesAt (old new : Processing) (p : ℕ) (x : Reception) (result : Re
   pub has : new ≡ with_process old p after
   pub takes : Takes before after x result
 
--- process p has a receiver of blocks of a bits that has heard nothing, and all others are as they were
+-- process p has a receiver of blocks of a bits that has received nothing, and all others are as they were
 pub record BeginsAt (old new : Processing) (p a : ℕ) : Type 0 where
   pub receiver : Receiving
   pub has : new ≡ with_process old p receiver

@@ -1,4 +1,4 @@
--- What is true of receptions and their outcome, whoever receives.
+-- Believed: laws of receptions and their outcome, whoever receives.
 use Rattle.std.specs.Prelude.{◌≡◌, ◌≢◌, ◌↔◌, ℕ, ◌<◌, Bool, true, false, Ok, IsOk, List, [], length, map, All, zip}
 use Rattle.nr_bitvec.specs.Bit.{bit}
 use Rattle.nr_harqbuf.specs.Record.{Heardbits}

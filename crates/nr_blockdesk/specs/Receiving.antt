@@ -1,4 +1,4 @@
--- What a receiver keeps, and what its steps make of it.
+-- Believed, with internal helpers: the state of a receiver, and what its steps make of it.
 use Rattle.std.specs.Prelude.{◌≡◌, ◌⊎◌, ℕ, ◌+◌, ◌/◌, ◌%◌, ◌<◌, ◌≤◌, ◌&&◌, Bool, true, false, not, Option, Some, option_map, unwrap_or, Result, Ok, Err, IsOk, List, [], ◌++◌, length, take, drop, sum, slice_index, slice_index_or, All}
 use Rattle.std.specs.List.{filter_map, range_with_len}
 use Rattle.nr_crcattach.specs.Attachment.{attached_length}
@@ -42,7 +42,7 @@ abbrev pub RefusesAs : {X Y E : Type 0} → E → Result X E → Result Y E → 
 RefusesAs memory (Ok x) said = IsOk said
 RefusesAs memory (Err e) said = (e ≡ memory) ⊎ (said ≡ Err e)
 
--- what place m of a code block's part of a transmission tells: the position in the codeword, and the bit heard
+-- what place m of a code block's part of a transmission tells: the position in the codeword, and the bit received
 abbrev pub part_hearing : Circular → Tx → List Heard → ℕ → Option Hearing
 part_hearing b tx heard m =
     option_map (λ v. (place_of b tx.rv (seat_of tx.qm (length heard) m), v)) (heard_bit (heard_at heard m))
@@ -55,8 +55,8 @@ part_hearings b tx heard n = filter_map (part_hearing b tx heard) (range_with_le
 abbrev pub piece : List ℕ → List Heard → ℕ → List Heard
 piece lengths heard r = take (slice_index lengths r) (drop (sum (take r lengths)) heard)
 
--- A code block's store and its peeler: what is given to the peeler is what was heard, and the fillers, and each plain
--- word with every first bit has the bits that are known.
+-- A code block's store and its peeler: what is given to the peeler is what was received, and the fillers, and each plain word with every first bit
+-- has the bits that are known.
 pub record IsTied (link : Link) (s : Heardbits) (p : Peeling) : Type 0 where
   pub table : p.table ≡ link.table
   pub graph : p.graph ≡ link.graph
@@ -66,7 +66,7 @@ pub record IsTied (link : Link) (s : Heardbits) (p : Peeling) : Type 0 where
   pub words : (w : ℕ → Bool) → IsPlain link.table link.graph link.plan w → HasFirsts s w → AgreesWith p w
   pub peeled : IsPeeled p
 
--- from one record of a code block to a later one: marks of the positions heard for the first time, and their bits
+-- from one record of a code block to a later one: marks of the positions received for the first time, and their bits
 pub record IsNews (s t : Heardbits) (heard value : List Bool) : Type 0 where
   pub marks : (p : ℕ) → bit heard p ≡ (is_heard (first_at t p) && not (is_heard (first_at s p)))
   pub bits : (p : ℕ) → bit heard p ≡ true → first_at t p ≡ Some (bit value p)
@@ -127,7 +127,7 @@ Stands link records list words standing.Unread = Unit {0}
 Stands link records list words standing.Explains = IsExplained link records list words
 Stands link records list words standing.Fails = IsUnexplained link records
 
--- how it stands once more was heard, which agrees with its codewords or doesn't
+-- how it stands once more was received, which agrees with its codewords or doesn't
 abbrev pub standing_after : Standing → Bool → Standing
 standing_after standing.Unread agreed = standing.Unread
 standing_after standing.Explains true = standing.Explains
@@ -146,19 +146,19 @@ pub record IsReceiver (link : Link) (b : ℕ) (records : List Heardbits) (peeler
   pub stands : Stands link records block.items words standing
   pub untold : IsUntold (word_size link.graph link.plan) told
 
--- hearings were heard of a code block: the record is that of the longer list, store and peeler belong together again,
--- no word fits that did not before, and no visit of the peeler's is forgotten
+-- hearings were received of a code block: the record is that of the longer list, store and peeler belong together again, no word fits that did not
+-- before, and no visit of the peeler's is forgotten
 pub record HearsAll (more : List Hearing) (s : Heardbits) (p : Peeling) (t : Heardbits) (q : Peeling) : Type 0 where
   pub recorded : (hs : List Hearing) → s ≡ record_of (length s.first) hs → t ≡ record_of (length s.first) (hs ++ more)
   pub tied : (link : Link) → IsTied link s p → IsTied link t q
   pub fewer : (w : ℕ → Bool) → Fits t w → Fits s w
   pub visited : p.touches ≤ q.touches
 
--- a code block's part of a transmission was heard
+-- a code block's part of a transmission was received
 abbrev pub HearsPart : Circular → Tx → List Heard → Heardbits → Peeling → Heardbits → Peeling → Type 0
 HearsPart b tx heard s p t q = HearsAll (part_hearings b tx heard (length heard)) s p t q
 
--- whether what was heard from one record to the next agrees with a word
+-- whether what was received from one record to the next agrees with a word
 abbrev pub Tells : Bool → (ℕ → Bool) → Heardbits → Heardbits → Type 0
 Tells true w s t = Fits s w → Fits t w
 Tells false w s t = Fits t w → ⊥

@@ -1,4 +1,5 @@
--- The bits that are sent of a transport block (TS 38.212, 5.4.2 and 5.5), and whose bit stands at each place of them.
+-- Believed, with internal helpers: the bits that are sent of a transport block (TS 38.212, 5.4.2 and 5.5), and which codeword bit stands at each
+-- place of them.
 use Rattle.std.specs.Prelude.{◌≡◌, ℕ, ◌%◌, ◌<◌, Bool, nat_le, Result, Ok, Err, IsOk, List, [], length, flat_map, All, sum, slice_index}
 use Rattle.std.specs.List.{range_with_len}
 use Rattle.nr_bitvec.specs.Bit.{bit}
@@ -31,7 +32,7 @@ pub record Matching : Type 0 where
   pub qm : ℕ
   pub lengths : List ℕ
 
--- the lengths that are answered, and none where there is a fault
+-- the lengths that are returned, and none where there is a fault
 abbrev pub answered : Result (List ℕ) DeskFault → List ℕ
 answered (Ok lengths) = lengths
 answered (Err e) = []

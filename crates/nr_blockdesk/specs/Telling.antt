@@ -1,4 +1,4 @@
--- Lists for what a transmission tells of a code block, of which nothing is told.
+-- Internal: the empty lists from which a receiver gathers what a transmission gives a code block.
 use Rattle.std.specs.Prelude.{◌≡◌, ℕ, false, length, replicate}
 use Rattle.nr_blockdesk.specs.declared.told.Told.{Told}
 

@@ -1,4 +1,4 @@
-//! The one transport block that may explain what was heard, read from the peelers.
+//! The one transport block that may explain what was received, read from the peelers.
 
 ghost use Rattle.std.specs.Prelude.{◌≡◌, ℕ, ◌==◌, ◌<◌, ◌≤◌, length, slice_index_or, take};
 ghost use Rattle.std.specs.List.{list_all};
@@ -10,19 +10,20 @@ use nr_bitvec::Bits;
 use nr_peel::Peeler;
 use nr_segment::Plan;
 
-/// How the one transport block that may explain what was heard stands.
+/// How the one transport block that may explain what was received stands.
 #[derive(Clone, Copy)]
 pub(crate) enum Standing {
     /// Some position below K' was not known yet when it was last asked for.
     Unread,
-    /// It explains all that was heard.
+    /// It explains all that was received.
     Explains,
     /// It doesn't, and so none does.
     Fails,
 }
 
 impl Standing {
-    // How it stands once more was heard, which agrees with its codewords or doesn't. A contradiction stays.
+    // How it stands when more is received, which agrees with its codewords or does not. A contradiction
+    // stays.
     pub(crate) fn after(self, agreed: bool) -> Standing
         ensures { result ≡ standing_after self agreed }
     {

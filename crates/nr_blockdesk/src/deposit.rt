@@ -13,8 +13,8 @@ use crate::told::Told;
 use nr_harqbuf::merge_word;
 use nr_ratematch::Buffer;
 
-// Puts together what the selected bits of a code block tell. Answers whether they tell no position both bits; where they
-// do, nothing is told.
+// Puts together what the selected bits of a code block tell. Returns whether they tell no position both bits; where
+// they do, nothing is told.
 pub(crate) fn deposit(buffer: &Buffer, rv: u32, selected: &Selected, told: &mut Told) -> bool
     requires version { rv < 4 }
     requires untold { IsUntold (cols_of buffer.now.graph * buffer.now.z) told.old }

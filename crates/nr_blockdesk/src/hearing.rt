@@ -1,5 +1,5 @@
-//! Hearing one transmission: what it tells of a code block is put together first, and then the store and the peeler hear
-//! all of it at once.
+//! Receiving one transmission: what it tells of a code block is put together first, and then the store and the peeler
+//! receive all of it at once.
 
 ghost use Rattle.std.specs.Prelude.{◌≡◌, ℕ, ◌*◌, ◌%◌, ◌^◌, ◌<◌, ◌≤◌, length, slice_index, slice_index_or, List, IfOk, MatchResult, Ok, Err};
 ghost use Rattle.nr_bitvec.specs.Bit.{bit};
@@ -30,7 +30,8 @@ use nr_ratematch::Buffer;
 use nr_segment::Plan;
 use nr_transmission::{DeskFault, Tx};
 
-// E_r of each code block, or the first cause against a transmission of which `count` places were heard. Takes no memory.
+// E_r of each code block, or the first cause against a transmission of which `count` places were received. Takes no
+// memory.
 pub(crate) fn judge_heard(
     plan: &Plan,
     tx: &Tx,
@@ -51,11 +52,11 @@ pub(crate) fn judge_heard(
     Ok(lengths)
 }
 
-// To hear a place by itself takes as long as to go over so many positions by words.
+// Learning one place by itself takes as long as going over so many positions by words.
 const POSITIONS_PER_PLACE: usize = 128;
 
-// Hears one code block's part of a transmission: only the first bit of a position is learned. Answers whether each bit
-// heard is that of `word`.
+// Receives one code block's part of a transmission: only the first bit of a position is learned. Returns whether each
+// bit received is that of `word`.
 fn hear_part(
     buffer: &Buffer,
     tx: &Tx,
@@ -89,8 +90,8 @@ fn hear_part(
     }
 }
 
-// Hears all that is told: what is told for the first time is learned at once. Answers whether each bit told is that of
-// `word`. Nothing is told then.
+// Receives all that is told: what is told for the first time is learned at once. Returns whether each bit told is that
+// of `word`. Nothing is told then.
 fn teach(told: &mut Told, store: &mut Store, peeler: &mut Peeler<'_>, word: &Word) -> bool
     requires sized { IsSized (length told.old.heard.items) store.old peeler.old }
     requires bits { length told.old.value.items ≡ length told.old.heard.items }
@@ -124,7 +125,7 @@ fn learn_told(told: &mut Told, peeler: &mut Peeler<'_>)
     told.heard.zero();
 }
 
-// The same place by place: what is heard for the first time is told, and then learned at once.
+// The same place by place: what is received for the first time is told, and then learned at once.
 fn hear_by_places(
     buffer: &Buffer,
     tx: &Tx,
@@ -163,8 +164,8 @@ fn hear_by_places(
     agreed
 }
 
-// Hears a transmission: each code block has its part of the places. Answers whether each bit heard is that of its code
-// block's word.
+// Receives a transmission: each code block has its part of the places. Returns whether each bit received is that of its
+// code block's word.
 pub(crate) fn hear(
     buffer: &Buffer,
     tx: &Tx,

@@ -16,7 +16,7 @@ use nr_ldpcenc::codewords_are_plain;
 use nr_ratematch::{buffers_are_circular, lengths_are_shared, places_are_sent};
 use nr_segment::code_blocks_are_long;
 
-/// Law: what `link_said` answers for an accepted table is a sound link: its plan is that of the transport block with
+/// Law: what `link_said` returns for an accepted table is a sound link: its plan is that of the transport block with
 /// its CRC, the table has its base graph, and its circular buffer is one of the plan's (TS 38.212, 5.4.2.1).
 pub fn links_are_sound()
     ensures { LinksAreSound }

@@ -1,9 +1,9 @@
-//! Both ends of a link that carries transport blocks by NR's data coding chain (3GPP TS 38.212, Release 15: 6.2 and 7.2).
-//! A `Sender` encodes a transport block once and sends its bits for any transmission: `send` answers `sent` of the block
-//! and the transmission (specs/Sent.antt), whatever was sent before. A `Receiver` keeps the record of all that arrived
-//! (specs/Heard.antt), and `take` answers its outcome (specs/Outcome.antt): a delivered block is the only one possible.
-//! `take_marks` is the same of places as two lists of bits (specs/Marks.antt).
-//! Stands on every layer below it, with `arrayvec` for the lengths.
+//! Both ends of a link that carries transport blocks by NR's data coding chain (3GPP TS 38.212, Release 15: 6.2 and
+//! 7.2). A `Sender` encodes a transport block once and sends its bits for any transmission: `send` returns `sent` of
+//! the block and the transmission (specs/Sent.antt), whatever was sent before. A `Receiver` keeps the record of all
+//! that arrived (specs/Heard.antt), and `take` returns its outcome (specs/Outcome.antt): a delivered block is the only
+//! one possible. `take_marks` is the same of places as two lists of bits (specs/Marks.antt). Stands on every layer
+//! below it, with `arrayvec` for the lengths.
 #![tactic(auto)]
 
 mod candidate;

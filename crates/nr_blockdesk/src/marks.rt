@@ -9,7 +9,7 @@ use crate::heard::Heard;
 use nr_bitvec::Bits;
 use std::alloc::{AllocError, Global};
 
-// Marks of the places that aren't erased, and the bits heard there.
+// Marks of the places that aren't erased, and the bits received there.
 pub(crate) fn marks_of(alloc: Global, places: &[Heard]) -> Result<(Bits, Bits), AllocError>
     requires { length places.now ≤ 2 ^ 24 }
     ensures same { IfOk result (λ lists. heards lists.0.items lists.1.items ≡ places.now) }

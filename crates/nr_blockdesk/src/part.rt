@@ -4,8 +4,8 @@ ghost use Rattle.std.specs.Prelude.{◌≡◌, ◌+◌, ◌^◌, ◌<◌, ◌≤
 
 use nr_bitvec::Bits;
 
-/// What was heard of a code block: `count` places of a transmission from place `from` on. Those at which a bit was heard
-/// are marked in `heard`, and their bits stand in `value`.
+/// What was received of a code block: `count` places of a transmission from place `from` on. Those at which a bit was
+/// received are marked in `heard`, and their bits stand in `value`.
 #[derive(Drop)]
 pub(crate) struct Part<'m> {
     pub(crate) heard: &'m Bits,

@@ -67,15 +67,14 @@ impl<'t> Processes<'t> {
         }
     }
 
-    /// Process `p`, 0 to 15, begins: it has a new receiver of a transport block of `a` bits, which has heard nothing
+    /// Process `p`, 0 to 15, begins: it has a new receiver of a transport block of `a` bits, which has received nothing
     /// yet. The receiver that it had is kept until the new one is there, so memory is wanted for both.
     ///
     /// # Errors
     ///
     /// As `Receiver::new`, in this order: `Size`, where `a` is not 8 to 1,310,720 in whole octets; `Pick`, where no
     /// base graph is picked; `Seg`, where there is no plan; `Graph`, where the table lacks the base graph; `Rm`, where
-    /// the limited buffer keeps no bit (`NoBuffer`); `Memory`, where memory is refused. All processes are then as
-    /// before.
+    /// the limited buffer keeps no bit (`NoBuffer`); `Memory`, where memory runs out. All processes are then as before.
     pub fn begin(&mut self, p: u8, a: u32) -> Result<(), DeskFault>
         requires { p < 16 }
         ensures refused { RefusesAs DeskFault.Memory result
@@ -108,14 +107,14 @@ impl<'t> Processes<'t> {
         self.places[p as usize].as_ref()
     }
 
-    /// Process `p`, 0 to 15, which must have begun, hears a transmission, place by place, and answers what may be
+    /// Process `p`, 0 to 15, which must have begun, receives a transmission, place by place, and returns what may be
     /// handed up of all that it received since it last began (TS 38.212, 5.4.2 and 5.5).
     ///
     /// # Errors
     ///
     /// As `Receiver::take`, in this order: `Rv`, where the redundancy version is above 3; `Rm`, where the bits can't be
     /// shared out: `Order`, `Layers`, `Total`, `Ragged` or `NoneScheduled`; `Length`, where `heard` does not have G
-    /// places; `Memory`, where memory is refused. Nothing is heard then.
+    /// places; `Memory`, where memory runs out. Nothing is received then.
     pub fn take(&mut self, p: u8, tx: &Tx, heard: &[Heard]) -> Result<Outcome, DeskFault>
         requires place { p < 16 }
         requires begun { IsTrue (is_some (process self.old p)) }
@@ -134,7 +133,7 @@ impl<'t> Processes<'t> {
     }
 }
 
-/// Law: what a process has heard after a list of calls on the processes follows from the calls on it alone.
+/// Law: what a process has received after a list of calls on the processes follows from the calls on it alone.
 pub fn processes_are_apart()
     ensures { ProcessesAreApart }
 {}

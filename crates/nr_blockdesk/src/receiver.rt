@@ -38,11 +38,11 @@ use nr_transmission::{DeskFault, Settings, Tx};
 use std::alloc::{AllocError, Global};
 use std::marker::Model;
 
-/// The receiver of one transport block: it keeps the first bit heard of each position of each code block, and what
-/// follows from them. From where every position below K' is known it keeps the codewords of the one transport block that
-/// may explain all: a bit more for each position. What a transmission tells of a code block is put together in two bits
-/// for each position of one. It keeps its allocator. `new` takes all memory but that of a delivered transport block, and
-/// but two bits a place of a transmission's longest code block; `take` asks for two bits a place of all.
+/// The receiver of one transport block: it keeps the first bit received of each position of each code block, and what
+/// follows from them. From where every position below K' is known it keeps the codewords of the one transport block
+/// that may explain all: a bit more for each position. What a transmission tells of a code block is put together in two
+/// bits for each position of one. It keeps its allocator. `new` takes all memory but that of a delivered transport
+/// block, and but two bits a place of a transmission's longest code block; `take` asks for two bits a place of all.
 #[derive(Drop)]
 pub struct Receiver<'t> {
     table: &'t Table,
@@ -76,13 +76,13 @@ impl<'t> Model for Receiver<'t> {
 }
 
 impl<'t> Receiver<'t> {
-    /// The receiver of a transport block of `a` bits, which has heard nothing yet.
+    /// The receiver of a transport block of `a` bits, which has received nothing yet.
     ///
     /// # Errors
     ///
     /// In this order: `Size`, where `a` is not 8 to 1,310,720 in whole octets; `Pick`, where no base graph is picked;
     /// `Seg`, where there is no plan; `Graph`, where the table lacks the base graph; `Rm`, where the limited buffer
-    /// keeps no bit (`NoBuffer`); `Memory`, where memory is refused.
+    /// keeps no bit (`NoBuffer`); `Memory`, where memory runs out.
     pub fn new(
         alloc: Global,
         table: &'t Table,
@@ -98,7 +98,7 @@ impl<'t> Receiver<'t> {
         Receiver::over(alloc, table, plan, a, buffer)
     }
 
-    // The receiver of a transport block of `a` bits over this link, which has heard nothing yet.
+    // The receiver of a transport block of `a` bits over this link, which has received nothing yet.
     pub(crate) fn over(
         alloc: Global,
         table: &'t Table,
@@ -132,17 +132,17 @@ impl<'t> Receiver<'t> {
         })
     }
 
-    /// Hears a transmission, code block by code block, and answers what may be handed up of all that was received so far
-    /// (TS 38.212, 5.4.2 and 5.5): for every list of receptions of which `heard` is the record. A transport block is
-    /// delivered only where it explains all that arrived, and no other one does. When every position below K' is known for
-    /// the first time, that block is encoded and compared with all that was heard; a later call compares only the bits
-    /// that it hears. So it costs its G places, the peelers' visits, and a copy of the block.
+    /// Receives a transmission, code block by code block, and returns what may be handed up of all that was received so
+    /// far (TS 38.212, 5.4.2 and 5.5): for every list of receptions of which `heard` is the record. A transport block
+    /// is delivered only where it explains all that arrived, and no other one does. When every position below K' is
+    /// known for the first time, that block is encoded and compared with all that was received; a later call compares
+    /// only the bits that it receives. So it costs its G places, the peelers' visits, and a copy of the block.
     ///
     /// # Errors
     ///
     /// In this order: `Rv`, where the redundancy version is above 3; `Rm`, where the bits can't be shared out: `Order`,
     /// `Layers`, `Total`, `Ragged` or `NoneScheduled`; `Length`, where `heard` does not have G places; `Memory`, where
-    /// memory is refused. Nothing is heard then.
+    /// memory runs out. Nothing is received then.
     pub fn take(&mut self, tx: &Tx, heard: &[Heard]) -> Result<Outcome, DeskFault>
         ensures link { self.new.link ≡ self.old.link }
         ensures refused { RefusesAs DeskFault.Memory result
@@ -191,7 +191,7 @@ impl<'t> Receiver<'t> {
         &self.plan
     }
 
-    /// The peeler of code block `r`, counted from 0 and below C: it is given the positions that were heard, and the
+    /// The peeler of code block `r`, counted from 0 and below C: it is given the positions that were received, and the
     /// fillers. The bits that it knows are those of the codeword of each transport block that explains all that was
     /// received.
     pub fn peeler(&self, r: u32) -> &Peeler<'t>

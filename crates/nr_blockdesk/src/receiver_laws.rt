@@ -24,7 +24,7 @@ use nr_peel::laws::{
 };
 use nr_segment::{code_blocks_are_long, join_undoes_cut, plans_are_sound};
 
-/// Law: which transport blocks explain all that arrived can be read off the record of the first bit heard at each
+/// Law: which transport blocks explain all that arrived can be read off the record of the first bit received at each
 /// position.
 pub fn explains_by_record()
     ensures { ExplainsByRecord }
@@ -35,7 +35,7 @@ pub fn explains_by_record()
 }
 
 /// Law: two transport blocks that explain all that arrived have the same bits in their codewords wherever the parity
-/// rows, applied one unknown at a time, fix a position from what was heard.
+/// rows, applied one unknown at a time, fix a position from what was received.
 pub fn explainers_agree()
     ensures { ExplainersAgree }
 {
@@ -99,9 +99,9 @@ pub fn nothing_leaves_all()
     plans_are_sound();
 }
 
-/// Law: what `Sender::new` and `Receiver::new` answer for one table, one setting and blocks of one size are two ends of
-/// one link: the receiver takes all that arrives of the sender's transmissions, and over a link that only erases what is
-/// delivered is the sender's transport block, and there is no contradiction.
+/// Law: what `Sender::new` and `Receiver::new` return for one table, one setting and blocks of one size are two ends of
+/// one link: the receiver takes all that arrives of the sender's transmissions, and over a link that only erases what
+/// is delivered is the sender's transport block, and there is no contradiction.
 pub fn ends_are_safe()
     ensures { EndsAreSafe }
 {

@@ -1,4 +1,4 @@
-//! What was heard of a code block, in the order in which its bits were selected.
+//! What was received of a code block, in the order in which its bits were selected.
 
 ghost use Rattle.std.specs.Prelude.{◌≡◌, ℕ, ◌%◌, ◌^◌, ◌≤◌, ◌<◌, length, take, drop, IfOk};
 ghost use Rattle.nr_interleave.specs.Interleaving.{interleaved};
@@ -9,7 +9,7 @@ use nr_bitvec::Bits;
 use nr_interleave::unspread_into;
 use std::alloc::{AllocError, Global};
 
-/// Marks of the selected bits that were heard, and their bits.
+/// Marks of the selected bits that were received, and their bits.
 #[derive(Drop)]
 pub(crate) struct Selected {
     pub(crate) heard: Bits,

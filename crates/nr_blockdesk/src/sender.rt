@@ -65,7 +65,7 @@ impl<'t> Sender<'t> {
     ///
     /// In this order: `Size`, where the block does not have 8 to 1,310,720 bits in whole octets; `Pick`, where no base
     /// graph is picked; `Seg`, where there is no plan; `Graph`, where the table lacks the base graph; `Rm`, where the
-    /// limited buffer keeps no bit (`NoBuffer`); `Memory`, where memory is refused.
+    /// limited buffer keeps no bit (`NoBuffer`); `Memory`, where memory runs out.
     pub fn new(
         alloc: Global,
         table: &'t Table,
@@ -97,7 +97,7 @@ impl<'t> Sender<'t> {
     /// # Errors
     ///
     /// In this order: `Rv`, where the redundancy version is above 3; `Rm`, where the bits can't be shared out: `Order`,
-    /// `Layers`, `Total`, `Ragged` or `NoneScheduled`; `Memory`, where memory is refused.
+    /// `Layers`, `Total`, `Ragged` or `NoneScheduled`; `Memory`, where memory runs out.
     pub fn send(&self, tx: &Tx) -> Result<Bits, DeskFault>
         ensures said { Gives DeskFault.Memory (λ bits. bits.items) result
             (sent_said self.now.link tx.now self.now.block) }
@@ -111,11 +111,11 @@ impl<'t> Sender<'t> {
         }
     }
 
-    /// A receiver of the transport block, which has heard nothing yet: both have one link.
+    /// A receiver of the transport block, which has received nothing yet: both have one link.
     ///
     /// # Errors
     ///
-    /// `AllocError` where memory is refused.
+    /// `AllocError` where memory runs out.
     pub fn receiver(&self) -> Result<Receiver<'t>, AllocError>
         ensures link { IfOk result (λ receiver. receiver.link ≡ self.now.link) }
         ensures empty { IfOk result (λ receiver. IsRecordOf receiver.link [] receiver.heard) }

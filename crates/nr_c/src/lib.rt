@@ -1,8 +1,9 @@
-//! The data coding chain of NR's shared channels (3GPP TS 38.212, Release 15) for callers in C: a static library.
-//! Each export answers a status, 0 or the number of its first fault (nr_calls/specs/Statuses.antt), and has no `requires`: its
-//! body in nr_calls tests all that it is given, and what it writes is a stated function of that; a refusal writes nothing. A
-//! slice is a pointer and a length, a `Global` no argument. A shift table is entries that the caller keeps. That no memory
-//! outlives a call is tested, by tests/c-library. The main contracts are those of `nr_send` and `nr_receive`. Stands on nr_calls, which has the bodies.
+//! The data coding chain of NR's shared channels (3GPP TS 38.212, Release 15) for callers in C: a static library. Each
+//! export returns a status, 0 or the number of its first fault (nr_calls/specs/Statuses.antt), and has no `requires`:
+//! its body in nr_calls tests all that it is given, and what it writes is a stated function of that; a refusal writes
+//! nothing. A slice is a pointer and a length, a `Global` no argument. A shift table is entries that the caller keeps.
+//! That no memory outlives a call is tested, by tests/c-library. The main contracts are those of `nr_send` and
+//! `nr_receive`. Stands on nr_calls, which has the bodies.
 #![tactic(auto)]
 
 ghost use Rattle.std.specs.Prelude.{◌≡◌, ◌<◌, false, length};
@@ -36,7 +37,7 @@ use std::alloc::Global;
 ///
 /// 30 `TooLong`, where the text has more than 4,194,304 octets; record by record 21 `Csv`, 22 `Fields`, 23 `Number`, 24
 /// `Range`, 25 `Twice`; 29 `Empty`; for each base graph that has an entry 26 `Core`, 27 `Extension`, 28 `MissingRow`.
-/// 1, where memory is refused, never in place of 30: `out` is as it was then.
+/// 1, where memory runs out, never in place of 30: `out` is as it was then.
 #[unsafe(no_mangle)]
 pub extern "C" fn nr_table_check(alloc: Global, text: &[u8], out: &mut NrReport) -> u32
     ensures said { Reports result out.old out.new (table_said text.now) }
@@ -51,8 +52,8 @@ pub extern "C" fn nr_table_check(alloc: Global, text: &[u8], out: &mut NrReport)
 ///
 /// # Errors
 ///
-/// In this order: 21 to 30, as `nr_table_check` has them; 2 `Room`, where `out` does not have so many entries: `out` is as
-/// it was then. 1, where memory is refused, never in place of 30. `out` and `count` are as they were with any but 2.
+/// In this order: 21 to 30, as `nr_table_check` has them; 2 `Room`, where `out` does not have so many entries: `out` is
+/// as it was then. 1, where memory runs out, never in place of 30. `out` and `count` are as they were with any but 2.
 #[unsafe(no_mangle)]
 pub extern "C" fn nr_table_entries(
     alloc: Global,
@@ -88,8 +89,8 @@ pub extern "C" fn nr_plan(rate2048: u32, a: u32, out: &mut NrPlan) -> u32
 ///
 /// # Errors
 ///
-/// In this order: 4 `Poly`, where `poly` is above 2; 3 `Many`, where there are more than 2,097,152 octets; 1, where memory
-/// is refused. `out` is as it was then.
+/// In this order: 4 `Poly`, where `poly` is above 2; 3 `Many`, where there are more than 2,097,152 octets; 1, where
+/// memory runs out. `out` is as it was then.
 #[unsafe(no_mangle)]
 pub extern "C" fn nr_crc(alloc: Global, poly: u32, octets: &[u8], out: &mut u32) -> u32
     ensures { Leaves result out.old out.new (crc_said poly octets.now) }
@@ -136,8 +137,9 @@ pub extern "C" fn nr_buffer(settings: &NrSettings, a: u32, rv: u32, out: &mut Nr
 ///
 /// # Errors
 ///
-/// In this order: 40 `Size`, 41 `RateRange` and 45 `Uneven`, as `nr_plan` has them; 7 `CodeBlock`, where `r` is not below C; 2
-/// `Room`, where `out` does not have K' octets; 1, where memory is refused, never in place of these. `out` is as it was then.
+/// In this order: 40 `Size`, 41 `RateRange` and 45 `Uneven`, as `nr_plan` has them; 7 `CodeBlock`, where `r` is not
+/// below C; 2 `Room`, where `out` does not have K' octets; 1, where memory runs out, never in place of these. `out` is
+/// as it was then.
 #[unsafe(no_mangle)]
 pub extern "C" fn nr_cut(alloc: Global, rate2048: u32, block: &[u8], r: u32, out: &mut [u8]) -> u32
     ensures { Cuts result out.old out.new (code_block_said rate2048 block.now r (length out.old)) }
@@ -145,17 +147,17 @@ pub extern "C" fn nr_cut(alloc: Global, rate2048: u32, block: &[u8], r: u32, out
     nr_calls::cutting::nr_cut(alloc, rate2048, block, r, out)
 }
 
-/// The bits d that the K bits c of a code block are coded into (TS 38.212, 5.3.2), one to an octet of `out`, which has N octets,
-/// by the base graph and the lifting size `z` alone. `bits` has c, an octet for each: 0 and 1 are bits, and 2 is a filler, which
-/// is coded as 0; `out` has 2 where c has a filler.
+/// The bits d that the K bits c of a code block are encoded to (TS 38.212, 5.3.2), one to an octet of `out`, which has
+/// N octets, by the base graph and the lifting size `z` alone. `bits` has c, an octet for each: 0 and 1 are bits, and 2
+/// is a filler, which is coded as 0; `out` has 2 where c has a filler.
 ///
 /// # Errors
 ///
-/// In this order: of the shift table 31 `Entries`, 29 `Empty`, 26 `Core`, 27 `Extension`, 28 `MissingRow`, as `nr_send` has
-/// them; 46 `Graph`, where `graph` is neither 1 nor 2, or the table lacks it; 6 `Lifting`, where code blocks of the base graph
-/// do not have the lifting size; 56 `Length`, where `bits` does not have K octets; 5 `Bit`, where one of them is none of 0, 1 and
-/// 2; 2 `Room`, where `out` does not have N octets; 1, want of memory, where it is met, never in place of 31. `out` is as it was
-/// then.
+/// In this order: of the shift table 31 `Entries`, 29 `Empty`, 26 `Core`, 27 `Extension`, 28 `MissingRow`, as `nr_send`
+/// has them; 46 `Graph`, where `graph` is neither 1 nor 2, or the table lacks it; 6 `Lifting`, where code blocks of the
+/// base graph do not have the lifting size; 56 `Length`, where `bits` does not have K octets; 5 `Bit`, where one of
+/// them is none of 0, 1 and 2; 2 `Room`, where `out` does not have N octets; 1, out of memory, where it is met, never
+/// in place of 31. `out` is as it was then.
 #[unsafe(no_mangle)]
 pub extern "C" fn nr_encode(
     alloc: Global,
@@ -172,16 +174,17 @@ pub extern "C" fn nr_encode(
     nr_calls::encoding::nr_encode(alloc, table, graph, z, bits, out)
 }
 
-/// The bits d that a code block is coded into (TS 38.212, 5.3.2), one to an octet of `out`, which has N octets: 0 and 1 are
-/// bits, and 2 is a filler, which is never sent. The code block is one of a transport block of `a` bits at the code rate
-/// `rate2048` / 2048; `bits` has its K' bits with its CRC, without fillers, an octet of 0 or 1 for each.
+/// The bits d that a code block is encoded to (TS 38.212, 5.3.2), one to an octet of `out`, which has N octets: 0 and 1
+/// are bits, and 2 is a filler, which is never sent. The code block is one of a transport block of `a` bits at the code
+/// rate `rate2048` / 2048; `bits` has its K' bits with its CRC, without fillers, an octet of 0 or 1 for each.
 ///
 /// # Errors
 ///
-/// In this order: of the shift table 31 `Entries`, 29 `Empty`, 26 `Core`, 27 `Extension`, 28 `MissingRow`, as `nr_send` has
-/// them; 40 `Size`, 41 `RateRange` and 45 `Uneven`, as `nr_plan` has them; 46 `Graph`, where the table lacks the base graph; 56
-/// `Length`, where `bits` does not have K' octets; 5 `Bit`, where one of them is neither 0 nor 1; 2 `Room`, where `out` does
-/// not have N octets; 1, want of memory, where it is met, never in place of 31. `out` is as it was then.
+/// In this order: of the shift table 31 `Entries`, 29 `Empty`, 26 `Core`, 27 `Extension`, 28 `MissingRow`, as `nr_send`
+/// has them; 40 `Size`, 41 `RateRange` and 45 `Uneven`, as `nr_plan` has them; 46 `Graph`, where the table lacks the
+/// base graph; 56 `Length`, where `bits` does not have K' octets; 5 `Bit`, where one of them is neither 0 nor 1; 2
+/// `Room`, where `out` does not have N octets; 1, out of memory, where it is met, never in place of 31. `out` is as it
+/// was then.
 #[unsafe(no_mangle)]
 pub extern "C" fn nr_codeword(
     alloc: Global,
@@ -203,11 +206,11 @@ pub extern "C" fn nr_codeword(
 ///
 /// # Errors
 ///
-/// In this order: 31 `Entries`, where an entry of the shift table is outside its base graph or does not stand past those
-/// before it; 29 `Empty`; for each base graph that has an entry 26 `Core`, 27 `Extension`, 28 `MissingRow`; of the block 40
-/// `Size`, 41 `RateRange`, 45 `Uneven`, 46 `Graph`, 47 `NoBuffer`; of the transmission 50 `Rv`, 51 `Order`, 52 `Layers`, 53
-/// `Total`, 54 `Ragged`, 55 `NoneScheduled`; 2 `Room`, where `out` does not have G octets; 1, want of memory, where it is
-/// met, never in place of 31. `out` is as it was then.
+/// In this order: 31 `Entries`, where an entry of the shift table is outside its base graph or does not stand past
+/// those before it; 29 `Empty`; for each base graph that has an entry 26 `Core`, 27 `Extension`, 28 `MissingRow`; of
+/// the block 40 `Size`, 41 `RateRange`, 45 `Uneven`, 46 `Graph`, 47 `NoBuffer`; of the transmission 50 `Rv`, 51
+/// `Order`, 52 `Layers`, 53 `Total`, 54 `Ragged`, 55 `NoneScheduled`; 2 `Room`, where `out` does not have G octets; 1,
+/// out of memory, where it is met, never in place of 31. `out` is as it was then.
 #[unsafe(no_mangle)]
 pub extern "C" fn nr_send(
     alloc: Global,
@@ -235,12 +238,12 @@ pub extern "C" fn nr_send(
 ///
 /// # Errors
 ///
-/// In this order: of the shift table 31 `Entries`, 29 `Empty`, 26 `Core`, 27 `Extension`, 28 `MissingRow`, as `nr_send` has
-/// them; of the block 40 `Size`, 41 `RateRange`, 45 `Uneven`; 2 `Room`, where `outcomes`, `left` or `block` does not have so
-/// many entries, before anything is heard; of the block 46 `Graph`, 47 `NoBuffer`; for each transmission in turn 56 `Length`,
-/// where fewer than G octets are left, 50 `Rv`, 51 `Order`, 52 `Layers`, 53 `Total`, 54 `Ragged`, 55 `NoneScheduled`; 56
-/// `Length`, where octets are left over; 1, want of memory, where it is met, never in place of 31. `outcomes`, `left` and
-/// `block` are as they were then.
+/// In this order: of the shift table 31 `Entries`, 29 `Empty`, 26 `Core`, 27 `Extension`, 28 `MissingRow`, as `nr_send`
+/// has them; of the block 40 `Size`, 41 `RateRange`, 45 `Uneven`; 2 `Room`, where `outcomes`, `left` or `block` does
+/// not have so many entries, before anything is received; of the block 46 `Graph`, 47 `NoBuffer`; for each transmission
+/// in turn 56 `Length`, where fewer than G octets are left, 50 `Rv`, 51 `Order`, 52 `Layers`, 53 `Total`, 54 `Ragged`,
+/// 55 `NoneScheduled`; 56 `Length`, where octets are left over; 1, out of memory, where it is met, never in place of
+/// 31. `outcomes`, `left` and `block` are as they were then.
 #[unsafe(no_mangle)]
 pub extern "C" fn nr_receive(
     alloc: Global,

@@ -1,4 +1,4 @@
--- The bits that a code block is coded into (TS 38.212, 5.3.2), for C.
+-- Believed, with internal helpers: the bits that a code block is encoded to (TS 38.212, 5.3.2), for C.
 use Rattle.std.specs.Prelude.{◌≡◌, ◌⊎◌, ℕ, ◌+◌, ◌*◌, ◌<◌, ◌==◌, nat_le, Bool, if◌then◌else◌, Result, Ok, Err, List, length, map, slice_index_or}
 use Rattle.std.specs.List.{list_all}
 use Rattle.nr_bitvec.specs.Bit.{bit}
@@ -67,7 +67,7 @@ pub record AreCoded (c : Codeword) (octets : List ℕ) : Type 0 where
   pub long : length octets ≡ c.plan.n
   pub each : (n : ℕ) → n < c.plan.n → slice_index_or octets n 0 ≡ coded_octet c n
 
--- What a call leaves in a room for d: its octets, where it answers 0. Where it does not, the room is as it was.
+-- What a call leaves in a room for d: its octets, where it returns 0. Where it does not, the room is as it was.
 abbrev pub Codes : ℕ → List ℕ → List ℕ → Result Codeword Fault → Type 0
 Codes status old new (Ok c) = ((status ≡ 0) × AreCoded c new) ⊎ ((status ≡ 1) × (new ≡ old))
 Codes status old new (Err e) = ((status ≡ fault_number e) ⊎ (status ≡ 1)) × (new ≡ old)

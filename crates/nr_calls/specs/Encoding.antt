@@ -1,4 +1,4 @@
--- The bits that the K bits of a code block are coded into (TS 38.212, 5.3.2), by the base graph and Zc alone, for C.
+-- Believed, with internal helpers: the bits that the K bits of a code block are encoded to (TS 38.212, 5.3.2), by base graph and Zc alone, for C.
 use Rattle.std.specs.Prelude.{◌≡◌, ◌⊎◌, ℕ, ◌+◌, ◌-◌, ◌*◌, ◌<◌, ◌==◌, ◌&&◌, nat_le, Bool, if◌then◌else◌, Option, Some, None, unwrap_or, Result, Ok, Err, List, length, map, slice_index_or}
 use Rattle.std.specs.List.{list_all}
 use Rattle.nr_bitvec.specs.Bit.{bit}
@@ -77,7 +77,7 @@ pub record AreEncoded (e : Encoded) (octets d : List ℕ) : Type 0 where
   pub long : length d ≡ (cols_of e.graph - 2) * e.z
   pub each : (n : ℕ) → n < length d → slice_index_or d n 0 ≡ encoded_octet e octets n
 
--- What a call leaves in a room for d: its octets, where it answers 0. Where it does not, the room is as it was.
+-- What a call leaves in a room for d: its octets, where it returns 0. Where it does not, the room is as it was.
 abbrev pub Encodes : ℕ → List ℕ → List ℕ → List ℕ → Result Encoded Fault → Type 0
 Encodes status octets old new (Ok e) = ((status ≡ 0) × AreEncoded e octets new) ⊎ ((status ≡ 1) × (new ≡ old))
 Encodes status octets old new (Err e) = ((status ≡ fault_number e) ⊎ (status ≡ 1)) × (new ≡ old)

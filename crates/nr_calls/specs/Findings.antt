@@ -1,4 +1,4 @@
--- What is found over a list of receptions, and what a call leaves of it in its caller's places.
+-- Believed, with internal helpers: what a list of receptions comes to, and what a call writes of it to its caller's memory.
 use Rattle.std.specs.Prelude.{◌≡◌, ◌⊎◌, ℕ, ◌+◌, ◌*◌, ◌/◌, ◌==◌, ◌&&◌, Bool, true, Result, Ok, Err, List, length, map, take}
 use Rattle.std.specs.List.{range_with_len}
 use Rattle.nr_harqbuf.specs.Record.{Heardbits}
@@ -84,8 +84,7 @@ pub record AreWritten (f : Findings) (old new : Places) : Type 0 where
   pub left : new.left ≡ f.left
   pub block : IsHandedUp f.last old.block new.block
 
--- What a call that receives leaves in its caller's places: what is found, where it answers 0. Where it does not, they are as
--- they were.
+-- What a call that receives leaves in its caller's places: what is found, where it returns 0. Where it does not, they are as they were.
 abbrev pub Decides : ℕ → Places → Places → Result Findings Fault → Type 0
 Decides status old new (Ok f) = ((status ≡ 0) × AreWritten f old new) ⊎ ((status ≡ 1) × (new ≡ old))
 Decides status old new (Err e) = ((status ≡ fault_number e) ⊎ (status ≡ 1)) × (new ≡ old)

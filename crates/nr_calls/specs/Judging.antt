@@ -1,4 +1,4 @@
--- What judging a shift table tells, and what is listed of one.
+-- Believed: the verdict on a shift table, and the entries that are listed of one (TS 38.212, 5.3.2).
 use Rattle.std.specs.Prelude.{◌≡◌, ◌⊎◌, ℕ, ◌==◌, if◌then◌else◌, Result, Ok, Err, List, length}
 use Rattle.nr_shifttable.specs.Accepted.{Entries}
 use Rattle.nr_shifttable.specs.declared.fault.TableFault.{TableFault}
@@ -45,7 +45,7 @@ pub record Listing : Type 0 where
 abbrev pub listing : List KeptEntry → ℕ → Listing
 listing room count = record { room = room; count = count }
 
--- the number that a call answers which lists a table for a room of so many entries: 2, where the table has more or fewer
+-- the number that a call returns which lists a table for a room of so many entries: 2, where the table has more or fewer
 abbrev pub listed_status : ℕ → Result Entries TableFault → ℕ
 listed_status room (Ok t) = if length (kept_listed t) == room then 0 else 2
 listed_status room (Err e) = table_status e

@@ -1,4 +1,4 @@
--- The plan of a transport block, and the parity bits of octets.
+-- Believed, with internal helpers: the segmentation plan of a transport block (TS 38.212, 5.2.2), and the parity bits of octets (5.1).
 use Rattle.std.specs.Prelude.{ℕ, ◌==◌, nat_le, if◌then◌else◌, Option, Some, None, Result, Ok, List, [], ◌∷◌, length}
 use Rattle.nr_bitvec.specs.BitList.{bits_of}
 use Rattle.nr_crcattach.specs.Attachment.{attached_length}

@@ -1,4 +1,4 @@
--- What receiving a transport block over its transmissions answers.
+-- Believed, with internal helpers: what receiving a transport block over its transmissions returns.
 use Rattle.std.specs.Prelude.{ℕ, ◌++◌, ◌==◌, nat_le, if◌then◌else◌, Result, Ok, Err, List, [], ◌∷◌, length, map, take, drop}
 use Rattle.nr_refusal.specs.Refusal.{◌>>=◌, with_fault}
 use Rattle.nr_shifttable.specs.Accepted.{Entries}
@@ -19,7 +19,7 @@ use Rattle.nr_calls.specs.declared.fault.Fault.{Fault}
 use Rattle.nr_calls.specs.declared.fault.Fault.TheVariants as fault
 use Rattle.nr_calls.specs.declared.findings.Room.{Room}
 
--- what an octet says was heard at a place: 0 and 1 are bits, any other number is nothing
+-- what an octet says was received at a place: 0 and 1 are bits, any other number is nothing
 abbrev pub heard_octet : ℕ → Heard
 heard_octet o = if o == 0 then heard.Zero else (if o == 1 then heard.One else heard.Erased)
 

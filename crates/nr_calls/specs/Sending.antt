@@ -1,4 +1,4 @@
--- What sending a transport block answers.
+-- Believed: what sending a transport block returns.
 use Rattle.std.specs.Prelude.{◌≡◌, ◌⊎◌, ℕ, ◌==◌, nat_le, Bool, Result, Ok, Err, List, length}
 use Rattle.nr_bitvec.specs.BitList.{bits_of}
 use Rattle.nr_refusal.specs.Refusal.{◌>>=◌, with_fault}
@@ -33,7 +33,7 @@ send_into_said entries settings octets tx room = do
   fits ← demanded fault.Room (length bits == room)
   Ok bits
 
--- What a call leaves in a room for bits: them, where it answers 0. Where it does not, the room is as it was.
+-- What a call leaves in a room for bits: them, where it returns 0. Where it does not, the room is as it was.
 abbrev pub Answers : ℕ → List ℕ → List ℕ → Result (List Bool) Fault → Type 0
 Answers status old new (Ok bits) = ((status ≡ 0) × AreBits bits new) ⊎ ((status ≡ 1) × (new ≡ old))
 Answers status old new (Err e) = ((status ≡ fault_number e) ⊎ (status ≡ 1)) × (new ≡ old)

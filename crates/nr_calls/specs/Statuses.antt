@@ -1,4 +1,4 @@
--- The number that a call answers where it is refused, one for each fault; 0 is none, and 1 want of memory.
+-- Believed: the status that a refused call returns, one number for each fault. 0 is no fault, and 1 is out of memory.
 use Rattle.std.specs.Prelude.{◌≡◌, ◌⊎◌, ℕ, Result, Ok, Err}
 use Rattle.nr_transmission.specs.declared.fault.DeskFault.{DeskFault}
 use Rattle.nr_transmission.specs.declared.fault.DeskFault.TheVariants as desk
@@ -72,7 +72,7 @@ fault_number fault.Entries = 31
 fault_number (fault.Table e) = table_status e
 fault_number (fault.Desk e) = desk_status e
 
--- What a call that takes no memory leaves in its place: the answer, where it answers 0. Where it does not, it is as it was.
+-- What a call that takes no memory leaves in its place: the result, where it returns 0. Where it does not, it is as it was.
 abbrev pub TellsStatus : {X : Type 0} → ℕ → X → X → Result X Fault → Type 0
 TellsStatus status old new (Ok x) = (status ≡ 0) × (new ≡ x)
 TellsStatus status old new (Err e) = (status ≡ fault_number e) × (new ≡ old)

@@ -1,4 +1,4 @@
-//! What a code block is coded into.
+//! What a code block is encoded to.
 
 ghost use Rattle.std.specs.Prelude.{◌≡◌, length};
 ghost use Rattle.nr_segment.specs.CodeBlock.{positions_of};

@@ -19,8 +19,8 @@ use std::alloc::{AllocError, Global};
 // The octet of a filler.
 const FILLER: u8 = 2;
 
-/// The bits d that a code block is coded into, one to an octet of `out`: the body of nr_c's export of this name, which says
-/// what each status is, and what `out` holds.
+/// The bits d that a code block is encoded to, one to an octet of `out`: the body of nr_c's export of this name, which
+/// says what each status is, and what `out` holds.
 pub fn nr_codeword(
     alloc: Global,
     table: &[NrEntry],
@@ -42,7 +42,7 @@ pub fn nr_codeword(
     }
 }
 
-// Writes an octet for each bit that the code block is coded into.
+// Writes an octet for each bit that the code block is encoded to.
 fn write_coded(coded: &Coded, out: &mut [u8])
     requires { length out.old ≡ coded.now.plan.n }
     ensures { AreCoded (coded_of coded.now) out.new }
@@ -52,7 +52,7 @@ fn write_coded(coded: &Coded, out: &mut [u8])
     }
 }
 
-// The octet of a bit that the code block is coded into.
+// The octet of a bit that the code block is encoded to.
 #[tactic(auto, using(crate::proofs::Columns::within))]
 fn octet_at(coded: &Coded, n: usize) -> u8
     requires { n < coded.now.plan.n }

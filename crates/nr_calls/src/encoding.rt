@@ -25,8 +25,8 @@ const FILLER: u8 = 2;
 // The largest lifting size.
 const MOST_LIFTED: u32 = 384;
 
-/// The bits d that K bits are coded into, one to an octet of `out`: the body of nr_c's export of this name, which says what each
-/// status is, and what `out` holds.
+/// The bits d that K bits are encoded to, one to an octet of `out`: the body of nr_c's export of this name, which says
+/// what each status is, and what `out` holds.
 pub fn nr_encode(
     alloc: Global,
     table: &[NrEntry],

@@ -1,4 +1,4 @@
-//! Why a call is refused, and the number that it answers then.
+//! Why a call is refused, and the number that it returns then.
 
 ghost use Rattle.std.specs.Prelude.{◌≡◌};
 ghost use Rattle.nr_calls.specs.Statuses.{block_status, desk_status, plan_status, rate_status, fault_number, table_status};
@@ -15,7 +15,7 @@ use std::alloc::AllocError;
 pub enum Fault {
     /// A growth was refused.
     Memory,
-    /// The room for an answer does not have the length that the answer has.
+    /// The room for a result does not have the length that the result has.
     Room,
     /// There is more than a call takes.
     Many,
@@ -36,7 +36,7 @@ pub enum Fault {
 }
 
 impl Fault {
-    // The number of the fault, as it is answered to C.
+    // The number of the fault, as it is returned to C.
     pub(crate) fn status(self) -> u32
         ensures { result ≡ fault_number self }
     {

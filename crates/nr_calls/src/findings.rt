@@ -49,7 +49,7 @@ impl Found {
     }
 }
 
-// The number of an outcome, as it is answered to C.
+// The number of an outcome, as it is returned to C.
 pub(crate) fn outcome_number(outcome: &Outcome) -> u32
     ensures { result ≡ outcome_number (verdict outcome.now) }
 {

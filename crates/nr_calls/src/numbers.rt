@@ -43,7 +43,7 @@ pub struct NrPlan {
     pub set: u32,
     /// K, the bits of each code block with its fillers.
     pub k: u32,
-    /// N, the bits that a code block is coded into.
+    /// N, the bits that a code block is encoded to.
     pub n: u32,
     /// Room for later fields: 0.
     pub reserved: [u32; 2],

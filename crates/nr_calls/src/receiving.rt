@@ -101,7 +101,8 @@ fn receive_by(
     hear_all(alloc, &mut receiver, txs, octets)
 }
 
-// The receiver of a transport block, which has heard nothing yet. Memory is wanted only where the block has no fault.
+// The receiver of a transport block, which has received nothing yet. Memory is wanted only where the block has no
+// fault.
 fn receiver_of<'t>(
     alloc: Global,
     table: &'t Table,
@@ -123,8 +124,8 @@ fn receiver_of<'t>(
     }
 }
 
-// What is found over some transmissions, whose places stand one transmission after the other, by a receiver that has heard
-// nothing yet.
+// What is found over some transmissions, whose places stand one transmission after the other, by a receiver that has
+// received nothing yet.
 fn hear_all(
     alloc: Global,
     receiver: &mut Receiver<'_>,
@@ -248,7 +249,7 @@ fn hear(
     take(receiver, tx, &heard)
 }
 
-// The outcome after what was heard of one more transmission. Memory is wanted only where it has no fault.
+// The outcome after what was received of one more transmission. Memory is wanted only where it has no fault.
 fn take(receiver: &mut Receiver<'_>, tx: &Tx, heard: &[Heard]) -> Result<Outcome, Fault>
     ensures link { receiver.new.link ≡ receiver.old.link }
     ensures refused { RefusesAs Fault.Memory result (with_fault Fault.Desk
@@ -270,7 +271,7 @@ fn take(receiver: &mut Receiver<'_>, tx: &Tx, heard: &[Heard]) -> Result<Outcome
     }
 }
 
-// What some octets say was heard.
+// What some octets say was received.
 fn heard_of(alloc: Global, octets: &[u8]) -> Result<Vec<Heard>, AllocError>
     ensures { IfOk result (λ heard. heard.items ≡ map heard_octet octets.now) }
 {
@@ -281,7 +282,7 @@ fn heard_of(alloc: Global, octets: &[u8]) -> Result<Vec<Heard>, AllocError>
     Ok(heard)
 }
 
-// What an octet says was heard.
+// What an octet says was received.
 fn heard_octet(octet: u8) -> Heard
     ensures { result ≡ heard_octet octet }
 {

@@ -38,7 +38,7 @@ pub fn nr_table_check(alloc: Global, text: &[u8], out: &mut NrReport) -> u32
     tell(Table::of_text(alloc, text), out)
 }
 
-// Writes what a judged table tells, and answers its number: 1 only for want of memory, which writes nothing.
+// Writes what a judged table tells, and returns its number: 1 only where memory ran out, which writes nothing.
 fn tell(judged: Result<Table, TableFault>, out: &mut NrReport) -> u32
     ensures status { result ≡ judged_status judged }
     ensures told { result ≢ 1 → out.new ≡ report_of judged }
@@ -81,7 +81,7 @@ pub fn nr_table_entries(alloc: Global, text: &[u8], out: &mut [NrEntry], count: 
     list(Table::of_text(alloc, text), out, count)
 }
 
-// Writes what is listed of a judged table, and answers its number: 1 only for want of memory.
+// Writes what is listed of a judged table, and returns its number: 1 only where memory ran out.
 fn list(judged: Result<Table, TableFault>, out: &mut [NrEntry], count: &mut usize) -> u32
     ensures status { result ≡ listed_status (length out.old) judged }
     ensures places { listing out.new count.new ≡ listed (listing out.old count.old) judged }

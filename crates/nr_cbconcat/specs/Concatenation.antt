@@ -1,4 +1,4 @@
--- Code block concatenation, TS 38.212 clause 5.5: the bits of the code blocks stand one after the other.
+-- Believed: code block concatenation (TS 38.212, 5.5). The bits of the code blocks follow one another.
 use Rattle.std.specs.Prelude.{◌≡◌, ℕ, ◌+◌, ◌-◌, ◌<◌, nat_lt, if◌then◌else◌, List, [], ◌∷◌, length, sum, take, slice_index}
 
 -- place m of the joined list is place p of code block r, where these are the lengths of the code blocks

@@ -15,8 +15,8 @@ use std::alloc::AllocError;
 ///
 /// # Errors
 ///
-/// `AllocError` is want of memory where the joined bits lack the room, and leaves them and their
-/// room as they were.
+/// `AllocError`, where memory runs out where the joined bits lack the room, and leaves them and
+/// their room as they were.
 pub fn append(joined: &mut Bits, block: &Bits) -> Result<(), AllocError>
     requires { length joined.old.items + length block.now.items ≤ 2 ^ 24 }
     ensures ok { OnOk result (joined.new.items ≡ joined.old.items ++ block.now.items) }

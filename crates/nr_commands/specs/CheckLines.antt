@@ -1,4 +1,4 @@
--- The line of `check`.
+-- Believed: the line of `check`.
 use Rattle.std.specs.Prelude.{ℕ, List, [], ◌∷◌, ◌++◌, length, codes}
 use Rattle.std.specs.Fmt.{decimal}
 use Rattle.nr_graphpick.specs.Graph.{digits_of}

@@ -1,4 +1,4 @@
--- Bits and octets in hexadecimal digits.
+-- Believed, with internal helpers: bits and octets in hexadecimal digits.
 use Rattle.std.specs.Prelude.{ℕ, ◌/◌, ◌%◌, Bool, List, [], ◌∷◌}
 use Rattle.std.specs.Char.{digit_char}
 use Rattle.nr_bitvec.specs.BitList.{number_of}

@@ -1,4 +1,4 @@
--- A Tape: a Sink over memory, with a room, a step, and a put from which on every put fails.
+-- Believed: a Tape, which is a Sink over memory. It has a room, a step, and a put from which on every put fails.
 use Rattle.std.specs.Prelude.{ℕ, zero, suc, ◌+◌, ◌-◌, ◌==◌, ◌||◌, Bool, false, List, [], ◌++◌, Option, None, Some, length, min}
 use Rattle.std.specs.Option.{option_map}
 

@@ -1,4 +1,4 @@
--- What a Sink holds: the octets written to it, where they are known, and the count of its failures.
+-- Believed: what a Sink holds: the octets written to it, where they are known, and the count of its failures.
 use Rattle.std.specs.Prelude.{◌≡◌, ℕ, ◌<◌, List, ◌++◌, Option, length, take}
 use Rattle.std.specs.Option.{option_map}
 

@@ -18,7 +18,7 @@ pub trait Sink {
 
     ghost failures: { Self → ℕ };
 
-    /// Writes the first octets of `buf` and answers how many: at least one where `buf` is not empty.
+    /// Writes the first octets of `buf` and returns how many: at least one where `buf` is not empty.
     ///
     /// # Errors
     /// `Broken` exactly where the count of failures rises. Then nothing was written.

@@ -1,4 +1,4 @@
--- Attachment of parity bits, TS 38.212 clauses 5.1, 6.2.1 and 7.2.1.
+-- Believed: attachment of parity bits (TS 38.212, 5.1, 6.2.1 and 7.2.1).
 use Rattle.std.specs.Prelude.{◌≡◌, ◌+◌, ◌<◌, ◌≤◌, ℕ, Bool, List, ◌++◌, length, nat_lt, if◌then◌else◌}
 use Rattle.nr_crcattach.specs.declared.Poly.{Poly}
 use Rattle.nr_crcattach.specs.declared.Poly.TheVariants.{A24, C16}

@@ -1,4 +1,4 @@
--- A check by octets and words.
+-- Internal: the CRC computed by octets and by words, for the proof of the faster body.
 use Rattle.std.specs.Prelude.{◌≡◌, ℕ, ◌+◌, ◌*◌, ◌++◌, Bool, List, map}
 use Rattle.std.specs.List.{range_with_len}
 use Rattle.nr_crcattach.specs.declared.Poly.{Poly}

@@ -137,7 +137,7 @@ pub fn divides(poly: Poly, bits: &Bits) -> bool
 ///
 /// # Errors
 ///
-/// `AllocError` is want of memory.
+/// `AllocError`, where memory runs out.
 pub fn attach(alloc: Global, block: &Bits) -> Result<Bits, AllocError>
     requires { length block.now.items + 24 ≤ 2 ^ 24 }
     ensures { IfOk result (λ b. b.items ≡ attached block.now.items) }
@@ -171,7 +171,7 @@ pub fn attached_len(a: u32) -> u32
 ///
 /// # Errors
 ///
-/// `AllocError` is want of memory.
+/// `AllocError`, where memory runs out.
 pub fn attach_code(alloc: Global, bits: &Bits) -> Result<Bits, AllocError>
     requires { length bits.now.items + 24 ≤ 2 ^ 24 }
     ensures { IfOk result (λ b. b.items ≡ with_check Poly.B24 bits.now.items) }

@@ -1,4 +1,4 @@
--- How the program ends.
+-- Believed, with internal helpers: how the program ends: its status, its text, and the stream that the text goes to.
 use Rattle.std.specs.Prelude.{◌≡◌, ◌≢◌, ℕ, suc, List, [], ◌∷◌, ◌++◌, All, Option, Result, Ok, Err, codes}
 use Rattle.std.specs.String.{string_bytes}
 use Rattle.nr_commands.specs.Written.{with_text}
@@ -22,7 +22,7 @@ refused_by (job_faults.Usage text) = Usage text
 refused_by (job_faults.Help text) = Help text
 refused_by job_faults.Memory = Refused faults.Memory
 
--- how a command's answer ends
+-- how a command's result ends the program
 abbrev pub ending_by : {T : Type 0} → Result T RunFault → Ending
 ending_by (Ok done) = Done
 ending_by (Err fault) = Refused fault

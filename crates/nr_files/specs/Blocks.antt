@@ -1,4 +1,4 @@
--- The blocks file: one transport block a line, in hexadecimal digits.
+-- Believed: the blocks file, which has one transport block a line, in hexadecimal digits.
 use Rattle.std.specs.Prelude.{ℕ, ◌+◌, ◌-◌, ◌*◌, ◌%◌, ◌≤◌, ◌==◌, nat_lt, not, if◌then◌else◌, Result, Ok, Err, List, [], ◌∷◌, length, take, slice_index}
 use Rattle.std.specs.List.{slice_split, list_all}
 use Rattle.std.specs.Char.{is_ascii_hexdigit, digit_value}

@@ -1,4 +1,4 @@
--- How far ranges of places reach, below a count of places.
+-- Internal: how far ranges of places reach, below a count of places.
 use Rattle.std.specs.Prelude.{ℕ, ◌+◌, ◌==◌, min, max, Bool, nat_lt, if◌then◌else◌, List, [], ◌∷◌}
 use Rattle.nr_files.specs.declared.erasure.PlaceRange.{PlaceRange}
 

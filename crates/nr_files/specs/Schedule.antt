@@ -1,4 +1,4 @@
--- The schedule file: comma-separated records, the first one a header, each other one a transmission.
+-- Believed: the schedule file of comma-separated records. The first record is a header, and each other one a transmission.
 use Rattle.std.specs.Prelude.{◌≡◌, ℕ, ◌+◌, ◌-◌, ◌<◌, ◌≤◌, ◌==◌, ◌&&◌, Bool, true, false, not, nat_lt, nat_le, if◌then◌else◌, List, [], ◌∷◌, ◌++◌, length, take, slice_index_or, codes, bytes_eq, All, Option, Some, None, option_and_then, Result, Ok, Err}
 use Rattle.nr_refusal.specs.Refusal.{◌>>=◌, or_fault}
 use Rattle.nr_shifttable.specs.Fields.{short_number}

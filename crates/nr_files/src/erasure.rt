@@ -1,4 +1,4 @@
-//! The places of a transmission that the receiver does not hear: as a schedule names them, or as they are drawn.
+//! The places of a transmission that the receiver does not receive: as a schedule names them, or as they are drawn.
 
 ghost use Rattle.std.specs.Prelude.{◌≡◌, ℕ, ◌<◌, nat_lt, length, map, slice_index, IfOk};
 ghost use Rattle.std.specs.List.{list_any, range_with_len};
@@ -80,8 +80,7 @@ pub enum Erasure {
 
 /// For each of the first `count` places whether it is erased.
 ///
-/// # Errors
-/// `AllocError` where memory is refused.
+/// # Errors `AllocError` where memory runs out.
 pub fn erased(alloc: Global, erasure: &Erasure, count: u32) -> Result<Vec<bool>, AllocError>
     ensures { IfOk result (λ marks. marks.items ≡ erased_of erasure.now count) }
 {
@@ -93,8 +92,7 @@ pub fn erased(alloc: Global, erasure: &Erasure, count: u32) -> Result<Vec<bool>,
 
 /// For each of the first `count` places whether it is meant.
 ///
-/// # Errors
-/// `AllocError` where memory is refused.
+/// # Errors `AllocError` where memory runs out.
 pub fn named(alloc: Global, places: &Places, count: u32) -> Result<Vec<bool>, AllocError>
     ensures { IfOk result
         (λ marks. marks.items ≡ map (is_named places.now) (range_with_len 0 count)) }

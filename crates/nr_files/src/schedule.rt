@@ -102,9 +102,9 @@ pub struct Transmission {
     pub block: u32,
     /// The numbers that it is sent with, and the code blocks that are scheduled.
     pub tx: Tx,
-    /// The places that the receiver does not hear.
+    /// The places that the receiver does not receive.
     pub erasure: Erasure,
-    /// The places whose bits the receiver hears the other way.
+    /// The places whose bits arrive flipped.
     pub flip: Places,
     /// Its HARQ process, from 0 (TS 38.212, 7.3.1). Where the schedule names none it is the number of its block, which
     /// so has a process of its own.

@@ -1,6 +1,6 @@
 //! The choice between the two LDPC base graphs, and their sizes (3GPP TS 38.212, 5.3.2, 6.2.2 and
-//! 7.2.2). `pick` answers the base graph of a transport block by its size and its code rate. Its
-//! contract: the answer is `picked` of specs/Graph.antt, the three comparisons of the standard in
+//! 7.2.2). `pick` returns the base graph of a transport block by its size and its code rate. Its
+//! contract: the result is `picked` of specs/Graph.antt, the three comparisons of the standard in
 //! whole numbers, or the first of the two faults. Stands on std alone, with `thiserror` for the
 //! fault; nothing here takes memory.
 #![tactic(auto)]

@@ -1,5 +1,4 @@
--- What is heard of a code block at once, as masks: two lists of truth values, the one marks the positions of the
--- codeword that were heard, the other has their bits.
+-- Believed: what one transmission gives a code block, as two masks: one marks the positions received, the other has their bits.
 use Rattle.std.specs.Prelude.{◌≡◌, ℕ, ◌+◌, ◌-◌, ◌<◌, ◌==◌, ◌&&◌, ◌||◌, Bool, nat_le, nat_lt, if◌then◌else◌, List, ◌++◌, length, map, Option, All}
 use Rattle.std.specs.Bool.{beq}
 use Rattle.std.specs.Int.{bit_at}
@@ -8,7 +7,7 @@ use Rattle.nr_bitvec.specs.Bit.{bit}
 use Rattle.nr_harqbuf.specs.Positions.{kept_at}
 use Rattle.nr_harqbuf.specs.Record.{Heardbits, Hearing, heard_as, first_at, is_heard, differs, record_of}
 
--- the masks say that a position was heard, and with this bit
+-- the masks say that a position was received, and with this bit
 abbrev pub says : List Bool → List Bool → ℕ → Bool → Bool
 says heard value p b = bit heard p && beq (bit value p) b
 
@@ -17,7 +16,7 @@ abbrev pub word_says : ℕ → ℕ → ℕ → ℕ → ℕ → Bool → Bool
 word_says at count heard value p b =
     nat_le at p && nat_lt p (at + count) && (bit_at heard (p - at) == 1) && beq (bit_at value (p - at) == 1) b
 
--- the masks say what was heard, so that no position was heard with both bits
+-- the masks say what was received, so that no position was received with both bits
 abbrev pub AreMasks : List Hearing → List Bool → List Bool → Type 0
 AreMasks hs heard value = (p : ℕ) (b : Bool) → heard_as hs p b ≡ says heard value p b
 
@@ -25,7 +24,7 @@ AreMasks hs heard value = (p : ℕ) (b : Bool) → heard_as hs p b ≡ says hear
 abbrev pub first_merged : Heardbits → List Bool → List Bool → ℕ → Option Bool
 first_merged s heard value p = if is_heard (first_at s p) then first_at s p else kept_at heard value p
 
--- a position of the record is heard by the masks with the other bit
+-- a position of the record is received by the masks with the other bit
 abbrev pub differs_at : Heardbits → List Bool → List Bool → ℕ → Bool
 differs_at s heard value p = bit heard p && differs (first_at s p) (bit value p)
 

@@ -1,21 +1,21 @@
-//! Laws of the record of what was heard, each the contract of a function that does nothing.
+//! Laws of the record of what was received, each the contract of a function that does nothing.
 
 ghost use Rattle.nr_harqbuf.specs.Masks.{RecordMerges};
 ghost use Rattle.nr_harqbuf.specs.Record.{FitsByRecord, RecordContinues};
 
-/// Law: hearing one more bit makes the record of the longer list of hearings.
+/// Law: receiving one more bit makes the record of the longer list of hearings.
 pub fn record_continues()
     ensures { RecordContinues }
 {}
 
-/// Law: a word agrees with all that was heard exactly where the record has no clash and the word has every first
+/// Law: a word agrees with all that was received exactly where the record has no clash and the word has every first
 /// bit of the record.
 pub fn fits_by_record()
     ensures { FitsByRecord }
 {}
 
-/// Law: hearing all that the masks of further hearings say, of which none tells a position both bits, makes the record
-/// of the longer list of hearings.
+/// Law: receiving all that the masks of further hearings say, of which none tells a position both bits, makes the
+/// record of the longer list of hearings.
 pub fn record_merges()
     ensures { RecordMerges }
 {}

@@ -1,5 +1,5 @@
-//! Masks of what is heard at once: one list of bits marks the positions of the codeword that were heard, another has
-//! the bits heard there.
+//! Masks of what is received at once: one list of bits marks the positions of the codeword that were received,
+//! another has the bits received there.
 
 ghost use Rattle.std.specs.Prelude.{◌≡◌, ℕ, ◌+◌, ◌≤◌, ◌||◌, ◌↔◌, Bool, not, true, false, length, IsTrue};
 ghost use Rattle.nr_bitvec.specs.Bit.{bit};
@@ -9,7 +9,7 @@ use nr_bitvec::Bits;
 use nr_bitvec::words::low_bits;
 
 /// Hears up to 64 bits one after another: of the `count` positions from position `at` on, those that `now` marks, the
-/// lowest bit first, with the bits of `bits`. The first bit of a position stays. Answers whether no position that the
+/// lowest bit first, with the bits of `bits`. The first bit of a position stays. Returns whether no position that the
 /// masks marked before is marked again with the other bit: then they say what they said and what the words say. Takes
 /// no memory.
 pub fn merge_word(

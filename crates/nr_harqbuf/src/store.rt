@@ -12,8 +12,8 @@ use nr_segment::Plan;
 use std::alloc::{AllocError, Global};
 use std::marker::Model;
 
-/// What was heard of one code block: for each position of its codeword the bit that was heard first, and whether
-/// some position was heard with both bits.
+/// What was received of one code block: for each position of its codeword the bit that was received first, and whether
+/// some position was received with both bits.
 #[derive(Drop)]
 pub struct Store {
     heard: Bits,
@@ -34,11 +34,11 @@ impl Model for Store {
 }
 
 impl Store {
-    /// A store in which nothing was heard yet, of one code block of this plan. All memory of its life is taken here.
+    /// A store in which nothing was received yet, of one code block of this plan. All memory of its life is taken here.
     ///
     /// # Errors
     ///
-    /// `AllocError` is want of memory.
+    /// `AllocError`, where memory runs out.
     pub fn new(alloc: Global, plan: &Plan) -> Result<Store, AllocError>
         ensures { IfOk result (λ store. store ≡ record_of (positions_of plan.now) []) }
     {
@@ -52,8 +52,8 @@ impl Store {
         })
     }
 
-    /// Hears a bit at a position of the codeword. The first bit of a position is kept, and a different one later
-    /// is a clash. Takes no memory.
+    /// Receives a bit at a position of the codeword. The first bit of a position is kept, and a different one later is
+    /// a clash. Takes no memory.
     pub fn hear(&mut self, pos: u32, bit: bool)
         requires { pos < length self.old.first }
         ensures { self.new ≡ with_hearing self.old (pos, bit) }
@@ -67,9 +67,9 @@ impl Store {
         }
     }
 
-    /// Hears all that masks say at once: the bit of `value` at each position that `heard` marks, one mark a position of
-    /// the codeword. The first bit of a position is kept, and a different one later is a clash. Of the marks only the
-    /// fresh ones stay, of the positions that were heard for the first time. Takes no memory.
+    /// Receives all that masks say at once: the bit of `value` at each position that `heard` marks, one mark a position
+    /// of the codeword. The first bit of a position is kept, and a different one later is a clash. Of the marks only
+    /// the fresh ones stay, of the positions that were received for the first time. Takes no memory.
     pub fn hear_all(&mut self, heard: &mut Bits, value: &Bits)
         requires marks { length heard.old.items ≡ length self.old.first }
         ensures merged { self.new ≡ merged self.old heard.old.items value.now.items }
@@ -92,7 +92,7 @@ impl Store {
         }
     }
 
-    /// The bit that was heard first at a position of the codeword, or `None` where nothing was.
+    /// The bit that was received first at a position of the codeword, or `None` where nothing was.
     pub fn heard(&self, pos: u32) -> Option<bool>
         requires { pos < length self.now.first }
         ensures { result ≡ first_at self.now pos }
@@ -105,7 +105,7 @@ impl Store {
         }
     }
 
-    /// Whether a word of the code has every bit that was heard first. Takes no memory.
+    /// Whether a word of the code has every bit that was received first. Takes no memory.
     pub fn fits(&self, word: &Bits) -> bool
         ensures { IsTrue result ↔ HasFirsts self.now (bit word.now.items) }
     {
@@ -119,7 +119,7 @@ impl Store {
         self.heard.len() as u32
     }
 
-    /// Whether some position was heard with both bits.
+    /// Whether some position was received with both bits.
     pub fn clash(&self) -> bool
         ensures { result ≡ self.now.clash }
     {

@@ -1,4 +1,4 @@
--- Bits of a row of the matrix, spread to the first rows of columns that stand one after another.
+-- Internal: the bits of a row of the interleaver's matrix, spread to the first rows of consecutive columns.
 use Rattle.std.specs.Prelude.{◌≡◌, ℕ, ◌+◌, ◌*◌, ◌^◌, ◌<◌, ◌==◌, if◌then◌else◌, Bool, List, slice_index_or}
 use Rattle.std.specs.Int.{bit_at}
 use Rattle.nr_bitvec.specs.Bit.{bit}

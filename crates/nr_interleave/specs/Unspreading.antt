@@ -1,4 +1,4 @@
--- Bits that stand apart in a word, brought together, and the rows of a matrix one after another.
+-- Internal: bits that are spread over a word, packed together again, and the rows of a matrix one after another.
 use Rattle.std.specs.Prelude.{◌≡◌, ℕ, ◌+◌, ◌-◌, ◌*◌, ◌/◌, ◌%◌, ◌<◌, ◌==◌, if◌then◌else◌, Bool, List, [], ◌∷◌, ◌++◌, map, slice_index_or}
 use Rattle.std.specs.Int.{bit_at}
 use Rattle.std.specs.List.{range_with_len}

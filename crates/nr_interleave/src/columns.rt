@@ -93,9 +93,9 @@ fn join_rows<const QM: usize, const FOURS: usize>(
     word
 }
 
-// Has the next columns, as many as `FOURS` entries have, in the words of the rows: reads these anew from column `column`
-// on where they have fewer from place `first` on. Answers the place where the columns begin. A row's bits past its end
-// are those of the next row.
+// Has the next columns, as many as `FOURS` entries have, in the words of the rows: reads these anew from column
+// `column` on where they have fewer from place `first` on. Returns the place where the columns begin. A row's bits past
+// its end are those of the next row.
 fn refill<const QM: usize, const FOURS: usize>(
     rows: &mut [u64; QM],
     first: usize,

@@ -35,7 +35,7 @@ pub fn seat(qm: u32, e: u32, m: u32) -> u32
 ///
 /// # Errors
 ///
-/// `AllocError` is want of memory, which is asked for once.
+/// `AllocError`, where memory runs out, which is asked for once.
 pub fn spread(alloc: Global, qm: u32, bits: &Bits) -> Result<Bits, AllocError>
     requires some { 0 < qm }
     requires whole { length bits.now.items % qm ≡ 0 }
@@ -46,7 +46,7 @@ pub fn spread(alloc: Global, qm: u32, bits: &Bits) -> Result<Bits, AllocError>
     Ok(spread)
 }
 
-/// Puts the bits that `spread` answers at the end of a list that has room for them (TS 38.212, 5.4.2.2). Takes no
+/// Puts the bits that `spread` returns at the end of a list that has room for them (TS 38.212, 5.4.2.2). Takes no
 /// memory.
 pub fn spread_onto(qm: u32, bits: &Bits, spread: &mut Bits)
     requires some { 0 < qm }

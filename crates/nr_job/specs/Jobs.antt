@@ -1,4 +1,4 @@
--- The job that the program's words ask for, by what clap gives for the options of its command.
+-- Believed, with internal helpers: the job that the program's words ask for, by what clap gives for the options of its command.
 use Rattle.std.specs.Prelude.{◌≡◌, ◌⊎◌, ℕ, ◌+◌, ◌≤◌, Bool, true, List, [], Some, codes, IsSomeAnd, slice_get, bytes_eq, if◌then◌else◌}
 use Rattle.std.specs.Str.Parse.{IsNumeral, digits_value, without_leading_plus}
 use Rattle.std.specs.String.{string_bytes}

@@ -37,7 +37,7 @@ pub fn job(alloc: Global, words: &[String]) -> Result<Job, JobFault>
     ensures faultless { words.now ≢ []
         → IfOk result (λ job. faults_at (map string_bytes words.now) job ≡ []) }
 
-    // Where clap takes the words, and they ask for a job, only want of memory refuses it.
+    // Where clap takes the words, and they ask for a job, only running out of memory refuses it.
     ensures asked { (asked : Asked) → IsTakenAs (map string_bytes words.now) asked
         → IsJobOf (map string_bytes words.now) asked → IsOkUnless result JobFault.Memory }
 {

@@ -1,7 +1,7 @@
-//! What the words of a command line ask the program for: one of five jobs over files, or help, or how it is used.
-//! Its contract: an accepted job is the one that clap's function of the words gives, without a fault of clap's; where clap
-//! takes the words and they ask for a job, only want of memory refuses them.
-//! Stands on `clap` for the command line and on `thiserror` for faults, and on no crate of this repository.
+//! What the words of a command line ask the program for: one of five jobs over files, or help, or how it is used. Its
+//! contract: an accepted job is the one that clap's function of the words gives, without a fault of clap's; where clap
+//! takes the words and they ask for a job, only running out of memory refuses them. Stands on `clap` for the command
+//! line and on `thiserror` for faults, and on no crate of this repository.
 #![tactic(auto)]
 
 mod command_line;

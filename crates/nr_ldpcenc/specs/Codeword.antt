@@ -1,5 +1,4 @@
--- The codeword of a code block: the one word that begins with its bits, the fillers zero, and meets every row
--- (TS 38.212, 5.3.2).
+-- Believed: the codeword of a code block, which is the one word that begins with its bits, has zero fillers and meets every row (TS 38.212, 5.3.2).
 use Rattle.std.specs.Prelude.{◌≡◌, ℕ, ◌<◌, Bool, true, false, nat_lt, nat_le, ◌&&◌, Ok, List, length, take}
 use Rattle.nr_bitvec.specs.Bit.{bit}
 use Rattle.nr_graphpick.specs.declared.Graph.{Graph}

@@ -1,5 +1,5 @@
--- The parity columns of a word, computed: what the one codeword is made of. What it promises stands in Codeword: the
--- word meets every row, and no other does.
+-- Believed, with internal helpers: the parity columns of a word, computed (TS 38.212, 5.3.2). Codeword.antt says what they promise: the word meets
+-- every row, and no other does.
 use Rattle.std.specs.Prelude.{◌≡◌, ℕ, zero, suc, ◌+◌, ◌-◌, ◌*◌, ◌/◌, ◌%◌, ◌<◌, ◌≤◌, ◌==◌, nat_lt, Bool, false, if◌then◌else◌, List, map, filter, length, Option, Some, None, option_map, unwrap_or, slice_index}
 use Rattle.std.specs.List.{range_with_len}
 use Rattle.nr_bitvec.specs.Bit.{◌⊕◌, bit}

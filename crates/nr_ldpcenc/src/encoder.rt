@@ -22,7 +22,7 @@ use std::alloc::Global;
 /// # Errors
 ///
 /// In this order: `NoGraph`, where the table lacks the plan's base graph, before any memory is asked for; `Memory`,
-/// where memory is refused.
+/// where memory runs out.
 pub fn encode(alloc: Global, table: &Table, plan: &Plan, bits: &Bits) -> Result<Word, EncFault>
     requires { length bits.now.items ≡ plan.now.kdash }
     ensures no_graph { IsErrOf result EncFault.NoGraph

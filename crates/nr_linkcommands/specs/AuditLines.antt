@@ -1,4 +1,4 @@
--- The lines of `audit`: of a code block, how many positions peeling fixed, or those that it left.
+-- Believed, with internal helpers: the lines of `audit`, which say of a code block how many positions peeling fixed, or which ones it left unknown.
 use Rattle.std.specs.Prelude.{List, [], codes, count_by, filter, flat_map, if◌then◌else◌, length, not, ℕ, ◌&&◌, ◌++◌, ◌==◌, ◌∷◌}
 use Rattle.std.specs.Fmt.{decimal}
 use Rattle.std.specs.List.{range_with_len}
@@ -10,7 +10,7 @@ use Rattle.nr_blockdesk.specs.Heard.{heard_of}
 use Rattle.nr_blockdesk.specs.Link.{Link}
 use Rattle.nr_blockdesk.specs.Outcome.{fixed, given, left}
 
--- how many positions of a code block peeling fixed: those that are fixed, but neither heard nor fillers
+-- how many positions of a code block peeling fixed: those that are fixed, but neither received nor fillers
 abbrev pub steps_of : Link → Heardbits → ℕ
 steps_of link s =
     count_by (λ p. fixed link s p && not (given link s p)) (range_with_len 0 (word_size link.graph link.plan))
@@ -38,7 +38,7 @@ stuck_line n r positions =
     codes "stuck " ++ decimal n ++ codes " " ++ decimal r ++ codes " " ++ decimal (length positions)
     ++ flat_map position_word positions ++ 10 ∷ []
 
--- the line of code block r of block n by the record of what was heard: it is fixed where no position below K' is left
+-- the line of code block r of block n by the record of what was received: it is fixed where no position below K' is left
 unfoldable pub audit_line : ℕ → Link → List Heardbits → ℕ → List ℕ
 audit_line n link records r =
     if left link records r == 0 then order_line n r (steps_of link (heard_of records r))

@@ -1,4 +1,4 @@
--- The text of `audit` over the rounds of a schedule's processes, or over its blocks where it names none.
+-- Believed, with internal helpers: the text of `audit` over the rounds of a schedule's processes, or over its blocks where it names no process.
 use Rattle.std.specs.Prelude.{Bool, List, Result, [], false, true, ℕ, ◌++◌, ◌+◌, ◌∷◌, ◌≡◌}
 use Rattle.nr_blockdesk.specs.Explains.{Reception}
 use Rattle.nr_blockdesk.specs.Heard.{IsRecordOf, heard_record}
@@ -22,7 +22,7 @@ unfoldable pub audit_lines : List Transmission → ℕ → List Sending → List
 audit_lines schedule n [] = []
 audit_lines schedule n (sender ∷ senders) = audit_of schedule n sender ++ audit_lines schedule (n + 1) senders
 
--- a receiver of a sender's transport block has heard this list
+-- a receiver of a sender's transport block has received this list
 pub record HasHeard (sender : Sending) (list : List Reception) (receiver : Receiving) : Type 0 where
   pub link : receiver.link ≡ sender.link
   pub heard : IsRecordOf sender.link list receiver.heard

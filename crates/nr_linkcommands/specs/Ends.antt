@@ -1,4 +1,4 @@
--- What the slots of a run keep.
+-- Internal: what the slots of a run keep.
 use Rattle.std.specs.Prelude.{◌≡◌, ℕ, ◌+◌, ◌*◌, ◌<◌, ◌≤◌, ◌==◌, Bool, true, false, not, if◌then◌else◌, List, [], ◌∷◌, Option, Some, None, length, take, slice_index_or}
 use Rattle.nr_blockdesk.specs.Explains.{Reception}
 use Rattle.nr_blockdesk.specs.Heard.{IsRecordOf, heard_record}

@@ -1,4 +1,4 @@
--- What a transmission gives: the bits that its sender sends, and what is heard of them.
+-- Internal: what a transmission gives: the bits that its sender sends, and what is received of them.
 use Rattle.std.specs.Prelude.{◌≡◌, Result, Ok, Err}
 use Rattle.nr_blockdesk.specs.Explains.{IsAccepted, reception}
 use Rattle.nr_blockdesk.specs.Sent.{Sending, sent_said}
@@ -7,7 +7,7 @@ use Rattle.nr_linkcommands.specs.Hearing.{heard_through}
 use Rattle.nr_linkcommands.specs.declared.link.Arrival.{Arrival}
 use Rattle.nr_files.specs.declared.schedule.Transmission.{Transmission}
 
--- what a sender's transmission gives that is not refused: a receiver of the sender's link accepts what is heard
+-- what a sender's transmission gives that is not refused: a receiver of the sender's link accepts what is received
 pub record IsExchanged (sender : Sending) (x : Transmission) (exchange : Arrival) : Type 0 where
   pub sent : sent_said sender.link x.tx sender.block ≡ Ok exchange.bits.items
   pub heard : exchange.heard.items ≡ heard_through x exchange.bits.items

@@ -1,4 +1,4 @@
--- The one contract of the commands over four files, `send`, `run` and `audit`: they differ by what they say.
+-- Believed: the one contract of the commands over four files, `send`, `run` and `audit`. They differ by their text alone.
 use Rattle.std.specs.Prelude.{◌≡◌, ◌≢◌, ℕ, List, Option, Result, Ok, Err, IsErr, IfErr, IfOk}
 use Rattle.nr_refusal.specs.Refusal.{◌>>=◌, FailsAs}
 use Rattle.nr_shifttable.specs.declared.fault.TableFault.TheVariants as table_fault
@@ -40,7 +40,7 @@ after u = u.octets u.new
 abbrev pub HasNotFailed : {X : Type 0} → Used X → Type 0
 HasNotFailed u = u.failures u.new ≡ u.failures u.old
 
--- this fault is answered exactly where it failed
+-- this fault is returned exactly where it failed
 abbrev pub FailsBy : {X Y E : Type 0} → E → Result Y E → Used X → Type 0
 FailsBy told result u = FailsAs told result (u.failures u.old) (u.failures u.new)
 

@@ -1,5 +1,4 @@
--- What the receiver of a run hears of the bits that are sent: nothing at an erased place; else at a flipped place the
--- other bit; else the bit that is sent.
+-- Believed: what the receiver of a run has of the bits sent: nothing at an erased place, the other bit at a flipped place, else the bit sent.
 use Rattle.std.specs.Prelude.{ℕ, Bool, List, length, map}
 use Rattle.std.specs.List.{range_with_len}
 use Rattle.nr_bitvec.specs.Bit.{◌⊕◌, bit}
@@ -8,11 +7,11 @@ use Rattle.nr_blockdesk.specs.declared.heard.Heard.{Heard}
 use Rattle.nr_files.specs.Erasures.{erased_of, is_named}
 use Rattle.nr_files.specs.declared.schedule.Transmission.{Transmission}
 
--- what is heard at place m, with the marks of the erased places
+-- what is received at place m, with the marks of the erased places
 abbrev pub arrives_at : Transmission → List Bool → List Bool → ℕ → Heard
 arrives_at x erased bits m = arrived_bit (bit erased m) (is_named x.flip m ⊕ bit bits m)
 
--- what is heard of the bits of a transmission, place by place
+-- what is received of the bits of a transmission, place by place
 unfoldable pub heard_through : Transmission → List Bool → List Heard
 heard_through x bits =
     map (arrives_at x (erased_of x.erasure (length bits)) bits) (range_with_len 0 (length bits))

@@ -1,4 +1,4 @@
--- What the four files of a command over a schedule say: `send`, and those that follow its schedule.
+-- Believed: what the four files of a command over a schedule say, for `send` and for those that follow its schedule.
 use Rattle.std.specs.Prelude.{◌≡◌, ◌≢◌, ℕ, ◌+◌, List, [], ◌∷◌, length, map, Option, IfSome, IsOk, IfOk, Result, Ok, Err}
 use Rattle.nr_bitvec.specs.BitList.{bits_of}
 use Rattle.nr_refusal.specs.Refusal.{◌>>=◌, with_fault}

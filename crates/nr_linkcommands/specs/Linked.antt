@@ -1,4 +1,4 @@
--- That two proofs of a schedule's facts are one, which a ghost field asks for.
+-- Internal: that two proofs of a schedule's facts are one, which a ghost field asks for.
 use Rattle.std.specs.Prelude.{Bool, true, false}
 use Rattle.std.proofs.Props.{props}
 use Rattle.nr_files.specs.Schedule.{IsPlaced}

@@ -1,4 +1,4 @@
--- A round of a schedule is the round of a HARQ process: what the calls make of the process that the transmissions stand for.
+-- Believed: what calls on a HARQ process stand for a round of a schedule, and what they make of the process.
 use Rattle.std.specs.Prelude.{◌≡◌, ℕ, true, if◌then◌else◌, List, [], ◌∷◌, ◌++◌, Option, Some, None, length, map, flat_map, Ok}
 use Rattle.nr_shifttable.specs.Accepted.{Entries}
 use Rattle.nr_blockdesk.specs.Calls.{Call, Round, begin, take, round_after}

@@ -1,5 +1,4 @@
--- The text of a command that follows a schedule by its processes: the lines of each transmission, and those of each round
--- where it ends.
+-- Believed: the text of a command that follows a schedule by its processes: lines for each transmission, and lines at the end of each round.
 use Rattle.std.specs.Prelude.{◌≡◌, ℕ, ◌-◌, ◌==◌, Bool, if◌then◌else◌, List, [], ◌∷◌, ◌++◌, Option, Some, None, slice_get, flat_map, map}
 use Rattle.std.specs.List.{filter, range_with_len}
 use Rattle.nr_blockdesk.specs.Sent.{Sending}

@@ -1,4 +1,4 @@
--- The lines of `run`, but those that it shares with `send`.
+-- Believed: the lines of `run`, except those that it shares with `send`.
 use Rattle.std.specs.Prelude.{Bool, List, [], codes, count_by, flat_map, length, not, ℕ, ◌++◌, ◌==◌, ◌∷◌}
 use Rattle.std.specs.Fmt.{decimal}
 use Rattle.std.specs.List.{range_with_len}
@@ -15,7 +15,7 @@ unfoldable pub left_line : ℕ → ℕ → ℕ → ℕ → List ℕ
 left_line t n r count =
     codes "left " ++ decimal t ++ codes " " ++ decimal n ++ codes " " ++ decimal r ++ codes " " ++ decimal count ++ 10 ∷ []
 
--- the lines of the code blocks, by what was heard of them
+-- the lines of the code blocks, by what was received of them
 abbrev pub left_lines : ℕ → ℕ → Link → List Heardbits → List ℕ
 left_lines t n link records =
     flat_map (λ r. left_line t n r (left link records r)) (range_with_len 0 link.plan.c)
@@ -36,7 +36,7 @@ open_line n tx failed c =
     codes "block " ++ decimal n ++ codes " open tx " ++ decimal tx ++ codes " failed " ++ decimal failed
     ++ codes " of " ++ decimal c ++ 10 ∷ []
 
--- the same: no transport block explains what was heard
+-- the same: no transport block explains what was received
 unfoldable pub contradiction_line : ℕ → ℕ → ℕ → List ℕ
 contradiction_line n tx c =
     codes "block " ++ decimal n ++ codes " contradiction tx " ++ decimal tx ++ codes " failed 0 of " ++ decimal c ++ 10 ∷ []

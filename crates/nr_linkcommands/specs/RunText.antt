@@ -1,5 +1,5 @@
--- The text of `run` over the rounds of a schedule's processes, or over its blocks where it names none: the lines of each
--- transmission by what was received before, those of each block or round by its outcome, and the totals.
+-- Believed: the text of `run` over the rounds of a schedule's processes, or over its blocks where it names no process. Each transmission has lines by
+-- what was received before it. Each block or round has lines by its outcome, and the totals come last.
 use Rattle.std.specs.Prelude.{Bool, Err, List, None, Ok, Option, Result, Some, [], codes, false, flat_map, true, ℕ, ◌++◌, ◌+◌, ◌==◌, ◌∷◌}
 use Rattle.std.specs.List.{filter}
 use Rattle.nr_blockdesk.specs.Explains.{Reception, reception}
@@ -67,7 +67,7 @@ open_counted t c failed = record t {
   failed = t.failed + failed;
 }
 
--- no transport block explains what was heard
+-- no transport block explains what was received
 abbrev pub contradiction_counted : Totals → ℕ → Totals
 contradiction_counted t c =
     record t { blocks = t.blocks + 1; contradiction = t.contradiction + 1; code_blocks = t.code_blocks + c }

@@ -1,4 +1,4 @@
--- The text of `send`.
+-- Believed: the text of `send` (TS 38.212, 6.2 and 7.2).
 use Rattle.std.specs.Prelude.{List, None, Option, Result, Some, [], flat_map, slice_get, ℕ, ◌-◌}
 use Rattle.nr_linkcommands.specs.FourFiles.{said_over}
 use Rattle.nr_blockdesk.specs.Sent.{Sending, sent_said}

@@ -30,7 +30,7 @@ use std::alloc::Global;
 /// block, counted from 1, a line for each of its code blocks, counted from 0:
 ///
 /// - `order <n> <r> <steps>`, where every position below K' is fixed: how many positions peeling fixed, which are
-///   those fixed but neither heard nor fillers;
+///   those fixed but neither received nor fillers;
 /// - `stuck <n> <r> <count> <positions>`, where one is not: all positions that are not fixed, ascending. They are a
 ///   stopping set, which is why peeling can't go on (TS 38.212, 5.3.2).
 ///

@@ -1,4 +1,4 @@
--- A round's numbers, and the positions of the codeword that a redundancy version selects.
+-- Internal: the numbers of one cycle through the circular buffer, and the positions that a redundancy version selects.
 use Rattle.std.specs.Prelude.{◌≡◌, ℕ, ◌+◌}
 use Rattle.nr_ratematch.specs.Rounds.{index_from}
 use Rattle.nr_ratematch.specs.Selection.{Circular, place_of}

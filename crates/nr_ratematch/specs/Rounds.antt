@@ -1,4 +1,4 @@
--- Once round the buffer in numbers, where its fillers stand one after another.
+-- Internal: one cycle through the circular buffer in numbers, where the fillers are one contiguous run.
 use Rattle.std.specs.Prelude.{ℕ, ◌+◌, ◌%◌, nat_lt, if◌then◌else◌}
 
 -- place i of those that are no fillers: `front` of them stand before `skip` fillers

@@ -1,4 +1,4 @@
--- Bit selection, TS 38.212 clause 5.4.2.1: which bits of a codeword are sent, out of its circular buffer.
+-- Believed: bit selection, which says what bits of a codeword are sent out of its circular buffer (TS 38.212, 5.4.2.1).
 use Rattle.std.specs.Prelude.{◌≡◌, ℕ, ◌+◌, ◌-◌, ◌*◌, ◌/◌, ◌%◌, ◌<◌, ◌≤◌, ◌==◌, Bool, false, not, min, if◌then◌else◌, Option, Some, None, Result, Ok, Err, List, [], ◌∷◌, length, map, filter, slice_index}
 use Rattle.std.specs.List.{range_with_len}
 use Rattle.nr_bitvec.specs.Bit.{bit}

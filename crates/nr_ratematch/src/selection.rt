@@ -14,7 +14,7 @@ use std::alloc::{AllocError, Global};
 ///
 /// # Errors
 ///
-/// `AllocError` is want of memory, which is asked for once.
+/// `AllocError`, where memory runs out, which is asked for once.
 pub fn select(
     alloc: Global,
     buffer: &Buffer,
@@ -32,7 +32,7 @@ pub fn select(
     Ok(bits)
 }
 
-/// Puts the bits that `select` answers at the end of a list that has room for them (TS 38.212, 5.4.2.1). Takes no
+/// Puts the bits that `select` returns at the end of a list that has room for them (TS 38.212, 5.4.2.1). Takes no
 /// memory.
 pub fn select_onto(buffer: &Buffer, word: &Word, rv: u32, e: u32, bits: &mut Bits)
     requires version { rv < 4 }

@@ -28,7 +28,7 @@ pub struct Plan {
     pub set: u32,
     /// K, the bits of each code block with its fillers: 22 Zc or 10 Zc.
     pub k: u32,
-    /// N, the bits that a code block is coded into: 66 Zc or 50 Zc.
+    /// N, the bits that a code block is encoded to: 66 Zc or 50 Zc.
     pub n: u32,
     pub ghost planned: { plan_of graph b
         ≡ Ok (record { l = l; c = c; kdash = kdash; kb = kb; z = z; set = set; k = k; n = n }) },

@@ -1,5 +1,5 @@
--- The table of shift values of the two LDPC base graphs, and the shape that an accepted one has
--- (TS 38.212, 5.3.2: the parity columns of Tables 5.3.2-2 and 5.3.2-3).
+-- Believed: the table of shift values of the two LDPC base graphs, and the shape of an accepted one (TS 38.212, 5.3.2: the parity columns of Tables
+-- 5.3.2-2 and 5.3.2-3).
 use Rattle.std.specs.Prelude.{◌≡◌, ◌⊎◌, IfSome, IsErrOf, ℕ, zero, suc, ◌+◌, ◌*◌, ◌<◌, ◌≤◌, ◌==◌, nat_lt, nat_le, Bool, true, false, not, ◌&&◌, ◌||◌, if◌then◌else◌, ⊤, List, [], ◌∷◌, length, map, filter, fold, find, All, AllPairs, slice_index, Option, Some, None, option_map, Result, Ok, Err}
 use Rattle.std.specs.List.{list_all}
 use Rattle.std.specs.List.Sorted.{IsPermutation}
@@ -155,8 +155,7 @@ table_said text =
     if nat_lt 4194304 (length text) then Err TooLong
     else items_said text >>= λ items. accepted (table_of items)
 
--- What reading a table answers, where the octets are known: that the source failed, or what is said of them,
--- unless memory ran out.
+-- What reading a table returns, where the octets are known: that the source failed, or what is said of them, unless memory ran out.
 abbrev pub TellsTable : Option (List ℕ) → Result Entries TableFault → Type 0
 TellsTable known r = IfSome known (λ text. IsErrOf r Read ⊎ Gives Memory (λ t. t) r (table_said text))
 

@@ -1,4 +1,4 @@
--- The sum of the four core rows of a base graph, from the first parity column on (TS 38.212, 5.3.2).
+-- Believed: the sum of the four core rows of a base graph, from the first parity column on (TS 38.212, 5.3.2).
 use Rattle.std.specs.Prelude.{◌≡◌, ℕ, ◌<◌, ◌==◌, ◌%◌, ◌++◌, Bool, false, true, not, if◌then◌else◌, List, [], ◌∷◌, length}
 use Rattle.nr_graphpick.specs.declared.Graph.{Graph}
 use Rattle.nr_graphpick.specs.Graph.{info_cols_of}

@@ -1,5 +1,5 @@
--- The records of a text, as the crate `csv` reads it: fields between commas, a field perhaps in double quotes,
--- each record on a line; a blank line is no record, and no record is a header.
+-- Believed, with internal helpers: the records of a text, as the crate `csv` reads it. Commas separate fields, a field may stand in double quotes,
+-- and each record is a line. A blank line is no record. No record is taken as a header here.
 use Rattle.std.specs.Prelude.{◌≡◌, ◌+◌, ℕ, Bool, true, false, if◌then◌else◌, List, [], ◌∷◌, length, MatchBool, Option, Some, None}
 use Rattle.std.specs.Borrow.{Bor}
 use Rattle.csv.specs.Machine.{ends_at_end}

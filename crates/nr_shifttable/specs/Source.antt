@@ -1,4 +1,4 @@
--- What reading a source to its end gives, and what the sources over memory are.
+-- Believed: what reading a source to its end gives, and the sources over memory.
 use Rattle.std.specs.Prelude.{◌≡◌, ◌↔◌, ◌⊎◌, ℕ, ◌+◌, ◌<◌, IfSome, IsErrOf, List, length, min, Bool, false, ◌==◌, Option, Some, None, Result, Ok, Err}
 
 -- octets are all that were still to come, where that is known; more than `limit` were still to come
@@ -8,20 +8,20 @@ IsWhole known octets = IfSome known (λ all. octets ≡ all)
 abbrev pub HasMore : Option (List ℕ) → ℕ → Type 0
 HasMore known limit = IfSome known (λ all. limit < length all)
 
--- This fault is answered exactly where one pull failed; and else none failed.
+-- This fault is returned exactly where one pull failed; and else none failed.
 abbrev pub TellsFailure : {T E : Type 0} → E → ℕ → ℕ → Result T E → Type 0
 TellsFailure fault old new r = IsErrOf r fault ↔ (new ≡ old + 1)
 
 abbrev pub KeepsCount : {T E : Type 0} → E → ℕ → ℕ → Result T E → Type 0
 KeepsCount fault old new r = (new ≡ old) ⊎ IsErrOf r fault
 
--- how many failures a call has met: one where it answers an error
+-- how many failures a call has met: one where it returns an error
 abbrev pub failed_count : {T E : Type 0} → Result T E → ℕ
 failed_count (Ok x) = 0
 failed_count (Err e) = 1
 
--- A feed: the octets still to come, how many a pull gives at most, how many pulls are answered before each one
--- fails (None: none fails), and how many have failed.
+-- A feed: the octets still to come, how many a pull gives at most, how many pulls succeed before each one fails (None: none fails), and how many
+-- have failed.
 pub record Feeding : Type 0 where
   pub octets : List ℕ
   pub step : ℕ

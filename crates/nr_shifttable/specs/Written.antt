@@ -1,4 +1,4 @@
--- The items of a table file, said of all its records at once.
+-- Believed: the items of a table file, said of all its records at once.
 use Rattle.std.specs.Prelude.{◌≡◌, ◌↔◌, if◌then◌else◌, List, [], ◌∷◌, length, map, All, Option, Some, option_and_then, Ok}
 use Rattle.nr_shifttable.specs.Items.{Apart, is_header, item_of_numbers, items_from, short_numbers}
 use Rattle.nr_shifttable.specs.Records.{Record}

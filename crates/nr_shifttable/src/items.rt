@@ -53,7 +53,7 @@ fn read_records(alloc: Global, text: &[u8]) -> Result<Vec<Item>, TableFault>
     Ok(items)
 }
 
-// Adds an item to the others, if there is one, and answers a number past all their keys.
+// Adds an item to the others, if there is one, and returns a number past all their keys.
 fn add(items: &mut Vec<Item>, past: u32, found: Option<Item>) -> Result<u32, AllocError>
     requires { AreBefore past items.old.items }
     ensures ok { OnOk result (items.new.items ≡ with_item items.old.items found) }

@@ -43,11 +43,11 @@ impl<'a> Records<'a> {
         }
     }
 
-    /// Fills `row` with the next record and answers true, or answers false where there is none.
+    /// Fills `row` with the next record and returns true, or returns false where there is none.
     ///
     /// # Errors
     ///
-    /// `AllocError` is want of memory, and then no record is left.
+    /// `AllocError`, where memory runs out, and then no record is left.
     pub fn next(&mut self, row: &mut ByteRecord) -> Result<bool, AllocError>
         ensures next { IfOk result (λ found. TakesRow self.old self.new found (fields_of row.new)) }
         ensures err { OnErr result (self.new ≡ []) }
@@ -62,8 +62,8 @@ impl<'a> Records<'a> {
     }
 }
 
-// Fills `row` with the next record of a text in memory, if there is one. This fails for want of
-// memory alone.
+// Fills `row` with the next record of a text in memory, if there is one. It fails only where
+// memory runs out.
 fn read_row(reader: &mut Reader<&[u8]>, row: &mut ByteRecord) -> Result<bool, AllocError>
     requires { IsPlainReader reader.old }
     ensures plain { IfOk result (λ found. found ≡ true → IsPlainReader reader.new) }

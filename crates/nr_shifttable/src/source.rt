@@ -11,7 +11,7 @@ use std::marker::Model;
 // How many octets are asked for at once.
 const PIECE: usize = 65_536;
 
-/// The answer of a pull that failed.
+/// The result of a pull that failed.
 #[derive(Clone, Copy, Debug, PartialEq, Eq)]
 pub struct Broken;
 
@@ -23,7 +23,7 @@ pub trait Source {
     /// How many pulls have failed.
     ghost failures: { Self → ℕ };
 
-    /// Puts the next octets at the front of `buf` and answers how many they are. The answer for a
+    /// Puts the next octets at the front of `buf` and returns how many they are. The result for a
     /// buffer that is not empty is 0 only at the end of the octets.
     ///
     /// # Errors
@@ -58,7 +58,7 @@ impl From<AllocError> for ReadFault {
     }
 }
 
-/// Reads a source to its end, and answers its octets, at most `limit` of them.
+/// Reads a source to its end, and returns its octets, at most `limit` of them.
 ///
 /// # Errors
 ///
@@ -232,7 +232,7 @@ impl Source for Endless {
     }
 }
 
-// Copies as much of the front of `from` to the front of `to` as both and `most` allow, and answers
+// Copies as much of the front of `from` to the front of `to` as both and `most` allow, and returns
 // how much.
 fn copy_front(from: &[u8], to: &mut [u8], most: u32) -> usize
     ensures count { result ≡ min (min (length from.now) (length to.old)) most }

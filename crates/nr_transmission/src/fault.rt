@@ -27,7 +27,7 @@ pub enum DeskFault {
     /// There is no buffer, or the bits can't be shared out.
     #[error("{0}")]
     Rm(RmFault),
-    /// Not as many places were heard as the transmission has.
+    /// Not as many places were received as the transmission has.
     #[error("Length")]
     Length,
     /// A growth was refused.

@@ -1,4 +1,4 @@
-//! Hearing a transmission.
+//! Receiving a transmission.
 
 ghost use Rattle.std.specs.Prelude.{◌≡◌, ◌≢◌, ℕ, ◌<◌, ◌≤◌, ◌++◌, [], ◌∷◌, Bool, List, length, IfOk, IsErrOf, IsOk, OnErr, OnOk};
 ghost use Rattle.nr_blockdesk.specs.Explains.{Explains, Reception, reception_said};
@@ -22,14 +22,14 @@ use nr_cbconcat::places_have_one_owner;
 use nr_transmission::{DeskFault, Tx};
 
 impl<'t> Receiver<'t> {
-    /// `take` of places as two lists of bits, of one length: those at which a bit was heard are marked in `heard`, and
-    /// their bits stand in `value`. The bits of erased places may be whatever they are.
+    /// `take` of places as two lists of bits, of one length: those at which a bit was received are marked in `heard`,
+    /// and their bits stand in `value`. The bits of erased places may be whatever they are.
     ///
     /// # Errors
     ///
     /// As `take`, in this order: `Rv`, where the redundancy version is above 3; `Rm`, where the bits can't be shared
     /// out: `Order`, `Layers`, `Total`, `Ragged` or `NoneScheduled`; `Length`, where the lists do not have G places;
-    /// `Memory`, where memory is refused. Nothing is heard then.
+    /// `Memory`, where memory runs out. Nothing is received then.
     pub fn take_marks(&mut self, tx: &Tx, heard: &Bits, value: &Bits) -> Result<Outcome, DeskFault>
         requires both { length value.now.items ≡ length heard.now.items }
         ensures link { self.new.link ≡ self.old.link }

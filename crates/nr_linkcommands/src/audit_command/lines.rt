@@ -42,7 +42,8 @@ fn line_of(alloc: Global, number: u32, receiver: &Receiver, r: u32) -> Result<St
     stuck_line(alloc, number, r, &positions)
 }
 
-// How many positions a peeler knows that it was not given. A step whose position was heard later is none of them.
+// How many positions a peeler knows that it was not given. A step whose position was received later is none of
+// them.
 fn gained(peeler: &Peeler) -> u32
     ensures { result ≡ gained peeler.now }
 {

@@ -56,8 +56,7 @@ impl<'t> Slot<'t> {
 
 /// So many slots in which nothing was received.
 ///
-/// # Errors
-/// `AllocError` where memory is refused.
+/// # Errors `AllocError` where memory runs out.
 pub fn empty_slots<'t>(alloc: Global, count: usize) -> Result<Vec<Slot<'t>>, AllocError>
     ensures { IfOk result (λ slots. slots.items ≡ replicate count empty_slot) }
 {
@@ -68,10 +67,9 @@ pub fn empty_slots<'t>(alloc: Global, count: usize) -> Result<Vec<Slot<'t>>, All
     Ok(slots)
 }
 
-/// The state of a receiver of a sender's transport block once it has heard a transmission more.
+/// The state of a receiver of a sender's transport block once it has received a transmission more.
 ///
-/// # Errors
-/// `AllocError` where memory is refused.
+/// # Errors `AllocError` where memory runs out.
 pub(crate) fn next_state<'t>(
     sender: &Sender<'t>,
     state: Option<RxState<'t>>,
@@ -122,7 +120,7 @@ pub(crate) fn new_state<'t>(sender: &Sender<'t>) -> Result<RxState<'t>, AllocErr
     })
 }
 
-// Hears a transmission.
+// Receives a transmission.
 fn hear_more(state: &mut RxState, tx: &Tx, heard: &[Heard]) -> Result<(), AllocError>
     requires room { state.old.count ≤ 2 ^ 64 - 2 }
     requires accepted { IsAccepted state.old.receiver.link (reception tx.now heard.now) }
