@@ -77,7 +77,8 @@ fn push_digits(line: &mut Vec<u8>, octets: &[u8]) -> Result<(), AllocError>
 /// A line: its head, then bits in hexadecimal digits, the first bit most significant, the last digit filled with
 /// zero bits. The room for the digits is asked for once.
 ///
-/// # Errors `AllocError` where memory runs out.
+/// # Errors
+/// `AllocError` where memory runs out.
 pub fn hex_line(head: String, bits: &Bits) -> Result<Vec<u8>, AllocError>
     ensures { IfOk result
         (λ line. line.items ≡ string_bytes head ++ hex bits.now.items ++ 10 ∷ []) }

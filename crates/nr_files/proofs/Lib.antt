@@ -4,6 +4,7 @@ mod BlocksUnread
 mod ColumnNames
 mod DrawnFacts
 mod FurthestFacts
+mod MarkWords
 mod MaskMarks
 mod OctetDigits
 mod PlaceItems

@@ -1,10 +1,13 @@
 //! The places of a transmission that the receiver does not receive: as a schedule names them, or as they are drawn.
 
-ghost use Rattle.std.specs.Prelude.{◌≡◌, ℕ, ◌<◌, nat_lt, length, map, slice_index, IfOk};
+ghost use Rattle.std.specs.Prelude.{◌≡◌, ℕ, ◌+◌, ◌++◌, ◌^◌, ◌<◌, ◌≤◌, nat_lt, length, map, slice_index, IfOk};
 ghost use Rattle.std.specs.List.{list_any, range_with_len};
-ghost use Rattle.nr_files.specs.Erasures.{erased_of, is_within, is_named, words_drawn};
+ghost use Rattle.nr_bitvec.specs.BitList.{low_first};
+ghost use Rattle.nr_files.specs.Erasures.{erased_of, is_within, is_named, marks_drawn, words_drawn};
 ghost use Rattle.nr_files.specs.Furthest.{begins_at, furthest};
 
+use crate::marks::{ones, packed};
+use nr_bitvec::Bits;
 use rand_core::utils::NextWord;
 use rand_pcg::Pcg32;
 use std::alloc::{AllocError, Global};
@@ -78,10 +81,12 @@ pub enum Erasure {
     },
 }
 
-/// For each of the first `count` places whether it is erased.
+/// For each of the first `count` places, at most 2^24, whether it is erased.
 ///
-/// # Errors `AllocError` where memory runs out.
-pub fn erased(alloc: Global, erasure: &Erasure, count: u32) -> Result<Vec<bool>, AllocError>
+/// # Errors
+/// `AllocError` where memory runs out.
+pub fn erased(alloc: Global, erasure: &Erasure, count: u32) -> Result<Bits, AllocError>
+    requires { count ≤ 2 ^ 24 }
     ensures { IfOk result (λ marks. marks.items ≡ erased_of erasure.now count) }
 {
     match erasure {
@@ -90,31 +95,53 @@ pub fn erased(alloc: Global, erasure: &Erasure, count: u32) -> Result<Vec<bool>,
     }
 }
 
-/// For each of the first `count` places whether it is meant.
+/// For each of the first `count` places, at most 2^24, whether it is meant.
 ///
-/// # Errors `AllocError` where memory runs out.
-pub fn named(alloc: Global, places: &Places, count: u32) -> Result<Vec<bool>, AllocError>
+/// # Errors
+/// `AllocError` where memory runs out.
+pub fn named(alloc: Global, places: &Places, count: u32) -> Result<Bits, AllocError>
+    requires { count ≤ 2 ^ 24 }
     ensures { IfOk result
         (λ marks. marks.items ≡ map (is_named places.now) (range_with_len 0 count)) }
 {
     match places {
-        Places::Nothing => vec![in alloc; false; count as usize],
-        Places::All => vec![in alloc; true; count as usize],
-        Places::Listed(list) => listed(alloc, list.ranges(), count),
+        Places::Nothing => Bits::zeros(alloc, count),
+        Places::All => ones(alloc, count),
+        Places::Listed(list) => {
+            let marks = listed(alloc, list.ranges(), count)?;
+            packed(alloc, &marks)
+        }
     }
 }
 
 // For each of the generator's first `count` words whether it is below the threshold.
-fn drawn(alloc: Global, seed: u64, threshold: u32, count: u32) -> Result<Vec<bool>, AllocError>
+fn drawn(alloc: Global, seed: u64, threshold: u32, count: u32) -> Result<Bits, AllocError>
+    requires { count ≤ 2 ^ 24 }
     ensures { IfOk result
         (λ marks. marks.items ≡ map (λ word. nat_lt word threshold) (words_drawn seed count)) }
 {
     let mut generator = Pcg32::new(seed, STREAM);
-    let mut marks = Vec::with_capacity(alloc, count as usize)?;
-    for _ in 0..count {
-        marks.push_reserved(generator.next_word() < threshold);
+    let mut marks = Bits::with_room(alloc, count)?;
+    let count = count as usize;
+    for i in 0..count.div_ceil(64) {
+        let wide = (count - 64 * i).min(64);
+        let word = draw(&mut generator, threshold, wide);
+        marks.push_word(wide, word);
     }
     Ok(marks)
+}
+
+// For each of the generator's next `count` words, at most 64, whether it is below the threshold: the first lowest.
+fn draw(generator: &mut Pcg32, threshold: u32, count: usize) -> u64
+    requires { count ≤ 64 }
+    ensures { (n : ℕ) → low_first count result ++ marks_drawn threshold n generator.new
+        ≡ marks_drawn threshold (count + n) generator.old }
+{
+    let mut word = 0;
+    for j in 0..count {
+        word |= u64::from(generator.next_word() < threshold) << j;
+    }
+    word
 }
 
 // For each of the first `count` places whether it stands in a range. A place does where a range that begins at it or

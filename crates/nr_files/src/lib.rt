@@ -2,12 +2,13 @@
 //! the link erases or flips; and the rounds of a schedule's HARQ processes.
 //! `read_blocks`, `read_settings` and `read_schedule` read a file to its end: their clause `said` gives `blocks_said`,
 //! `settings_said` and `schedule_said` of its octets (specs/), and the clause `pulled` a failed pull.
-//! Stands on nr_transmission for `Tx` and `Settings`, on nr_ratematch for masks and nr_shifttable for `Source`, with `csv` and
-//! `toml` for the files, `rand_pcg` for drawn erasures and `thiserror` for faults.
+//! Stands on nr_transmission for `Tx` and `Settings`, on nr_ratematch for masks, nr_bitvec for marks of places and nr_shifttable
+//! for `Source`, with `csv` and `toml` for the files, `rand_pcg` for drawn erasures and `thiserror` for faults.
 #![tactic(auto)]
 
 mod blocks;
 mod erasure;
+mod marks;
 mod places;
 mod rounds;
 mod schedule;

@@ -3,7 +3,7 @@ use Rattle.std.proofs.Common.{◌≡◌, ℕ, ◌<◌, List, [], ◌++◌, lengt
 use Rattle.std.proofs.lemmas.List.{append-nil}
 use Rattle.nr_commands.specs.Command.{Stops, Writes}
 use Rattle.nr_commands.specs.Written.{with_text}
-use Rattle.nr_commands.proofs.WrittenLemmas.{prefix_so_far, with_text-append, with_text-nil, writes_behind, writes_last}
+use Rattle.nr_commands.proofs.WrittenLemmas.{prefix_so_far, with_text-append, with_text-nil, writes_behind}
 use Rattle.nr_commands.specs.declared.fault.RunFault.{RunFault}
 use Rattle.nr_commands.specs.declared.fault.RunFault.TheVariants.{Memory}
 

@@ -1,30 +1,41 @@
 //! The link between a sender and a receiver: what a transmission sends over it, what of that is heard, and what the
 //! receiver makes of it.
 
-ghost use Rattle.std.specs.Prelude.{◌≡◌, ◌++◌, [], ◌∷◌, IfOk, IsErr, IsOk, List, OnOk};
+ghost use Rattle.std.specs.Prelude.{◌≡◌, ◌^◌, ◌≤◌, ◌++◌, [], ◌∷◌, not, length, map, IfOk, IsErr, IsOk, List, OnOk};
+ghost use Rattle.std.specs.List.{range_with_len};
 ghost use Rattle.std.specs.Result.{result_map_both};
-ghost use Rattle.nr_bitvec.specs.Bit.{◌⊕◌};
-ghost use Rattle.nr_blockdesk.specs.Explains.{IsAccepted, Reception, reception};
+ghost use Rattle.nr_bitvec.specs.Bit.{◌⊕◌, bit};
+ghost use Rattle.nr_blockdesk.specs.Explains.{IsAccepted, Reception};
 ghost use Rattle.nr_blockdesk.specs.Heard.{IsRecordOf};
+ghost use Rattle.nr_blockdesk.specs.Marks.{heards};
 ghost use Rattle.nr_blockdesk.specs.Outcome.{outcome_of};
-ghost use Rattle.nr_blockdesk.specs.ReceiverLaws.{arrived_bit};
 ghost use Rattle.nr_blockdesk.specs.Receiving.{verdict};
 ghost use Rattle.nr_blockdesk.specs.Sent.{sent_said, tx_said};
-ghost use Rattle.nr_linkcommands.specs.Exchanges.{IsExchange};
+ghost use Rattle.nr_files.specs.Erasures.{erased_of, is_named};
+ghost use Rattle.nr_linkcommands.specs.Exchanges.{IsExchange, reception_of};
 ghost use Rattle.nr_linkcommands.specs.Hearing.{heard_through};
 
 use nr_bitvec::Bits;
-use nr_blockdesk::{DeskFault, Heard, Outcome, Receiver, Sender, Tx, accepted_send_all};
-use nr_files::{Transmission, erased, named};
+use nr_blockdesk::{DeskFault, Outcome, Receiver, Sender, Tx, accepted_send_all};
+use nr_files::{Erasure, Places, Transmission, erased, named};
 use std::alloc::{AllocError, Global};
+
+/// What arrives of the bits that a transmission sends, as two lists of bits of one length.
+#[derive(Drop)]
+pub struct Arrival {
+    /// Marks of the places at which a bit is heard.
+    pub heard: Bits,
+    /// The bits that are heard there. Those of the other places say nothing.
+    pub value: Bits,
+}
 
 /// What a transmission gives that is not refused.
 #[derive(Drop)]
-pub(crate) struct Arrival {
+pub(crate) struct Exchanged {
     /// The bits that are sent.
     pub(crate) bits: Bits,
-    /// What is heard of them, place by place.
-    pub(crate) heard: Vec<Heard>,
+    /// What arrives of them.
+    pub(crate) arrival: Arrival,
 }
 
 /// Makes a transmission of a sender's transport block, which a receiver hears with its erasures and flips; or says why
@@ -36,15 +47,15 @@ pub(crate) fn exchange(
     alloc: Global,
     sender: &Sender,
     transmission: &Transmission,
-) -> Result<Result<Arrival, DeskFault>, AllocError>
+) -> Result<Result<Exchanged, DeskFault>, AllocError>
     ensures made { IfOk result (IsExchange sender.now transmission.now) }
     ensures judged { IsErr result → IsOk (tx_said sender.now.link transmission.now.tx) }
 {
     accepted_send_all();
     match bits_or_refusal(sender, &transmission.tx)? {
         Ok(bits) => {
-            let heard = heard_through(alloc, transmission, &bits)?;
-            Ok(Ok(Arrival { bits, heard }))
+            let arrival = heard_through(alloc, transmission, &bits)?;
+            Ok(Ok(Exchanged { bits, arrival }))
         }
         Err(fault) => Ok(Err(fault)),
     }
@@ -70,8 +81,8 @@ pub(crate) fn bits_or_refusal(
     }
 }
 
-/// What is heard of the bits that a transmission sends, place by place: nothing at an erased place; else at a flipped
-/// place the other bit; else the bit that is sent.
+/// What is heard of the bits that a transmission sends: nothing at an erased place; else at a flipped place the other
+/// bit; else the bit that is sent.
 ///
 /// # Errors
 /// `AllocError` where memory is refused.
@@ -79,50 +90,67 @@ pub fn heard_through(
     alloc: Global,
     transmission: &Transmission,
     bits: &Bits,
-) -> Result<Vec<Heard>, AllocError>
-    ensures { IfOk result
-        (λ heard. heard.items ≡ heard_through transmission.now bits.now.items) }
+) -> Result<Arrival, AllocError>
+    ensures both { IfOk result
+        (λ arrival. length arrival.value.items ≡ length arrival.heard.items) }
+    ensures same { IfOk result (λ arrival. heards arrival.heard.items arrival.value.items
+        ≡ heard_through transmission.now bits.now.items) }
 {
-    let count = bits.len() as u32;
-    let erased = erased(alloc, &transmission.erasure, count)?;
-    let flipped = named(alloc, &transmission.flip, count)?;
-    let mut heard = Vec::with_capacity(alloc, count as usize)?;
-    for place in 0..count {
-        let at = place as usize;
-        heard.push_reserved(heard_as(erased[at], flipped[at], bits.get(at)));
+    let heard = unerased(alloc, &transmission.erasure, bits.len() as u32)?;
+    let value = flipped(alloc, &transmission.flip, bits)?;
+    Ok(Arrival { heard, value })
+}
+
+// For each of the first `count` places, at most 2^24, whether it is not erased.
+fn unerased(alloc: Global, erasure: &Erasure, count: u32) -> Result<Bits, AllocError>
+    requires { count ≤ 2 ^ 24 }
+    ensures { IfOk result (λ heard. heard.items
+        ≡ map (λ m. not (bit (erased_of erasure.now count) m)) (range_with_len 0 count)) }
+{
+    let erased = erased(alloc, erasure, count)?;
+    let mut heard = Bits::with_room(alloc, count)?;
+    let count = count as usize;
+    for i in 0..count.div_ceil(64) {
+        let wide = (count - 64 * i).min(64);
+        heard.push_word(wide, !erased.window(64 * i));
     }
     Ok(heard)
 }
 
-// What is heard of a bit.
-fn heard_as(erased: bool, flipped: bool, bit: bool) -> Heard
-    ensures { result ≡ arrived_bit erased (flipped ⊕ bit) }
+// Bits with the other bit at each place that is meant.
+fn flipped(alloc: Global, flip: &Places, bits: &Bits) -> Result<Bits, AllocError>
+    ensures { IfOk result (λ value. value.items
+        ≡ map (λ m. is_named flip.now m ⊕ bit bits.now.items m) (range_with_len 0 (length bits.now.items))) }
 {
-    match (erased, flipped, bit) {
-        (true, _, _) => Heard::Erased,
-        (false, true, true) | (false, false, false) => Heard::Zero,
-        (false, true, false) | (false, false, true) => Heard::One,
+    let count = bits.len();
+    let flips = named(alloc, flip, count as u32)?;
+    let mut value = Bits::with_room(alloc, count as u32)?;
+    for i in 0..count.div_ceil(64) {
+        let wide = (count - 64 * i).min(64);
+        value.push_word(wide, flips.window(64 * i) ^ bits.window(64 * i));
     }
+    Ok(value)
 }
 
-// Has a receiver hear a transmission that it accepts, and answers what may be handed up of all that was received.
+// Has a receiver hear a transmission that it accepts, and returns what may be handed up of all that was received.
 pub(crate) fn receive(
     receiver: &mut Receiver,
     tx: &Tx,
-    heard: &[Heard],
+    arrival: &Arrival,
 ) -> Result<Outcome, AllocError>
-    requires { IsAccepted receiver.old.link (reception tx.now heard.now) }
+    requires both { length arrival.now.value.items ≡ length arrival.now.heard.items }
+    requires accepted { IsAccepted receiver.old.link (reception_of tx.now arrival.now) }
     ensures link { receiver.new.link ≡ receiver.old.link }
     ensures heard { OnOk result ((list : List Reception)
         → IsRecordOf receiver.old.link list receiver.old.heard
-        → IsRecordOf receiver.old.link (list ++ reception tx.now heard.now ∷ [])
+        → IsRecordOf receiver.old.link (list ++ reception_of tx.now arrival.now ∷ [])
         receiver.new.heard) }
     ensures outcome { IfOk result (λ answer. (list : List Reception)
         → IsRecordOf receiver.old.link list receiver.old.heard
         → verdict answer ≡ outcome_of receiver.old.link
-        (list ++ reception tx.now heard.now ∷ [])) }
+        (list ++ reception_of tx.now arrival.now ∷ [])) }
 {
-    match receiver.take(tx, heard) {
+    match receiver.take_marks(tx, &arrival.heard, &arrival.value) {
         Ok(outcome) => Ok(outcome),
         Err(DeskFault::Memory) => Err(AllocError),
         // It accepts the transmission, so there is no other fault.

@@ -31,7 +31,8 @@ impl Earlier {
 
     /// Adds the next transmission.
     ///
-    /// # Errors `AllocError` where memory runs out.
+    /// # Errors
+    /// `AllocError` where memory runs out.
     pub(crate) fn push(&mut self, transmission: Transmission) -> Result<(), AllocError>
         ensures { OnOk result (self.new.transmissions.items
             ≡ self.old.transmissions.items ++ transmission ∷ []) }

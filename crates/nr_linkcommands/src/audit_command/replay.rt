@@ -76,7 +76,7 @@ fn replay_one(
 {
     match exchange(alloc, sender, transmission)? {
         Ok(exchange) => {
-            receive(receiver, &transmission.tx, &exchange.heard)?;
+            receive(receiver, &transmission.tx, &exchange.arrival)?;
             Ok(())
         }
         Err(_) => Ok(()),

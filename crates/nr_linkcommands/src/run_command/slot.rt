@@ -1,13 +1,14 @@
 //! A slot of a run: what the receiver of a transport block has received, and what is kept of it.
 
-ghost use Rattle.std.specs.Prelude.{◌≡◌, ◌+◌, ◌-◌, ◌^◌, ◌<◌, ◌≤◌, ◌++◌, [], ◌∷◌, List, replicate, true, IfOk, OnOk};
-ghost use Rattle.nr_blockdesk.specs.Explains.{IsAccepted, Reception, reception};
+ghost use Rattle.std.specs.Prelude.{◌≡◌, ◌+◌, ◌-◌, ◌^◌, ◌<◌, ◌≤◌, ◌++◌, [], ◌∷◌, List, length, replicate, true, IfOk, OnOk};
+ghost use Rattle.nr_blockdesk.specs.Explains.{IsAccepted, Reception};
 ghost use Rattle.nr_blockdesk.specs.Link.{Link};
 ghost use Rattle.nr_linkcommands.specs.Ends.{HasReceived, HoldsSlot, HoldsState, IsOver, IsRxState, IsSummary, empty_slot};
+ghost use Rattle.nr_linkcommands.specs.Exchanges.{reception_of};
 ghost use Rattle.nr_linkcommands.specs.RunLines.{unfixed_blocks};
 
-use crate::link::receive;
-use nr_blockdesk::{Heard, Outcome, Receiver, Sender, Tx, nothing_is_open};
+use crate::link::{Arrival, receive};
+use nr_blockdesk::{Outcome, Receiver, Sender, Tx, nothing_is_open};
 use std::alloc::{AllocError, Global};
 
 /// The receiver of a transport block with what it made of all that was received. It is made once something is.
@@ -56,7 +57,8 @@ impl<'t> Slot<'t> {
 
 /// So many slots in which nothing was received.
 ///
-/// # Errors `AllocError` where memory runs out.
+/// # Errors
+/// `AllocError` where memory runs out.
 pub fn empty_slots<'t>(alloc: Global, count: usize) -> Result<Vec<Slot<'t>>, AllocError>
     ensures { IfOk result (λ slots. slots.items ≡ replicate count empty_slot) }
 {
@@ -69,21 +71,23 @@ pub fn empty_slots<'t>(alloc: Global, count: usize) -> Result<Vec<Slot<'t>>, All
 
 /// The state of a receiver of a sender's transport block once it has received a transmission more.
 ///
-/// # Errors `AllocError` where memory runs out.
+/// # Errors
+/// `AllocError` where memory runs out.
 pub(crate) fn next_state<'t>(
     sender: &Sender<'t>,
     state: Option<RxState<'t>>,
     tx: &Tx,
-    heard: &[Heard],
+    arrival: &Arrival,
 ) -> Result<RxState<'t>, AllocError>
     requires room { HasReceived (2 ^ 64 - 2) state }
     requires same_link { IsOver sender.now.link state }
-    requires accepted { IsAccepted sender.now.link (reception tx.now heard.now) }
+    requires both { length arrival.now.value.items ≡ length arrival.now.heard.items }
+    requires accepted { IsAccepted sender.now.link (reception_of tx.now arrival.now) }
     ensures { IfOk result (λ after. (list : List Reception) → HoldsState sender.now.link list state.entry
-        → IsRxState sender.now.link (list ++ reception tx.now heard.now ∷ []) after) }
+        → IsRxState sender.now.link (list ++ reception_of tx.now arrival.now ∷ []) after) }
 {
     let mut state = state_or_new(sender, state)?;
-    hear_more(&mut state, tx, heard)?;
+    hear_more(&mut state, tx, arrival)?;
     Ok(state)
 }
 
@@ -121,13 +125,14 @@ pub(crate) fn new_state<'t>(sender: &Sender<'t>) -> Result<RxState<'t>, AllocErr
 }
 
 // Receives a transmission.
-fn hear_more(state: &mut RxState, tx: &Tx, heard: &[Heard]) -> Result<(), AllocError>
+fn hear_more(state: &mut RxState, tx: &Tx, arrival: &Arrival) -> Result<(), AllocError>
     requires room { state.old.count ≤ 2 ^ 64 - 2 }
-    requires accepted { IsAccepted state.old.receiver.link (reception tx.now heard.now) }
+    requires both { length arrival.now.value.items ≡ length arrival.now.heard.items }
+    requires accepted { IsAccepted state.old.receiver.link (reception_of tx.now arrival.now) }
     ensures { OnOk result ((link : Link) (list : List Reception) → IsRxState link list state.old
-        → IsRxState link (list ++ reception tx.now heard.now ∷ []) state.new) }
+        → IsRxState link (list ++ reception_of tx.now arrival.now ∷ []) state.new) }
 {
-    let outcome = receive(&mut state.receiver, tx, heard)?;
+    let outcome = receive(&mut state.receiver, tx, arrival)?;
     state.outcome = outcome;
     state.count += 1;
     Ok(())

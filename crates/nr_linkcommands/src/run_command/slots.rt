@@ -32,7 +32,8 @@ pub(crate) struct RunSlots<'t> {
 impl<'t> RunSlots<'t> {
     /// So many slots, and no round.
     ///
-    /// # Errors `AllocError` where memory runs out.
+    /// # Errors
+    /// `AllocError` where memory runs out.
     pub(crate) fn new(alloc: Global, slots: usize) -> Result<RunSlots<'t>, AllocError>
         ensures slots { IfOk result
             (λ rounds. rounds.slots.items ≡ replicate slots empty_slot) }

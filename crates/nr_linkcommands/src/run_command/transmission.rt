@@ -43,7 +43,7 @@ pub(crate) fn send_and_receive<'t, O: Sink>(
         Ok(exchange) => {
             put_line(out, sent_line(alloc, number, block, &exchange.bits))?;
             let tx = &transmission.tx;
-            let after = next_state(sender, state.take(), tx, &exchange.heard)?;
+            let after = next_state(sender, state.take(), tx, &exchange.arrival)?;
             write_left(alloc, transmission, &after.receiver, out)?;
             *state = Some(after);
             Ok(())

@@ -1,12 +1,12 @@
-use Rattle.std.proofs.Common.{◌≡◌, ◌+◌, ◌-◌, ◌≤◌, ◌++◌, map}
-use Rattle.std.specs.Prelude.{nat_lt, vec_len, vec_capacity}
-use Rattle.nr_files.specs.Erasures.{words_drawn}
-use Rattle.nr_files.proofs.DrawnFacts.{marked}
+-- The marks so far, and those of the words that are left, are all; and there is room for them.
+use Rattle.std.proofs.Common.{◌≡◌, ◌+◌, ◌-◌, ◌*◌, ◌≤◌, ◌++◌, length, map, min}
+use Rattle.std.specs.Prelude.{nat_lt}
+use Rattle.nr_files.specs.Erasures.{marks_drawn, words_drawn}
 use Rattle.nr_files.proofs.erasure.drawn.Given as goal
 
--- the marks so far, and those of the words that are left, are all
-abbrev pub invariant-loop : goal.invariant-loop
-invariant-loop l = record {
-  so_far : l.marks.items ++ marked l.threshold (l.count - l.counter) l.generator ≡ map (λ word. nat_lt word l.threshold) (words_drawn l.seed l.count);
-  room : vec_len l.marks + l.count ≤ vec_capacity l.marks + l.counter;
+abbrev pub invariant-loop-i : goal.invariant-loop-i
+invariant-loop-i l = record {
+  so_far : l.marks.items ++ marks_drawn l.threshold (l.count - min (64 * l.i) l.count) l.generator ≡ map (λ word. nat_lt word l.threshold) (words_drawn l.seed l.count);
+  long : length l.marks.items ≡ min (64 * l.i) l.count;
+  room : l.count ≤ length l.marks.items + l.marks.room;
 }

@@ -1,5 +1,4 @@
 -- The command is what it hands on: the text over four files.
-use Rattle.std.proofs.Common.{◌≡◌}
 use Rattle.nr_linkcommands.proofs.audit_command.audit.Goals as goal
 
 pub returns : goal.returns

@@ -4,18 +4,22 @@ use Rattle.nr_blockdesk.specs.Heard.{IsRecordOf}
 use Rattle.nr_blockdesk.specs.Link.{Link}
 use Rattle.nr_blockdesk.specs.declared.heard.Heard.{Heard}
 use Rattle.nr_linkcommands.specs.AuditText.{HasHeard}
-use Rattle.nr_linkcommands.specs.Exchanges.{IsExchanged}
+use Rattle.nr_linkcommands.specs.Exchanges.{IsExchanged, reception_of}
 use Rattle.nr_linkcommands.specs.RunText.{received_of}
 use Rattle.nr_linkcommands.proofs.AuditLemmas.{heard_same}
 use Rattle.nr_linkcommands.proofs.RunLines.{received_of-refused, received_of-sent}
 use Rattle.nr_linkcommands.proofs.audit_command.replay.replay_one.Goals as goal
 
-pub receive-requires : goal.receive-requires
-receive-requires c =
+pub receive-requires-clause-both : goal.receive-requires-clause-both
+receive-requires-clause-both c =
+    let made : IsExchanged c.args.sender.now c.args.transmission.now c.in-Ok.exchange = rw c.in-Ok.is at c.in_ok-exchange.ensures.made in
+    made.both
+
+pub receive-requires-clause-accepted : goal.receive-requires-clause-accepted
+receive-requires-clause-accepted c =
     let x = c.args.transmission.now in
     let made : IsExchanged c.args.sender.now x c.in-Ok.exchange = rw c.in-Ok.is at c.in_ok-exchange.ensures.made in
-    subst (λ (l : Link). IsAccepted l (reception x.tx c.deref.result.now)) (sym c.requires)
-    (subst (λ (h : List Heard). IsAccepted c.args.sender.now.link (reception x.tx h)) (sym c.deref.ensures.value) made.accepted)
+    subst (λ (l : Link). IsAccepted l (reception_of x.tx c.in-Ok.exchange.arrival)) (sym c.requires) made.accepted
 
 pub returns-in_ok-receive-in-Ok : goal.returns-in_ok-receive-in-Ok
 returns-in_ok-receive-in-Ok c = λ list has.
@@ -26,7 +30,7 @@ returns-in_ok-receive-in-Ok c = λ list has.
     subst (λ (more : List Reception). HasHeard sender (list ++ more) c.receive.new.receiver) (sym (received_of-sent sender x c.in-Ok.exchange.bits.items made.sent))
     (record {
       link = c.receive.ensures.link ∙ has.link;
-      heard = subst (λ (l : List Heard). IsRecordOf sender.link (list ++ reception x.tx l ∷ []) c.receive.new.receiver.heard) (c.deref.ensures.value ∙ made.heard) after;
+      heard = subst (λ (l : List Heard). IsRecordOf sender.link (list ++ reception x.tx l ∷ []) c.receive.new.receiver.heard) made.heard after;
     })
 
 pub returns-in-Err : goal.returns-in-Err

@@ -1,9 +1,8 @@
-use Rattle.std.proofs.Common.{Err, Ok, ◌++◌, [], ◌∷◌, List, ℕ, ap, sym, subst, ◌∙◌}
+use Rattle.std.proofs.Common.{Err, Ok, ◌++◌, [], ◌∷◌, List, ℕ, ap, sym, ◌∙◌}
 use Rattle.std.proofs.lemmas.List.{append-nil}
 use Rattle.std.proofs.lemmas.Result.{err_from_is_err_and}
-use Rattle.nr_blockdesk.specs.Explains.{IsAccepted, reception}
+use Rattle.nr_blockdesk.specs.Explains.{reception}
 use Rattle.nr_blockdesk.specs.Heard.{heard_record}
-use Rattle.nr_blockdesk.specs.declared.heard.Heard.{Heard}
 use Rattle.nr_linkcommands.specs.Exchanges.{IsExchanged}
 use Rattle.nr_linkcommands.specs.Hearing.{heard_through}
 use Rattle.nr_linkcommands.specs.RunLines.{left_lines}
@@ -15,10 +14,15 @@ use Rattle.nr_linkcommands.proofs.SendLemmas.{answer_line-some}
 use Rattle.nr_commands.proofs.WrittenLemmas.{with_text-append, with_text-nil, writes_behind, writes_none}
 use Rattle.nr_linkcommands.proofs.run_command.transmission.send_and_receive.Goals as goal
 
+pub next_state-requires-clause-both : goal.next_state-requires-clause-both
+next_state-requires-clause-both g c =
+    let made : IsExchanged c.args.sender.now c.args.transmission.now c.in-Ok.exchange = rw c.in-Ok.is at c.in_ok-exchange.ensures.made in
+    made.both
+
 pub next_state-requires-clause-accepted : goal.next_state-requires-clause-accepted
 next_state-requires-clause-accepted g c =
     let made : IsExchanged c.args.sender.now c.args.transmission.now c.in-Ok.exchange = rw c.in-Ok.is at c.in_ok-exchange.ensures.made in
-    subst (λ (h : List Heard). IsAccepted c.args.sender.now.link (reception c.args.transmission.now.tx h)) (sym c.deref.ensures.value) made.accepted
+    made.accepted
 
 pub returns-in_err-exchange-clause-text : goal.returns-in_err-exchange-clause-text
 returns-in_err-exchange-clause-text g c = λ list holds.
@@ -52,7 +56,7 @@ returns-in_err-write_left-in-Ok-clause-text g c = λ list holds.
     let whole = lines_of-sent c.args.sender.now list x bits made.sent in
     let more = list ++ reception x.tx (heard_through x bits) ∷ [] in
     let lines : List ℕ = left_lines x.number x.block link (heard_record link more) in
-    let is = rw (c.take.ensures.value, c.deref.ensures.value, made.heard) at c.in_ok-after-in-Ok.ensures list holds in
+    let is = rw (c.take.ensures.value, made.heard) at c.in_ok-after-in-Ok.ensures list holds in
     let stops = rw (is.same_link, is.recorded.same) at c.in_err-write_left-in-Ok.ensures.text in
     writes_behind _ _ _ c.from_residual-in_err-write_left-in-Ok.result p.0 _ _ (sent_line x.number x.block bits) lines [] p.1 p.2
     (whole ∙ sym (append-nil (sent_line x.number x.block bits ++ lines))) (c.in_ok-put_line-in-Ok.ensures.text _ (answer_line-some _ _ (Ok bits)) c.sent_line.ensures) stops
@@ -66,7 +70,7 @@ returns-in_ok-write_left-in-Ok-clause-text g c = λ list holds.
     let whole = lines_of-sent c.args.sender.now list x bits made.sent in
     let more = list ++ reception x.tx (heard_through x bits) ∷ [] in
     let lines : List ℕ = left_lines x.number x.block link (heard_record link more) in
-    let is = rw (c.take.ensures.value, c.deref.ensures.value, made.heard) at c.in_ok-after-in-Ok.ensures list holds in
+    let is = rw (c.take.ensures.value, made.heard) at c.in_ok-after-in-Ok.ensures list holds in
     let left = rw (is.same_link, is.recorded.same) at c.in_ok-write_left-in-Ok.ensures.text in
     left ∙ ap (λ w. with_text w lines) (c.in_ok-put_line-in-Ok.ensures.text _ (answer_line-some _ _ (Ok bits)) c.sent_line.ensures)
     ∙ with_text-append _ (sent_line x.number x.block bits) lines ∙ ap (with_text (g.O.Sink.written c.args.out.now)) (sym whole)
@@ -75,7 +79,7 @@ pub returns-in_ok-write_left-in-Ok-clause-held : goal.returns-in_ok-write_left-i
 returns-in_ok-write_left-in-Ok-clause-held g c = λ list holds.
     let x = c.args.transmission.now in
     let made : IsExchanged c.args.sender.now x c.in-Ok.exchange = rw c.in-Ok.is at c.in_ok-exchange.ensures.made in
-    let is = rw (c.take.ensures.value, c.deref.ensures.value, made.heard) at c.in_ok-after-in-Ok.ensures list holds in
+    let is = rw (c.take.ensures.value, made.heard) at c.in_ok-after-in-Ok.ensures list holds in
     rw (received_of-sent c.args.sender.now x c.in-Ok.exchange.bits.items made.sent) is
 
 pub returns-in-Err-clause-text : goal.returns-in-Err-clause-text

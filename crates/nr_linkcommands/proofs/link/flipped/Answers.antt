@@ -1,0 +1,39 @@
+use Rattle.std.proofs.Common.{◌≡◌, ◌+◌, ◌*◌, ◌<◌, ◌∙◌, min, length, ap, sym, arith}
+use Rattle.nr_bitvec.specs.Bit.{◌⊕◌, bit}
+use Rattle.nr_files.specs.Erasures.{is_named}
+use Rattle.nr_linkcommands.proofs.HearingFacts.{bit-firsts, firsts, firsts-more, xor-marked}
+use Rattle.nr_linkcommands.proofs.link.flipped.Goals as goal
+
+pub loop-i-init : goal.loop-i-init
+loop-i-init c =
+    let none : min (64 * 0) c.len-count.result ≡ 0 = omega arith in
+    record {
+      so_far = c.in_ok-value.ensures.items ∙ ap (λ k. firsts (λ m. is_named c.args.flip.now m ⊕ bit c.args.bits.now.items m) k) (sym none);
+      room = omega (arith, c.in_ok-value.ensures.room);
+    }
+
+pub loop-i-preserved : goal.loop-i-preserved
+loop-i-preserved c =
+    let inv = c.loop-i.invariant in
+    let flip = c.args.flip.now in
+    let bits = c.args.bits.now.items in
+    let n = 64 * c.loop-i.i in
+    let count = c.len-count.result in
+    let start : min (64 * c.loop-i.i) count ≡ 64 * c.loop-i.i = omega (arith, c.loop-i-test.true, c.div_ceil-i-end.ensures) in
+    let next : min (64 * (c.loop-i.i + 1)) count ≡ 64 * c.loop-i.i + c.min-wide.result = omega (arith, c.min-wide.ensures, c.loop-i-test.true, c.div_ceil-i-end.ensures) in
+    record {
+      so_far = firsts-more (λ m. is_named flip m ⊕ bit bits m) n c.min-wide.result _ _ c.loop-i.value.items c.push_word.new.self.items c.push_word.ensures.items
+          (λ j below.
+          let short : j < 64 = omega (arith, below, c.min-wide.ensures) in
+          let inside : n + j < count = omega (arith, below, c.min-wide.ensures, c.loop-i-test.true, c.div_ceil-i-end.ensures) in
+          xor-marked c.window.result c.window-in-loop-i.result j (is_named flip (n + j)) (bit bits (n + j))
+          (c.window.ensures j short ∙ ap (λ l. bit l (n + j)) c.in_ok-flips.ensures ∙ bit-firsts (is_named flip) count (n + j) inside)
+          (c.window-in-loop-i.ensures j short))
+          next (inv.so_far ∙ ap (λ k. firsts (λ m. is_named flip m ⊕ bit bits m) k) start);
+      room = omega (arith, start, next, c.push_word.ensures.room, inv.room);
+    }
+
+pub returns : goal.returns
+returns c =
+    let all : min (64 * c.loop-i.i) c.len-count.result ≡ length c.args.bits.now.items = omega (arith, c.loop-i-test.false, c.div_ceil-i-end.ensures, c.len-count.ensures.value) in
+    c.loop-i.invariant.so_far ∙ ap (λ k. firsts (λ m. is_named c.args.flip.now m ⊕ bit c.args.bits.now.items m) k) all

@@ -1,0 +1,31 @@
+use Rattle.std.proofs.Common.{◌≡◌, ◌+◌, ◌*◌, ◌∙◌, min, not, ap, sym, arith}
+use Rattle.nr_bitvec.specs.Bit.{bit}
+use Rattle.nr_files.specs.Erasures.{erased_of}
+use Rattle.nr_linkcommands.proofs.HearingFacts.{firsts, firsts-more, not-marked}
+use Rattle.nr_linkcommands.proofs.link.unerased.Goals as goal
+
+pub loop-i-init : goal.loop-i-init
+loop-i-init c =
+    let none : min (64 * 0) c.args.count ≡ 0 = omega arith in
+    record {
+      so_far = c.in_ok-heard.ensures.items ∙ ap (λ k. firsts (λ m. not (bit (erased_of c.args.erasure.now c.args.count) m)) k) (sym none);
+      room = omega (arith, c.in_ok-heard.ensures.room);
+    }
+
+pub loop-i-preserved : goal.loop-i-preserved
+loop-i-preserved c =
+    let inv = c.loop-i.invariant in
+    let erased = erased_of c.args.erasure.now c.args.count in
+    let start : min (64 * c.loop-i.i) c.args.count ≡ 64 * c.loop-i.i = omega (arith, c.loop-i-test.true, c.div_ceil-i-end.ensures) in
+    let next : min (64 * (c.loop-i.i + 1)) c.args.count ≡ 64 * c.loop-i.i + c.min-wide.result = omega (arith, c.min-wide.ensures, c.loop-i-test.true, c.div_ceil-i-end.ensures) in
+    record {
+      so_far = firsts-more (λ m. not (bit erased m)) (64 * c.loop-i.i) c.min-wide.result _ _ c.loop-i.heard.items c.push_word.new.self.items c.push_word.ensures.items
+          (λ j below. not-marked erased (64 * c.loop-i.i) c.window.result j (omega arith) (omega (arith, below, c.min-wide.ensures)) (c.window.ensures j (omega (arith, below, c.min-wide.ensures)) ∙ ap (λ l. bit l (64 * c.loop-i.i + j)) c.in_ok-erased.ensures))
+          next (inv.so_far ∙ ap (λ k. firsts (λ m. not (bit erased m)) k) start);
+      room = omega (arith, start, next, c.push_word.ensures.room, inv.room);
+    }
+
+pub returns : goal.returns
+returns c =
+    let all : min (64 * c.loop-i.i) c.args.count ≡ c.args.count = omega (arith, c.loop-i-test.false, c.div_ceil-i-end.ensures) in
+    c.loop-i.invariant.so_far ∙ ap (λ k. firsts (λ m. not (bit (erased_of c.args.erasure.now c.args.count) m)) k) all
