@@ -5,6 +5,7 @@ mod ColumnNames
 mod DrawnFacts
 mod FurthestFacts
 mod MarkWords
+mod MarkRanges
 mod MaskMarks
 mod OctetDigits
 mod PlaceItems

@@ -6,7 +6,7 @@ ghost use Rattle.nr_bitvec.specs.BitList.{low_first};
 ghost use Rattle.nr_files.specs.Erasures.{erased_of, is_within, is_named, marks_drawn, words_drawn};
 ghost use Rattle.nr_files.specs.Furthest.{begins_at, furthest};
 
-use crate::marks::{ones, packed};
+use crate::marks::{mark, ones, packed};
 use nr_bitvec::Bits;
 use rand_core::utils::NextWord;
 use rand_pcg::Pcg32;
@@ -15,6 +15,9 @@ use std::marker::Model;
 
 // The stream of a generator that draws erasures.
 const STREAM: u64 = 54;
+
+// So many ranges at most are marked in turn, each by words: no more work than place by place.
+const FEW: usize = 64;
 
 /// The places from `first` to `last`, both of them too. Places are counted from 0.
 #[derive(Clone, Copy, Debug, PartialEq, Eq)]
@@ -107,6 +110,7 @@ pub fn named(alloc: Global, places: &Places, count: u32) -> Result<Bits, AllocEr
     match places {
         Places::Nothing => Bits::zeros(alloc, count),
         Places::All => ones(alloc, count),
+        Places::Listed(list) if list.ranges().len() <= FEW => ranged(alloc, list.ranges(), count),
         Places::Listed(list) => {
             let marks = listed(alloc, list.ranges(), count)?;
             packed(alloc, &marks)
@@ -142,6 +146,22 @@ fn draw(generator: &mut Pcg32, threshold: u32, count: usize) -> u64
         word |= u64::from(generator.next_word() < threshold) << j;
     }
     word
+}
+
+// For each of the first `count` places whether it stands in a range, range by range.
+fn ranged(alloc: Global, ranges: &[PlaceRange], count: u32) -> Result<Bits, AllocError>
+    requires { count ≤ 2 ^ 24 }
+    ensures { IfOk result (λ marks. marks.items
+        ≡ map (λ m. list_any (is_within m) ranges.now) (range_with_len 0 count)) }
+{
+    let mut marks = Bits::zeros(alloc, count)?;
+    for range in ranges {
+        if range.first < u64::from(count) {
+            let end = range.last.min(u64::from(count) - 1) as usize + 1;
+            mark(&mut marks, range.first as usize, end);
+        }
+    }
+    Ok(marks)
 }
 
 // For each of the first `count` places whether it stands in a range. A place does where a range that begins at it or

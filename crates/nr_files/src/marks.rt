@@ -1,6 +1,7 @@
 //! Marks of places as lists of bits, made by words.
 
-ghost use Rattle.std.specs.Prelude.{◌≡◌, ◌+◌, ◌^◌, ◌≤◌, true, length, take, drop, replicate, IfOk};
+ghost use Rattle.std.specs.Prelude.{◌≡◌, ℕ, ◌+◌, ◌^◌, ◌≤◌, ◌&&◌, ◌||◌, nat_le, nat_lt, true, length, take, drop, replicate, IfOk};
+ghost use Rattle.nr_bitvec.specs.Bit.{bit};
 ghost use Rattle.nr_bitvec.specs.BitList.{low_first};
 
 use nr_bitvec::Bits;
@@ -17,6 +18,19 @@ pub(crate) fn ones(alloc: Global, count: u32) -> Result<Bits, AllocError>
         marks.push_word((count - 64 * i).min(64), u64::MAX);
     }
     Ok(marks)
+}
+
+// Marks the places from `from` up to `end`, and not `end`, which the list has.
+pub(crate) fn mark(marks: &mut Bits, from: usize, end: usize)
+    requires { end ≤ length marks.old.items }
+    ensures long { length marks.new.items ≡ length marks.old.items }
+    ensures marked { (m : ℕ) → bit marks.new.items m
+        ≡ (bit marks.old.items m || (nat_le from m && nat_lt m end)) }
+{
+    let count = end.saturating_sub(from);
+    for i in 0..count.div_ceil(64) {
+        marks.put(from + 64 * i, (count - 64 * i).min(64), u64::MAX);
+    }
 }
 
 // The marks of at most 2^24 places as a list of bits.

@@ -20,6 +20,8 @@ use Rattle.nr_files.specs.Erasures.{erased_of, is_named, words_drawn}
 use Rattle.nr_linkcommands.specs.Hearing.{arrives_at, heard_through}
 use Rattle.nr_files.specs.declared.erasure.Erasure.{Erasure}
 use Rattle.nr_files.specs.declared.erasure.Erasure.TheVariants as erasure
+use Rattle.nr_files.specs.declared.erasure.Places.{Places}
+use Rattle.nr_files.specs.declared.erasure.Places.TheVariants as places
 use Rattle.nr_files.specs.declared.schedule.Transmission.{Transmission}
 
 -- the first n values of a function
@@ -31,6 +33,23 @@ length-firsts f n = length-map-range_with_len f 0 n
 
 pub bit-firsts : (f : ℕ → Bool) (n m : ℕ) → m < n → bit (firsts f n) m ≡ f m
 bit-firsts f n m below = get_or-map-range_with_len f 0 n m m false below (omega arith)
+
+pub firsts-as : (f g : ℕ → Bool) (n : ℕ) → ((m : ℕ) → m < n → f m ≡ g m) → firsts f n ≡ firsts g n
+firsts-as f g n same =
+    same_from_bits (firsts f n) (firsts g n) (length-firsts f n ∙ sym (length-firsts g n))
+    (λ m below. let inside : m < n = omega (arith, below, length-firsts f n) in bit-firsts f n m inside ∙ same m inside ∙ sym (bit-firsts g n m inside))
+
+-- where nothing is erased every place is marked
+pub none-erased : (e : Erasure) (n : ℕ) → e ≡ erasure.Named places.Nothing → firsts (is_named places.All) n ≡ firsts (λ m. not (bit (erased_of e n) m)) n
+none-erased e n is = firsts-as (is_named places.All) (λ m. not (bit (erased_of e n) m)) n
+    (λ m below. sym (ap (λ k. not (bit (erased_of k n) m)) is ∙ ap not (bit-firsts (λ _. false) n m below)))
+
+-- where nothing is flipped the bits are as they were
+pub none-flipped : (p : Places) (bits : List Bool) → p ≡ places.Nothing → bits ≡ firsts (λ m. is_named p m ⊕ bit bits m) (length bits)
+none-flipped p bits is =
+    let f : ℕ → Bool = λ m. is_named p m ⊕ bit bits m in
+    same_from_bits bits (firsts f (length bits)) (sym (length-firsts f (length bits)))
+    (λ m below. sym (bit-firsts f (length bits) m below ∙ ap (λ k. is_named k m ⊕ bit bits m) is))
 
 -- a word more
 pub firsts-more : (f : ℕ → Bool) (n wide next word : ℕ) (old new : List Bool) → new ≡ old ++ low_first wide word

@@ -101,12 +101,18 @@ pub fn heard_through(
     Ok(Arrival { heard, value })
 }
 
-// For each of the first `count` places, at most 2^24, whether it is not erased.
+// For each of the first `count` places, at most 2^24, whether it is not erased. Where none is named, no list of erased
+// places is made.
 fn unerased(alloc: Global, erasure: &Erasure, count: u32) -> Result<Bits, AllocError>
     requires { count ≤ 2 ^ 24 }
     ensures { IfOk result (λ heard. heard.items
         ≡ map (λ m. not (bit (erased_of erasure.now count) m)) (range_with_len 0 count)) }
 {
+    if let Erasure::Named(places) = erasure {
+        if let Places::Nothing = places {
+            return named(alloc, &Places::All, count);
+        }
+    }
     let erased = erased(alloc, erasure, count)?;
     let mut heard = Bits::with_room(alloc, count)?;
     let count = count as usize;
@@ -122,6 +128,9 @@ fn flipped(alloc: Global, flip: &Places, bits: &Bits) -> Result<Bits, AllocError
     ensures { IfOk result (λ value. value.items
         ≡ map (λ m. is_named flip.now m ⊕ bit bits.now.items m) (range_with_len 0 (length bits.now.items))) }
 {
+    if let Places::Nothing = flip {
+        return bits.try_clone();
+    }
     let count = bits.len();
     let flips = named(alloc, flip, count as u32)?;
     let mut value = Bits::with_room(alloc, count as u32)?;

@@ -25,5 +25,5 @@ returns-in-All c =
 pub packed-requires : goal.packed-requires
 packed-requires c =
     let long : length c.deref.result.now ≡ c.args.count =
-    ap length (c.deref.ensures.value ∙ c.in_ok-marks-in-Listed.ensures) ∙ length-map-range_with_len (λ m. list_any (is_within m) c.ranges-in-Listed.result.now) 0 c.args.count in
+    ap length (c.deref.ensures.value ∙ c.in_ok-marks-in-Listed-2.ensures) ∙ length-map-range_with_len (λ m. list_any (is_within m) c.ranges-in-Listed-2.result.now) 0 c.args.count in
     omega (arith, long, c.requires)

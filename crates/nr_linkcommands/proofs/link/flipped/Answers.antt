@@ -1,8 +1,13 @@
 use Rattle.std.proofs.Common.{◌≡◌, ◌+◌, ◌*◌, ◌<◌, ◌∙◌, min, length, ap, sym, arith}
+use Rattle.std.proofs.lemmas.Result.{IfOk-weaker}
 use Rattle.nr_bitvec.specs.Bit.{◌⊕◌, bit}
 use Rattle.nr_files.specs.Erasures.{is_named}
-use Rattle.nr_linkcommands.proofs.HearingFacts.{bit-firsts, firsts, firsts-more, xor-marked}
+use Rattle.nr_linkcommands.proofs.HearingFacts.{bit-firsts, firsts, firsts-more, none-flipped, xor-marked}
 use Rattle.nr_linkcommands.proofs.link.flipped.Goals as goal
+
+pub returns-in-Nothing : goal.returns-in-Nothing
+returns-in-Nothing c =
+    IfOk-weaker c.try_clone.result _ _ (λ value is. is ∙ none-flipped c.args.flip.now c.args.bits.now.items c.in-Nothing.is) c.try_clone.ensures
 
 pub loop-i-init : goal.loop-i-init
 loop-i-init c =

@@ -1,8 +1,14 @@
 use Rattle.std.proofs.Common.{◌≡◌, ◌+◌, ◌*◌, ◌∙◌, min, not, ap, sym, arith}
+use Rattle.std.proofs.lemmas.Result.{IfOk-weaker}
 use Rattle.nr_bitvec.specs.Bit.{bit}
 use Rattle.nr_files.specs.Erasures.{erased_of}
-use Rattle.nr_linkcommands.proofs.HearingFacts.{firsts, firsts-more, not-marked}
+use Rattle.nr_files.specs.declared.erasure.Erasure.TheVariants as erasure
+use Rattle.nr_linkcommands.proofs.HearingFacts.{firsts, firsts-more, none-erased, not-marked}
 use Rattle.nr_linkcommands.proofs.link.unerased.Goals as goal
+
+pub returns-in-Nothing : goal.returns-in-Nothing
+returns-in-Nothing c =
+    IfOk-weaker c.named.result _ _ (λ marks is. is ∙ none-erased c.args.erasure.now c.args.count (c.in-Named.is ∙ ap erasure.Named c.in-Nothing.is)) c.named.ensures
 
 pub loop-i-init : goal.loop-i-init
 loop-i-init c =
