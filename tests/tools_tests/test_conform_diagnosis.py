@@ -52,15 +52,13 @@ class Planted(unittest.TestCase):
         lines = {line.split(" (")[0].split()[-1]: line for line in conform_alike.lines(conform_shared.suite())}
         self.assertEqual(list(lines), list(conform_mistakes.MISTAKES))
         for name, line in lines.items():
-            self.assertGreater(int(line.split()[0]), 0)
+            count, _, said = line.strip().partition(" ")
+            self.assertGreater(int(count), 0)
+            it = conform_mistakes.MISTAKES[name]
+            wanted = f"{conform_mistakes.STEPS[it.step][0]:15} {name} ({it.clause}): {it.wrong}"
+            self.assertTrue(said.startswith(wanted), line)
             other, = SAME_BITS - {name} if name in SAME_BITS else [None]
             self.assertEqual(line.partition("the same bits as ")[2], f"{other})" if other else "")
-
-    def test_the_document_has_each(self) -> None:
-        text = (shared.ROOT / "docs" / "conformance.md").read_text()
-        for it in conform_mistakes.MISTAKES.values():
-            line = f"| {conform_mistakes.STEPS[it.step][0]} | `{it.name}` | {it.clause} | {it.wrong} |\n"
-            self.assertTrue(line in text, line)
 
     def test_two_mistakes_of_a_step(self) -> None:
         for fields in (conform_mistakes.FIELDS, ("sent",)):

@@ -96,7 +96,7 @@ class Made(unittest.TestCase):
                         self.assertTrue((page.parent / path).exists())
 
     def test_picture(self) -> None:
-        drawn = subprocess.run([sys.executable, "-B", "docs/draw-pipeline", "--check"], cwd=shared.ROOT, check=False)
+        drawn = subprocess.run([sys.executable, "-B", "docs/pictures/draw-pipeline", "--check"], cwd=shared.ROOT, check=False)
         self.assertEqual(drawn.returncode, 0)
 
 
