@@ -203,15 +203,20 @@ def words_of_clauses(clauses: typing.Iterable[tuple[str, str, str, tuple[str, ..
     return found
 
 
-def page() -> str:
-    """What docs/theorem.md lists: the theorem's definitions, a line each, and the names of those that `run` needs besides."""
+def theorem_page() -> str:
+    """What docs/theorem.md lists: the theorem's definitions, a line each."""
     theorem = closure(words_of_clauses(THEOREM))
-    besides = closure(words_of_clauses(PROGRAM)) - theorem
     files = list(reading_order(theorem))
-    lines = [f"These are {len(theorem)} definitions in {len(files)} files, lowest crate first.", ""]
+    lines = [f"These are {len(theorem)} definitions in {len(files)} files, lowest crate first."]
     for crate, module, those in files:
-        lines += [f"**`{crate}/specs/{module}.antt`**", "", *lines_of(crate, module, those), ""]
-    lines += [f"The clause of `run` and the law `runs_are_safe` need {len(besides)} more:", ""]
+        lines += ["", f"**`{crate}/specs/{module}.antt`**", "", *lines_of(crate, module, those)]
+    return "\n".join(lines) + "\n"
+
+
+def program_page() -> str:
+    """What the README of nr_linkcommands lists: the names of the definitions that `run` needs besides."""
+    besides = closure(words_of_clauses(PROGRAM)) - closure(words_of_clauses(THEOREM))
+    lines = [f"The clause of `run` and the law `runs_are_safe` need {len(besides)} more:", ""]
     for crate, module, those in reading_order(besides):
         names = ", ".join(f"`{definition.word.name}`" for definition in those)
         lines.append(f"- `{crate}/specs/{module}.antt`: {names}")

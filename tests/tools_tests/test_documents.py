@@ -77,11 +77,10 @@ class English(unittest.TestCase):
     def test_lengths(self) -> None:
         self.assertLessEqual(len((shared.ROOT / "README.md").read_text().split()), MOST_WORDS_OF_README)
         pages = [page.read_text() for page in shared.ROOT.glob("docs/*.md")]
-        self.assertLessEqual(sum(english.length(page) for page in pages), MOST_WORDS_OF_DOCS)
+        self.assertLessEqual(sum(len(page.split()) for page in pages), MOST_WORDS_OF_DOCS)
 
     def test_theorem(self) -> None:
-        for page in ("docs/theorem.md", "docs/proved.md"):
-            self.assertIn(headline(), (shared.ROOT / page).read_text().splitlines())
+        self.assertIn(headline(), (shared.ROOT / "docs" / "theorem.md").read_text().splitlines())
 
 
 class Made(unittest.TestCase):
