@@ -115,6 +115,8 @@ def packages(folder: pathlib.Path, out: pathlib.Path, when: int) -> None:
     for path in sorted(stage.glob("usr/share/man/man1/*.1")):
         packed(path.with_suffix(".1.gz"), path.read_bytes())
         path.unlink()
+    # Debian's zsh looks for what packages complete in a folder of its own.
+    (stage / "usr" / "share" / "zsh" / "site-functions").rename(stage / "usr" / "share" / "zsh" / "vendor-completions")
     sort_out(stage, folder / "debs")
     for package, (fields, line, more, _) in PACKAGES.items():
         top = folder / "debs" / package

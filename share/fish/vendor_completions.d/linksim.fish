@@ -15,4 +15,4 @@ complete -c linksim -n "__fish_seen_subcommand_from cut send run audit" -l block
 complete -c linksim -n "__fish_seen_subcommand_from check send run audit" -l table -r -F -d "the shift table"
 complete -c linksim -n "__fish_seen_subcommand_from send run audit" -l settings -r -F -d "the settings"
 complete -c linksim -n "__fish_seen_subcommand_from send run audit" -l schedule -r -F -d "the transmissions"
-complete -c linksim -n "__fish_seen_subcommand_from help" -a "cut check send run audit"
+complete -c linksim -n "test (count (commandline -opc)) = 2; and __fish_seen_subcommand_from help" -a "cut check send run audit help"

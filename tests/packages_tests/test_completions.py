@@ -1,0 +1,131 @@
+"""The completions in their shells, as `make install` puts them below a folder: what each makes of a line at a tab."""
+
+from __future__ import annotations
+
+import os
+import pathlib
+import pty
+import re
+import select
+import time
+import typing
+import unittest
+
+import made
+
+COMMANDS = ["audit", "check", "cut", "help", "run", "send"]
+OF_LINK = {"--ta": "--table", "--se": "--settings", "--b": "--blocks", "--sc": "--schedule", "--h": "--help"}
+# What is typed before the tab, and the last word that the program has then. Two files are there: one.csv, and two.csv in a
+# folder with a space.
+TYPED = {
+    **{f"linksim {word[:2]}": word for word in COMMANDS},
+    **{f"linksim help {word[:2]}": word for word in COMMANDS},
+    **{f"linksim {word} {typed}": option for word in ("send", "run", "audit") for typed, option in OF_LINK.items()},
+    "linksim --v": "--version",
+    "linksim --h": "--help",
+    "linksim cut --b": "--blocks",
+    "linksim cut --r": "--rate",
+    "linksim check --t": "--table",
+    "linksim run --table=one.csv --se": "--settings",
+    "linksim run --table one.csv --se": "--settings",
+    "linksim check --table on": "one.csv",
+    "linksim check --table=on": "--table=one.csv",
+    "linksim check --table with\\ space/t": "with space/two.csv",
+    "linksim check --table=with\\ space/t": "--table=with space/two.csv",
+    "linksim cut --blocks on": "one.csv",
+    # Nothing is offered here.
+    "linksim cut --rate on": "on",
+    "linksim check on": "on",
+    "linksim help cut se": "se",
+}
+SHOWS = "linksim() { printf '<%s>' \"$@\"; echo; }; PS1="
+
+
+class Terminal:
+    """A shell at a terminal of its own. It reads one line after the other, so that no pause is needed between them."""
+
+    def __init__(self, words: typing.List[str], folder: pathlib.Path) -> None:
+        self.said = b""
+        environment = {**made.without_kit(), "TERM": "dumb", "LC_ALL": "C.UTF-8", "HOME": str(folder)}
+        self.pid, self.place = pty.fork()
+        if not self.pid:
+            try:
+                os.chdir(folder)
+                os.execvpe(words[0], words, environment)
+            finally:
+                os._exit(127)
+
+    def after(self, line: str) -> str:
+        """What the shell says to a line."""
+        # The quotes make the mark another one than what is typed, which the terminal shows.
+        os.write(self.place, f"{line}\recho EN''D\r".encode())
+        until = time.monotonic() + made.SECONDS
+        while b"END\r\n" not in self.said:
+            if not select.select([self.place], [], [], max(0, until - time.monotonic()))[0]:
+                raise AssertionError(f"{line}: no end after {self.said!r}")
+            self.said += os.read(self.place, 1 << 16)
+        said, _, self.said = self.said.partition(b"END\r\n")
+        return said.decode()
+
+    def close(self) -> None:
+        os.close(self.place)
+        os.waitpid(self.pid, 0)
+
+
+class Completed(made.InFolder):
+    """Each shell, where it is there."""
+
+    def setUp(self) -> None:
+        super().setUp()
+        made.done(["make", "-s", "-C", made.ROOT, "install-program", "PREFIX=/usr", f"DESTDIR={self.folder / 'root'}"])
+        self.share = self.folder / "root" / "usr" / "share"
+        self.files = self.folder / "files"
+        (self.files / "with space").mkdir(parents=True)
+        for name in ("one.csv", "with space/two.csv"):
+            (self.files / name).touch()
+
+    def in_terminal(self, words: typing.List[str], *lines: str) -> None:
+        """What the shell of these words makes of all that is typed, after these lines."""
+        terminal = Terminal(words, self.files)
+        try:
+            terminal.after("; ".join([SHOWS, *lines]))
+            for typed, word in TYPED.items():
+                with self.subTest(typed):
+                    found = re.findall("<([^<>\r\n]*)>\r\n", terminal.after(f"{typed}\t"))
+                    self.assertEqual(found, [word])
+        finally:
+            terminal.close()
+
+    def test_bash(self) -> None:
+        completion = self.share / "bash-completion" / "completions" / "linksim"
+        self.in_terminal([made.needs("bash"), "--norc", "--noprofile", "-i"], f". '{completion}'")
+
+    def test_zsh(self) -> None:
+        folder = self.share / "zsh" / "site-functions"
+        found = f"fpath=('{folder}' $fpath); autoload -U compinit; compinit -u -D"
+        self.in_terminal([made.needs("zsh"), "-f", "-i"], found)
+
+    def test_fish(self) -> None:
+        """What fish says that it would offer: one word, or none where what was typed stays."""
+        fish = made.needs("fish")
+        completion = self.share / "fish" / "vendor_completions.d" / "linksim.fish"
+        script = 'source $argv[1]; for line in $argv[2..-1]; echo "<"(complete -C$line | string split -f 1 \\t)">"; end'
+        environment = {**made.without_kit(), "HOME": str(self.folder)}
+        for typed, word in TYPED.items():
+            with self.subTest(typed):
+                said = made.done([fish, "--no-config", "-c", script, completion, typed], self.files, environment)
+                self.assertEqual(re.findall("<(.*)>", said), [word] if word != typed.split()[-1] else [])
+
+
+class Placed(unittest.TestCase):
+    """Debian's package puts each where the shell of Debian looks for it."""
+
+    def test_folders(self) -> None:
+        dpkg = made.needs("dpkg-deb")
+        listed = made.done([dpkg, "-c", *made.DIST.glob("linksim_*.deb")])
+        for name in ("bash-completion/completions/linksim", "fish/vendor_completions.d/linksim.fish", "zsh/vendor-completions/_linksim"):
+            self.assertIn(f" ./usr/share/{name}\n", listed)
+
+
+if __name__ == "__main__":
+    unittest.main()
