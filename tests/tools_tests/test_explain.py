@@ -35,7 +35,7 @@ TABLES = [
 ]
 SETTINGS_TEXTS = [
     ("rate2048 = \n", "Toml", ["no TOML"]),
-    ("rate = 5\n", "Unknown", ["rate = '5'"]),
+    ("rate = 5\n", "Unknown", ["rate = 5"]),
     ("lbrm = 5\n", "Missing", ["lbrm = 5"]),
     ("rate2048 = 0.5\n", "Kind", ["rate2048 = 0.5"]),
     ("rate2048 = 4096\n", "Range", ["rate2048 = 4096"]),

@@ -19,10 +19,10 @@ WIDTH = 100
 csv.field_size_limit(1 << 30)
 
 
-def short(text: str) -> str:
-    """A text as it is shown."""
-    shown = repr(text)
-    return shown if len(shown) <= WIDTH else f"{shown[:WIDTH]}.. ({len(text)} characters)"
+def short(value: object) -> str:
+    """A text, in quotes, or another value, as it is shown."""
+    shown = repr(value)
+    return shown if len(shown) <= WIDTH else f"{shown[:WIDTH]}.. ({len(str(value))} characters)"
 
 
 class Record(typing.NamedTuple):
@@ -177,8 +177,8 @@ def of_settings(file: File, name: str, _place: int) -> Lines:
         return [str(failed)]
     unknown = [key for key in keys if key not in ("rate2048", "lbrm")]
     if name == "Unknown":
-        return [f"{file.shown}: {key} = {short(str(keys[key]))}" for key in unknown]
-    shown = [f"{key} = {value!r}" for key, value in keys.items()]
+        return [f"{file.shown}: {key} = {short(keys[key])}" for key in unknown]
+    shown = [f"{key} = {short(value)}" for key, value in keys.items()]
     return [f"{file.shown}: {', '.join(shown) or 'no key'}"]
 
 
