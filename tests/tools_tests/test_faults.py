@@ -113,7 +113,7 @@ class Program(shared.InFolder):
 
     def test_name(self) -> None:
         """A tool that is called as it is installed names itself so."""
-        for tool in ("curve", "table", "vectors"):
+        for tool in ("conform", "curve", "explain", "table", "vectors"):
             link = self.folder / f"linksim-{tool}"
             link.symlink_to(shared.TOOLS / tool)
             status, output, _ = shared.run([sys.executable, link, "--help"])

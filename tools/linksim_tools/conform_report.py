@@ -8,6 +8,7 @@ from linksim_tools import conform_diagnosis as diagnosing
 from linksim_tools.conform_diagnosis import PAIRS as PAIRS
 from linksim_tools.conform_mistakes import MISTAKES, STEPS
 from linksim_tools.conform_steps import Difference, states
+from linksim_tools.program import name_of
 
 if typing.TYPE_CHECKING:
     from linksim_tools.conform_model import Case
@@ -54,7 +55,7 @@ def finding(suite: Suite, found: diagnosing.Found, before: list[typing.Any]) -> 
         "later_steps_right": found.alone,
         "nearest": nearest(found),
         "smallest": {"id": smallest.id, "case": about(smallest)},
-        "show": f"tools/conform show {suite.path} {smallest.id}",
+        "show": f"{name_of('conform')} show {suite.path} {smallest.id}",
     }
 
 

@@ -13,7 +13,7 @@ from linksim_tools import conform_code, conform_design, conform_points, conform_
 from linksim_tools.conform_model import Case, Chain
 from linksim_tools.conform_plan import PLAN
 from linksim_tools.packing import PACKINGS
-from linksim_tools.program import Failed, output_of
+from linksim_tools.program import Failed, name_of, output_of
 
 FORMAT = 1
 
@@ -142,7 +142,7 @@ def head_of(path: str | pathlib.Path, numbered: tuple[int, str]) -> dict[str, ty
     """The head of a suite, of its first line with its number."""
     head = json_line(path, *numbered) if numbered[1] else {}
     if head.get("conform") != FORMAT or not {"table", "cases", "profile"} <= head.keys():
-        raise Failed(f"{path} is no suite: its first line is not what tools/conform suite writes")
+        raise Failed(f"{path} is no suite: its first line is not what {name_of('conform')} suite writes")
     return head
 
 
