@@ -1,22 +1,19 @@
 -- What is heard of a transmission, place by place and word by word.
-use Rattle.std.proofs.Common.{◌≡◌, ℕ, zero, suc, ◌+◌, ◌-◌, ◌%◌, ◌^◌, ◌<◌, ◌==◌, nat_lt, inl, inr, not, Bool, true, false, List, ◌++◌, length, map, ap, sym, refl, ◌∙◌, arith, length-append}
+use Rattle.std.proofs.Common.{◌≡◌, ℕ, zero, suc, ◌+◌, ◌-◌, ◌%◌, ◌^◌, ◌<◌, ◌==◌, inl, inr, not, Bool, true, false, List, ◌++◌, length, map, ap, sym, refl, ◌∙◌, arith, length-append}
 use Rattle.std.specs.Int.{bit_at, bit_not, w64}
 use Rattle.std.specs.Int.RustNames.{bit_xor}
 use Rattle.std.specs.List.{range_with_len}
 use Rattle.std.proofs.lemmas.Bool.{cases_lt}
-use Rattle.std.proofs.lemmas.List.{get_or-append_right, get_or_append_left, length-map, same_lists}
+use Rattle.std.proofs.lemmas.List.{get_or-append_right, get_or_append_left, same_lists}
 use Rattle.std.proofs.lemmas.List.FromFn.{get_or-map-range_with_len, length-map-range_with_len}
 use Rattle.std.proofs.lemmas.Nat.Bits.{bit_at-lt, bit_at_not, bit_at_xor}
-use Rattle.rand_core.specs.Steps.{first_words}
-use Rattle.rand_pcg.specs.Lcg.{started, increment_of}
-use Rattle.rand_pcg.specs.Pcg.{pcg32, multiplier_64}
 use Rattle.nr_bitvec.proofs.Lists.{bit-low_first, length-low_first}
 use Rattle.nr_bitvec.proofs.Places.{same_from_bits}
 use Rattle.nr_bitvec.specs.Bit.{◌⊕◌, bit}
 use Rattle.nr_bitvec.specs.BitList.{low_first}
 use Rattle.nr_blockdesk.specs.Marks.{heards, heards_from, place_heard}
 use Rattle.nr_blockdesk.specs.ReceiverLaws.{arrived_bit}
-use Rattle.nr_files.specs.Erasures.{erased_of, is_named, words_drawn}
+use Rattle.nr_files.specs.Erasures.{erased_of, is_named}
 use Rattle.nr_linkcommands.specs.Hearing.{arrives_at, heard_through}
 use Rattle.nr_files.specs.declared.erasure.Erasure.{Erasure}
 use Rattle.nr_files.specs.declared.erasure.Erasure.TheVariants as erasure
@@ -124,14 +121,3 @@ heard-all x bits heard value count whole marks are =
     ∙ ap (λ b. place_heard (not (bit erased m)) b) (bit-firsts (λ k. is_named x.flip k ⊕ bit bits k) n m inside)
     ∙ place-arrives (bit erased m) (is_named x.flip m ⊕ bit bits m)
     ∙ sym (get_or-map-range_with_len (arrives_at x erased bits) 0 n m m d inside (omega arith)))
-
--- as many places are marked as there are
-first-long : {S : Type 0} (step : S → ℕ × S) (k : ℕ) (s : S) → length (first_words step k s) ≡ k
-unfolding first_words
-first-long step zero s = refl
-first-long step (suc k) s = ap suc (first-long step k (step s).1)
-
-pub erased-long : (e : Erasure) (n : ℕ) → length (erased_of e n) ≡ n
-erased-long (erasure.Named meant) n = length-map-range_with_len (is_named meant) 0 n
-erased-long (erasure.Drawn seed threshold) n =
-    length-map (words_drawn seed n) (λ word. nat_lt word threshold) ∙ first-long pcg32 n (started 64 multiplier_64 seed (increment_of 64 54))
