@@ -147,7 +147,7 @@ fn end_place_by_place(alloc: Global) -> Result<End, Fail> {
 fn each_pair_is_visited_once_or_twice(rt: HostRuntime) -> Result<(), Fail> {
     let end = end_place_by_place(rt.alloc())?;
     assert!(rt; end.told == HandedUp::Delivered(0x01) && end.accepted);
-    assert!(rt; 420 <= end.touches && end.touches <= 840, "{}", end.touches);
+    assert!(rt; 420 <= end.touches && end.touches <= 840);
     Ok(())
 }
 
@@ -156,6 +156,6 @@ fn each_pair_is_visited_once_or_twice(rt: HostRuntime) -> Result<(), Fail> {
 fn a_block_in_two_parts_is_visited_840_times_at_most(rt: HostRuntime) -> Result<(), Fail> {
     let firsts = [(24, ALL, NONE), (28, [(24, 27)].as_slice(), NONE)];
     let end = end_of_firsts(rt.alloc(), PLAIN, &[0x01], &firsts)?;
-    assert!(rt; 420 <= end.touches && end.touches <= 840, "{}", end.touches);
+    assert!(rt; 420 <= end.touches && end.touches <= 840);
     Ok(())
 }

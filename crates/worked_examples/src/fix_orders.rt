@@ -1,12 +1,10 @@
 //! Fix orders and stopping sets of peelers over a practice table, and what their checks say of others, by hand.
 
-use crate::peeling::{
-    PART, Range, WHOLE, is_order, is_stuck, learn, marks_of, new_peeler, peeler_of, size_of,
-};
+use crate::peeling::{PART, Range, Shown, Told, WHOLE, is_order, is_stuck, marks_of, shown_over};
 use crate::practice::practice;
 use nr_bitvec::Bits;
 use nr_graphpick::Graph;
-use nr_peel::{Fix, Peeler};
+use nr_peel::Fix;
 use nr_segment::{Plan, plan};
 use nr_shifttable::Table;
 use std::alloc::{AllocError, Global};
@@ -48,13 +46,12 @@ fn is_stuck_on(
     alloc: Global,
     table: &Table,
     plan: &Plan,
-    peeler: &Peeler<'_>,
+    shown: &Shown,
     set: Set<'_>,
-) -> Result<(bool, bool), AllocError> {
+) -> Result<(bool, bool), Fail> {
     let set = set_of(alloc, plan.z, set)?;
-    let stuck = peeler.stuck()?;
-    let is_it = stuck.as_slice() == set.as_slice();
-    Ok((is_it, is_stuck(table, plan, peeler.given(), &set)))
+    let is_it = shown.stuck.as_slice() == set.as_slice();
+    Ok((is_it, is_stuck(table, plan, &shown.given, &set)))
 }
 
 /// The same of a table, after these positions.
@@ -65,8 +62,8 @@ fn stuck_over(
     set: Set<'_>,
 ) -> Result<(bool, bool), Fail> {
     let plan = plan(Graph::Two, 24)?;
-    let peeler = peeler_of(alloc, table, &plan, ranges)?;
-    Ok(is_stuck_on(alloc, table, &plan, &peeler, set)?)
+    let shown = shown_over(alloc, table, &plan, Told::Ranges(ranges))?;
+    is_stuck_on(alloc, table, &plan, &shown, set)
 }
 
 /// The same of the practice table.
@@ -101,16 +98,16 @@ type Change = (u32, usize, bool);
 /// A peeler's steps, changed.
 fn changed_order(
     alloc: Global,
-    peeler: &Peeler<'_>,
+    order: &[Fix],
     (without, most, repeated): Change,
 ) -> Result<Vec<Fix>, AllocError> {
     let mut changed = Vec::new(alloc);
-    for step in peeler.order() {
+    for step in order {
         if step.pos != without && changed.len() < most {
             changed.push(*step)?;
         }
     }
-    if repeated && let Some(step) = peeler.order().last() {
+    if repeated && let Some(step) = order.last() {
         changed.push(*step)?;
     }
     Ok(changed)
@@ -121,18 +118,18 @@ fn is_changed_order(
     alloc: Global,
     table: &Table,
     plan: &Plan,
-    peeler: &Peeler<'_>,
+    shown: &Shown,
     change: Change,
-) -> Result<bool, AllocError> {
-    let changed = changed_order(alloc, peeler, change)?;
-    is_order(table, plan, peeler.given(), &changed)
+) -> Result<bool, Fail> {
+    let changed = changed_order(alloc, &shown.order, change)?;
+    Ok(is_order(table, plan, &shown.given, &changed)?)
 }
 
 /// The same of a table, after all that is sent.
 fn is_order_over(alloc: Global, table: &Table, change: Change) -> Result<bool, Fail> {
     let plan = plan(Graph::Two, 24)?;
-    let peeler = peeler_of(alloc, table, &plan, WHOLE)?;
-    Ok(is_changed_order(alloc, table, &plan, &peeler, change)?)
+    let shown = shown_over(alloc, table, &plan, Told::Ranges(WHOLE))?;
+    is_changed_order(alloc, table, &plan, &shown, change)
 }
 
 /// The same of the practice table.
@@ -155,12 +152,17 @@ fn an_order_needs_each_first_step(rt: HostRuntime) -> Result<(), Fail> {
     Ok(())
 }
 
-/// Whether one step is accepted where every position was given.
+/// Whether one step is accepted of a table where every position was given.
+fn is_step_over(alloc: Global, table: &Table, plan: &Plan, step: Fix) -> Result<bool, AllocError> {
+    let given = marks_of(alloc, plan, &[(0, 208)])?;
+    is_order(table, plan, &given, &[step])
+}
+
+/// The same of the practice table.
 fn is_step(alloc: Global, row: u16, lane: u16, pos: u32) -> Result<bool, Fail> {
     let table = practice(alloc, 0, 1, false)?;
     let plan = plan(Graph::Two, 24)?;
-    let given = marks_of(alloc, &plan, &[(0, 208)])?;
-    Ok(is_order(&table, &plan, &given, &[Fix { row, lane, pos }])?)
+    Ok(is_step_over(alloc, &table, &plan, Fix { row, lane, pos })?)
 }
 
 // Row 0 has position 0 and not position 1; the last row is 41, the last lane 3 and the last position 207. Position 65,536
@@ -175,10 +177,7 @@ fn steps_are_in_range_and_in_their_row(rt: HostRuntime) -> Result<(), Fail> {
         (0, 0, 208, false),
         (0, 0, 65_536, false),
     ] {
-        assert!(rt;
-            is_step(rt.alloc(), row, lane, pos)? == accepted,
-            "{row} {lane} {pos}"
-        );
+        assert!(rt; is_step(rt.alloc(), row, lane, pos)? == accepted);
     }
     Ok(())
 }
@@ -186,17 +185,6 @@ fn steps_are_in_range_and_in_their_row(rt: HostRuntime) -> Result<(), Fail> {
 /// The columns that stay unknown where all others are heard: column 0 stands in rows 0, 2, 10, 20, 30 and 40 alone, each
 /// of which has another of these columns, and row 1 has two.
 const COLUMNS: &[u32] = &[0, 11, 12, 20, 30, 40, 50];
-
-/// The peeler of the word of zeros that was given all but these columns.
-fn without_columns<'t>(alloc: Global, table: &'t Table, plan: &Plan) -> Result<Peeler<'t>, Fail> {
-    let mut peeler = new_peeler(alloc, table, plan)?;
-    for pos in 0..size_of(plan) {
-        if !COLUMNS.contains(&(pos / plan.z.max(1))) {
-            learn(&mut peeler, pos, false);
-        }
-    }
-    Ok(peeler)
-}
 
 /// How many of a set's members can be left out of it so that it is a stopping set.
 fn needless(alloc: Global, table: &Table, plan: &Plan, given: &Bits) -> Result<u32, AllocError> {
@@ -214,12 +202,17 @@ fn needless(alloc: Global, table: &Table, plan: &Plan, given: &Bits) -> Result<u
 /// needless.
 type Columns = (u32, (bool, bool), u32);
 
+/// The same of what a peeler shows.
+fn columns_of(alloc: Global, table: &Table, plan: &Plan, shown: &Shown) -> Result<Columns, Fail> {
+    let stuck = is_stuck_on(alloc, table, plan, shown, (COLUMNS, NONE, None))?;
+    let needless = needless(alloc, table, plan, &shown.given)?;
+    Ok((shown.left, stuck, needless))
+}
+
 /// The same of a plan.
 fn columns_over(alloc: Global, table: &Table, plan: &Plan) -> Result<Columns, Fail> {
-    let peeler = without_columns(alloc, table, plan)?;
-    let stuck = is_stuck_on(alloc, table, plan, &peeler, (COLUMNS, NONE, None))?;
-    let needless = needless(alloc, table, plan, peeler.given())?;
-    Ok((peeler.left(), stuck, needless))
+    let shown = shown_over(alloc, table, plan, Told::Without(COLUMNS))?;
+    columns_of(alloc, table, plan, &shown)
 }
 
 /// The same of so many bits over the practice table.

@@ -122,16 +122,22 @@ pub(crate) fn new_peeler<'t>(
     Peeler::new(alloc, table, plan)
 }
 
-/// The peeler that was given these positions of the word of block 01.
-pub(crate) fn peeler_of<'t>(
-    alloc: Global,
-    table: &'t Table,
-    plan: &Plan,
-    ranges: &[Range],
-) -> Result<Peeler<'t>, Fail> {
-    let mut peeler = new_peeler(alloc, table, plan)?;
-    hear(alloc, &mut peeler, plan, &WORD_01, ranges)?;
-    Ok(peeler)
+/// Gives all positions but those of these columns, one after another, as zeros.
+fn hear_without(peeler: &mut Peeler<'_>, plan: &Plan, columns: &[u32]) {
+    for pos in 0..size_of(plan) {
+        if !columns.contains(&(pos / plan.z.max(1))) {
+            learn(peeler, pos, false);
+        }
+    }
+}
+
+/// Which positions a peeler is given.
+#[derive(Clone, Copy)]
+pub(crate) enum Told<'a> {
+    /// Ranges of the word of block 01, each of them at a time.
+    Ranges(&'a [Range]),
+    /// All but these columns of the word of zeros, one after another.
+    Without(&'a [u32]),
 }
 
 /// What a peeler knows: how many positions below K' are left, which positions are known, and the bits of these.
@@ -154,11 +160,59 @@ fn knows(peeler: &Peeler<'_>) -> Knows {
     (peeler.left(), places, bits)
 }
 
+/// What a peeler shows: all that tests read of it, so that one function alone owns a peeler.
+#[derive(Drop)]
+pub(crate) struct Shown {
+    pub(crate) left: u32,
+    knows: Knows,
+    pub(crate) given: Bits,
+    pub(crate) order: Vec<Fix>,
+    pub(crate) stuck: Vec<u32>,
+}
+
+/// The same of a peeler.
+fn show(alloc: Global, peeler: &Peeler<'_>) -> Result<Shown, AllocError> {
+    Ok(Shown {
+        left: peeler.left(),
+        knows: knows(peeler),
+        given: peeler.given().try_clone()?,
+        order: Vec::from_slice(alloc, peeler.order())?,
+        stuck: peeler.stuck()?,
+    })
+}
+
+/// The same of a peeler that is given positions.
+fn shown_after(
+    alloc: Global,
+    peeler: &mut Peeler<'_>,
+    plan: &Plan,
+    told: Told<'_>,
+) -> Result<Shown, Fail> {
+    match told {
+        Told::Ranges(ranges) => hear(alloc, peeler, plan, &WORD_01, ranges)?,
+        Told::Without(columns) => hear_without(peeler, plan, columns),
+    }
+    Ok(show(alloc, peeler)?)
+}
+
+/// The same of a new peeler.
+pub(crate) fn shown_over(
+    alloc: Global,
+    table: &Table,
+    plan: &Plan,
+    told: Told<'_>,
+) -> Result<Shown, Fail> {
+    match new_peeler(alloc, table, plan) {
+        Ok(mut peeler) => shown_after(alloc, &mut peeler, plan, told),
+        Err(fault) => Err(fault.into()),
+    }
+}
+
 /// What a peeler knows that was given these positions of the word.
 fn knows_after(alloc: Global, ranges: &[Range]) -> Result<Knows, Fail> {
     let table = practice(alloc, 0, 1, false)?;
     let plan = plan(Graph::Two, 24)?;
-    Ok(knows(&peeler_of(alloc, &table, &plan, ranges)?))
+    Ok(shown_over(alloc, &table, &plan, Told::Ranges(ranges))?.knows)
 }
 
 // The fillers are columns 6 to 9, and each tenth column behind them is a copy of one.

@@ -96,8 +96,34 @@ fn is_bounded(table: &Table, plan: &Plan, peeler: &Peeler<'_>) -> bool {
     peeler.touches() <= pairs.saturating_mul(2)
 }
 
-/// Peels a word of which a part was heard: whether it comes out whole, or none where rounds, the checks or the bound on
-/// visits disagree.
+/// Whether rounds, the checks and the bound on visits agree with a peeler.
+fn is_right(
+    alloc: Global,
+    table: &Table,
+    plan: &Plan,
+    peeler: &Peeler<'_>,
+) -> Result<bool, AllocError> {
+    Ok(
+        is_as_rounds(alloc, table, plan, peeler)?
+            && is_shown(table, plan, peeler)?
+            && is_bounded(table, plan, peeler),
+    )
+}
+
+/// Gives a peeler a part of a word: whether it comes out whole, or none where something disagrees.
+fn peels(
+    alloc: Global,
+    table: &Table,
+    plan: &Plan,
+    peeler: &mut Peeler<'_>,
+    (share, each): (u64, bool),
+) -> Result<Option<bool>, Fail> {
+    hear(alloc, peeler, size_of(plan), share, each)?;
+    let is_right = is_right(alloc, table, plan, peeler)?;
+    Ok(is_right.then_some(peeler.left() == 0))
+}
+
+/// The same of a new peeler.
 fn peeled(
     alloc: Global,
     table: &Table,
@@ -105,12 +131,10 @@ fn peeled(
     share: u64,
     each: bool,
 ) -> Result<Option<bool>, Fail> {
-    let mut peeler = new_peeler(alloc, table, plan)?;
-    hear(alloc, &mut peeler, size_of(plan), share, each)?;
-    let agrees = is_as_rounds(alloc, table, plan, &peeler)?
-        && is_shown(table, plan, &peeler)?
-        && is_bounded(table, plan, &peeler);
-    Ok(agrees.then_some(peeler.left() == 0))
+    match new_peeler(alloc, table, plan) {
+        Ok(mut peeler) => peels(alloc, table, plan, &mut peeler, (share, each)),
+        Err(fault) => Err(fault.into()),
+    }
 }
 
 /// Peels eleven words of which ever more was heard: how many came out whole, how many didn't, and how many disagreed.

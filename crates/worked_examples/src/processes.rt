@@ -1,7 +1,7 @@
 //! Processes over the practice table.
 
 use crate::practice::{PLAIN, on_one_layer, practice};
-use crate::receptions::{HandedUp, arrives, left_of, send, sender_of, told};
+use crate::receptions::{HandedUp, arrives, left_of, sent_of, told};
 use nr_bitvec::Bits;
 use nr_blockdesk::{DeskFault, Heard, Processes};
 use nr_shifttable::Table;
@@ -28,8 +28,7 @@ fn places_of(
     from: usize,
 ) -> Result<Vec<Heard>, Fail> {
     let block = Bits::from_bytes(alloc, &[octet])?;
-    let sender = sender_of(alloc, table, PLAIN, &block)?;
-    let bits = send(&sender, &on_one_layer(0, count, 1))?;
+    let bits = sent_of(alloc, table, PLAIN, &block, &on_one_layer(0, count, 1))?;
     Ok(arrives(alloc, &bits, &[(from, usize::MAX)], &[])?)
 }
 
@@ -76,7 +75,7 @@ fn answer(
 }
 
 /// How many positions below K' of the first code block of a process are left, if it has begun.
-pub(crate) fn left(processes: &Processes<'_>, p: u8) -> Option<u32> {
+fn left(processes: &Processes<'_>, p: u8) -> Option<u32> {
     if p < 16 {
         let receiver = processes.receiver(p)?;
         Some(left_of(receiver).0)
@@ -88,14 +87,29 @@ pub(crate) fn left(processes: &Processes<'_>, p: u8) -> Option<u32> {
 /// The answer to the last of some calls, and what is left then of processes 0 and 1, if they have begun.
 type After = (Answer, [Option<u32>; 2]);
 
+/// How many positions are left of processes 0 and 1, if they have begun.
+pub(crate) fn left_of_two(processes: &Processes<'_>) -> [Option<u32>; 2] {
+    [left(processes, 0), left(processes, 1)]
+}
+
+/// The same of processes.
+fn after_all(
+    alloc: Global,
+    table: &Table,
+    processes: &mut Processes<'_>,
+    calls: &[Call],
+) -> Result<After, Fail> {
+    let mut last = Ok(None);
+    for call in calls.iter().copied() {
+        last = answer(alloc, table, processes, call)?;
+    }
+    Ok((last, left_of_two(processes)))
+}
+
 /// The same of new processes.
 fn after_over(alloc: Global, table: &Table, calls: &[Call]) -> Result<After, Fail> {
     let mut processes = Processes::new(alloc, table, PLAIN);
-    let mut last = Ok(None);
-    for call in calls.iter().copied() {
-        last = answer(alloc, table, &mut processes, call)?;
-    }
-    Ok((last, [left(&processes, 0), left(&processes, 1)]))
+    after_all(alloc, table, &mut processes, calls)
 }
 
 /// The same over the practice table.
@@ -167,13 +181,13 @@ fn first_other(alloc: Global, list: &[(Call, After)]) -> Result<Option<usize>, F
 // is nothing to the other one, nor to itself once it began again.
 #[test]
 fn processes_are_kept_apart(rt: HostRuntime) -> Result<(), Fail> {
-    assert_eq!(rt; first_other(rt.alloc(), &TWO)?, None);
+    assert!(rt; first_other(rt.alloc(), &TWO)?.is_none());
     Ok(())
 }
 
 #[test]
 fn a_refused_call_leaves_what_was_heard(rt: HostRuntime) -> Result<(), Fail> {
-    assert_eq!(rt; first_other(rt.alloc(), &REFUSED)?, None);
+    assert!(rt; first_other(rt.alloc(), &REFUSED)?.is_none());
     Ok(())
 }
 
@@ -207,10 +221,7 @@ fn each_process_begins_alone(rt: HostRuntime) -> Result<(), Fail> {
     for p in 0..16 {
         let mut one = [false; 16];
         one[p] = true;
-        assert!(rt;
-            begun_of(rt.alloc(), &[(p as u8, 8)])? == (Ok(None), one),
-            "{p}"
-        );
+        assert!(rt; begun_of(rt.alloc(), &[(p as u8, 8)])? == (Ok(None), one));
     }
     Ok(())
 }

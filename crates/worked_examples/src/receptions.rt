@@ -149,6 +149,20 @@ pub(crate) fn send(sender: &Sender<'_>, tx: &Tx) -> Result<Bits, DeskFault> {
     sender.send(tx)
 }
 
+/// The bits that the sender of a block sends.
+pub(crate) fn sent_of(
+    alloc: Global,
+    table: &Table,
+    settings: Settings,
+    block: &Bits,
+    tx: &Tx,
+) -> Result<Bits, DeskFault> {
+    match sender_of(alloc, table, settings, block) {
+        Ok(sender) => send(&sender, tx),
+        Err(fault) => Err(fault),
+    }
+}
+
 /// What comes of a list of transmissions: the last answer, what is left then and was visited of the first code block, and
 /// whether the checkers accept what is shown.
 #[derive(Clone, Copy)]
@@ -174,7 +188,7 @@ fn hear_all(
 }
 
 /// What a receiver shows at last.
-fn end_at(table: &Table, receiver: &Receiver<'_>, told: HandedUp) -> Result<End, AllocError> {
+fn end_at(table: &Table, receiver: &Receiver<'_>, told: HandedUp) -> Result<End, Fail> {
     let (left, touches) = left_of(receiver);
     let accepted = are_accepted(table, receiver)?;
     Ok(End {
@@ -185,6 +199,18 @@ fn end_at(table: &Table, receiver: &Receiver<'_>, told: HandedUp) -> Result<End,
     })
 }
 
+/// What a receiver shows after a list of transmissions.
+fn end_after(
+    alloc: Global,
+    table: &Table,
+    sender: &Sender<'_>,
+    receiver: &mut Receiver<'_>,
+    arrivals: &[Arrival<'_>],
+) -> Result<End, Fail> {
+    let told = hear_all(alloc, sender, receiver, arrivals)?;
+    end_at(table, receiver, told)
+}
+
 /// The same of a transport block that a new receiver hears.
 fn end_of(
     alloc: Global,
@@ -193,9 +219,10 @@ fn end_of(
     settings: Settings,
     arrivals: &[Arrival<'_>],
 ) -> Result<End, Fail> {
-    let mut receiver = receiver_of(alloc, table, settings, sender.a())?;
-    let told = hear_all(alloc, sender, &mut receiver, arrivals)?;
-    Ok(end_at(table, &receiver, told)?)
+    match receiver_of(alloc, table, settings, sender.a()) {
+        Ok(mut receiver) => end_after(alloc, table, sender, &mut receiver, arrivals),
+        Err(fault) => Err(fault.into()),
+    }
 }
 
 /// The same of octets over a table.
@@ -207,8 +234,10 @@ pub(crate) fn end_over(
     arrivals: &[Arrival<'_>],
 ) -> Result<End, Fail> {
     let block = few_bits_of(alloc, octets)?;
-    let sender = sender_of(alloc, table, settings, &block)?;
-    end_of(alloc, table, &sender, settings, arrivals)
+    match sender_of(alloc, table, settings, &block) {
+        Ok(sender) => end_of(alloc, table, &sender, settings, arrivals),
+        Err(fault) => Err(fault.into()),
+    }
 }
 
 /// These first bits as arrivals.

@@ -4,7 +4,7 @@ use crate::codewords::{WORD_01, octets_of};
 use crate::practice::{
     PLAIN, counting, few_bits_of, on_one_layer, practice, practice_of_both, zeros,
 };
-use crate::receptions::{send, sender_of};
+use crate::receptions::{send, sender_of, sent_of};
 use nr_bitvec::Bits;
 use nr_blockdesk::{DeskFault, Sender, Settings, Tx};
 use nr_graphpick::PickFault;
@@ -38,12 +38,24 @@ fn blocks_are_refused_in_order(rt: HostRuntime) -> Result<(), Fail> {
         (2048, 8, DeskFault::Rm(RmFault::NoBuffer)),
     ] {
         let cause = refused(rt.alloc(), rate2048, count)?;
-        assert_eq!(rt; cause, Some(fault), "{count} bits");
+        assert!(rt; cause == Some(fault));
     }
     Ok(())
 }
 
-/// The octets that are sent of a transport block in a transmission, after these others.
+/// The octets that a sender sends in the last of these transmissions.
+fn last_sent(sender: &Sender<'_>, txs: &[Tx]) -> Result<Option<Vec<u8>>, Fail> {
+    let mut last = None;
+    for tx in txs {
+        last = send(sender, tx).ok();
+    }
+    match last {
+        Some(bits) => Ok(Some(bits.to_bytes()?)),
+        None => Ok(None),
+    }
+}
+
+/// The same of the sender of a transport block.
 fn sent(
     alloc: Global,
     table: &Table,
@@ -51,14 +63,9 @@ fn sent(
     block: &Bits,
     txs: &[Tx],
 ) -> Result<Option<Vec<u8>>, Fail> {
-    let sender = sender_of(alloc, table, settings, block)?;
-    let mut last = None;
-    for tx in txs {
-        last = send(&sender, tx).ok();
-    }
-    match last {
-        Some(bits) => Ok(Some(bits.to_bytes()?)),
-        None => Ok(None),
+    match sender_of(alloc, table, settings, block) {
+        Ok(sender) => last_sent(&sender, txs),
+        Err(fault) => Err(fault.into()),
     }
 }
 
@@ -100,7 +107,7 @@ fn block_01_is_sent_by_hand(rt: HostRuntime) -> Result<(), Fail> {
             on_one_layer(rv, g, qm),
         ];
         let found = sent_over(rt.alloc(), (0, 1, false), PLAIN, &[0x01], &txs)?;
-        assert!(rt; is_sent(&found, octets), "{g} bits of version {rv}");
+        assert!(rt; is_sent(&found, octets));
     }
     Ok(())
 }
@@ -115,7 +122,7 @@ fn block_80_is_sent_by_the_table(rt: HostRuntime) -> Result<(), Fail> {
     ] {
         let over = (first, middle, true);
         let found = sent_over(rt.alloc(), over, PLAIN, &[0x80], &[on_one_layer(0, 32, 1)])?;
-        assert!(rt; is_sent(&found, &octets), "{first} {middle}");
+        assert!(rt; is_sent(&found, &octets));
     }
     Ok(())
 }
@@ -136,8 +143,7 @@ fn a_buffer_of_one_bit_sends_it_again_and_again(rt: HostRuntime) -> Result<(), F
 fn unsent(alloc: Global, tx: &Tx) -> Result<Option<DeskFault>, Fail> {
     let table = practice(alloc, 0, 1, false)?;
     let block = Bits::from_bytes(alloc, &[0x01])?;
-    let sender = sender_of(alloc, &table, PLAIN, &block)?;
-    Ok(send(&sender, tx).err())
+    Ok(sent_of(alloc, &table, PLAIN, &block, tx).err())
 }
 
 #[test]
@@ -148,7 +154,7 @@ fn transmissions_are_refused_in_order(rt: HostRuntime) -> Result<(), Fail> {
         (0, 4, DeskFault::Rm(RmFault::Ragged)),
     ] {
         let cause = unsent(rt.alloc(), &on_one_layer(rv, 30, qm))?;
-        assert_eq!(rt; cause, Some(fault), "{rv} {qm}");
+        assert!(rt; cause == Some(fault));
     }
     Ok(())
 }
@@ -168,8 +174,10 @@ fn word_of(sender: &Sender<'_>) -> ([u32; 4], [u8; 26]) {
 fn word_of_01(alloc: Global) -> Result<([u32; 4], [u8; 26]), Fail> {
     let table = practice(alloc, 0, 1, false)?;
     let block = Bits::from_bytes(alloc, &[0x01])?;
-    let sender = sender_of(alloc, &table, PLAIN, &block)?;
-    Ok(word_of(&sender))
+    match sender_of(alloc, &table, PLAIN, &block) {
+        Ok(sender) => Ok(word_of(&sender)),
+        Err(fault) => Err(fault.into()),
+    }
 }
 
 #[test]
@@ -231,7 +239,7 @@ fn sent_of_479(alloc: Global, qm: u32) -> Result<Option<Vec<u8>>, Fail> {
 #[test]
 fn two_code_blocks_are_sent_by_hand(rt: HostRuntime) -> Result<(), Fail> {
     for (qm, octets) in [(1, [0x35, 0x36, 0x27, 0x28]), (4, [0x05, 0xbe, 0x14, 0xe4])] {
-        assert!(rt; is_sent(&sent_of_479(rt.alloc(), qm)?, &octets), "{qm}");
+        assert!(rt; is_sent(&sent_of_479(rt.alloc(), qm)?, &octets));
     }
     Ok(())
 }

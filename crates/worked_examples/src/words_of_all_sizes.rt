@@ -120,11 +120,7 @@ fn first_other(alloc: Global, graph: Graph, odd: u32, from: u16) -> Result<Optio
 #[test]
 fn graph_1_is_encoded_at_all_sizes(rt: HostRuntime) -> Result<(), Fail> {
     for odd in [0, 1, 3] {
-        assert_eq!(rt;
-            first_other(rt.alloc(), Graph::One, odd, 2)?,
-            None,
-            "odd value in row {odd}"
-        );
+        assert!(rt; first_other(rt.alloc(), Graph::One, odd, 2)?.is_none());
     }
     Ok(())
 }
@@ -133,11 +129,7 @@ fn graph_1_is_encoded_at_all_sizes(rt: HostRuntime) -> Result<(), Fail> {
 #[test]
 fn graph_2_is_encoded_at_all_sizes_from_4_on(rt: HostRuntime) -> Result<(), Fail> {
     for odd in [0, 2, 3] {
-        assert_eq!(rt;
-            first_other(rt.alloc(), Graph::Two, odd, 4)?,
-            None,
-            "odd value in row {odd}"
-        );
+        assert!(rt; first_other(rt.alloc(), Graph::Two, odd, 4)?.is_none());
     }
     Ok(())
 }

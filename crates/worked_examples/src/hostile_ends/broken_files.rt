@@ -6,7 +6,7 @@ use crate::ends::{Command, End, ended};
 use nr_commands::RunFault;
 use nr_files::{BlocksFault, ScheduleFault, SettingsFault};
 use nr_shifttable::TableFault;
-use std::alloc::Global;
+use std::alloc::{AllocError, Global};
 use std::process::Abort;
 use std::test::Fail;
 
@@ -46,6 +46,19 @@ fn fault_of(end: End) -> RunFault {
     }
 }
 
+/// Whether a command says that a file is Broken at its k-th pull, pulls as often as it should, and writes nothing.
+fn breaks_at(
+    alloc: Global,
+    command: Command,
+    schedule: &[u8],
+    file: End,
+    k: u32,
+) -> Result<bool, AllocError> {
+    let (answer, pulls, tape) = ended(alloc, command, BLOCKS, schedule, (file, k))?;
+    let is_told = answer == Err(fault_of(file));
+    Ok(is_told && pulls == pulls_until(command, file, k) && tape.bytes().is_empty())
+}
+
 /// A command over a schedule and a file that is Broken at its k-th pull, for each k: the last one meets the end.
 fn breaks_at_each_pull(
     rt: &impl Abort,
@@ -55,12 +68,7 @@ fn breaks_at_each_pull(
     file: End,
 ) -> Result<(), Fail> {
     for k in 1..=pulls_of(file, schedule) {
-        let (answer, pulls, tape) = ended(alloc, command, BLOCKS, schedule, (file, k))?;
-        assert_eq!(rt;
-            (answer, pulls, tape.bytes().len()),
-            (Err(fault_of(file)), pulls_until(command, file, k), 0),
-            "{command:?} at pull {k}"
-        );
+        assert!(rt; breaks_at(alloc, command, schedule, file, k)?);
     }
     Ok(())
 }

@@ -3,10 +3,10 @@
 
 use crate::peeling::size_of;
 use crate::practice::{PLAIN, practice};
-use crate::processes::{Answer, begins, left, takes};
+use crate::processes::{Answer, begins, left_of_two, takes};
 use crate::receptions::HandedUp;
 use nr_bitvec::Bits;
-use nr_blockdesk::{Heard, Processes};
+use nr_blockdesk::{DeskFault, Heard, Processes};
 use nr_graphpick::Graph;
 use nr_ldpcenc::Word;
 use nr_peel::close;
@@ -70,40 +70,60 @@ fn close_over(
     }
 }
 
-/// Whether position 0 is marked and not position 200, which it fixes.
-fn is_begun(known: &Bits) -> bool {
-    known.octet(0) == 0x80 && known.octet(200) == 0
+/// The answer to that call, and the marks of the positions from 0 and from 200 on.
+type Closed = (Result<(), AllocError>, [u8; 2]);
+
+/// The same of marks.
+fn closed(alloc: Global, table: &Table, plan: &Plan, known: &mut Bits) -> Closed {
+    let answer = close_over(alloc, table, plan, known);
+    (answer, [known.octet(0), known.octet(200)])
 }
 
-// At lifting size 4, column 50 is column 0 turned by 40.
-#[test]
-fn closes(rt: HostRuntime) -> Result<(), Fail> {
-    let alloc = rt.alloc();
-    let table = practice(alloc, 0, 1, false)?;
-    let plan = plan(Graph::Two, 24)?;
+/// The same, and whether the answer is right at last, where memory is there: that of a call made again if it was refused.
+fn closed_again(alloc: Global, table: &Table, plan: &Plan, known: &mut Bits) -> (Closed, bool) {
+    let first = closed(alloc, table, plan, known);
+    if first.0.is_err() && !has_memory(alloc) {
+        return (first, true);
+    }
+    let (answer, marks) = if first.0.is_ok() {
+        first
+    } else {
+        closed(alloc, table, plan, known)
+    };
+    (first, answer.is_ok() && marks[1] == 0x80)
+}
+
+/// The same of position 0 alone.
+fn closed_over(alloc: Global, table: &Table, plan: &Plan) -> Result<(Closed, bool), AllocError> {
     let mut known = Bits::zeros(alloc, 208)?;
     known.set(0, true);
-    let answer = close_over(alloc, &table, &plan, &mut known);
-    if answer.is_err() {
-        assert!(rt; is_begun(&known));
-        if has_memory(alloc) {
-            assert!(rt; close_over(alloc, &table, &plan, &mut known).is_ok());
-            assert!(rt; known.octet(200) == 0x80);
-        }
-    }
+    Ok(closed_again(alloc, table, plan, &mut known))
+}
+
+/// The same of the practice table.
+fn closed_at_last(alloc: Global) -> Result<(Closed, bool), Fail> {
+    let table = practice(alloc, 0, 1, false)?;
+    let plan = plan(Graph::Two, 24)?;
+    Ok(closed_over(alloc, &table, &plan)?)
+}
+
+// At lifting size 4, column 50 is column 0 turned by 40, so position 0 fixes position 200.
+#[test]
+fn closes(rt: HostRuntime) -> Result<(), Fail> {
+    let ((answer, kept), is_right) = closed_at_last(rt.alloc())?;
+    assert!(rt; answer.is_ok() || kept == [0x80, 0]);
+    assert!(rt; is_right);
     answer?;
-    assert!(rt; known.octet(200) == 0x80);
     Ok(())
 }
 
-/// Processes of which 0 and 1 have begun with an octet, and heard so many ones that 4 positions are left.
-fn two<'t>(alloc: Global, table: &'t Table) -> Result<Processes<'t>, Fail> {
-    let mut processes = Processes::new(alloc, table, PLAIN);
+/// Processes 0 and 1 begin with an octet, and hear so many ones that 4 positions are left.
+fn begin_two(processes: &mut Processes<'_>) -> Result<(), DeskFault> {
     for p in 0..2 {
-        begins(&mut processes, p, 8)?;
-        takes(&mut processes, p, (0, 24), &[Heard::One; 24])?;
+        begins(processes, p, 8)?;
+        takes(processes, p, (0, 24), &[Heard::One; 24])?;
     }
-    Ok(processes)
+    Ok(())
 }
 
 /// A call on a process: it begins with an octet, or hears a place.
@@ -115,28 +135,38 @@ fn calls(processes: &mut Processes<'_>, p: u8, is_begin: bool) -> Answer {
     }
 }
 
-/// How many positions are left of processes 0 and 1.
-fn left_of_two(processes: &Processes<'_>) -> [Option<u32>; 2] {
-    [left(processes, 0), left(processes, 1)]
-}
-
 /// The answers to a call on process 0 of two, the second where the first is refused, and how many positions are left after
 /// each.
 type Answers = [(Answer, [Option<u32>; 2]); 2];
 
-/// The same over the practice table.
-fn answers(alloc: Global, is_begin: bool) -> Result<Answers, Fail> {
-    let table = practice(alloc, 0, 1, false)?;
-    let mut processes = two(alloc, &table)?;
-    let answer = calls(&mut processes, 0, is_begin);
-    let first = (answer, left_of_two(&processes));
+/// The same of processes that have not begun.
+fn answers_of(
+    alloc: Global,
+    processes: &mut Processes<'_>,
+    is_begin: bool,
+) -> Result<Answers, Fail> {
+    begin_two(processes)?;
+    let answer = calls(processes, 0, is_begin);
+    let first = (answer, left_of_two(processes));
     if answer.is_ok() {
         return Ok([first; 2]);
     }
     // Where all growths are refused, no call can be made again.
     Bits::zeros(alloc, 64)?;
-    let again = calls(&mut processes, 0, is_begin);
-    Ok([first, (again, left_of_two(&processes))])
+    let again = calls(processes, 0, is_begin);
+    Ok([first, (again, left_of_two(processes))])
+}
+
+/// The same of new processes.
+fn answers_over(alloc: Global, table: &Table, is_begin: bool) -> Result<Answers, Fail> {
+    let mut processes = Processes::new(alloc, table, PLAIN);
+    answers_of(alloc, &mut processes, is_begin)
+}
+
+/// The same over the practice table.
+fn answers(alloc: Global, is_begin: bool) -> Result<Answers, Fail> {
+    let table = practice(alloc, 0, 1, false)?;
+    answers_over(alloc, &table, is_begin)
 }
 
 // A process that begins anew has heard nothing, and the other one is as before.
