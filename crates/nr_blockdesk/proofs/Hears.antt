@@ -5,7 +5,7 @@ use Rattle.std.specs.Bool.{beq}
 use Rattle.std.specs.List.{cons_option, filter_map, range_with_len}
 use Rattle.std.proofs.lemmas.Bool.{cases_eq, true≢false}
 use Rattle.std.proofs.lemmas.Grind.{get_or-set_at}
-use Rattle.std.proofs.lemmas.List.{get_or-set_other, get_or_read, length-set}
+use Rattle.std.proofs.lemmas.List.{get_or-set_other, get_or_read}
 use Rattle.std.proofs.lemmas.List.Elements.{filter_map-append}
 use Rattle.nr_bitvec.specs.Bit.{bit}
 use Rattle.nr_graphpick.specs.declared.Graph.{Graph}
@@ -84,13 +84,6 @@ pub first-set : (s : Heardbits) (pos : ℕ) (v : Bool) → is_heard (first_at s 
     → (with_hearing s (pos, v)).first ≡ set s.first pos (Some v)
 unfolding with_hearing
 first-set s pos v is = ap (λ b. cond b s.first (set s.first pos (Some v))) is
-
-pub first-long : (s : Heardbits) (pos : ℕ) (v : Bool) → length (with_hearing s (pos, v)).first ≡ length s.first
-first-long s pos v = go (is_heard (first_at s pos)) refl
-  where
-    go : (b : Bool) → is_heard (first_at s pos) ≡ b → length (with_hearing s (pos, v)).first ≡ length s.first
-    go true e = ap length (first-kept s pos v e)
-    go false e = ap length (first-set s pos v e) ∙ length-set s.first pos (Some v)
 
 -- the first bits before one that was heard nowhere yet
 firsts-before : (s t : Heardbits) (pos : ℕ) (v : Bool) (w : ℕ → Bool) → is_heard (first_at s pos) ≡ false → t.first ≡ set s.first pos (Some v)
