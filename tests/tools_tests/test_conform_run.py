@@ -153,9 +153,11 @@ for line in sys.stdin:
 
     def test_the_command_hangs(self) -> None:
         second = self.names()[1]
-        said = f"at case {second}, number 2 of 9: the command gave no answer for 0.5 s; "
+        said = f"at case {second}, number 2 of 9: the command gave no answer for 4.5 s; "
+        # Time enough for the first case, on a machine that has much else to do.
+        hangs = f"__import__('time').sleep(60) if case['id'] == {second!r} else 0"
+        self.stopped(said, 1, *self.good(hangs, more=["--seconds", "4.5"]))
         more = ["--seconds", "0.5"]
-        self.stopped(said, 1, *self.good(f"__import__('time').sleep(60) if case['id'] == {second!r} else 0", more=more))
         said = f"at case {self.names()[0]}, number 1 of 9: the command gave no answer for 0.5 s; "
         self.stopped(said, 0, *self.run_("sleep", "60", more=more))
         self.stopped(said, 0, *self.python("import os\nos.close(0)\nimport time\ntime.sleep(60)", more=more))
