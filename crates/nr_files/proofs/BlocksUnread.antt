@@ -8,7 +8,7 @@ use Rattle.nr_files.specs.Blocks.{without_last, parts_of, block_said, blocks_fro
 use Rattle.nr_files.specs.declared.blocks.BlocksFault.{BlocksFault}
 use Rattle.nr_files.specs.declared.blocks.BlocksFault.TheVariants as blocks_fault
 
--- how many failed pulls an answer tells of
+-- how many failed pulls a result tells of
 abbrev read_count : {X : Type 0} → Result X BlocksFault → ℕ
 read_count (Err blocks_fault.Read) = 1
 read_count _ = 0

@@ -1,4 +1,4 @@
--- What holds of each answer that steps give, and which fault they never answer.
+-- What holds of each result that steps give, and which fault they never return.
 use Rattle.std.proofs.Common.{◌≡◌, ◌≢◌, inl, inr, Bool, true, false, cond, Option, Some, None, Result, Ok, Err, IfOk, refl, ap, subst}
 use Rattle.nr_refusal.specs.Refusal.{◌>>=◌, Gives, or_fault}
 
@@ -12,7 +12,7 @@ pub holds_then : {X Y E : Type 0} (P : Y → Type 0) (r : Result X E) (next : X 
 holds_then P (Ok x) next later = later x refl
 holds_then P (Err e) next later = tt
 
--- the value that is answered
+-- the value that is returned
 pub of_ok : {X E : Type 0} (P : X → Type 0) (r : Result X E) (x : X) → r ≡ Ok x → IfOk r P → P x
 of_ok P r x is holds = subst (λ s. IfOk s P) is holds
 
@@ -21,7 +21,7 @@ pub holds_given : {X Y E : Type 0} (P : Y → Type 0) (memory : E) (view : X →
 holds_given P memory view (Ok x) said given holds = subst (λ s. IfOk s P) given holds
 holds_given P memory view (Err e) said given holds = tt
 
--- a choice of answers that are not this fault
+-- a choice of results that are not this fault
 pub never_if : {X E : Type 0} (told : E) (b : Bool) (r s : Result X E) → r ≢ Err told → s ≢ Err told → cond b r s ≢ Err told
 never_if told true r s not_r not_s = not_r
 never_if told false r s not_r not_s = not_s
@@ -34,7 +34,7 @@ pub never_or : {X E : Type 0} (told e : E) (o : Option X) → e ≢ told → or_
 never_or told e None other = λ is. other (cc)
 never_or told e (Some x) other = λ is. cc
 
--- a call that gives what is said never answers this fault
+-- a call that gives what is said never returns this fault
 pub never_given : {X Y E : Type 0} (told memory : E) (view : X → Y) (r : Result X E) (said : Result Y E) → memory ≢ told → said ≢ Err told → Gives memory view r said → r ≢ Err told
 never_given told memory view (Ok x) said other none given = λ is. cc
 never_given told memory view (Err e) said other none (inl wanted) = λ is. let same : e ≡ told = cc in other (cc)

@@ -21,7 +21,7 @@ pub known_keys : (es : List (String Global × Value)) → all_known (members_vie
 known_keys [] = refl
 known_keys (e ∷ es) = ap (λ b. is_known (string_bytes e.0) && b) (known_keys es)
 
--- a call that answers what is said
+-- a call that returns what is said
 pub gives-same : {X E : Type 0} (memory : E) (r said : Result X E) → said ≡ r → Gives memory (λ x. x) r said
 gives-same memory (Ok x) said is = is
 gives-same memory (Err e) said is = inr is
@@ -47,7 +47,7 @@ said-no_table text short none =
     let fits : nat_lt 65536 (length text) ≡ false = grind (arith, nat_tests) in
     rw fits (no_table-by (is_utf8 text) text refl none)
 
--- how many failed pulls an answer tells of
+-- how many failed pulls a result tells of
 abbrev read_count : {X : Type 0} → Result X SettingsFault → ℕ
 read_count (Err fault.Read) = 1
 read_count _ = 0

@@ -61,8 +61,8 @@ abbrev pub is_of_block : ℕ → Option ℕ → Bool
 is_of_block block (Some begun) = begun == block
 is_of_block block None = false
 
--- whether a field says that a transmission is fresh, by the block of the round that its process is in: one that is not
--- goes on with that round, and so with its block
+-- Whether a field says that a transmission is fresh, by the block of the round that its process is in. One that is not
+-- goes on with that round, and so with its block.
 abbrev pub fresh_of : ℕ → ℕ → Option ℕ → List ℕ → Result Bool ScheduleFault
 fresh_of k block begun text =
     if bytes_eq text (codes "1") then Ok true

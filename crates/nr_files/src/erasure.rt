@@ -184,8 +184,8 @@ pub(crate) fn listed(
     Ok(marks)
 }
 
-// For each of the first `count` places how far the ranges reach that begin there: the place behind the last one, but
-// no more than `count`, or 0 where no range begins.
+// For each of the first `count` places how far the ranges reach that begin there. That is the place behind the last
+// one, but no more than `count`, or 0 where no range begins.
 fn ends_from(alloc: Global, ranges: &[PlaceRange], count: u32) -> Result<Vec<u32>, AllocError>
     ensures len { IfOk result (λ ends. length ends.items ≡ count) }
     ensures ends { IfOk result (λ ends. (m : ℕ) → m < count

@@ -64,7 +64,7 @@ fn range_between(first: u64, last: u64) -> Option<PlaceRange>
     }
 }
 
-// The places of an item of a place list: a place `m`, or a range `m-n` with m at most n, each number in 1 to 10
+// The places of an item of a place list: a place `m`, or a range `m-n` with m at most n. Each number has 1 to 10
 // decimal digits. Of any other text there are none.
 #[tactic(auto, unfolding(crate::specs::PlaceLists::range_of))]
 fn range_of(item: &[u8]) -> Option<PlaceRange>
@@ -96,7 +96,7 @@ fn place_list(alloc: Global, text: &[u8]) -> Result<Option<PlaceList>, AllocErro
     Ok(Some(PlaceList::new(ranges)))
 }
 
-/// The places that a field names: none by `-`, all by `all`, or those of a place list, which is one or more items with
+/// The places that a field names: none by `-`, all by `all`, or those of a place list. A list is one or more items with
 /// one space between them. An item is a place `m`, or a range `m-n` with m at most n; places count from 0, and each
 /// number has 1 to 10 decimal digits. `None` at any other text.
 ///
@@ -118,8 +118,8 @@ pub fn places_of(alloc: Global, text: &[u8]) -> Result<Option<Places>, AllocErro
     }
 }
 
-/// The erasure that a field says: `pcg:seed:threshold`, the seed of 64 bits in 1 to 20 decimal digits and the threshold
-/// of 32 bits in 1 to 10, or the places that it names, as `places_of` reads them. `None` at any other text.
+/// The erasure that a field says: `pcg:seed:threshold`, or the places that it names, as `places_of` reads them. The
+/// seed has 64 bits in 1 to 20 decimal digits, the threshold 32 bits in 1 to 10. `None` at any other text.
 ///
 /// # Errors
 /// `AllocError` where a growth is refused.
@@ -147,7 +147,7 @@ fn drawn_of(text: &[u8]) -> Option<Erasure>
 }
 
 /// The code blocks that a field schedules (TS 38.212, 5.4.2.1): all by `all`, or those of a place list as `places_of`
-/// reads it, counted from 0, of which those from 384 on name none. `None` at any other text, `-` too.
+/// reads it. They are counted from 0; those from 384 on name none. `None` at any other text, `-` too.
 ///
 /// # Errors
 /// `AllocError` where a growth is refused.

@@ -62,8 +62,8 @@ pub enum ScheduleFault {
     /// The record's field `process` is no number below 16.
     #[error("Process {0}")]
     Process(u32),
-    /// The record's field `fresh` is neither `0` nor `1`, or it is `0` and no fresh record of its process stands before
-    /// it, or the last of them names another block.
+    /// The record's field `fresh` is neither `0` nor `1`. Or it is `0`, and no fresh record of its process stands
+    /// before it, or the last of them names another block.
     #[error("Fresh {0}")]
     Fresh(u32),
     /// Memory ran out.
@@ -162,8 +162,8 @@ pub fn read_schedule<S: Source>(
 /// with both `process` and `fresh`. Each other record is a transmission, at most 4,096 of them, in their order. Spaces
 /// and tabs at both ends of a field are left out. `block` is the number of a block; `rv`, `g`, `qm` and `nl` are
 /// numbers of 32 bits, which are not judged here; `erase` is read by `erasure_of`, `flip` by `places_of` and `mask` by
-/// `mask_of`; `process` is a number below 16, and `fresh` `0` or `1`. Without these columns no place is flipped, all
-/// code blocks are scheduled, and each block has a process of its own, of which no record is fresh.
+/// `mask_of`; `process` is a number below 16, and `fresh` `0` or `1`. Without these columns no place is flipped and all
+/// code blocks are scheduled. Each block has a process of its own, of which no record is fresh.
 ///
 /// # Errors
 /// In this order: `TooLong`; `Header`; then record by record `Csv`, `TooMany`, `Number`, `Block`, `Erase`, `Flip`,

@@ -107,8 +107,8 @@ fn settings_of(table: &Table) -> Result<Settings, SettingsFault>
     Ok(Settings { rate2048, lbrm })
 }
 
-/// Reads the text of a settings file: TOML with the integer `rate2048`, the target code rate times 2048, 1..=2048,
-/// and, where the buffer is limited, the integer `lbrm`, TBS_LBRM in bits (TS 38.212, 5.4.2.1), 0..=4,294,967,295.
+/// Reads the text of a settings file: TOML with the integer `rate2048`, the target code rate times 2048, 1..=2048.
+/// Where the buffer is limited it has the integer `lbrm` too: TBS_LBRM in bits (TS 38.212, 5.4.2.1), 0..=4,294,967,295.
 ///
 /// # Errors
 /// In this order: `TooLong`; `Toml`; `Unknown`; `Missing`; `Kind` and `Range` of `rate2048`; `Kind` and `Range` of

@@ -1,4 +1,4 @@
--- What is so of the transmissions that a schedule says is so of those that are answered.
+-- What is so of the transmissions that a schedule says is so of those that are returned.
 use Rattle.std.proofs.Common.{arith}
 use Rattle.std.proofs.lemmas.Result.{IfOk-weaker}
 use Rattle.nr_files.specs.Schedule.{Timetable, timetable_by}
