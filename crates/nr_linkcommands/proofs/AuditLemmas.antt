@@ -63,7 +63,7 @@ audit_line-some n link records r = go (left link records r == 0)
     go true = order_line-some n r (steps_of link (heard_of records r))
     go false = stuck_line-some n r (unfixed link (heard_of records r))
 
--- the peeler of a code block: its positions are given by the record of what was heard
+-- the peeler of a code block: its positions are given by the record of what was received
 pub record IsPeelerOf (link : Link) (s : Heardbits) (p : Peeling) : Type 0 where
   pub table : p.table ≡ link.table
   pub graph : p.graph ≡ link.graph
@@ -195,13 +195,13 @@ pub heard_same : (sender : Sending) (list more : List Reception) (receiver : Rec
 heard_same sender list more receiver none has =
     subst (λ (l : List Reception). HasHeard sender l receiver) (sym (ap (λ (l : List Reception). list ++ l) none ∙ append-nil list)) has
 
--- a block's lines by the receiver that heard this list
+-- a block's lines by the receiver that received this list
 pub audit_block-heard : (head : List ℕ) (n : ℕ) (sender : Sending) (list : List Reception) (receiver : Receiving) → HasHeard sender list receiver
     → audit_block head n receiver.link receiver.heard ≡ audit_block head n sender.link (heard_record sender.link list)
 audit_block-heard head n sender list receiver has =
     ap (λ (l : Link). audit_block head n l receiver.heard) has.link ∙ ap (audit_block head n sender.link) has.heard.same
 
--- the same where each block has a process of its number
+-- a block's lines by a receiver of its process's transmissions, where each block has a process of its number
 pub audit_of-heard : (schedule : List Transmission) (n : ℕ) (sender : Sending) (receiver : Receiving) → All IsOfBlock schedule → HasHeard sender (received sender (of_process n schedule)) receiver
     → audit_block [] n receiver.link receiver.heard ≡ audit_of schedule n sender
 audit_of-heard schedule n sender receiver placed has =

@@ -1,4 +1,4 @@
--- Which octets say the fault that a command over four files answers.
+-- Which octets say the fault that a command over four files returns.
 use Rattle.std.proofs.Common.{◌≡◌, ◌≢◌, ℕ, ◌+◌, ◌⊎◌, ⊎_elim, Option, IfSome, Result, Ok, Err, IfErr, IfOk, IsOk, List, length, sym, refl, subst}
 use Rattle.std.proofs.lemmas.Option.{IfSome_then}
 use Rattle.nr_shifttable.specs.Accepted.{Entries, table_said}
@@ -19,11 +19,11 @@ use Rattle.nr_files.specs.declared.schedule.ScheduleFault.TheVariants as schedul
 use Rattle.nr_files.specs.declared.settings.SettingsFault.{SettingsFault}
 use Rattle.nr_files.specs.declared.settings.SettingsFault.TheVariants as settings_fault
 
--- a count that rises exactly where this fault is answered did not rise
+-- a count that rises exactly where this fault is returned did not rise
 kept : {E : Type 0} (told e : E) (old new : ℕ) → e ≢ told → ((e ≡ told) × (new ≡ old + 1)) ⊎ ((e ≢ told) × (new ≡ old)) → new ≡ old
 kept told e old new other fails = ⊎_elim (λ rose. absurd (other rose.0)) (λ stayed. stayed.1) fails
 
--- a file's fault but want of memory is the one that its octets say
+-- a file's fault, but for `Memory`, is the one that its octets say
 says : {X E : Type 0} (said : List ℕ → Result X E) (memory e : E) (file : Option (List ℕ)) → e ≢ memory → IfSome file (λ octets. (e ≡ memory) ⊎ (said octets ≡ Err e)) → Says said (Err e) file
 says said memory e file other given = IfSome_then file given (λ octets is. ⊎_elim (λ wanted. absurd (other wanted)) (λ same. same) is)
 
@@ -86,11 +86,11 @@ found_written (Err faults.Write) old new text given t s b d are writes = none_fo
 found_written (Err faults.Memory) old new text given t s b d are writes = tt
 found_written (Err e) old new text given t s b d are writes = absurd writes
 
--- the same of an answer that is this fault
+-- if a fault is found in the four files, so is that of a result that is this fault
 pub found_err : {X : Type 0} (r : Result X RunFault) (exit e : RunFault) (t s b d : Option (List ℕ)) → r ≡ Err exit → exit ≡ e → IsFoundIn e t s b d → IfErr r (λ fault. IsFoundIn fault t s b d)
 found_err r exit e t s b d is same found = rw (is, same) found
 
--- what holds where an answer is Ok
+-- what holds where a result is Ok
 pub sound_ok : {X E : Type 0} (r : Result X E) (given : Given) (t s b d : Option (List ℕ)) → AreInputsOf given t s b d → IfOk r (λ x. HaveNoFault t s b d)
 sound_ok (Ok x) given t s b d are = none_found given t s b d are
 sound_ok (Err e) given t s b d are = tt

@@ -30,7 +30,7 @@ pub said-ready : (text : List Sending → Timetable → List ℕ) (t s b d : Lis
 said-ready text t s b d given senders first is =
     said-inputs text t s b d (Ok (record { senders = senders; schedule = given.schedule })) (inputs_said-ready t s b d given senders first is)
 
--- an answer that is this fault
+-- a result that is this fault
 pub over-err : {T S B D O X : Type 0} (said : List ℕ → List ℕ → List ℕ → List ℕ → Result (List ℕ) RunFault) (r : Result X RunFault) (exit e : RunFault) (t : Used T) (s : Used S) (b : Used B) (d : Used D) (out : Used O)
     → r ≡ Err exit → exit ≡ e → IsOverFourFiles {X = X} said (Err e) t s b d out → IsOverFourFiles said r t s b d out
 over-err said r exit e t s b d out at same is = rw (at, same) is

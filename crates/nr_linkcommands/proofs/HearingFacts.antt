@@ -1,4 +1,4 @@
--- What is heard of a transmission, place by place and word by word.
+-- What is received of a transmission, place by place and word by word.
 use Rattle.std.proofs.Common.{◌≡◌, ℕ, zero, suc, ◌+◌, ◌-◌, ◌%◌, ◌^◌, ◌<◌, ◌==◌, inl, inr, not, Bool, true, false, List, ◌++◌, length, map, ap, sym, refl, ◌∙◌, arith, length-append}
 use Rattle.std.specs.Int.{bit_at, bit_not, w64}
 use Rattle.std.specs.Int.RustNames.{bit_xor}

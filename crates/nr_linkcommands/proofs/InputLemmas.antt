@@ -109,7 +109,7 @@ given-schedule t s b d table settings blocks e first second third (inr is) = inr
 pub given-all : (t s b d : List ℕ) (table : Entries) (settings : Settings) (blocks : List (List ℕ)) (schedule : Timetable) → table_said t ≡ Ok table → settings_said s ≡ Ok settings → blocks_said b ≡ Ok blocks → schedule_said (length blocks) d ≡ Ok schedule → files_said t s b d ≡ Ok (record { table = table; settings = settings; blocks = blocks; schedule = schedule })
 given-all t s b d table settings blocks schedule first second third fourth = files_schedule t s b d table settings blocks (Ok schedule) first second third fourth
 
--- a refusal before the four are read, as an answer
+-- a refusal before the four are read, as a result
 pub gives-refused : {X Y : Type 0} (view : X → Y) (r : Result X RunFault) (exit e : RunFault) (said : Result Y RunFault) → r ≡ Err exit → exit ≡ e → (e ≡ faults.Memory) ⊎ (said ≡ Err e) → Gives faults.Memory view r said
 gives-refused view r exit e said is same given = rw (is, same) given
 
@@ -164,7 +164,7 @@ inputs_said-unsent t s b d given e first is = inputs_senders t s b d given (Err 
 pub inputs_said-ready : (t s b d : List ℕ) (given : Given) (senders : List Sending) → files_said t s b d ≡ Ok given → senders_from given.table given.settings 1 given.blocks ≡ Ok senders → inputs_said t s b d ≡ Ok (record { senders = senders; schedule = given.schedule })
 inputs_said-ready t s b d given senders first is = inputs_senders t s b d given (Ok senders) first is
 
--- a fault of a transport block is no other fault but want of memory
+-- a fault of a transport block is no other fault but `Memory`
 pub of_block_or_memory : (e told : RunFault) → (e ≢ faults.Memory → IsBlockFault e) → told ≢ faults.Memory → (IsBlockFault told → ⊥) → e ≢ told
 of_block_or_memory e told of_block memory other same =
     other (subst IsBlockFault same (of_block (λ is. memory (sym same ∙ is))))
@@ -210,7 +210,7 @@ pub later_schedule : {S B D : Type 0} (e : ScheduleFault) (s s_new : S) (b b_new
 later_schedule schedule_fault.Memory s s_new b b_new d d_new = tt
 later_schedule e s s_new b b_new d d_new = tt
 
--- the same of an answer that is this fault
+-- if a fault is the first of the files, so is that of a result that is this fault
 pub first_err : {X : Type 0} (r : Result X RunFault) (exit e : RunFault) (t s b : Option (List ℕ)) → r ≡ Err exit → exit ≡ e → IsFirst e t s b → IfErr r (λ fault. IsFirst fault t s b)
 first_err r exit e t s b is same first = rw (is, same) first
 

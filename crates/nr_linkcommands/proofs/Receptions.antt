@@ -26,7 +26,7 @@ use Rattle.nr_files.specs.declared.schedule.Transmission.{Transmission}
 use Rattle.nr_linkcommands.proofs.RunLines.{received_of-sent}
 use Rattle.nr_linkcommands.proofs.RunOutcomes.{all-all}
 
--- as many places are heard as bits are sent
+-- as many places are received as bits are sent
 heard-long : (x : Transmission) (bits : List Bool) → length (heard_through x bits) ≡ length bits
 unfolding heard_through
 heard-long x bits = length-map-range_with_len (arrives_at x (erased_of x.erasure (length bits)) bits) 0 (length bits)

@@ -11,11 +11,11 @@ use Rattle.nr_transmission.specs.declared.fault.DeskFault.{DeskFault}
 use Rattle.nr_transmission.specs.declared.fault.DeskFault.TheVariants as fault
 use Rattle.nr_transmission.specs.declared.settings.Settings.{Settings}
 
--- two links that a call answers are one
+-- two links that a call returns are one
 pub same-ok : (x y : Link) → ◌≡◌ {A = Result Link DeskFault} (Ok x) (Ok y) → x ≡ y
 same-ok x y is = cc
 
--- what a chain of steps that answers says of each step
+-- what a chain of steps that returns a value says of each step
 bind-ok : {X Y : Type 0} (r : Result X DeskFault) (f : X → Result Y DeskFault) (y : Y) → (r >>= f) ≡ Ok y → (x : X) × (r ≡ Ok x) × (f x ≡ Ok y)
 bind-ok (Ok x) f y e = (x, refl, e)
 bind-ok (Err d) f y e = cc e

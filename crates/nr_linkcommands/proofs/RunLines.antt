@@ -79,7 +79,7 @@ left_lines-some t n link records some =
 pub all-at : {X : Type 0} (P : X → Type 0) (xs : List X) (i : ℕ) (x : X) → All P xs → i < length xs → x ≡ get_or xs i x → P x
 all-at P xs i x all within is = subst P (sym is) (All-get_or P xs i x within all)
 
--- what holds where an answer is Ok
+-- what holds where a result is Ok
 pub on_ok-any : {X E : Type 0} {P : Type 0} (r : Result X E) → P → OnOk r P
 on_ok-any (Ok x) p = p
 on_ok-any (Err e) p = tt

@@ -168,7 +168,7 @@ text_of_run-some senders schedule =
     let some : 0 < length (run_ends schedule.by_process senders schedule.transmissions) = run_ends-some schedule.by_process senders schedule.transmissions in
     omega (arith, some, length-append (pieces_joined (turns run_words senders [] schedule.transmissions)) (run_ends schedule.by_process senders schedule.transmissions))
 
--- what follows from what holds of an answer
+-- what follows from what holds of a result
 pub ok_then : {X E : Type 0} {P Q : X → Type 0} (r : Result X E) → IfOk r P → ((x : X) → P x → Q x) → IfOk r Q
 ok_then (Ok x) holds next = next x holds
 ok_then (Err e) holds next = tt

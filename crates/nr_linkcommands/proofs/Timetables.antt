@@ -1,4 +1,4 @@
--- What a run and an audit use of a schedule that was read: each transmission is of its round's block, and where no
+-- What a run and an audit use of a schedule that was read. Each transmission is of its round's block, and where no
 -- processes are named, the rounds at the end are the blocks.
 use Rattle.std.proofs.Common.{◌≡◌, ℕ, ◌+◌, ◌-◌, ◌<◌, Bool, true, false, cond, Option, None, Some, List, [], ◌∷◌, All, length, take, drop, slice_get, get_or, ap, sym, subst, refl, ◌∙◌, arith}
 use Rattle.std.specs.Prelude.{◌==◌}

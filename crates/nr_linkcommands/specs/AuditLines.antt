@@ -38,7 +38,8 @@ stuck_line n r positions =
     codes "stuck " ++ decimal n ++ codes " " ++ decimal r ++ codes " " ++ decimal (length positions)
     ++ flat_map position_word positions ++ 10 ∷ []
 
--- the line of code block r of block n by the record of what was received: it is fixed where no position below K' is left
+-- The line of code block r of block n by the record of what was received. It is fixed where no position below K' is
+-- left.
 unfoldable pub audit_line : ℕ → Link → List Heardbits → ℕ → List ℕ
 audit_line n link records r =
     if left link records r == 0 then order_line n r (steps_of link (heard_of records r))

@@ -23,7 +23,7 @@ pub record IsRxState (link : Link) (list : List Reception) (state : RxState) : T
   pub outcome : verdict state.outcome ≡ outcome_of link list
   pub count : state.count ≡ length list
 
--- the same where a state is only made once something is received
+-- what is kept of this list while more may be received: a state is only made once something is
 abbrev pub HoldsState : Link → List Reception → Option RxState → Type 0
 HoldsState link list None = list ≡ []
 HoldsState link list (Some state) = IsRxState link list state
@@ -38,14 +38,14 @@ abbrev pub IsOver : Link → Option RxState → Type 0
 IsOver link None = Unit {0}
 IsOver link (Some state) = state.receiver.link ≡ link
 
--- what is kept of this list once nothing more is received: the outcome, the number of receptions, and how many code
--- blocks have a position that is not fixed
+-- What is kept of this list once nothing more is received: the outcome and the number of receptions. It says too how
+-- many code blocks have a position that is not fixed.
 pub record IsSummary (link : Link) (list : List Reception) (summary : RxSummary) : Type 0 where
   pub outcome : verdict summary.outcome ≡ outcome_of link list
   pub count : summary.count ≡ length list
   pub failed : summary.failed ≡ unfixed_blocks link (heard_record link list)
 
--- the same; nothing is kept where nothing was received
+-- what may be kept of this list once nothing more is received; where nothing was received, nothing is
 abbrev pub HoldsSummary : Link → List Reception → Option RxSummary → Type 0
 HoldsSummary link list None = list ≡ []
 HoldsSummary link list (Some summary) = IsSummary link list summary
@@ -71,7 +71,8 @@ abbrev pub HoldsIf : Bool → Option Sending → List Transmission → Slot → 
 HoldsIf goes_on None round slot = Unit {0}
 HoldsIf goes_on (Some sender) round slot = HoldsSlot goes_on sender.link (received sender round) slot
 
--- the same by the block that the round's first transmission names; a slot that is in no round has received nothing
+-- A slot has received what a round gave, by the block that the round's first transmission names. A slot that is in no
+-- round has received nothing.
 abbrev pub HoldsRound : Bool → List Sending → List Transmission → Slot → Type 0
 HoldsRound goes_on senders [] slot = slot ≡ empty_slot
 HoldsRound goes_on senders (x ∷ more) slot = HoldsIf goes_on (sender_of senders x) (x ∷ more) slot

@@ -21,7 +21,7 @@ pub record IsExchanged (sender : Sending) (x : Transmission) (exchange : Exchang
   pub heard : heards exchange.arrival.heard.items exchange.arrival.value.items ≡ heard_through x exchange.bits.items
   pub accepted : IsAccepted sender.link (reception_of x.tx exchange.arrival)
 
--- the same, or why it is refused
+-- what a sender makes of a transmission, or why it is refused
 abbrev pub IsExchange : Sending → Transmission → Result Exchanged DeskFault → Type 0
 IsExchange sender x (Ok exchange) = IsExchanged sender x exchange
 IsExchange sender x (Err e) = sent_said sender.link x.tx sender.block ≡ Err e

@@ -23,7 +23,7 @@ pub record Given : Type 0 where
   pub blocks : List (List ℕ)
   pub schedule : Timetable
 
--- the same of files that were read
+-- what four files that were read say
 abbrev pub given_by : Inputs → Given
 given_by inputs = record {
   table = inputs.table;
@@ -84,7 +84,7 @@ Says said answer file = IfSome file (λ octets. said octets ≡ answer)
 abbrev pub OfSaid : {X E : Type 0} → (List ℕ → Result X E) → Option (List ℕ) → (X → Type 0) → Type 0
 OfSaid said file holds = IfSome file (λ octets. IfOk (said octets) holds)
 
--- Each of four files says this, where its octets are known: what one says does not hang on those after it, and a
+-- Each of four files says this, where its octets are known. What one says does not hang on those after it, and a
 -- schedule is one for as many blocks as there are.
 pub record AreInputsOf (given : Given) (t s b d : Option (List ℕ)) : Type 0 where
   pub table : Says table_said (Ok given.table) t
@@ -99,9 +99,10 @@ pub record HaveNoFault (t s b d : Option (List ℕ)) : Type 0 where
   pub blocks : HasNoFault blocks_said b
   pub schedule : OfSaid blocks_said b (λ blocks. HasNoFault (schedule_said (length blocks)) d)
 
--- A fault is the one that the octets say: that of the table, of the settings or of the blocks file by this file's alone,
--- but for its Read, which no octets say; that of the schedule by those of the blocks and its own; that of a transport
--- block by those of the first three files, and then no file has a fault. A Write comes behind all of these.
+-- A fault is the one that the octets say. A fault of the table, of the settings or of the blocks file is said by that
+-- file's alone, but for its Read, which no octets say. That of the schedule is said by the octets of the blocks and its
+-- own. That of a transport block is said by those of the first three files, and then no file has a fault. A Write comes
+-- behind all of these.
 abbrev pub IsFoundIn : RunFault → Option (List ℕ) → Option (List ℕ) → Option (List ℕ) → Option (List ℕ) → Type 0
 IsFoundIn (faults.Table e) t s b d = e ≢ table_fault.Read → Says table_said (Err e) t
 IsFoundIn (faults.Settings e) t s b d = e ≢ settings_fault.Read → Says settings_said (Err e) s

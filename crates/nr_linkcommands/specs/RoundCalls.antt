@@ -11,8 +11,8 @@ use Rattle.nr_linkcommands.specs.RunText.{received, received_of}
 use Rattle.nr_files.specs.Schedule.{IsTimetable, Timetable}
 use Rattle.nr_files.specs.declared.schedule.Transmission.{Transmission}
 
--- the calls that a transmission stands for, by the sender of its block: a fresh one begins its process for a block of
--- that size, and what is received of it is taken up
+-- The calls that a transmission stands for, by the sender of its block. A fresh one begins its process for a block of
+-- that size, and what is received of it is taken up.
 abbrev pub calls_by : Option Sending → Transmission → List Call
 calls_by None x = []
 calls_by (Some sender) x =
@@ -27,7 +27,8 @@ abbrev pub given_if : Option Sending → List Transmission → Option Round
 given_if None round = None
 given_if (Some sender) round = Some (record { link = sender.link; list = received sender round })
 
--- the same by the block that the round's first transmission names; a process that is in no round has not begun
+-- What a round of the schedule gives, by the block that its first transmission names. A process that is in no round has
+-- not begun.
 abbrev pub round_given : List Sending → List Transmission → Option Round
 round_given senders [] = None
 round_given senders (x ∷ more) = given_if (sender_of senders x) (x ∷ more)

@@ -30,13 +30,13 @@ delivered_line n tx c bits =
     codes "block " ++ decimal n ++ codes " delivered tx " ++ decimal tx ++ codes " failed 0 of " ++ decimal c
     ++ codes " " ++ hex bits ++ 10 ∷ []
 
--- the same: it is open, and so many code blocks failed
+-- the line of block n after tx receptions, where it is open: so many code blocks failed
 unfoldable pub open_line : ℕ → ℕ → ℕ → ℕ → List ℕ
 open_line n tx failed c =
     codes "block " ++ decimal n ++ codes " open tx " ++ decimal tx ++ codes " failed " ++ decimal failed
     ++ codes " of " ++ decimal c ++ 10 ∷ []
 
--- the same: no transport block explains what was received
+-- the line of block n after tx receptions, where no transport block explains what was received
 unfoldable pub contradiction_line : ℕ → ℕ → ℕ → List ℕ
 contradiction_line n tx c =
     codes "block " ++ decimal n ++ codes " contradiction tx " ++ decimal tx ++ codes " failed 0 of " ++ decimal c ++ 10 ∷ []

@@ -103,7 +103,7 @@ abbrev pub counted_if : Totals → Option Sending → List Transmission → Tota
 counted_if t None round = t
 counted_if t (Some sender) round = counted t sender.link (received sender round)
 
--- the same; an empty round is none
+-- the totals with a round more, by the block that it names first; an empty round is none
 abbrev pub round_counted : Totals → List Sending → List Transmission → Totals
 round_counted t senders [] = t
 round_counted t senders (x ∷ more) = counted_if t (sender_of senders x) (x ∷ more)

@@ -30,7 +30,7 @@ abbrev pub ErasuresAloneAreSafe : Type 0
 ErasuresAloneAreSafe = (table : Entries) (settings : Settings) (sender : Sending) (xs : List Transmission) → IsTable table
     → sending_said table settings sender.block ≡ Ok sender → All OnlyErases xs → IsSafelyReceived sender xs
 
--- the same of a sender's block over a whole schedule: after all transmissions of block n, and after each round
+-- what holds of a sender's block over a whole schedule: after all transmissions of block n, and after each round
 pub record IsSafeRun (schedule : List Transmission) (sender : Sending) : Type 0 where
   pub blocks : (n : ℕ) → IsSafelyReceived sender (own n schedule)
   pub rounds : All (IsSafelyReceived sender) (all_rounds schedule)

@@ -26,7 +26,7 @@ use nr_shifttable::Source;
 use replay::replay;
 use std::alloc::Global;
 
-/// Sends and receives each transmission of a schedule as `run` does, without a line, and then writes for each transport
+/// Sends and receives each transmission of a schedule as `run` does, without a line. Then it writes for each transport
 /// block, counted from 1, a line for each of its code blocks, counted from 0:
 ///
 /// - `order <n> <r> <steps>`, where every position below K' is fixed: how many positions peeling fixed, which are
@@ -35,7 +35,7 @@ use std::alloc::Global;
 ///   stopping set, which is why peeling can't go on (TS 38.212, 5.3.2).
 ///
 /// The four files are read to their ends and judged whole, in the order of the parameters, and then every transport
-/// block, before the first put. Then each line is written as soon as it is made.
+/// block. All of this comes before the first put. Then each line is written as soon as it is made.
 ///
 /// # Errors
 /// In this order: `Table`, `Settings`, `Blocks`, `Schedule`, the first fault of a file; `Desk`, the first transport
@@ -111,8 +111,8 @@ impl<'t> Walk<'t> for AuditRounds {
     }
 }
 
-// Writes the lines of each round of a HARQ process: first of those that a transmission ends, in their order, and then
-// of the others, by process.
+// Writes the lines of each round of a HARQ process. The rounds that a transmission ends come first, in their order, and
+// then the others, by process.
 fn audit_rounds<O: Sink>(ready: &Ready, out: &mut O) -> Result<(), RunFault>
     requires puts { O.failures out.old < 2 ^ 32 }
     requires by_process { ready.now.inputs.now.schedule.by_process ≡ true }

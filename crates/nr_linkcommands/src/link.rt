@@ -1,4 +1,4 @@
-//! The link between a sender and a receiver: what a transmission sends over it, what of that is heard, and what the
+//! The link between a sender and a receiver: what a transmission sends over it, what of that arrives, and what the
 //! receiver makes of it.
 
 ghost use Rattle.std.specs.Prelude.{◌≡◌, ◌^◌, ◌≤◌, ◌++◌, [], ◌∷◌, not, length, map, IfOk, IsErr, IsOk, List, OnOk};
@@ -23,9 +23,9 @@ use std::alloc::{AllocError, Global};
 /// What arrives of the bits that a transmission sends, as two lists of bits of one length.
 #[derive(Drop)]
 pub struct Arrival {
-    /// Marks of the places at which a bit is heard.
+    /// Marks of the places at which a bit is received.
     pub heard: Bits,
-    /// The bits that are heard there. Those of the other places say nothing.
+    /// The bits that are received there. Those of the other places say nothing.
     pub value: Bits,
 }
 
@@ -81,8 +81,8 @@ pub(crate) fn bits_or_refusal(
     }
 }
 
-/// What is heard of the bits that a transmission sends: nothing at an erased place; else at a flipped place the other
-/// bit; else the bit that is sent.
+/// What is received of the bits that a transmission sends: nothing at an erased place; else at a flipped place the
+/// other bit; else the bit that is sent.
 ///
 /// # Errors
 /// `AllocError` where memory is refused.
@@ -141,7 +141,7 @@ fn flipped(alloc: Global, flip: &Places, bits: &Bits) -> Result<Bits, AllocError
     Ok(value)
 }
 
-// Has a receiver hear a transmission that it accepts, and returns what may be handed up of all that was received.
+// Gives a receiver a transmission that it accepts, and returns what may be handed up of all that was received.
 pub(crate) fn receive(
     receiver: &mut Receiver,
     tx: &Tx,

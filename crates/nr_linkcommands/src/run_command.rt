@@ -30,15 +30,15 @@ use slots::RunSlots;
 use std::alloc::Global;
 use totals::{Totals, counted, no_totals};
 
-/// Carries the transport blocks of a blocks file over a link that loses bits as a schedule says, and writes a line for
-/// each transmission as `send` does, after each one that is sent a line for each code block with the number of
-/// positions that are not fixed yet; then a line for each transport block with what may be handed up of all that was
-/// received, and the totals.
+/// Carries the transport blocks of a blocks file over a link that loses bits as a schedule says. It writes a line for
+/// each transmission as `send` does. After each one that is sent it writes a line for each code block, with the number
+/// of positions that are not fixed yet. Then come a line for each transport block with what may be handed up of all
+/// that was received, and the totals.
 ///
 /// The four files are read to their ends and judged whole, in the order of the parameters, and then every transport
-/// block, before the first put. Then each line is written as soon as it is made. Each block is encoded once; a
-/// receiver is made at the first transmission of its block, or of its process's round, that is not refused, and let go
-/// behind the last: so a schedule that goes block by block holds one at a time.
+/// block. All of this comes before the first put. Then each line is written as soon as it is made. Each block is
+/// encoded once. A receiver is made at the first transmission of its block, or of its process's round, that is not
+/// refused. It is let go behind the last, so a schedule that goes block by block holds one at a time.
 ///
 /// # Errors
 /// In this order: `Table`, `Settings`, `Blocks`, `Schedule`, the first fault of a file; `Desk`, the first transport

@@ -1,5 +1,5 @@
-//! How a command follows a schedule by its HARQ processes: each transmission in its turn, behind the round that it ends,
-//! and at last the rounds that none ends.
+//! How a command follows a schedule by its HARQ processes. Each transmission comes in its turn, behind the round that
+//! it ends, and at last come the rounds that none ends.
 
 ghost use Rattle.std.specs.Prelude.{All, List, OnOk, [], ◌∷◌, ◌++◌, false, if◌then◌else◌, length, ℕ, ◌<◌, ◌^◌, ◌≡◌, ◌≤◌};
 ghost use Rattle.nr_blockdesk.specs.Sent.{Sending};

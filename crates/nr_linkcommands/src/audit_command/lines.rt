@@ -28,7 +28,7 @@ pub(crate) fn code_line(
     Ok(whole.into_bytes())
 }
 
-// The same without its head.
+// The line of a code block without a head.
 fn line_of(alloc: Global, number: u32, receiver: &Receiver, r: u32) -> Result<String, AllocError>
     requires { r < receiver.now.link.plan.c }
     ensures { IfOk result (λ line. string_bytes line

@@ -1,4 +1,4 @@
-//! What a receiver has heard after the transmissions of a schedule, sent and received without a line.
+//! What a receiver has received after the transmissions of a schedule, sent without a line.
 
 ghost use Rattle.std.specs.Prelude.{IfOk, List, OnOk, [], ◌++◌, ◌+◌, ◌∷◌, ◌≡◌};
 ghost use Rattle.nr_linkcommands.specs.AuditText.{HasHeard};
@@ -26,7 +26,7 @@ pub(crate) fn replay<'t>(
     Ok(receiver)
 }
 
-// Makes those of these transmissions that are of a process, and has a receiver hear what arrives.
+// Makes those of these transmissions that are of a process, and gives a receiver what arrives.
 fn replay_all(
     alloc: Global,
     sender: &Sender,
@@ -44,7 +44,7 @@ fn replay_all(
     Ok(())
 }
 
-// Sends a transmission if it is one of a process, and has the receiver hear what arrives.
+// Sends a transmission if it is one of a process, and gives the receiver what arrives.
 fn replay_if_of(
     alloc: Global,
     sender: &Sender,
@@ -63,7 +63,7 @@ fn replay_if_of(
     replay_one(alloc, sender, receiver, transmission)
 }
 
-// Sends a transmission, and has the receiver hear what arrives, where it is not refused.
+// Sends a transmission where it is not refused, and gives the receiver what arrives.
 fn replay_one(
     alloc: Global,
     sender: &Sender,

@@ -9,13 +9,13 @@ use nr_blockdesk::{
     links_are_sound,
 };
 
-/// Law: the lines that a command writes about a process, in their order, are those that it writes about it for a
-/// schedule of the process's own transmissions alone, with their numbers.
+/// Law: the lines that a command writes about a process, in their order, hang on that process alone. They are those of
+/// a schedule of its own transmissions alone, with their numbers.
 pub fn lines_are_own()
     ensures { LinesAreOwn }
 {}
 
-/// Law: of transmissions of a sender's transport block that only erase, the outcome is no contradiction, what is
+/// Law: transmissions of a sender's transport block that only erase never have the outcome contradiction. What is
 /// delivered is that block, and it is delivered once every position below K' is fixed.
 pub fn erasures_alone_are_safe()
     ensures { ErasuresAloneAreSafe }

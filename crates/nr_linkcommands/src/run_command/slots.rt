@@ -93,8 +93,8 @@ fn begin_round(fresh: bool, slot: &mut Slot)
 
 // Whether one of these transmissions goes on with the round that a process is in.
 //
-// Asked behind each transmission of a schedule, it looks at each one no more than once for a process, since it stops at
-// the next one of the process.
+// Asked behind each transmission of a schedule, it stops at the next one of the process. So for a process it looks at
+// each one no more than once.
 fn goes_on(process: u32, later: &[Transmission]) -> bool
     ensures { result ≡ goes_on process later.now }
 {

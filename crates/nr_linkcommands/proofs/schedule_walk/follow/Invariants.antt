@@ -4,8 +4,8 @@ use Rattle.nr_files.specs.Rounds.{ended_rounds}
 use Rattle.nr_linkcommands.proofs.RunTexts.{IsLeft}
 use Rattle.nr_linkcommands.proofs.schedule_walk.follow.Given as goal
 
--- the lines of the transmissions so far are written, what is kept of them and of the rounds that they ended is kept, and
--- no put failed
+-- The lines of the transmissions so far are written, and no put failed. What is kept of these transmissions and of the
+-- rounds that they ended is kept.
 abbrev pub invariant-loop-index : goal.invariant-loop-index
 invariant-loop-index g l = record {
   lines : IsLeft (g.O.Sink.written l.fn.out) (g.O.Sink.written l.out)

@@ -4,7 +4,7 @@ use Rattle.nr_files.specs.Rounds.{of_process}
 use Rattle.nr_linkcommands.specs.RunText.{received}
 use Rattle.nr_linkcommands.proofs.audit_command.replay.replay_all.Given as goal
 
--- the receiver has heard what arrives of the process's transmissions so far
+-- the receiver has received what arrives of the process's transmissions so far
 abbrev pub invariant-loop-transmission : goal.invariant-loop-transmission
 invariant-loop-transmission l = record {
   heard : HasHeard l.sender (received l.sender (of_process l.process (take l.transmission-index l.transmissions))) l.receiver;
