@@ -169,7 +169,8 @@ second-said false (Ok x) (Ok y) t f two one h = cc h
 abbrev OneIsWell : Entries → Type 0
 OneIsWell t = 0 < length t.one → IsWell One t.one
 
--- the fault f of a base graph is named exactly where R, and so is it of the table, once base graph 1 is well or f is its own
+-- The fault f of a base graph is named exactly where R. So is it of the table, once base graph 1 is well or f is its
+-- own.
 module _ (t : Entries) (w : AreEntries t) (f : TableFault) (R : Type 0) where
   named-one : graph_named f ≡ Some One → (graph_checked One t.one ≡ Err f) ↔ R → (R → 0 < length t.one) → (accepted t ≡ Err f) ↔ R
   unfolding accepted

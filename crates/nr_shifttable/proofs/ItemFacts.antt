@@ -67,7 +67,7 @@ numbers-all r i ns h k said = sym (said ∙ ap (λ l. option_map (λ rest. take 
 pub no-field : (r : Record) (i : ℕ) → i < length r → ◌≡◌ {A = Option (List ℕ)} None (field_at r i) → ⊥
 no-field r i lt e = field-there r i lt (sym e)
 
--- what a conversion to 16 bits says where it answers
+-- what a conversion to 16 bits says where it returns a number
 pub converted : {E : Type 0} (r : Result ℕ E) (x v : ℕ) → OkIff r (x < 65536) x → Some v ≡ result_ok r → (x < 65536) × (v ≡ x)
 converted {E} (Ok y) x v h e = let k = OkIff-at_ok {E = E} (Ok y) (x < 65536) x y h refl in (k.0, some-same e ∙ k.1)
 converted (Err e) x v h q = cc q

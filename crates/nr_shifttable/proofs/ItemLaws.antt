@@ -138,7 +138,7 @@ items-apart k rs out e = items-kept Apart
 pub items-inside : (k : ℕ) (rs : List Record) (out : List Item) → items_from k [] rs ≡ Ok out → All IsInside out
 items-inside k rs out e = items-kept (All IsInside) (λ items x p _ inside. All-push IsInside items x p inside) k [] rs out e (All-nil IsInside)
 
--- a law of what is said, of the answer that gives it
+-- a law of what is said, of the result that gives it
 pub gives-law : (P : List Item → Type 0) (r : Result (Vec Item Global) TableFault) (said : Result (List Item) TableFault)
     → Gives fault.Memory (λ v. v.items) r said → ((out : List Item) → said ≡ Ok out → P out) → IfOk r (λ v. P v.items)
 gives-law P (Ok v) said g law = law v.items g

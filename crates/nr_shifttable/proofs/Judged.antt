@@ -1,4 +1,4 @@
--- The faults that judging a text's records and their table answers: neither a failed read nor too long a text.
+-- The faults that judging a text's records and their table returns: neither a failed read nor too long a text.
 use Rattle.std.proofs.Common.{◌≡◌, ℕ, ◌+◌, ◌==◌, Bool, true, false, cond, not, ◌&&◌, ◌<◌, ◌⊎◌, inl, inr, List, [], ◌∷◌, length, refl, sym, subst}
 use Rattle.std.specs.Prelude.{Option, Some, None, Result, Ok, Err, IsErrOf, IfSome}
 use Rattle.std.proofs.lemmas.Bool.{lt-ltb}
@@ -20,7 +20,7 @@ is_of_octets fault.Read = true
 is_of_octets fault.TooLong = true
 is_of_octets _ = false
 
--- an answer that is not such a fault
+-- a result that is not such a fault
 abbrev pub IsJudged : {X : Type 0} → Result X TableFault → Type 0
 IsJudged (Ok x) = Unit {0}
 IsJudged (Err e) = is_of_octets e ≡ false
@@ -70,7 +70,7 @@ accepted-judged t =
     judged-if ((length t.one == 0) && (length t.two == 0)) _ _ refl
     (judged-bind (graph_checked One t.one) _ (graph-judged One t.one) (λ _. judged-bind (graph_checked Two t.two) _ (graph-judged Two t.two) (λ _. tt)))
 
--- nor does a call answer such a fault that gives what is said so
+-- nor does a call return such a fault that gives what is said so
 pub fault-judged : {Y : Type 0} (e : TableFault) (said : Result Y TableFault) → (e ≡ fault.Memory) ⊎ (said ≡ Err e) → IsJudged said → is_of_octets e ≡ false
 fault-judged e said (inl m) judged = subst (λ f. is_of_octets f ≡ false) (sym m) refl
 fault-judged e said (inr s) judged = subst IsJudged s judged

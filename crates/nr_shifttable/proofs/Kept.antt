@@ -51,7 +51,7 @@ ascend-said k past (x ∷ xs) up = by x.graph x.entry up (ascend-said (k + 1) (i
     by One e up rest = let above = le-ltb (key_of One e.row e.col) past up.1 in rw (up.0, above) rest
     by Two e up rest = let above = le-ltb (key_of Two e.row e.col) past up.1 in rw (up.0, above) rest
 
--- an item is that of what is kept of it, and what is kept is that of its item, where its base graph is 1 or 2
+-- An item is that of what is kept of it. What is kept is that of its item, where its base graph is 1 or 2.
 item-back : (g : Graph) (e : Entry) → item_kept (kept_of (record { graph = g; entry = e })) ≡ record { graph = g; entry = e }
 item-back One e = refl
 item-back Two e = refl

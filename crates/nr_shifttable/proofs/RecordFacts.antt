@@ -26,7 +26,7 @@ field-between false true true h = refl
 field-between false true false h = refl
 field-between false false return h = cc h
 
--- the same at the start of a field, and at the start of a record
+-- what ends a record's read ends at the text's end no more, at the start of a field or of a record
 start-between : (quote : Bool) (p : State × Action) → (is_end p.1 ≡ true → ends_at_end p.0 ≡ false)
     → is_end (cond quote (st.InQuoted, act.Skip) p).1 ≡ true → ends_at_end (cond quote (st.InQuoted, act.Skip) p).0 ≡ false
 start-between true p more h = cc h
@@ -192,8 +192,8 @@ reads-none a b fields plain read =
     let none : next_record default_config a.state [] [] known.0 ≡ None = rows-end (λ (s : Bor (List ℕ)). Some s.now) a b fields default_config known.0 plain.config known.1 read in
     rw known.1 (left-none a.state known.0 none)
 
--- A read's answer, with another error in the place of its own: what was left is the record and what is left now,
--- or nothing; and where there was a record, the reader goes on.
+-- A read's result, with another error in the place of its own: what was left is the record and what is left now, or
+-- nothing; and where there was a record, the reader goes on.
 pub row-read : {E F : Type 0} (Q : E → Type 0) (a b : Reader (Bor (List ℕ))) (fields : Record) (r : Result Bool E) (s : Result Bool F)
     → MatchResult r (λ x. s ≡ Ok x) Q → is_ok s ≡ is_ok r → IsPlainReader a
     → IfOk r (λ found. reader_trim a ≡ trim.None → Ready a → ReadRecord (λ s. Some s.now) a b found fields)

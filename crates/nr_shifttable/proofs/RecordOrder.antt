@@ -141,7 +141,7 @@ count-missing records items w =
     plus_nothing : (n : ℕ) → n + 0 ≡ n
     plus_nothing n = omega arith
 
--- the same records in another order write items too, with the header in front of both or of neither
+-- records in another order write items too, with the header in front of both or of neither
 pub moved-written : (records others : List Record) (items : List Item) → IsPermutation records others → has_header records ≡ has_header others → IsWritten records items
     → (more : List Item) × IsWritten others more
 moved-written records others items moved same w =

@@ -1,5 +1,5 @@
--- Believed: the table of shift values of the two LDPC base graphs, and the shape of an accepted one (TS 38.212, 5.3.2: the parity columns of Tables
--- 5.3.2-2 and 5.3.2-3).
+-- Believed: the table of shift values of the two LDPC base graphs, and the shape of an accepted one. The shape is that
+-- of the parity columns of Tables 5.3.2-2 and 5.3.2-3 (TS 38.212, 5.3.2).
 use Rattle.std.specs.Prelude.{◌≡◌, ◌⊎◌, IfSome, IsErrOf, ℕ, zero, suc, ◌+◌, ◌*◌, ◌<◌, ◌≤◌, ◌==◌, nat_lt, nat_le, Bool, true, false, not, ◌&&◌, ◌||◌, if◌then◌else◌, ⊤, List, [], ◌∷◌, length, map, filter, fold, find, All, AllPairs, slice_index, Option, Some, None, option_map, Result, Ok, Err}
 use Rattle.std.specs.List.{list_all}
 use Rattle.std.specs.List.Sorted.{IsPermutation}
@@ -92,7 +92,7 @@ each_below (suc n) test = each_below n test && test n
 unfoldable pub three_agree : List ℕ → List ℕ → List ℕ → Bool
 three_agree a b c = each_below 8 (λ k. two_agree (slice_index a k) (slice_index b k) (slice_index c k))
 
--- what stands in one column in rows 0 to 3: values in rows 0 and 3 and in one of rows 1 and 2, which agree
+-- What stands in one column in rows 0 to 3: values in rows 0 and 3 and in one of rows 1 and 2. They agree.
 unfoldable pub rows_agree : Option (List ℕ) → Option (List ℕ) → Option (List ℕ) → Option (List ℕ) → Bool
 rows_agree (Some a) (Some b) None (Some d) = three_agree a b d
 rows_agree (Some a) None (Some c) (Some d) = three_agree a c d

@@ -25,8 +25,8 @@ abbrev pub third_of : ℕ → ℕ → ℕ → ℕ
 third_of a b c = if a == b then c else if a == c then b else a
 
 -- The first parity column, n, has the values first, middle and last in rows 0 to 3. Two of them are equal and cancel,
--- and so do the diagonal's zeros: what is left of the sum is the first parity column, rotated by the third value.
--- This is so for each lifting size z, and whatever the bits are.
+-- and so do the diagonal's zeros. What is left of the sum is the first parity column, rotated by the third value. This
+-- is so for each lifting size z, and whatever the bits are.
 pub record CoreSum (es : List Entry) (set n : ℕ) : Type 0 where
   pub first : ℕ
   pub middle : ℕ

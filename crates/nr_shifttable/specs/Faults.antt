@@ -23,7 +23,8 @@ CoreIsWell g es = (set : ℕ) → set < 8 → HasCoreRows es set (info_cols_of g
 abbrev pub HasRow : List Entry → ℕ → Type 0
 HasRow es i = 0 < length (row_of es i)
 
--- each row i from 4 on that has an entry has, past the core's columns, its own column alone, with 0 in each of the eight sets
+-- Each row i from 4 on that has an entry has, past the core's columns, its own column alone. Its value there is 0 in
+-- each of the eight sets.
 abbrev pub ExtensionIsWell : Graph → List Entry → Type 0
 ExtensionIsWell g es =
     (set i : ℕ) → set < 8 → 4 ≤ i → i < rows_of g → HasRow es i → tail_of es set (info_cols_of g + 4) i ≡ (info_cols_of g + i, 0) ∷ []
@@ -54,8 +55,8 @@ pub record AreEntries (t : Entries) : Type 0 where
 abbrev pub CoreIsNamed : Type 0
 CoreIsNamed = (t : Entries) (g : Graph) → AreEntries t → (accepted t ≡ Err (Core g)) ↔ (IsReached g t × (CoreIsWell g (entries_in g t) → ⊥))
 
--- Extension is named exactly where they have it, and a row from 4 on that has an entry lacks its own column, has a value
--- other than 0 there, or has another column past the core's
+-- Extension is named exactly where they have it, and some row from 4 on that has an entry is wrong. It lacks its own
+-- column, has a value other than 0 there, or has another column past the core's.
 abbrev pub ExtensionIsNamed : Type 0
 ExtensionIsNamed =
     (t : Entries) (g : Graph) → AreEntries t

@@ -46,8 +46,9 @@ item_kept e = item_in_graph (if e.graph == 1 then One else Two) e.entry
 abbrev pub is_placed : KeptEntry → Bool
 is_placed e = names_graph e && is_of_graph (item_kept e)
 
--- What entries say of their places, from entry k on, where the keys of those before it are all below `past`: nothing,
--- or of the first entry with a fault that it is outside its base graph, or else that it does not stand past those before it.
+-- What entries say of their places, from entry k on, where the keys of those before it are all below `past`. It is
+-- nothing, or the fault of the first entry with one: it is outside its base graph, or else it does not stand past those
+-- before it.
 unfoldable pub places_from : ℕ → ℕ → List KeptEntry → Result (Unit {0}) EntriesFault
 places_from k past [] = Ok tt
 places_from k past (e ∷ es) =

@@ -20,8 +20,8 @@ abbrev pub failed_count : {T E : Type 0} → Result T E → ℕ
 failed_count (Ok x) = 0
 failed_count (Err e) = 1
 
--- A feed: the octets still to come, how many a pull gives at most, how many pulls succeed before each one fails (None: none fails), and how many
--- have failed.
+-- A feed: the octets still to come, and how many a pull gives at most. It says too how many pulls succeed before each
+-- one fails (None: none fails), and how many have failed.
 pub record Feeding : Type 0 where
   pub octets : List ℕ
   pub step : ℕ

@@ -20,8 +20,8 @@ HasMiddle es set n b =
     ((tail_of es set n 1 ≡ (n, b) ∷ (n + 1, 0) ∷ (n + 2, 0) ∷ []) × (tail_of es set n 2 ≡ (n + 2, 0) ∷ (n + 3, 0) ∷ []))
     ⊎ ((tail_of es set n 1 ≡ (n + 1, 0) ∷ (n + 2, 0) ∷ []) × (tail_of es set n 2 ≡ (n, b) ∷ (n + 2, 0) ∷ (n + 3, 0) ∷ []))
 
--- rows 0 to 3: the first parity column three times, with values a, b and c, two of which agree, and the double
--- diagonal of zeros
+-- Rows 0 to 3: the first parity column three times, and the double diagonal of zeros. The three values are a, b and c,
+-- two of which agree.
 pub record HasCore (es : List Entry) (set n a b c : ℕ) : Type 0 where
   pub first : tail_of es set n 0 ≡ (n, a) ∷ (n + 1, 0) ∷ []
   pub middle : HasMiddle es set n b
@@ -46,8 +46,8 @@ AcceptedHasShape =
     (t : Entries) (graph : Graph) (set : ℕ) → IsTable t → 0 < length (entries_in graph t) → set < 8
     → HasShape (entries_in graph t) set (info_cols_of graph) (rows_of graph)
 
--- And nothing else is asked: entries in ascending order and within their base graphs, at least one, are a table that is
--- accepted, where each base graph that has an entry has this shape in each of the eight sets.
+-- And nothing else is asked. Take entries in ascending order and within their base graphs, at least one. They are a
+-- table that is accepted, where each base graph that has an entry has this shape in each of the eight sets.
 abbrev pub ShapeIsAccepted : Type 0
 ShapeIsAccepted =
     (t : Entries) → Ascending 0 t.one → Ascending 0 t.two → All (IsInRange One) t.one → All (IsInRange Two) t.two

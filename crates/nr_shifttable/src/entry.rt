@@ -31,7 +31,7 @@ pub struct Item {
 pub struct KeptEntry {
     /// The base graph: 1 or 2.
     pub graph: u16,
-    /// Its row, from 0 and below 46 or 42, its column, from 0 and below 68 or 52, in base graph 1 or 2, and
+    /// Its row, from 0 and below 46 or 42, and its column, from 0 and below 68 or 52, in base graph 1 or 2. With them
     /// its shift value V of each lifting-size set 0 to 7, not reduced by a lifting size.
     pub entry: Entry,
 }

@@ -171,9 +171,9 @@ fn values_of(numbers: &[u64; FIELDS]) -> Option<[u16; 8]>
 
 // Whether one of the items, whose keys are all below `past`, stands at the place of this one.
 //
-// Where the records ascend no item is looked at. Else this goes over all of them for each record,
-// which stays small: a base graph has at most 46 rows and 68 columns, so that no more than 5,312
-// records pass before one is out of range or at the place of another.
+// Where the records ascend no item is looked at. Else this goes over all of them for each record, which stays small. A
+// base graph has at most 46 rows and 68 columns. So no more than 5,312 records pass before one is out of range or at
+// the place of another.
 fn has_place(items: &[Item], past: u32, item: &Item) -> bool
     requires { AreBefore past items.now }
     ensures { result ≡ has_place items.now item.now }

@@ -17,42 +17,39 @@ pub fn tables_are_sound(table: &Table)
     table.is_sound();
 }
 
-/// What is listed of a table by `Table::item`, as its items 0, 1 and so on, is accepted by
-/// `Table::of_entries` as `KeptEntry::of` has it, unless memory is refused, and gives the same table.
+/// What is listed of a table by `Table::item`, as its items 0, 1 and so on, is accepted by `Table::of_entries` as
+/// `KeptEntry::of` has it. It gives the table that was listed, unless memory is refused.
 pub fn listed_are_kept()
     ensures { ListedAreKept }
 {}
 
-/// The items of a table file's records are exactly those that the records behind the header write,
-/// in their order, where each record has eleven fields and no two items stand at one place; other
-/// records have a fault.
+/// The items of a table file's records are exactly those that the records behind the header write, in their order. This
+/// is so where each record has eleven fields and no two items stand at one place; other records have a fault.
 pub fn items_written()
     ensures { ItemsAreWritten }
 {}
 
-/// The order of a table file's records does not matter: two files with the same records in another
-/// order, with no fault in either, give the same table.
+/// The order of a table file's records does not matter. Two files with the same records in another order, with no fault
+/// in either, give the same table.
 pub fn record_order()
     ensures { OrderDoesNotMatter }
 {}
 
-/// Two files of at most 4,194,304 octets with the same records in another order: where the header,
-/// if there is one, is the first record of both, one is accepted exactly where the other is, with
-/// the same table; and where the records of one have no fault, nor have those of the other, and the
-/// same is said of both.
+/// Two files of at most 4,194,304 octets with the same records in another order. Where the header, if there is one, is
+/// the first record of both, one is accepted exactly where the other is, with the same table. Where the records of one
+/// have no fault, nor have those of the other, and the same is said of both.
 pub fn records_may_move()
     ensures { RecordsMayMove }
 {}
 
-/// Each base graph of an accepted table has, in each lifting-size set, the parity columns of TS
-/// 38.212, 5.3.2: row by row the literal lists of the columns and their values.
+/// Each base graph of an accepted table has, in each lifting-size set, the parity columns of TS 38.212, 5.3.2. They
+/// are, row by row, the literal lists of the columns and their values.
 pub fn accepted_shape()
     ensures { AcceptedHasShape }
 {}
 
-/// From the first parity column on, the four core rows of an accepted table add up to that column,
-/// rotated once: equal shifts cancel, for each base graph of the table, each lifting-size set and
-/// each lifting size.
+/// From the first parity column on, the four core rows of an accepted table add up to that column, rotated once. Equal
+/// shifts cancel. This is so for each base graph of the table, each lifting-size set and each lifting size.
 pub fn core_rows_add_up()
     ensures { CoreRowsAddUp }
 {}
@@ -63,16 +60,15 @@ pub fn shape_accepted()
     ensures { ShapeIsAccepted }
 {}
 
-/// A table is refused by `Core` of a base graph exactly where its rows 0 to 3 lack, in one of the
-/// eight lifting-size sets, the literal lists of columns and values of the core's parity part (TS
-/// 38.212, 5.3.2), and the base graph before it has no fault.
+/// A table is refused by `Core` of a base graph exactly where its rows 0 to 3 lack the core's shape, and the base graph
+/// before it has no fault. The shape is, in each of the eight lifting-size sets, the literal lists of columns and
+/// values of the core's parity part (TS 38.212, 5.3.2).
 pub fn core_named()
     ensures { CoreIsNamed }
 {}
 
-/// It is refused by `Extension` exactly where these rows have it and a row from 4 on that has an
-/// entry has, past the core's columns, anything but its own column with 0 in each set (TS 38.212,
-/// 5.3.2).
+/// It is refused by `Extension` exactly where these rows have it and a row from 4 on that has an entry breaks the rule
+/// of those rows. Past the core's columns such a row has its own column alone, with 0 in each set (TS 38.212, 5.3.2).
 pub fn extension_named()
     ensures { ExtensionIsNamed }
 {}

@@ -44,10 +44,9 @@ impl Model for Table {
 impl Table {
     /// Reads a table file to its end and judges it.
     ///
-    /// The file is CSV text. Each record has eleven fields: base graph (1 or 2), row, column, and
-    /// the shift values of the eight lifting-size sets, as TS 38.212, Tables 5.3.2-2 and 5.3.2-3
-    /// give them; a first record that begins with `graph` is a header. The order of the records
-    /// does not matter.
+    /// The file is CSV text. Each record has eleven fields: base graph (1 or 2), row, column, and the shift values of
+    /// the eight lifting-size sets. TS 38.212, Tables 5.3.2-2 and 5.3.2-3 give them. A first record that begins with
+    /// `graph` is a header. The order of the records does not matter.
     ///
     /// # Errors
     ///
@@ -93,17 +92,17 @@ impl Table {
         Table::from_items(alloc, &items)
     }
 
-    /// The table of entries that a caller kept, judged: the entries of both base graphs in ascending
-    /// order, those of base graph 1 before those of base graph 2, and each graph's by row and then by
-    /// column. `item` lists a table's.
+    /// The table of entries that a caller kept, judged: the entries of both base graphs in ascending order. Those of
+    /// base graph 1 stand before those of base graph 2, and each graph's by row and then by column. `item` lists a
+    /// table's.
     ///
     /// # Errors
     ///
-    /// For the first entry that has one, `Range`, where its base graph is neither 1 nor 2 or has not its
-    /// row or its column, or `Order`, where it does not stand past the entry before it, in this order, with
-    /// its number from 1; then `Table` with `Empty`, where there is no entry, or, for each base graph that
-    /// has an entry, base graph 1 first, with `Core`, `Extension` or `MissingRow`. `Memory` comes where a
-    /// growth is refused, and never in place of `Range` or `Order`.
+    /// For the first entry that has one, with its number from 1, in this order: `Range`, where its base graph is
+    /// neither 1 nor 2 or has not its row or its column; `Order`, where it does not stand past the entry before it.
+    /// Then `Table` with `Empty`, where there is no entry, or with `Core`, `Extension` or `MissingRow`, for each base
+    /// graph that has an entry, base graph 1 first. `Memory` comes where a growth is refused, and never in place of
+    /// `Range` or `Order`.
     #[tactic(auto, unfolding(crate::specs::Listed::entries_said))]
     pub fn of_entries(alloc: Global, entries: &[KeptEntry]) -> Result<Table, EntriesFault>
         ensures table { IfOk result IsTable }
@@ -198,9 +197,8 @@ impl Table {
         }
     }
 
-    /// The shift value V at a row and a column of a base graph, for the lifting-size set `set` in
-    /// 0..=7, as it was read: it is not reduced modulo a lifting size. `None` where no entry stands
-    /// there.
+    /// The shift value V at a row and a column of a base graph, for the lifting-size set `set` in 0..=7. It stands as
+    /// it was read, not reduced modulo a lifting size. `None` where no entry stands there.
     pub fn shift(&self, graph: Graph, row: u32, col: u32, set: u32) -> Option<u16>
         requires { set < 8 }
         ensures table { IsTable self.now }
@@ -233,9 +231,9 @@ impl Table {
         self.sorted(graph).column(col)
     }
 
-    /// The table's item of this number, from 0: its entries in ascending order, those of base graph 1
-    /// before those of base graph 2, and each graph's by row and then by column. `None` past the last
-    /// one. `of_entries` makes the same table of all items, as `KeptEntry::of` has them.
+    /// The table's item of this number, from 0: its entries in ascending order. Those of base graph 1 stand before
+    /// those of base graph 2, and each graph's by row and then by column. `None` past the last one. `of_entries` makes
+    /// the same table of all items, as `KeptEntry::of` has them.
     pub fn item(&self, n: u32) -> Option<Item>
         ensures table { IsTable self.now }
         ensures value { result ≡ slice_get (items_listed self.now) n }

@@ -4,8 +4,8 @@ use Rattle.nr_shifttable.specs.Orders.{AreBefore}
 use Rattle.nr_shifttable.specs.Records.{records_of}
 use Rattle.nr_shifttable.proofs.items.read_records.Given as goal
 
--- what the records left say after the items so far is what all say, the items' keys are below `past`, and there are no
--- more records than octets
+-- What the records left say after the items so far is what all say. The items' keys are below `past`, and there are no
+-- more records than octets.
 abbrev pub invariant-loop-items : goal.invariant-loop-items
 invariant-loop-items l = record {
   said : items_from (l.number + 1) l.items.items l.records ≡ items_from 1 [] (records_of l.text);

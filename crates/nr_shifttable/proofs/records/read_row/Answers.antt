@@ -1,4 +1,4 @@
--- Where a read answers, what was left is the record and what is left now, or nothing.
+-- Where a read returns, what was left is the record and what is left now, or nothing.
 use Rattle.csv.specs.Records.{fields_of}
 use Rattle.nr_shifttable.proofs.RecordFacts.{row-read}
 use Rattle.nr_shifttable.proofs.records.read_row.Goals as goal
