@@ -1,4 +1,4 @@
--- What commands answer, step by step.
+-- What commands return, step by step.
 use Rattle.std.proofs.Common.{◌≡◌, ◌≢◌, ℕ, ◌⊎◌, inl, inr, Result, Ok, Err, IsOkAnd, IsErr, List, ap, sym, ◌∙◌, refl, subst, Option}
 use Rattle.nr_commands.specs.Command.{Delivers, IsBlockFault, Writes}
 use Rattle.nr_refusal.specs.Refusal.{FailsAs}

@@ -2,8 +2,8 @@
 use Rattle.std.specs.Prelude.{ℕ, zero, suc, ◌+◌, ◌-◌, ◌==◌, ◌||◌, Bool, false, List, [], ◌++◌, Option, None, Some, length, min}
 use Rattle.std.specs.Option.{option_map}
 
--- the octets written, the room that is left, the most octets that one put takes, how many puts are left
--- before the first that fails (None: none fails), and the count of failures
+-- The octets written, the room that is left, and the most octets that one put takes. Then how many puts are left before
+-- the first that fails (None: none fails), and the count of failures.
 pub record TapeState : Type 0 where
   pub octets : List ℕ
   pub room : ℕ

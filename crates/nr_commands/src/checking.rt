@@ -13,8 +13,8 @@ use nr_graphpick::Graph;
 use nr_shifttable::{Source, Table, TableFault};
 use std::alloc::Global;
 
-/// Judges a shift table file (TS 38.212, 5.3.2), and writes a line for each base graph that the table has,
-/// graph 1 first: how many entries it has.
+/// Judges a shift table file (TS 38.212, 5.3.2). Writes a line for each base graph that the table has, graph 1 first:
+/// how many entries it has.
 ///
 /// The file is read to its end and judged whole before the first put. Then each line is written as soon as it is
 /// made.

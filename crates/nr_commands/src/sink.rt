@@ -74,8 +74,8 @@ impl Model for Tape {
 }
 
 impl Tape {
-    /// A blank tape. It has room for `room` octets, all of it taken here, takes at most `step` octets
-    /// per put, and is Broken from its `fail`-th put on (0: at no put) and where its room is used up.
+    /// A blank tape. It has room for `room` octets, all of it taken here, and takes at most `step` octets per put. It
+    /// is Broken from its `fail`-th put on (0: at no put) and where its room is used up.
     ///
     /// # Errors
     /// `AllocError` where there is no memory for the room.

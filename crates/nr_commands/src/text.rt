@@ -114,8 +114,8 @@ fn write_block<O: Sink>(
     write_planned(alloc, number, a, &plan, &attached, out)
 }
 
-/// Writes the text of `cut` for transport blocks, given as octets, which were judged at the code rate
-/// `rate2048` / 2048 (TS 38.212, 6.2.1 to 6.2.3 and 7.2.1 to 7.2.3): for each block, counted from 1,
+/// Writes the text of `cut` for transport blocks, given as octets, which were judged at the code rate `rate2048` /
+/// 2048. By TS 38.212, 6.2.1 to 6.2.3 and 7.2.1 to 7.2.3, it writes for each block, counted from 1,
 ///
 /// - `block <n> a <A> b <B> graph <1 or 2> c <C> l <L> kdash <K'> kb <Kb> z <Zc> set <set index> k <K> n <N>`;
 /// - `attached <n> <the B bits with the CRC>`;
