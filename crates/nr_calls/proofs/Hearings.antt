@@ -1,4 +1,4 @@
--- What was heard so far of a list of transmissions, and what is said of all of them.
+-- What was received so far of a list of transmissions, and what is said of all of them.
 use Rattle.std.proofs.Common.{◌≡◌, ◌≢◌, ◌⊎◌, inl, inr, refl, sym, ap, subst, ◌∙◌, ℕ, ◌+◌, ◌<◌, ◌≤◌, nat_le, Bool, true, false, Result, Ok, Err, List, [], ◌∷◌, ◌++◌, length, drop, take, arith, length-append}
 use Rattle.std.proofs.lemmas.Bool.{le-leb, lt-leb}
 use Rattle.std.proofs.lemmas.List.FromFn.{length-map-range_with_len}
@@ -18,8 +18,8 @@ use Rattle.nr_calls.specs.declared.fault.Fault.{Fault}
 use Rattle.nr_calls.specs.declared.fault.Fault.TheVariants as fault
 use Rattle.nr_calls.specs.declared.findings.Found.{Found}
 
--- Some receptions were heard, of n transmissions in all, and these are their record, the outcomes after each, and the last one.
--- What is said of all is said of them and the transmissions ts that are left.
+-- Some of n transmissions were received, and these are their record, the outcomes after each, and the last one. What is
+-- said of all is said of them and the transmissions ts that are left.
 pub record HasHeard (link : Link) (records : List Heardbits) (outcomes : List ℕ) (last : Verdict) (n : ℕ) (said : Result Findings Fault)
     (ts : List NrTx) (octets : List ℕ) : Type 0 where
   pub list : List Reception
@@ -51,7 +51,7 @@ step-short : (fits : Bool) (rest : Result Findings Fault) → fits ≡ false
 step-short false rest is = refl
 step-short true rest is = cc
 
--- the outcome that is answered is that of the longer list
+-- the outcome that is returned is that of the longer list
 told : (said : Result (List ℕ) DeskFault) (w v : Verdict) → (with_fault fault.Desk said >>= λ _. Ok w) ≡ Ok v → v ≡ w
 told (Ok l) w v is = cc
 told (Err e) w v is = cc
@@ -62,7 +62,7 @@ split : (link : Link) (records : List Heardbits) (outcomes : List ℕ) (last : V
     → HasHeard link records outcomes last n said (t ∷ ts) octets
 split link records outcomes last n said all t ts octets h is = subst (λ (l : List NrTx). HasHeard link records outcomes last n said l octets) is h
 
--- one more was heard
+-- one more was received
 more-heard : (link : Link) (records later : List Heardbits) (outcomes more : List ℕ) (last next : Verdict) (n : ℕ) (said : Result Findings Fault)
     (t : NrTx) (ts : List NrTx) (octets : List ℕ) → HasHeard link records outcomes last n said (t ∷ ts) octets → t.g ≤ length octets
     → ((list : List Reception) → IsRecordOf link list records → IsRecordOf link (list ++ arrival t octets ∷ []) later)
@@ -84,7 +84,7 @@ more-heard link records later outcomes more last next n said t ts octets h fits 
       ∙ step-ok (nat_le t.g (length octets)) (reception_said link (arrival t octets)) next _ _ (le-leb t.g (length octets) fits) (told-next h.list h.recorded);
 }
 
--- the same of what a call says of it
+-- what a call says of all, with one transmission more received
 pub heard-more : (new link : Link) (records later : List Heardbits) (outcomes more : List ℕ) (last next : Verdict) (n : ℕ) (said : Result Findings Fault)
     (all : List NrTx) (t : NrTx) (ts : List NrTx) (octets behind : List ℕ) (x : Reception) → HasHeard link records outcomes last n said all octets
     → t.g ≤ length octets
@@ -133,7 +133,7 @@ heard-over link records outcomes last n said [] (o ∷ octets) h none some = h.s
 heard-over link records outcomes last n said [] [] h none some = absurd (some refl)
 heard-over link records outcomes last n said (t ∷ ts) octets h none some = absurd (omega (arith, none))
 
--- all were heard
+-- all were received
 pub heard-all : (link : Link) (records : List Heardbits) (outcomes left : List ℕ) (last : Verdict) (n : ℕ) (said : Result Findings Fault)
     (ts : List NrTx) (octets : List ℕ) → HasHeard link records outcomes last n said ts octets → length ts ≡ 0 → length octets ≡ 0
     → left ≡ lefts link records → said ≡ Ok (record { outcomes = outcomes; left = left; last = last })

@@ -39,12 +39,12 @@ outcomes_more link list x =
     ∙ ap (λ l. l ++ f n ∷ []) before
     ∙ ap (λ v. map g (range_with_len 0 n) ++ v ∷ []) last
 
--- a step that is not refused answers what follows it
+-- a step that is not refused returns what follows it
 answered : (said : Result (List ℕ) DeskFault) (w v : Verdict) → (with_fault fault.Desk said >>= λ _. Ok w) ≡ Ok v → w ≡ v
 answered (Ok lengths) w v is = cc
 answered (Err e) w v is = cc
 
--- the same, of what was heard of one more transmission
+-- the outcomes after one more transmission are those of the longer list
 pub outcomes_after : (link : Link) (list : List Reception) (x : Reception) (v : Verdict) (old new : List ℕ)
     → one_more_said link list x ≡ Ok v → old ≡ outcomes_of link list → new ≡ old ++ outcome_number v ∷ []
     → new ≡ outcomes_of link (list ++ x ∷ [])

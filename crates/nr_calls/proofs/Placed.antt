@@ -70,7 +70,7 @@ pub answered : (es : List KeptEntry) (said : Result Entries EntriesFault) → en
 unfolding table_by
 answered es said is = ap (with_fault fault_of) is
 
--- the same of a fault, unless memory ran out
+-- a fault of entries, unless memory ran out, as the fault of a call
 pub refused : (es : List KeptEntry) (e : EntriesFault) (f : Fault) → ((e ≡ kept.Memory) ⊎ (entries_said es ≡ Err e)) → f ≡ fault_of e → (f ≡ fault.Memory) ⊎ (table_by es ≡ Err f)
 refused es e f (inl memory) is = inl (is ∙ ap fault_of memory)
 refused es e f (inr said) is = inr (answered es (Err e) said ∙ ap (λ g. Err g) (sym is))

@@ -34,7 +34,7 @@ pub record Codeword : Type 0 where
   pub plan : Numbers
   pub word : List Bool
 
--- the same, of what a call has encoded
+-- what a call has encoded, as a codeword with the numbers of its plan
 abbrev pub coded_of : Coded → Codeword
 coded_of c = record { plan = numbers c.plan; word = c.word }
 
@@ -47,11 +47,11 @@ coded_by table rate2048 a octets = do
   bits ← bits_said octets
   Ok (record { plan = p.plan; word = codeword table p.graph p.plan bits })
 
--- the same, by a shift table's entries
+-- the codeword by a shift table's entries, or the first fault
 unfoldable pub coded_said : List KeptEntry → ℕ → ℕ → List ℕ → Result Codeword Fault
 coded_said entries rate2048 a octets = table_by entries >>= λ table. coded_by table rate2048 a octets
 
--- the same, where there is room for N octets
+-- the codeword by a shift table's entries, where there is room for N octets, or the first fault
 abbrev pub coded_into_said : List KeptEntry → ℕ → ℕ → List ℕ → ℕ → Result Codeword Fault
 coded_into_said entries rate2048 a octets room = do
   coded ← coded_said entries rate2048 a octets

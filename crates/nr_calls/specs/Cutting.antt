@@ -11,7 +11,7 @@ use Rattle.nr_calls.specs.Statuses.{fault_number}
 use Rattle.nr_calls.specs.declared.fault.Fault.{Fault}
 use Rattle.nr_calls.specs.declared.fault.Fault.TheVariants as fault
 
--- the plan by which code block r of a transport block of a bits is cut for a room of so many octets, or the first fault
+-- the plan to cut code block r of a transport block of a bits for a room of so many octets, or the first fault
 unfoldable pub cut_planned : ℕ → ℕ → ℕ → ℕ → Result Planned Fault
 cut_planned rate2048 a r room = do
   p ← planned_said rate2048 a

@@ -1,4 +1,5 @@
--- Believed, with internal helpers: the bits that the K bits of a code block are encoded to (TS 38.212, 5.3.2), by base graph and Zc alone, for C.
+-- Believed, with internal helpers: the bits that the K bits of a code block are encoded to, for C. They hang on base
+-- graph and Zc alone (TS 38.212, 5.3.2).
 use Rattle.std.specs.Prelude.{◌≡◌, ◌⊎◌, ℕ, ◌+◌, ◌-◌, ◌*◌, ◌<◌, ◌==◌, ◌&&◌, nat_le, Bool, if◌then◌else◌, Option, Some, None, unwrap_or, Result, Ok, Err, List, length, map, slice_index_or}
 use Rattle.std.specs.List.{list_all}
 use Rattle.nr_bitvec.specs.Bit.{bit}
@@ -43,7 +44,7 @@ pub record Encoded : Type 0 where
   pub z : ℕ
   pub word : List Bool
 
--- the same, of what a call has encoded
+-- what a call has encoded, with its base graph and Zc
 abbrev pub encoded_of : Coded → Encoded
 encoded_of c = record { graph = c.plan.graph; z = c.plan.z; word = c.word }
 
@@ -64,7 +65,7 @@ encode_by table number z octets room =
     encode_judged table number z octets room >>= λ graph.
     Ok (record { graph = graph; z = z; word = word_for table graph z (map is_one octets) })
 
--- the same, by a shift table's entries
+-- the word that K octets are encoded into, by a shift table's entries, or the first fault
 unfoldable pub encode_said : List KeptEntry → ℕ → ℕ → List ℕ → ℕ → Result Encoded Fault
 encode_said entries number z octets room = table_by entries >>= λ table. encode_by table number z octets room
 

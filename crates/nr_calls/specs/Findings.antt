@@ -27,8 +27,8 @@ outcomes_of link list = map (λ k. outcome_number (outcome_of link (take (k + 1)
 abbrev pub lefts : Link → List Heardbits → List ℕ
 lefts link records = map (left link records) (range_with_len 0 link.plan.c)
 
--- what is found over a list of receptions: the number of the outcome after each of them, how many positions below K' of
--- each code block are left after the last, and the outcome then
+-- What is found over a list of receptions: the number of the outcome after each of them, and the outcome at last. It
+-- says too how many positions below K' of each code block are left after the last.
 pub record Findings : Type 0 where
   pub outcomes : List ℕ
   pub left : List ℕ
@@ -37,7 +37,7 @@ pub record Findings : Type 0 where
 abbrev pub findings : Link → List Reception → Findings
 findings link list = record { outcomes = outcomes_of link list; left = lefts link (heard_record link list); last = outcome_of link list }
 
--- the same, of what a call has found
+-- what a call has found, as findings
 abbrev pub findings_of : Found → Findings
 findings_of f = record { outcomes = f.outcomes.items; left = f.left.items; last = verdict f.last }
 

@@ -51,7 +51,7 @@ planned_said rate2048 a = do
   p ← with_fault (λ e. fault.Desk (desk.Seg e)) (plan_of graph (attached_length a))
   Ok (record { graph = graph; plan = p })
 
--- the same, for C
+-- the plan as C has it, or the first fault
 abbrev pub plan_said : ℕ → ℕ → Result NrPlan Fault
 plan_said rate2048 a = planned_said rate2048 a >>= λ p. Ok (shown p.graph (attached_length a) p.plan)
 

@@ -19,7 +19,7 @@ shares_said rate2048 a tx = do
   version ← demanded (fault.Desk desk.Rv) (nat_le tx.rv 3)
   with_fault (λ e. fault.Desk (desk.Rm e)) (lengths_said (scheduled tx.mask) p.plan.c tx.g tx.qm tx.nl)
 
--- the same, where there is room for so many
+-- E_r of each code block, where there is room for so many, or the first fault
 abbrev pub shares_into_said : ℕ → ℕ → Tx → ℕ → Result (List ℕ) Fault
 shares_into_said rate2048 a tx room = do
   shares ← shares_said rate2048 a tx

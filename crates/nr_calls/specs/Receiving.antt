@@ -41,8 +41,8 @@ heard_said link list (t ∷ ts) octets =
     with_fault fault.Desk (reception_said link (arrival t octets)) >>= λ _.
     heard_said link (list ++ arrival t octets ∷ []) ts (drop t.g octets)
 
--- what is found over some transmissions of a transport block of a bits, by a shift table, where there is room for it, or the
--- first fault; how much room is wanted does not hang on what is found
+-- What is found over some transmissions of a transport block of a bits, by a shift table, where there is room for it.
+-- Else it is the first fault; how much room is wanted does not hang on what is found
 unfoldable pub receive_by : Entries → Settings → ℕ → List NrTx → List ℕ → Room → Result Findings Fault
 receive_by table settings a ts octets room = do
   p ← planned_said settings.rate2048 a
@@ -50,6 +50,6 @@ receive_by table settings a ts octets room = do
   link ← with_fault fault.Desk (link_said table settings a)
   heard_said link [] ts octets
 
--- the same by a shift table's entries
+-- what is found over them by a shift table's entries, or the first fault
 unfoldable pub receive_into_said : List KeptEntry → Settings → ℕ → List NrTx → List ℕ → Room → Result Findings Fault
 receive_into_said entries settings a ts octets room = table_by entries >>= λ table. receive_by table settings a ts octets room

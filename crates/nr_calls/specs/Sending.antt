@@ -22,11 +22,11 @@ send_by table settings octets tx = do
   sender ← with_fault fault.Desk (sending_said table settings (bits_of octets))
   with_fault fault.Desk (sent_said sender.link tx sender.block)
 
--- the same, by a shift table's entries
+-- the bits that a transmission sends, by a shift table's entries, or the first fault
 unfoldable pub send_call_said : List KeptEntry → Settings → List ℕ → Tx → Result (List Bool) Fault
 send_call_said entries settings octets tx = table_by entries >>= λ table. send_by table settings octets tx
 
--- the same, where there is room for so many
+-- these bits, where there is room for so many, or the first fault
 abbrev pub send_into_said : List KeptEntry → Settings → List ℕ → Tx → ℕ → Result (List Bool) Fault
 send_into_said entries settings octets tx room = do
   bits ← send_call_said entries settings octets tx

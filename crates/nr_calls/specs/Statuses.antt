@@ -77,7 +77,8 @@ abbrev pub TellsStatus : {X : Type 0} → ℕ → X → X → Result X Fault →
 TellsStatus status old new (Ok x) = (status ≡ 0) × (new ≡ x)
 TellsStatus status old new (Err e) = (status ≡ fault_number e) × (new ≡ old)
 
--- the same of a call that may want memory where nothing refuses it
+-- What a call leaves in its place that may run out of memory where nothing refuses it: the result at 0, else what was
+-- there.
 abbrev pub Leaves : {X : Type 0} → ℕ → X → X → Result X Fault → Type 0
 Leaves status old new (Ok x) = ((status ≡ 0) × (new ≡ x)) ⊎ ((status ≡ 1) × (new ≡ old))
 Leaves status old new (Err e) = (status ≡ fault_number e) × (new ≡ old)

@@ -19,7 +19,7 @@ use std::alloc::{AllocError, Global};
 // The octet of a filler.
 const FILLER: u8 = 2;
 
-/// The bits d that a code block is encoded to, one to an octet of `out`: the body of nr_c's export of this name, which
+/// The bits d that a code block is encoded to, one to an octet of `out`. The body of nr_c's export of this name, which
 /// says what each status is, and what `out` holds.
 pub fn nr_codeword(
     alloc: Global,

@@ -17,8 +17,8 @@ use nr_crcattach::{attach, attachment_lengthens};
 use nr_segment::{Plan, code_blocks_are_long, cut};
 use std::alloc::{AllocError, Global};
 
-/// The K' bits of code block `r` of a transport block, one to an octet of `out`: the body of nr_c's export of this name, which
-/// says what each status is.
+/// The K' bits of code block `r` of a transport block, one to an octet of `out`. The body of nr_c's export of this
+/// name, which says what each status is.
 pub fn nr_cut(alloc: Global, rate2048: u32, block: &[u8], r: u32, out: &mut [u8]) -> u32
     ensures { Cuts result out.old out.new (code_block_said rate2048 block.now r (length out.old)) }
 {

@@ -25,7 +25,7 @@ const FILLER: u8 = 2;
 // The largest lifting size.
 const MOST_LIFTED: u32 = 384;
 
-/// The bits d that K bits are encoded to, one to an octet of `out`: the body of nr_c's export of this name, which says
+/// The bits d that K bits are encoded to, one to an octet of `out`. The body of nr_c's export of this name, which says
 /// what each status is, and what `out` holds.
 pub fn nr_encode(
     alloc: Global,
@@ -91,7 +91,7 @@ fn encode(
     encode_by(alloc, &table, graph, z, octets, room)
 }
 
-// The same by a shift table.
+// The word that K octets are encoded into, by a shift table, for a room of so many octets.
 #[tactic(auto, unfolding(crate::specs::Encoding::encode_by))]
 fn encode_by(
     alloc: Global,

@@ -7,8 +7,8 @@ ghost use Rattle.nr_calls.specs.Findings.{AreWritten, findings_of, has_room, is_
 use crate::crossing::write_octets;
 use nr_blockdesk::Outcome;
 
-// What is found over some transmissions: the number of the outcome after each of them, how many positions below K' of each
-// code block are left after the last, and the outcome then.
+// What is found over some transmissions: the number of the outcome after each of them, and the outcome at last. It says
+// too how many positions below K' of each code block are left after the last.
 #[derive(Drop)]
 pub(crate) struct Found {
     pub(crate) outcomes: Vec<u32>,

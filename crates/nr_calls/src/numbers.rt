@@ -50,7 +50,7 @@ pub struct NrPlan {
 }
 
 impl NrPlan {
-    // The same numbers, for C.
+    // The plan's numbers, as C has them.
     fn of(plan: &Plan) -> NrPlan
         ensures { result ≡ shown plan.now.graph plan.now.b (numbers plan.now) }
     {
@@ -70,8 +70,8 @@ impl NrPlan {
     }
 }
 
-/// The plan of a transport block of `a` bits at the code rate `rate2048` / 2048: the body of nr_c's export of this name, which
-/// says what each status is.
+/// The plan of a transport block of `a` bits at the code rate `rate2048` / 2048. The body of nr_c's export of this
+/// name, which says what each status is.
 pub fn nr_plan(rate2048: u32, a: u32, out: &mut NrPlan) -> u32
     ensures { TellsStatus result out.old out.new (plan_said rate2048 a) }
 {

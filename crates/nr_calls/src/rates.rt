@@ -74,8 +74,8 @@ fn shares(rate2048: u32, a: u32, tx: &Tx) -> Result<ArrayVec<u32, MOST_BLOCKS>, 
     }
 }
 
-/// The circular buffer of each code block, and where a redundancy version begins in it: the body of nr_c's export of this
-/// name, which says what each status is.
+/// The circular buffer of each code block, and where a redundancy version begins in it. The body of nr_c's export of
+/// this name, which says what each status is.
 pub fn nr_buffer(settings: &NrSettings, a: u32, rv: u32, out: &mut NrBuffer) -> u32
     ensures { TellsStatus result out.old out.new (buffer_told (settings_in settings.now) a rv) }
 {

@@ -24,8 +24,8 @@ use nr_blockdesk::{
 use nr_shifttable::Table;
 use std::alloc::{AllocError, Global};
 
-/// What may be handed up of a transport block after each of the transmissions `txs`: the body of nr_c's export of this name,
-/// which says what each status is, and what is written.
+/// What may be handed up of a transport block after each of the transmissions `txs`. The body of nr_c's export of this
+/// name, which says what each status is, and what is written.
 pub fn nr_receive(
     alloc: Global,
     table: &[NrEntry],

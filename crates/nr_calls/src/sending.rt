@@ -21,8 +21,8 @@ use std::alloc::Global;
 // The most octets of a transport block.
 pub(crate) const MOST_OCTETS: usize = 163_840;
 
-/// The bits that a transmission sends of a transport block, one to an octet of `out`: the body of nr_c's export of this name,
-/// which says what each status is.
+/// The bits that a transmission sends of a transport block, one to an octet of `out`. The body of nr_c's export of this
+/// name, which says what each status is.
 pub fn nr_send(
     alloc: Global,
     table: &[NrEntry],

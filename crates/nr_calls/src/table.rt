@@ -29,8 +29,8 @@ pub struct NrReport {
     pub reserved: u32,
 }
 
-/// Judges the shift table of a text, and writes what it tells to `out`: the body of nr_c's export of this name, which says
-/// what each status is.
+/// Judges the shift table of a text, and writes what it tells to `out`. The body of nr_c's export of this name, which
+/// says what each status is.
 pub fn nr_table_check(alloc: Global, text: &[u8], out: &mut NrReport) -> u32
     ensures said { Reports result out.old out.new (table_said text.now) }
     ensures long { 4194304 < length text.now → result ≡ 30 }
@@ -69,8 +69,8 @@ fn tell(judged: Result<Table, TableFault>, out: &mut NrReport) -> u32
     }
 }
 
-/// The entries of the shift table of a text, written to `out`, and how many they are: the body of nr_c's export of this name,
-/// which says what each status is.
+/// The entries of the shift table of a text, written to `out`, and how many they are. The body of nr_c's export of this
+/// name, which says what each status is.
 pub fn nr_table_entries(alloc: Global, text: &[u8], out: &mut [NrEntry], count: &mut usize) -> u32
     ensures said { Lists result (listing out.old count.old) (listing out.new count.new)
         (table_said text.now) }

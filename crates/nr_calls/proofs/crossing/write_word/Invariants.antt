@@ -9,7 +9,7 @@ invariant-loop-i l = record {
   so_far : (k : ℕ) → k < 8 * l.i → get_or l.out k 0 ≡ bit_at l.word k;
 }
 
--- the same, an octet at a time
+-- the bits so far, an octet for each, and the bits that are left
 abbrev pub invariant-loop-i-2 : goal.invariant-loop-i-2
 invariant-loop-i-2 l = record {
   left : l.rest ≡ l.word / 2 ^ l.i;
