@@ -45,8 +45,8 @@ IsOnOneLine words = All (λ octet. octet ≢ 10) words
 abbrev pub IsRefusalLine : List ℕ → Type 0
 IsRefusalLine line = (words : List ℕ) × IsOnOneLine words × (line ≡ codes "linksim: refused: " ++ words ++ 10 ∷ [])
 
--- what stands on standard error as it ends, and what stood there before: a refusal's line more, or the text that says
--- how the program is used
+-- What stands on standard error as it ends, where this stood there before. A refusal adds a line, a usage fault the
+-- text that says how the program is used.
 abbrev pub Complains : Ending → Option (List ℕ) → Option (List ℕ) → Type 0
 Complains (Refused fault) old new = (line : List ℕ) × IsRefusalLine line × (new ≡ with_text old line)
 Complains (Usage text) old new = new ≡ with_text old (string_bytes text)

@@ -66,7 +66,7 @@ impl From<Result<(), RunFault>> for Ending {
     }
 }
 
-/// Says how the program ends, and gives the exit status: help goes to standard output, the line of a refusal and the
+/// Says how the program ends, and gives the exit status. Help goes to standard output, the line of a refusal and the
 /// text of a usage fault to standard error. Help that cannot be written is a refusal. Where standard error fails too,
 /// the status alone tells.
 pub fn tell<O: Sink, E: Sink + Complaints>(

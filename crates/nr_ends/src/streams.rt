@@ -25,7 +25,7 @@ enum Origin<F: Drop> {
 }
 
 /// A Source over a file or standard input, whose octets are not known. It is opened at its first pull and closed at its
-/// end, so that opening takes its place in the order of reading, and no two are open at a time where one is read to
+/// end, so that opening takes its place in the order of reading. Thus no two are open at a time where one is read to
 /// its end after another. A read that a signal interrupts is tried again.
 #[derive(Drop)]
 pub struct Incoming<'r, R: Files + Input> {
@@ -87,9 +87,9 @@ impl<'r, R: Files + Input> Source for Incoming<'r, R> {
     }
 }
 
-// Reads standard input once. Its reader has a buffer of 8 KiB on the stack, so it is not kept: with four paths and the calls
-// that they are handed through, that were 170 KiB, more than a process begins with. Nothing that was read is lost with it,
-// since a read by itself, as here, puts nothing into the buffer.
+// Reads standard input once. Its reader has a buffer of 8 KiB on the stack, so it is not kept. With four paths and the
+// calls that they are handed through, that were 170 KiB, more than a process begins with. Nothing that was read is lost
+// with it, since a read by itself, as here, puts nothing into the buffer.
 fn read_standard<R: Input>(rt: &R, buf: &mut [u8]) -> Result<usize, Broken>
     ensures { ReadsAtMost result buf.new }
 {
