@@ -1,4 +1,4 @@
--- What clap's answers say of the options.
+-- What the results of clap's calls say of the options.
 use Rattle.std.proofs.Common.{◌≡◌, ◌∙◌, ℕ, ◌^◌, ◌<◌, true, List, [], Option, None, Some, ap, codes, sym, refl, subst}
 use Rattle.std.specs.Prelude.{IsSomeAnd}
 use Rattle.std.specs.Str.Parse.{IsNumeral, digits_value, without_leading_plus}
@@ -15,8 +15,8 @@ use Rattle.nr_job.specs.declared.jobs.Files.{Files}
 use Rattle.nr_job.specs.declared.jobs.Job.{Job}
 use Rattle.nr_job.specs.declared.jobs.Job.TheVariants.{Audit, Check, Cut, Run, Send}
 
--- the words that begin with `cut` or `check` ask for the job that its options give, and the faults at it are those at
--- the command
+-- The words that begin with `cut` or `check` ask for the job that its options give. The faults at it are those at the
+-- command.
 pub cut-job : (words : List Text) (job : Job) → BeginsWith (codes "cut") words → IsCutBy (cut_rows words) job
     → IsJobOf words job
 cut-job words (Cut rate path) first given = (first, given)

@@ -121,8 +121,8 @@ faults_at words (Send files) = files_faults (codes "send") words
 faults_at words (Run files) = files_faults (codes "run") words
 faults_at words (Audit files) = files_faults (codes "audit") words
 
--- clap takes the words as those of `cut`, of `check`, or of a command over four files: by its test, or since it finds no
--- fault in them
+-- Clap takes the words as those of `cut`, of `check`, or of a command over four files. It does so by its test, or since
+-- it finds no fault in them.
 abbrev pub IsTakenAsCut : List Text → Type 0
 IsTakenAsCut words = (is_taken_as_cut words ≡ true) ⊎ (cut_faults words ≡ [])
 
