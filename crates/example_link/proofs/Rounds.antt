@@ -1,4 +1,4 @@
--- What a round of a HARQ process has heard, and what follows from it.
+-- What a round of a HARQ process has received, and what follows from it.
 use Rattle.std.proofs.Common.{◌≡◌, ◌≢◌, ℕ, zero, suc, ◌+◌, ◌<◌, ◌≤◌, nat_eq, ◌⊎◌, inl, inr, Bool, Option, Some, None, Result, Ok, Err, IsOk, IsTrue, List, [], ◌∷◌, ◌++◌, All, length, map, take, get_or, refl, ap, sym, subst, ◌∙◌, arith}
 use Rattle.std.specs.Prelude.{is_some}
 use Rattle.std.proofs.lemmas.List.{get_or-set_same, length-set, map-append, take_all, take_more}
@@ -23,7 +23,7 @@ use Rattle.nr_transmission.specs.declared.tx.Tx.{Tx}
 use Rattle.example_link.specs.Delivery.{arrivals, heard_in, is_lost, with_marks, round_said, taken_said}
 use Rattle.example_link.specs.declared.delivery.Attempt.{Attempt}
 
--- process p has heard a list of receptions over a link since it began, and this is their outcome
+-- process p has received a list of receptions over a link since it began, and this is their outcome
 pub record HasHeard (link : Link) (list : List Reception) (s : Processing) (p : ℕ) (answer : Outcome) : Type 0 where
   pub receiver : Receiving
   pub has : process s p ≡ Some receiver
@@ -32,7 +32,7 @@ pub record HasHeard (link : Link) (list : List Reception) (s : Processing) (p : 
   pub outcome : verdict answer ≡ outcome_of link list
   pub many : length s.places ≡ 16
 
--- what a chain of steps that answers says of each step
+-- what a chain of steps that returns a value says of each step
 bind-ok : {X Y : Type 0} (r : Result X DeskFault) (f : X → Result Y DeskFault) (y : Y) → (r >>= f) ≡ Ok y → (x : X) × (r ≡ Ok x) × (f x ≡ Ok y)
 bind-ok (Ok x) f y e = (x, refl, e)
 bind-ok (Err d) f y e = cc e
@@ -124,7 +124,7 @@ heard-none s t p a link answer low many begins said is =
 same-some : {X : Type 0} (x y : X) → Some x ≡ Some y → x ≡ y
 same-some x y is = cc
 
--- a process that has heard one reception more
+-- a process that has received one transmission more
 pub heard-more : (s t : Processing) (p : ℕ) (link : Link) (list : List Reception) (x y : Reception) (before answer : Outcome) → p < 16 → x ≡ y → HasHeard link list s p before → TakesAt s t p x (Ok answer) → HasHeard link (list ++ y ∷ []) t p answer
 heard-more s t p link list x y before answer low is had takes =
     let one : takes.before ≡ had.receiver = same-some takes.before had.receiver (sym takes.had ∙ had.has) in
@@ -142,7 +142,7 @@ heard-more s t p link list x y before answer low is had takes =
       many = ap (λ (v : Processing). length v.places) takes.has ∙ length-set s.places p (Some takes.after) ∙ had.many;
     })
 
--- a process that has heard what arrived in all attempts
+-- a process that has received what arrived in all attempts
 pub heard-all : (link : Link) (block : List Bool) (attempts : List Attempt) (i : ℕ) (s : Processing) (p : ℕ) (answer : Outcome) → length attempts ≤ i → HasHeard link (arrivals link block (take i attempts)) s p answer → HasHeard link (arrivals link block attempts) s p answer
 heard-all link block attempts i s p answer done had =
     subst (λ xs. HasHeard link (arrivals link block xs) s p answer) (take_all i attempts done) had

@@ -17,8 +17,8 @@ use nr_shifttable::Table;
 use std::alloc::{AllocError, Global};
 use std::fmt;
 
-/// One transmission of a transport block, and the burst that the link erases of it: the places at or past `from` and
-/// below `to`, counted from 0.
+/// One transmission of a transport block, and the burst that the link erases of it. The burst is the places at or past
+/// `from` and below `to`, counted from 0.
 #[derive(Clone, Copy, Debug, PartialEq, Eq)]
 pub struct Attempt {
     /// How the block is sent.
@@ -38,8 +38,8 @@ impl Attempt {
     }
 }
 
-/// What HARQ process `p`, 0 to 15, may hand up of a transport block that is sent to it once for each attempt, the first
-/// of which begins a round: the outcome of all that arrived.
+/// What HARQ process `p`, 0 to 15, may hand up of a transport block that is sent to it once for each attempt. The first
+/// attempt begins a round. The result is the outcome of all that arrived.
 ///
 /// # Errors
 ///

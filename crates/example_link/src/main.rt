@@ -43,7 +43,7 @@ const TX: Tx = Tx {
     mask: Mask::All,
 };
 
-/// The same bits twice: the link erases the last four of the first transmission, and all others of the second one.
+/// One transmission, made twice: the link erases the last four bits the first time, and all others the second time.
 const ATTEMPTS: [Attempt; 2] = [
     Attempt {
         tx: TX,
