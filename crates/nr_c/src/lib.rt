@@ -30,8 +30,8 @@ use nr_calls::rates::NrBuffer;
 use nr_calls::table::NrReport;
 use std::alloc::Global;
 
-/// Judges the shift table of a text (TS 38.212, 5.3.2: the columns of Tables 5.3.2-2 and 5.3.2-3), and writes what it
-/// tells to `out`, whether the table is accepted or refused.
+/// Judges the shift table of a text (TS 38.212, 5.3.2: the columns of Tables 5.3.2-2 and 5.3.2-3). Writes what it tells
+/// to `out`, whether the table is accepted or refused.
 ///
 /// # Errors
 ///
@@ -46,9 +46,9 @@ pub extern "C" fn nr_table_check(alloc: Global, text: &[u8], out: &mut NrReport)
     nr_calls::table::nr_table_check(alloc, text, out)
 }
 
-/// The entries of the shift table of a text, written to `out`, which has an entry for each, in the order in which the other
-/// calls take them: base graph 1 before base graph 2, then row by row, then by column (TS 38.212, 5.3.2). Writes to
-/// `count` how many they are, also where `out` has another length.
+/// The entries of the shift table of a text, written to `out`, which has an entry for each. They stand as the other
+/// calls take them: base graph 1 before 2, then row by row, then by column (TS 38.212, 5.3.2). Writes to `count` how
+/// many they are, also where `out` has another length.
 ///
 /// # Errors
 ///
@@ -98,9 +98,9 @@ pub extern "C" fn nr_crc(alloc: Global, poly: u32, octets: &[u8], out: &mut u32)
     nr_calls::numbers::nr_crc(alloc, poly, octets, out)
 }
 
-/// E_r, how many bits a transmission sends of each of the C code blocks of a transport block of `a` bits at the code rate
-/// `rate2048` / 2048, written to `out`, which has an entry for each code block (TS 38.212, 5.4.2.1). They are multiples of
-/// Qm, 0 where the code block is not scheduled, and together G. Takes no memory.
+/// E_r, how many bits a transmission sends of each of the C code blocks of a transport block of `a` bits. The code rate
+/// is `rate2048` / 2048. They are written to `out`, which has an entry for each code block (TS 38.212, 5.4.2.1). They
+/// are multiples of Qm, 0 where the code block is not scheduled, and together G. Takes no memory.
 ///
 /// # Errors
 ///
@@ -116,9 +116,9 @@ pub extern "C" fn nr_lengths(rate2048: u32, a: u32, tx: &NrTx, out: &mut [u32]) 
     nr_calls::rates::nr_lengths(rate2048, a, tx, out)
 }
 
-/// The circular buffer of each code block of a transport block of `a` bits, and where the redundancy version `rv` begins in
-/// it, written to `out` (TS 38.212, 5.4.2.1 and Table 5.4.2.1-2). Both count places of d, the N bits that `nr_codeword`
-/// writes. Takes no memory.
+/// The circular buffer of each code block of a transport block of `a` bits, written to `out` (TS 38.212, 5.4.2.1). With
+/// it is written where the redundancy version `rv` begins in it (Table 5.4.2.1-2). Both count places of d, the N bits
+/// that `nr_codeword` writes. Takes no memory.
 ///
 /// # Errors
 ///
@@ -131,9 +131,9 @@ pub extern "C" fn nr_buffer(settings: &NrSettings, a: u32, rv: u32, out: &mut Nr
     nr_calls::rates::nr_buffer(settings, a, rv, out)
 }
 
-/// The K' bits of code block `r`, counted from 0, of a transport block at the code rate `rate2048` / 2048, one to an octet of
-/// `out`, which has K' octets (TS 38.212, 5.2.2): c_r without the fillers that follow them. `block` has eight bits to an octet,
-/// the first most significant.
+/// The K' bits of code block `r`, counted from 0, of a transport block at the code rate `rate2048` / 2048. They are
+/// written one to an octet of `out`, which has K' octets (TS 38.212, 5.2.2). They are c_r without the fillers that
+/// follow them. `block` has eight bits to an octet, the first most significant.
 ///
 /// # Errors
 ///
@@ -147,9 +147,9 @@ pub extern "C" fn nr_cut(alloc: Global, rate2048: u32, block: &[u8], r: u32, out
     nr_calls::cutting::nr_cut(alloc, rate2048, block, r, out)
 }
 
-/// The bits d that the K bits c of a code block are encoded to (TS 38.212, 5.3.2), one to an octet of `out`, which has
-/// N octets, by the base graph and the lifting size `z` alone. `bits` has c, an octet for each: 0 and 1 are bits, and 2
-/// is a filler, which is coded as 0; `out` has 2 where c has a filler.
+/// The bits d that the K bits c of a code block are encoded to (TS 38.212, 5.3.2). The base graph and the lifting size
+/// `z` alone decide how. They are written one to an octet of `out`, which has N octets. `bits` has c, an octet for
+/// each: 0 and 1 are bits, and 2 is a filler, which is coded as 0; `out` has 2 where c has a filler.
 ///
 /// # Errors
 ///
@@ -174,7 +174,7 @@ pub extern "C" fn nr_encode(
     nr_calls::encoding::nr_encode(alloc, table, graph, z, bits, out)
 }
 
-/// The bits d that a code block is encoded to (TS 38.212, 5.3.2), one to an octet of `out`, which has N octets: 0 and 1
+/// The bits d that a code block is encoded to (TS 38.212, 5.3.2), one to an octet of `out`, which has N octets. 0 and 1
 /// are bits, and 2 is a filler, which is never sent. The code block is one of a transport block of `a` bits at the code
 /// rate `rate2048` / 2048; `bits` has its K' bits with its CRC, without fillers, an octet of 0 or 1 for each.
 ///
@@ -227,23 +227,23 @@ pub extern "C" fn nr_send(
     nr_calls::sending::nr_send(alloc, table, settings, block, tx, out)
 }
 
-/// What may be handed up of a transport block of `a` bits after each of the transmissions `txs`, of which `heard` has what
-/// was received, an octet for each place, one transmission after the other: 0 and 1 are bits, and any other octet is an
-/// erased place (TS 38.212, 5.4.2 and 5.5). Writes to `outcomes`, which has an entry for each transmission, the outcome of
-/// that transmission and those before it: 0, where a position below K' is left that isn't fixed; 1, where the one transport
-/// block that explains all is delivered; 2, where no transport block explains all. Writes to `left`, which has an entry for
-/// each of the C code blocks, how many positions below K' are left after the last transmission. `block` has a / 8 octets. Where
-/// the last outcome is 1 the transport block goes there, eight bits to an octet, the first most significant; else `block` is as
-/// it was.
+/// What may be handed up of a transport block of `a` bits after each of the transmissions `txs` (TS 38.212, 5.4.2 and
+/// 5.5). `heard` has what was received, an octet for each place, one transmission after the other. 0 and 1 are bits,
+/// and any other octet is an erased place. Writes to `outcomes`, which has an entry for each transmission, the outcome
+/// of that transmission and those before it. It is 0, where a position below K' is left that isn't fixed; 1, where the
+/// one transport block that explains all is delivered; 2, where no transport block explains all. Writes to `left`,
+/// which has an entry for each of the C code blocks, how many positions below K' are left after the last transmission.
+/// `block` has a / 8 octets. Where the last outcome is 1 the transport block goes there, eight bits to an octet, the
+/// first most significant; else `block` is as it was.
 ///
 /// # Errors
 ///
 /// In this order: of the shift table 31 `Entries`, 29 `Empty`, 26 `Core`, 27 `Extension`, 28 `MissingRow`, as `nr_send`
 /// has them; of the block 40 `Size`, 41 `RateRange`, 45 `Uneven`; 2 `Room`, where `outcomes`, `left` or `block` does
-/// not have so many entries, before anything is received; of the block 46 `Graph`, 47 `NoBuffer`; for each transmission
-/// in turn 56 `Length`, where fewer than G octets are left, 50 `Rv`, 51 `Order`, 52 `Layers`, 53 `Total`, 54 `Ragged`,
-/// 55 `NoneScheduled`; 56 `Length`, where octets are left over; 1, out of memory, where it is met, never in place of
-/// 31. `outcomes`, `left` and `block` are as they were then.
+/// not have so many entries, before anything is received; of the block 46 `Graph`, 47 `NoBuffer`; transmission by
+/// transmission 56 `Length`, where fewer than G octets are left, 50 `Rv`, 51 `Order`, 52 `Layers`, 53 `Total`, 54
+/// `Ragged`, 55 `NoneScheduled`; 56 `Length`, where octets are left over; 1, out of memory, where it is met, never in
+/// place of 31. `outcomes`, `left` and `block` are as they were then.
 #[unsafe(no_mangle)]
 pub extern "C" fn nr_receive(
     alloc: Global,
