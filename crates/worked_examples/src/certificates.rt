@@ -1,6 +1,6 @@
-//! What the peelers of receivers show is accepted by its checkers: an order where no position below K' is left, and else
-//! where peeling is stuck. And how often a peeler visits pairs of rows and positions, where each place is heard in a
-//! transmission of its own.
+//! What the peelers of receivers show is accepted by its checkers. That is an order where no position below K' is left,
+//! and else where peeling is stuck. And how often a peeler visits pairs of rows and positions, where each place is
+//! received in a transmission of its own.
 
 use crate::practice::{PLAIN, on_one_layer, practice};
 use crate::receptions::{
@@ -113,8 +113,8 @@ fn end_of_two_code_blocks(alloc: Global, mask: Mask, heard: Places<'_>) -> Resul
     )
 }
 
-// 479 octets at the rate 0.25 are two code blocks. Nothing is heard of them; then four bits of the second, which alone is
-// scheduled.
+// 479 octets at the rate 0.25 are two code blocks. Nothing is received of them; then four bits of the second, which
+// alone is scheduled.
 #[test]
 fn two_code_blocks_are_certified(rt: HostRuntime) -> Result<(), Fail> {
     for (mask, heard) in [(Mask::All, NONE), (Mask::Only([2, 0, 0, 0, 0, 0]), ALL)] {
@@ -124,7 +124,7 @@ fn two_code_blocks_are_certified(rt: HostRuntime) -> Result<(), Fail> {
     Ok(())
 }
 
-/// What comes of octet 01 of which each place of the buffer is heard in a transmission of its own.
+/// What comes of octet 01 of which each place of the buffer is received in a transmission of its own.
 fn end_place_by_place(alloc: Global) -> Result<End, Fail> {
     let table = practice(alloc, 0, 1, false)?;
     let mut ranges = Vec::new(alloc);

@@ -12,7 +12,7 @@ use std::test::Fail;
 /// The code block of block 01 with its CRC: 6 columns of 4 bits.
 const BLOCK_01: [u8; 3] = [0x01, 0x10, 0x21];
 
-/// By hand, a digit a column: with E and O the sums of the even and the odd information columns, the first four parity
+/// By hand, a digit a column, with E and O the sums of the even and the odd information columns. The first four parity
 /// columns are 0, E, E + O and O, and each later one is an information column, rotated.
 pub(crate) const WORD_01: [u8; 26] = [
     0x01, 0x10, 0x21, 0x00, 0x00, 0x03, 0x30, 0x22, 0x00, 0x00, 0x08, 0x10, 0x88, 0x00, 0x00, 0x02,
@@ -49,7 +49,7 @@ pub(crate) fn word_of(
     }
 }
 
-/// The answer for 24 bits in a base graph.
+/// What encoding returns for 24 bits in a base graph.
 fn answer_in(
     alloc: Global,
     table: &Table,

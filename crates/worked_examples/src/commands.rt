@@ -1,5 +1,5 @@
-//! The five commands over texts in memory. The values are worked by hand: under the practice table the word of block 01 has
-//! 52 columns of four bits, the parity columns being sums and rotations of the information columns.
+//! The five commands over texts in memory. The values are worked by hand. Under the practice table the word of block 01
+//! has 52 columns of four bits, the parity columns being sums and rotations of the information columns.
 
 use crate::ends::{Command, End, ended};
 use nr_commands::{RunFault, Tape, cut};
@@ -124,8 +124,8 @@ fn run_joins_what_two_transmissions_bring(rt: HostRuntime) -> Result<(), Fail> {
     Ok(())
 }
 
-/// Four rounds of one HARQ process, each of two transmissions of 28 bits: the link erases the last four bits of the one and
-/// all others of the other.
+/// Four rounds of one HARQ process, each of two transmissions of 28 bits. The link erases the last four bits of the one
+/// and all others of the other.
 const TWO_BURSTS: &[u8] = b"block,rv,g,qm,nl,erase,flip,mask,process,fresh\n\
     1,0,28,1,1,24-27,-,all,15,1\n1,0,28,1,1,24-27,-,all,15,0\n\
     1,0,28,1,1,0-23,-,all,15,1\n1,0,28,1,1,0-23,-,all,15,0\n\

@@ -99,8 +99,8 @@ fn perform(
     }
 }
 
-/// How a command ended: what it answered, how often it pulled the table, the settings, the blocks and the schedule, and
-/// what it wrote.
+/// How a command ended: what it returned, and how often it pulled the table, the settings, the blocks and the schedule.
+/// Then what it wrote.
 pub(crate) type Ended = (Result<(), RunFault>, [u32; 4], Tape);
 
 /// How a command ends under the practice table and the highest code rate, where this end breaks at this pull or put. The

@@ -54,7 +54,7 @@ fn is_stuck_on(
     Ok((is_it, is_stuck(table, plan, &shown.given, &set)))
 }
 
-/// The same of a table, after these positions.
+/// Whether what is stuck after these positions is a set, and whether that is accepted, under a table.
 fn stuck_over(
     alloc: Global,
     table: &Table,
@@ -66,7 +66,7 @@ fn stuck_over(
     is_stuck_on(alloc, table, &plan, &shown, set)
 }
 
-/// The same of the practice table.
+/// Whether what is stuck after these positions is a set, and whether that is accepted, under the practice table.
 fn stuck_after(alloc: Global, ranges: &[Range], set: Set<'_>) -> Result<(bool, bool), Fail> {
     let table = practice(alloc, 0, 1, false)?;
     stuck_over(alloc, &table, ranges, set)
@@ -125,14 +125,14 @@ fn is_changed_order(
     Ok(is_order(table, plan, &shown.given, &changed)?)
 }
 
-/// The same of a table, after all that is sent.
+/// Whether the changed steps are a fix order, under a table and after all that is sent.
 fn is_order_over(alloc: Global, table: &Table, change: Change) -> Result<bool, Fail> {
     let plan = plan(Graph::Two, 24)?;
     let shown = shown_over(alloc, table, &plan, Told::Ranges(WHOLE))?;
     is_changed_order(alloc, table, &plan, &shown, change)
 }
 
-/// The same of the practice table.
+/// Whether they are one under the practice table.
 fn is_order_after_all(alloc: Global, change: Change) -> Result<bool, Fail> {
     let table = practice(alloc, 0, 1, false)?;
     is_order_over(alloc, &table, change)
@@ -158,7 +158,7 @@ fn is_step_over(alloc: Global, table: &Table, plan: &Plan, step: Fix) -> Result<
     is_order(table, plan, &given, &[step])
 }
 
-/// The same of the practice table.
+/// Whether a step is accepted of the practice table where every position was given.
 fn is_step(alloc: Global, row: u16, lane: u16, pos: u32) -> Result<bool, Fail> {
     let table = practice(alloc, 0, 1, false)?;
     let plan = plan(Graph::Two, 24)?;
@@ -182,8 +182,8 @@ fn steps_are_in_range_and_in_their_row(rt: HostRuntime) -> Result<(), Fail> {
     Ok(())
 }
 
-/// The columns that stay unknown where all others are heard: column 0 stands in rows 0, 2, 10, 20, 30 and 40 alone, each
-/// of which has another of these columns, and row 1 has two.
+/// The columns that stay unknown where all others are received. Column 0 stands in rows 0, 2, 10, 20, 30 and 40 alone.
+/// Each of these has another of these columns, and row 1 has two.
 const COLUMNS: &[u32] = &[0, 11, 12, 20, 30, 40, 50];
 
 /// How many of a set's members can be left out of it so that it is a stopping set.
@@ -202,20 +202,20 @@ fn needless(alloc: Global, table: &Table, plan: &Plan, given: &Bits) -> Result<u
 /// needless.
 type Columns = (u32, (bool, bool), u32);
 
-/// The same of what a peeler shows.
+/// What a peeler shows of these columns, and how many of them can be left out.
 fn columns_of(alloc: Global, table: &Table, plan: &Plan, shown: &Shown) -> Result<Columns, Fail> {
     let stuck = is_stuck_on(alloc, table, plan, shown, (COLUMNS, NONE, None))?;
     let needless = needless(alloc, table, plan, &shown.given)?;
     Ok((shown.left, stuck, needless))
 }
 
-/// The same of a plan.
+/// What a new peeler of a plan shows of them.
 fn columns_over(alloc: Global, table: &Table, plan: &Plan) -> Result<Columns, Fail> {
     let shown = shown_over(alloc, table, plan, Told::Without(COLUMNS))?;
     columns_of(alloc, table, plan, &shown)
 }
 
-/// The same of so many bits over the practice table.
+/// What a new peeler of so many bits shows of them, over the practice table.
 fn columns_at(alloc: Global, bits: u32) -> Result<Columns, Fail> {
     let table = practice(alloc, 0, 1, false)?;
     columns_over(alloc, &table, &plan(Graph::Two, bits)?)

@@ -21,7 +21,7 @@ fn interleaved(alloc: Global, qm: u32, bits: &Bits) -> Result<Bits, Fail> {
     }
 }
 
-// The same in octets.
+// Octets in their interleaved order.
 fn interleaved_octets(alloc: Global, qm: u32, octets: &[u8]) -> Result<Vec<u8>, Fail> {
     let bits = bits_of(alloc, octets)?;
     Ok(interleaved(alloc, qm, &bits)?.to_bytes()?)

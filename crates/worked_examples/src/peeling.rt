@@ -170,7 +170,7 @@ pub(crate) struct Shown {
     pub(crate) stuck: Vec<u32>,
 }
 
-/// The same of a peeler.
+/// What a peeler shows.
 fn show(alloc: Global, peeler: &Peeler<'_>) -> Result<Shown, AllocError> {
     Ok(Shown {
         left: peeler.left(),
@@ -181,7 +181,7 @@ fn show(alloc: Global, peeler: &Peeler<'_>) -> Result<Shown, AllocError> {
     })
 }
 
-/// The same of a peeler that is given positions.
+/// What a peeler shows that is given positions.
 fn shown_after(
     alloc: Global,
     peeler: &mut Peeler<'_>,
@@ -195,7 +195,7 @@ fn shown_after(
     Ok(show(alloc, peeler)?)
 }
 
-/// The same of a new peeler.
+/// What a new peeler shows that is given positions.
 pub(crate) fn shown_over(
     alloc: Global,
     table: &Table,
@@ -232,8 +232,8 @@ pub(crate) const PART: &[Range] = &[(8, 24), (40, 48)];
 /// And then all that is sent behind them.
 pub(crate) const WHOLE: &[Range] = &[(8, 24), (40, 48), (48, 208)];
 
-// Column 0 is fixed by its copies. Column 1 stands in rows 1, 11, 21, 31 and 41, each of which has another column that was
-// not heard: columns 1, 12, 13, 21, 31, 41 and 51 are left.
+// Column 0 is fixed by its copies. Column 1 stands in rows 1, 11, 21, 31 and 41, each of which has another column that
+// was not received. So columns 1, 12, 13, 21, 31, 41 and 51 are left.
 #[test]
 fn the_first_24_bits_leave_7_columns(rt: HostRuntime) -> Result<(), Fail> {
     let mut places = [0xff; 26];

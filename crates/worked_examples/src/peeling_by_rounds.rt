@@ -1,5 +1,6 @@
-//! The peeler beside plain rounds, and what shows its answers beside the checks: words of made-up tables of both base
-//! graphs, at sizes of each set, of which a part was heard, position by position or many positions at a time.
+//! The peeler beside plain rounds, and what shows its results beside the checks. The words are of made-up tables of
+//! both base graphs, at sizes of each set. A part of each was received, position by position or many positions at a
+//! time.
 
 use crate::peeling::{is_order, is_stuck, known, learn, learn_all, new_peeler, size_of};
 use crate::practice::{made_up, table_of};
@@ -39,8 +40,8 @@ fn hear_each(peeler: &mut Peeler<'_>, marks: &Bits) {
     }
 }
 
-/// Gives positions of the word of zeros, each with the chance `share` of 256: one after another, or first half of them
-/// at a time and then all of them. What the values have elsewhere is nothing to a peeler.
+/// Gives positions of the word of zeros, each with the chance `share` of 256. They go one after another, or first half
+/// of them at a time and then all of them. What the values have elsewhere is nothing to a peeler.
 fn hear(
     alloc: Global,
     peeler: &mut Peeler<'_>,
@@ -123,7 +124,7 @@ fn peels(
     Ok(is_right.then_some(peeler.left() == 0))
 }
 
-/// The same of a new peeler.
+/// Gives a new peeler a part of a word: whether it comes out whole, or none where something disagrees.
 fn peeled(
     alloc: Global,
     table: &Table,
@@ -137,7 +138,8 @@ fn peeled(
     }
 }
 
-/// Peels eleven words of which ever more was heard: how many came out whole, how many didn't, and how many disagreed.
+/// Peels eleven words of which ever more was received: how many came out whole, how many didn't, and how many
+/// disagreed.
 fn count(alloc: Global, table: &Table, plan: &Plan, each: bool) -> Result<[u32; 3], Fail> {
     let mut counts = [0u32; 3];
     for step in 0..11u64 {
@@ -161,8 +163,8 @@ fn agrees(alloc: Global, graph: Graph, bits: u32, each: bool) -> Result<(u32, bo
     Ok((plan.z, whole > 0 && stuck > 0 && other == 0))
 }
 
-// Two small sizes position by position. Then many positions at a time: sizes of all eight sets, of which 7, 11 and 18 are
-// peeled position by position and the others by words.
+// Two small sizes position by position. Then many positions at a time: sizes of all eight sets. Of these 7, 11 and 18
+// are peeled position by position and the others by words.
 #[test]
 fn graph_1_is_peeled_as_by_rounds(rt: HostRuntime) -> Result<(), Fail> {
     for (bits, z, each) in [

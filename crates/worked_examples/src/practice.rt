@@ -25,7 +25,7 @@ pub(crate) struct Cell {
     pub(crate) values: [u32; 8],
 }
 
-/// Puts an entry at the end of a table's text. To write to a String fails for want of memory alone.
+/// Puts an entry at the end of a table's text. To write to a String fails only where memory runs out.
 fn put(text: &mut String, cell: &Cell) -> Result<(), AllocError> {
     write!(text, "{},{},{}", cell.graph, cell.row, cell.col)?;
     for value in cell.values {
@@ -90,7 +90,7 @@ fn push_parity(
     Ok(())
 }
 
-/// Pushes the practice table of a base graph: in rows 0 to 3 the even or the odd information columns, in each row from 4
+/// Pushes the practice table of a base graph. Rows 0 to 3 have the even or the odd information columns, each row from 4
 /// on one information column, rotated by the row's number; the first parity column has the values `first` and `middle`
 /// in rows 0 and 2.
 fn push_practice(
@@ -194,8 +194,8 @@ fn is_unturned(row: u32, k: u32) -> bool {
     }
 }
 
-/// What a made-up table has in a row and a column: in each row some information columns, and in each third row one of
-/// the first four parity columns. In the first parity column the row `odd` has other values than the other two.
+/// What a made-up table has in a row and a column. In each row stand some information columns, and in each third row
+/// one of the first four parity columns. In the first parity column the row `odd` has other values than the other two.
 fn made_up_values(graph: Graph, odd: u32, row: u32, col: u32) -> Option<[u32; 8]> {
     let n = graph.info_cols().max(1);
     if col < n {

@@ -19,7 +19,7 @@ enum Call {
 
 use Call::{Begin, Hear};
 
-/// What is heard of the first bits of an octet, from a place on.
+/// What is received of the first bits of an octet, from a place on.
 fn places_of(
     alloc: Global,
     table: &Table,
@@ -32,10 +32,10 @@ fn places_of(
     Ok(arrives(alloc, &bits, &[(from, usize::MAX)], &[])?)
 }
 
-/// What a call is answered: nothing where a process begins, or was to hear before it did.
+/// What a call returns: nothing where a process begins, or was to receive before it did.
 pub(crate) type Answer = Result<Option<HandedUp>, DeskFault>;
 
-/// What a process answers, if it has begun, to places of a redundancy version.
+/// What a process returns, if it has begun, to places of a redundancy version.
 pub(crate) fn takes(
     processes: &mut Processes<'_>,
     p: u8,
@@ -58,7 +58,7 @@ pub(crate) fn begins(processes: &mut Processes<'_>, p: u8, a: u32) -> Answer {
     Ok(None)
 }
 
-/// What a call is answered.
+/// What a call returns.
 fn answer(
     alloc: Global,
     table: &Table,
@@ -84,7 +84,7 @@ fn left(processes: &Processes<'_>, p: u8) -> Option<u32> {
     }
 }
 
-/// The answer to the last of some calls, and what is left then of processes 0 and 1, if they have begun.
+/// What the last of some calls returns, and what is left then of processes 0 and 1, if they have begun.
 type After = (Answer, [Option<u32>; 2]);
 
 /// How many positions are left of processes 0 and 1, if they have begun.
@@ -92,7 +92,7 @@ pub(crate) fn left_of_two(processes: &Processes<'_>) -> [Option<u32>; 2] {
     [left(processes, 0), left(processes, 1)]
 }
 
-/// The same of processes.
+/// What the last of some calls on processes returns, and what is left then of the first two.
 fn after_all(
     alloc: Global,
     table: &Table,
@@ -106,13 +106,13 @@ fn after_all(
     Ok((last, left_of_two(processes)))
 }
 
-/// The same of new processes.
+/// What comes of these calls on new processes.
 fn after_over(alloc: Global, table: &Table, calls: &[Call]) -> Result<After, Fail> {
     let mut processes = Processes::new(alloc, table, PLAIN);
     after_all(alloc, table, &mut processes, calls)
 }
 
-/// The same over the practice table.
+/// What comes of these calls on new processes over the practice table.
 fn after(alloc: Global, calls: &[Call]) -> Result<After, Fail> {
     let table = practice(alloc, 0, 1, false)?;
     after_over(alloc, &table, calls)
@@ -177,8 +177,8 @@ fn first_other(alloc: Global, list: &[(Call, After)]) -> Result<Option<usize>, F
     Ok(None)
 }
 
-// By hand: 24 bits leave 4 of 24 information bits, which four more fix, and 32 bits leave none. What one process heard
-// is nothing to the other one, nor to itself once it began again.
+// By hand: 24 bits leave 4 of 24 information bits, which four more fix, and 32 bits leave none. What one process
+// received is nothing to the other one, nor to itself once it began again.
 #[test]
 fn processes_are_kept_apart(rt: HostRuntime) -> Result<(), Fail> {
     assert!(rt; first_other(rt.alloc(), &TWO)?.is_none());
@@ -210,7 +210,7 @@ fn begun_over(alloc: Global, table: &Table, list: &[(u8, u32)]) -> (Answer, [boo
     (last, which(&processes))
 }
 
-/// The same over the practice table.
+/// Begins new processes over the practice table with so many bits each.
 fn begun_of(alloc: Global, list: &[(u8, u32)]) -> Result<(Answer, [bool; 16]), Fail> {
     let table = practice(alloc, 0, 1, false)?;
     Ok(begun_over(alloc, &table, list))

@@ -26,8 +26,8 @@ const AFTER_01: [(HandedUp, u32); 4] = [
 ];
 
 // By hand from the practice table's rows: the first 24 bits are columns 2 to 5, 10 and 11. Row 0 then fixes column 0, and
-// column 1 is left, as rows 1 to 3 have two unknown columns each. Column 12 fixes it by row 1. At last 24 zeros are heard
-// in place of the first bits.
+// column 1 is left, as rows 1 to 3 have two unknown columns each. Column 12 fixes it by row 1. At last 24 zeros are
+// received in place of the first bits.
 #[test]
 fn block_01_is_delivered_by_28_bits(rt: HostRuntime) -> Result<(), Fail> {
     for n in 0..4 {
@@ -52,7 +52,8 @@ fn a_flipped_parity_bit_contradicts(rt: HostRuntime) -> Result<(), Fail> {
     Ok(())
 }
 
-/// What a receiver answers to places of one kind, as many as there are bits and `more` besides, of a redundancy version.
+/// What a receiver returns to places of one kind, as many as there are bits and `more` besides, of a redundancy
+/// version.
 fn takes(
     receiver: &mut Receiver<'_>,
     (rv, g): (u32, usize),
@@ -68,10 +69,10 @@ fn takes(
 /// A redundancy version, G, what all places are, and how many places there are besides.
 type Turn = ((u32, usize), Heard, usize);
 
-/// What a receiver answers the last time, if there is a turn.
+/// What a receiver returns the last time, if there is a turn.
 type Last = Option<Result<HandedUp, DeskFault>>;
 
-/// The same of a receiver.
+/// What a receiver returns to the last of these turns.
 fn last_answer(receiver: &mut Receiver<'_>, turns: &[Turn]) -> Last {
     let mut last = None;
     for (bits, place, more) in turns.iter().copied() {
@@ -80,7 +81,7 @@ fn last_answer(receiver: &mut Receiver<'_>, turns: &[Turn]) -> Last {
     last
 }
 
-/// The same of a new receiver of 24 bits.
+/// What a new receiver of 24 bits returns to the last of these turns.
 fn answer_over(alloc: Global, table: &Table, turns: &[Turn]) -> Result<Last, Fail> {
     match receiver_of(alloc, table, PLAIN, 24) {
         Ok(mut receiver) => Ok(last_answer(&mut receiver, turns)),
@@ -88,7 +89,7 @@ fn answer_over(alloc: Global, table: &Table, turns: &[Turn]) -> Result<Last, Fai
     }
 }
 
-/// The same over the practice table.
+/// What a new receiver over the practice table returns to the last of these turns.
 fn answer_to(alloc: Global, turns: &[Turn]) -> Result<Last, Fail> {
     let table = practice(alloc, 0, 1, false)?;
     answer_over(alloc, &table, turns)
@@ -110,7 +111,7 @@ const ANSWERS: [Result<HandedUp, DeskFault>; 5] = [
     Ok(HandedUp::Contradiction),
 ];
 
-// The block of zeros is delivered, and again after an erased transmission; what is refused is not heard; a one then
+// The block of zeros is delivered, and again after an erased transmission; what is refused is not received; a one then
 // contradicts.
 #[test]
 fn what_is_refused_is_not_heard(rt: HostRuntime) -> Result<(), Fail> {

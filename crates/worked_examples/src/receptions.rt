@@ -1,5 +1,5 @@
-//! What arrives of a transport block over a practice table, what its receiver answers, and whether the checkers accept what
-//! its peelers show.
+//! What arrives of a transport block over a practice table, what its receiver returns, and whether the checkers accept
+//! what its peelers show.
 
 use crate::practice::{few_bits_of, on_one_layer, practice};
 use nr_bitvec::Bits;
@@ -16,7 +16,7 @@ pub(crate) const NONE: Places<'static> = &[];
 
 pub(crate) const ALL: Places<'static> = &[(0, usize::MAX)];
 
-/// A transmission, the places that are heard, and those that are flipped.
+/// A transmission, the places that are received, and those that are flipped.
 #[derive(Clone, Copy)]
 pub(crate) struct Arrival<'a> {
     pub(crate) tx: Tx,
@@ -24,7 +24,7 @@ pub(crate) struct Arrival<'a> {
     pub(crate) flipped: Places<'a>,
 }
 
-/// The first `g` bits of redundancy version 0, the places that are heard and those that are flipped.
+/// The first `g` bits of redundancy version 0, the places that are received and those that are flipped.
 pub(crate) type First<'a> = (u32, Places<'a>, Places<'a>);
 
 /// What a receiver hands up: of a delivered block its first octet.
@@ -35,7 +35,7 @@ pub(crate) enum HandedUp {
     Contradiction,
 }
 
-/// The same of an outcome.
+/// What an outcome hands up.
 pub(crate) fn told(outcome: &Outcome) -> HandedUp {
     match outcome {
         Outcome::Open => HandedUp::Open,
@@ -54,7 +54,7 @@ fn is_in(places: Places<'_>, m: usize) -> bool {
     false
 }
 
-/// What is heard of sent bits.
+/// What is received of sent bits.
 pub(crate) fn arrives(
     alloc: Global,
     bits: &Bits,
@@ -75,7 +75,7 @@ pub(crate) fn arrives(
     Ok(places)
 }
 
-/// What a receiver answers to what arrives of a transmission.
+/// What a receiver returns to what arrives of a transmission.
 fn hear(
     alloc: Global,
     sender: &Sender<'_>,
@@ -105,7 +105,7 @@ fn is_accepted(table: &Table, receiver: &Receiver<'_>, r: u32) -> Result<bool, A
     Ok(check_order(table, plan, &mut known, peeler.order()))
 }
 
-/// The same of every code block.
+/// Whether the checkers accept what the peeler of every code block shows.
 fn are_accepted(table: &Table, receiver: &Receiver<'_>) -> Result<bool, AllocError> {
     for r in 0..receiver.plan().c {
         if !is_accepted(table, receiver, r)? {
@@ -115,7 +115,7 @@ fn are_accepted(table: &Table, receiver: &Receiver<'_>) -> Result<bool, AllocErr
     Ok(true)
 }
 
-/// How many positions below K' are left of the first code block, and how often a pair of a row and a position of it was
+/// How many positions below K' are left of the first code block. And how often a pair of a row and a position of it was
 /// visited.
 pub(crate) fn left_of(receiver: &Receiver<'_>) -> (u32, u64) {
     if receiver.plan().c == 0 {
@@ -163,8 +163,8 @@ pub(crate) fn sent_of(
     }
 }
 
-/// What comes of a list of transmissions: the last answer, what is left then and was visited of the first code block, and
-/// whether the checkers accept what is shown.
+/// What comes of a list of transmissions: what the last one returned, and what is left then and was visited of the
+/// first code block. And whether the checkers accept what is shown.
 #[derive(Clone, Copy)]
 pub(crate) struct End {
     pub(crate) told: HandedUp,
@@ -173,7 +173,7 @@ pub(crate) struct End {
     pub(crate) accepted: bool,
 }
 
-/// The last answer to a list of transmissions.
+/// What the last of a list of transmissions returns.
 fn hear_all(
     alloc: Global,
     sender: &Sender<'_>,
@@ -211,7 +211,7 @@ fn end_after(
     end_at(table, receiver, told)
 }
 
-/// The same of a transport block that a new receiver hears.
+/// What a new receiver shows after a list of transmissions of a transport block.
 fn end_of(
     alloc: Global,
     table: &Table,
@@ -225,7 +225,7 @@ fn end_of(
     }
 }
 
-/// The same of octets over a table.
+/// What a new receiver shows after transmissions of octets over a table.
 pub(crate) fn end_over(
     alloc: Global,
     table: &Table,
@@ -250,7 +250,7 @@ fn arrivals_of<'a>(alloc: Global, firsts: &[First<'a>]) -> Result<Vec<Arrival<'a
     Ok(arrivals)
 }
 
-/// The same of octets over the practice table of base graph 2, of which first bits are sent.
+/// What a new receiver shows after first bits of octets, over the practice table of base graph 2.
 pub(crate) fn end_of_firsts(
     alloc: Global,
     settings: Settings,

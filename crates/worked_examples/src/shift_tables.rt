@@ -1,4 +1,4 @@
-//! What the shift tables answer that are read from files (TS 38.212, 5.3.2).
+//! What the shift tables return that are read from files (TS 38.212, 5.3.2).
 
 use crate::practice::practice;
 use nr_graphpick::Graph;

@@ -1,4 +1,5 @@
-//! What is kept of the bits that were heard: the first of each position, and whether a position was heard with both.
+//! What is kept of the bits that were received: the first of each position, and whether a position was received with
+//! both.
 
 use nr_graphpick::Graph;
 use nr_harqbuf::Store;
@@ -6,7 +7,7 @@ use nr_segment::plan;
 use std::alloc::Global;
 use std::test::Fail;
 
-// A store of 208 positions that heard these bits one after another.
+// A store of 208 positions that received these bits one after another.
 fn heard(alloc: Global, hearings: &[(u32, bool)]) -> Result<Store, Fail> {
     let mut store = Store::new(alloc, &plan(Graph::Two, 24)?)?;
     for (pos, bit) in hearings {
@@ -17,7 +18,7 @@ fn heard(alloc: Global, hearings: &[(u32, bool)]) -> Result<Store, Fail> {
     Ok(store)
 }
 
-// What was heard first of a position that the codeword has.
+// What was received first of a position that the codeword has.
 fn first_of(store: &Store, pos: u32) -> Option<bool> {
     if pos < store.positions() {
         store.heard(pos)
@@ -26,7 +27,7 @@ fn first_of(store: &Store, pos: u32) -> Option<bool> {
     }
 }
 
-// After these bits, what was heard first of a position, and whether some position was heard with both.
+// After these bits, what was received first of a position, and whether some position was received with both.
 fn told(alloc: Global, hearings: &[(u32, bool)], pos: u32) -> Result<(Option<bool>, bool), Fail> {
     let store = heard(alloc, hearings)?;
     Ok((first_of(&store, pos), store.clash()))

@@ -111,7 +111,7 @@ fn fault_of(alloc: Global, text: &[u8]) -> Option<TableFault> {
     Table::of_text(alloc, text).err()
 }
 
-// What the reader answers to the beginning of the practice table's file that has so many whole records and a line of so
+// What the reader returns to a beginning of the practice table's file. It has so many whole records and a line of so
 // many commas, with so many digits behind the last of them.
 fn cut_answer(records: u32, commas: u32, digits: u32) -> Option<TableFault> {
     let whole = match (commas, digits) {
@@ -131,7 +131,7 @@ fn cut_answer(records: u32, commas: u32, digits: u32) -> Option<TableFault> {
     }
 }
 
-// Reads each beginning of a text, and compares with what is wanted. Answers how many records there are.
+// Reads each beginning of a text, and compares with what is wanted. Returns how many records there are.
 fn read_beginnings(rt: &impl Abort, alloc: Global, text: &[u8]) -> u32 {
     let (mut records, mut commas, mut digits) = (0_u32, 0_u32, 0_u32);
     for (at, octet) in text.iter().enumerate() {

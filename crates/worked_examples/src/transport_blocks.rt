@@ -55,7 +55,7 @@ fn last_sent(sender: &Sender<'_>, txs: &[Tx]) -> Result<Option<Vec<u8>>, Fail> {
     }
 }
 
-/// The same of the sender of a transport block.
+/// The octets that the sender of a transport block sends in the last of these transmissions.
 fn sent(
     alloc: Global,
     table: &Table,
@@ -69,7 +69,7 @@ fn sent(
     }
 }
 
-/// The same of octets over the practice table with these values of the first parity column.
+/// What is sent of octets over the practice table with these values of the first parity column.
 fn sent_over(
     alloc: Global,
     (first, middle, more): (u32, u32, bool),
@@ -96,8 +96,8 @@ const OF_01: &[(u32, u32, u32, &[u8])] = &[
     (0, 24, 1, &[0x10, 0x21, 0x03]),
 ];
 
-// By hand from the practice table's rows: the information columns are 0 1 1 0 2 1, the parity columns 0 3 3 0, and then
-// information columns, rotated. What was sent or refused before does not matter.
+// By hand from the practice table's rows: the information columns are 0 1 1 0 2 1, the parity columns 0 3 3 0. Then
+// come information columns, rotated. What was sent or refused before does not matter.
 #[test]
 fn block_01_is_sent_by_hand(rt: HostRuntime) -> Result<(), Fail> {
     for (rv, g, qm, octets) in OF_01.iter().copied() {
@@ -170,7 +170,7 @@ fn word_of(sender: &Sender<'_>) -> ([u32; 4], [u8; 26]) {
     ([sender.a(), plan.c, plan.kdash, plan.z], octets)
 }
 
-/// The same of the sender of block 01.
+/// A, C, K' and Zc of the sender of block 01, and the octets of its first word.
 fn word_of_01(alloc: Global) -> Result<([u32; 4], [u8; 26]), Fail> {
     let table = practice(alloc, 0, 1, false)?;
     let block = Bits::from_bytes(alloc, &[0x01])?;
@@ -212,10 +212,10 @@ fn sent_in_graph_1(alloc: Global) -> Result<Option<Vec<u8>>, Fail> {
     sent(alloc, &table, PLAIN, &block, &[on_one_layer(0, 972, 1)])
 }
 
-// By hand, base graph 1: 296 zeros but for the last bit have the CRC 1021, so columns 19 and 20, of 15 bits, have ones at
-// 10 14 and 6 11, and the other information columns none. The parity columns 22 to 25 are 0, column 20, both and column
-// 19; columns 41 and 63 are column 19, rotated by 19 and 41, and columns 42 and 64 column 20, by 20 and 42. Positions 0
-// to 29 are not sent, nor are the fillers 312 to 329.
+// By hand, base graph 1: 296 zeros but for the last bit have the CRC 1021. So columns 19 and 20, of 15 bits, have ones
+// at 10 14 and 6 11, and the other information columns none. The parity columns 22 to 25 are 0, column 20, both and
+// column 19; columns 41 and 63 are column 19, rotated by 19 and 41, and columns 42 and 64 column 20, by 20 and 42.
+// Positions 0 to 29 are not sent, nor are the fillers 312 to 329.
 #[test]
 fn graph_1_is_sent_by_hand(rt: HostRuntime) -> Result<(), Fail> {
     assert!(rt; is_sent(&sent_in_graph_1(rt.alloc())?, &with_ones(ONES)));

@@ -75,7 +75,7 @@ fn drawn(alloc: Global, count: u32) -> Result<Bits, AllocError> {
     Ok(bits)
 }
 
-/// How many bits a code block has at a lifting size, with a few fillers: base graph 2 has six, eight or ten columns of
+/// How many bits a code block has at a lifting size, with a few fillers. Base graph 2 has six, eight or ten columns of
 /// them, and a code block 24 bits or more (TS 38.212, 5.2.2).
 fn bits_at(graph: Graph, size: u16) -> u32 {
     let columns = match (graph, size) {

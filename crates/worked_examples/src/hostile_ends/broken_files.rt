@@ -10,8 +10,8 @@ use std::alloc::{AllocError, Global};
 use std::process::Abort;
 use std::test::Fail;
 
-/// How often a file is pulled that is read to its end: the table's 2,677 octets by 64, the other files by one, and once
-/// for the end.
+/// How often a file is pulled that is read to its end. The table's 2,677 octets are pulled by 64, the other files by
+/// one, and once more for the end.
 fn pulls_of(file: End, schedule: &[u8]) -> u32 {
     match file {
         End::Table => 43,
@@ -22,8 +22,8 @@ fn pulls_of(file: End, schedule: &[u8]) -> u32 {
     }
 }
 
-/// How often each file is pulled where this one is Broken at its k-th pull: those before it to their ends, and those
-/// after it never.
+/// How often each file is pulled where this one is Broken at its k-th pull. Those before it are pulled to their ends,
+/// and those after it never.
 fn pulls_until(command: Command, file: End, k: u32) -> [u32; 4] {
     match file {
         End::Table => [k, 0, 0, 0],

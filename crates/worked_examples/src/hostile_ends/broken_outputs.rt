@@ -1,5 +1,5 @@
-//! Whole commands over an output that takes one octet a put and is Broken at each put in turn, and a text over an output with
-//! little room.
+//! Whole commands over an output that takes one octet a put and is Broken at each put in turn. And a text over an
+//! output with little room.
 
 ghost use Rattle.std.specs.Prelude.{◌<◌};
 
@@ -81,7 +81,8 @@ fn audit_is_broken_at_each_put(rt: HostRuntime) -> Result<(), Fail> {
     breaks_at_each_put(&rt, rt.alloc(), Command::Audit, SCHEDULE, text)
 }
 
-// The same of the first round, which the second one ends; 32 bits leave nothing, and of 208 positions 16 are fillers.
+// Column 1 is left of the first round too, which the second one ends; 32 bits leave nothing, and of 208 positions 16
+// are fillers.
 #[test]
 fn run_by_rounds_is_broken_at_each_put(rt: HostRuntime) -> Result<(), Fail> {
     let text = b"sent 1 1 000a51\n\

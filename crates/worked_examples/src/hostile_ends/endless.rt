@@ -8,8 +8,8 @@ use nr_shifttable::{Endless, Feed, ReadFault, Table, TableFault, read_to_end};
 use std::alloc::{AllocError, Global};
 use std::test::Fail;
 
-/// How `run` ends over the practice table, where the three other files have no end: what it answered, how often it pulled
-/// them, and how much it wrote.
+/// How `run` ends over the practice table, where the three other files have no end. That is what it returned, how often
+/// it pulled them, and how much it wrote.
 fn run_without_end(alloc: Global) -> Result<(Result<(), RunFault>, [u32; 3], usize), AllocError> {
     let mut table = Feed::new(practice_text(alloc)?.into_bytes(), 4096, 0);
     let mut settings = Endless::new();

@@ -1,5 +1,5 @@
-//! Calls of rate matching, of peeling and of processes. Where a growth is refused and memory is there again, the call is
-//! made again, and has the true answer.
+//! Calls of rate matching, of peeling and of processes. Where a growth is refused and memory is there again, the call
+//! is made again, and returns the true result.
 
 use crate::peeling::size_of;
 use crate::practice::{PLAIN, practice};
@@ -70,16 +70,17 @@ fn close_over(
     }
 }
 
-/// The answer to that call, and the marks of the positions from 0 and from 200 on.
+/// What that call returns, and the marks of the positions from 0 and from 200 on.
 type Closed = (Result<(), AllocError>, [u8; 2]);
 
-/// The same of marks.
+/// What that call returns for marks, and what it leaves of them.
 fn closed(alloc: Global, table: &Table, plan: &Plan, known: &mut Bits) -> Closed {
     let answer = close_over(alloc, table, plan, known);
     (answer, [known.octet(0), known.octet(200)])
 }
 
-/// The same, and whether the answer is right at last, where memory is there: that of a call made again if it was refused.
+/// What it returns for marks, and whether it is right at last, where memory is there: a call that is refused is made
+/// again.
 fn closed_again(alloc: Global, table: &Table, plan: &Plan, known: &mut Bits) -> (Closed, bool) {
     let first = closed(alloc, table, plan, known);
     if first.0.is_err() && !has_memory(alloc) {
@@ -93,14 +94,14 @@ fn closed_again(alloc: Global, table: &Table, plan: &Plan, known: &mut Bits) -> 
     (first, answer.is_ok() && marks[1] == 0x80)
 }
 
-/// The same of position 0 alone.
+/// What it returns for a word where position 0 alone is marked.
 fn closed_over(alloc: Global, table: &Table, plan: &Plan) -> Result<(Closed, bool), AllocError> {
     let mut known = Bits::zeros(alloc, 208)?;
     known.set(0, true);
     Ok(closed_again(alloc, table, plan, &mut known))
 }
 
-/// The same of the practice table.
+/// What it returns for that word over the practice table.
 fn closed_at_last(alloc: Global) -> Result<(Closed, bool), Fail> {
     let table = practice(alloc, 0, 1, false)?;
     let plan = plan(Graph::Two, 24)?;
@@ -117,7 +118,7 @@ fn closes(rt: HostRuntime) -> Result<(), Fail> {
     Ok(())
 }
 
-/// Processes 0 and 1 begin with an octet, and hear so many ones that 4 positions are left.
+/// Processes 0 and 1 begin with an octet, and receive so many ones that 4 positions are left.
 fn begin_two(processes: &mut Processes<'_>) -> Result<(), DeskFault> {
     for p in 0..2 {
         begins(processes, p, 8)?;
@@ -135,11 +136,11 @@ fn calls(processes: &mut Processes<'_>, p: u8, is_begin: bool) -> Answer {
     }
 }
 
-/// The answers to a call on process 0 of two, the second where the first is refused, and how many positions are left after
+/// What a call on process 0 of two returns, and again where the first is refused, and how many positions are left after
 /// each.
 type Answers = [(Answer, [Option<u32>; 2]); 2];
 
-/// The same of processes that have not begun.
+/// What these calls return on processes that have not begun.
 fn answers_of(
     alloc: Global,
     processes: &mut Processes<'_>,
@@ -157,19 +158,19 @@ fn answers_of(
     Ok([first, (again, left_of_two(processes))])
 }
 
-/// The same of new processes.
+/// What these calls return on new processes.
 fn answers_over(alloc: Global, table: &Table, is_begin: bool) -> Result<Answers, Fail> {
     let mut processes = Processes::new(alloc, table, PLAIN);
     answers_of(alloc, &mut processes, is_begin)
 }
 
-/// The same over the practice table.
+/// What these calls return on new processes over the practice table.
 fn answers(alloc: Global, is_begin: bool) -> Result<Answers, Fail> {
     let table = practice(alloc, 0, 1, false)?;
     answers_over(alloc, &table, is_begin)
 }
 
-// A process that begins anew has heard nothing, and the other one is as before.
+// A process that begins anew has received nothing, and the other one is as before.
 #[test]
 fn begins_anew(rt: HostRuntime) -> Result<(), Fail> {
     let [(answer, kept), again] = answers(rt.alloc(), true)?;

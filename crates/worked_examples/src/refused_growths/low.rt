@@ -30,7 +30,7 @@ fn push_one(bits: &mut Bits) -> Result<(), AllocError> {
     Ok(())
 }
 
-// The same, again where it is refused.
+// Puts a one behind a short list, again where it is refused.
 fn push_one_again(rt: &impl Abort, alloc: Global, bits: &mut Bits) -> Result<(), AllocError> {
     let answer = push_one(bits);
     if answer.is_err() {
@@ -64,7 +64,7 @@ fn extend(bits: &mut Bits, more: &Bits) -> Result<(), AllocError> {
     Ok(())
 }
 
-// The same by the call of code blocks.
+// Puts a short list behind another by the call of code blocks.
 fn append_block(bits: &mut Bits, more: &Bits) -> Result<(), AllocError> {
     if bits.len() < 1000 && more.len() < 1000 {
         append(bits, more)?;
