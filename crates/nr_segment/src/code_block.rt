@@ -27,8 +27,8 @@ pub fn part(plan: &Plan, r: u32, k: u32) -> u32
     r * (plan.kdash - plan.l) + k
 }
 
-/// The K' bits of code block `r` of the transport block `bits`: its share of the bits and, where there are
-/// several code blocks, their CRC24B (TS 38.212, 5.2.2).
+/// The K' bits of code block `r` of the transport block `bits` (TS 38.212, 5.2.2). They are its share of the bits and,
+/// where there are several code blocks, their CRC24B.
 ///
 /// # Errors
 ///

@@ -99,8 +99,8 @@ pub fn plan(graph: Graph, b: u32) -> Result<Plan, SegFault>
     })
 }
 
-/// Law: what the numbers of every plan keep to, among them that K' is above 2 Zc, so that not all bits of a
-/// code block are punctured (TS 38.212, 5.3.2).
+/// Law: what the numbers of every plan keep to (TS 38.212, 5.3.2). Among them is that K' is above 2 Zc, so that not all
+/// bits of a code block are punctured.
 pub fn plans_are_sound()
     ensures { PlansAreSound }
 {}
