@@ -126,7 +126,7 @@ length-whole is_on c qm nl s r =
     let turned : nl * qm * units.0 ≡ qm * (nl * units.0) = omega arith in
     ap (λ e. e % qm) (units.1 ∙ turned) ∙ mul-mod_right qm (nl * units.0)
 
--- what it means that lengths are answered
+-- what it means that lengths are returned
 record IsAnswered (is_on : ℕ → Bool) (c g qm nl : ℕ) (lengths : List ℕ) : Type 0 where
   pub order : is_order qm ≡ true
   pub layers : 1 ≤ nl

@@ -35,7 +35,7 @@ length_of is_on c unit s r =
 abbrev pub shares_of : (ℕ → Bool) → ℕ → ℕ → ℕ → List ℕ
 shares_of is_on c unit s = map (length_of is_on c unit s) (range_with_len 0 c)
 
--- the same from G, Qm and NL
+-- E_r of each of c code blocks, from G, Qm and NL
 abbrev pub lengths_of : (ℕ → Bool) → ℕ → ℕ → ℕ → ℕ → List ℕ
 lengths_of is_on c g qm nl = shares_of is_on c (nl * qm) (g / (nl * qm))
 

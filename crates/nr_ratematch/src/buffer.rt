@@ -12,8 +12,9 @@ use nr_graphpick::Graph;
 use nr_segment::Plan;
 use std::marker::Model;
 
-/// The circular buffer of the code blocks of a plan: all N bits of a codeword after the punctured ones, or the first
-/// Nref of them (TS 38.212, 5.4.2.1). Contracts see it as the numbers that selection rests on, and Ncb among them.
+/// The circular buffer of the code blocks of a plan (TS 38.212, 5.4.2.1). It has all N bits of a codeword after the
+/// punctured ones, or the first Nref of them. Contracts see it as the numbers that selection rests on, and Ncb among
+/// them.
 #[derive(Clone, Copy, Debug, PartialEq, Eq)]
 pub struct Buffer {
     graph: Graph,
@@ -59,8 +60,8 @@ fn start_columns_of(graph: Graph) -> [u32; 4]
 }
 
 impl Buffer {
-    /// The buffer of each code block of a plan, limited where `lbrm` gives TBS_LBRM, in bits: it keeps the first
-    /// Nref = 3 TBS_LBRM / (2 C) bits, rounded down (TS 38.212, 5.4.2.1, with R_LBRM = 2/3). Takes no memory.
+    /// The buffer of each code block of a plan, limited where `lbrm` gives TBS_LBRM, in bits. It keeps the first Nref =
+    /// 3 TBS_LBRM / (2 C) bits, rounded down (TS 38.212, 5.4.2.1, with R_LBRM = 2/3). Takes no memory.
     ///
     /// # Errors
     ///
@@ -105,9 +106,9 @@ impl Buffer {
         column * self.ncb / ((self.graph.cols() - 2) * self.z) * self.z
     }
 
-    /// The position in the codeword of the bit `k` that the redundancy version `rv` selects: round and round the
-    /// buffer from its start on, without the fillers (TS 38.212, 5.4.2.1). Takes no memory, and as long for every
-    /// `k`.
+    /// The position in the codeword of the bit `k` that the redundancy version `rv` selects (TS 38.212, 5.4.2.1).
+    /// Selection goes round and round the buffer from its start on, without the fillers. Takes no memory, and as long
+    /// for every `k`.
     pub fn place(&self, rv: u32, k: u32) -> u32
         requires { rv < 4 }
         ensures value { result ≡ place_of self.now rv k }
@@ -116,10 +117,10 @@ impl Buffer {
         self.round(rv).place(k)
     }
 
-    /// A run of the bits that the redundancy version `rv` selects, from bit `k` on: the position in the codeword of
-    /// bit `k`, and how many bits, from 1 to `most`, have it and the positions after it, one after another. The run
-    /// ends before the fillers, at the end of the buffer, where the start comes again, or at `most`
-    /// (TS 38.212, 5.4.2.1). Takes no memory, and as long for every `k`.
+    /// A run of the bits that the redundancy version `rv` selects, from bit `k` on. It is the position in the codeword
+    /// of bit `k`, and how many bits, from 1 to `most`, have it and the positions after it, one after another. The run
+    /// ends before the fillers, at the end of the buffer, where the start comes again, or at `most` (TS 38.212,
+    /// 5.4.2.1). Takes no memory, and as long for every `k`.
     pub fn run(&self, rv: u32, k: u32, most: u32) -> (u32, u32)
         requires version { rv < 4 }
         requires most { 0 < most }

@@ -4,8 +4,8 @@ ghost use Rattle.nr_ratematch.specs.Selection.{SelectionEnds, PlacesAreSent, Buf
 
 use nr_segment::plans_are_sound;
 
-/// Law: once round every buffer, from the start of each redundancy version, there is a bit that is no filler, so
-/// that selection ends (TS 38.212, 5.4.2.1).
+/// Law: once round every buffer, from the start of each redundancy version, there is a bit that is no filler. So
+/// selection ends (TS 38.212, 5.4.2.1).
 pub fn selection_ends()
     ensures { SelectionEnds }
 {}

@@ -36,8 +36,8 @@ impl Round {
         index + self.punctured
     }
 
-    // The places from place `at` of those that have no filler on, up to the fillers or to the end of the round: the
-    // position in the codeword of the first of them, and how many there are.
+    // The places from place `at` on of those that have no filler, up to the fillers or to the end of the round. It is
+    // the position in the codeword of the first of them, and how many there are.
     pub(crate) fn run(self, at: u32) -> (u32, u32)
         requires { at < self.count }
         ensures some { 0 < result.1 }

@@ -9,8 +9,8 @@ use nr_bitvec::Bits;
 use nr_ldpcenc::Word;
 use std::alloc::{AllocError, Global};
 
-/// The `e` bits, at most 2^24, that the redundancy version `rv` selects from the codeword of a code block
-/// (TS 38.212, 5.4.2.1): the bits at the positions that `Buffer::place` says.
+/// The `e` bits, at most 2^24, that the redundancy version `rv` selects from the codeword of a code block (TS 38.212,
+/// 5.4.2.1). They are the bits at the positions that `Buffer::place` says.
 ///
 /// # Errors
 ///

@@ -38,8 +38,8 @@ fn scheduled_of(mask: &Mask, c: u32) -> u32
     count
 }
 
-// E_r of a scheduled code block, where `all` are scheduled and `before` of them stand before it, `unit` is NL Qm, and
-// `symbols` is G / (NL Qm) (TS 38.212, 5.4.2.1).
+// E_r of a scheduled code block, where `all` are scheduled and `before` of them stand before it (TS 38.212, 5.4.2.1).
+// `unit` is NL Qm, and `symbols` is G / (NL Qm).
 fn share(all: u32, unit: u32, symbols: u32, before: u32) -> u32
     requires some { 0 < all }
     requires few { unit * symbols < 2 ^ 32 }
@@ -73,9 +73,9 @@ fn shares(mask: &Mask, c: u32, unit: u32, symbols: u32) -> ArrayVec<u32, MOST_BL
     lengths
 }
 
-/// E_r of each code block of a plan, in order: how many of the `g` bits of a transmission it has, 0 where it is not
-/// scheduled (TS 38.212, 5.4.2.1). `qm` is the modulation order, and `nl` the number of transmission layers. Each E_r
-/// is a multiple of `qm`, and together they are `g`. Takes no memory.
+/// E_r of each code block of a plan, in order (TS 38.212, 5.4.2.1). It is how many of the `g` bits of a transmission
+/// the block has, 0 where it is not scheduled. `qm` is the modulation order, and `nl` the number of transmission
+/// layers. Each E_r is a multiple of `qm`, and together they are `g`. Takes no memory.
 ///
 /// # Errors
 ///
