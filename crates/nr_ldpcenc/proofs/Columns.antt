@@ -1,5 +1,5 @@
--- A word meets every row of an accepted base graph exactly where its parity columns are solved one after another, and
--- so the information columns give the others.
+-- A word meets every row of an accepted base graph exactly where its parity columns are solved one after another. So
+-- the information columns give the others.
 use Rattle.std.proofs.Common.{◌≡◌, ℕ, zero, suc, ◌+◌, ◌-◌, ◌*◌, ◌/◌, ◌%◌, ◌<◌, ◌≤◌, ◌==◌, nat_lt, nat_le, Bool, true, false, ◌⊎◌, inl, inr, ⊎_elim, List, [], ◌∷◌, refl, sym, ap, subst, ◌∙◌, arith}
 use Rattle.std.proofs.Math.Nat.{mul-le-mul_right, mod-add-mod, add-mod_right, mod-eq_of_lt, div-mul-le_self}
 use Rattle.std.proofs.lemmas.Nat.{mod_below, div-mul-add, mod-mul-add}

@@ -50,7 +50,7 @@ window_two ws w r j fits h short =
           omega (arith, split, first, there, none, some)
     ]
 
--- the same of words that were read
+-- a window of two words that were read, bit by bit
 pub window_read : (ws : List ℕ) (w r a b j : ℕ) → a ≡ get_or ws w 0 → b ≡ get_or ws (w + 1) 0 → get_or ws w 0 < 2 ^ 64 → r < 64 → j < 64
     → bit_at (bit_or (a / 2 ^ r) (up_by b r)) j ≡ place ws (64 * w + r + j)
 window_read ws w r a b j is_low is_up fits h short =

@@ -1,5 +1,5 @@
--- A block that is put twice in a row: its words, then in the last of them the first bits of the second copy, then the
--- words of the others.
+-- A block that is put twice in a row. Its words come first, then in the last of them the first bits of the second copy,
+-- then the words of the others.
 use Rattle.std.proofs.Common.{◌≡◌, ◌≢◌, ℕ, ◌+◌, ◌-◌, ◌*◌, ◌/◌, ◌%◌, ◌<◌, ◌≤◌, max, List, length, get_or, set, sym, ap, ◌∙◌, inl, inr, arith, length-set}
 use Rattle.std.proofs.lemmas.Bool.{cases_lt, cases_eq}
 use Rattle.std.proofs.lemmas.Nat.Bits.{bit_at_or}

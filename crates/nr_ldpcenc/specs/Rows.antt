@@ -11,8 +11,8 @@ use Rattle.nr_shifttable.specs.Accepted.{Entries, entries_in, row_of}
 use Rattle.nr_shifttable.specs.Tails.{value_in}
 use Rattle.nr_ldpcenc.specs.Parity.{parity}
 
--- parity checks: how many rows of blocks there are, how many rows each has, how many positions a word has, and the
--- positions of the ones in row t of row of blocks i
+-- Parity checks: how many rows of blocks there are, how many rows each has, and how many positions a word has. Then the
+-- positions of the ones in row t of row of blocks i.
 pub record Checks : Type 0 where
   pub rows : ℕ
   pub lanes : ℕ
@@ -35,7 +35,7 @@ unrotate z v u = (u + (z - v % z)) % z
 abbrev pub positions : ℕ → ℕ → ℕ → List Entry → List ℕ
 positions set z t row = map (λ e. one_at z t e.col (value_in set e)) row
 
--- the same of row of blocks i
+-- the positions of the ones in row t of row of blocks i
 abbrev pub row_at : List Entry → ℕ → ℕ → ℕ → ℕ → List ℕ
 row_at es set z i t = positions set z t (row_of es i)
 
@@ -47,6 +47,6 @@ checks_of es set z rows cols = record { rows = rows; lanes = z; size = cols * z;
 abbrev pub block_checks : Entries → Graph → Numbers → Checks
 block_checks t g p = checks_of (entries_in g t) p.set p.z (rows_of g) (cols_of g)
 
--- the same by a plan
+-- the parity checks of a plan
 abbrev pub plan_checks : Entries → Plan → Checks
 plan_checks t p = block_checks t p.graph (numbers p)

@@ -14,7 +14,7 @@ use Rattle.nr_ldpcenc.specs.Rows.{unrotate, one_at}
 abbrev pub sum_before : ℕ → ℕ → (ℕ → Bool) → ℕ → ℕ → List Entry → Bool
 sum_before set z w j t row = parity w (map (λ e. one_at z t e.col (value_in set e)) (filter (λ e. nat_lt e.col j) row))
 
--- the same of row of blocks i
+-- the sum of a word over what row t of row of blocks i has before column j
 abbrev pub head_sum : List Entry → ℕ → ℕ → (ℕ → Bool) → ℕ → ℕ → ℕ → Bool
 head_sum es set z w j i t = sum_before set z w j t (row_of es i)
 

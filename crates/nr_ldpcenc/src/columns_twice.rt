@@ -1,4 +1,4 @@
-//! The columns of blocks of a word, each twice in a row and twelve words from the one before, and the sums of a row of
+//! The columns of blocks of a word, each twice in a row and twelve words from the one before. And the sums of a row of
 //! blocks over them.
 
 ghost use Rattle.std.specs.Prelude.{◌≡◌, ℕ, ◌+◌, ◌*◌, ◌<◌, ◌≤◌, ◌==◌, length};

@@ -16,8 +16,8 @@ use nr_segment::Plan;
 use nr_shifttable::Table;
 use std::alloc::Global;
 
-/// The codeword of the K' bits of a code block: the one word that begins with them, has zeros for the fillers and
-/// meets every row (TS 38.212, 5.3.2).
+/// The codeword of the K' bits of a code block (TS 38.212, 5.3.2). It is the one word that begins with them, has zeros
+/// for the fillers and meets every row.
 ///
 /// # Errors
 ///

@@ -1,4 +1,4 @@
-//! Blocks of as many bits as a lifting size in words of 64, and blocks that stand twice in a row, so that each rotation
+//! Blocks of as many bits as a lifting size in words of 64. And blocks that stand twice in a row, so that each rotation
 //! of one stands in one piece.
 
 ghost use Rattle.std.specs.Prelude.{◌≡◌, ℕ, ◌+◌, ◌*◌, ◌/◌, ◌%◌, ◌^◌, ◌<◌, ◌≤◌, ◌==◌, length, slice_index_or};

@@ -76,8 +76,8 @@ impl Word {
         self.bits.set(i, value);
     }
 
-    /// Puts the `count` lowest bits of `bits`, at most 64, in the places of the bits from bit `at` on, the lowest first,
-    /// which the word has. Takes no memory.
+    /// Puts the `count` lowest bits of `bits`, at most 64, in the places from bit `at` on, the lowest first. The word
+    /// has these places. Takes no memory.
     pub fn put(&mut self, at: usize, count: usize, bits: u64)
         requires count { count ≤ 64 }
         requires inside { at + count ≤ length self.old }
@@ -110,8 +110,8 @@ impl Word {
     }
 }
 
-/// Solves the parity columns of a word: the first K bits stay, and the others become those of the one word that
-/// begins with these and meets every row (TS 38.212, 5.3.2). Takes no memory.
+/// Solves the parity columns of a word (TS 38.212, 5.3.2). The first K bits stay, and the others become those of the
+/// one word that begins with these and meets every row. Takes no memory.
 pub fn fill(table: &Table, plan: &Plan, word: &mut Word)
     requires graph { IsTrue (has_graph plan.now.graph table.now) }
     requires long { length word.old ≡ positions_of plan.now }
