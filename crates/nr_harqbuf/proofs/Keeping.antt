@@ -91,7 +91,7 @@ kept-none n = same_lists (kept (replicate n false) (replicate n false)) (map (fi
         get_or_default (kept (replicate n false) (replicate n false)) k d None l ∙ kept-at (replicate n false) (replicate n false) k ∙ ap (λ b. cond b (Some (bit (replicate n false) k)) None) clear
         ∙ sym (get_or-map-range_with_len (first_heard []) 0 n k k d lt (omega arith))
 
--- a position is heard again, and for the first time
+-- a position is received again, and for the first time
 pub heard_again : (heard value : List Bool) (clash : Bool) (p : ℕ) (b : Bool) → bit heard p ≡ true
     → ◌≡◌ {A = Heardbits} (record { first = kept heard value; clash = clash || not (beq (bit value p) b) }) (with_hearing (record { first = kept heard value; clash = clash }) (p, b))
 unfolding with_hearing

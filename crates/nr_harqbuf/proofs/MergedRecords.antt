@@ -17,7 +17,7 @@ use Rattle.nr_harqbuf.proofs.Records.{record_of-at, first_heard-append, beq_true
 none_some : {A : Type 0} {a : A} → None ≡ Some a → ⊥
 none_some h = cc
 
--- the masks keep the bit that was heard first, since a position was heard with one bit alone
+-- the masks keep the bit that was received first, since a position was received with one bit alone
 mask-first : (more : List Hearing) (heard value : List Bool) → AreMasks more heard value → (p : ℕ) → kept_at heard value p ≡ first_heard more p
 mask-first more heard value masks p = go (first_heard more p) refl
   where

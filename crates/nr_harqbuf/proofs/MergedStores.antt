@@ -18,7 +18,7 @@ use Rattle.nr_harqbuf.proofs.MergedLists.{Lists, IsMerged, at_position, after_he
 abbrev pub record_in : Lists → Heardbits
 record_in s = record { first = kept s.heard s.value; clash = s.clash }
 
--- the bit kept at a position whose mark is h and whose bit is v, heard with mark n and bit b
+-- the bit kept at a position whose mark is h and whose bit is v, received with mark n and bit b
 first_bits : (h v n b : Bool) → cond (h || n) (Some (merged_bit h v n b)) None ≡ cond (is_heard (cond h (Some v) None)) (cond h (Some v) None) (cond n (Some b) None)
 first_bits true true n b = go n
   where

@@ -68,7 +68,7 @@ one_passes {X} p (x ∷ xs) d h = go (p x) refl h (λ k. one_passes p xs d k)
     go true e k ih = record { index = 0; below = omega arith; passes = e }
     go false e k ih = let r = ih k in record { index = suc r.index; below = omega arith; passes = r.passes }
 
--- a position was heard with a bit where some hearing says so
+-- a position was received with a bit where some hearing says so
 pub heard_there : (hs : List Hearing) (p : ℕ) (b : Bool) → heard_as hs p b ≡ true → Passes (λ (h : Hearing). (h.0 == p) && beq h.1 b) hs (0, false)
 unfolding heard_as
 heard_there hs p b h = one_passes (λ (x : Hearing). (x.0 == p) && beq x.1 b) hs (0, false) h
@@ -78,7 +78,7 @@ unfolding heard_as
 heard_here hs i p b lt e f = list_any_at (λ (x : Hearing). (x.0 == p) && beq x.1 b) hs i (0, false) lt
     (and_from ((get_or hs i (0, false)).0 == p) (beq (get_or hs i (0, false)).1 b) (eq-eqb (get_or hs i (0, false)).0 p e) (rw f (beq_same b)))
 
--- the first bit of a position was heard there, and a position that was heard has one
+-- the first bit of a position was received there, and a position that was received has one
 pub first_is_heard : (hs : List Hearing) (p : ℕ) (a : Bool) → first_heard hs p ≡ Some a → heard_as hs p a ≡ true
 unfolding first_heard heard_as
 first_is_heard [] p a h = absurd (none_some h)
@@ -168,7 +168,7 @@ clashes-differs hs = same_truth (list_any (λ (h : Hearing). heard_as hs h.0 (no
             list_any_at (λ (h : Hearing). heard_as hs h.0 (not h.1)) hs r.index (0, false) r.below
             (ap (heard_as hs x.0) (sym (differs_not f.bit x.1 d)) ∙ first_is_heard hs x.0 f.bit f.is)
 
--- the first bit of a position that was heard stays when more is heard
+-- the first bit of a position that was received stays when more is received
 pub first_stays : (hs more : List Hearing) (p : ℕ) (a : Bool) → first_heard hs p ≡ Some a → first_heard (hs ++ more) p ≡ Some a
 first_stays hs more p a e = first_heard-append hs more p ∙ ap (λ o. cond (is_heard o) o (first_heard more p)) e
 

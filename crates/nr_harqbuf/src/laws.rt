@@ -8,14 +8,14 @@ pub fn record_continues()
     ensures { RecordContinues }
 {}
 
-/// Law: a word agrees with all that was received exactly where the record has no clash and the word has every first
-/// bit of the record.
+/// Law: a word agrees with all that was received exactly where the record has no clash and its first bits are all the
+/// word's.
 pub fn fits_by_record()
     ensures { FitsByRecord }
 {}
 
-/// Law: receiving all that the masks of further hearings say, of which none tells a position both bits, makes the
-/// record of the longer list of hearings.
+/// Law: take the masks of further hearings, of which none tells a position both bits. Receiving all that they say makes
+/// the record of the longer list of hearings.
 pub fn record_merges()
     ensures { RecordMerges }
 {}

@@ -1,5 +1,5 @@
-//! Masks of what is received at once: one list of bits marks the positions of the codeword that were received,
-//! another has the bits received there.
+//! Masks of what is received at once. One list of bits marks the positions of the codeword that were received, another
+//! has the bits received there.
 
 ghost use Rattle.std.specs.Prelude.{◌≡◌, ℕ, ◌+◌, ◌≤◌, ◌||◌, ◌↔◌, Bool, not, true, false, length, IsTrue};
 ghost use Rattle.nr_bitvec.specs.Bit.{bit};
@@ -8,10 +8,10 @@ ghost use Rattle.nr_harqbuf.specs.Masks.{says, word_says};
 use nr_bitvec::Bits;
 use nr_bitvec::words::low_bits;
 
-/// Hears up to 64 bits one after another: of the `count` positions from position `at` on, those that `now` marks, the
-/// lowest bit first, with the bits of `bits`. The first bit of a position stays. Returns whether no position that the
-/// masks marked before is marked again with the other bit: then they say what they said and what the words say. Takes
-/// no memory.
+/// Receives up to 64 bits one after another. They are those of the `count` positions from position `at` on that `now`
+/// marks, the lowest bit first, with the bits of `bits`. The first bit of a position stays. Returns whether no position
+/// that the masks marked before is marked again with the other bit. If so, they say what they said and what the words
+/// say. Takes no memory.
 pub fn merge_word(
     heard: &mut Bits,
     value: &mut Bits,

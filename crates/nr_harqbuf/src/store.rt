@@ -12,8 +12,8 @@ use nr_segment::Plan;
 use std::alloc::{AllocError, Global};
 use std::marker::Model;
 
-/// What was received of one code block: for each position of its codeword the bit that was received first, and whether
-/// some position was received with both bits.
+/// What was received of one code block. It is the bit that was received first for each position of its codeword, and
+/// whether some position was received with both bits.
 #[derive(Drop)]
 pub struct Store {
     heard: Bits,
