@@ -12,8 +12,8 @@ pub record IsSpread (qm : ℕ) (table : List ℕ) : Type 0 where
   pub short : (n : ℕ) → n < 16 → slice_index_or table n 0 < 2 ^ (4 * qm)
   pub places : (n s r : ℕ) → n < 16 → s < 4 → r < qm → bit_at (slice_index_or table n 0) (s * qm + r) ≡ first_of n s r
 
--- Words of the rows of a matrix, in which row r has its columns from bit r `columns` of a list on: the columns from
--- `column` on stand in them from place `first` on.
+-- Words of the rows of a matrix, in which row r has its columns from bit r `columns` of a list on. The columns from
+-- `column` on stand in these words from place `first` on.
 abbrev pub HasRows : ℕ → List ℕ → ℕ → List Bool → ℕ → ℕ → Type 0
 HasRows qm rows first bits columns column = (r j : ℕ) → r < qm → first + j < 64
     → (bit_at (slice_index_or rows r 0) (first + j) == 1) ≡ bit bits (r * columns + column + j)

@@ -8,7 +8,7 @@ ghost use Rattle.nr_interleave.specs.Spreading.{first_of, HasRows, IsSpread};
 
 use nr_bitvec::Bits;
 
-// Four bits of a row, spread to the first rows of four columns, for the modulation orders that name the tables: bit s
+// Four bits of a row, spread to the first rows of four columns, for the modulation orders that name the tables. Bit s
 // of n stands at place s Qm of entry n.
 pub(crate) const BY_2: [u64; 16] = [0, 1, 4, 5, 16, 17, 20, 21, 64, 65, 68, 69, 80, 81, 84, 85];
 
@@ -93,8 +93,8 @@ fn join_rows<const QM: usize, const FOURS: usize>(
     word
 }
 
-// Has the next columns, as many as `FOURS` entries have, in the words of the rows: reads these anew from column
-// `column` on where they have fewer from place `first` on. Returns the place where the columns begin. A row's bits past
+// Has the next columns, as many as `FOURS` entries have, in the words of the rows. Where they have fewer from place
+// `first` on, it reads them anew from column `column` on. Returns the place where the columns begin. A row's bits past
 // its end are those of the next row.
 fn refill<const QM: usize, const FOURS: usize>(
     rows: &mut [u64; QM],
@@ -121,8 +121,8 @@ fn refill<const QM: usize, const FOURS: usize>(
     0
 }
 
-// Puts the interleaved bits at the end of a list, by the table of the modulation order, as many columns at a time as
-// `FOURS` of its entries have.
+// Puts the interleaved bits at the end of a list, by the table of the modulation order. It takes as many columns at a
+// time as `FOURS` of its entries have.
 pub(crate) fn by_columns<const QM: usize, const FOURS: usize>(
     fours: &[u64; 16],
     bits: &Bits,

@@ -17,9 +17,8 @@ use nr_bitvec::Bits;
 use rows::{OF_2, OF_4, OF_6, OF_8, by_rows, by_seats};
 use std::alloc::{AllocError, Global};
 
-/// The index among the `e` selected bits of the bit at place `m` of the interleaved ones, for the modulation order
-/// `qm` (1, 2, 4, 6 or 8, and any other that is not 0), of which `e` is a multiple (TS 38.212, 5.4.2.2). Takes no
-/// memory.
+/// The index among the `e` selected bits of the bit at place `m` of the interleaved ones (TS 38.212, 5.4.2.2). The
+/// modulation order `qm` is 1, 2, 4, 6 or 8, or any other that is not 0, and `e` is a multiple of it. Takes no memory.
 pub fn seat(qm: u32, e: u32, m: u32) -> u32
     requires some { 0 < qm }
     requires whole { e % qm ≡ 0 }
@@ -65,7 +64,7 @@ pub fn spread_onto(qm: u32, bits: &Bits, spread: &mut Bits)
     }
 }
 
-// The same by single places, for an order that no modulation has.
+// Spreads them place by place, for an order that no modulation has.
 fn by_places(qm: u32, bits: &Bits, spread: &mut Bits)
     requires some { 0 < qm }
     requires whole { length bits.now.items % qm ≡ 0 }
@@ -79,8 +78,8 @@ fn by_places(qm: u32, bits: &Bits, spread: &mut Bits)
     }
 }
 
-/// What `spread` undoes: puts into `selected`, in place of its bits, those of which the `count` bits of a list from bit
-/// `from` on are the interleaved ones, for the modulation order `qm` (TS 38.212, 5.4.2.2). Takes no memory.
+/// What `spread` undoes (TS 38.212, 5.4.2.2). It puts bits into `selected`, in place of its bits. Of these the `count`
+/// bits of a list from bit `from` on are the interleaved ones, for the modulation order `qm`. Takes no memory.
 pub fn unspread_into(qm: u32, bits: &Bits, from: usize, count: usize, selected: &mut Bits)
     requires some { 0 < qm }
     requires whole { count % qm ≡ 0 }

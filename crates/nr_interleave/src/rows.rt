@@ -8,8 +8,8 @@ ghost use Rattle.nr_interleave.specs.Unspreading.{apart, BringTogether, row_by_r
 
 use nr_bitvec::Bits;
 
-// Masks that bring together eight bits of a row, for the modulation orders that name them: of the single bits, which
-// stand Qm apart, of pairs, which stand 2 Qm apart, and of fours.
+// Masks that bring together eight bits of a row, for the modulation orders that name them. They are those of single
+// bits, which stand Qm apart, of pairs, which stand 2 Qm apart, and of fours.
 pub(crate) const OF_2: [u64; 3] = [0x5555, 0x3333, 0x0f0f];
 
 pub(crate) const OF_4: [u64; 3] = [0x1111_1111, 0x0303_0303, 0x000f_000f];
@@ -100,7 +100,7 @@ pub(crate) fn by_rows<const QM: usize>(
     }
 }
 
-// The same by single places, for an order that no modulation has.
+// Puts the bits back place by place, for an order that no modulation has.
 pub(crate) fn by_seats(qm: usize, bits: &Bits, from: usize, count: usize, selected: &mut Bits)
     requires some { 0 < qm }
     requires whole { count % qm ≡ 0 }
