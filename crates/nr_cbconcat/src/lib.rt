@@ -26,9 +26,9 @@ pub fn append(joined: &mut Bits, block: &Bits) -> Result<(), AllocError>
     joined.extend(block)
 }
 
-/// The code block of place `m` of the joined bits, counted from 0, and the place there, where
-/// `lengths` are the lengths of the code blocks and `m` is below their sum (TS 38.212, 5.5). Takes
-/// no memory; walks the lengths.
+/// The code block of place `m` of the joined bits, counted from 0, and the place there (TS 38.212,
+/// 5.5). `lengths` are the lengths of the code blocks, and `m` is below their sum. Takes no memory;
+/// walks the lengths.
 pub fn owner(lengths: &[u32], m: u32) -> (u32, u32)
     requires few { length lengths.now < 2 ^ 32 }
     requires inside { m < sum lengths.now }
