@@ -132,8 +132,8 @@ pub fn divides(poly: Poly, bits: &Bits) -> bool
     crc(poly, bits) == 0
 }
 
-/// A transport block followed by its parity bits: 24 by CRC24A where it has more than 3824 bits,
-/// else 16 by CRC16 (TS 38.212, 6.2.1 and 7.2.1). The block has at most 2^24 - 24 bits.
+/// A transport block followed by its parity bits (TS 38.212, 6.2.1 and 7.2.1). They are 24 by CRC24A where it has more
+/// than 3824 bits, else 16 by CRC16. The block has at most 2^24 - 24 bits.
 ///
 /// # Errors
 ///
@@ -157,8 +157,8 @@ pub fn attach_into(block: &Bits, list: &mut Bits)
     put_with_check(Poly::of_block(block.len()), block, list);
 }
 
-/// The number of bits that a transport block of `a` bits has with its parity bits, which is B: `a`
-/// and 24 above 3824, else `a` and 16 (TS 38.212, 6.2.1 and 7.2.1).
+/// The number of bits that a transport block of `a` bits has with its parity bits, which is B (TS 38.212, 6.2.1 and
+/// 7.2.1). It is `a` and 24 above 3824, else `a` and 16.
 pub fn attached_len(a: u32) -> u32
     requires { a < 2 ^ 24 }
     ensures { result ≡ attached_length a }
@@ -206,15 +206,15 @@ fn put_with_check(poly: Poly, bits: &Bits, list: &mut Bits)
     }
 }
 
-/// The law of attachment: every list followed by its parity bits leaves remainder 0 by their
-/// generator, and so does every transport block as `attach` gives it.
+/// The law of attachment: every list followed by its parity bits leaves remainder 0 by their generator. So does every
+/// transport block as `attach` gives it.
 pub fn attachment_divides()
     ensures check { CheckedListsDivide }
     ensures block { AttachedBlocksDivide }
 {}
 
-/// The law of lengths: parity bits lengthen a list by their number, and a transport block by 24
-/// bits exactly where it has more than 3824, else by 16, which is what `attached_len` gives.
+/// The law of lengths: parity bits lengthen a list by their number. They lengthen a transport block by 24 bits exactly
+/// where it has more than 3824, else by 16, which is what `attached_len` gives.
 pub fn attachment_lengthens()
     ensures check { CheckedListsLengthen }
     ensures block { BlocksLengthen }
@@ -222,9 +222,8 @@ pub fn attachment_lengthens()
     ensures short { ShortBlocksLengthen }
 {}
 
-/// The laws of sums: a sum times D is the sum of both times D, one more power of D is the remainder
-/// times D, and the remainder of two lists joined is the sum of both, the first's raised by as many
-/// powers as the second has bits.
+/// The laws of sums: a sum times D is the sum of both times D, and one more power of D is the remainder times D. The
+/// remainder of two lists joined is the sum of both, the first's raised by as many powers as the second has bits.
 pub fn residues_add()
     ensures sum { TimesDIsAdditive }
     ensures power { PowersMultiply }
