@@ -16,7 +16,7 @@ use Rattle.nr_bitvec.proofs.OctetLists.{same_bit}
 pub same_bits-Decides : (a b : BitList) → Decides (same_bits a b) (a.items ≡ b.items)
 same_bits-Decides a b = slice_eq-Decides booleans_Decides a.items b.items (same_bits a b) refl
 
--- so is any answer that is true exactly there
+-- so is any result that is true exactly there
 same-answer : (r : Bool) (a b : BitList) → (r ≡ true → a.items ≡ b.items) → (a.items ≡ b.items → r ≡ true) → r ≡ same_bits a b
 same-answer true a b f g = sym ((same_bits-Decides a b).1 (f refl))
 same-answer false a b f g = sym (false_from_ne_true (same_bits a b) (λ e. false≢true (g ((same_bits-Decides a b).0 e))))

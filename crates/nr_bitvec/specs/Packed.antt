@@ -41,7 +41,7 @@ unpacked n ws = map (λ t. place ws t == 1) (range_with_len 0 n)
 abbrev pub bit_list : ℕ → List ℕ → ℕ → BitList
 bit_list n ws capacity = record { items = unpacked n ws; room = 64 * min capacity (2 ^ 18) - n }
 
--- The words of a list of n bits, at most 2 ^ 24: as few words as n places need, and no place set past the end. So
+-- The words of a list of n bits, at most 2 ^ 24. They are as few as n places need, and no place is set past the end. So
 -- equal lists have equal words.
 pub record IsPacked (n : ℕ) (ws : List ℕ) : Type 0 where
   pub short : n ≤ 2 ^ 24

@@ -74,9 +74,8 @@ impl Bits {
         Ok(Bits { words, len })
     }
 
-    /// The bits of octets, the most significant bit of each first, so that the first bit of a
-    /// transport block is the highest of its first octet (TS 38.212, 6.2.1 and 7.2.1). At most 2^21
-    /// octets.
+    /// The bits of octets, the most significant bit of each first. So the first bit of a transport block is the highest
+    /// of its first octet (TS 38.212, 6.2.1 and 7.2.1). At most 2^21 octets.
     ///
     /// # Errors
     ///
@@ -254,8 +253,8 @@ impl Bits {
         window(&self.words, at / 64, at % 64)
     }
 
-    /// Puts the `count` lowest bits of `word`, at most 64, in the places of the bits from bit `at`
-    /// on, the lowest first, which the list has. Takes no memory.
+    /// Puts the `count` lowest bits of `word`, at most 64, in the places from bit `at` on, the lowest first. The list
+    /// has these places. Takes no memory.
     pub fn put(&mut self, at: usize, count: usize, word: u64)
         requires count { count ≤ 64 }
         requires inside { at + count ≤ length self.old.items }
@@ -269,7 +268,7 @@ impl Bits {
         flip(&mut self.words, at, added);
     }
 
-    /// Puts the places of `words`, at most 64 of them, in the places of the bits from bit `at` on, from where on the
+    /// Puts the places of `words`, at most 64 of them, in the places of the bits from bit `at` on. From there on the
     /// list has zeros alone. No place is set that the list has no bit for. Takes no memory.
     pub fn put_words(&mut self, at: usize, words: &[u64])
         requires at { at ≤ length self.old.items }
@@ -304,7 +303,7 @@ impl Bits {
         Ok(Bits { words, len })
     }
 
-    /// The same bits in a list of their own.
+    /// A list of its own with these bits.
     ///
     /// # Errors
     ///
