@@ -88,8 +88,8 @@ pub enum PickFault {
 /// (TS 38.212, 6.2.2 and 7.2.2).
 ///
 /// Base graph 2 is taken where `a` is at most 292, or `a` is at most 3824 and the rate at most
-/// 0.67, or the rate is at most 0.25; else base graph 1. The rate is compared in whole numbers, as
-/// `100 * rate2048 <= 137216` and `4 * rate2048 <= 2048`.
+/// 0.67. It is taken where the rate is at most 0.25, too; else base graph 1 is. The rate is
+/// compared in whole numbers, as `100 * rate2048 <= 137216` and `4 * rate2048 <= 2048`.
 ///
 /// # Errors
 ///
