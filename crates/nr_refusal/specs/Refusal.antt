@@ -23,8 +23,8 @@ abbrev pub Gives : {X Y E : Type 0} → E → (X → Y) → Result X E → Resul
 Gives memory view (Ok x) said = said ≡ Ok (view x)
 Gives memory view (Err e) said = (e ≡ memory) ⊎ (said ≡ Err e)
 
--- The count of failures of a Source or a Sink, before and after a call: it rose by one where the call returns the
--- fault that tells of it, and stayed where the call returns anything else.
+-- The count of failures of a Source or a Sink, before and after a call. It rose by one where the call returns the fault
+-- that tells of it, and stayed where the call returns anything else.
 abbrev pub FailsAs : {X E : Type 0} → E → Result X E → ℕ → ℕ → Type 0
 FailsAs told (Ok done) old new = new ≡ old
 FailsAs told (Err e) old new = ((e ≡ told) × (new ≡ old + 1)) ⊎ ((e ≢ told) × (new ≡ old))
