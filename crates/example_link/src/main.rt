@@ -1,5 +1,5 @@
-//! How a program of one's own stands on the crates of this repository: it reads a shift table from standard input,
-//! sends a transport block twice over a link that erases some of its places, and prints what may be handed up after each
+//! How a program of one's own stands on the crates of this repository. It reads a shift table from standard input, and
+//! sends a transport block twice over a link that erases some of its places. It prints what may be handed up after each
 //! time. `deliver` is the part to copy: its contract says what comes back, by the words of `nr_blockdesk`.
 #![tactic(auto)]
 
