@@ -1,10 +1,11 @@
-//! The data coding chain of 5G NR's shared channels (3GPP TS 38.212, Release 15) as a program: `cut` shows what the
-//! standard makes of each transport block up to its code blocks, `check` judges a shift table file, `send` writes the bits
-//! sent, `run` what a receiver makes of them over a link that loses bits, and `audit` why.
-//! `job` reads the command line (nr_job); the five commands work over any Source and Sink (nr_commands, nr_linkcommands);
-//! `tell` says how a run ends (nr_ends). Their contract: what they write is a stated function of the octets that they read,
-//! or nothing is written and the fault is that function's; a failing Sink has a first part of the text.
-//! Here they are put together.
+//! The data coding chain of 5G NR's shared channels (3GPP TS 38.212, Release 15) as a program. What its commands write
+//! is a stated function of the octets that they read. Or nothing is written, and the fault is that function's. A
+//! failing Sink has a first part of the text.
+//!
+//! Inside the parts are put together. `job` reads the command line (nr_job). The five commands work over any Source and
+//! Sink (nr_commands, nr_linkcommands), and `tell` says how a run ends (nr_ends). `cut` shows what the standard makes
+//! of each transport block up to its code blocks, and `check` judges a shift table file. `send` writes the bits sent,
+//! `run` what a receiver makes of them over a link that loses bits, and `audit` why.
 #![tactic(auto)]
 
 ghost use Rattle.std.specs.Prelude.{◌≡◌, ◌^◌, ◌<◌, drop, IfOk};
