@@ -1,8 +1,11 @@
-//! Lists of at most 2^24 bits, kept 64 to a word, and octets as bits, the most significant first
-//! (TS 38.212). A `Bits` is seen by contracts as the list of its bits and the room that it has for
-//! more (specs/BitList.antt), and every call's contract says what it makes of that list;
-//! `octets_round_trip` is the law of octets. The words for single bits, `bit` and the sum modulo
-//! two (specs/Bit.antt), are those of every crate above. Stands on std's `Vec` alone.
+//! Lists of at most 2^24 bits, and octets as bits, the most significant first (TS 38.212). Contracts see a `Bits` as
+//! the list of its bits and the room that it has for more (specs/BitList.antt). Each call's contract says what it makes
+//! of that list, and `octets_round_trip` is the law of octets.
+//!
+//! Inside, 64 bits are kept to a word of std's `Vec`. The crate stands on std alone. The definitions of single bits,
+//! `bit` and the sum modulo two, are in specs/Bit.antt.
+//!
+//! Used by nearly every crate above: whatever has bits has them in a `Bits`.
 #![tactic(auto)]
 
 mod laws;
