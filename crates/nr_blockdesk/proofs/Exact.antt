@@ -138,7 +138,7 @@ module _ (only : DeliveredIsOnly) (delivers : ExplainedIsDelivered) (link : Link
 pub outcomes-exact : DeliveredIsOnly → ExplainedIsDelivered → OutcomesAreExact
 outcomes-exact only delivers link list is accepted = exact-one only delivers link list is accepted
 
--- a position that was heard stays heard
+-- a position that was received stays received
 found-more : (o p : Option Hearing) → is_heard (option_map (λ h. h.1) o) ≡ true → is_heard (option_map (λ h. h.1) (option_or o p)) ≡ true
 found-more None p e = cc e
 found-more (Some h) p e = refl

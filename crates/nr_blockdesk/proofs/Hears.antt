@@ -85,7 +85,7 @@ pub first-set : (s : Heardbits) (pos : ℕ) (v : Bool) → is_heard (first_at s 
 unfolding with_hearing
 first-set s pos v is = ap (λ b. cond b s.first (set s.first pos (Some v))) is
 
--- the first bits before one that was heard nowhere yet
+-- the first bits before one that was received nowhere yet
 firsts-before : (s t : Heardbits) (pos : ℕ) (v : Bool) (w : ℕ → Bool) → is_heard (first_at s pos) ≡ false → t.first ≡ set s.first pos (Some v)
     → HasFirsts t w → HasFirsts s w
 firsts-before s t pos v w unheard firsts has k b is = ⊎_elim
@@ -172,7 +172,7 @@ module _ (s : Heardbits) (pos : ℕ) (v : Bool) (w : ℕ → Bool) (inside : pos
       go false e = λ fits. absurd (true≢false (sym (beq-self v) ∙ ap (λ b. beq b v) (sym (fits-bit fits)) ∙ e))
       go true e = λ fits. fits-more (tells fits) (same-bit (w pos) v (ap not e))
 
--- the same of one code block more
+-- what is told of the first r code blocks, with one code block more
 pub all-tell-more : (told one : Bool) (words : List (List Bool)) (w : List Bool) (S₀ S : List Heardbits) (r : ℕ) (s t : Heardbits) → r < length S
     → w ≡ word_at words r → s ≡ heard_of S₀ r → Tells one (bit w) s t → AllTell told r words S₀ S
     → AllTell (told && one) (r + 1) words S₀ (set S r t)
@@ -211,7 +211,7 @@ same-checks link s p tied =
     ∙ ap (λ (g : Graph). block_checks link.table g p.numbers) tied.graph
     ∙ ap (λ (n : Numbers). block_checks link.table link.graph n) tied.numbers
 
--- the same part, in other words
+-- a part that was received, in other words
 pub hears-same : (b : Circular) (tx : Tx) (part part' : List Heard) (s s' t t' : Heardbits) (p p' q q' : Peeling)
     → part ≡ part' → s ≡ s' → p ≡ p' → t ≡ t' → q ≡ q' → HearsPart b tx part s p t q → HearsPart b tx part' s' p' t' q'
 hears-same b tx part part' s s' t t' p p' q q' e1 e2 e3 e4 e5 hears =
@@ -221,7 +221,7 @@ hears-same b tx part part' s s' t t' p p' q q' e1 e2 e3 e4 e5 hears =
     (subst (λ x. HearsPart b tx part' x p t q) e2
     (subst (λ x. HearsPart b tx x s p t q) e1 hears))))
 
--- one code block more has heard its part
+-- one code block more has received its part
 pub done-more : (b : Circular) (tx : Tx) (pieces : ℕ → List Heard) (S₀ S : List Heardbits) (P₀ P : List Peeling) (r : ℕ)
     (part : List Heard) (s t : Heardbits) (p q : Peeling) → r < length S → r < length P → part ≡ pieces r
     → s ≡ get_or S r s → p ≡ get_or P r p → HearsPart b tx part s p t q

@@ -1,4 +1,4 @@
--- What a receiver keeps of the one transport block that may explain what was heard.
+-- What a receiver keeps of the one transport block that may explain what was received.
 use Rattle.std.proofs.Common.{◌≡◌, ◌≢◌, ℕ, ◌+◌, ◌<◌, Bool, true, false, List, [], ◌++◌, length, set, take, sym, ap, subst, ◌∙◌, ⊎_elim, length-append, arith}
 use Rattle.std.proofs.lemmas.Bool.{cases_eq}
 use Rattle.std.proofs.lemmas.Grind.{get_or-set_at}
@@ -36,12 +36,12 @@ words-more words r w f inside is before q below = ⊎_elim
     (λ (there : q ≢ r). get_or-set_other words r q w [] there ∙ before q (omega (arith, below, there)))
     (cases_eq q r)
 
--- A record that was heard after another.
+-- A record that was made after another.
 module _ (link : Link) (S T : List Heardbits) (fewer : (r : ℕ) (w : ℕ → Bool) → r < link.plan.c → Fits (heard_of T r) w → Fits (heard_of S r) w) where
   explained-before : (y : List Bool) → ExplainedBy link T y → ExplainedBy link S y
   explained-before y by r inside = fewer r (bit (word link y r)) inside (by r inside)
 
-  -- how the one transport block that may explain all stands, once its codewords were compared with what was heard
+  -- how the one transport block that may explain all stands, once its codewords were compared with what was received
   pub stands-after : (list : List Bool) (words : List (List Bool)) (agreed : Bool) (st : Standing) → AllTell agreed link.plan.c words S T
       → Stands link S list words st → Stands link T list words (standing_after st agreed)
   stands-after list words agreed standing.Unread tells stands = tt
@@ -82,7 +82,7 @@ kept-read link records list bits words list-is whole by only coded = record {
     begins : take link.a list ≡ bits
     begins = ap (take link.a) list-is ∙ ap (λ n. take n (attached bits)) (sym whole) ∙ take-append_seam bits check
 
--- what was heard agrees with the words or not, of the receiver's own lists
+-- what was received agrees with the words or not, of the receiver's own lists
 pub told-of : (agreed : Bool) (c : ℕ) (words words₁ : List (List Bool)) (S S₁ T : List Heardbits) → words₁ ≡ words → S₁ ≡ S → length S ≡ c
     → AllTell agreed (length S₁) words₁ S₁ T → AllTell agreed c words S T
 told-of agreed c words words₁ S S₁ T words-is S-is many tells =

@@ -22,7 +22,7 @@ use Rattle.nr_transmission.specs.declared.fault.DeskFault.TheVariants as fault
 pub ok-same : {X : Type 0} {x y : X} → ◌≡◌ {A = Result X DeskFault} (Ok x) (Ok y) → x ≡ y
 ok-same e = cc e
 
--- what a chain of steps that answers says of each step
+-- what a chain of steps that returns a value says of each step
 pub bind-ok : {X Y : Type 0} (r : Result X DeskFault) (f : X → Result Y DeskFault) (y : Y) → (r >>= f) ≡ Ok y
     → (x : X) × (r ≡ Ok x) × (f x ≡ Ok y)
 bind-ok (Ok x) f y e = (x, refl, e)
@@ -128,7 +128,7 @@ pub said-link : (table : Entries) (settings : Settings) (a : ℕ) (p : Plan) (b 
 unfolding link_said
 said-link table settings a p b size picks plans there keeps = rw (size, picks, plans, there, keeps)
 
--- nothing that is said of a link is want of memory
+-- nothing that is said of a link is `Memory`
 err-same : {X : Type 0} {x y : DeskFault} → ◌≡◌ {A = Result X DeskFault} (Err x) (Err y) → x ≡ y
 err-same e = cc e
 

@@ -1,4 +1,4 @@
--- What two lists of bits say was heard, place by place and piece by piece.
+-- What two lists of bits say was received, place by place and piece by piece.
 use Rattle.std.proofs.Common.{◌≡◌, ℕ, ◌+◌, ◌-◌, ◌<◌, ◌≤◌, ◌==◌, ◌&&◌, ◌++◌, inl, inr, Bool, true, false, List, length, get_or, take, drop, refl, sym, ap, ◌∙◌, arith}
 use Rattle.std.specs.Prelude.{Some, sum, slice_index}
 use Rattle.std.specs.Bool.{beq}

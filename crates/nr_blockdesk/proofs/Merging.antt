@@ -1,4 +1,4 @@
--- What it does to a code block's store and its peeler to hear at once all that is told.
+-- What it does to a code block's store and its peeler to receive at once all that is told.
 use Rattle.std.proofs.Common.{◌≡◌, ℕ, ◌<◌, ◌≤◌, ◌==◌, ◌||◌, ◌&&◌, inl, inr, Bool, true, false, not, cond, List, ◌++◌, length, get_or, replicate, All, refl, sym, ap, subst, ◌∙◌, arith}
 use Rattle.std.specs.Prelude.{◌↔◌, IsTrue, Option, Some, None}
 use Rattle.std.specs.Bool.{beq}
@@ -52,7 +52,7 @@ untold-bit xs n p is = ap (λ l. bit l p) is ∙ elim (cases_lt p n) [
   | inr past ↦ get_or_past (replicate n false) p false (omega (arith, length-replicate n false, past))
 ]
 
--- the bit of a position that was heard with `old` before, and is told `told` where `h` holds
+-- the bit of a position that was received with `old` before, and is told `told` where `h` holds
 abbrev joined : Option Bool → Bool → Bool → Option Bool
 joined old h told = cond (is_heard old) old (cond h (Some told) None)
 
@@ -62,7 +62,7 @@ some-is a b e = cc e
 none-is : (b : Bool) → None ≡ Some b → ⊥
 none-is b e = cc e
 
--- words against a record before and after all that is told was heard
+-- words against a record before and after all that is told was received
 module _ (s : Heardbits) (heard value : List Bool) (long : length heard ≡ length s.first) where
   first-is : (p : ℕ) → first_at (merged s heard value) p ≡ joined (first_at s p) (bit heard p) (bit value p)
   unfolding merged

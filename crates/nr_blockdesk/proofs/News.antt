@@ -1,4 +1,4 @@
--- What is heard from one record of a code block to a later one: marks of the positions heard for the first time, and their bits.
+-- What is received from one record of a code block to a later one: marks of the positions that are new, and their bits.
 use Rattle.std.proofs.Common.{◌≡◌, ◌≢◌, ℕ, ◌<◌, ◌||◌, ◌&&◌, Bool, true, false, not, List, length, get_or, set, refl, sym, ap, subst, ◌∙◌, ⊎_elim}
 use Rattle.std.specs.Prelude.{Option, Some, None}
 use Rattle.std.proofs.lemmas.Bool.{cases_eq, true≢false}
@@ -14,7 +14,7 @@ use Rattle.nr_blockdesk.specs.Outcome.{given}
 use Rattle.nr_blockdesk.specs.Receiving.{IsNews, IsTied}
 use Rattle.nr_blockdesk.proofs.Hears.{same-checks}
 
--- a position that was heard before
+-- a position that was received before
 pub news-again : (s t u : Heardbits) (marks value : List Bool) → u.first ≡ t.first → IsNews s t marks value → IsNews s u marks value
 news-again s t u marks value same news =
     let at : (p : ℕ) → first_at u p ≡ first_at t p = λ p. ap (λ (xs : List (Option Bool)). get_or xs p None) same in
@@ -34,7 +34,7 @@ module _ (s t u : Heardbits) (marks value : List Bool) (pos : ℕ) (v : Bool) (i
   there : (p : ℕ) → p ≢ pos → first_at u p ≡ first_at t p
   there p ne = ap (λ (xs : List (Option Bool)). get_or xs p None) firsts ∙ get_or-set_other t.first pos p (Some v) None ne
 
-  -- it was not heard at first either
+  -- it was not received at first either
   lacked : (o : Option Bool) → first_at s pos ≡ o → is_heard o ≡ false
   lacked None e = refl
   lacked (Some a) e = absurd (true≢false (sym (ap is_heard (news.kept pos a e)) ∙ unheard))

@@ -23,7 +23,7 @@ use Rattle.nr_blockdesk.proofs.Explained.{IsOf, IsOwned, all-first, all-others, 
 use Rattle.nr_blockdesk.proofs.Links.{bind-ok, demanded-ok}
 use Rattle.nr_blockdesk.proofs.Tested.{all-at, flat_all, given_all, holds_if, range_all}
 
--- an accepted reception: its transmission is accepted, and as many places are heard as it sends
+-- an accepted reception: its transmission is accepted, and as many places are received as it sends
 pub record IsTaken (link : Link) (x : Reception) : Type 0 where
   pub lengths : List ℕ
   pub said : tx_said link x.tx ≡ Ok lengths
@@ -67,7 +67,7 @@ record-at link list r inside =
     get_or-map-range_with_len (λ k. record_of (word_size link.graph link.plan) (hearings link list k)) 0 link.plan.c r r
     (record { first = []; clash = false }) inside (omega arith)
 
--- what a record keeps of a position: the first bit heard there, and nothing of one that the word lacks
+-- what a record keeps of a position: the first bit received there, and nothing of one that the word lacks
 pub first-inside : (n : ℕ) (hs : List Hearing) (p : ℕ) → p < n → first_at (record_of n hs) p ≡ first_heard hs p
 first-inside n hs p inside = get_or-map-range_with_len (first_heard hs) 0 n p p None inside (omega arith)
 
@@ -76,7 +76,7 @@ first-past n hs p past =
     let long : length (map (first_heard hs) (range_with_len 0 n)) ≤ p = omega (arith, length-map-range_with_len (first_heard hs) 0 n, past) in
     get_or_past (map (first_heard hs) (range_with_len 0 n)) p None long
 
--- nothing is kept where nothing was heard
+-- nothing is kept where nothing was received
 pub none_heard : (n p : ℕ) → first_at (record_of n []) p ≡ None
 unfolding first_heard
 none_heard n p = ⊎_elim (λ (low : p < n). first-inside n [] p low) (λ (high : n ≤ p). first-past n [] p high) (cases_lt p n)
@@ -142,7 +142,7 @@ explains-by_record matched at by_record link list block is accepted whole = (for
             (by_record (w r) (word_size link.graph link.plan) (hearings link list r) (hearings-below matched at link list r is accepted)).1
             (subst (λ (s : Heardbits). (s.clash ≡ false) × HasFirsts s (w r)) (record-at link list r inside) (by r inside))
 
--- a bit was heard, in other words
+-- a bit was received, in other words
 pub heard-some : (o : Option Bool) → is_heard o ≡ is_some o
 heard-some None = refl
 heard-some (Some b) = refl

@@ -45,7 +45,7 @@ pub said-fault : (c : ℕ) (tx : Tx) (e : RmFault) → tx.rv ≤ 3
 unfolding tx_said_of
 said-fault c tx e less said = let below : nat_le tx.rv 3 ≡ true = grind (arith, nat_tests) in rw (below, said)
 
--- none of that is want of memory
+-- none of that is `Memory`
 pub tx-never_memory : (c : ℕ) (tx : Tx) → tx_said_of c tx ≡ Err fault.Memory → ⊥
 unfolding tx_said_of
 tx-never_memory c tx =

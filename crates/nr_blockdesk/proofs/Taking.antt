@@ -138,7 +138,7 @@ piece-told parts owners t tx heard r rv qm together block =
 abbrev pub none-of : Link → Peeling
 none-of link = record { table = link.table; graph = link.graph; numbers = link.plan; given = []; known = []; bits = []; order = []; touches = 0 }
 
--- each code block's part of an accepted reception was heard
+-- each code block's part of an accepted reception was received
 abbrev pub AreHeard : Link → Tx → List ℕ → List Heard → List Heardbits → List Peeling → List Heardbits → List Peeling → Type 0
 AreHeard link tx lengths heard S P S' P' =
     (r : ℕ) (d : Peeling) → r < link.plan.c → HearsPart link.buffer tx (piece lengths heard r) (heard_of S r) (get_or P r d) (heard_of S' r) (get_or P' r d)
@@ -233,7 +233,7 @@ tx-from link x es said =
     let second = bind-ok (demanded fault.Length (length x.heard == x.tx.g)) _ es first.2 in
     first.1 ∙ second.2
 
--- nothing that is said of a reception is want of memory
+-- nothing that is said of a reception is `Memory`
 pub reception-never_memory : (c : ℕ) (x : Reception) → reception_said_of c x ≡ Err fault.Memory → ⊥
 reception-never_memory c x =
     never-bind (tx_said_of c x.tx) _ (tx-never_memory c x.tx)

@@ -129,7 +129,7 @@ module _ (b : Circular) (rv : ℕ) (marks bits : List Bool) (k position count no
       ∙ ap (λ t. first p v || (list_any f (range_with_len 0 k) || t)) (word-tells p v)
       ∙ ap (λ t. first p v || t) (sym (any-more f k count))
 
--- what is heard at a place, as a hearing, and whether it tells this bit of this position
+-- what is received at a place, as a hearing, and whether it tells this bit of this position
 told_by : ℕ → Bool → Option Hearing → Bool
 told_by p v None = false
 told_by p v (Some h) = (h.0 == p) && beq h.1 v

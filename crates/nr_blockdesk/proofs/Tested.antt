@@ -27,7 +27,7 @@ cons_all : {X : Type 0} (p : X → Bool) (o : Option X) (xs : List X) (b : Bool)
 cons_all p None xs b rest = rest
 cons_all p (Some x) xs b rest = ap (λ t. p x && t) rest
 
--- the same of what the numbers give
+-- a test of all that the numbers give is one of each number
 pub given_all : {X : Type 0} (f : ℕ → Option X) (p : X → Bool) (ns : List ℕ) → list_all p (filter_map f ns) ≡ list_all (λ m. holds_if p (f m)) ns
 given_all f p [] = refl
 given_all f p (n ∷ ns) = cons_all p (f n) (filter_map f ns) (list_all (λ m. holds_if p (f m)) ns) (given_all f p ns)

@@ -32,7 +32,7 @@ abbrev pub taken_as : {X : Type 0} → Result X DeskFault → Reception → Roun
 taken_as (Ok lengths) x round = record { link = round.link; list = round.list ++ x ∷ [] }
 taken_as (Err e) x round = round
 
--- the same, by what is said of the reception
+-- the round after a `take`, by what is said of the reception
 abbrev pub taken : Reception → Round → Round
 taken x round = taken_as (reception_said round.link x) x round
 
@@ -46,7 +46,7 @@ unfoldable pub round_from : Entries → Settings → ℕ → Option Round → Li
 round_from table settings p round [] = round
 round_from table settings p round (call ∷ calls) = round_from table settings p (after_call table settings p round call) calls
 
--- the same where no process had begun
+-- the round of process p after these calls, where no process had begun
 abbrev pub round_after : Entries → Settings → ℕ → List Call → Option Round
 round_after table settings p calls = round_from table settings p None calls
 

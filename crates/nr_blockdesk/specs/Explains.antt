@@ -16,7 +16,7 @@ pub record Reception : Type 0 where
   pub tx : Tx
   pub heard : List Heard
 
--- the same from its two parts
+-- a reception from its two parts
 abbrev pub reception : Tx → List Heard → Reception
 reception tx places = record { tx = tx; heard = places }
 
@@ -30,7 +30,7 @@ agrees heard.Zero b = not b
 agrees heard.One b = b
 agrees heard.Erased b = true
 
--- the same at every place
+-- what was received agrees with the bits at every place
 abbrev pub all_agree : List Heard → List Bool → Bool
 all_agree places bits = list_all (λ m. agrees (heard_at places m) (bit bits m)) (range_with_len 0 (length places))
 
@@ -48,11 +48,11 @@ hearing_said_of c tx n = do
   whole ← demanded fault.Length (n == tx.g)
   Ok lengths
 
--- the same of a reception
+-- E_r of each code block of a reception, or the first fault
 abbrev pub reception_said_of : ℕ → Reception → Result (List ℕ) DeskFault
 reception_said_of c x = hearing_said_of c x.tx (length x.heard)
 
--- the same over a link
+-- E_r of each code block of a reception over a link, or the first fault
 abbrev pub reception_said : Link → Reception → Result (List ℕ) DeskFault
 reception_said link x = reception_said_of link.plan.c x
 

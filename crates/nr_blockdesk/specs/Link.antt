@@ -1,5 +1,5 @@
--- Believed, with internal helpers: what both ends of a link agree on, and the codewords of a transport block (TS 38.212, 6.2.1 to 6.2.4 and 7.2.1 to
--- 7.2.4).
+-- Believed, with internal helpers: what both ends of a link agree on. And the codewords of a transport block (TS
+-- 38.212, 6.2.1 to 6.2.4 and 7.2.1 to 7.2.4).
 use Rattle.std.specs.Prelude.{◌≡◌, ℕ, ◌%◌, ◌<◌, ◌==◌, Bool, true, false, nat_le, ◌&&◌, Result, Ok, Err, List, length, map}
 use Rattle.std.specs.List.{range_with_len}
 use Rattle.nr_crcattach.specs.Attachment.{attached, attached_length}
@@ -25,8 +25,8 @@ abbrev pub demanded : {E : Type 0} → E → Bool → Result (Unit {0}) E
 demanded e true = Ok tt
 demanded e false = Err e
 
--- what both ends of a link agree on: the shift table, the base graph, the plan's numbers, A (how many bits a transport
--- block has), and the circular buffer of each code block
+-- what both ends agree on: the shift table, the base graph, the plan, A (bits of a transport block), and each code
+-- block's circular buffer
 pub record Link : Type 0 where
   pub table : Entries
   pub graph : Graph

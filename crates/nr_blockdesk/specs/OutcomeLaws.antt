@@ -39,7 +39,7 @@ pub record IsExact (link : Link) (list : List Reception) : Type 0 where
 abbrev pub OutcomesAreExact : Type 0
 OutcomesAreExact = (link : Link) (list : List Reception) → IsLink link → All (IsAccepted link) list → IsExact link list
 
--- The outcome settles: with more receptions it is never open again, a contradiction stays one, and where a transport
+-- The outcome settles: with more receptions it is never open again, and a contradiction stays one. Where a transport
 -- block was delivered it is delivered again or contradicted.
 pub record Settles (link : Link) (list more : List Reception) : Type 0 where
   pub never_open : outcome_of link list ≢ open_still → outcome_of link (list ++ more) ≢ open_still

@@ -55,8 +55,8 @@ part_hearings b tx heard n = filter_map (part_hearing b tx heard) (range_with_le
 abbrev pub piece : List ℕ → List Heard → ℕ → List Heard
 piece lengths heard r = take (slice_index lengths r) (drop (sum (take r lengths)) heard)
 
--- A code block's store and its peeler: what is given to the peeler is what was received, and the fillers, and each plain word with every first bit
--- has the bits that are known.
+-- A code block's store and its peeler. What is given to the peeler is what was received, and the fillers. Each plain
+-- word with every first bit has the bits that are known.
 pub record IsTied (link : Link) (s : Heardbits) (p : Peeling) : Type 0 where
   pub table : p.table ≡ link.table
   pub graph : p.graph ≡ link.graph
@@ -134,8 +134,8 @@ standing_after standing.Explains true = standing.Explains
 standing_after standing.Explains false = standing.Fails
 standing_after standing.Fails agreed = standing.Fails
 
--- what a receiver keeps: these, with room for a transport block with its CRC, b bits, a codeword a code block, and lists
--- for what a transmission tells of one
+-- What a receiver keeps: these, with room for a transport block with its CRC, b bits, and a codeword a code block. And
+-- lists for what a transmission tells of one.
 pub record IsReceiver (link : Link) (b : ℕ) (records : List Heardbits) (peelers : List Peeling) (block : BitList)
     (words : List (List Bool)) (standing : Standing) (told : Told) : Type 0 where
   pub is_link : IsLink link
@@ -146,8 +146,8 @@ pub record IsReceiver (link : Link) (b : ℕ) (records : List Heardbits) (peeler
   pub stands : Stands link records block.items words standing
   pub untold : IsUntold (word_size link.graph link.plan) told
 
--- hearings were received of a code block: the record is that of the longer list, store and peeler belong together again, no word fits that did not
--- before, and no visit of the peeler's is forgotten
+-- Hearings were received of a code block: the record is that of the longer list, and store and peeler belong together
+-- again. No word fits that did not before, and no visit of the peeler's is forgotten.
 pub record HearsAll (more : List Hearing) (s : Heardbits) (p : Peeling) (t : Heardbits) (q : Peeling) : Type 0 where
   pub recorded : (hs : List Hearing) → s ≡ record_of (length s.first) hs → t ≡ record_of (length s.first) (hs ++ more)
   pub tied : (link : Link) → IsTied link s p → IsTied link t q
@@ -163,7 +163,7 @@ abbrev pub Tells : Bool → (ℕ → Bool) → Heardbits → Heardbits → Type 
 Tells true w s t = Fits s w → Fits t w
 Tells false w s t = Fits t w → ⊥
 
--- the same of n code blocks, each with the word that is kept for it
+-- whether what was received from one record to the next agrees with the words kept for n code blocks
 abbrev pub AllTell : Bool → ℕ → List (List Bool) → List Heardbits → List Heardbits → Type 0
 AllTell true n words S T = (r : ℕ) → r < n → Fits (heard_of S r) (bit (word_at words r)) → Fits (heard_of T r) (bit (word_at words r))
 AllTell false n words S T = ((r : ℕ) → r < n → Fits (heard_of T r) (bit (word_at words r))) → ⊥

@@ -1,5 +1,5 @@
--- Believed, with internal helpers: the bits that are sent of a transport block (TS 38.212, 5.4.2 and 5.5), and which codeword bit stands at each
--- place of them.
+-- Believed, with internal helpers: the bits that are sent of a transport block (TS 38.212, 5.4.2 and 5.5). It says too
+-- which codeword bit stands at each place of them.
 use Rattle.std.specs.Prelude.{◌≡◌, ℕ, ◌%◌, ◌<◌, Bool, nat_le, Result, Ok, Err, IsOk, List, [], length, flat_map, All, sum, slice_index}
 use Rattle.std.specs.List.{range_with_len}
 use Rattle.nr_bitvec.specs.Bit.{bit}
@@ -21,7 +21,7 @@ tx_said_of c tx = do
   version ← demanded fault.Rv (nat_le tx.rv 3)
   with_fault fault.Rm (lengths_said (scheduled tx.mask) c tx.g tx.qm tx.nl)
 
--- the same over a link
+-- E_r of each code block of a link's transmission, or its first fault
 abbrev pub tx_said : Link → Tx → Result (List ℕ) DeskFault
 tx_said link tx = tx_said_of link.plan.c tx
 
@@ -37,11 +37,11 @@ abbrev pub answered : Result (List ℕ) DeskFault → List ℕ
 answered (Ok lengths) = lengths
 answered (Err e) = []
 
--- the same of a transmission, for these lengths
+-- how a transmission with these lengths matches its rate
 abbrev pub matching_of : Circular → Tx → List ℕ → Matching
 matching_of buffer tx lengths = record { buffer = buffer; rv = tx.rv; qm = tx.qm; lengths = lengths }
 
--- the same of a transmission over a link
+-- how a transmission over a link matches its rate
 abbrev pub matching : Link → Tx → Matching
 matching link tx = matching_of link.buffer tx (answered (tx_said link tx))
 
@@ -118,7 +118,7 @@ pub record IsBitAt (t : Matching) (m : ℕ) : Type 0 where
 abbrev pub SentBitsAreAt : Type 0
 SentBitsAreAt = (t : Matching) (m : ℕ) → IsMatching t → m < sum t.lengths → IsBitAt t m
 
--- the same by code blocks: what stands at place p of code block r's part of the sent bits
+-- what stands at place p of code block r's part of the sent bits, which is place m of all
 abbrev pub PartsAreAt : Type 0
 PartsAreAt = (t : Matching) (m r p : ℕ) → IsOwner t.lengths m r p
     → (block_at t m ≡ r) × (position_at t m ≡ place_of t.buffer t.rv (seat_of t.qm (slice_index t.lengths r) p))

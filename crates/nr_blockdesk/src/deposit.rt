@@ -1,5 +1,5 @@
-//! What a code block's part of a transmission tells, put together by words: by runs of the circular buffer, whose places
-//! stand one after another in the codeword.
+//! What a code block's part of a transmission tells, put together by words. It goes by runs of the circular buffer,
+//! whose places stand one after another in the codeword.
 
 ghost use Rattle.std.specs.Prelude.{◌≡◌, ℕ, ◌*◌, ◌<◌, length, IsFalse, IsTrue, Bool};
 ghost use Rattle.std.specs.List.{list_any, range_with_len};

@@ -33,8 +33,8 @@ fn tail_bit(plan: &Plan, check: u32, k: u32) -> bool
     }
 }
 
-// Encodes code block `r` of a transport block with its CRC: both ends of a link do it by this call (TS 38.212, 5.2.2 and
-// 5.3.2). Takes no memory.
+// Encodes code block `r` of a transport block with its CRC (TS 38.212, 5.2.2 and 5.3.2). Both ends of a link do it by
+// this call. Takes no memory.
 pub(crate) fn encode_into(table: &Table, plan: &Plan, attached: &Bits, r: u32, word: &mut Word)
     requires graph { IsTrue (has_graph plan.now.graph table.now) }
     requires whole { length attached.now.items ≡ plan.now.b }

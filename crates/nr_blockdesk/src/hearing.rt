@@ -1,4 +1,4 @@
-//! Receiving one transmission: what it tells of a code block is put together first, and then the store and the peeler
+//! Receiving one transmission. What it tells of a code block is put together first, and then the store and the peeler
 //! receive all of it at once.
 
 ghost use Rattle.std.specs.Prelude.{◌≡◌, ℕ, ◌*◌, ◌%◌, ◌^◌, ◌<◌, ◌≤◌, length, slice_index, slice_index_or, List, IfOk, MatchResult, Ok, Err};
@@ -125,7 +125,7 @@ fn learn_told(told: &mut Told, peeler: &mut Peeler<'_>)
     told.heard.zero();
 }
 
-// The same place by place: what is received for the first time is told, and then learned at once.
+// Receives a part place by place: what is received for the first time is told, and then learned at once.
 fn hear_by_places(
     buffer: &Buffer,
     tx: &Tx,

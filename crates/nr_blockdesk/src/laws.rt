@@ -16,8 +16,8 @@ use nr_ldpcenc::codewords_are_plain;
 use nr_ratematch::{buffers_are_circular, lengths_are_shared, places_are_sent};
 use nr_segment::code_blocks_are_long;
 
-/// Law: what `link_said` returns for an accepted table is a sound link: its plan is that of the transport block with
-/// its CRC, the table has its base graph, and its circular buffer is one of the plan's (TS 38.212, 5.4.2.1).
+/// Law: what `link_said` returns for an accepted table is a sound link. Its plan is that of the transport block with
+/// its CRC, and the table has its base graph. Its circular buffer is one of the plan's (TS 38.212, 5.4.2.1).
 pub fn links_are_sound()
     ensures { LinksAreSound }
 {
@@ -53,8 +53,8 @@ pub fn accepted_send_all()
     lengths_are_shared();
 }
 
-/// Law: each place of the sent bits has a bit of one code block's codeword, at a position that is neither punctured
-/// nor a filler (TS 38.212, 5.4.2 and 5.5).
+/// Law: each place of the sent bits has a bit of one code block's codeword (TS 38.212, 5.4.2 and 5.5). Its position is
+/// neither punctured nor a filler.
 pub fn sent_bits_are_at()
     ensures { SentBitsAreAt }
 {

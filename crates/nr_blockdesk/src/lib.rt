@@ -1,9 +1,13 @@
 //! Both ends of a link that carries transport blocks by NR's data coding chain (3GPP TS 38.212, Release 15: 6.2 and
-//! 7.2). A `Sender` encodes a transport block once and sends its bits for any transmission: `send` returns `sent` of
-//! the block and the transmission (specs/Sent.antt), whatever was sent before. A `Receiver` keeps the record of all
-//! that arrived (specs/Heard.antt), and `take` returns its outcome (specs/Outcome.antt): a delivered block is the only
-//! one possible. `take_marks` is the same of places as two lists of bits (specs/Marks.antt). Stands on every layer
-//! below it, with `arrayvec` for the lengths.
+//! 7.2). `send` of a `Sender` returns `sent` of the block and the transmission (specs/Sent.antt), whatever was sent
+//! before. `take` of a `Receiver` returns the outcome of all that was received (specs/Outcome.antt). A delivered block
+//! is the only one possible.
+//!
+//! Inside, a `Sender` encodes its block once, and a `Receiver` keeps the record of all that arrived (specs/Heard.antt).
+//! `take_marks` takes places as two lists of bits (specs/Marks.antt). Stands on every layer below it, with `arrayvec`
+//! for the lengths.
+//!
+//! Used by nr_calls and nr_c for the library, by nr_linkcommands and linksim for the program, and by example_link.
 #![tactic(auto)]
 
 mod candidate;

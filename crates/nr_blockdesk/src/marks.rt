@@ -27,8 +27,8 @@ pub(crate) fn marks_of(alloc: Global, places: &[Heard]) -> Result<(Bits, Bits), 
     Ok((heard, value))
 }
 
-// The same of `count` places from place `from` on, the first lowest. Which they are is not branched on, since no processor
-// foresees it.
+// Marks and bits of `count` places from place `from` on, the first lowest. Which they are is not branched on, since no
+// processor foresees it.
 fn gather(places: &[Heard], from: usize, count: usize) -> (u64, u64)
     requires count { count ≤ 64 }
     requires inside { from + count ≤ length places.now }

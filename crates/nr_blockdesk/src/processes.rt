@@ -107,8 +107,8 @@ impl<'t> Processes<'t> {
         self.places[p as usize].as_ref()
     }
 
-    /// Process `p`, 0 to 15, which must have begun, receives a transmission, place by place, and returns what may be
-    /// handed up of all that it received since it last began (TS 38.212, 5.4.2 and 5.5).
+    /// Process `p`, 0 to 15, which must have begun, receives a transmission, place by place (TS 38.212, 5.4.2 and 5.5).
+    /// Returns what may be handed up of all that it received since it last began.
     ///
     /// # Errors
     ///

@@ -40,9 +40,10 @@ use std::marker::Model;
 
 /// The receiver of one transport block: it keeps the first bit received of each position of each code block, and what
 /// follows from them. From where every position below K' is known it keeps the codewords of the one transport block
-/// that may explain all: a bit more for each position. What a transmission tells of a code block is put together in two
-/// bits for each position of one. It keeps its allocator. `new` takes all memory but that of a delivered transport
-/// block, and but two bits a place of a transmission's longest code block; `take` asks for two bits a place of all.
+/// that may explain all. That is a bit more for each position. What a transmission tells of a code block is put
+/// together in two bits for each position of one. It keeps its allocator. `new` takes all memory but that of a
+/// delivered transport block, and but two bits a place of a transmission's longest code block; `take` asks for two bits
+/// a place of all.
 #[derive(Drop)]
 pub struct Receiver<'t> {
     table: &'t Table,
@@ -132,11 +133,12 @@ impl<'t> Receiver<'t> {
         })
     }
 
-    /// Receives a transmission, code block by code block, and returns what may be handed up of all that was received so
-    /// far (TS 38.212, 5.4.2 and 5.5): for every list of receptions of which `heard` is the record. A transport block
-    /// is delivered only where it explains all that arrived, and no other one does. When every position below K' is
-    /// known for the first time, that block is encoded and compared with all that was received; a later call compares
-    /// only the bits that it receives. So it costs its G places, the peelers' visits, and a copy of the block.
+    /// Receives a transmission, code block by code block (TS 38.212, 5.4.2 and 5.5). Returns what may be handed up of
+    /// all that was received so far. This holds for every list of receptions of which `heard` is the record. A
+    /// transport block is delivered only where it explains all that arrived, and no other one does. When every position
+    /// below K' is known for the first time, that block is encoded and compared with all that was received; a later
+    /// call compares only the bits that it receives. So it costs its G places, the peelers' visits, and a copy of the
+    /// block.
     ///
     /// # Errors
     ///
@@ -233,7 +235,7 @@ impl<'t> Receiver<'t> {
         }
     }
 
-    // The same where every position below K' is known: reads the transport block, and keeps its codewords.
+    // What may be handed up where every position below K' is known: reads the transport block, and keeps its codewords.
     fn read(&mut self, list: Bits) -> Outcome
         requires long { length list.items ≡ self.old.link.a }
         requires all { all_fixed self.old.link self.old.heard ≡ true }

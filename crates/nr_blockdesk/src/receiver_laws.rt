@@ -34,8 +34,8 @@ pub fn explains_by_record()
     fits_by_record();
 }
 
-/// Law: two transport blocks that explain all that arrived have the same bits in their codewords wherever the parity
-/// rows, applied one unknown at a time, fix a position from what was received.
+/// Law: two transport blocks that explain all that arrived have the same bits in their codewords wherever a position is
+/// fixed. The parity rows fix it from what was received, applied one unknown at a time.
 pub fn explainers_agree()
     ensures { ExplainersAgree }
 {
@@ -100,8 +100,8 @@ pub fn nothing_leaves_all()
 }
 
 /// Law: what `Sender::new` and `Receiver::new` return for one table, one setting and blocks of one size are two ends of
-/// one link: the receiver takes all that arrives of the sender's transmissions, and over a link that only erases what
-/// is delivered is the sender's transport block, and there is no contradiction.
+/// one link. The receiver takes all that arrives of the sender's transmissions. Over a link that only erases, what is
+/// delivered is the sender's transport block, and there is no contradiction.
 pub fn ends_are_safe()
     ensures { EndsAreSafe }
 {
@@ -110,8 +110,8 @@ pub fn ends_are_safe()
     erasures_are_safe();
 }
 
-/// Law: a transport block is delivered exactly where every position below K' is fixed and it explains all that arrived;
-/// the outcome is open exactly where some position below K' is not fixed, and a contradiction exactly where all are
+/// Law: a transport block is delivered exactly where every position below K' is fixed and it explains all that arrived.
+/// The outcome is open exactly where some position below K' is not fixed. It is a contradiction exactly where all are
 /// fixed and no transport block explains all that arrived.
 pub fn outcomes_are_exact()
     ensures { OutcomesAreExact }

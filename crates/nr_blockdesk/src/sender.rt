@@ -29,7 +29,7 @@ use nr_transmission::{DeskFault, Settings, Tx};
 use std::alloc::{AllocError, Global};
 use std::marker::Model;
 
-/// The sender of one transport block: it keeps the codeword of each code block, and sends bits of them as often as it
+/// The sender of one transport block. It keeps the codeword of each code block, and sends bits of them as often as it
 /// is asked to. It keeps its allocator.
 #[derive(Drop)]
 pub struct Sender<'t> {
@@ -58,8 +58,8 @@ impl<'t> Model for Sender<'t> {
 }
 
 impl<'t> Sender<'t> {
-    /// The sender of a transport block, with the parity checks of a table. The block gets its CRC, is cut into code
-    /// blocks, and each of these is encoded, once (TS 38.212, 6.2.1 to 6.2.4 and 7.2.1 to 7.2.4).
+    /// The sender of a transport block, with the parity checks of a table. The block gets its CRC and is cut into code
+    /// blocks. Each of these is encoded once (TS 38.212, 6.2.1 to 6.2.4 and 7.2.1 to 7.2.4).
     ///
     /// # Errors
     ///
@@ -90,9 +90,9 @@ impl<'t> Sender<'t> {
         })
     }
 
-    /// The bits that a transmission sends: of each code block E_r bits, selected from the redundancy version's start
-    /// on and interleaved, one code block after the other (TS 38.212, 5.4.2 and 5.5). They do not depend on what was
-    /// sent before.
+    /// The bits that a transmission sends (TS 38.212, 5.4.2 and 5.5). They are E_r bits of each code block, selected
+    /// from the redundancy version's start on and interleaved, one code block after the other. They do not depend on
+    /// what was sent before.
     ///
     /// # Errors
     ///

@@ -22,7 +22,7 @@ use nr_cbconcat::places_have_one_owner;
 use nr_transmission::{DeskFault, Tx};
 
 impl<'t> Receiver<'t> {
-    /// `take` of places as two lists of bits, of one length: those at which a bit was received are marked in `heard`,
+    /// `take` of places as two lists of bits, of one length. Those at which a bit was received are marked in `heard`,
     /// and their bits stand in `value`. The bits of erased places may be whatever they are.
     ///
     /// # Errors

@@ -1,4 +1,4 @@
--- The code blocks so far have heard their parts, and the others nothing yet.
+-- The code blocks so far have received their parts, and the others nothing yet.
 use Rattle.std.proofs.Common.{◌≡◌, ℕ, ◌*◌, ◌<◌, ◌≤◌, length, take, sum, slice_index_or}
 use Rattle.nr_graphpick.specs.Graph.{cols_of}
 use Rattle.nr_peel.specs.Peeling.{Peeling}

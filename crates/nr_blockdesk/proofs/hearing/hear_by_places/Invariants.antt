@@ -1,4 +1,5 @@
--- The places so far are heard, what is told is what the store has now and had not, and the word was compared with it.
+-- The places so far are received, what is told is what the store has now and had not, and the word was compared with
+-- it.
 use Rattle.std.proofs.Common.{◌≡◌, ℕ, ◌*◌, Bool, List, ◌++◌, length}
 use Rattle.nr_bitvec.specs.Bit.{bit}
 use Rattle.nr_graphpick.specs.Graph.{cols_of}
