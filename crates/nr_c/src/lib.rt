@@ -1,9 +1,12 @@
-//! The data coding chain of NR's shared channels (3GPP TS 38.212, Release 15) for callers in C: a static library. Each
-//! export returns a status, 0 or the number of its first fault (nr_calls/specs/Statuses.antt), and has no `requires`:
-//! its body in nr_calls tests all that it is given, and what it writes is a stated function of that; a refusal writes
-//! nothing. A slice is a pointer and a length, a `Global` no argument. A shift table is entries that the caller keeps.
-//! That no memory outlives a call is tested, by tests/c-library. The main contracts are those of `nr_send` and
-//! `nr_receive`. Stands on nr_calls, which has the bodies.
+//! The data coding chain of NR's shared channels (3GPP TS 38.212, Release 15) for callers in C. Each export returns a
+//! status, 0 or the number of its first fault (nr_calls/specs/Statuses.antt), and has no `requires`. What it writes is
+//! a stated function of all that it is given, and a refusal writes nothing. The main contracts are those of `nr_send`
+//! and `nr_receive`. That no memory outlives a call is tested, by tests/c-library.
+//!
+//! Inside are the exports of a static library, whose bodies are nr_calls'. A slice is a pointer and a length, a
+//! `Global` no argument. A shift table is entries that the caller keeps.
+//!
+//! Used by `c/`, which makes of it the library that C, C++, Rust, Octave and Python link.
 #![tactic(auto)]
 
 ghost use Rattle.std.specs.Prelude.{◌≡◌, ◌<◌, false, length};
