@@ -1,8 +1,12 @@
-//! The calls for C of the data coding chain of NR's shared channels (3GPP TS 38.212, Release 15): the bodies of nr_c's
-//! exports, in a library of their own, since a static library costs more in every check. Each call returns a status, 0
-//! or the number of its first fault (specs/Statuses.antt), and has no `requires`: it tests all that it is given, and
-//! what it writes is a stated function of that; a refusal writes nothing. The main contracts are those of `nr_send` and
-//! `nr_receive`. Stands on nr_blockdesk for both ends of a link, and on the layers below it.
+//! The calls for C of the data coding chain of NR's shared channels (3GPP TS 38.212, Release 15). Each returns a
+//! status, 0 or the number of its first fault (specs/Statuses.antt), and has no `requires`, since it tests all that it
+//! is given. What it writes is a stated function of that, and a refusal writes nothing. The main contracts are those of
+//! `nr_send` and `nr_receive`.
+//!
+//! Inside are the bodies of nr_c's exports. They are a library of their own, since a static library costs more in every
+//! check. Stands on nr_blockdesk for both ends of a link, and on the layers below it.
+//!
+//! Used by nr_c alone.
 #![tactic(auto)]
 
 mod coded;
