@@ -1,7 +1,10 @@
-//! The concatenation of code blocks (TS 38.212, 5.5). `append` puts the bits of a code block behind
-//! those before it, and `owner` says whose bit stands at a place of the joined list. Their
-//! contracts say the joined list, and cite `IsOwner` of specs/Concatenation.antt; the law is that
-//! each place has one owner. Stands on `nr_bitvec`.
+//! The concatenation of code blocks (TS 38.212, 5.5). The contracts say the joined list, and cite `IsOwner` of
+//! specs/Concatenation.antt. Each place of the list has one owner, by a law.
+//!
+//! Inside, `append` puts the bits of a code block behind those before it, and `owner` says whose bit stands at a place.
+//! Stands on `nr_bitvec`.
+//!
+//! Used by nr_blockdesk.
 #![tactic(auto)]
 
 ghost use Rattle.std.specs.Prelude.{◌≡◌, ◌+◌, ◌^◌, ◌<◌, ◌≤◌, ◌++◌, length, sum, OnOk, OnErr};
