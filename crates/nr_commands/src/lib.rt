@@ -1,8 +1,12 @@
-//! Where the text of a command goes, the lines of blocks, and the two commands over one file: `cut` shows what TS 38.212
-//! makes of each transport block up to its code blocks (6.2.1 to 6.2.3, 7.2.1 to 7.2.3), `check` judges a shift table.
-//! Their contract: at `Ok` the text that `cut_said` or `check_said` gives of the file's octets was written; a refusal
-//! writes nothing, and the fault is theirs; a failing `Sink` has a first part of the text (specs/Command.antt).
-//! Stands on nr_files for what is read, nr_transmission and the layers below it for the standard, `thiserror` for faults.
+//! The two commands over one file, and where the text of a command goes. At `Ok` the text that `cut_said` or
+//! `check_said` gives of the file's octets was written. A refusal writes nothing, and the fault is theirs. A failing
+//! `Sink` has a first part of the text (specs/Command.antt).
+//!
+//! Inside, `cut` shows what TS 38.212 makes of each transport block up to its code blocks (6.2.1 to 6.2.3, 7.2.1 to
+//! 7.2.3). `check` judges a shift table. A `Sink` takes the text, and `write_blocks` the lines of blocks. Stands on
+//! nr_files for what is read, nr_transmission and the layers below it for the standard, `thiserror` for faults.
+//!
+//! Used by nr_linkcommands, nr_ends and linksim.
 #![tactic(auto)]
 
 mod check_lines;
