@@ -1,8 +1,10 @@
-//! The cyclic redundancy checks of NR (TS 38.212, 5.1) and their attachment to transport blocks
-//! (6.2.1, 7.2.1) and to code blocks (5.2.2). A list of bits is a polynomial, its first bit the
-//! highest coefficient. The main contract is that of `attach`, the list with its parity bits behind
-//! it (specs/Attachment.antt), which are the remainder of that polynomial (specs/Crc.antt);
-//! `attachment_divides` is the law that what was attached leaves 0. Stands on `nr_bitvec`.
+//! The cyclic redundancy checks of NR (TS 38.212, 5.1) and their attachment to transport blocks (6.2.1, 7.2.1) and to
+//! code blocks (5.2.2). `attach` returns the list with its parity bits behind it (specs/Attachment.antt). They are the
+//! remainder of a polynomial (specs/Crc.antt). The law `attachment_divides` says that what was attached leaves 0.
+//!
+//! Inside, a list of bits is a polynomial, its first bit the highest coefficient. Stands on `nr_bitvec`.
+//!
+//! Used by nr_segment, nr_blockdesk, nr_calls, nr_commands and nr_linkcommands.
 #![tactic(auto)]
 
 ghost use Rattle.nr_crcattach.specs.Attachment.{AttachedBlocksDivide, CheckedListsDivide, BlocksLengthen, CheckedListsLengthen, LongBlocksLengthen, ShortBlocksLengthen, attached, attached_length, length_poly, with_check};
@@ -222,7 +224,7 @@ pub fn attachment_lengthens()
     ensures short { ShortBlocksLengthen }
 {}
 
-/// The laws of sums: a sum times D is the sum of both times D, and one more power of D is the remainder times D. The
+/// The laws of sums: a sum times D is the sum of both times D. One more power of D is the remainder times D. The
 /// remainder of two lists joined is the sum of both, the first's raised by as many powers as the second has bits.
 pub fn residues_add()
     ensures sum { TimesDIsAdditive }
