@@ -1,9 +1,13 @@
-//! What the files of the commands say: transport blocks, settings, and a schedule of transmissions with the places that
-//! the link erases or flips; and the rounds of a schedule's HARQ processes.
-//! `read_blocks`, `read_settings` and `read_schedule` read a file to its end: their clause `said` gives `blocks_said`,
-//! `settings_said` and `schedule_said` of its octets (specs/), and the clause `pulled` a failed pull.
-//! Stands on nr_transmission for `Tx` and `Settings`, on nr_ratematch for masks, nr_bitvec for marks of places and nr_shifttable
-//! for `Source`, with `csv` and `toml` for the files, `rand_pcg` for drawn erasures and `thiserror` for faults.
+//! What the files of the commands say. `read_blocks`, `read_settings` and `read_schedule` read a file to its end. Their
+//! clause `said` gives `blocks_said`, `settings_said` and `schedule_said` of its octets (specs/), and the clause
+//! `pulled` a failed pull.
+//!
+//! Inside are the formats of transport blocks, of settings, and of a schedule of transmissions. A schedule has the
+//! places that the link erases or flips, and the rounds of its HARQ processes. Stands on nr_transmission for `Tx` and
+//! `Settings`, nr_ratematch for masks, nr_bitvec for marks of places and nr_shifttable for `Source`. `csv` and `toml`
+//! read the files, `rand_pcg` draws erasures, and `thiserror` words the faults.
+//!
+//! Used by nr_commands, nr_linkcommands, nr_ends and linksim.
 #![tactic(auto)]
 
 mod blocks;
