@@ -25,8 +25,8 @@ abbrev pub digits_of : Graph → List ℕ
 digits_of One = codes "1"
 digits_of Two = codes "2"
 
--- A transport block of `a` bits at the code rate rate/2048 takes base graph 2 (TS 38.212, 6.2.2 and 7.2.2). That is
--- where it has at most 292 bits, or at most 3824 and the rate is at most 0.67, or the rate is at most 0.25.
+-- Base graph 2 is taken up to 292 bits, up to 3824 at a rate up to 0.67, or at one up to 0.25. A transport block has
+-- `a` bits, and the code rate is rate/2048 (TS 38.212, 6.2.2 and 7.2.2).
 abbrev pub takes_two : ℕ → ℕ → Bool
 takes_two a rate = nat_le a 292 || (nat_le a 3824 && nat_le (100 * rate) 137216) || nat_le (4 * rate) 2048
 
