@@ -1,9 +1,11 @@
-//! The bit interleaver of TS 38.212, 5.4.2.2.
-//! `spread` and `spread_onto` put the selected bits of a code block in the order in which they are sent, `unspread_into`
-//! puts them back, and `seat` says which of them stands at a place. Their contracts cite specs/Interleaving.antt, which
-//! has the standard's index and the whole list.
-//! Law: where the number of bits is a multiple of Qm, each bit is taken once.
-//! Stands on nr_bitvec; of these calls `spread` alone takes memory.
+//! The bit interleaver of TS 38.212, 5.4.2.2. Contracts cite specs/Interleaving.antt, which has the standard's index
+//! and the whole list. Where the number of bits is a multiple of Qm, each bit is taken once, by a law.
+//!
+//! Inside, `spread` and `spread_onto` put the selected bits of a code block in the order in which they are sent.
+//! `unspread_into` puts them back, and `seat` says which of them stands at a place. Of these calls `spread` alone takes
+//! memory. Stands on nr_bitvec.
+//!
+//! Used by nr_blockdesk.
 #![tactic(auto)]
 
 ghost use Rattle.std.specs.Prelude.{◌≡◌, ◌+◌, ◌%◌, ◌<◌, ◌≤◌, ◌++◌, length, take, drop, IfOk};
