@@ -1,5 +1,5 @@
-//! The columns of blocks of a word, each twice in a row and twelve words from the one before. And the sums of a row of
-//! blocks over them.
+//! The columns of blocks of a word, each twice in a row, and the sums of a row of blocks over them. A column begins
+//! twelve words from the one before.
 
 ghost use Rattle.std.specs.Prelude.{◌≡◌, ℕ, ◌+◌, ◌*◌, ◌<◌, ◌≤◌, ◌==◌, length};
 ghost use Rattle.nr_bitvec.specs.Bit.{◌⊕◌, bit};

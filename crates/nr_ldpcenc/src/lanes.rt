@@ -1,5 +1,5 @@
-//! Blocks of as many bits as a lifting size in words of 64. And blocks that stand twice in a row, so that each rotation
-//! of one stands in one piece.
+//! Blocks of as many bits as a lifting size in words of 64, and blocks that stand twice in a row. So each rotation of
+//! one stands in one piece.
 
 ghost use Rattle.std.specs.Prelude.{◌≡◌, ℕ, ◌+◌, ◌*◌, ◌/◌, ◌%◌, ◌^◌, ◌<◌, ◌≤◌, ◌==◌, length, slice_index_or};
 ghost use Rattle.nr_bitvec.specs.Bit.{bit};

@@ -1,8 +1,12 @@
 //! The LDPC codewords of NR (3GPP TS 38.212, 5.3.2), for every accepted shift table and each of the 51 lifting sizes.
-//! A `Word` has a place for each column of the parity-check matrix, the two punctured columns among them.
-//! Its rows are specs/Rows.antt: sums of the word over a matrix of rotated identities, and never the order in which
-//! an encoder solves them.
+//! The codeword is the one word that begins with the code block's bits and meets every row (specs/Codeword.antt). The
+//! rows are sums of the word over a matrix of rotated identities (specs/Rows.antt), and never the order in which an
+//! encoder solves them.
+//!
+//! Inside, a `Word` has a place for each column of the parity-check matrix, the two punctured columns among them.
 //! Stands on nr_bitvec, nr_lifting, nr_graphpick, nr_segment and nr_shifttable, with `thiserror` for the fault.
+//!
+//! Used by nr_ratematch, nr_peel, nr_blockdesk, nr_calls and nr_linkcommands.
 #![tactic(auto)]
 
 mod columns_twice;

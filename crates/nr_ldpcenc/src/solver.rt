@@ -1,6 +1,6 @@
 //! The parity columns of a word, solved one after another. The first comes from the sum of the four core rows, in which
-//! all else cancels, each later one from the row that it is the last of. A row's sum stays in words from its first
-//! entry to its last.
+//! all else cancels. Each later one comes from the row that it is the last of. A row's sum stays in words from its
+//! first entry to its last.
 
 ghost use Rattle.std.specs.Prelude.{◌≡◌, ℕ, ◌+◌, ◌*◌, ◌<◌, ◌≤◌, ◌==◌, false, length, take, unwrap_or, IsTrue};
 ghost use Rattle.nr_bitvec.specs.Bit.{bit};
