@@ -54,7 +54,7 @@ written_lane z i G ws old h all above below = record {
 
 -- ---- one word of a sum, and of a count
 
--- A word of a lane, and the word of a rotated block that meets it: below place z each has the places of its list, and
+-- A word of a lane, and the word of a rotated block that meets it. Below place z each has the places of its list, and
 -- past it zeros.
 module _ (z i p now turned : ℕ) (ws src : List ℕ) (kept : now ≡ get_or ws i 0) (clear : IsClear ws z)
     (is : IsTurnedWord z src i p turned) (none : (j : ℕ) → z ≤ 64 * i + j → bit_at turned j ≡ 0) (j : ℕ) (short : j < 64) where

@@ -13,7 +13,7 @@ mod_small n z h = mod-eq_of_lt h
 pub mod_once : (n z : ℕ) → z ≤ n → n < z + z → n % z ≡ n - z
 mod_once n z h k = mod-eq-sub-mod h ∙ mod_small (n - z) z (omega (arith, h, k))
 
--- The word from the place on and the word of the wrapped places make up the rotated word: where one has a bit, the
+-- The word from the place on and the word of the wrapped places make up the rotated word. Where one has a bit, the
 -- other has a zero.
 pub turned : (ws : List ℕ) (z t p first wrapped : ℕ) → t < z → p < z → IsClear ws z
     → first ≡ place ws (t + p) → (t < z - p → wrapped ≡ 0) → (z - p ≤ t → wrapped ≡ place ws (t - (z - p)))

@@ -1,4 +1,4 @@
--- Blocks of z bits that are rotated by a shift and added to others, or counted with others.
+-- Believed: blocks of z bits that are rotated by a shift and added to others, or counted with others.
 use Rattle.std.specs.Prelude.{◌≡◌, ℕ, ◌+◌, ◌%◌, ◌<◌, ◌≤◌, Bool, ◌&&◌, ◌||◌, List, length, IsTrue}
 use Rattle.nr_bitvec.specs.Bit.{◌⊕◌, bit}
 use Rattle.nr_lifting.specs.Sizes.{is_in, sizes}
@@ -20,7 +20,7 @@ pub record GainsBlock (z : ℕ) (new old : List Bool) (at : ℕ) (src : List Boo
   pub after : (t : ℕ) → at + z ≤ t → bit new t ≡ bit old t
   pub long : length new ≡ length old
 
--- Of the first z places, `ones` tells which have been set once or more, and `more` which twice or more: both are
+-- Of the first z places, `ones` tells which have been set once or more, and `more` which twice or more. Both are
 -- brought up to date with one more block, that of `src` from bit `from` on, rotated by p. No other bit is another.
 pub record TalliesBlock (z : ℕ) (ones ones_old more more_old src : List Bool) (from p : ℕ) : Type 0 where
   pub ones_at : (t : ℕ) → t < z → bit ones t ≡ bit ones_old t || turned_bit z src from p t

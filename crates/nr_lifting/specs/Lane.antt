@@ -1,4 +1,4 @@
--- Lanes: z bits in w words of 64 places.
+-- Believed, with internal helpers: lanes, which are z bits in w words of 64 places.
 use Rattle.std.specs.Prelude.{◌≡◌, ℕ, ◌+◌, ◌-◌, ◌*◌, ◌%◌, ◌<◌, ◌≤◌, min, max, Bool, ◌&&◌, ◌||◌, List}
 use Rattle.std.specs.Int.{bit_at}
 use Rattle.nr_bitvec.specs.Bit.{◌⊕◌, bit}

@@ -1,4 +1,5 @@
--- Counts that are kept as bit planes: word b of a group has bit b of each of 64 counts.
+-- Believed, with internal helpers: counts that are kept as bit planes. Word b of a group has bit b of each of 64
+-- counts.
 use Rattle.std.specs.Prelude.{◌≡◌, ℕ, zero, suc, ◌+◌, ◌*◌, ◌/◌, ◌%◌, ◌^◌, ◌<◌, ◌≤◌, List, [], length, map, slice_index_or}
 use Rattle.std.specs.Int.{bit_at}
 use Rattle.std.specs.List.{range_with_len}

@@ -1,5 +1,5 @@
--- Rings: blocks of z bits that stand twice over, from place 0 and from place z on, so that every rotation of the block
--- stands in one piece.
+-- Believed, with internal helpers: rings, which are blocks of z bits that stand twice over, from place 0 and from place
+-- z on. So every rotation of the block stands in one piece.
 use Rattle.std.specs.Prelude.{◌≡◌, ℕ, zero, suc, ◌+◌, ◌*◌, ◌/◌, ◌%◌, ◌^◌, ◌<◌, ◌≤◌, ◌==◌, ◌&&◌, max, Bool, if◌then◌else◌, List, [], length, map, slice_index_or}
 use Rattle.std.specs.List.{range_with_len}
 use Rattle.nr_bitvec.specs.Packed.{place, IsClear}

@@ -10,8 +10,8 @@ use crate::tally::{tally_0, tally_1, tally_2, tally_3, tally_4, tally_5, tally_6
 use nr_bitvec::Bits;
 
 /// Adds to the `z` bits of `acc` from bit `at` on, modulo two, the `z` bits of `src` from bit `from` on, rotated by
-/// `p`: bit t gains bit (t + p) mod z, so a block times a shifted identity matrix is added up (TS 38.212, 5.3.2).
-/// Takes no memory.
+/// `p`. Bit t gains bit (t + p) mod z, so a block times a shifted identity matrix is added up (TS 38.212, 5.3.2). Takes
+/// no memory.
 pub fn add_block(z: usize, acc: &mut Bits, at: usize, src: &Bits, from: usize, p: usize)
     requires size { IsSize z }
     requires place { at + z ≤ length acc.old.items }
@@ -33,9 +33,9 @@ pub fn add_block(z: usize, acc: &mut Bits, at: usize, src: &Bits, from: usize, p
     }
 }
 
-/// Counts a rotated block among others, as far as twice: with u the bit (t + p) mod z of the `z` bits of `src` from
-/// bit `from` on, bit t of `more` is set where bit t of `ones` and u are, and then bit t of `ones` where u is, for
-/// each t below `z`. Takes no memory.
+/// Counts a rotated block among others, as far as twice. Let u be the bit (t + p) mod z of the `z` bits of `src` from
+/// bit `from` on, for each t below `z`. Bit t of `more` is set where bit t of `ones` and u are, and then bit t of
+/// `ones` where u is. Takes no memory.
 pub fn tally_block(z: usize, ones: &mut Bits, more: &mut Bits, src: &Bits, from: usize, p: usize)
     requires size { IsSize z }
     requires ones { z ≤ length ones.old.items }

@@ -10,8 +10,8 @@ use nr_bitvec::Bits;
 use nr_bitvec::words::{low_bits, window};
 use std::marker::Model;
 
-/// A lane of `Z` bits, which keeps 64 of them in a word: a row block of the code at lifting size `Z`, or a column of
-/// one. `W` is the number of words, the least that holds `Z` bits.
+/// A lane of `Z` bits, which keeps 64 of them in a word. It is a row block of the code at lifting size `Z`, or a column
+/// of one. `W` is the number of words, the least that holds `Z` bits.
 #[derive(Drop)]
 pub struct Lane<const Z: usize, const W: usize> {
     words: [u64; W],
@@ -82,7 +82,7 @@ impl<const Z: usize, const W: usize> Lane<Z, W> {
         add_words(&mut self.words, &src.words, Z, p);
     }
 
-    /// Counts `src`, rotated by `p`, among others, as far as twice: with u the bit (t + p) mod Z of `src`, bit t of
+    /// Counts `src`, rotated by `p`, among others, as far as twice. Let u be the bit (t + p) mod Z of `src`. Bit t of
     /// `more` is set where bit t of `ones` and u are, and then bit t of `ones` where u is.
     pub fn tally(ones: &mut Self, more: &mut Self, src: &Self, p: usize)
         requires { p < Z }

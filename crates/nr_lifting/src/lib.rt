@@ -1,10 +1,12 @@
 //! The 51 lifting sizes of the LDPC codes of 5G NR (3GPP TS 38.212, Table 5.3.2-1), and sums of rotated blocks of bits.
-//! `SIZES`, `set_of` and `smallest` are the table; `add_block` and `tally_block` add up and count blocks of any of the
-//! sizes, 64 bits at a time, by `Lane`, which is generic in the size.
-//! Their contracts cite specs/Sizes.antt, the table, and specs/Blocks.antt and specs/Lane.antt, bit by bit.
-//! `Rings` keeps blocks of bits from which lanes of any rotation are read, and `Planes` blocks of counts that fall by a
-//! lane at a time (specs/Rings.antt, specs/Planes.antt).
-//! Stands on nr_bitvec; nothing but `Rings::new` and `Planes::new` takes memory.
+//! `SIZES`, `set_of` and `smallest` are the table (specs/Sizes.antt). What a call makes of a block is said bit by bit
+//! (specs/Blocks.antt, specs/Lane.antt). `Rings::new` and `Planes::new` alone take memory.
+//!
+//! Inside, blocks go 64 bits at a time. `add_block` and `tally_block` add up and count blocks of any of the sizes, by
+//! `Lane`, which is generic in the size. `Rings` keeps blocks from which lanes of any rotation are read. `Planes` keeps
+//! blocks of counts that fall by a lane at a time (specs/Rings.antt, specs/Planes.antt). Stands on nr_bitvec.
+//!
+//! Used by nr_segment for the sizes, by nr_ldpcenc and nr_peel, and by nr_blockdesk and nr_calls in contracts.
 #![tactic(auto)]
 
 mod add;

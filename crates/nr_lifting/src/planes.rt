@@ -1,4 +1,4 @@
-//! Counts kept as bit planes, so that 64 of them fall at a time: word b of a group has bit b of each of its 64 counts.
+//! Counts kept as bit planes, so that 64 of them fall at a time. Word b of a group has bit b of each of its 64 counts.
 
 ghost use Rattle.std.specs.Prelude.{◌≡◌, ℕ, ◌+◌, ◌*◌, ◌%◌, ◌^◌, ◌<◌, ◌≤◌, ◌==◌, ◌&&◌, if◌then◌else◌, length, replicate, slice_index, IfOk};
 ghost use Rattle.std.specs.Int.{bit_at};
@@ -37,8 +37,8 @@ pub fn ones_word<const N: usize>(planes: &[u64; N]) -> u64
     planes[0] & !more
 }
 
-/// Takes one off those of `size` counts, in the first `count` groups of 64, to which a rotation by `p` brings a set
-/// place of a ring: bit (t + p) mod `size` to count t. None of them is 0.
+/// Takes one off some of `size` counts, in the first `count` groups of 64. They are those to which a rotation by `p`
+/// brings a set place of a ring. It brings bit (t + p) mod `size` to count t. None of them is 0.
 pub fn lower_block(planes: &mut [[u64; 7]], count: usize, ring: &[u64], size: usize, p: usize)
     requires turn { p < size }
     requires short { size < 2 ^ 32 }
@@ -106,7 +106,7 @@ impl Planes {
     ///
     /// # Errors
     ///
-    /// `AllocError` is want of memory.
+    /// `AllocError` where memory runs out.
     pub fn new(alloc: Global, count: usize, size: usize) -> Result<Planes, AllocError>
         requires some { 0 < size }
         requires short { size ≤ 384 }
@@ -145,8 +145,8 @@ impl Planes {
         ones_lane(&self.blocks[i], self.size)
     }
 
-    /// Takes one off those counts of block `i` to which a rotation by `turn` brings a one of block `j` of `marks`: bit
-    /// (t + `turn`) modulo the blocks' size to count t. None of them is 0.
+    /// Takes one off those counts of block `i` to which a rotation by `turn` brings a one of block `j` of `marks`. It
+    /// brings bit (t + `turn`) modulo the blocks' size to count t. None of them is 0.
     pub fn lower(&mut self, i: usize, marks: &Rings, j: usize, turn: usize)
         requires block { (i + 1) * self.old.lanes ≤ length self.old.items }
         requires mark { (j + 1) * marks.now.lanes ≤ length marks.now.items }

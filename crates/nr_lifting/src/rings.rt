@@ -1,5 +1,5 @@
-//! Blocks of bits that are kept twice over in words of 64, so that a word of any rotation is read in one piece, and the
-//! rotations of blocks that are kept once.
+//! Blocks of bits that are kept twice over in words of 64, and the rotations of blocks that are kept once. A word of
+//! any rotation of the former is read in one piece.
 
 ghost use Rattle.std.specs.Prelude.{◌≡◌, ℕ, ◌+◌, ◌-◌, ◌*◌, ◌/◌, ◌%◌, ◌^◌, ◌<◌, ◌≤◌, ◌==◌, ◌&&◌, ◌||◌, min, not, false, length, replicate, IfOk};
 ghost use Rattle.std.specs.Int.{bit_at};
@@ -13,8 +13,8 @@ use nr_bitvec::words::{low_bits, window};
 use std::alloc::{AllocError, Global};
 use std::marker::Model;
 
-/// Word `i` of a block of `size` bits that is rotated by `p`, read from its ring: bit t of the block is bit
-/// (t + p) mod `size` of the ring's, and zero from bit `size` on.
+/// Word `i` of a block of `size` bits that is rotated by `p`, read from its ring. Bit t of the block is bit (t + p) mod
+/// `size` of the ring's, and zero from bit `size` on.
 pub fn ring_word(ring: &[u64], size: usize, i: usize, p: usize) -> u64
     requires start { 64 * i < size }
     requires turn { p < size }
@@ -156,7 +156,7 @@ impl Rings {
     ///
     /// # Errors
     ///
-    /// `AllocError` is want of memory.
+    /// `AllocError` where memory runs out.
     pub fn new(alloc: Global, count: usize, size: usize) -> Result<Rings, AllocError>
         requires some { 0 < size }
         requires short { size ≤ 384 }
@@ -230,8 +230,8 @@ impl Rings {
         add_ring(sum, &self.rings[j], self.size, turn);
     }
 
-    /// The bits of a lane that block `j`, rotated by `turn`, lacks: those t whose bit (t + `turn`) modulo the size is a
-    /// zero of the block's.
+    /// The bits of a lane that block `j`, rotated by `turn`, lacks. They are those t whose bit (t + `turn`) modulo the
+    /// size is a zero of the block's.
     pub fn lacking(&self, j: usize, turn: usize, lane: &[u64; 6]) -> [u64; 6]
         requires block { (j + 1) * self.now.lanes ≤ length self.now.items }
         requires turn { turn < self.now.lanes }

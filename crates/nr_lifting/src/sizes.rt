@@ -10,8 +10,8 @@ pub const SIZES: [u16; 51] = [
     288, 320, 352, 384,
 ];
 
-/// Law: `SIZES` is the ascending list of the lifting sizes, which has each size of the table's eight sets once,
-/// and in which each size above 2 is at most twice the next smaller one (TS 38.212, Table 5.3.2-1).
+/// Law: `SIZES` is the ascending list of the lifting sizes, which has each size of the table's eight sets once (TS
+/// 38.212, Table 5.3.2-1). Each size above 2 is at most twice the next smaller one.
 pub fn size_table()
     ensures listed { SIZES ≡ sizes }
     ensures sound { IsSizeTable }

@@ -1,6 +1,6 @@
-//! The call of a function generic in a lifting size and its words of 64 bits, at one of a set's sizes: `with_size!(s,
-//! z, f(..))` calls `f::<Z, W>(..)` where Z is `z`, which is a size of set index `s`, and W the least number of words
-//! that hold Z bits.
+//! The call of a function generic in a lifting size and its words of 64 bits, at one of a set's sizes.
+//! `with_size!(s, z, f(..))` calls `f::<Z, W>(..)` where Z is `z`, which is a size of set index `s`. W is the least
+//! number of words that hold Z bits.
 
 macro_rules! with_size {
     (0, $z:expr, $f:ident $args:tt) => {
