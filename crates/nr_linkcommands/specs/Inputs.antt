@@ -100,8 +100,8 @@ pub record HaveNoFault (t s b d : Option (List ℕ)) : Type 0 where
   pub schedule : OfSaid blocks_said b (λ blocks. HasNoFault (schedule_said (length blocks)) d)
 
 -- A fault is the one that the octets say. A fault of the table, of the settings or of the blocks file is said by that
--- file's alone, but for its Read, which no octets say. That of the schedule is said by the octets of the blocks and its
--- own. That of a transport block is said by those of the first three files, and then no file has a fault. A Write comes
+-- file's octets alone. Its Read is said by none. That of the schedule is said by the octets of the blocks and its own.
+-- That of a transport block is said by those of the first three files, and then no file has a fault. A Write comes
 -- behind all of these.
 abbrev pub IsFoundIn : RunFault → Option (List ℕ) → Option (List ℕ) → Option (List ℕ) → Option (List ℕ) → Type 0
 IsFoundIn (faults.Table e) t s b d = e ≢ table_fault.Read → Says table_said (Err e) t

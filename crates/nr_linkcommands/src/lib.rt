@@ -1,9 +1,12 @@
-//! The three commands over a schedule of transmissions: `send` writes the bits sent, `run` what a receiver makes of them
-//! over a link that erases and flips bits, and `audit` why (TS 38.212, 6.2 and 7.2).
-//! Their contract: at `Ok` the text that `send_said`, `run_said` or `audit_said` gives of the four files' octets was
-//! written; a refusal writes nothing, and the fault is theirs; a failing `Sink` has a first part of the text. Laws say
-//! that what is delivered over erasures alone is the block sent, and that the lines of a process are its own.
-//! Stands on nr_files and nr_commands, and on nr_blockdesk and the layers below it for the standard.
+//! The three commands over a schedule of transmissions (TS 38.212, 6.2 and 7.2). At `Ok` the text that `send_said`,
+//! `run_said` or `audit_said` gives of the four files' octets was written. A refusal writes nothing, and the fault is
+//! theirs. A failing `Sink` has a first part of the text. By laws, what is delivered over erasures alone is the block
+//! sent, and the lines of a process are its own.
+//!
+//! Inside, `send` writes the bits sent, `run` what a receiver makes of them over a link that erases and flips bits, and
+//! `audit` why. Stands on nr_files and nr_commands, and on nr_blockdesk and the layers below it for the standard.
+//!
+//! Used by linksim.
 #![tactic(auto)]
 
 mod audit_command;

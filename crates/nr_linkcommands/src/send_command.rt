@@ -22,8 +22,8 @@ use nr_shifttable::Source;
 use std::alloc::{AllocError, Global};
 
 /// Encodes each transport block of a blocks file once (TS 38.212, 6.2.1 to 6.2.4 and 7.2.1 to 7.2.4). It writes a line
-/// for each transmission of a schedule: the bits that are sent (6.2.5, 6.2.6, 7.2.5 and 7.2.6), or the name of what
-/// refuses it.
+/// for each transmission of a schedule. It has the bits that are sent (6.2.5, 6.2.6, 7.2.5 and 7.2.6), or the name of
+/// what refuses it.
 ///
 /// The four files are read to their ends and judged whole, in the order of the parameters, and then every transport
 /// block. All of this comes before the first put. Then each line is written as soon as it is made.
