@@ -118,8 +118,8 @@ impl Buffer {
     }
 
     /// A run of the bits that the redundancy version `rv` selects, from bit `k` on. It is the position in the codeword
-    /// of bit `k`, and how many bits, from 1 to `most`, have it and the positions after it, one after another. The run
-    /// ends before the fillers, at the end of the buffer, where the start comes again, or at `most` (TS 38.212,
+    /// of bit `k`, and how many bits have it and the positions after it, one after another. They are 1 to `most`. The
+    /// run ends before the fillers, at the end of the buffer, where the start comes again, or at `most` (TS 38.212,
     /// 5.4.2.1). Takes no memory, and as long for every `k`.
     pub fn run(&self, rv: u32, k: u32, most: u32) -> (u32, u32)
         requires version { rv < 4 }

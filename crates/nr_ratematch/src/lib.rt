@@ -1,11 +1,13 @@
 //! Rate matching for the LDPC code of NR (TS 38.212, 5.4.2): how many bits of each code block are sent, and which.
-//! `lengths` shares the bits out to the scheduled code blocks, a `Buffer` says which position of the codeword each
-//! selected bit has, from the redundancy version's start on, and `select` and `select_onto` take the bits, a run of the
-//! buffer at a time. Their contracts cite specs/Lengths.antt and specs/Selection.antt: the whole circular buffer once
-//! round, without its fillers.
-//! Laws: a selected position is never punctured and no filler. Only `select` takes memory.
-//! Stands on nr_bitvec, nr_graphpick, nr_segment and nr_ldpcenc, with `arrayvec` for the lengths and `thiserror` for
-//! the fault.
+//! Contracts cite specs/Lengths.antt and specs/Selection.antt: once round the whole circular buffer, without its
+//! fillers. A selected position is never punctured and no filler, by a law. Only `select` takes memory.
+//!
+//! Inside, `lengths` shares the bits out to the scheduled code blocks. A `Buffer` says which position of the codeword
+//! each selected bit has, from the redundancy version's start on. `select` and `select_onto` take the bits, a run of
+//! the buffer at a time. Stands on nr_bitvec, nr_graphpick, nr_segment and nr_ldpcenc, with `arrayvec` for the lengths
+//! and `thiserror` for the fault.
+//!
+//! Used by nr_transmission, nr_blockdesk, nr_calls, nr_files, nr_linkcommands, linksim and example_link.
 #![tactic(auto)]
 
 mod buffer;
