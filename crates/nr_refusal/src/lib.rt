@@ -1,6 +1,10 @@
-//! The words in which a contract speaks of a refusal. Every call of this repository that may be
-//! refused says so by a step-by-step definition, whose first fault is the one that is returned, and
-//! returns "out of memory" only where it is out of memory (`Gives`). A Source or a Sink counts its
-//! failures by `FailsAs`. All of it is in specs/Refusal.antt: the crate has no code, takes no
-//! memory, and stands on std alone. No clause of TS 38.212 is about it.
+//! The words in which the contracts of the crates above speak of a refusal. A step-by-step definition says which fault
+//! is the first, and that one is returned. "Out of memory" is returned only where it is so (`Gives`). A Source or a
+//! Sink counts its failures by `FailsAs`.
+//!
+//! All of it is in specs/Refusal.antt. The crate has no code, takes no memory, and stands on std alone. No clause of TS
+//! 38.212 is about it.
+//!
+//! Used by the contracts of nr_shifttable, nr_blockdesk, nr_calls, nr_c, nr_files, nr_commands, nr_linkcommands and
+//! example_link.
 #![tactic(auto)]
