@@ -1,9 +1,13 @@
-//! The segmentation of a transport block into code blocks (TS 38.212, 5.2.2 and 5.3.2). `plan` returns the numbers of
-//! a segmentation, or why there is none; `cut` makes one code block of a transport block with its CRC, `join` puts
-//! code blocks together again, and `part` says where a bit comes from. Their contracts cite specs/Plan.antt, with each
-//! number as the standard words it, and specs/CodeBlock.antt; a `Plan` always holds the numbers of its base graph and
-//! of B. `join` undoes `cut`, by a proved law. Stands on nr_bitvec, nr_lifting, nr_crcattach and nr_graphpick, with
-//! `thiserror` for the fault; `plan` and `part` take no memory.
+//! The segmentation of a transport block into code blocks (TS 38.212, 5.2.2 and 5.3.2). `plan` returns the numbers of a
+//! segmentation, or why there is none. Its contract has each number as the standard words it (specs/Plan.antt). `cut`
+//! makes one code block of a transport block with its CRC, and `join` undoes it, by a proved law
+//! (specs/CodeBlock.antt).
+//!
+//! Inside, a `Plan` always holds the numbers of its base graph and of B. `part` says where a bit comes from. `plan` and
+//! `part` take no memory. Stands on nr_bitvec, nr_lifting, nr_crcattach and nr_graphpick, with `thiserror` for the
+//! fault.
+//!
+//! Used by every crate above that has code blocks, from nr_harqbuf and nr_ldpcenc to linksim.
 #![tactic(auto)]
 
 mod code_block;
