@@ -92,8 +92,7 @@ each_below (suc n) test = each_below n test && test n
 unfoldable pub three_agree : List ℕ → List ℕ → List ℕ → Bool
 three_agree a b c = each_below 8 (λ k. two_agree (slice_index a k) (slice_index b k) (slice_index c k))
 
--- What stands in one column in rows 0 to 3: values in rows 0 and 3 and in one of rows 1 and 2, where `three_agree` of
--- them.
+-- in one column, rows 0 and 3 and one of rows 1 and 2 have values, and these agree
 unfoldable pub rows_agree : Option (List ℕ) → Option (List ℕ) → Option (List ℕ) → Option (List ℕ) → Bool
 rows_agree (Some a) (Some b) None (Some d) = three_agree a b d
 rows_agree (Some a) None (Some c) (Some d) = three_agree a c d

@@ -47,8 +47,8 @@ abbrev pub is_placed : KeptEntry → Bool
 is_placed e = names_graph e && is_of_graph (item_kept e)
 
 -- What entries say of their places, from entry k on, where the keys of those before it are all below `past`. It is
--- nothing, or the fault of the first entry with one: it is outside its base graph, or else it does not stand past those
--- before it.
+-- nothing, or the fault of the first entry with one. That entry is outside its base graph, or else it does not stand
+-- past those before it.
 unfoldable pub places_from : ℕ → ℕ → List KeptEntry → Result (Unit {0}) EntriesFault
 places_from k past [] = Ok tt
 places_from k past (e ∷ es) =

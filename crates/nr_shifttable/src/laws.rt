@@ -60,15 +60,15 @@ pub fn shape_accepted()
     ensures { ShapeIsAccepted }
 {}
 
-/// A table is refused by `Core` of a base graph exactly where its rows 0 to 3 lack the core's shape, and the base graph
-/// before it has no fault. The shape is, in each of the eight lifting-size sets, the literal lists of columns and
-/// values of the core's parity part (TS 38.212, 5.3.2).
+/// A table is refused by `Core` of a base graph exactly where two things hold (TS 38.212, 5.3.2). The base graph before
+/// it has no fault. Its rows 0 to 3 lack, in one of the eight lifting-size sets, the literal lists of columns and
+/// values of the core's parity part.
 pub fn core_named()
     ensures { CoreIsNamed }
 {}
 
-/// It is refused by `Extension` exactly where these rows have it and a row from 4 on that has an entry breaks the rule
-/// of those rows. Past the core's columns such a row has its own column alone, with 0 in each set (TS 38.212, 5.3.2).
+/// It is refused by `Extension` exactly where these rows have them and some row from 4 on with an entry breaks its
+/// rule. The rule: past the core's columns it has its own column alone, with 0 in each set (TS 38.212, 5.3.2).
 pub fn extension_named()
     ensures { ExtensionIsNamed }
 {}

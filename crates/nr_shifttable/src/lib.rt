@@ -1,9 +1,12 @@
-//! The shift table of the LDPC codes of NR (3GPP TS 38.212, 5.3.2), read from a file of the user's.
-//! `Table::read` accepts exactly the files whose parity columns have the shape that encoding and
-//! peeling rest on, and names the first fault of any other. Its contract: the result is
-//! `table_said` of the file's octets (specs/Accepted.antt), and the other calls of a `Table` read
-//! that set of entries; `laws` say what follows. Stands on `csv` for the records, `thiserror` for
-//! the fault, and `nr_graphpick`.
+//! The shift table of the LDPC codes of NR (3GPP TS 38.212, 5.3.2), read from a file of the user's. `Table::read`
+//! accepts exactly the files whose parity columns have the shape that encoding and peeling rest on. Of any other it
+//! returns the first fault. The result is `table_said` of the file's octets (specs/Accepted.antt).
+//!
+//! Inside, a `Table` is that set of entries, which its other calls read. `laws` say what follows from its shape. Stands
+//! on nr_refusal and nr_graphpick, with `csv` for the records and `thiserror` for the fault.
+//!
+//! Used by nr_ldpcenc, nr_peel and nr_blockdesk for the code, and by the crates of the program and of the library for
+//! C.
 #![tactic(auto)]
 
 mod accept;

@@ -98,11 +98,10 @@ impl Table {
     ///
     /// # Errors
     ///
-    /// For the first entry that has one, with its number from 1, in this order: `Range`, where its base graph is
-    /// neither 1 nor 2 or has not its row or its column; `Order`, where it does not stand past the entry before it.
-    /// Then `Table` with `Empty`, where there is no entry, or with `Core`, `Extension` or `MissingRow`, for each base
-    /// graph that has an entry, base graph 1 first. `Memory` comes where a growth is refused, and never in place of
-    /// `Range` or `Order`.
+    /// First the first entry with a fault, by its number from 1. It is `Range`, where its base graph is neither 1 nor 2
+    /// or has not its row or its column; else `Order`, where it does not stand past the entry before it. Then `Table`:
+    /// with `Empty`, where there is no entry; for each base graph that has an entry, base graph 1 first, with `Core`,
+    /// `Extension` or `MissingRow`. `Memory` comes where a growth is refused, and never in place of `Range` or `Order`.
     #[tactic(auto, unfolding(crate::specs::Listed::entries_said))]
     pub fn of_entries(alloc: Global, entries: &[KeptEntry]) -> Result<Table, EntriesFault>
         ensures table { IfOk result IsTable }
