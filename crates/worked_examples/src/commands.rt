@@ -1,5 +1,5 @@
 //! The five commands over texts in memory. The values are worked by hand. Under the practice table the word of block 01
-//! has 52 columns of four bits, the parity columns being sums and rotations of the information columns.
+//! has 52 columns of four bits. The parity columns are sums and rotations of the information columns.
 
 use crate::ends::{Command, End, ended};
 use nr_commands::{RunFault, Tape, cut};

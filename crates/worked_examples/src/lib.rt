@@ -1,7 +1,10 @@
 //! The worked cases of TS 38.212 and of this project's formats, each as a test of the call that it names. All wanted
 //! values come from the standard's text or were worked by hand, and none from these crates.
-//! This is the one crate with tests: a crate that has some is proved twice. Whatever is a text of a command stands in
-//! `tests/program_tests`, over the built program.
+//!
+//! This is the one crate with tests, since a crate that has some is proved twice. Whatever is a text of a command
+//! stands in `tests/program_tests`, over the built program.
+//!
+//! Used by no crate: it stands on top of all of them.
 #![tactic(auto)]
 
 #[cfg(test)]

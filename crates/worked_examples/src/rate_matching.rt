@@ -78,8 +78,7 @@ fn selected(alloc: Global, lbrm: Option<u32>, word: &Word, rv: u32, e: u32) -> R
     Ok(select(alloc, &buffer, word, rv.min(3), e.min(364))?)
 }
 
-/// How many bits are selected, and the first of them, by its place, that differs: a one that should be a zero, or the
-/// other way round.
+/// How many bits are selected, and the first of them, by its place, that is wrong: a one for a zero, or the reverse.
 fn first_other(
     alloc: Global,
     (lbrm, rv, e): (Option<u32>, u32, u32),
