@@ -1,16 +1,16 @@
 /* nr.h: the data coding chain of 5G NR's shared channels (3GPP TS 38.212, Release 15).
 
    A shift table is read once: nr_table_entries makes of its text entries that the caller keeps, and the other calls take these.
-   Each call answers a status: 0, or the number of its first fault, by the lists below. One that answers another number than 0
+   Each call returns a status: 0, or the number of its first fault, by the lists below. One that returns another number than 0
    has written nothing (nr_table_check alone writes what is wrong, and nr_table_entries how many entries want room). No call
    opens a file or starts a thread, and none depends on the calls before it. None keeps memory, which is tested.
 
    A list is a pointer and then the count of its items. Octets of a transport block are eight bits each, the first bit highest.
-   Bits that are sent, and places that are heard, have an octet each.
+   Bits that are sent, and places that are received, have an octet each.
 
-   `reserved` in a struct is room for fields of later versions: the caller sets it to 0, as by {.g = 300, .qm = 2, .nl = 1}, and
-   the calls write it as 0. So a struct keeps its length, also in an array, where a field for its size would not help, and
-   programs that leave the new fields 0 go on as before. NrEntry has none: it has the fields of a table's record.
+   `reserved` in a struct is room for fields of later versions. The caller sets it to 0, as by {.g = 300, .qm = 2, .nl = 1}, and
+   the calls write it as 0. So a struct keeps its length, also in an array, where a field for its size would not help. Programs
+   that leave the new fields 0 go on as before. NrEntry has none: it has the fields of a table's record.
 
    What each call promises is proved, and stands in docs/c-library.md. No proof sees what a caller passes; so these are yours:
    - No pointer is null, but one with the count 0 behind it may be: NULL, 0 is a list of no items. Each is aligned for its type.
@@ -50,14 +50,14 @@ extern "C" {
 enum NrStatus {
     NR_OK = 0,
     NR_MEMORY = 1,     /* a growth of memory was refused; the call may be made again */
-    NR_ROOM = 2,       /* the room for the answer does not have the answer's length */
+    NR_ROOM = 2,       /* the room for the result does not have the result's length */
     NR_MANY = 3,       /* there is more than the call takes */
     NR_POLY = 4,       /* there is no generator polynomial of this number */
     NR_BIT = 5,        /* an octet that stands for a bit is neither 0 nor 1 */
     NR_LIFTING = 6,    /* no code block of the base graph has this lifting size */
     NR_CODE_BLOCK = 7, /* there is no code block of this number */
     /* of the shift table's text */
-    NR_READ = 20, /* never answered: it is that of a file */
+    NR_READ = 20, /* never returned: it is that of a file */
     NR_CSV = 21,
     NR_FIELDS = 22,
     NR_NUMBER = 23,
@@ -73,7 +73,7 @@ enum NrStatus {
     /* of the transport block */
     NR_SIZE = 40,       /* not 8 to 1,310,720 bits in whole octets */
     NR_RATE_RANGE = 41, /* rate2048 is not 1 to 2048 */
-    NR_SIZE_RANGE = 42, /* never answered: NR_SIZE comes before it, as before the next two */
+    NR_SIZE_RANGE = 42, /* never returned: NR_SIZE comes before it, as before the next two */
     NR_SHORT = 43,
     NR_LONG = 44,
     NR_UNEVEN = 45,    /* its code blocks would not be equally long (5.2.2); no size of TS 38.214 is such */
@@ -138,9 +138,9 @@ typedef struct NrReport {
     uint32_t reserved;
 } NrReport;
 
-/* Judges the shift table of a text (5.3.2): comma-separated values, a record for each entry of Tables 5.3.2-2 and 5.3.2-3, with
-   the base graph, the row, the column and the values of the sets 0 to 7. Writes `out` whether the table is accepted or not,
-   but where memory is refused.
+/* Judges the shift table of a text (5.3.2). The text is comma-separated values, a record for each entry of Tables 5.3.2-2 and
+   5.3.2-3. A record has the base graph, the row, the column and the values of the sets 0 to 7. Writes `out` whether the table
+   is accepted or not, but where memory is refused.
    Faults: TOO_LONG above 4,194,304 octets, whatever memory there is; record by record CSV, FIELDS, NUMBER, RANGE, TWICE; EMPTY;
    by base graph CORE, EXTENSION, MISSING_ROW; MEMORY. */
 NR_CHECKED uint32_t nr_table_check(const uint8_t *text, size_t text_len, NrReport *out);
@@ -154,7 +154,7 @@ typedef struct NrEntry {
     uint16_t values[8]; /* the shift value of each set 0 to 7, not reduced by a lifting size */
 } NrEntry;
 
-/* The entries of the shift table of a text, in the order that the calls below take them in, and in `count` how many they are. `out`
+/* The entries of the shift table of a text, in the order that the calls below take them in. `count` is how many they are. `out`
    has room for so many, no more and no fewer; where it has another length, as of NULL, 0, `count` says how many are wanted, and
    `out` is not written. No table has more than 1,850; those of Tables 5.3.2-2 and 5.3.2-3 have 316 and 197.
    Faults: as nr_table_check has them; ROOM. With any but ROOM `count` is not written either. */
@@ -180,26 +180,26 @@ typedef struct NrBuffer {
    Faults: SIZE, RATE_RANGE, UNEVEN, NO_BUFFER, RV. */
 NR_CHECKED uint32_t nr_buffer(const NrSettings *settings, uint32_t a, uint32_t rv, NrBuffer *out);
 
-/* The K' bits of code block r, counted from 0, of a transport block, 0 or 1 in an octet each: c_r without its fillers (5.2.2). They
-   are its share of the transport block with its CRC and, where there are several code blocks, the CRC24B of these. `out` has room
-   for K' octets, no more and no fewer. The K - K' fillers that follow them in c_r are not among them.
+/* The K' bits of code block r, counted from 0, of a transport block, 0 or 1 in an octet each. They are c_r without its fillers
+   (5.2.2). They are its share of the transport block with its CRC and, where there are several code blocks, the CRC24B of
+   these. `out` has room for K' octets, no more and no fewer. The K - K' fillers that follow them in c_r are not among them.
    Faults: SIZE, RATE_RANGE, UNEVEN; CODE_BLOCK, where r is not below C; ROOM; MEMORY, in place of none of these. */
 NR_CHECKED uint32_t nr_cut(uint32_t rate2048, const uint8_t *block, size_t block_len, uint32_t r, uint8_t *out, size_t out_len);
 
 enum NrFiller { NR_FILLER = 2 };
 
-/* The N bits d that the K bits c are coded into (5.3.2), by the base graph and the lifting size Zc alone: K is 22 Zc in base graph 1
-   and 10 Zc in base graph 2, N is 66 Zc and 50 Zc. `bits` has c, an octet each: 0, 1, or NR_FILLER, which is coded as 0. `out` has
-   room for d: 0, 1, or NR_FILLER where c has one. Zc is a lifting size of Table 5.3.2-1; 2 and 3 are refused in base graph 2,
-   where no code block has them, since each has 24 bits at least.
+/* The N bits d that the K bits c are coded into (5.3.2), by the base graph and the lifting size Zc alone. K is 22 Zc in base
+   graph 1 and 10 Zc in base graph 2, N is 66 Zc and 50 Zc. `bits` has c, an octet each: 0, 1, or NR_FILLER, which is coded as
+   0. `out` has room for d: 0, 1, or NR_FILLER where c has one. Zc is a lifting size of Table 5.3.2-1; 2 and 3 are refused in
+   base graph 2, where no code block has them, since each has 24 bits at least.
    Faults: of the table as nr_codeword has them; GRAPH, where `graph` is neither 1 nor 2, or the table lacks it; LIFTING; LENGTH,
    where `bits` does not have K octets; BIT, where one of them is none of 0, 1 and NR_FILLER; ROOM; MEMORY, where it is met. */
 NR_CHECKED uint32_t nr_encode(const NrEntry *table, size_t table_len, uint32_t graph, uint32_t z, const uint8_t *bits,
                               size_t bits_len, uint8_t *out, size_t out_len);
 
-/* The N bits d that a code block of a transport block of `a` bits is coded into (5.3.2), an octet each: 0, 1, or NR_FILLER, which is
-   never sent; `out` has room for N octets. `bits` has its K' bits with its CRC, without fillers, an octet of 0 or 1 each, as
-   nr_cut gives them.
+/* The N bits d that a code block of a transport block of `a` bits is coded into (5.3.2), an octet each. Each is 0, 1, or
+   NR_FILLER, which is never sent; `out` has room for N octets. `bits` has its K' bits with its CRC, without fillers, an octet
+   of 0 or 1 each, as nr_cut gives them.
    Faults: ENTRIES, whatever memory there is; EMPTY; by base graph CORE, EXTENSION, MISSING_ROW; SIZE, RATE_RANGE, UNEVEN, GRAPH;
    LENGTH, where `bits` does not have K' octets; BIT; ROOM; MEMORY, where it is met. */
 NR_CHECKED uint32_t nr_codeword(const NrEntry *table, size_t table_len, uint32_t rate2048, uint32_t a, const uint8_t *bits,
@@ -211,26 +211,27 @@ enum NrPoly { NR_CRC24A = 0, NR_CRC24B = 1, NR_CRC16 = 2 };
    Faults: POLY; MANY above 2,097,152 octets; MEMORY. */
 NR_CHECKED uint32_t nr_crc(uint32_t poly, const uint8_t *octets, size_t octets_len, uint32_t *out);
 
-/* The G bits, 0 or 1, that a transmission sends of a transport block (6.2, 7.2): with CRC, cut, encoded by the shift table
-   (5.3.2), rate matched, interleaved and joined (5.4.2, 5.5). `out` has room for tx->g octets, no more and no fewer.
+/* The G bits, 0 or 1, that a transmission sends of a transport block (6.2, 7.2). The block gets its CRC, is cut, encoded by the
+   shift table (5.3.2), rate matched, interleaved and joined (5.4.2, 5.5). `out` has room for tx->g octets, no more and no
+   fewer.
    Faults: of the table as nr_codeword has them; SIZE, RATE_RANGE, UNEVEN, GRAPH, NO_BUFFER; RV, ORDER, LAYERS, TOTAL, RAGGED,
    NONE_SCHEDULED; ROOM; MEMORY, where it is met. */
 NR_CHECKED uint32_t nr_send(const NrEntry *table, size_t table_len, const NrSettings *settings, const uint8_t *block,
                             size_t block_len, const NrTx *tx, uint8_t *out, size_t out_len);
 
-/* What a place says was heard: a bit 0, a bit 1, or nothing (as any number above 1). */
+/* What a place says was received: a bit 0, a bit 1, or nothing (as any number above 1). */
 enum NrHeard { NR_ZERO = 0, NR_ONE = 1, NR_ERASED = 2 };
 
-/* What may be handed up: some bit is not fixed yet; the one transport block that explains all that was heard; there is none. */
+/* What may be handed up: some bit is not fixed yet; the one transport block that explains all that arrived; there is none. */
 enum NrOutcome { NR_OPEN = 0, NR_DELIVERED = 1, NR_CONTRADICTION = 2 };
 
-/* What may be handed up of a transport block of `a` bits after each of the transmissions `txs`. `heard` has the places of the first
-   one, then those of the second, and so on: txs[0].g + txs[1].g + .. octets. Parity rows (5.3.2) are applied one unknown at a time;
-   a block is delivered where they fix all K' bits of each code block, and its bits equal all that was heard.
+/* What may be handed up of a transport block of `a` bits after each of the transmissions `txs`. `heard` has the places of the
+   first one, then those of the second, and so on: txs[0].g + txs[1].g + .. octets. Parity rows (5.3.2) are applied one unknown
+   at a time; a block is delivered where they fix all K' bits of each code block, and its bits equal all that was received.
    `outcomes` has room for txs_len numbers, each the NrOutcome of its transmission and those before it. `left` has room for C
    numbers: how many of the K' bits of each code block are not fixed after the last transmission. `block` has room for a / 8
    octets, whatever comes of it: they are written where the last outcome is NR_DELIVERED, and else as they were. All three rooms
-   are judged before the first transmission is heard.
+   are judged before the first transmission is received.
    Faults: of the table as nr_codeword has them; SIZE, RATE_RANGE, UNEVEN; ROOM; GRAPH, NO_BUFFER; for each transmission in turn
    LENGTH, where fewer than g octets are left, RV, ORDER, LAYERS, TOTAL, RAGGED, NONE_SCHEDULED; LENGTH, where octets are left
    over; MEMORY, where it is met. */

@@ -67,7 +67,7 @@ def record(files: dict[str, bytes]) -> dict[str, bytes]:
 def build_wheel(
     wheel_directory: str | os.PathLike[str], config_settings: typing.Any = None, metadata_directory: str | None = None
 ) -> str:
-    """Writes the wheel into a folder, and answers its name."""
+    """Writes the wheel into a folder, and returns its name."""
     files = dict(sorted(module().items()))
     files.update(about())
     files.update(record(files))

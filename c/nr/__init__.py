@@ -15,7 +15,7 @@ raises Fault, and has written nothing. The calls let other threads run, so a buf
 send_many() and receive_many() take many blocks at once, in the rows of an array.
 
 A transport block is octets, eight bits each; its bits, an item each, go to bits=. The code rate is rate2048=, in 2048ths, or
-rate1024=, as the MCS tables of TS 38.214 have it. Table, Tx, Fault and what the calls answer can be pickled.
+rate1024=, as the MCS tables of TS 38.214 have it. Table, Tx, Fault and what the calls return can be pickled.
 
 The library is the one that the environment's NR_LIBRARY names; else libnr.so.2 in this folder, ../out/libnr.so.2 from here,
 ../../../lib/libnr.so.2, as `make install` puts it, or what the system's loader finds.
@@ -43,7 +43,7 @@ __version__: str = library.nr_version().decode()
 
 CRC24A, CRC24B, CRC16 = 0, 1, 2
 FILLER = 2  # a bit of a codeword that is never sent
-ERASED = 2  # a place at which nothing was heard; so is any number but 0 and 1
+ERASED = 2  # a place at which nothing was received; so is any number but 0 and 1
 
 _Room = typing.TypeVar("_Room")
 
@@ -66,9 +66,9 @@ def cut(
     block: typing.Optional[Octets] = None, r: int = 0, *, bits: typing.Optional[Octets] = None, rate2048: Rate2048 = None,
     rate1024: Rate1024 = None,
 ) -> bytearray:
-    """The K' bits of code block `r`, from 0, of a transport block's octets, an octet 0 or 1 each: its share of the block with its
-    CRC, with the CRC24B of these where there are several code blocks, and without fillers (5.2.2). In place of the octets `bits`
-    may have the block's bits."""
+    """The K' bits of code block `r`, from 0, of a transport block's octets, an octet 0 or 1 each (5.2.2). They are its share of
+    the block with its CRC, with the CRC24B of these where there are several code blocks, and without fillers. In place of the
+    octets `bits` may have the block's bits."""
     octets, in2048ths = block_of(block, bits), rate(rate2048, rate1024)
     shared = bytearray(plan_struct(in2048ths, min(8 * len(octets), MOST_BITS + 8)).kdash)
     first, room = room_of(shared)
@@ -77,8 +77,9 @@ def cut(
 
 
 def encode(table: Table, bits: Octets, *, graph: int, z: int) -> bytearray:
-    """The N bits d that the K bits of a code block are coded into (5.3.2) by a Table, the base graph 1 or 2 and the lifting size
-    alone, an octet each: 0, 1 or FILLER. `bits` has 22 or 10 z of these: a FILLER is coded as 0, and stays one in d."""
+    """The N bits d that the K bits of a code block are coded into (5.3.2) by a Table. The base graph 1 or 2 and the lifting
+    size alone decide how. They are an octet each: 0, 1 or FILLER. `bits` has 22 or 10 z of these: a FILLER is coded as 0, and
+    stays one in d."""
     entries, given = entries_of(table), octets_of(bits)
     coded = bytearray({1: 66, 2: 50}.get(number(graph), 0) * min(number(z), 384))
     first, room = room_of(coded)
@@ -130,9 +131,9 @@ def send(
     table: Table, block: typing.Optional[Octets] = None, tx: typing.Optional[Tx] = None, *, bits: typing.Optional[Octets] = None,
     rate2048: Rate2048 = None, rate1024: Rate1024 = None, lbrm: int = 0, out: typing.Any = None,
 ) -> typing.Any:
-    """The G bits that a Tx sends of a transport block's octets by a Table, each an octet 0 or 1: a bytearray, or `out` with
-    them, which is a buffer of G octets that can be written. In place of the octets `bits` may have the block's bits, an item 0
-    or 1 each: send(table, tx=tx, bits=..). `lbrm` is TBS_LBRM in bits, 0 for none."""
+    """The G bits that a Tx sends of a transport block's octets by a Table, each an octet 0 or 1. They are a bytearray, or `out`
+    with them, which is a buffer of G octets that can be written. In place of the octets `bits` may have the block's bits, an
+    item 0 or 1 each: send(table, tx=tx, bits=..). `lbrm` is TBS_LBRM in bits, 0 for none."""
     entries, given, link = entries_of(table), tx_struct(tx), settings(rate2048, rate1024, lbrm)
     octets = block if type(block) is bytes and bits is None else block_of(block, bits)
     sent, first, room = fresh_room(min(given.g, 1 << 22)) if out is None else (out, *room_of(out))
@@ -146,8 +147,8 @@ def receive(
     table: Table, a: int, receptions: typing.Iterable[typing.Tuple[Tx, Octets]], *, rate2048: Rate2048 = None,
     rate1024: Rate1024 = None, lbrm: int = 0,
 ) -> Received:
-    """What may be handed up of a transport block of `a` bits by a Table, as a Received. `receptions` are pairs: a
-    Tx, and what was heard at its G places, each an octet 0 or 1, or another one (ERASED) where nothing was."""
+    """What may be handed up of a transport block of `a` bits by a Table, as a Received. `receptions` are pairs: a Tx, and what
+    was received at its G places. Each place is an octet 0 or 1, or another one (ERASED) where nothing was."""
     entries, pairs = entries_of(table), [(tx_struct(tx), octets_of(places)) for tx, places in receptions]
     if any(tx.g != len(places) for tx, places in pairs):
         raise Fault(LENGTH)

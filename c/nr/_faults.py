@@ -49,8 +49,8 @@ SENTENCES = {
 
 
 class Fault(Exception):
-    """A call was refused: `status` is the fault's number, `name` its name (nr.h, docs/formats.md), `place` what check_table()
-    says of where it is, else 0, and `sentence` says in words what is wrong."""
+    """A call was refused. `status` is the fault's number, and `name` its name (nr.h, docs/formats.md). `place` is what
+    check_table() says of where it is, else 0. `sentence` says in words what is wrong."""
 
     def __init__(self, status: int, place: int = 0) -> None:
         self.status, self.name, self.place = status, fault_name(status), place

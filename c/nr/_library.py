@@ -1,4 +1,4 @@
-"""The library libnr.so.2 by ctypes: its structs (nr.h), and what its calls take and answer."""
+"""The library libnr.so.2 by ctypes: its structs (nr.h), and what its calls take and return."""
 
 from __future__ import annotations
 
@@ -39,7 +39,7 @@ PLACES = ["libnr.so.2", "../out/libnr.so.2", "../../../lib/libnr.so.2"]
 
 
 def load() -> ctypes.CDLL:
-    """The library, with what its calls take and answer."""
+    """The library, with what its calls take and return."""
     here = pathlib.Path(__file__).resolve().parent
     beside = (here / place for place in PLACES)
     named = os.environ.get("NR_LIBRARY") or next((str(path) for path in beside if path.exists()), "libnr.so.2")

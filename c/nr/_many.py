@@ -24,10 +24,10 @@ def send_many(
     table: Table, blocks: typing.Any = None, tx: typing.Optional[Tx] = None, *, bits: typing.Any = None, rate2048: Rate2048 = None,
     rate1024: Rate1024 = None, lbrm: int = 0, out: typing.Any = None,
 ) -> typing.Any:
-    """What send() gives of each of many transport blocks, by one Tx: a bytearray of G octets for the first block, then those of
-    the second, and so on; or `out` with them, which has a row of G octets for each. `blocks` is an array with a row of octets for
-    each block, or a list of blocks of equal length; in place of it `bits` may have a row of bits for each: send_many(table,
-    tx=tx, bits=..). A Fault is that of the first block that has one; those before it are written then."""
+    """What send() gives of each of many transport blocks, by one Tx. It is a bytearray of G octets for the first block, then
+    those of the second, and so on; or `out` with them, which has a row of G octets for each. `blocks` is an array with a row of
+    octets for each block, or a list of blocks of equal length; in place of it `bits` may have a row of bits for each:
+    send_many(table, tx=tx, bits=..). A Fault is that of the first block that has one; those before it are written then."""
     entries, rows, given = entries_of(table), _blocks_of(blocks, bits), tx_struct(tx)
     g = min(given.g, 1 << 22)
     sent = bytearray(rows.rows * g) if out is None else out
@@ -47,9 +47,9 @@ def receive_many(
     table: Table, a: int, txs: typing.Union[Tx, typing.Iterable[Tx]], heard: typing.Any, *, rate2048: Rate2048 = None,
     rate1024: Rate1024 = None, lbrm: int = 0,
 ) -> ReceivedMany:
-    """What receive() answers of each of many transport blocks of `a` bits, as a ReceivedMany. `txs` is the Tx of all, or a list of
-    those that each block was sent by; `heard` is an array, or a list, with a row for each block: the places of its first
-    transmission, then those of the second, and so on."""
+    """What receive() returns of each of many transport blocks of `a` bits, as a ReceivedMany. `txs` is the Tx of all, or a list
+    of those that each block was sent by; `heard` is an array, or a list, with a row for each block. A row has the places of its
+    first transmission, then those of the second, and so on."""
     entries, rows, octets = entries_of(table), rows_of(heard), min(number(a), MOST_BITS) // 8
     structs = [tx_struct(tx) for tx in ([txs] if isinstance(txs, Tx) else txs)]
     if rows.width != sum(tx.g for tx in structs) and rows.rows:

@@ -1,4 +1,4 @@
-"""What the calls take and answer."""
+"""What the calls take and return."""
 
 from __future__ import annotations
 
@@ -9,7 +9,7 @@ import typing
 
 
 class Outcome(enum.IntEnum):
-    """What may be handed up: OPEN, some bit is not fixed yet; DELIVERED, the one block that explains all that was heard;
+    """What may be handed up: OPEN, some bit is not fixed yet; DELIVERED, the one block that explains all that was received;
     CONTRADICTION, no block does."""
 
     OPEN = 0
@@ -48,7 +48,7 @@ class Buffer(typing.NamedTuple):
 
 
 class Received(typing.NamedTuple):
-    """What receive() answers: the outcome after each transmission, in their order; how many of the K' bits of each code block
+    """What receive() returns: the outcome after each transmission, in their order; how many of the K' bits of each code block
     are not fixed after the last one; and the block's octets where it is delivered then, else None."""
 
     outcomes: typing.List[Outcome]
@@ -62,7 +62,7 @@ class Received(typing.NamedTuple):
 
 
 class ReceivedMany(typing.NamedTuple):
-    """What receive_many() answers, row after row: the Outcome after each of a row's transmissions; how many of the K' bits of
+    """What receive_many() returns, row after row: the Outcome after each of a row's transmissions; how many of the K' bits of
     each code block are not fixed after the last one; and the octets of each transport block, zeros where it is not delivered
     then. numpy.frombuffer(.., numpy.uint32 or numpy.uint8).reshape(rows, -1) makes arrays of them without a copy."""
 

@@ -42,10 +42,10 @@ class Table:
 
 
 def check_table(text: Octets) -> Report:
-    """Judges the text of a shift table, and answers how many entries it has, as a Report.
+    """Judges the text of a shift table, and returns how many entries it has, as a Report.
 
-    A Fault has in `place` the number of the record for Csv, Number, Range and Twice, the base graph for Core, Extension and
-    MissingRow, else 0."""
+    A Fault has in `place` the number of the record for Csv, Number, Range and Twice. For Core, Extension and MissingRow it has
+    the base graph, else 0."""
     octets, report = octets_of(text), ReportStruct()
     status = library.nr_table_check(octets, len(octets), ctypes.byref(report))
     if status:

@@ -1,4 +1,4 @@
-"""Python's values as the library takes them, and rooms for its answers."""
+"""Python's values as the library takes them, and rooms for its results."""
 
 from __future__ import annotations
 
@@ -94,7 +94,7 @@ def octets_of(given: Octets) -> bytes:
 
 
 def whole_octets_of(given: Octets, callers: int = 1) -> bytes:
-    """The same, with a warning where they look like bits, for the caller so many calls above."""
+    """The octets of a buffer or a list, with a warning where they look like bits, for the caller so many calls above."""
     octets = octets_of(given)
     if not isinstance(given, (bytes, bytearray)):
         warn_of_bits(octets, callers + 1)
@@ -163,8 +163,8 @@ class Rows(typing.NamedTuple):
 
 
 def rows_of(given: typing.Any) -> Rows:
-    """The rows of an array of two dimensions, or of a list of equally many octets each. They are read where they stand, but for a
-    list's, and for an array's that is in pieces or can't be written: of these a copy is made."""
+    """The rows of an array of two dimensions, or of a list of equally many octets each. They are read where they stand, but for
+    a list's, and for an array's that is in pieces or can't be written. Of these a copy is made."""
     if isinstance(given, (list, tuple)):
         rows = [octets_of(row) for row in given]
         if len(set(map(len, rows))) > 1:

@@ -9,7 +9,7 @@
 #include "mex.h"
 #include "nr.h"
 
-/* What is heard where nothing is, and a filler of a codeword, are NaN and -1 in a column of doubles. */
+/* What is received where nothing is, and a filler of a codeword, are NaN and -1 in a column of doubles. */
 static const double FILLER = -1;
 static const uint32_t MOST_PLACES = 4194304;
 static const uint32_t MOST_BITS = 1310720;
@@ -219,7 +219,7 @@ static void make_sent(mxArray **out, const mxArray **in) {
     out[0] = column(bits, room, in[2]);
 }
 
-/* What was heard of several transmissions, one behind the other: a cell with an array for each. */
+/* What was received of several transmissions, one behind the other: a cell with an array for each. */
 static uint8_t *joined(const mxArray *given, const NrTx *txs, size_t count, size_t *total) {
     uint8_t *all;
     *total = 0;
