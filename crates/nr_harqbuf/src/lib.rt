@@ -1,5 +1,5 @@
 //! What was received of one code block, kept from transmission to transmission. Any redundancy version sends bits of
-//! one codeword (TS 38.212, 5.4.2). Each call's record is that of the longer list of hearings, by a proved law
+//! one codeword (TS 38.212, 5.4.2). `hear` makes the record of the longer list of hearings, by a proved law
 //! (specs/Record.antt). Another law reads off the record which words agree with all that was received.
 //!
 //! Inside, a `Store` keeps the first bit received of each position of the codeword, and whether some position was

@@ -26,7 +26,7 @@ field-between false true true h = refl
 field-between false true false h = refl
 field-between false false return h = cc h
 
--- what ends a record's read ends at the text's end no more, at the start of a field or of a record
+-- what ends with an octet does not end again at the text's end: at the start of a field, and of a record
 start-between : (quote : Bool) (p : State × Action) → (is_end p.1 ≡ true → ends_at_end p.0 ≡ false)
     → is_end (cond quote (st.InQuoted, act.Skip) p).1 ≡ true → ends_at_end (cond quote (st.InQuoted, act.Skip) p).0 ≡ false
 start-between true p more h = cc h

@@ -4,7 +4,7 @@
 //! This is the one crate with tests, since a crate that has some is proved twice. Whatever is a text of a command
 //! stands in `tests/program_tests`, over the built program.
 //!
-//! Used by no crate: it stands on top of all of them.
+//! Used by no crate.
 #![tactic(auto)]
 
 #[cfg(test)]
