@@ -1,5 +1,5 @@
-//! The parity bits of TS 38.212, 5.1, and their attachment to transport blocks (6.2.1, 7.2.1) and code blocks (5.2.2):
-//! values from catalogues of checks and by hand.
+//! The parity bits of TS 38.212, 5.1, and their attachment to transport blocks (6.2.1, 7.2.1) and code blocks (5.2.2).
+//! The values are from catalogues of checks and by hand.
 
 use crate::bit_lists::bits_of;
 use nr_bitvec::Bits;
