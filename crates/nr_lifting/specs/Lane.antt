@@ -25,7 +25,7 @@ abbrev pub MeetsTurned : ℕ → List Bool → List Bool → List Bool → List 
 MeetsTurned z new old ones src p =
     (t : ℕ) → t < z → bit new t ≡ bit old t || bit ones t && bit src ((t + p) % z)
 
--- ---- the same of their places
+-- ---- sums and counts of lanes, by the places of their words
 
 abbrev pub AddsPlaces : ℕ → List ℕ → List ℕ → List ℕ → ℕ → Type 0
 AddsPlaces z new old src p = (t : ℕ) → t < z → place new t ≡ (place old t + place src ((t + p) % z)) % 2
