@@ -35,9 +35,9 @@ pub fn record_order()
     ensures { OrderDoesNotMatter }
 {}
 
-/// Two files of at most 4,194,304 octets with the same records in another order. Where the header, if there is one, is
-/// the first record of both, one is accepted exactly where the other is, with the same table. Where the records of one
-/// have no fault, nor have those of the other, and the same is said of both.
+/// Take two files of at most 4,194,304 octets with the same records in another order. Let the header, if there is one,
+/// be the first record of both. Then one is accepted exactly where the other is, with the same table. Where the records
+/// of one have no fault, nor have those of the other, and the same is said of both.
 pub fn records_may_move()
     ensures { RecordsMayMove }
 {}
