@@ -1,10 +1,10 @@
 function [block, outcomes, left] = nr_receive(table, a, rate, txs, heard, lbrm)
-% BLOCK = nr_receive(TABLE, A, RATE, TXS, HEARD) is the transport block of A bits, as a column, that explains all that was heard, or
-% empty where none is delivered. TXS has the structure of each transmission (nr_send), and HEARD a cell with a column for each; for
-% one transmission its structure and its column do. What is heard at a place is 0, 1, or NaN where nothing was.
+% BLOCK = nr_receive(TABLE, A, RATE, TXS, HEARD) is the transport block of A bits, as a column, that explains all that was received.
+% It is empty where none is delivered. TXS has the structure of each transmission (nr_send), and HEARD a cell with a column for each;
+% for one transmission its structure and its column do. A place has 0, 1, or NaN where nothing was received.
 %
 % [BLOCK, OUTCOMES, LEFT] = nr_receive(..) says after each transmission whether the block is 'open', 'delivered' or a
-% 'contradiction', which no block explains, and how many of the K' bits of each code block are not fixed after the last one.
+% 'contradiction', which no block explains. LEFT says how many of the K' bits of each code block are not fixed after the last one.
 %
 % nr_receive(TABLE, A, RATE, TXS, HEARD, LBRM) limits the circular buffer by TBS_LBRM = LBRM bits (5.4.2.1).
 if nargin < 6

@@ -47,7 +47,7 @@ impl From<&Tx> for raw::Tx {
 /// The version of the library that is linked, as "0.1.0".
 #[must_use]
 pub fn version() -> &'static str {
-    // SAFETY: the call answers a text of the library's own, which lives as long as the program.
+    // SAFETY: the call returns a text of the library's own, which lives as long as the program.
     unsafe { CStr::from_ptr(raw::nr_version()) }.to_str().unwrap_or_default()
 }
 
@@ -98,8 +98,8 @@ pub fn cut(rate2048: u32, block: &[u8], r: u32) -> Result<Vec<u8>, Fault> {
     Ok(bits)
 }
 
-/// The N bits that the K bits of a code block are coded into (5.3.2) by base graph `graph`, 1 or 2, and the lifting size `z`: each 0, 1 or
-/// `FILLER`, which `bits` may have too. K is 22 or 10 times `z`, and N 66 or 50 times.
+/// The N bits that the K bits of a code block are coded into (5.3.2) by base graph `graph`, 1 or 2, and the lifting size `z`. Each is 0,
+/// 1 or `FILLER`, which `bits` may have too. K is 22 or 10 times `z`, and N 66 or 50 times.
 ///
 /// # Errors
 /// `Graph`, `Lifting`, `Length`, `Bit`, `Memory`.
@@ -148,7 +148,7 @@ pub fn send(table: &Table, link: &Settings, block: &[u8], tx: &Tx) -> Result<Vec
     Ok(bits)
 }
 
-/// The same into a room of G octets, which is not written where the call is refused.
+/// As `send`, into a room of G octets, which is not written where the call is refused.
 ///
 /// # Errors
 /// As `send`, and `Room` behind `NoneScheduled` where the room has another length.
@@ -160,8 +160,8 @@ pub fn send_into(table: &Table, link: &Settings, block: &[u8], tx: &Tx, out: &mu
     })
 }
 
-/// What may be handed up of a transport block of `a` bits after each of these transmissions, each with what was heard at its G places:
-/// 0, 1, or another number where nothing was heard.
+/// What may be handed up of a transport block of `a` bits after each of these transmissions. Each has what was received at its G places:
+/// 0, 1, or another number where nothing was.
 ///
 /// # Errors
 /// `Size`, `RateRange`, `Uneven`, `Graph`, `NoBuffer`; `Length`, `Rv`, `Order`, `Layers`, `Total`, `Ragged`, `NoneScheduled`;

@@ -1,5 +1,5 @@
 //! The data coding chain of 5G NR's shared channels (3GPP TS 38.212, Release 15), by the static library of nr.h: CRC, segmentation,
-//! LDPC coding, rate matching, interleaving and concatenation, and a receiver over erasures. What each call answers is proved in
+//! LDPC coding, rate matching, interleaving and concatenation, and a receiver over erasures. What each call returns is proved in
 //! the library's own sources.
 //!
 //! ```no_run
@@ -10,9 +10,9 @@
 //! assert_eq!(answer.block.as_deref(), Some(&b"123456789"[..]));
 //! ```
 //!
-//! Octets of a transport block are eight bits each, the first bit highest. A bit that is sent or heard has an octet of its own. The
-//! calls keep nothing, so any number of threads may make them; a thread that does has a stack of 64 KiB or more, and no call is made
-//! in the forked child of a process with several threads.
+//! Octets of a transport block are eight bits each, the first bit highest. A bit that is sent or received has an octet of its own. The
+//! calls keep nothing, so any number of threads may make them. Such a thread has a stack of 64 KiB or more. No call is made in the
+//! forked child of a process with several threads.
 #![warn(missing_docs)]
 
 mod calls;
@@ -24,7 +24,7 @@ pub use calls::{buffer, codeword, crc, cut, encode, lengths, plan, receive, send
 pub use fault::{Fault, TableCause, TableFault};
 pub use table::{Entry, Table};
 
-/// A place at which nothing was heard; so is any number but 0 and 1.
+/// A place at which nothing was received; so is any number but 0 and 1.
 pub const ERASED: u8 = 2;
 /// A filler: a bit of a codeword that is never sent.
 pub const FILLER: u8 = 2;
@@ -67,19 +67,19 @@ impl Tx {
         Tx { g, qm, nl: 1, rv: 0, scheduled: None }
     }
 
-    /// The same with another redundancy version.
+    /// These, with another redundancy version.
     #[must_use]
     pub const fn rv(self, rv: u32) -> Tx {
         Tx { rv, ..self }
     }
 
-    /// The same on so many layers.
+    /// These, on so many layers.
     #[must_use]
     pub const fn layers(self, nl: u32) -> Tx {
         Tx { nl, ..self }
     }
 
-    /// The same with these code blocks alone, from 0.
+    /// These, with these code blocks alone, from 0.
     ///
     /// # Panics
     /// Where a number is above 383; no transport block has more than 344 code blocks.
@@ -143,9 +143,9 @@ pub enum Poly {
 pub enum Outcome {
     /// Some bit is not fixed yet.
     Open,
-    /// The one transport block that explains all that was heard.
+    /// The one transport block that explains all that was received.
     Delivered,
-    /// No transport block explains all that was heard.
+    /// No transport block explains all that was received.
     Contradiction,
 }
 
