@@ -125,7 +125,7 @@ pub all-known : PlansAreSound → (link : Link) (records : List Heardbits) (peel
     → list_all (λ (p : Peeling). left_of p.numbers.kdash p.known == 0) peelers ≡ all_fixed link records
 all-known sound link records peelers is desk =
     all-range (λ (p : Peeling). left_of p.numbers.kdash p.known == 0) (λ r. left link records r == 0) peelers 0
-    (record { table = link.table; graph = link.graph; numbers = link.plan; given = []; known = []; bits = []; order = []; touches = 0 }) each
+    (record { table = link.table; graph = link.graph; numbers = link.plan; given = []; known = []; bits = []; order = []; touches = 0; lanes = 0 }) each
     ∙ ap (λ n. list_all (λ r. left link records r == 0) (range_with_len 0 n)) desk.peelings
   where
     each : (k : ℕ) → k < length peelers
@@ -197,7 +197,7 @@ candidate-only sound plain blocks codes link records peelers bits is desk all ma
         ∙ sym (is-word.begins k there)
         ∙ agrees
         ∙ sym (known-value (bit p.known k) (bit p.bits k) known)
-        ∙ sym (read i inside (record { table = link.table; graph = link.graph; numbers = link.plan; given = []; known = []; bits = []; order = []; touches = 0 }))
+        ∙ sym (read i inside (record { table = link.table; graph = link.graph; numbers = link.plan; given = []; known = []; bits = []; order = []; touches = 0; lanes = 0 }))
 
     at : (i : ℕ) (d : Bool) → i < length y → get_or y i d ≡ get_or bits i d
     at i d inside =
@@ -209,7 +209,7 @@ pub peeler-at : (link : Link) (records : List Heardbits) (peelers : List Peeling
     → r < link.plan.c → get_or peelers r d ≡ peeling_of link peelers r
 peeler-at link records peelers desk r d block =
     get_or_default peelers r d
-    (record { table = link.table; graph = link.graph; numbers = link.plan; given = []; known = []; bits = []; order = []; touches = 0 })
+    (record { table = link.table; graph = link.graph; numbers = link.plan; given = []; known = []; bits = []; order = []; touches = 0; lanes = 0 })
     (omega (arith, desk.peelings, block))
 
 pub peeler-size : (link : Link) (records : List Heardbits) (peelers : List Peeling) → IsDesk link records peelers → (r : ℕ) (d : Peeling)
@@ -310,7 +310,7 @@ desk-new sound link S P is stores peelers empty started = record {
   stores = stores;
   peelings = peelers;
   tied = λ r block. started-tied sound link (heard_of S r) (peeling_of link P r) is
-      (started r (record { table = link.table; graph = link.graph; numbers = link.plan; given = []; known = []; bits = []; order = []; touches = 0 })
+      (started r (record { table = link.table; graph = link.graph; numbers = link.plan; given = []; known = []; bits = []; order = []; touches = 0; lanes = 0 })
       (omega (arith, peelers, block)))
       (empty r (record { first = []; clash = false }) (omega (arith, stores, block)));
 }

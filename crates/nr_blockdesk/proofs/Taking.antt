@@ -136,7 +136,7 @@ piece-told parts owners t tx heard r rv qm together block =
 
 -- the peeler that stands for none
 abbrev pub none-of : Link → Peeling
-none-of link = record { table = link.table; graph = link.graph; numbers = link.plan; given = []; known = []; bits = []; order = []; touches = 0 }
+none-of link = record { table = link.table; graph = link.graph; numbers = link.plan; given = []; known = []; bits = []; order = []; touches = 0; lanes = 0 }
 
 -- each code block's part of an accepted reception was received
 abbrev pub AreHeard : Link → Tx → List ℕ → List Heard → List Heardbits → List Peeling → List Heardbits → List Peeling → Type 0

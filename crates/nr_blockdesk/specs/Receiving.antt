@@ -89,6 +89,7 @@ peeling_of link peelers r = slice_index_or peelers r (record {
   bits = [];
   order = [];
   touches = 0;
+  lanes = 0;
 })
 
 -- a store and a peeler of each code block

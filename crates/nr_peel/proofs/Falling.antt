@@ -6,8 +6,7 @@ use Rattle.std.proofs.lemmas.List.{get_or_past}
 use Rattle.std.proofs.lemmas.List.Elements.{All-filter}
 use Rattle.std.proofs.lemmas.Nat.{mod_below, div_below}
 use Rattle.nr_bitvec.specs.Bit.{bit}
-use Rattle.nr_lifting.specs.Rings.{is_set, marked}
-use Rattle.nr_lifting.proofs.LaneBits.{marked-same}
+use Rattle.nr_lifting.specs.Rings.{marked}
 use Rattle.nr_shifttable.specs.declared.entry.Entry.{Entry}
 use Rattle.nr_graphpick.specs.declared.Graph.{Graph}
 use Rattle.nr_graphpick.specs.Graph.{rows_of}
@@ -17,7 +16,7 @@ use Rattle.nr_peel.specs.Lanes.{hits}
 use Rattle.nr_peel.proofs.Columns.{below_column, column_most, column_next, column_visits, from_column, hits_marks, hits_past, in_column, sums_fall}
 use Rattle.nr_peel.proofs.Grid.{table_grid}
 use Rattle.nr_peel.proofs.Marks.{marked_zero}
-use Rattle.nr_peel.proofs.Places.{mod_low, row_number}
+use Rattle.nr_peel.proofs.Places.{row_number}
 use Rattle.nr_peel.proofs.Standing.{count_alike, count_no}
 
 -- The columns below one are taken: each count has fallen by the positions of F there, which aren't fresh any more.
@@ -99,30 +98,25 @@ module _ (es : List Entry) (set z rows cols : ℕ) (some : 0 < z) where
     ]
 
     -- the column is taken
-    pub fallen_next : (now' : List ℕ) (fresh' : List Bool) (lane : List ℕ) (count : ℕ) → All (λ e. e.row < rows) (column_of es j) → length old ≡ rows * z → length now' ≡ length now
+    pub fallen_next : (now' : List ℕ) (fresh' : List Bool) (count : ℕ) → All (λ e. e.row < rows) (column_of es j) → length old ≡ rows * z → length now' ≡ length now
         → ((i t : ℕ) → t < z → slice_index now' (i * z + t) + count_by (hits set z j (bit fresh) i t) (column_of es j) ≡ slice_index now (i * z + t))
         → ((p : ℕ) → bit fresh' p ≡ (bit fresh p && not (p / z == j)))
-        → ((t : ℕ) → t < z → is_set lane t ≡ bit fresh (j * z + (t + 0) % z)) → count ≡ marked (is_set lane) z
+        → count ≡ marked (λ t. bit fresh (j * z + t)) z
         → HasFallen c F (j + 1) old now' fresh' (visits + count * length (column_of es j))
-    fallen_next now' fresh' lane count inside long_old long falls cleared lane_is counted = record {
+    fallen_next now' fresh' count inside long_old long falls cleared counted = record {
       falls = λ i t row below. omega (arith, column_hits i t, column_next z F j (row_at es set z i t), h.falls i t row below, falls i t below);
       left = λ p. cleared p ∙ ap (λ b. b && not (p / z == j)) (h.left p) ∙ left_bits (F p) (p / z) j;
       visited =
           let here = sums_fall rows z now now' (λ i t. count_by (hits set z j (bit fresh) i t) (column_of es j)) some h.long (long ∙ h.long) falls in
           let all = column_visits set z j rows (bit fresh) some (column_of es j) inside in
-          let count_is : count ≡ marked (λ t. bit fresh (j * z + t)) z =
-          counted ∙ marked-same (is_set lane) (λ t. bit fresh (j * z + t)) z (λ t below. lane_is t below ∙ ap (λ m. bit fresh (j * z + m)) (mod_low (t + 0) z (omega (arith, below)) ∙ plain t)) in
-          let same = ap (λ m. m * length (column_of es j)) count_is in
+          let same = ap (λ m. m * length (column_of es j)) counted in
           omega (arith, here, all, same, h.visited);
       long = long ∙ h.long;
     }
-      where
-        plain : (t : ℕ) → t + 0 ≡ t
-        plain t = omega arith
 
     -- a column without a fresh position has nothing to take
-    pub fallen_skip : (lane : List ℕ) → ((t : ℕ) → t < z → is_set lane t ≡ bit fresh (j * z + (t + 0) % z)) → marked (is_set lane) z ≡ 0 → HasFallen c F (j + 1) old now fresh visits
-    fallen_skip lane lane_is count = record {
+    pub fallen_skip : marked (λ t. bit fresh (j * z + t)) z ≡ 0 → HasFallen c F (j + 1) old now fresh visits
+    fallen_skip count = record {
       falls = λ i t row below. omega (arith, column_next z F j (row_at es set z i t), count_none (in_column z (from_column z F j) j) nothing (row_at es set z i t), h.falls i t row below);
       left = λ p. sym (and_not (bit fresh p) (p / z == j) (here p)) ∙ ap (λ b. b && not (p / z == j)) (h.left p) ∙ left_bits (F p) (p / z) j;
       visited = h.visited;
@@ -130,8 +124,7 @@ module _ (es : List Entry) (set z rows cols : ℕ) (some : 0 < z) where
     }
       where
         empty : (t : ℕ) → t < z → bit fresh (j * z + t) ≡ false
-        empty t below =
-            sym (ap (λ m. bit fresh (j * z + m)) (mod_low (t + 0) z (omega (arith, below)) ∙ omega arith)) ∙ sym (lane_is t below) ∙ marked_zero (is_set lane) z count t below
+        empty t below = marked_zero (λ t. bit fresh (j * z + t)) z count t below
 
         here : (p : ℕ) → (p / z == j) ≡ true → bit fresh p ≡ false
         here p e =

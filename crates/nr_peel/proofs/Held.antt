@@ -7,6 +7,7 @@ use Rattle.std.proofs.lemmas.Nat.{mod_below, div_below}
 use Rattle.nr_bitvec.specs.Bit.{bit}
 use Rattle.nr_lifting.specs.Rings.{marked}
 use Rattle.nr_ldpcenc.specs.Rows.{Checks}
+use Rattle.nr_peel.specs.Due.{work_of}
 use Rattle.nr_peel.specs.Certificates.{accepts, after_steps, all_accepted, is_fixed_by, with_position}
 use Rattle.nr_peel.specs.Closure.{Within}
 use Rattle.nr_peel.specs.Settled.{CatchesUp, HasNoFresh, IsHeld, Keeps, Reaches}
@@ -118,6 +119,7 @@ caught_held c a d h caught = record {
   order_room = omega (arith, ap (λ v. vec_capacity v) caught.order, h.order_room);
   least = omega (arith, caught.visits, h.least, ap (λ v. step_pairs c v.items) caught.order);
   most = omega (arith, caught.visits, h.most, spent_more c a.counts.items d.counts.items caught.falls);
+  worked = omega (arith, caught.worked, caught.visited, h.worked);
   small = h.small;
 }
 
@@ -154,8 +156,8 @@ fixes_keep c old new f = record {
 
 -- ---- a round
 
-module _ (c : Checks) (some : 0 < c.lanes) (a b : Sweep) (h : IsHeld c a) (sought : AreSought c a.counts.items c.rows a.lanes b.lanes) (counts : b.counts ≡ a.counts)
-    (touches : b.touches ≡ a.touches + searched_pairs c a.counts.items) where
+module _ (c : Checks) (some : 0 < c.lanes) (a b : Sweep) (h : IsHeld c a) (sought : AreSought c a.counts.items c.rows a.lanes b.lanes) (counts : b.counts.items ≡ a.counts.items)
+    (lanes : b.counts.lanes ≡ a.counts.lanes) (touches : b.touches ≡ a.touches + searched_pairs c a.counts.items) (worked : work_of b.counts ≤ work_of a.counts + 3 * searched_pairs c a.counts.items) where
   n : ℕ
   n = c.rows * c.lanes
 
@@ -163,7 +165,10 @@ module _ (c : Checks) (some : 0 < c.lanes) (a b : Sweep) (h : IsHeld c a) (sough
   sought_counted = rw counts (counts_still c (counted_in a.lanes) a.counts.items a.lanes b.lanes sought.fixes h.counted)
 
   pub sought_few : b.touches + sum b.counts.items < 2 ^ 64
-  sought_few = omega (arith, touches, ap (λ v. sum v.items) counts, h.most, h.small, spent_le c a.counts.items, searched_most c a.counts.items)
+  sought_few = omega (arith, touches, ap sum counts, h.most, h.small, spent_le c a.counts.items, searched_most c a.counts.items)
+
+  pub sought_roomy : work_of b.counts + 2 * sum b.counts.items < 2 ^ 63
+  sought_roomy = omega (arith, worked, ap sum counts, h.worked, h.most, h.small, spent_le c a.counts.items, searched_most c a.counts.items)
 
   steps_long : length b.lanes.order.items ≡ length a.lanes.order.items + length sought.fixes.steps
   steps_long = ap length sought.fixes.order ∙ length-append a.lanes.order.items sought.fixes.steps
@@ -174,7 +179,7 @@ module _ (c : Checks) (some : 0 < c.lanes) (a b : Sweep) (h : IsHeld c a) (sough
 
   module _ (d : Sweep) (caught : CatchesUp c b d) where
     falls : (k : ℕ) → slice_index d.counts.items k ≤ slice_index a.counts.items k
-    falls k = omega (arith, caught.falls k, ap (λ v. slice_index v.items k) counts)
+    falls k = omega (arith, caught.falls k, ap (λ v. slice_index v k) counts)
 
     down : (k : ℕ) → k < c.rows * c.lanes → slice_index a.counts.items k ≡ 1 → slice_index d.counts.items k ≡ 0
     down k below one =
@@ -194,13 +199,14 @@ module _ (c : Checks) (some : 0 < c.lanes) (a b : Sweep) (h : IsHeld c a) (sough
     pub round_held : IsHeld c d
     round_held = record {
       lanes = caught_lanes c b d sought.fixes.lanes caught;
-      counts_lanes = caught.counts_lanes ∙ ap (λ v. v.lanes) counts ∙ h.counts_lanes;
-      counts_long = caught.counts_long ∙ ap (λ v. length v.items) counts ∙ h.counts_long;
+      counts_lanes = caught.counts_lanes ∙ lanes ∙ h.counts_lanes;
+      counts_long = caught.counts_long ∙ ap length counts ∙ h.counts_long;
       counted = caught_counted c b d sought.fixes.lanes caught;
       order_few = omega (arith, ap (λ v. length v.items) caught.order, steps_long, sought.few, h.order_few, zeros_rise);
       order_room = omega (arith, ap (λ v. vec_capacity v) caught.order, sought.fixes.capacity, h.order_room);
-      least = omega (arith, caught.visits, touches, ap (λ v. sum v.items) counts, h.least, ap (λ v. step_pairs c v.items) caught.order, steps_searched);
-      most = omega (arith, caught.visits, touches, ap (λ v. sum v.items) counts, h.most, spent_searched c a.counts.items d.counts.items falls down);
+      least = omega (arith, caught.visits, touches, ap sum counts, h.least, ap (λ v. step_pairs c v.items) caught.order, steps_searched);
+      most = omega (arith, caught.visits, touches, ap sum counts, h.most, spent_searched c a.counts.items d.counts.items falls down);
+      worked = omega (arith, caught.worked, caught.visited, touches, worked, h.worked);
       small = h.small;
     }
 
@@ -223,13 +229,14 @@ module _ (c : Checks) (some : 0 < c.lanes) (a b : Sweep) (h : IsHeld c a) (sough
     pub stop_held : IsHeld c b
     stop_held = record {
       lanes = sought.fixes.lanes;
-      counts_lanes = ap (λ v. v.lanes) counts ∙ h.counts_lanes;
-      counts_long = ap (λ v. length v.items) counts ∙ h.counts_long;
+      counts_lanes = lanes ∙ h.counts_lanes;
+      counts_long = ap length counts ∙ h.counts_long;
       counted = sought_counted;
       order_few = rw counts (omega (arith, steps_long, sought.few, none, h.order_few));
       order_room = omega (arith, sought.fixes.capacity, h.order_room);
       least = rw counts (omega (arith, touches, h.least, steps_searched));
       most = rw counts (omega (arith, touches, searched_none c a.counts.items none, h.most));
+      worked = omega (arith, touches, worked, h.worked);
       small = h.small;
     }
 
@@ -238,8 +245,8 @@ module _ (c : Checks) (some : 0 < c.lanes) (a b : Sweep) (h : IsHeld c a) (sough
 
     pub stop_settled : (k : ℕ) → slice_index b.counts.items k ≢ 1
     stop_settled k one = elim (cases_lt k (c.rows * c.lanes)) [
-      | inl below ↦ true≢false (sym (eq-eqb (slice_index a.counts.items k) 1 (sym (ap (λ v. slice_index v.items k) counts) ∙ one)) ∙ marked_zero (has_count 1 a.counts.items) (c.rows * c.lanes) none k below)
-      | inr past ↦ absurd (omega (arith, one, ap (λ v. slice_index v.items k) counts, get_or_past a.counts.items k 0 (omega (arith, h.counts_long, past))))
+      | inl below ↦ true≢false (sym (eq-eqb (slice_index a.counts.items k) 1 (sym (ap (λ v. slice_index v k) counts) ∙ one)) ∙ marked_zero (has_count 1 a.counts.items) (c.rows * c.lanes) none k below)
+      | inr past ↦ absurd (omega (arith, one, ap (λ v. slice_index v k) counts, get_or_past a.counts.items k 0 (omega (arith, h.counts_long, past))))
     ]
 
 -- the room for the steps of a round
@@ -251,3 +258,9 @@ held_few c a h = omega (arith, h.most, h.small, spent_le c a.counts.items)
 
 pub held_searched : (c : Checks) (a : Sweep) → IsHeld c a → a.touches + searched_pairs c a.counts.items < 2 ^ 64
 held_searched c a h = omega (arith, h.most, h.small, spent_le c a.counts.items, searched_most c a.counts.items)
+
+pub held_roomy : (c : Checks) (a : Sweep) → IsHeld c a → work_of a.counts + 2 * sum a.counts.items < 2 ^ 63
+held_roomy c a h = omega (arith, h.worked, h.most, h.small, spent_le c a.counts.items)
+
+pub held_work : (c : Checks) (a : Sweep) → IsHeld c a → work_of a.counts + 3 * searched_pairs c a.counts.items < 2 ^ 63
+held_work c a h = omega (arith, h.worked, h.most, h.small, spent_le c a.counts.items, searched_most c a.counts.items)

@@ -96,6 +96,7 @@ heard_held c H V a d held h counts touches = record {
   order_room = omega (arith, held.order_room, ap (λ v. vec_capacity v) h.order);
   least = rw (h.order, counts, touches) held.least;
   most = rw (counts, touches) held.most;
+  worked = rw (counts, touches) held.worked;
   small = held.small;
 }
 

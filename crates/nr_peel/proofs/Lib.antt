@@ -15,6 +15,7 @@ mod Pairs
 mod Counting
 mod Filled
 mod Fresh
+mod DueBlocks
 mod Starting
 mod Left
 mod Columns

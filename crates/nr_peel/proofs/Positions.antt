@@ -49,6 +49,7 @@ position_peeled l s h =
       reached = w.reached;
       visited = omega (arith, pairs, w.least);
       seldom = omega (arith, pairs, spent, w.most);
+      worked = omega arith;
     }
 
 -- a word that has the known bits, and those of the positions that are given

@@ -42,6 +42,13 @@ few_pairs l table =
     let size : rows_of l.plan.graph * l.plan.z ≤ 46 * 384 = mul-le (rows_of l.plan.graph) l.plan.z 46 384 (rows_most l.plan.graph) l.plan.sound.size_most in
     omega arith
 
+pub few_operations : (l : Lifted) → IsTable l.table.now → 16 * all_pairs (lifted_checks l) + (lifted_checks l).rows + 4 < 2 ^ 62
+unfolding all_pairs
+few_operations l table =
+    let most = sum_below-most (row_length (lifted_checks l)) 68 (rows_of l.plan.graph * l.plan.z) (λ k lt. degree_short l k table) in
+    let size : rows_of l.plan.graph * l.plan.z ≤ 46 * 384 = mul-le (rows_of l.plan.graph) l.plan.z 46 384 (rows_most l.plan.graph) l.plan.sound.size_most in
+    omega (arith, rows_most l.plan.graph)
+
 pub count_all : (p : ℕ → Bool) (xs : List ℕ) → ((x : ℕ) → p x ≡ false) → count_by (λ x. not (p x)) xs ≡ length xs
 count_all p xs none = omega (arith, count_both p xs, no_one xs)
   where

@@ -60,4 +60,5 @@ sweep_peeled l given s h =
       reached = h.reaches.reached;
       visited = omega (arith, pairs, h.held.least);
       seldom = omega (arith, pairs, spent, h.held.most);
+      worked = omega (arith, h.held.worked);
     }

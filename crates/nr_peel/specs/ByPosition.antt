@@ -1,4 +1,4 @@
--- What a peeler keeps that works position by position.
+-- Internal: what a peeler keeps that works position by position.
 use Rattle.std.specs.Prelude.{◌≡◌, ℕ, ◌+◌, ◌*◌, ◌^◌, ◌<◌, ◌≤◌, ◌||◌, Bool, true, false, length, sum, vec_capacity}
 use Rattle.nr_bitvec.specs.Bit.{bit}
 use Rattle.nr_lifting.specs.Rings.{marked}
@@ -76,7 +76,7 @@ pub record GivesMarks (H V : ℕ → Bool) (old new : ByPosition) : Type 0 where
 
 -- what it is seen as
 abbrev pub position_view : Lifted → ByPosition → Peeling
-position_view l s = seen_of l s.given.items s.known.items s.bits.items s.order.items s.counters.touches
+position_view l s = seen_of l s.given.items s.known.items s.bits.items s.order.items s.counters.touches 0
 
 -- what is true between calls: no row has exactly one unknown position
 pub record IsByPosition (l : Lifted) (s : ByPosition) : Type 0 where

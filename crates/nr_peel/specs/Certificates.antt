@@ -1,4 +1,4 @@
--- What shows that positions can be fixed, and what shows that they can't.
+-- Believed: what shows that positions can be fixed, and what shows that they can't.
 use Rattle.std.specs.Prelude.{◌≡◌, ◌≢◌, ℕ, ◌<◌, ◌==◌, nat_lt, ◌&&◌, ◌||◌, Bool, true, false, if◌then◌else◌, List, [], ◌∷◌, ◌++◌, length, slice_index, count_by}
 use Rattle.std.specs.List.{list_any}
 use Rattle.nr_ldpcenc.specs.Rows.{Checks}

@@ -1,4 +1,4 @@
--- What a set of known positions fixes by parity rows: a row with one unknown position fixes it.
+-- Believed: what a set of known positions fixes by parity rows: a row with one unknown position fixes it.
 use Rattle.std.specs.Prelude.{◌≡◌, ◌≢◌, ℕ, zero, suc, ◌<◌, ◌≤◌, ◌==◌, ◌&&◌, ◌||◌, Bool, true, false, not, List, count_by}
 use Rattle.std.specs.List.{list_all, list_any}
 use Rattle.nr_ldpcenc.specs.Rows.{Checks}

@@ -1,4 +1,4 @@
--- What a peeler's counters keep while positions become known.
+-- Internal: what a peeler's counters keep while positions become known.
 use Rattle.std.specs.Prelude.{◌≡◌, ◌≢◌, ℕ, ◌+◌, ◌*◌, ◌^◌, ◌<◌, ◌≤◌, ◌⊎◌, nat_lt, Bool, true, not, List, length, All, count_by, slice_index, sum, vec_capacity}
 use Rattle.nr_bitvec.specs.Bit.{bit}
 use Rattle.nr_shifttable.specs.declared.entry.Entry.{Entry}

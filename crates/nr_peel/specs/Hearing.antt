@@ -1,4 +1,4 @@
--- Many positions that are given at a time.
+-- Internal: many positions that are given at a time.
 use Rattle.std.specs.Prelude.{◌≡◌, ℕ, ◌&&◌, ◌||◌, Bool, not}
 use Rattle.nr_bitvec.specs.Bit.{bit}
 use Rattle.nr_ldpcenc.specs.Rows.{Checks}

@@ -1,4 +1,4 @@
--- What a peeler holds between calls, and what becomes of positions that are given to it.
+-- Internal: what a peeler holds between calls, and what becomes of positions that are given to it.
 use Rattle.std.specs.Prelude.{◌≡◌, ℕ, ◌<◌, ◌≤◌, Bool, true, false, length, take}
 use Rattle.nr_bitvec.specs.Bit.{bit}
 use Rattle.nr_segment.specs.CodeBlock.{numbers}

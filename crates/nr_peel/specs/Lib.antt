@@ -8,6 +8,7 @@ pub mod Lanes
 pub mod Hearing
 pub mod Rounds
 pub mod Sweeps
+pub mod Due
 pub mod Settled
 pub mod Starts
 pub mod Swept

@@ -1,4 +1,4 @@
--- What contracts see of a peeler, and what is true of every one.
+-- Believed: what contracts see of a peeler, and what is true of every one.
 use Rattle.std.specs.Prelude.{◌≡◌, ◌≢◌, ℕ, ◌+◌, ◌*◌, ◌≤◌, ◌||◌, Bool, true, false, not, if◌then◌else◌, List, length, map, filter, take, count_by, Option, Some, None}
 use Rattle.std.specs.List.{range_with_len}
 use Rattle.nr_bitvec.specs.Bit.{bit}
@@ -12,8 +12,8 @@ use Rattle.nr_peel.specs.Certificates.{IsStoppingSet, all_accepted, is_fixed_by}
 use Rattle.nr_peel.specs.Touches.{pairs_in, step_pairs}
 use Rattle.nr_peel.specs.declared.fix.Fix.{Fix}
 
--- the code, the positions that were given, those that are known and their bits, the steps that fixed positions, and
--- the count of visits
+-- The code, the positions that were given, those that are known and their bits, and the steps that fixed positions. Then the
+-- count of visits, and that of lane operations. One of these reads or writes the lane of one entry, or a row block's counts.
 pub record Peeling : Type 0 where
   pub table : Entries
   pub graph : Graph
@@ -23,6 +23,7 @@ pub record Peeling : Type 0 where
   pub bits : List Bool
   pub order : List Fix
   pub touches : ℕ
+  pub lanes : ℕ
 
 -- the parity checks of a peeler's code
 abbrev pub checks_for : Peeling → Checks
@@ -92,9 +93,10 @@ StopsWhereLeft s positions = left_of s.numbers.kdash s.known ≢ 0 → IsStoppin
 abbrev pub HasEachStopping : Peeling → List ℕ → Type 0
 HasEachStopping s positions = (set : List ℕ) (p : ℕ) → IsStoppingSet (checks_for s) s.numbers.kdash (bit s.given) set → stands p set ≡ true → stands p positions ≡ true
 
--- What is true of every peeler: its known positions are the closure of the given ones, its steps are accepted in
--- turn from the given ones and with them are all that is known, each pair of a row and a known position of it
--- and each pair of a step and a position of its row was visited, and the first ones twice at most.
+-- What is true of every peeler. Its known positions are the closure of the given ones. Its steps are accepted in turn from
+-- the given ones, and with them are all that is known. Each pair of a row and a known position of it was visited, and each
+-- pair of a step and a position of its row. The first ones were visited twice at most. Lane operations are at most three a
+-- visit, and one a row block.
 pub record IsPeeled (s : Peeling) : Type 0 where
   pub given_long : length s.given ≡ (checks_for s).size
   pub known_long : length s.known ≡ (checks_for s).size
@@ -104,6 +106,7 @@ pub record IsPeeled (s : Peeling) : Type 0 where
   pub reached : (p : ℕ) → bit s.known p ≡ (bit s.given p || is_fixed_by s.order p)
   pub visited : pairs_in (checks_for s) (bit s.known) + step_pairs (checks_for s) s.order ≤ s.touches
   pub seldom : s.touches ≤ 2 * pairs_in (checks_for s) (bit s.known)
+  pub worked : s.lanes ≤ 3 * s.touches + (checks_for s).rows
 
 -- two peelers are of one code
 pub record IsSameCode (a b : Peeling) : Type 0 where

@@ -1,4 +1,4 @@
--- Peeling by rounds, in which the unknown positions of a whole row of blocks are counted at a time.
+-- Internal: peeling by rounds, in which the unknown positions of a whole row of blocks are counted at a time.
 use Rattle.std.specs.Prelude.{◌≡◌, ℕ, ◌<◌, ◌==◌, ◌&&◌, Bool, not, List, length, count_by}
 use Rattle.nr_bitvec.specs.Bit.{bit}
 use Rattle.nr_shifttable.specs.declared.entry.Entry.{Entry}

@@ -1,9 +1,10 @@
--- What is kept while rows fix positions and counts follow, round after round.
+-- Internal: what is kept while rows fix positions and counts follow, round after round.
 use Rattle.std.specs.Prelude.{◌≡◌, ℕ, ◌+◌, ◌*◌, ◌^◌, ◌<◌, ◌≤◌, ◌||◌, Bool, true, false, length, slice_index, sum, vec_capacity}
 use Rattle.nr_bitvec.specs.Bit.{bit}
 use Rattle.nr_lifting.specs.Rings.{marked}
 use Rattle.nr_ldpcenc.specs.Rows.{Checks, Meets}
 use Rattle.nr_peel.specs.Certificates.{Extends, all_accepted, is_fixed_by}
+use Rattle.nr_peel.specs.Due.{work_of}
 use Rattle.nr_peel.specs.Peeling.{HasBits}
 use Rattle.nr_peel.specs.Sweeps.{AreLanes, CountsOf, counted_in, has_count}
 use Rattle.nr_peel.specs.Touches.{all_pairs, spent_pairs, step_pairs}
@@ -12,6 +13,7 @@ use Rattle.nr_peel.specs.declared.sweep.Sweep.{Sweep}
 
 -- The counts are those of the positions that they know of, each step is that of a row without an unknown position, and
 -- each pair of a row and a position that the counts know of was visited once, or twice if the row has no unknown one.
+-- Lane operations, and one more for each row block that is due, are at most three a visit and one a row block.
 pub record IsHeld (c : Checks) (s : Sweep) : Type 0 where
   pub lanes : AreLanes c s.lanes
   pub counts_lanes : s.counts.lanes ≡ c.lanes
@@ -21,7 +23,8 @@ pub record IsHeld (c : Checks) (s : Sweep) : Type 0 where
   pub order_room : c.rows * c.lanes ≤ vec_capacity s.lanes.order
   pub least : all_pairs c + step_pairs c s.lanes.order.items ≤ s.touches + sum s.counts.items
   pub most : s.touches + sum s.counts.items ≤ all_pairs c + spent_pairs c s.counts.items
-  pub small : 4 * all_pairs c + 4 < 2 ^ 64
+  pub worked : work_of s.counts ≤ 3 * s.touches + c.rows
+  pub small : 16 * all_pairs c + c.rows + 4 < 2 ^ 62
 
 -- no position is fresh: the counts know of all that is known
 abbrev pub HasNoFresh : Lanes → Type 0
@@ -34,6 +37,7 @@ pub record CatchesUp (c : Checks) (old new : Sweep) : Type 0 where
   pub falls : (k : ℕ) → slice_index new.counts.items k ≤ slice_index old.counts.items k
   pub visits : new.touches + sum new.counts.items ≡ old.touches + sum old.counts.items
   pub visited : old.touches ≤ new.touches
+  pub worked : work_of new.counts + 2 * old.touches ≤ work_of old.counts + 2 * new.touches
   pub no_fresh : HasNoFresh new.lanes
   pub known : new.lanes.known ≡ old.lanes.known
   pub bits : new.lanes.bits ≡ old.lanes.bits

@@ -1,4 +1,4 @@
--- With what peeling by lanes begins: nothing is known.
+-- Internal: with what peeling by lanes begins: nothing is known.
 use Rattle.std.specs.Prelude.{◌≡◌, ℕ, ◌+◌, ◌*◌, ◌<◌, ◌≤◌, false, [], length, slice_index, vec_capacity}
 use Rattle.nr_bitvec.specs.Bit.{bit}
 use Rattle.nr_lifting.specs.Planes.{BlockCounts}

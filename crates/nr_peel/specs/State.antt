@@ -1,4 +1,4 @@
--- The parity checks of a lifted table, and what is seen of a peeler of its code.
+-- Believed, with internal helpers: the parity checks of a lifted table, and what is seen of a peeler of its code.
 use Rattle.std.specs.Prelude.{ℕ, Bool, List}
 use Rattle.nr_segment.specs.CodeBlock.{numbers}
 use Rattle.nr_ldpcenc.specs.Rows.{plan_checks, Checks}
@@ -9,9 +9,10 @@ use Rattle.nr_peel.specs.declared.lifted.Lifted.{Lifted}
 abbrev pub lifted_checks : Lifted → Checks
 lifted_checks l = plan_checks l.table.now l.plan
 
--- the positions that were given and those that are known, their bits, the steps that fixed positions, and the count of visits
-abbrev pub seen_of : Lifted → List Bool → List Bool → List Bool → List Fix → ℕ → Peeling
-seen_of l given known bits order touches = record {
+-- the positions that were given and those that are known, their bits, the steps that fixed positions, and the counts of
+-- visits and of lane operations
+abbrev pub seen_of : Lifted → List Bool → List Bool → List Bool → List Fix → ℕ → ℕ → Peeling
+seen_of l given known bits order touches lanes = record {
   table = l.table.now;
   graph = l.plan.graph;
   numbers = numbers l.plan;
@@ -20,4 +21,5 @@ seen_of l given known bits order touches = record {
   bits = bits;
   order = order;
   touches = touches;
+  lanes = lanes;
 }

@@ -1,4 +1,4 @@
--- How rows fix positions and counts follow, all rows of the code a round.
+-- Internal: how rows fix positions and counts follow, all rows of the code a round.
 use Rattle.std.specs.Prelude.{◌≡◌, ℕ, ◌+◌, ◌*◌, ◌<◌, ◌≤◌, ◌==◌, ◌&&◌, ◌||◌, Bool, true, false, not, if◌then◌else◌, List, ◌++◌, length, count_by, slice_index, vec_capacity}
 use Rattle.nr_bitvec.specs.Bit.{bit}
 use Rattle.nr_lifting.specs.Rings.{marked}

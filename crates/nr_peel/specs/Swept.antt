@@ -1,4 +1,4 @@
--- What peeling by lanes comes to.
+-- Internal: what peeling by lanes comes to.
 use Rattle.std.specs.Prelude.{◌≡◌, ◌≢◌, ℕ, Bool, List, length, slice_index}
 use Rattle.nr_bitvec.specs.Bit.{bit}
 use Rattle.nr_shifttable.specs.Accepted.{IsTable}
@@ -19,4 +19,4 @@ pub record IsSettledSweep (l : Lifted) (given : List Bool) (s : Sweep) : Type 0 
 
 -- what it is seen as
 abbrev pub sweep_view : Lifted → List Bool → Sweep → Peeling
-sweep_view l given s = seen_of l given s.lanes.known.items s.lanes.bits.items s.lanes.order.items s.touches
+sweep_view l given s = seen_of l given s.lanes.known.items s.lanes.bits.items s.lanes.order.items s.touches s.counts.operations

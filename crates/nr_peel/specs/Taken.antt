@@ -1,4 +1,4 @@
--- What becomes of positions that are given to a peeler, whichever way it works.
+-- Internal: what becomes of positions that are given to a peeler, whichever way it works.
 use Rattle.std.specs.Prelude.{◌≡◌, ◌≤◌, ℕ, Bool, true, false, length, take}
 use Rattle.nr_segment.specs.CodeBlock.{numbers}
 use Rattle.nr_ldpcenc.specs.Codeword.{filler}

@@ -1,4 +1,4 @@
--- Pairs of a row and a position of it, by which the peeler's visits are bounded.
+-- Believed, with internal helpers: pairs of a row and a position of it, by which the peeler's visits are bounded.
 use Rattle.std.specs.Prelude.{ℕ, zero, suc, ◌+◌, ◌*◌, ◌/◌, ◌%◌, ◌==◌, Bool, if◌then◌else◌, List, length, count_by, slice_index, sum_by}
 use Rattle.nr_ldpcenc.specs.Rows.{Checks}
 use Rattle.nr_peel.specs.declared.fix.Fix.{Fix}

@@ -1,4 +1,4 @@
--- What a peeler holds, whichever way it works.
+-- Believed, with internal helpers: what a peeler holds, whichever way it works.
 use Rattle.std.specs.Prelude.{ℕ, Bool, List}
 use Rattle.nr_peel.specs.ByPosition.{IsByPosition}
 use Rattle.nr_peel.specs.Learning.{IsLearner}
@@ -34,6 +34,11 @@ abbrev pub touches_in : Work → ℕ
 touches_in (Words s) = s.sweep.touches
 touches_in (Positions s) = s.counters.touches
 
+-- the count of lane operations: by position each visit is one of a single position
+abbrev pub lanes_in : Work → ℕ
+lanes_in (Words s) = s.sweep.counts.operations
+lanes_in (Positions s) = 0
+
 -- the count of what is left
 abbrev pub left_in : Work → ℕ
 left_in (Words s) = s.left
@@ -41,7 +46,7 @@ left_in (Positions s) = s.left
 
 -- what it is seen as
 abbrev pub work_view : Lifted → Work → Peeling
-work_view l w = seen_of l (given_in w) (known_in w) (bits_in w) (order_in w) (touches_in w)
+work_view l w = seen_of l (given_in w) (known_in w) (bits_in w) (order_in w) (touches_in w) (lanes_in w)
 
 -- what is true between calls
 abbrev pub IsWork : Lifted → Work → Type 0

@@ -1,22 +1,25 @@
 //! What is known of a code block, in lanes, and how a row of blocks fixes positions: all its rows at a time.
 
-ghost use Rattle.std.specs.Prelude.{◌≡◌, ◌+◌, ◌*◌, ◌%◌, ◌^◌, ◌<◌, ◌≤◌, ◌++◌, ◌==◌, ℕ, All, IfOk, count_by, length, slice_index, vec_capacity};
+ghost use Rattle.std.specs.Prelude.{◌≡◌, ◌+◌, ◌*◌, ◌%◌, ◌^◌, ◌<◌, ◌≤◌, ◌++◌, ◌==◌, ℕ, if◌then◌else◌, All, IfOk, count_by, length, slice_index, vec_capacity};
 ghost use Rattle.std.specs.Int.{bit_at};
 ghost use Rattle.nr_bitvec.specs.Bit.{bit};
 ghost use Rattle.nr_bitvec.specs.Packed.{IsClear};
 ghost use Rattle.nr_lifting.specs.Rings.{is_set, marked};
-ghost use Rattle.nr_shifttable.specs.Accepted.{IsTable};
+ghost use Rattle.nr_shifttable.specs.Accepted.{IsTable, entries_in, row_of};
 ghost use Rattle.nr_shifttable.specs.Tails.{value_in};
 ghost use Rattle.nr_ldpcenc.specs.Parity.{parity};
 ghost use Rattle.nr_ldpcenc.specs.Rows.{positions};
+ghost use Rattle.nr_peel.specs.Due.{due_in, work_of};
 ghost use Rattle.nr_peel.specs.Lanes.{TakesLane, hits, lacks, steps_below, turned_step};
 ghost use Rattle.nr_peel.specs.Starts.{AreBlank};
 ghost use Rattle.nr_peel.specs.State.{lifted_checks};
 ghost use Rattle.nr_peel.specs.Sweeps.{AreLanes, CountsOf, IsBlockSought, counted_in, has_count};
 
 use crate::fix::Fix;
+use crate::fresh_marks::FreshMarks;
 use crate::lifted::Lifted;
-use nr_lifting::{Planes, Rings, common, lane_count, turn_lane};
+use crate::row_counts::RowCounts;
+use nr_lifting::{Rings, common, lane_count, turn_lane};
 use nr_shifttable::Entry;
 use std::alloc::{AllocError, Global};
 
@@ -38,7 +41,7 @@ pub(crate) fn row_sum(bits: &Rings, lifted: &Lifted<'_>, row: &[Entry]) -> [u64;
 
 // The counts of a column's rows fall by one where a position that is marked stands in them.
 pub(crate) fn lower_column(
-    counts: &mut Planes,
+    counts: &mut RowCounts,
     marks: &Rings,
     lifted: &Lifted<'_>,
     column: &[Entry],
@@ -52,12 +55,15 @@ pub(crate) fn lower_column(
     requires enough { (i t : ℕ) → t < lifted.now.plan.z
         → count_by (hits lifted.now.plan.set lifted.now.plan.z j (bit marks.now.items) i t) column.now
         ≤ slice_index counts.old.items (i * lifted.now.plan.z + t) }
+    requires room { counts.old.operations + length column.now < 2 ^ 64 }
     ensures falls { (i t : ℕ) → t < lifted.now.plan.z
         → slice_index counts.new.items (i * lifted.now.plan.z + t)
         + count_by (hits lifted.now.plan.set lifted.now.plan.z j (bit marks.now.items) i t) column.now
         ≡ slice_index counts.old.items (i * lifted.now.plan.z + t) }
     ensures long { length counts.new.items ≡ length counts.old.items }
     ensures lanes { counts.new.lanes ≡ counts.old.lanes }
+    ensures operations { counts.new.operations ≡ counts.old.operations + length column.now }
+    ensures due { due_in counts.new.due ≤ due_in counts.old.due + length column.now }
 {
     for entry in column {
         let turn = lifted.turn(entry);
@@ -126,7 +132,7 @@ fn push_lane(order: &mut Vec<Fix>, entry: &Entry, size: u32, turn: u32, lane: &[
 pub(crate) struct Lanes {
     pub(crate) known: Rings,
     pub(crate) bits: Rings,
-    pub(crate) fresh: Rings,
+    pub(crate) fresh: FreshMarks,
     pub(crate) order: Vec<Fix>,
 }
 
@@ -139,7 +145,7 @@ impl Lanes {
         let cols = lifted.plan.graph.cols() as usize;
         let known = Rings::new(alloc, cols, size)?;
         let bits = Rings::new(alloc, cols, size)?;
-        let fresh = Rings::new(alloc, cols, size)?;
+        let fresh = FreshMarks::new(alloc, cols, size)?;
         // Each row fixes one position at most.
         let rows = lifted.plan.graph.rows() as usize;
         let order = Vec::with_capacity(alloc, rows * size)?;
@@ -186,32 +192,48 @@ impl Lanes {
         }
     }
     // The rows of row of blocks `i` with a count of one fix their positions, unless another row has. How many such rows
-    // there are.
-    pub(crate) fn search_block(&mut self, lifted: &Lifted<'_>, counts: &Planes, i: u32) -> u32
+    // there are. Where there are some, each entry is two lane operations: one for the sum, one for what it fixes.
+    pub(crate) fn search_block(
+        &mut self,
+        lifted: &Lifted<'_>,
+        counts: &mut RowCounts,
+        i: u32,
+    ) -> u32
         requires table { IsTable lifted.now.table.now }
         requires block { i < (lifted_checks lifted.now).rows }
         requires lanes { AreLanes (lifted_checks lifted.now) self.old }
-        requires same { counts.now.lanes ≡ lifted.now.plan.z }
-        requires long { length counts.now.items
+        requires same { counts.old.lanes ≡ lifted.now.plan.z }
+        requires long { length counts.old.items
             ≡ (lifted_checks lifted.now).rows * lifted.now.plan.z }
         requires counted { CountsOf (lifted_checks lifted.now) (counted_in self.old)
-            counts.now.items }
+            counts.old.items }
         requires room { length self.old.order.items
-            + marked (λ t. has_count 1 counts.now.items (i * lifted.now.plan.z + t))
+            + marked (λ t. has_count 1 counts.old.items (i * lifted.now.plan.z + t))
             lifted.now.plan.z ≤ vec_capacity self.old.order }
-        ensures sought { IsBlockSought (lifted_checks lifted.now) counts.now.items i
+        requires few { counts.old.operations < 2 ^ 63 }
+        ensures sought { IsBlockSought (lifted_checks lifted.now) counts.old.items i
             self.old self.new }
         ensures rows { result ≡ marked
-            (λ t. has_count 1 counts.now.items (i * lifted.now.plan.z + t)) lifted.now.plan.z }
+            (λ t. has_count 1 counts.old.items (i * lifted.now.plan.z + t)) lifted.now.plan.z }
         ensures few { result ≤ 384 }
+        ensures counts { counts.new.items ≡ counts.old.items }
+        ensures lanes { counts.new.lanes ≡ counts.old.lanes }
+        ensures operations { counts.new.operations ≡ counts.old.operations
+            + (if bit counts.old.due i then 1 else 0)
+            + (if result == 0 then 0
+            else 2 * length (row_of (entries_in lifted.now.plan.graph lifted.now.table.now) i)) }
+        ensures worked { work_of counts.new ≤ work_of counts.old
+            + 3 * (result * length (row_of (entries_in lifted.now.plan.graph lifted.now.table.now) i)) }
     {
         let ones = counts.ones(i as usize);
         let rows = lane_count(&ones);
         if rows != 0 {
             let row = lifted.row(i);
             let sums = row_sum(&self.bits, lifted, row);
+            counts.count(row.len() as u64);
             for entry in row {
                 self.take(lifted, entry, &ones, &sums);
+                counts.count(1);
             }
         }
         rows

@@ -5,6 +5,9 @@
 //! step that can be checked; each pair of a row and a known position of it was visited once or twice.
 //! From lifting size 20 on it works by words: a column of positions of the base graph is a block of bits, a row of blocks
 //! a block of counts, and all rows of a round are taken before the counts fall (specs/Sweeps.antt, specs/Settled.antt).
+//! A round reads lanes of those row blocks and columns alone that have something to look at (specs/Due.antt). Its lane
+//! operations are counted: readings and writings of the lane of one entry, or of a row block's counts. They are at most
+//! three a visit, and one for each row block.
 //! At smaller ones, whose blocks fill less than a third of a word, it works position by position: a row that comes to one
 //! unknown position is listed, and fixes it when its turn comes (specs/ByPosition.antt, specs/Counters.antt).
 //! By words it holds three rings of bits (known, bit, and known but not yet counted), which take 96 octets for each
@@ -19,6 +22,7 @@ mod by_position;
 mod check;
 mod counters;
 mod fix;
+mod fresh_marks;
 mod hearing;
 mod lanes;
 pub mod laws;
@@ -27,6 +31,7 @@ mod lifted;
 mod lowering;
 mod peeler;
 mod rounds;
+mod row_counts;
 mod settle;
 mod sweep;
 mod unknown;

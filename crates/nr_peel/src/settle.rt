@@ -2,6 +2,7 @@
 
 ghost use Rattle.std.specs.Prelude.{◌≡◌, ◌≢◌, ◌+◌, ◌*◌, ◌^◌, ◌<◌, ◌≤◌, ℕ, length, slice_index, sum};
 ghost use Rattle.nr_shifttable.specs.Accepted.{IsTable};
+ghost use Rattle.nr_peel.specs.Due.{work_of};
 ghost use Rattle.nr_peel.specs.Settled.{CatchesUp, HasNoFresh, IsHeld, Keeps};
 ghost use Rattle.nr_peel.specs.State.{lifted_checks};
 ghost use Rattle.nr_peel.specs.Sweeps.{AreLanes, CountsOf, counted_in};
@@ -21,6 +22,7 @@ impl Sweep {
         requires counted { CountsOf (lifted_checks lifted.now) (counted_in self.old.lanes)
             self.old.counts.items }
         requires few { self.old.touches + sum self.old.counts.items < 2 ^ 64 }
+        requires roomy { work_of self.old.counts + 2 * sum self.old.counts.items < 2 ^ 63 }
         ensures { CatchesUp (lifted_checks lifted.now) self.old self.new }
     {
         self.touches += lower_all(&mut self.counts, &mut self.lanes.fresh, lifted);

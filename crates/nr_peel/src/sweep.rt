@@ -3,12 +3,14 @@
 ghost use Rattle.std.specs.Prelude.{◌≡◌, ◌+◌, ◌*◌, ◌^◌, ◌<◌, ◌≤◌, nat_lt, IfOk, length, vec_capacity};
 ghost use Rattle.nr_lifting.specs.Rings.{marked};
 ghost use Rattle.nr_shifttable.specs.Accepted.{IsTable};
+ghost use Rattle.nr_peel.specs.Due.{work_of};
 ghost use Rattle.nr_peel.specs.Starts.{AreDegrees, IsBlankSweep};
 ghost use Rattle.nr_peel.specs.State.{lifted_checks};
 ghost use Rattle.nr_peel.specs.Sweeps.{AreLanes, AreSought, CountsOf, counted_in, has_count, searched_pairs};
 
 use crate::lanes::Lanes;
 use crate::lifted::Lifted;
+use crate::row_counts::RowCounts;
 use nr_lifting::Planes;
 use std::alloc::{AllocError, Global};
 
@@ -30,7 +32,7 @@ fn degrees(alloc: Global, lifted: &Lifted<'_>) -> Result<Planes, AllocError>
 #[derive(Drop)]
 pub(crate) struct Sweep {
     pub(crate) lanes: Lanes,
-    pub(crate) counts: Planes,
+    pub(crate) counts: RowCounts,
     pub(crate) touches: u64,
 }
 
@@ -40,9 +42,12 @@ impl Sweep {
         requires { IsTable lifted.now.table.now }
         ensures { IfOk result (IsBlankSweep (lifted_checks lifted.now)) }
     {
+        let lanes = Lanes::new(alloc, lifted)?;
+        let planes = degrees(alloc, lifted)?;
+        let counts = RowCounts::new(planes, lifted.plan.graph.rows() as usize);
         Ok(Sweep {
-            lanes: Lanes::new(alloc, lifted)?,
-            counts: degrees(alloc, lifted)?,
+            lanes,
+            counts,
             touches: 0,
         })
     }
@@ -62,9 +67,14 @@ impl Sweep {
             ≤ vec_capacity self.old.lanes.order }
         requires few { self.old.touches
             + searched_pairs (lifted_checks lifted.now) self.old.counts.items < 2 ^ 64 }
+        requires roomy { work_of self.old.counts
+            + 3 * searched_pairs (lifted_checks lifted.now) self.old.counts.items < 2 ^ 63 }
         ensures sought { AreSought (lifted_checks lifted.now) self.old.counts.items
             (lifted_checks lifted.now).rows self.old.lanes self.new.lanes }
-        ensures counts { self.new.counts ≡ self.old.counts }
+        ensures counts { self.new.counts.items ≡ self.old.counts.items }
+        ensures lanes { self.new.counts.lanes ≡ self.old.counts.lanes }
+        ensures worked { work_of self.new.counts ≤ work_of self.old.counts
+            + 3 * searched_pairs (lifted_checks lifted.now) self.old.counts.items }
         ensures touches { self.new.touches ≡ self.old.touches
             + searched_pairs (lifted_checks lifted.now) self.old.counts.items }
         ensures some { result ≡ nat_lt 0 (marked (has_count 1 self.old.counts.items)
@@ -72,7 +82,7 @@ impl Sweep {
     {
         let mut found = false;
         for i in 0..lifted.plan.graph.rows() {
-            let rows = self.lanes.search_block(lifted, &self.counts, i);
+            let rows = self.lanes.search_block(lifted, &mut self.counts, i);
             self.touches += u64::from(rows) * lifted.row(i).len() as u64;
             found |= rows != 0;
         }

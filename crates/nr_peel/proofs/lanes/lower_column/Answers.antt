@@ -25,6 +25,7 @@ lower-requires c =
       mark = rw c.requires.same_marks c.requires.block;
       same = c.requires.same_marks;
       turn = c.turn-turn.ensures.small;
+      room = omega (arith, c.loop-entry.invariant.operations, c.loop-entry-test.true, c.requires.room);
       enough = λ t below.
           let p = hits set z c.args.j M e.row t in
           let hit : ◌≡◌ {A = ℕ} (cond (p e) 1 0) (cond (M (one_at z t c.args.j (value_in set e))) 1 0) = ap {B = ℕ} (λ b. cond (b && M (one_at z t c.args.j (value_in set e))) 1 0) (eq-eqb e.row e.row refl) in
@@ -57,4 +58,6 @@ loop-entry-preserved c =
           omega (arith, more, here, before);
       long = c.lower.ensures.long ∙ c.loop-entry.invariant.long;
       lanes = c.lower.ensures.lanes ∙ c.loop-entry.invariant.lanes;
+      operations = omega (arith, c.lower.ensures.operations, c.loop-entry.invariant.operations);
+      due = omega (arith, c.lower.ensures.due, c.loop-entry.invariant.due);
     }

@@ -1,4 +1,5 @@
-use Rattle.std.proofs.Common.{◌≡◌, ◌*◌, length, refl, ◌∙◌, arith}
+use Rattle.std.proofs.Common.{◌≡◌, ◌≤◌, ◌*◌, length, refl, sym, ap, ◌∙◌, arith}
+use Rattle.std.proofs.Math.Nat.{mul-le-mul_right}
 use Rattle.nr_bitvec.specs.Bit.{bit}
 use Rattle.nr_graphpick.specs.Graph.{cols_of, rows_of}
 use Rattle.nr_segment.specs.CodeBlock.{numbers}
@@ -12,6 +13,7 @@ use Rattle.nr_peel.proofs.lowering.lower_all.Goals.{else-count-ne0, then-count-n
 pub loop-j-init : goal.loop-j-init
 loop-j-init c = record {
   fallen = fallen_none (lifted_checks c.args.lifted.now) c.args.counts.now.items c.args.fresh.now.items c.requires.counts_long;
+  worked = omega arith;
   counts_lanes = refl;
   fresh_lanes = refl;
   fresh_long = refl;
@@ -27,9 +29,13 @@ lower_column-requires-clause-enough c =
     let l = c.args.lifted.now in
     let g = l.plan.graph in
     let es = entries_in g l.table.now in
-    rw c.column-column.ensures
+    rw (c.column-column.ensures, c.rings.ensures)
     (fallen_enough es l.plan.set l.plan.z (rows_of g) (cols_of g) l.plan.sound.size_some (bit c.args.fresh.now.items) c.loop-j.j c.args.counts.now.items c.loop-j.counts.items c.loop-j.fresh.items c.loop-j.visits c.loop-j.invariant.fallen
     c.requires.enough (column_inside l.table.now g c.loop-j.j c.requires.table))
+
+-- the operations so far are at most two a visit
+pub lower_column-requires-clause-room : goal.lower_column-requires-clause-room
+lower_column-requires-clause-room c = omega (arith, c.loop-j.invariant.worked, c.loop-j.invariant.fallen.visited, c.requires.roomy)
 
 pub overflow_mul-visits : goal.overflow_mul-visits
 overflow_mul-visits c =
@@ -39,14 +45,13 @@ overflow_mul-visits c =
     let es = entries_in g l.table.now in
     let j = c.loop-j.j in
     let lanes : c.loop-j.fresh.lanes ≡ z = c.loop-j.invariant.fresh_lanes ∙ c.requires.fresh_lanes in
-    let falls = rw c.column-column.ensures at c.lower_column.ensures.falls in
+    let falls = rw (c.column-column.ensures, c.rings.ensures) at c.lower_column.ensures.falls in
     let cleared = rw lanes at c.clear.ensures.cleared in
-    let read = rw lanes at c.lane.ensures.bits in
-    let clear = rw lanes at c.lane.ensures.clear in
+    let count = rw lanes at c.count-count.ensures in
     let next = fallen_next es l.plan.set z (rows_of g) (cols_of g) l.plan.sound.size_some (bit c.args.fresh.now.items) j c.args.counts.now.items c.loop-j.counts.items c.loop-j.fresh.items c.loop-j.visits c.loop-j.invariant.fallen
-    c.lower_column.new.counts.items c.clear.new.self.items c.lane.result c.lane_count-count.result
-    (column_inside l.table.now g j c.requires.table) c.requires.counts_long c.lower_column.ensures.long falls cleared read (c.lane_count-count.ensures.marked z clear) in
-    let product : c.from.result * length c.column-column.result.now ≡ c.lane_count-count.result * length (column_of es j) = rw (c.from.ensures, c.column-column.ensures) refl in
+    c.lower_column.new.counts.items c.clear.new.self.items c.count-count.result
+    (column_inside l.table.now g j c.requires.table) c.requires.counts_long c.lower_column.ensures.long falls cleared count in
+    let product : c.from.result * length c.column-column.result.now ≡ c.count-count.result * length (column_of es j) = rw (c.from.ensures, c.column-column.ensures) refl in
     omega (arith, next.visited, product, c.requires.few)
 
 pub overflow_add-visits : goal.overflow_add-visits
@@ -57,14 +62,13 @@ overflow_add-visits c =
     let es = entries_in g l.table.now in
     let j = c.loop-j.j in
     let lanes : c.loop-j.fresh.lanes ≡ z = c.loop-j.invariant.fresh_lanes ∙ c.requires.fresh_lanes in
-    let falls = rw c.column-column.ensures at c.lower_column.ensures.falls in
+    let falls = rw (c.column-column.ensures, c.rings.ensures) at c.lower_column.ensures.falls in
     let cleared = rw lanes at c.clear.ensures.cleared in
-    let read = rw lanes at c.lane.ensures.bits in
-    let clear = rw lanes at c.lane.ensures.clear in
+    let count = rw lanes at c.count-count.ensures in
     let next = fallen_next es l.plan.set z (rows_of g) (cols_of g) l.plan.sound.size_some (bit c.args.fresh.now.items) j c.args.counts.now.items c.loop-j.counts.items c.loop-j.fresh.items c.loop-j.visits c.loop-j.invariant.fallen
-    c.lower_column.new.counts.items c.clear.new.self.items c.lane.result c.lane_count-count.result
-    (column_inside l.table.now g j c.requires.table) c.requires.counts_long c.lower_column.ensures.long falls cleared read (c.lane_count-count.ensures.marked z clear) in
-    let product : c.from.result * length c.column-column.result.now ≡ c.lane_count-count.result * length (column_of es j) = rw (c.from.ensures, c.column-column.ensures) refl in
+    c.lower_column.new.counts.items c.clear.new.self.items c.count-count.result
+    (column_inside l.table.now g j c.requires.table) c.requires.counts_long c.lower_column.ensures.long falls cleared count in
+    let product : c.from.result * length c.column-column.result.now ≡ c.count-count.result * length (column_of es j) = rw (c.from.ensures, c.column-column.ensures) refl in
     omega (arith, next.visited, product, c.requires.few)
 
 -- the next column is taken
@@ -76,18 +80,19 @@ loop-j-preserved c =
     let es = entries_in g l.table.now in
     let j = c.loop-j.j in
     let lanes : c.loop-j.fresh.lanes ≡ z = c.loop-j.invariant.fresh_lanes ∙ c.requires.fresh_lanes in
-    let read = rw lanes at c.lane.ensures.bits in
-    let clear = rw lanes at c.lane.ensures.clear in
-    let marks = c.lane_count-count.ensures.marked z clear in
+    let count = rw lanes at c.count-count.ensures in
     elim c.if-count-ne0.branch [
       | then-count-ne0 w ↦
-          let falls = rw w.column-column.ensures at w.lower_column.ensures.falls in
+          let falls = rw (w.column-column.ensures, w.rings.ensures) at w.lower_column.ensures.falls in
           let cleared = rw lanes at w.clear.ensures.cleared in
           let next = fallen_next es l.plan.set z (rows_of g) (cols_of g) l.plan.sound.size_some (bit c.args.fresh.now.items) j c.args.counts.now.items c.loop-j.counts.items c.loop-j.fresh.items c.loop-j.visits c.loop-j.invariant.fallen
-          w.lower_column.new.counts.items w.clear.new.self.items c.lane.result c.lane_count-count.result
-          (column_inside l.table.now g j c.requires.table) c.requires.counts_long w.lower_column.ensures.long falls cleared read marks in
+          w.lower_column.new.counts.items w.clear.new.self.items c.count-count.result
+          (column_inside l.table.now g j c.requires.table) c.requires.counts_long w.lower_column.ensures.long falls cleared count in
           rw (w.counts-is, w.fresh-is, w.visits-is, w.from.ensures, w.column-column.ensures) (record {
             fallen = next;
+            worked =
+                let more : 1 * length (column_of es j) ≤ c.count-count.result * length (column_of es j) = mul-le-mul_right (length (column_of es j)) (omega (arith, w.if-count-ne0.true)) in
+                omega (arith, c.loop-j.invariant.worked, w.lower_column.ensures.operations, w.lower_column.ensures.due, ap length w.column-column.ensures, more);
             counts_lanes = w.lower_column.ensures.lanes ∙ c.loop-j.invariant.counts_lanes;
             fresh_lanes = w.clear.ensures.lanes ∙ c.loop-j.invariant.fresh_lanes;
             fresh_long = w.clear.ensures.long ∙ c.loop-j.invariant.fresh_long;
@@ -96,7 +101,8 @@ loop-j-preserved c =
           rw (w.counts-is, w.fresh-is, w.visits-is) (record {
             fallen =
                 fallen_skip es l.plan.set z (rows_of g) (cols_of g) l.plan.sound.size_some (bit c.args.fresh.now.items) j c.args.counts.now.items c.loop-j.counts.items c.loop-j.fresh.items c.loop-j.visits c.loop-j.invariant.fallen
-                c.lane.result read (omega (arith, marks, w.if-count-ne0.false));
+                (sym count ∙ omega (arith, w.if-count-ne0.false));
+            worked = c.loop-j.invariant.worked;
             counts_lanes = c.loop-j.invariant.counts_lanes;
             fresh_lanes = c.loop-j.invariant.fresh_lanes;
             fresh_long = c.loop-j.invariant.fresh_long;

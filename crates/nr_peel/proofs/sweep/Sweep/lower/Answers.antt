@@ -20,6 +20,7 @@ returns c =
       falls = falls_all ck.rows ck.lanes old new (λ i t. count_by (bit s.lanes.fresh.items) (ck.row i t)) l.plan.sound.size_some (c.lower_all.ensures.counts_long ∙ c.requires.counts_long) c.lower_all.ensures.falls;
       visits = omega (arith, c.lower_all.ensures.visits);
       visited = omega arith;
+      worked = omega (arith, c.lower_all.ensures.worked);
       no_fresh = c.lower_all.ensures.cleared;
       known = refl;
       bits = refl;

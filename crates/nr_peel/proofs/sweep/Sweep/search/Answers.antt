@@ -1,9 +1,8 @@
-use Rattle.std.proofs.Common.{◌≡◌, ◌+◌, ◌*◌, ◌<◌, ◌≤◌, nat_lt, List, length, refl, sym, ap, ◌∙◌, subst, arith}
+use Rattle.std.proofs.Common.{◌≡◌, ℕ, ◌+◌, ◌*◌, ◌<◌, ◌≤◌, nat_lt, List, length, refl, sym, ap, ◌∙◌, subst, arith}
 use Rattle.std.specs.Prelude.{vec_capacity}
 use Rattle.std.proofs.lemmas.Bool.{le-ltb}
 use Rattle.std.proofs.lemmas.Nat.{mul-le}
 use Rattle.std.proofs.Math.Nat.{mul-le-mul_right}
-use Rattle.nr_lifting.specs.Planes.{BlockCounts}
 use Rattle.nr_lifting.specs.Rings.{marked}
 use Rattle.nr_lifting.proofs.LaneBits.{marked-append}
 use Rattle.nr_shifttable.specs.declared.entry.Entry.{Entry}
@@ -23,6 +22,8 @@ loop-i-init c =
     record {
       sought = sought_start ck a.counts.items a.lanes c.requires.lanes;
       counts = refl;
+      lanes = refl;
+      worked = omega arith;
       touches = sym (ap (λ n. a.touches + searched_below ck a.counts.items n) none ∙ omega arith);
       found = sym (ap (λ n. nat_lt 0 (marked (has_count 1 a.counts.items) n)) none ∙ le-ltb 0 0 (omega arith));
     }
@@ -32,8 +33,21 @@ search_block-rows-requires-clause-counted c =
     let ck = lifted_checks c.args.lifted.now in
     let a = c.args.self.now in
     let inv = c.loop-i.invariant in
-    subst (λ (p : BlockCounts). CountsOf ck (counted_in c.loop-i.self.lanes) p.items) (sym inv.counts)
+    subst (λ (p : List ℕ). CountsOf ck (counted_in c.loop-i.self.lanes) p) (sym inv.counts)
     (counts_still ck (counted_in a.lanes) a.counts.items a.lanes c.loop-i.self.lanes inv.sought.fixes c.requires.counted)
+
+pub search_block-rows-requires-clause-long : goal.search_block-rows-requires-clause-long
+search_block-rows-requires-clause-long c = ap length c.loop-i.invariant.counts ∙ c.requires.long
+
+-- the operations so far are at most three a visit
+pub search_block-rows-requires-clause-few : goal.search_block-rows-requires-clause-few
+search_block-rows-requires-clause-few c =
+    let ck = lifted_checks c.args.lifted.now in
+    let a = c.args.self.now in
+    let z = c.args.lifted.now.plan.z in
+    let i = c.loop-i.i in
+    let fits : i * z ≤ ck.rows * z = mul-le-mul_right z (omega (arith, c.loop-i-test.true, c.rows-i-end.ensures)) in
+    omega (arith, c.loop-i.invariant.worked, visits_within ck a.counts.items (i * z) (ck.rows * z) fits, pairs_all ck a.counts.items, c.requires.roomy)
 
 pub search_block-rows-requires-clause-room : goal.search_block-rows-requires-clause-room
 search_block-rows-requires-clause-room c =
@@ -42,7 +56,7 @@ search_block-rows-requires-clause-room c =
     let inv = c.loop-i.invariant in
     let z = c.args.lifted.now.plan.z in
     let block : c.loop-i.i < ck.rows = omega (arith, c.loop-i-test.true, c.rows-i-end.ensures) in
-    subst (λ (p : BlockCounts). length c.loop-i.self.lanes.order.items + marked (λ t. has_count 1 p.items (c.loop-i.i * z + t)) z ≤ vec_capacity c.loop-i.self.lanes.order) (sym inv.counts)
+    subst (λ (p : List ℕ). length c.loop-i.self.lanes.order.items + marked (λ t. has_count 1 p (c.loop-i.i * z + t)) z ≤ vec_capacity c.loop-i.self.lanes.order) (sym inv.counts)
     (sought_room ck a.counts.items c.loop-i.i a.lanes c.loop-i.self.lanes inv.sought block c.requires.room)
 
 pub overflow_mul-self : goal.overflow_mul-self
@@ -61,7 +75,7 @@ overflow_add-self c =
     let i = c.loop-i.i in
     let inv = c.loop-i.invariant in
     let rows : c.from.result ≡ marked (λ t. has_count 1 a.counts.items (i * z + t)) z =
-    c.from.ensures ∙ c.search_block-rows.ensures.rows ∙ ap (λ (p : BlockCounts). marked (λ t. has_count 1 p.items (i * z + t)) z) inv.counts in
+    c.from.ensures ∙ c.search_block-rows.ensures.rows ∙ ap (λ (p : List ℕ). marked (λ t. has_count 1 p (i * z + t)) z) inv.counts in
     let visits : c.from.result * length c.row.result.now ≡ marked (λ t. has_count 1 a.counts.items (i * z + t)) z * length (row_of (entries_in l.plan.graph l.table.now) i) =
     ap (λ m. m * length c.row.result.now) rows ∙ ap (λ (es : List Entry). marked (λ t. has_count 1 a.counts.items (i * z + t)) z * length es) c.row.ensures in
     let fits : (i + 1) * z ≤ ck.rows * z = mul-le-mul_right z (omega (arith, c.loop-i-test.true, c.rows-i-end.ensures)) in
@@ -76,14 +90,16 @@ loop-i-preserved c =
     let i = c.loop-i.i in
     let inv = c.loop-i.invariant in
     let block : IsBlockSought ck a.counts.items i c.loop-i.self.lanes c.search_block-rows.new.self =
-    subst (λ (p : BlockCounts). IsBlockSought ck p.items i c.loop-i.self.lanes c.search_block-rows.new.self) inv.counts c.search_block-rows.ensures.sought in
+    subst (λ (p : List ℕ). IsBlockSought ck p i c.loop-i.self.lanes c.search_block-rows.new.self) inv.counts c.search_block-rows.ensures.sought in
     let found : c.search_block-rows.result ≡ marked (λ t. has_count 1 a.counts.items (i * z + t)) z =
-    c.search_block-rows.ensures.rows ∙ ap (λ (p : BlockCounts). marked (λ t. has_count 1 p.items (i * z + t)) z) inv.counts in
+    c.search_block-rows.ensures.rows ∙ ap (λ (p : List ℕ). marked (λ t. has_count 1 p (i * z + t)) z) inv.counts in
     let visits : c.from.result * length c.row.result.now ≡ marked (λ t. has_count 1 a.counts.items (i * z + t)) z * length (row_of (entries_in l.plan.graph l.table.now) i) =
     ap (λ m. m * length c.row.result.now) (c.from.ensures ∙ found) ∙ ap (λ (es : List Entry). marked (λ t. has_count 1 a.counts.items (i * z + t)) z * length es) c.row.ensures in
     record {
       sought = sought_more ck a.counts.items i a.lanes c.loop-i.self.lanes c.search_block-rows.new.self inv.sought block;
-      counts = inv.counts;
+      counts = c.search_block-rows.ensures.counts ∙ inv.counts;
+      lanes = c.search_block-rows.ensures.lanes ∙ inv.lanes;
+      worked = omega (arith, inv.worked, c.search_block-rows.ensures.worked, ap (λ m. m * length (row_of (entries_in l.plan.graph l.table.now) i)) found, visits_more l a.counts.items i);
       touches = omega (arith, visits, visits_more l a.counts.items i, inv.touches);
       found =
           some_more c.loop-i.found (marked (has_count 1 a.counts.items) (i * z)) c.search_block-rows.result inv.found
@@ -97,6 +113,13 @@ returns-clause-sought c =
     let a = c.args.self.now in
     let all : c.loop-i.i ≡ ck.rows = omega (arith, c.rows-i-end.ensures) in
     subst (λ n. AreSought ck a.counts.items n a.lanes c.loop-i.self.lanes) all c.loop-i.invariant.sought
+
+pub returns-clause-worked : goal.returns-clause-worked
+returns-clause-worked c =
+    let ck = lifted_checks c.args.lifted.now in
+    let a = c.args.self.now in
+    let all : c.loop-i.i ≡ ck.rows = omega (arith, c.rows-i-end.ensures) in
+    omega (arith, c.loop-i.invariant.worked, ap (λ n. searched_below ck a.counts.items (n * ck.lanes)) all, pairs_all ck a.counts.items)
 
 pub returns-clause-touches : goal.returns-clause-touches
 returns-clause-touches c =

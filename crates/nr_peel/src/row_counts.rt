@@ -1,0 +1,108 @@
+//! For each row the count of its positions that aren't known. A row block is due where rows may have come to a count of
+//! one. Each reading and writing of a row block's counts is counted.
+
+ghost use Rattle.std.specs.Prelude.{◌≡◌, ℕ, ◌+◌, ◌*◌, ◌%◌, ◌^◌, ◌<◌, ◌≤◌, ◌==◌, ◌&&◌, if◌then◌else◌, length, slice_index};
+ghost use Rattle.nr_bitvec.specs.Bit.{bit};
+ghost use Rattle.nr_bitvec.specs.Packed.{IsClear};
+ghost use Rattle.nr_lifting.specs.Rings.{is_set, marked};
+ghost use Rattle.nr_peel.specs.Due.{due_in, raised, work_of};
+
+use nr_lifting::{Planes, Rings, lane_count};
+use std::marker::Model;
+
+// Counts of rows. A row block that isn't due has no row with a count of one.
+#[derive(Drop)]
+pub(crate) struct RowCounts {
+    planes: Planes,
+    due: [bool; 46],
+    operations: u64,
+}
+
+impl Model for RowCounts {
+    ghost use Rattle.nr_peel.specs.Due.{AreKept, DueCounts, due_counts};
+
+    ghost Value = { DueCounts };
+
+    ghost view = { λ a. due_counts a.planes a.due a.operations };
+
+    ghost invariant = { λ a. AreKept a.planes a.due };
+}
+
+impl RowCounts {
+    // Counts of `rows` row blocks, all of which are due.
+    pub(crate) fn new(planes: Planes, rows: usize) -> RowCounts
+        requires some { 0 < planes.lanes }
+        requires few { rows ≤ 46 }
+        requires long { length planes.items ≡ rows * planes.lanes }
+        ensures items { result.items ≡ planes.items }
+        ensures lanes { result.lanes ≡ planes.lanes }
+        ensures worked { work_of result ≤ rows }
+    {
+        let mut due = [false; 46];
+        for i in 0..rows {
+            due[i] = true;
+        }
+        RowCounts {
+            planes,
+            due,
+            operations: 0,
+        }
+    }
+
+    // Takes one off those counts of row block `i` to which a rotation by `turn` brings a one of block `j` of `marks`. None
+    // of them is 0. The row block is due then.
+    pub(crate) fn lower(&mut self, i: usize, marks: &Rings, j: usize, turn: usize)
+        requires block { (i + 1) * self.old.lanes ≤ length self.old.items }
+        requires mark { (j + 1) * marks.now.lanes ≤ length marks.now.items }
+        requires same { marks.now.lanes ≡ self.old.lanes }
+        requires turn { turn < self.old.lanes }
+        requires enough { (t : ℕ) → t < self.old.lanes
+            → (if bit marks.now.items (j * self.old.lanes + (t + turn) % self.old.lanes) then 1 else 0)
+            ≤ slice_index self.old.items (i * self.old.lanes + t) }
+        requires room { self.old.operations + 1 < 2 ^ 64 }
+        ensures falls { (h t : ℕ) → t < self.old.lanes
+            → slice_index self.new.items (h * self.old.lanes + t)
+            + (if (i == h) && bit marks.now.items (j * self.old.lanes + (t + turn) % self.old.lanes) then 1 else 0)
+            ≡ slice_index self.old.items (h * self.old.lanes + t) }
+        ensures long { length self.new.items ≡ length self.old.items }
+        ensures lanes { self.new.lanes ≡ self.old.lanes }
+        ensures operations { self.new.operations ≡ self.old.operations + 1 }
+        ensures due { due_in self.new.due ≤ due_in self.old.due + 1 }
+    {
+        self.operations += 1;
+        self.due[i] = true;
+        self.planes.lower(i, marks, j, turn);
+    }
+
+    // Marks those counts of row block `i` that are exactly one. Where it isn't due nothing is read.
+    pub(crate) fn ones(&mut self, i: usize) -> [u64; 6]
+        requires block { (i + 1) * self.old.lanes ≤ length self.old.items }
+        requires room { self.old.operations + 1 < 2 ^ 64 }
+        ensures ones { (t : ℕ) → t < self.old.lanes → is_set result t
+            ≡ (slice_index self.old.items (i * self.old.lanes + t) == 1) }
+        ensures clear { IsClear result self.old.lanes }
+        ensures items { self.new.items ≡ self.old.items }
+        ensures lanes { self.new.lanes ≡ self.old.lanes }
+        ensures operations { self.new.operations
+            ≡ self.old.operations + (if bit self.old.due i then 1 else 0) }
+        ensures due { due_in self.new.due ≤ due_in self.old.due }
+        ensures paid { marked (is_set result) self.old.lanes ≡ 0
+            → work_of self.new ≡ work_of self.old }
+    {
+        if !self.due[i] {
+            return [0; 6];
+        }
+        self.operations += 1;
+        let ones = self.planes.ones(i);
+        self.due[i] = lane_count(&ones) != 0;
+        ones
+    }
+
+    // Counts `n` lane operations.
+    pub(crate) fn count(&mut self, n: u64)
+        requires { self.old.operations + n < 2 ^ 64 }
+        ensures { self.new ≡ raised self.old n }
+    {
+        self.operations += n;
+    }
+}
