@@ -33,10 +33,33 @@ class ByHand(unittest.TestCase):
             self.assertEqual(room.numbers(), [check])
 
     def test_lengths(self):
-        """3832 bits at the rate 0.25 have two code blocks, of which the second has the longer length (5.4.2.1)."""
-        room = built.Room(2, item=4)
-        self.assertEqual(built.call("nr_lengths", 512, 3832, built.tx(28, qm=4), room), 0)
-        self.assertEqual(room.numbers(), [12, 16])
+        """At the rate 0.25, 3832 bits have two code blocks and 7632 bits three. Of two the second has the longer length, of
+        three the third; those that are scheduled share all (5.4.2.1)."""
+        for a, tx, wanted in [
+            (3832, built.tx(28, qm=4), [12, 16]),
+            (3832, built.tx(4, qm=4), [0, 4]),
+            (3832, built.tx(28, qm=2, nl=2), [12, 16]),
+            (7632, built.tx(28, qm=4), [8, 8, 12]),
+            (7632, built.tx(28, qm=4, blocks=[0, 2]), [12, 0, 16]),
+        ]:
+            room = built.Room(len(wanted), item=4)
+            self.assertEqual(built.call("nr_lengths", 512, a, tx, room), 0)
+            self.assertEqual(room.numbers(), wanted)
+
+    def test_refused_lengths(self):
+        """Two code blocks, and then three, of which a fourth one alone is scheduled."""
+        for status, a, tx in [
+            (51, 3832, built.tx(28, qm=3)),
+            (52, 3832, built.tx(28, qm=4, nl=5)),
+            (53, 3832, built.tx(0, qm=4)),
+            (53, 3832, built.tx(4_194_308, qm=4)),
+            (54, 3832, built.tx(30, qm=4)),
+            (55, 7632, built.tx(28, qm=4, blocks=[3])),
+            (54, 7632, built.tx(30, qm=4, blocks=[3])),
+        ]:
+            room = built.Room(3 if a == 7632 else 2, item=4)
+            self.assertEqual(built.call("nr_lengths", 512, a, tx, room), status)
+            self.assertTrue(room.is_unwritten())
 
     def test_buffer(self):
         """24 bits have 40 with their CRC, so that Zc is 7 and N 350. A limit of 200 bits keeps 300 (5.4.2.1)."""
@@ -54,11 +77,12 @@ class ByHand(unittest.TestCase):
         self.assertEqual(list(room.octets()), [octet for column in COLUMNS for octet in octets_of(column)])
 
     def test_received(self):
-        """The codeword of zeros is zeros. A first transmission is erased, by octets of every kind; the second one is
-        heard whole; and the third one's ones contradict it."""
+        """The codeword of zeros is zeros. At first nothing is sent. The first transmission is erased, by octets of every
+        kind; the second one is heard whole; and the third one's ones contradict it."""
         txs = [built.tx(8), built.tx(184), built.tx(8)]
         heard = bytes([2, 3, 255, 2, 2, 2, 2, 2]) + bytes(184) + b"\1" * 8
         for count, places, outcomes, left, block in [
+            (0, 0, [], 24, b"\xa5"),
             (1, 8, [0], 24, b"\xa5"),
             (2, 192, [0, 1], 0, b"\0"),
             (3, 200, [0, 1, 2], 0, b"\xa5"),

@@ -57,7 +57,7 @@ ROWS = [
             "attached 1 31323334353637383931c3",
             "code 1 0 31323334353637383931c3",
         ),
-        blocks=lines(NINE_OCTETS),
+        blocks=NINE_OCTETS,
     ),
     Row(
         "seventeen octets are written with their CRC",

@@ -4,9 +4,11 @@ that cannot be sent; and nothing is written."""
 from __future__ import annotations
 
 from programs import Program, Row
-from texts import LEAST, QUARTER_RATE, six, ten
+from texts import FULL_RATE, LEAST, QUARTER_RATE, six, ten
 
 RECORD = six("1,0,24,4,1,-")
+
+NO_BUFFER, NO_BUFFER_LOW = FULL_RATE + "lbrm = 0\n", QUARTER_RATE + "lbrm = 0\n"
 
 # A small table has no base graph 2, which block 01 takes.
 FILES = [
@@ -28,7 +30,9 @@ FILES = [
 BLOCKS = [
     Row("37 octets without base graph 1", refused="block 1 Graph", blocks="00" * 37),
     Row("the second block is of 37 octets", refused="block 2 Graph", blocks="01\n" + "00" * 37),
-    Row("a limit of nothing", refused="block 1 NoBuffer", settings="rate2048 = 2048\nlbrm = 0\n"),
+    Row("a limit of nothing", refused="block 1 NoBuffer", settings=NO_BUFFER),
+    Row("37 octets with a limit of nothing", refused="block 1 Graph", settings=NO_BUFFER, blocks="00" * 37),
+    Row("955 octets with a limit of nothing", refused="block 1 Uneven", settings=NO_BUFFER_LOW, blocks="00" * 955),
     Row(
         "a limit of nothing for the second of two blocks",
         refused="block 2 NoBuffer",

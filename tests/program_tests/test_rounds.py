@@ -100,6 +100,26 @@ PROCESSES = [
     ),
 ]
 
+# Four rounds of one process, each of two transmissions of 28 bits: the link erases the last four bits of the one and all
+# others of the other. Neither burst alone fixes all, and both do in either order.
+FIRST_24, LAST_4 = "1,0,28,1,1,24-27,-,all,15", "1,0,28,1,1,0-23,-,all,15"
+TWO_BURSTS = row(
+    "two bursts of a round",
+    [
+        f"{FIRST_24},1", f"{FIRST_24},0", f"{LAST_4},1", f"{LAST_4},0",
+        f"{FIRST_24},1", f"{LAST_4},0", f"{LAST_4},1", f"{FIRST_24},0",
+    ],
+    "sent 1 1 1021033", "left 1 1 0 4", "sent 2 1 1021033", "left 2 1 0 4",
+    "process 15 block 1 open tx 2 failed 1 of 1",
+    "sent 3 1 1021033", "left 3 1 0 24", "sent 4 1 1021033", "left 4 1 0 24",
+    "process 15 block 1 open tx 2 failed 1 of 1",
+    "sent 5 1 1021033", "left 5 1 0 4", "sent 6 1 1021033", "left 6 1 0 0",
+    "process 15 block 1 delivered tx 2 failed 0 of 1 01",
+    "sent 7 1 1021033", "left 7 1 0 24", "sent 8 1 1021033", "left 8 1 0 0",
+    "process 15 block 1 delivered tx 2 failed 0 of 1 01",
+    total(4, delivered=2, still_open=2, failed=2),
+)
+
 # A transmission that is refused begins a round too, and ends the one before it, whose line stands before its own.
 REFUSED = [
     row(
@@ -172,7 +192,7 @@ class Rounds(Program):
     """Against the rows above."""
 
     def test_run(self) -> None:
-        self.check("run", PROCESSES + REFUSED)
+        self.check("run", [*PROCESSES, TWO_BURSTS, *REFUSED])
 
     def test_sixteen_processes(self) -> None:
         self.check("run", [sixteen()])

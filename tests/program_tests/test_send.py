@@ -7,7 +7,7 @@ import functools
 import operator
 
 from programs import Program, Row
-from texts import ALL_OF_01, QUARTER_RATE, counted, eight, lines, six
+from texts import ALL_OF_01, QUARTER_RATE, counted, eight, lines, practice_of, practice_with, record, six
 from worked_texts import both_graphs
 
 TWO_CODE_BLOCKS = "00" * 479
@@ -24,6 +24,11 @@ ROWS = [
         schedule=six("1,0,184,1,1,-", "1,0,24,4,1,-", "1,3,40,1,1,-", "1,4,24,1,1,-", "1,0,30,4,1,-"),
     ),
     Row(
+        "three that are refused, for the first of their causes",
+        lines("refused 1 1 Rv", "refused 2 1 Order", "refused 3 1 Ragged"),
+        schedule=six("1,4,30,3,1,-", "1,0,30,3,1,-", "1,0,30,4,1,-"),
+    ),
+    Row(
         "two transmissions do not depend on one before them",
         lines("sent 1 1 000a51", "sent 2 1 8000002102"),
         schedule=six("1,0,24,4,1,-", "1,3,40,1,1,-"),
@@ -37,6 +42,60 @@ ROWS = [
         blocks=TWO_CODE_BLOCKS,
         schedule=eight("1,0,4,4,1,-,-,1", "1,0,4,4,1,-,-,2"),
     ),
+]
+
+# What was sent or refused before a transmission is nothing to it: column 15 on, by two bits a symbol, and a version that
+# there is not. The information columns are 0 1 1 0 2 1, the parity columns 0 3 3 0, and then information columns, rotated.
+BEHIND_OTHERS = [
+    Row(
+        f"{record} behind two others",
+        lines("sent 1 1 08", "refused 2 1 Rv", f"sent 3 1 {bits}"),
+        schedule=six("1,1,8,2,1,-", "1,4,30,3,1,-", record),
+    )
+    for record, bits in [("1,0,24,4,1,-", "000a51"), ("1,3,40,1,1,-", "8000002102"), ("1,0,24,1,1,-", "102103")]
+]
+
+# The values of the first parity column turn it, and with it the next three. In row 1 column 0 stands too, turned by one.
+BY_THE_TABLE = [
+    Row(
+        f"the first parity column turned by {first} and {middle}",
+        f"sent 1 1 {bits}\n",
+        table=practice_with(record(2, 1, 0, 1), record(2, 0, 10, first), record(2, 2, 10, middle)),
+        blocks="80",
+        schedule=six("1,0,32,1,1,-"),
+    )
+    for first, middle, bits in [(0, 1, "91888191"), (0, 0, "91881808"), (1, 0, "91888801")]
+]
+
+AGAIN_AND_AGAIN = Row(
+    "a buffer of one bit, which is a one", "sent 1 1 fff\n", settings=ONE_BIT, blocks="80", schedule=six("1,2,12,2,1,-")
+)
+
+# 296 zeros but for the last bit have the CRC 1021, so columns 19 and 20, of 15 bits, have ones at 10 14 and 6 11, and the
+# other information columns none. The parity columns 22 to 25 are 0, column 20, both and column 19; columns 41 and 63 are
+# column 19, rotated by 19 and 41, and columns 42 and 64 column 20, by 20 and 42. Positions 0 to 29 are not sent, nor are
+# the fillers 312 to 329.
+ONES = [265, 269, 276, 281, 303, 308, 318, 322, 323, 326, 337, 341, 573, 577, 583, 588, 900, 911, 921, 926]
+GRAPH_1 = Row(
+    "the first 972 bits",
+    f"sent 1 1 {sum(1 << (971 - place) for place in ONES):0243x}\n",
+    table=practice_of(1),
+    blocks="00" * 36 + "01",
+    schedule=six("1,0,972,1,1,-"),
+)
+
+# 479 octets have two code blocks, the second of which begins with bit 1928, and Zc is 208. So redundancy version 0 begins
+# with bits 416 and 2344: the octets 35 36 and 27 28 of those that count up. A group of four bits has one of each quarter.
+COUNTING = bytes(place % 255 + 1 for place in range(479)).hex()
+TWO_BEGINNINGS = [
+    Row(
+        f"the beginnings of two code blocks, by {qm}",
+        f"sent 1 1 {bits}\n",
+        settings=QUARTER_RATE,
+        blocks=COUNTING,
+        schedule=six(f"1,0,32,{qm},1,-"),
+    )
+    for qm, bits in [(1, "35362728"), (4, "05be14e4")]
 ]
 
 CAUSES = ["Rv", "Order", "Layers", "Total", "Ragged", "NoneScheduled"]
@@ -86,6 +145,21 @@ class Send(Program):
 
     def test_rows(self) -> None:
         self.check("send", ROWS)
+
+    def test_behind_others(self) -> None:
+        self.check("send", BEHIND_OTHERS)
+
+    def test_first_parity_columns(self) -> None:
+        self.check("send", BY_THE_TABLE)
+
+    def test_one_bit(self) -> None:
+        self.check("send", [AGAIN_AND_AGAIN])
+
+    def test_graph_1(self) -> None:
+        self.check("send", [GRAPH_1])
+
+    def test_beginnings_of_two_code_blocks(self) -> None:
+        self.check("send", TWO_BEGINNINGS)
 
     def test_refused_transmissions(self) -> None:
         self.check("send", [REFUSED_TRANSMISSIONS])

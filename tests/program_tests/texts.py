@@ -54,6 +54,19 @@ def record(graph: int, row: int, column: int, *values: int) -> str:
     return ",".join(map(str, (graph, row, column, *eight_values)))
 
 
+def practice_of(graph: int) -> str:
+    """The practice table's rule for a base graph: in rows 0 to 3 the even or the odd information columns, in each row from
+    4 on one information column, rotated by the row's number. Of base graph 2 it is the practice table."""
+    rows, information = {1: (46, 22), 2: (42, 10)}[graph]
+    found = []
+    for row, tail in enumerate([[0, 1], [1, 2], [0, 2, 3], [0, 3]]):
+        found += [(row, column, 0) for column in range(row % 2, information, 2)]
+        found += [(row, information + column, int((row, column) == (2, 0))) for column in tail]
+    for row in range(4, rows):
+        found += [(row, row % information, row), (row, information + row, 0)]
+    return lines(*(record(graph, *it) for it in found))
+
+
 def practice_with(*changes: str) -> str:
     """The practice table with these records in place of those at their places, or behind all others."""
     found = list(RECORDS)

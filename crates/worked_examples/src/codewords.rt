@@ -9,10 +9,7 @@ use nr_shifttable::Table;
 use std::alloc::Global;
 use std::test::Fail;
 
-/// The code block of block 01 with its CRC: 6 columns of 4 bits.
-const BLOCK_01: [u8; 3] = [0x01, 0x10, 0x21];
-
-/// By hand, a digit a column, with E and O the sums of the even and the odd information columns. The first four parity
+/// By hand, a digit a column: with E and O the sums of the even and the odd information columns, the first four parity
 /// columns are 0, E, E + O and O, and each later one is an information column, rotated.
 pub(crate) const WORD_01: [u8; 26] = [
     0x01, 0x10, 0x21, 0x00, 0x00, 0x03, 0x30, 0x22, 0x00, 0x00, 0x08, 0x10, 0x88, 0x00, 0x00, 0x02,
@@ -47,36 +44,6 @@ pub(crate) fn word_of(
     } else {
         Err(EncFault::Memory)
     }
-}
-
-/// What encoding returns for 24 bits in a base graph.
-fn answer_in(
-    alloc: Global,
-    table: &Table,
-    graph: Graph,
-    octets: &[u8; 3],
-) -> Result<Result<Word, EncFault>, Fail> {
-    let plan = plan(graph, 24)?;
-    let bits = Bits::from_bytes(alloc, octets)?;
-    Ok(word_of(alloc, table, &plan, &bits))
-}
-
-/// The word of 24 bits in base graph 2.
-fn encoded(alloc: Global, table: &Table, octets: &[u8; 3]) -> Result<Word, Fail> {
-    Ok(answer_in(alloc, table, Graph::Two, octets)??)
-}
-
-/// The octets of the word of block 01.
-fn word_of_01(alloc: Global) -> Result<[u8; 26], Fail> {
-    let table = practice(alloc, 0, 1, false)?;
-    let word = encoded(alloc, &table, &BLOCK_01)?;
-    Ok(octets_of(&word))
-}
-
-#[test]
-fn block_01_has_the_word_by_hand(rt: HostRuntime) -> Result<(), Fail> {
-    assert!(rt; word_of_01(rt.alloc())? == WORD_01);
-    Ok(())
 }
 
 /// The length of a new word, and whether it meets every row.

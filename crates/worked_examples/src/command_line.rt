@@ -14,7 +14,7 @@ fn job_of(alloc: Global, line: &str) -> Result<Job, JobFault> {
     job(alloc, &words)
 }
 
-/// The job of a line's words as text: the job with its paths, or what kind of fault it is.
+/// The job as text, with its paths, or what kind of fault it is.
 fn asked(alloc: Global, line: &str) -> Result<String, AllocError> {
     match job_of(alloc, line) {
         Ok(job) => format!(in alloc; "{job:?}"),

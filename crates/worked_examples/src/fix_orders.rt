@@ -54,7 +54,7 @@ fn is_stuck_on(
     Ok((is_it, is_stuck(table, plan, &shown.given, &set)))
 }
 
-/// Whether what is stuck after these positions is a set, and whether that is accepted, under a table.
+/// What is stuck over a table after these positions, beside a set.
 fn stuck_over(
     alloc: Global,
     table: &Table,
@@ -66,7 +66,7 @@ fn stuck_over(
     is_stuck_on(alloc, table, &plan, &shown, set)
 }
 
-/// Whether what is stuck after these positions is a set, and whether that is accepted, under the practice table.
+/// What is stuck over the practice table after them, beside a set.
 fn stuck_after(alloc: Global, ranges: &[Range], set: Set<'_>) -> Result<(bool, bool), Fail> {
     let table = practice(alloc, 0, 1, false)?;
     stuck_over(alloc, &table, ranges, set)
@@ -125,14 +125,14 @@ fn is_changed_order(
     Ok(is_order(table, plan, &shown.given, &changed)?)
 }
 
-/// Whether the changed steps are a fix order, under a table and after all that is sent.
+/// Whether the changed steps of a table are a fix order, after all that is sent.
 fn is_order_over(alloc: Global, table: &Table, change: Change) -> Result<bool, Fail> {
     let plan = plan(Graph::Two, 24)?;
     let shown = shown_over(alloc, table, &plan, Told::Ranges(WHOLE))?;
     is_changed_order(alloc, table, &plan, &shown, change)
 }
 
-/// Whether they are one under the practice table.
+/// Whether the changed steps are a fix order over the practice table.
 fn is_order_after_all(alloc: Global, change: Change) -> Result<bool, Fail> {
     let table = practice(alloc, 0, 1, false)?;
     is_order_over(alloc, &table, change)
@@ -158,7 +158,7 @@ fn is_step_over(alloc: Global, table: &Table, plan: &Plan, step: Fix) -> Result<
     is_order(table, plan, &given, &[step])
 }
 
-/// Whether a step is accepted of the practice table where every position was given.
+/// Whether one step is accepted over the practice table.
 fn is_step(alloc: Global, row: u16, lane: u16, pos: u32) -> Result<bool, Fail> {
     let table = practice(alloc, 0, 1, false)?;
     let plan = plan(Graph::Two, 24)?;
@@ -202,20 +202,20 @@ fn needless(alloc: Global, table: &Table, plan: &Plan, given: &Bits) -> Result<u
 /// needless.
 type Columns = (u32, (bool, bool), u32);
 
-/// What a peeler shows of these columns, and how many of them can be left out.
+/// What is said of the columns, by what a peeler shows.
 fn columns_of(alloc: Global, table: &Table, plan: &Plan, shown: &Shown) -> Result<Columns, Fail> {
     let stuck = is_stuck_on(alloc, table, plan, shown, (COLUMNS, NONE, None))?;
     let needless = needless(alloc, table, plan, &shown.given)?;
     Ok((shown.left, stuck, needless))
 }
 
-/// What a new peeler of a plan shows of them.
+/// What is said of the columns of a plan.
 fn columns_over(alloc: Global, table: &Table, plan: &Plan) -> Result<Columns, Fail> {
     let shown = shown_over(alloc, table, plan, Told::Without(COLUMNS))?;
     columns_of(alloc, table, plan, &shown)
 }
 
-/// What a new peeler of so many bits shows of them, over the practice table.
+/// What is said of the columns where so many bits are coded over the practice table.
 fn columns_at(alloc: Global, bits: u32) -> Result<Columns, Fail> {
     let table = practice(alloc, 0, 1, false)?;
     columns_over(alloc, &table, &plan(Graph::Two, bits)?)

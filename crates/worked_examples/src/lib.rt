@@ -24,11 +24,9 @@ mod concatenation;
 #[cfg(test)]
 mod crcs;
 #[cfg(test)]
-mod ends;
+mod endless;
 #[cfg(test)]
 mod fix_orders;
-#[cfg(test)]
-mod hostile_ends;
 #[cfg(test)]
 mod interleaving;
 #[cfg(test)]

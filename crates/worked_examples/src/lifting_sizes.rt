@@ -70,7 +70,7 @@ fn a_lane_of_10110_turned_by_2_is_11010(rt: HostRuntime) -> Result<(), Fail> {
     Ok(())
 }
 
-// Five bits from bit 1 on, rotated and added by the call that takes the size when it runs.
+// Five bits rotated and added by the call that takes the size when it runs.
 fn turned_block(alloc: Global, src: &Bits, p: usize) -> Result<Bits, Fail> {
     let mut acc = bits_of(alloc, &[0b1_00000_11])?;
     if acc.len() == 8 && src.len() == 8 && p < 5 {

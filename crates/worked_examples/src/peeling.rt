@@ -34,14 +34,19 @@ pub(crate) fn size_of(plan: &Plan) -> u32
     plan.graph.cols() * plan.z
 }
 
-/// Marks of positions of a code block.
-pub(crate) fn marks_of(alloc: Global, plan: &Plan, ranges: &[Range]) -> Result<Bits, AllocError> {
-    let mut marks = Bits::zeros(alloc, size_of(plan).min(30_000))?;
+/// Marks positions of a list.
+fn mark(marks: &mut Bits, ranges: &[Range]) {
     for pos in 0..marks.len() {
         if is_in(ranges, pos as u32) && pos < marks.len() {
             marks.set(pos, true);
         }
     }
+}
+
+/// Marks of positions of a code block.
+pub(crate) fn marks_of(alloc: Global, plan: &Plan, ranges: &[Range]) -> Result<Bits, AllocError> {
+    let mut marks = Bits::zeros(alloc, size_of(plan).min(30_000))?;
+    mark(&mut marks, ranges);
     Ok(marks)
 }
 
@@ -170,7 +175,7 @@ pub(crate) struct Shown {
     pub(crate) stuck: Vec<u32>,
 }
 
-/// What a peeler shows.
+/// What a peeler shows now.
 fn show(alloc: Global, peeler: &Peeler<'_>) -> Result<Shown, AllocError> {
     Ok(Shown {
         left: peeler.left(),
@@ -181,7 +186,7 @@ fn show(alloc: Global, peeler: &Peeler<'_>) -> Result<Shown, AllocError> {
     })
 }
 
-/// What a peeler shows that is given positions.
+/// What a peeler shows after it was given positions.
 fn shown_after(
     alloc: Global,
     peeler: &mut Peeler<'_>,
@@ -195,7 +200,7 @@ fn shown_after(
     Ok(show(alloc, peeler)?)
 }
 
-/// What a new peeler shows that is given positions.
+/// What a new peeler shows after it was given positions.
 pub(crate) fn shown_over(
     alloc: Global,
     table: &Table,
@@ -209,10 +214,18 @@ pub(crate) fn shown_over(
 }
 
 /// What a peeler knows that was given these positions of the word.
+fn knows_over(alloc: Global, table: &Table, plan: &Plan, ranges: &[Range]) -> Result<Knows, Fail> {
+    match shown_over(alloc, table, plan, Told::Ranges(ranges)) {
+        Ok(shown) => Ok(shown.knows),
+        Err(fault) => Err(fault),
+    }
+}
+
+/// What a peeler over the practice table knows then.
 fn knows_after(alloc: Global, ranges: &[Range]) -> Result<Knows, Fail> {
     let table = practice(alloc, 0, 1, false)?;
     let plan = plan(Graph::Two, 24)?;
-    Ok(shown_over(alloc, &table, &plan, Told::Ranges(ranges))?.knows)
+    knows_over(alloc, &table, &plan, ranges)
 }
 
 // The fillers are columns 6 to 9, and each tenth column behind them is a copy of one.

@@ -83,7 +83,11 @@ fn is_as_rounds(
 }
 
 /// Whether the checks accept the fix order, or the stopping set if positions are left.
-fn is_shown(table: &Table, plan: &Plan, peeler: &Peeler<'_>) -> Result<bool, AllocError> {
+pub(crate) fn is_shown(
+    table: &Table,
+    plan: &Plan,
+    peeler: &Peeler<'_>,
+) -> Result<bool, AllocError> {
     if peeler.left() == 0 {
         is_order(table, plan, peeler.given(), peeler.order())
     } else {
@@ -124,7 +128,7 @@ fn peels(
     Ok(is_right.then_some(peeler.left() == 0))
 }
 
-/// Gives a new peeler a part of a word: whether it comes out whole, or none where something disagrees.
+/// Gives a new peeler a part of a word.
 fn peeled(
     alloc: Global,
     table: &Table,

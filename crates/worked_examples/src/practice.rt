@@ -144,15 +144,6 @@ pub(crate) fn zeros(alloc: Global, count: u32) -> Result<Bits, AllocError> {
     Bits::zeros(alloc, count.min(10_000))
 }
 
-/// A transport block of so many octets, none of which is zero: 1, 2 and so on to 255, and again.
-pub(crate) fn counting(alloc: Global, count: u32) -> Result<Bits, AllocError> {
-    let mut octets = Vec::new(alloc);
-    for i in 0..count.min(8192) {
-        octets.push((i % 255 + 1) as u8)?;
-    }
-    few_bits_of(alloc, &octets)
-}
-
 /// The bits of octets, of which a test has few.
 pub(crate) fn few_bits_of(alloc: Global, octets: &[u8]) -> Result<Bits, AllocError> {
     let most = octets.len().min(8192);

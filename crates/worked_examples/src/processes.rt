@@ -43,8 +43,10 @@ pub(crate) fn takes(
     places: &[Heard],
 ) -> Answer {
     if p < 16 && processes.begun(p) {
-        let outcome = processes.take(p, &on_one_layer(rv, g, 1), places)?;
-        Ok(Some(told(&outcome)))
+        match processes.take(p, &on_one_layer(rv, g, 1), places) {
+            Ok(outcome) => Ok(Some(told(&outcome))),
+            Err(fault) => Err(fault),
+        }
     } else {
         Ok(None)
     }
@@ -92,7 +94,7 @@ pub(crate) fn left_of_two(processes: &Processes<'_>) -> [Option<u32>; 2] {
     [left(processes, 0), left(processes, 1)]
 }
 
-/// What the last of some calls on processes returns, and what is left then of the first two.
+/// What comes of calls on these processes.
 fn after_all(
     alloc: Global,
     table: &Table,
@@ -106,13 +108,13 @@ fn after_all(
     Ok((last, left_of_two(processes)))
 }
 
-/// What comes of these calls on new processes.
+/// What comes of calls on new processes.
 fn after_over(alloc: Global, table: &Table, calls: &[Call]) -> Result<After, Fail> {
     let mut processes = Processes::new(alloc, table, PLAIN);
     after_all(alloc, table, &mut processes, calls)
 }
 
-/// What comes of these calls on new processes over the practice table.
+/// What comes of calls on new processes over the practice table.
 fn after(alloc: Global, calls: &[Call]) -> Result<After, Fail> {
     let table = practice(alloc, 0, 1, false)?;
     after_over(alloc, &table, calls)
@@ -210,7 +212,7 @@ fn begun_over(alloc: Global, table: &Table, list: &[(u8, u32)]) -> (Answer, [boo
     (last, which(&processes))
 }
 
-/// Begins new processes over the practice table with so many bits each.
+/// What beginning new processes over the practice table comes to.
 fn begun_of(alloc: Global, list: &[(u8, u32)]) -> Result<(Answer, [bool; 16]), Fail> {
     let table = practice(alloc, 0, 1, false)?;
     Ok(begun_over(alloc, &table, list))

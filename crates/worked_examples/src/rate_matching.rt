@@ -1,11 +1,10 @@
-//! Buffers, where their redundancy versions begin, and what these select; and the lengths of code blocks: by hand from
-//! TS 38.212, 5.4.2.1. A code block of 40 bits with base graph 2 has Zc 7 and N 350. Positions 0 to 13 are punctured,
+//! Buffers, where their redundancy versions begin, and what these select, by hand from TS 38.212, 5.4.2.1. A code block of 40 bits with base graph 2 has Zc 7 and N 350. Positions 0 to 13 are punctured,
 //! 40 to 69 are fillers. A limit of 200 bits keeps 300 of them, and one of 1 bit a single one.
 
 use nr_bitvec::Bits;
 use nr_graphpick::Graph;
 use nr_ldpcenc::Word;
-use nr_ratematch::{Buffer, Mask, RmFault, lengths, select};
+use nr_ratematch::{Buffer, select};
 use nr_segment::plan;
 use std::alloc::Global;
 use std::test::Fail;
@@ -36,18 +35,6 @@ fn limits_keep_350_or_300_bits_or_1(rt: HostRuntime) -> Result<(), Fail> {
     ] {
         assert!(rt; starts_of(lbrm)? == (ncb, starts), "{ncb} bits are kept");
     }
-    Ok(())
-}
-
-/// Why there is no buffer.
-fn no_buffer(lbrm: Option<u32>) -> Result<Option<RmFault>, Fail> {
-    let plan = plan(Graph::Two, 40)?;
-    Ok(Buffer::new(&plan, lbrm).err())
-}
-
-#[test]
-fn a_limit_of_0_bits_keeps_no_buffer(rt: HostRuntime) -> Result<(), Fail> {
-    assert_eq!(rt; no_buffer(Some(0))?, Some(RmFault::NoBuffer));
     Ok(())
 }
 
@@ -124,64 +111,4 @@ fn versions_go_on_past_the_end(rt: HostRuntime) -> Result<(), Fail> {
         );
     }
     Ok(())
-}
-
-/// The lengths of at most three code blocks of base graph 2, or why there are none.
-fn shared(b: u32, (g, qm, nl): (u32, u32, u32), mask: Mask) -> Result<[u32; 3], RmFault> {
-    let Ok(plan) = plan(Graph::Two, b) else {
-        return Ok([9; 3]);
-    };
-    let lengths = lengths(&plan, g, qm, nl, mask)?;
-    let mut shared = [0; 3];
-    for (r, e) in lengths.iter().take(3).enumerate() {
-        shared[r] = *e;
-    }
-    Ok(shared)
-}
-
-/// The bits of two code blocks, and of three.
-const TWO: u32 = 3856;
-
-const THREE: u32 = 7656;
-
-// Of two code blocks the second has the longer length, of three the third.
-#[test]
-fn longer_lengths_come_last(rt: HostRuntime) {
-    for (b, way, lengths) in [
-        (TWO, (28, 4, 1), [12, 16, 0]),
-        (TWO, (4, 4, 1), [0, 4, 0]),
-        (TWO, (28, 2, 2), [12, 16, 0]),
-        (THREE, (28, 4, 1), [8, 8, 12]),
-    ] {
-        assert!(rt; shared(b, way, Mask::All) == Ok(lengths), "{b} bits");
-    }
-}
-
-#[test]
-fn lengths_are_refused(rt: HostRuntime) {
-    for (way, fault) in [
-        ((28, 3, 1), RmFault::Order),
-        ((28, 4, 5), RmFault::Layers),
-        ((0, 4, 1), RmFault::Total),
-        ((4_194_308, 4, 1), RmFault::Total),
-        ((30, 4, 1), RmFault::Ragged),
-    ] {
-        assert!(rt; shared(TWO, way, Mask::All) == Err(fault), "{fault}");
-    }
-}
-
-// The first and the third of three, and a fourth one that there is not.
-#[test]
-fn scheduled_code_blocks_share_the_bits(rt: HostRuntime) {
-    for (marks, g, answer) in [
-        (0b101, 28, Ok([12, 0, 16])),
-        (0b1000, 28, Err(RmFault::NoneScheduled)),
-        (0b1000, 30, Err(RmFault::Ragged)),
-    ] {
-        let mask = Mask::Only([marks, 0, 0, 0, 0, 0]);
-        assert!(rt;
-            shared(THREE, (g, 4, 1), mask) == answer,
-            "{g} bits of {marks}"
-        );
-    }
 }

@@ -1,59 +1,14 @@
-//! Receivers over the practice table, whose words can be written by hand.
+//! Receivers of zeros over the practice table. What comes of other receptions stands in
+//! `tests/program_tests/test_receptions.py`.
 
 use crate::practice::{PLAIN, on_one_layer, practice};
-use crate::receptions::{ALL, End, First, HandedUp, NONE, end_of_firsts, receiver_of, told};
+use crate::receptions::{HandedUp, receiver_of, take};
 use nr_blockdesk::{DeskFault, Heard, Receiver};
 use nr_shifttable::Table;
 use std::alloc::Global;
 use std::test::Fail;
 
-/// What comes of first bits of 24 zeros.
-fn end_of_zeros(alloc: Global, firsts: &[First<'_>]) -> Result<End, Fail> {
-    end_of_firsts(alloc, PLAIN, &[0; 3], firsts)
-}
-
-const OF_01: [First<'static>; 3] = [
-    (24, ALL, NONE),
-    (28, &[(24, 27)], NONE),
-    (24, ALL, &[(3, 3), (10, 10), (15, 15), (22, 23)]),
-];
-
-const AFTER_01: [(HandedUp, u32); 4] = [
-    (HandedUp::Open, 24),
-    (HandedUp::Open, 4),
-    (HandedUp::Delivered(0x01), 0),
-    (HandedUp::Contradiction, 0),
-];
-
-// By hand from the practice table's rows: the first 24 bits are columns 2 to 5, 10 and 11. Row 0 then fixes column 0, and
-// column 1 is left, as rows 1 to 3 have two unknown columns each. Column 12 fixes it by row 1. At last 24 zeros are
-// received in place of the first bits.
-#[test]
-fn block_01_is_delivered_by_28_bits(rt: HostRuntime) -> Result<(), Fail> {
-    for n in 0..4 {
-        let end = end_of_firsts(rt.alloc(), PLAIN, &[0x01], &OF_01[..n])?;
-        assert!(rt; (end.told, end.left) == AFTER_01[n]);
-    }
-    Ok(())
-}
-
-#[test]
-fn a_clash_is_no_contradiction_while_positions_are_left(rt: HostRuntime) -> Result<(), Fail> {
-    let end = end_of_zeros(rt.alloc(), &[(1, ALL, NONE), (1, ALL, ALL)])?;
-    assert!(rt; (end.told, end.left) == (HandedUp::Open, 39));
-    Ok(())
-}
-
-// Place 110 is a parity bit: all positions below K' are as in the block of zeros.
-#[test]
-fn a_flipped_parity_bit_contradicts(rt: HostRuntime) -> Result<(), Fail> {
-    let end = end_of_zeros(rt.alloc(), &[(320, ALL, &[(110, 110)])])?;
-    assert!(rt; end.told == HandedUp::Contradiction);
-    Ok(())
-}
-
-/// What a receiver returns to places of one kind, as many as there are bits and `more` besides, of a redundancy
-/// version.
+/// What a receiver answers to places of one kind, as many as there are bits and `more` besides, of a redundancy version.
 fn takes(
     receiver: &mut Receiver<'_>,
     (rv, g): (u32, usize),
@@ -63,7 +18,7 @@ fn takes(
     let places = [place; 320];
     let tx = on_one_layer(rv, g.min(320) as u32, 1);
     let count = g.saturating_add(more).min(320);
-    Ok(told(&receiver.take(&tx, &places[..count])?))
+    take(receiver, &tx, &places[..count])
 }
 
 /// A redundancy version, G, what all places are, and how many places there are besides.
@@ -72,7 +27,7 @@ type Turn = ((u32, usize), Heard, usize);
 /// What a receiver returns the last time, if there is a turn.
 type Last = Option<Result<HandedUp, DeskFault>>;
 
-/// What a receiver returns to the last of these turns.
+/// What a receiver answers to the last of these turns.
 fn last_answer(receiver: &mut Receiver<'_>, turns: &[Turn]) -> Last {
     let mut last = None;
     for (bits, place, more) in turns.iter().copied() {
@@ -81,7 +36,7 @@ fn last_answer(receiver: &mut Receiver<'_>, turns: &[Turn]) -> Last {
     last
 }
 
-/// What a new receiver of 24 bits returns to the last of these turns.
+/// What a new receiver of 24 bits answers to the last of them.
 fn answer_over(alloc: Global, table: &Table, turns: &[Turn]) -> Result<Last, Fail> {
     match receiver_of(alloc, table, PLAIN, 24) {
         Ok(mut receiver) => Ok(last_answer(&mut receiver, turns)),
@@ -89,7 +44,7 @@ fn answer_over(alloc: Global, table: &Table, turns: &[Turn]) -> Result<Last, Fai
     }
 }
 
-/// What a new receiver over the practice table returns to the last of these turns.
+/// What it answers over the practice table.
 fn answer_to(alloc: Global, turns: &[Turn]) -> Result<Last, Fail> {
     let table = practice(alloc, 0, 1, false)?;
     answer_over(alloc, &table, turns)

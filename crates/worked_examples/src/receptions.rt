@@ -1,10 +1,10 @@
 //! What arrives of a transport block over a practice table, what its receiver returns, and whether the checkers accept
 //! what its peelers show.
 
+use crate::peeling_by_rounds::is_shown;
 use crate::practice::{few_bits_of, on_one_layer, practice};
 use nr_bitvec::Bits;
 use nr_blockdesk::{DeskFault, Heard, Outcome, Receiver, Sender, Settings, Tx};
-use nr_peel::{check_order, check_stuck};
 use nr_shifttable::Table;
 use std::alloc::{AllocError, Global};
 use std::test::Fail;
@@ -35,7 +35,7 @@ pub(crate) enum HandedUp {
     Contradiction,
 }
 
-/// What an outcome hands up.
+/// What is handed up by an outcome.
 pub(crate) fn told(outcome: &Outcome) -> HandedUp {
     match outcome {
         Outcome::Open => HandedUp::Open,
@@ -75,37 +75,54 @@ pub(crate) fn arrives(
     Ok(places)
 }
 
-/// What a receiver returns to what arrives of a transmission.
+/// What a receiver answers to places of a transmission.
+pub(crate) fn take(
+    receiver: &mut Receiver<'_>,
+    tx: &Tx,
+    places: &[Heard],
+) -> Result<HandedUp, DeskFault> {
+    match receiver.take(tx, places) {
+        Ok(outcome) => Ok(told(&outcome)),
+        Err(fault) => Err(fault),
+    }
+}
+
+/// What a receiver answers to what arrives of sent bits.
+fn hear_bits(
+    alloc: Global,
+    bits: &Bits,
+    receiver: &mut Receiver<'_>,
+    arrival: &Arrival<'_>,
+) -> Result<HandedUp, DeskFault> {
+    match arrives(alloc, bits, arrival.heard, arrival.flipped) {
+        Ok(places) => take(receiver, &arrival.tx, &places),
+        Err(_) => Err(DeskFault::Memory),
+    }
+}
+
+/// What a receiver answers to what arrives of a transmission.
 fn hear(
     alloc: Global,
     sender: &Sender<'_>,
     receiver: &mut Receiver<'_>,
     arrival: &Arrival<'_>,
-) -> Result<HandedUp, Fail> {
-    let bits = send(sender, &arrival.tx)?;
-    let places = arrives(alloc, &bits, arrival.heard, arrival.flipped)?;
-    Ok(told(&receiver.take(&arrival.tx, &places)?))
+) -> Result<HandedUp, DeskFault> {
+    match send(sender, &arrival.tx) {
+        Ok(bits) => hear_bits(alloc, &bits, receiver, arrival),
+        Err(fault) => Err(fault),
+    }
 }
 
 /// Whether the checkers accept what the peeler of code block `r` shows.
 fn is_accepted(table: &Table, receiver: &Receiver<'_>, r: u32) -> Result<bool, AllocError> {
-    let plan = receiver.plan();
-    if r >= plan.c {
-        return Ok(false);
+    if r < receiver.plan().c {
+        is_shown(table, receiver.plan(), receiver.peeler(r))
+    } else {
+        Ok(false)
     }
-    let peeler = receiver.peeler(r);
-    if peeler.given().len() != (plan.graph.cols() * plan.z) as usize {
-        return Ok(false);
-    }
-    if receiver.left(r) > 0 {
-        let set = peeler.stuck()?;
-        return Ok(check_stuck(table, plan, peeler.given(), &set));
-    }
-    let mut known = peeler.given().try_clone()?;
-    Ok(check_order(table, plan, &mut known, peeler.order()))
 }
 
-/// Whether the checkers accept what the peeler of every code block shows.
+/// Whether they accept it of every code block.
 fn are_accepted(table: &Table, receiver: &Receiver<'_>) -> Result<bool, AllocError> {
     for r in 0..receiver.plan().c {
         if !is_accepted(table, receiver, r)? {
@@ -179,7 +196,7 @@ fn hear_all(
     sender: &Sender<'_>,
     receiver: &mut Receiver<'_>,
     arrivals: &[Arrival<'_>],
-) -> Result<HandedUp, Fail> {
+) -> Result<HandedUp, DeskFault> {
     let mut last = HandedUp::Open;
     for arrival in arrivals {
         last = hear(alloc, sender, receiver, arrival)?;
@@ -211,7 +228,7 @@ fn end_after(
     end_at(table, receiver, told)
 }
 
-/// What a new receiver shows after a list of transmissions of a transport block.
+/// What a new receiver shows of a transport block.
 fn end_of(
     alloc: Global,
     table: &Table,
@@ -225,7 +242,7 @@ fn end_of(
     }
 }
 
-/// What a new receiver shows after transmissions of octets over a table.
+/// What a new receiver shows of octets that are sent over a table.
 pub(crate) fn end_over(
     alloc: Global,
     table: &Table,
@@ -250,7 +267,7 @@ fn arrivals_of<'a>(alloc: Global, firsts: &[First<'a>]) -> Result<Vec<Arrival<'a
     Ok(arrivals)
 }
 
-/// What a new receiver shows after first bits of octets, over the practice table of base graph 2.
+/// What a new receiver shows of octets over the practice table, of which first bits are sent.
 pub(crate) fn end_of_firsts(
     alloc: Global,
     settings: Settings,

@@ -1,77 +1,8 @@
-//! What table files are read of: sources, their records and fields, and the practice table's file cut short.
+//! What files in memory are read of: feeds, by steps and to their ends.
 
-ghost use Rattle.std.specs.Prelude.{◌≡◌, ◌≤◌, None};
-
-use crate::practice::practice_text;
-use nr_graphpick::Graph;
-use nr_shifttable::{Broken, Endless, Feed, ReadFault, Source, Table, TableFault, read_to_end};
+use nr_shifttable::{Feed, ReadFault, read_to_end};
 use std::alloc::Global;
-use std::process::Abort;
 use std::test::Fail;
-
-// Reads a source without end: why it is refused, and after how many pulls.
-fn read_endless(alloc: Global, limit: usize) -> (Option<ReadFault>, u32) {
-    let mut source = Endless::new();
-    let fault = read_to_end(alloc, &mut source, limit).err();
-    (fault, source.pulls())
-}
-
-// It is refused at the first octet too many.
-#[test]
-fn a_source_without_end_is_too_long(rt: HostRuntime) {
-    for (limit, pulls) in [(0, 1), (1, 2), (5, 6), (70_000, 70_001)] {
-        let said = read_endless(rt.alloc(), limit);
-        assert!(rt; said == (Some(ReadFault::TooLong), pulls), "limit {limit}");
-    }
-}
-
-// A source without end that fails at one pull alone, and counts its pulls.
-#[derive(Drop)]
-struct Failing {
-    pulls: u32,
-    fail: u32,
-    failed: u64,
-}
-
-impl Source for Failing {
-    ghost remaining = { λ _. None };
-
-    ghost failures = { λ source. source.failed };
-
-    fn pull(&mut self, buf: &mut [u8]) -> Result<usize, Broken> {
-        self.pulls = self.pulls.saturating_add(1);
-        if self.pulls == self.fail {
-            self.failed += 1;
-            return Err(Broken);
-        }
-        match buf.first_mut() {
-            Some(octet) => {
-                *octet = b'1';
-                Ok(1)
-            }
-            None => Ok(0),
-        }
-    }
-}
-
-// Reads it: why it is refused, and after how many pulls.
-fn read_failing(alloc: Global, fail: u32) -> (Option<ReadFault>, u32) {
-    let mut source = Failing {
-        pulls: 0,
-        fail,
-        failed: 0,
-    };
-    let fault = read_to_end(alloc, &mut source, 100).err();
-    (fault, source.pulls)
-}
-
-#[test]
-fn a_source_that_failed_is_pulled_no_more(rt: HostRuntime) {
-    for fail in 1..10 {
-        let said = read_failing(rt.alloc(), fail);
-        assert!(rt; said == (Some(ReadFault::Broken), fail), "pull {fail}");
-    }
-}
 
 // Reads a feed of the octets of "shift": their number or the fault.
 fn read_shift(
@@ -103,55 +34,5 @@ fn feeds_are_read_to_their_ends(rt: HostRuntime) -> Result<(), Fail> {
             "step {step} fail {fail}"
         );
     }
-    Ok(())
-}
-
-// Why a table file of these octets is refused.
-fn fault_of(alloc: Global, text: &[u8]) -> Option<TableFault> {
-    Table::of_text(alloc, text).err()
-}
-
-// What the reader returns to a beginning of the practice table's file. It has so many whole records and a line of so
-// many commas, with so many digits behind the last of them.
-fn cut_answer(records: u32, commas: u32, digits: u32) -> Option<TableFault> {
-    let whole = match (commas, digits) {
-        (0, 0) => records,
-        (10, 0) => return Some(TableFault::Number(records.saturating_add(1))),
-        (10, _) => records.saturating_add(1),
-        _ if records == 0 => return Some(TableFault::Fields),
-        _ => return Some(TableFault::Csv(records.saturating_add(1))),
-    };
-    match whole {
-        0 => Some(TableFault::Empty),
-        1..=28 => Some(TableFault::Core(Graph::Two)),
-        105 => None,
-        // The last row lacks its own column.
-        _ if whole % 2 == 0 => Some(TableFault::Extension(Graph::Two)),
-        _ => Some(TableFault::MissingRow(Graph::Two)),
-    }
-}
-
-// Reads each beginning of a text, and compares with what is wanted. Returns how many records there are.
-fn read_beginnings(rt: &impl Abort, alloc: Global, text: &[u8]) -> u32 {
-    let (mut records, mut commas, mut digits) = (0_u32, 0_u32, 0_u32);
-    for (at, octet) in text.iter().enumerate() {
-        let want = cut_answer(records, commas, digits);
-        assert!(rt;
-            fault_of(alloc, &text[..at]) == want,
-            "the first {at} octets"
-        );
-        (records, commas, digits) = match *octet {
-            b'\n' => (records.saturating_add(1), 0, 0),
-            b',' => (records, commas.saturating_add(1), 0),
-            _ => (records, commas, digits.saturating_add(1)),
-        };
-    }
-    records
-}
-
-#[test]
-fn each_beginning_of_the_practice_table(rt: HostRuntime) -> Result<(), Fail> {
-    let text = practice_text(rt.alloc())?;
-    assert!(rt; read_beginnings(&rt, rt.alloc(), text.as_bytes()) == 105);
     Ok(())
 }

@@ -50,14 +50,19 @@ fn begins_with(word: &Word, bits: &Bits) -> bool {
     true
 }
 
-/// Whether a word meets every row, by the entries alone and by what tests words.
-fn is_word(table: &Table, cells: &[Cell], plan: &Plan, word: &Word) -> bool {
+/// Whether all rows add up to zero, by the entries alone.
+fn all_add_up(cells: &[Cell], plan: &Plan, word: &Word) -> bool {
     for t in 0..plan.z {
         if !adds_up(cells, plan, t, word) {
             return false;
         }
     }
-    is_met(table, plan, word)
+    true
+}
+
+/// Whether a word meets every row, by the entries alone and by what tests words.
+fn is_word(table: &Table, cells: &[Cell], plan: &Plan, word: &Word) -> bool {
+    all_add_up(cells, plan, word) && is_met(table, plan, word)
 }
 
 /// Bits that look drawn at random.

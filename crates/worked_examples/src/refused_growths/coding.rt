@@ -73,14 +73,14 @@ fn close_over(
 /// What that call returns, and the marks of the positions from 0 and from 200 on.
 type Closed = (Result<(), AllocError>, [u8; 2]);
 
-/// What that call returns for marks, and what it leaves of them.
+/// Closes over marks.
 fn closed(alloc: Global, table: &Table, plan: &Plan, known: &mut Bits) -> Closed {
     let answer = close_over(alloc, table, plan, known);
     (answer, [known.octet(0), known.octet(200)])
 }
 
-/// What it returns for marks, and whether it is right at last, where memory is there: a call that is refused is made
-/// again.
+/// What closing comes to, and whether the answer is right at last, where memory is there: that of a call made again if it
+/// was refused.
 fn closed_again(alloc: Global, table: &Table, plan: &Plan, known: &mut Bits) -> (Closed, bool) {
     let first = closed(alloc, table, plan, known);
     if first.0.is_err() && !has_memory(alloc) {
@@ -94,14 +94,14 @@ fn closed_again(alloc: Global, table: &Table, plan: &Plan, known: &mut Bits) -> 
     (first, answer.is_ok() && marks[1] == 0x80)
 }
 
-/// What it returns for a word where position 0 alone is marked.
+/// What closing over position 0 alone comes to.
 fn closed_over(alloc: Global, table: &Table, plan: &Plan) -> Result<(Closed, bool), AllocError> {
     let mut known = Bits::zeros(alloc, 208)?;
     known.set(0, true);
     Ok(closed_again(alloc, table, plan, &mut known))
 }
 
-/// What it returns for that word over the practice table.
+/// What closing over position 0 of the practice table comes to.
 fn closed_at_last(alloc: Global) -> Result<(Closed, bool), Fail> {
     let table = practice(alloc, 0, 1, false)?;
     let plan = plan(Graph::Two, 24)?;
@@ -118,13 +118,20 @@ fn closes(rt: HostRuntime) -> Result<(), Fail> {
     Ok(())
 }
 
-/// Processes 0 and 1 begin with an octet, and receive so many ones that 4 positions are left.
-fn begin_two(processes: &mut Processes<'_>) -> Result<(), DeskFault> {
-    for p in 0..2 {
-        begins(processes, p, 8)?;
-        takes(processes, p, (0, 24), &[Heard::One; 24])?;
+/// A process begins with an octet, and hears so many ones that 4 positions are left.
+fn begin_one(processes: &mut Processes<'_>, p: u8) -> Answer {
+    match begins(processes, p, 8) {
+        Ok(_) => takes(processes, p, (0, 24), &[Heard::One; 24]),
+        Err(fault) => Err(fault),
     }
-    Ok(())
+}
+
+/// Processes 0 and 1 begin so.
+fn begin_two(processes: &mut Processes<'_>) -> Answer {
+    match begin_one(processes, 0) {
+        Ok(_) => begin_one(processes, 1),
+        Err(fault) => Err(fault),
+    }
 }
 
 /// A call on a process: it begins with an octet, or hears a place.
@@ -140,7 +147,7 @@ fn calls(processes: &mut Processes<'_>, p: u8, is_begin: bool) -> Answer {
 /// each.
 type Answers = [(Answer, [Option<u32>; 2]); 2];
 
-/// What these calls return on processes that have not begun.
+/// The answers of processes that have not begun.
 fn answers_of(
     alloc: Global,
     processes: &mut Processes<'_>,
@@ -158,13 +165,13 @@ fn answers_of(
     Ok([first, (again, left_of_two(processes))])
 }
 
-/// What these calls return on new processes.
+/// The answers of new processes.
 fn answers_over(alloc: Global, table: &Table, is_begin: bool) -> Result<Answers, Fail> {
     let mut processes = Processes::new(alloc, table, PLAIN);
     answers_of(alloc, &mut processes, is_begin)
 }
 
-/// What these calls return on new processes over the practice table.
+/// The answers of new processes over the practice table.
 fn answers(alloc: Global, is_begin: bool) -> Result<Answers, Fail> {
     let table = practice(alloc, 0, 1, false)?;
     answers_over(alloc, &table, is_begin)

@@ -30,7 +30,7 @@ fn push_one(bits: &mut Bits) -> Result<(), AllocError> {
     Ok(())
 }
 
-// Puts a one behind a short list, again where it is refused.
+// Pushes, and once more where that is refused.
 fn push_one_again(rt: &impl Abort, alloc: Global, bits: &mut Bits) -> Result<(), AllocError> {
     let answer = push_one(bits);
     if answer.is_err() {

@@ -1,0 +1,47 @@
+//! Files without an end: each gives one octet a pull, and is pulled once more than it may have octets.
+
+use nr_files::{ScheduleFault, read_schedule};
+use nr_shifttable::{Endless, ReadFault, Table, TableFault, read_to_end};
+use std::alloc::Global;
+
+/// Why a table without an end is refused, and after how many pulls.
+fn read_table(alloc: Global) -> (Option<TableFault>, u32) {
+    let mut source = Endless::new();
+    let fault = Table::read(alloc, &mut source).err();
+    (fault, source.pulls())
+}
+
+// A table file has at most 4,194,304 octets.
+#[test]
+fn an_endless_table_is_too_long(rt: HostRuntime) {
+    assert!(rt; read_table(rt.alloc()) == (Some(TableFault::TooLong), 4_194_305));
+}
+
+/// Why a schedule without an end is refused, and after how many pulls.
+fn read_records(alloc: Global) -> (Option<ScheduleFault>, u32) {
+    let mut source = Endless::new();
+    let fault = read_schedule(alloc, 1, &mut source).err();
+    (fault, source.pulls())
+}
+
+// A schedule has at most 16,777,216 octets.
+#[test]
+fn an_endless_schedule_is_too_long(rt: HostRuntime) {
+    assert!(rt; read_records(rt.alloc()) == (Some(ScheduleFault::TooLong), 16_777_217));
+}
+
+/// Why a source is refused that may have so many octets, and after how many pulls.
+fn read_source(alloc: Global, limit: usize) -> (Option<ReadFault>, u32) {
+    let mut source = Endless::new();
+    let fault = read_to_end(alloc, &mut source, limit).err();
+    (fault, source.pulls())
+}
+
+// A blocks file may have 100,000,000 octets, of which each is a pull: the same call with lower limits.
+#[test]
+fn an_endless_source_is_too_long(rt: HostRuntime) {
+    for (limit, pulls) in [(0, 1), (1, 2), (5, 6), (70_000, 70_001)] {
+        let said = read_source(rt.alloc(), limit);
+        assert!(rt; said == (Some(ReadFault::TooLong), pulls), "limit {limit}");
+    }
+}
