@@ -26,15 +26,6 @@ pub(crate) fn joined(bits: Bits, more: &Bits) -> Result<Bits, Fail> {
     Ok(bits)
 }
 
-/// A list with another bit at a place that it has.
-pub(crate) fn changed(bits: Bits, place: usize, bit: bool) -> Bits {
-    let mut bits = bits;
-    if place < bits.len() {
-        bits.set(place, bit);
-    }
-    bits
-}
-
 /// Puts a bit behind a short list.
 fn push(bits: &mut Bits, bit: bool) -> Result<(), Fail> {
     if bits.len() < 10_000 {

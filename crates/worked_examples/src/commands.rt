@@ -1,11 +1,9 @@
-//! Commands over texts in memory: one that is refused, one that is done, and a text over an output with little room. The
-//! texts of all commands, and what each end that breaks makes of them, stand in `tests/program_tests`.
+//! A command over a text in memory, and a text over an output with little room. The texts of all commands, and what each
+//! end that breaks makes of them, stand in `tests/program_tests`.
 
 ghost use Rattle.std.specs.Prelude.{◌<◌};
 
-use crate::practice::practice_text;
 use nr_commands::{RunFault, Tape, cut, put_all};
-use nr_linkcommands::run;
 use nr_segment::SegFault;
 use nr_shifttable::Feed;
 use nr_transmission::DeskFault;
@@ -28,46 +26,6 @@ fn cut_in_three(alloc: Global) -> Result<(Result<(), RunFault>, usize), AllocErr
 fn cut_refuses_955_octets(rt: HostRuntime) -> Result<(), Fail> {
     let fault = RunFault::Desk(2, DeskFault::Seg(SegFault::Uneven));
     assert!(rt; cut_in_three(rt.alloc())? == (Err(fault), 0));
-    Ok(())
-}
-
-/// How `run` ends under the practice table and the highest code rate, and what it wrote.
-fn run_in_memory(
-    alloc: Global,
-    blocks: &[u8],
-    schedule: &[u8],
-) -> Result<(Result<(), RunFault>, Tape), AllocError> {
-    let mut table = Feed::new(practice_text(alloc)?.into_bytes(), 64, 0);
-    let mut settings = Feed::new(Vec::from_slice(alloc, b"rate2048 = 2048\n")?, 1, 0);
-    let mut blocks = Feed::new(Vec::from_slice(alloc, blocks)?, 1, 0);
-    let mut schedule = Feed::new(Vec::from_slice(alloc, schedule)?, 1, 0);
-    let mut tape = Tape::new(alloc, 4096, 1, 0)?;
-    let answer = run(
-        alloc,
-        &mut table,
-        &mut settings,
-        &mut blocks,
-        &mut schedule,
-        &mut tape,
-    );
-    Ok((answer, tape))
-}
-
-/// Whether `run` ends well, and writes this text.
-fn writes(alloc: Global, blocks: &[u8], schedule: &[u8], text: &[u8]) -> Result<bool, AllocError> {
-    let (answer, tape) = run_in_memory(alloc, blocks, schedule)?;
-    Ok(answer == Ok(()) && tape.bytes() == text)
-}
-
-// Block 01 under the practice table has 184 bits to be sent, all of which are heard.
-#[test]
-fn run_delivers_block_01(rt: HostRuntime) -> Result<(), Fail> {
-    let schedule = b"block,rv,g,qm,nl,erase\n1,0,184,1,1,-\n";
-    let want: &[u8] = b"sent 1 1 1021033022000008108800000240220000081088000002\n\
-        left 1 1 0 0\n\
-        block 1 delivered tx 1 failed 0 of 1 01\n\
-        total blocks 1 delivered 1 open 0 contradiction 0 codeblocks 1 failed 0\n";
-    assert!(rt; writes(rt.alloc(), b"01", schedule, want)?);
     Ok(())
 }
 

@@ -160,8 +160,8 @@ fn is_step_over(alloc: Global, table: &Table, plan: &Plan, step: Fix) -> Result<
 
 /// Whether one step is accepted over the practice table.
 fn is_step(alloc: Global, row: u16, lane: u16, pos: u32) -> Result<bool, Fail> {
-    let table = practice(alloc, 0, 1, false)?;
     let plan = plan(Graph::Two, 24)?;
+    let table = practice(alloc, 0, 1, false)?;
     Ok(is_step_over(alloc, &table, &plan, Fix { row, lane, pos })?)
 }
 
@@ -217,8 +217,9 @@ fn columns_over(alloc: Global, table: &Table, plan: &Plan) -> Result<Columns, Fa
 
 /// What is said of the columns where so many bits are coded over the practice table.
 fn columns_at(alloc: Global, bits: u32) -> Result<Columns, Fail> {
+    let plan = plan(Graph::Two, bits)?;
     let table = practice(alloc, 0, 1, false)?;
-    columns_over(alloc, &table, &plan(Graph::Two, bits)?)
+    columns_over(alloc, &table, &plan)
 }
 
 // Position by position at lifting size 7, and by words at 32.

@@ -223,8 +223,8 @@ fn knows_over(alloc: Global, table: &Table, plan: &Plan, ranges: &[Range]) -> Re
 
 /// What a peeler over the practice table knows then.
 fn knows_after(alloc: Global, ranges: &[Range]) -> Result<Knows, Fail> {
-    let table = practice(alloc, 0, 1, false)?;
     let plan = plan(Graph::Two, 24)?;
+    let table = practice(alloc, 0, 1, false)?;
     knows_over(alloc, &table, &plan, ranges)
 }
 

@@ -5,7 +5,7 @@ use crate::receptions::{HandedUp, arrives, left_of, sent_of, told};
 use nr_bitvec::Bits;
 use nr_blockdesk::{DeskFault, Heard, Processes};
 use nr_shifttable::Table;
-use std::alloc::Global;
+use std::alloc::{AllocError, Global};
 use std::test::Fail;
 
 /// A call on a process.
@@ -167,29 +167,51 @@ const REFUSED: [(Call, After); 6] = [
     ),
 ];
 
-/// The index of the first of these calls that comes to something else.
-fn first_other(alloc: Global, list: &[(Call, After)]) -> Result<Option<usize>, Fail> {
+/// The first of these calls.
+fn calls_of(alloc: Global, list: &[(Call, After)]) -> Result<Vec<Call>, AllocError> {
     let mut calls = Vec::new(alloc);
-    for (i, (call, wanted)) in list.iter().copied().enumerate() {
-        calls.push(call)?;
-        if after(alloc, &calls)? != wanted {
-            return Ok(Some(i));
+    for (call, _) in list {
+        calls.push(*call)?;
+    }
+    Ok(calls)
+}
+
+/// What comes of them.
+fn comes_of(alloc: Global, list: &[(Call, After)]) -> Result<After, Fail> {
+    let calls = calls_of(alloc, list)?;
+    after(alloc, &calls)
+}
+
+/// Whether the last of these calls comes to what stands beside it.
+fn is_as_said(alloc: Global, list: &[(Call, After)]) -> Result<bool, Fail> {
+    let found = comes_of(alloc, list)?;
+    match list.last() {
+        Some((_, wanted)) => Ok(found == *wanted),
+        None => Ok(false),
+    }
+}
+
+/// Whether each of these calls does.
+fn are_as_said(alloc: Global, list: &[(Call, After)]) -> Result<bool, Fail> {
+    for n in 0..list.len() {
+        if !is_as_said(alloc, &list[..n + 1])? {
+            return Ok(false);
         }
     }
-    Ok(None)
+    Ok(true)
 }
 
 // By hand: 24 bits leave 4 of 24 information bits, which four more fix, and 32 bits leave none. What one process
 // received is nothing to the other one, nor to itself once it began again.
 #[test]
 fn processes_are_kept_apart(rt: HostRuntime) -> Result<(), Fail> {
-    assert!(rt; first_other(rt.alloc(), &TWO)?.is_none());
+    assert!(rt; are_as_said(rt.alloc(), &TWO)?);
     Ok(())
 }
 
 #[test]
 fn a_refused_call_leaves_what_was_heard(rt: HostRuntime) -> Result<(), Fail> {
-    assert!(rt; first_other(rt.alloc(), &REFUSED)?.is_none());
+    assert!(rt; are_as_said(rt.alloc(), &REFUSED)?);
     Ok(())
 }
 

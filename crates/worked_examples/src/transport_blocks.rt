@@ -10,7 +10,7 @@ use nr_graphpick::PickFault;
 use nr_ratematch::RmFault;
 use nr_segment::SegFault;
 use nr_shifttable::Table;
-use std::alloc::Global;
+use std::alloc::{AllocError, Global};
 use std::test::Fail;
 
 /// Why there is no sender of a block, where the limited buffer keeps no bit.
@@ -69,11 +69,18 @@ fn coded_over(alloc: Global, table: &Table, block: &Bits) -> Result<Coded, DeskF
     }
 }
 
+/// What the sender of block 01 has.
+fn coded_01_over(alloc: Global, table: &Table) -> Result<Coded, DeskFault> {
+    match few_bits_of(alloc, &[0x01]) {
+        Ok(block) => coded_over(alloc, table, &block),
+        Err(_) => Err(DeskFault::Memory),
+    }
+}
+
 /// What the sender of block 01 has over the practice table.
 fn coded_01(alloc: Global) -> Result<Coded, Fail> {
     let table = practice(alloc, 0, 1, false)?;
-    let block = few_bits_of(alloc, &[0x01])?;
-    Ok(coded_over(alloc, &table, &block)?)
+    Ok(coded_01_over(alloc, &table)?)
 }
 
 #[test]
@@ -82,18 +89,28 @@ fn a_sender_keeps_the_word(rt: HostRuntime) -> Result<(), Fail> {
     Ok(())
 }
 
+/// Whether a fault is written so.
+fn is_written(alloc: Global, fault: DeskFault, name: &str) -> Result<bool, AllocError> {
+    match fault.to_string(alloc) {
+        Ok(text) => Ok(text.as_str() == name),
+        Err(error) => Err(error),
+    }
+}
+
+const NAMES: &[(DeskFault, &str)] = &[
+    (DeskFault::Size, "Size"),
+    (DeskFault::Pick(PickFault::RateRange), "RateRange"),
+    (DeskFault::Seg(SegFault::Uneven), "Uneven"),
+    (DeskFault::Graph, "Graph"),
+    (DeskFault::Rv, "Rv"),
+    (DeskFault::Rm(RmFault::NoBuffer), "NoBuffer"),
+    (DeskFault::Memory, "Memory"),
+];
+
 #[test]
 fn the_innermost_fault_is_written(rt: HostRuntime) -> Result<(), Fail> {
-    for (fault, name) in [
-        (DeskFault::Size, "Size"),
-        (DeskFault::Pick(PickFault::RateRange), "RateRange"),
-        (DeskFault::Seg(SegFault::Uneven), "Uneven"),
-        (DeskFault::Graph, "Graph"),
-        (DeskFault::Rv, "Rv"),
-        (DeskFault::Rm(RmFault::NoBuffer), "NoBuffer"),
-        (DeskFault::Memory, "Memory"),
-    ] {
-        assert!(rt; fault.to_string(rt.alloc())?.as_str() == name, "{name}");
+    for (fault, name) in NAMES.iter().copied() {
+        assert!(rt; is_written(rt.alloc(), fault, name)?, "{name}");
     }
     Ok(())
 }

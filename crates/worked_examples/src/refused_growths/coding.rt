@@ -103,8 +103,8 @@ fn closed_over(alloc: Global, table: &Table, plan: &Plan) -> Result<(Closed, boo
 
 /// What closing over position 0 of the practice table comes to.
 fn closed_at_last(alloc: Global) -> Result<(Closed, bool), Fail> {
-    let table = practice(alloc, 0, 1, false)?;
     let plan = plan(Graph::Two, 24)?;
+    let table = practice(alloc, 0, 1, false)?;
     Ok(closed_over(alloc, &table, &plan)?)
 }
 
