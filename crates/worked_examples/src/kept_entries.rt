@@ -62,17 +62,25 @@ fn kept_of(alloc: Global, table: &Table) -> Result<Vec<KeptEntry>, Fail> {
     Ok(entries)
 }
 
-// A range of the entries of the practice table of both base graphs, as a caller keeps them, made a table.
-fn table_of(alloc: Global, from: usize, to: usize) -> Result<Result<Table, EntriesFault>, Fail> {
-    let entries = kept_of(alloc, &practice_of_both(alloc)?)?;
-    let to = to.min(entries.len());
-    Ok(Table::of_entries(alloc, &entries[from.min(to)..to]))
+// The entries of the practice table of both base graphs, as a caller keeps them.
+fn kept_of_both(alloc: Global) -> Result<Vec<KeptEntry>, Fail> {
+    let table = practice_of_both(alloc)?;
+    kept_of(alloc, &table)
+}
+
+// An item of the table of entries.
+fn item_of(alloc: Global, entries: &[KeptEntry], n: u32) -> Result<Option<Item>, EntriesFault> {
+    match Table::of_entries(alloc, entries) {
+        Ok(table) => Ok(table.item(n)),
+        Err(fault) => Err(fault),
+    }
 }
 
 #[test]
 fn a_table_is_kept_by_its_entries(rt: HostRuntime) -> Result<(), Fail> {
-    let table = table_of(rt.alloc(), 0, 242)??;
-    assert!(rt; table.item(156) == item(Graph::Two, 2, 10, 1));
+    let entries = kept_of_both(rt.alloc())?;
+    assert!(rt; entries.len() == 242);
+    assert!(rt; item_of(rt.alloc(), &entries, 156)? == item(Graph::Two, 2, 10, 1));
     Ok(())
 }
 

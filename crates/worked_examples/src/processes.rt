@@ -60,7 +60,20 @@ pub(crate) fn begins(processes: &mut Processes<'_>, p: u8, a: u32) -> Answer {
     Ok(None)
 }
 
-/// What a call returns.
+/// What a process is answered that hears of an octet.
+fn hears(
+    alloc: Global,
+    table: &Table,
+    processes: &mut Processes<'_>,
+    (p, octet): (u8, u8),
+    tx: (u32, u32),
+    (from, count): (usize, u32),
+) -> Result<Answer, Fail> {
+    let places = places_of(alloc, table, octet, count, from)?;
+    Ok(takes(processes, p, tx, &places))
+}
+
+/// What a call is answered.
 fn answer(
     alloc: Global,
     table: &Table,
@@ -69,10 +82,7 @@ fn answer(
 ) -> Result<Answer, Fail> {
     match call {
         Begin(p, a) => Ok(begins(processes, p, a)),
-        Hear(p, octet, tx, (from, count)) => {
-            let places = places_of(alloc, table, octet, count, from)?;
-            Ok(takes(processes, p, tx, &places))
-        }
+        Hear(p, octet, tx, range) => hears(alloc, table, processes, (p, octet), tx, range),
     }
 }
 
@@ -224,20 +234,17 @@ fn which(processes: &Processes<'_>) -> [bool; 16] {
     begun
 }
 
-/// Begins new processes with so many bits each: why the last does not begin, and which have begun then.
-fn begun_over(alloc: Global, table: &Table, list: &[(u8, u32)]) -> (Answer, [bool; 16]) {
+/// Begins one of new processes with an octet: why it does not begin, and which have begun then.
+fn begun_over(alloc: Global, table: &Table, p: u8) -> (Answer, [bool; 16]) {
     let mut processes = Processes::new(alloc, table, PLAIN);
-    let mut last = Ok(None);
-    for (p, a) in list.iter().copied() {
-        last = begins(&mut processes, p, a);
-    }
-    (last, which(&processes))
+    let answer = begins(&mut processes, p, 8);
+    (answer, which(&processes))
 }
 
-/// What beginning new processes over the practice table comes to.
-fn begun_of(alloc: Global, list: &[(u8, u32)]) -> Result<(Answer, [bool; 16]), Fail> {
+/// What beginning one of new processes over the practice table comes to.
+fn begun_of(alloc: Global, p: u8) -> Result<(Answer, [bool; 16]), Fail> {
     let table = practice(alloc, 0, 1, false)?;
-    Ok(begun_over(alloc, &table, list))
+    Ok(begun_over(alloc, &table, p))
 }
 
 #[test]
@@ -245,7 +252,7 @@ fn each_process_begins_alone(rt: HostRuntime) -> Result<(), Fail> {
     for p in 0..16 {
         let mut one = [false; 16];
         one[p] = true;
-        assert!(rt; begun_of(rt.alloc(), &[(p as u8, 8)])? == (Ok(None), one));
+        assert!(rt; begun_of(rt.alloc(), p as u8)? == (Ok(None), one));
     }
     Ok(())
 }

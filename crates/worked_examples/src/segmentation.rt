@@ -1,6 +1,6 @@
 //! The plan of a transport block, and its code blocks, by hand from TS 38.212, 5.2.2, 5.3.2 and Table 5.3.2-1.
 
-use crate::bit_lists::bits_of;
+use crate::bit_lists::{bits_of, has_octets};
 use nr_bitvec::Bits;
 use nr_crcattach::{Poly, divides};
 use nr_graphpick::Graph;
@@ -140,22 +140,33 @@ fn joined(alloc: Global, plan: &Plan, blocks: &[Bits; 3]) -> Result<Bits, Fail> 
     }
 }
 
+// A block's three code blocks, joined.
+fn rejoined(alloc: Global, plan: &Plan, block: &Bits) -> Result<Bits, Fail> {
+    let first = cut_out(alloc, plan, block, 0)?;
+    let second = cut_out(alloc, plan, block, 1)?;
+    let third = cut_out(alloc, plan, block, 2)?;
+    joined(alloc, plan, &[first, second, third])
+}
+
 // 957 octets are 7656 bits.
 #[test]
 fn three_code_blocks_joined_are_the_block(rt: HostRuntime) -> Result<(), Fail> {
     let plan = plan(Graph::Two, 7656)?;
     let block = long_block(rt.alloc(), 957)?;
-    let first = cut_out(rt.alloc(), &plan, &block, 0)?;
-    let second = cut_out(rt.alloc(), &plan, &block, 1)?;
-    let third = cut_out(rt.alloc(), &plan, &block, 2)?;
-    assert!(rt; joined(rt.alloc(), &plan, &[first, second, third])? == block);
+    assert!(rt; rejoined(rt.alloc(), &plan, &block)? == block);
     Ok(())
+}
+
+// The code block of three octets.
+fn code_block_of(alloc: Global, octets: &[u8; 3]) -> Result<Bits, Fail> {
+    let plan = plan(Graph::Two, 24)?;
+    let bits = bits_of(alloc, octets)?;
+    cut_out(alloc, &plan, &bits, 0)
 }
 
 #[test]
 fn one_code_block_has_no_crc_of_its_own(rt: HostRuntime) -> Result<(), Fail> {
-    let bits = bits_of(rt.alloc(), &[0x01, 0x10, 0x21])?;
-    let block = cut_out(rt.alloc(), &plan(Graph::Two, 24)?, &bits, 0)?;
-    assert!(rt; block.to_bytes()?.as_slice() == [0x01, 0x10, 0x21].as_slice());
+    let block = code_block_of(rt.alloc(), &[0x01, 0x10, 0x21])?;
+    assert!(rt; has_octets(&block, &[0x01, 0x10, 0x21])?);
     Ok(())
 }
