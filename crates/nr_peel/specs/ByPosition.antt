@@ -33,7 +33,8 @@ pub record IsWorking (c : Checks) (s : ByPosition) : Type 0 where
 abbrev pub IsCounted : ℕ → ByPosition → Type 0
 IsCounted n s = s.left ≡ left_of n s.known.items
 
--- what is known after what was: no known bit, no step and no visit is lost, and each word that meets every row and had the known bits has them
+-- What is known after what was: no known bit, no step and no visit is lost. Each word that meets every row and had the
+-- known bits has them.
 pub record Grows (c : Checks) (old new : ByPosition) : Type 0 where
   pub given : new.given.items ≡ old.given.items
   pub known : (p : ℕ) → bit old.known.items p ≡ true → bit new.known.items p ≡ true

@@ -5,8 +5,8 @@ use Rattle.nr_ldpcenc.specs.Rows.{Checks}
 use Rattle.nr_peel.specs.Closure.{fixes, stands}
 use Rattle.nr_peel.specs.declared.fix.Fix.{Fix}
 
--- a step is accepted from a set: it is in range, its position stands in its row, and every other position of the
--- row is in the set
+-- A step is accepted from a set. It is in range, its position stands in its row, and the set has every other position of
+-- the row.
 abbrev pub accepts : Checks → (ℕ → Bool) → Fix → Bool
 accepts c S s = nat_lt s.row c.rows && (nat_lt s.lane c.lanes && (nat_lt s.pos c.size && fixes S (c.row s.row s.lane) s.pos))
 

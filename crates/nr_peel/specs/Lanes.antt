@@ -9,7 +9,7 @@ use Rattle.nr_peel.specs.declared.fix.Fix.{Fix}
 use Rattle.nr_peel.specs.declared.lanes.Lanes.{Lanes}
 use Rattle.nr_peel.specs.declared.lifted.Lifted.{Lifted}
 
--- the step by which row t of row of blocks i fixes its position in the block of column j, which is rotated by a turn
+-- the step by which row t of row block i fixes its position in the block of column j, which is rotated by `turn`
 abbrev pub turned_step : ℕ → ℕ → ℕ → ℕ → ℕ → Fix
 turned_step z i j turn t = record { row = i; lane = t; pos = j * z + (t + turn) % z }
 

@@ -80,8 +80,8 @@ GivesAll H old new = (p : ℕ) → bit new.given p ≡ (bit old.given p || H p)
 abbrev pub TakesAll : (ℕ → Bool) → (ℕ → Bool) → Peeling → Peeling → Type 0
 TakesAll H V old new = (p : ℕ) → H p ≡ true → bit old.known p ≡ false → bit new.bits p ≡ V p
 
--- each word that meets every row, has the bits that were known and has the bits V at the positions of a set, has the
--- bits that are known
+-- A word that meets every row may have the bits that were known, and the bits V at the positions of a set. Then it has the
+-- bits that are known.
 abbrev pub KeepsAllWords : (ℕ → Bool) → (ℕ → Bool) → Peeling → Peeling → Type 0
 KeepsAllWords H V old new = (w : ℕ → Bool) → Meets (checks_for old) w → AgreesWith old w → ((p : ℕ) → H p ≡ true → w p ≡ V p) → AgreesWith new w
 
@@ -114,8 +114,8 @@ pub record IsSameCode (a b : Peeling) : Type 0 where
   pub graph : b.graph ≡ a.graph
   pub numbers : b.numbers ≡ a.numbers
 
--- A new peeler: the fillers are given, and each word that meets every row and is zero at the fillers has the bits
--- that are known.
+-- A new peeler: the fillers are given. Each word that meets every row and is zero at the fillers has the bits that are
+-- known.
 pub record IsStarted (t : Entries) (g : Graph) (p : Numbers) (s : Peeling) : Type 0 where
   pub table : s.table ≡ t
   pub graph : s.graph ≡ g

@@ -11,8 +11,8 @@ use Rattle.nr_peel.specs.Touches.{all_pairs, spent_pairs, step_pairs}
 use Rattle.nr_peel.specs.declared.lanes.Lanes.{Lanes}
 use Rattle.nr_peel.specs.declared.sweep.Sweep.{Sweep}
 
--- The counts are those of the positions that they know of, each step is that of a row without an unknown position, and
--- each pair of a row and a position that the counts know of was visited once, or twice if the row has no unknown one.
+-- The counts are those of the positions that they know of. Each step is that of a row without an unknown position. Each
+-- pair of a row and a position that the counts know of was visited once, or twice if the row has no unknown one.
 -- Lane operations, and one more for each row block that is due, are at most three a visit and one a row block.
 pub record IsHeld (c : Checks) (s : Sweep) : Type 0 where
   pub lanes : AreLanes c s.lanes
@@ -52,8 +52,8 @@ pub record Reaches (c : Checks) (G : ℕ → Bool) (s : Lanes) : Type 0 where
   pub accepted : all_accepted c G s.order.items ≡ true
   pub reached : (p : ℕ) → bit s.known.items p ≡ (G p || is_fixed_by s.order.items p)
 
--- lanes after others: no known bit and no step is lost, each word that meets every row and had the known bits has them, and what
--- is known is still reached from each set from which it was
+-- Lanes after others: no known bit and no step is lost. Each word that meets every row and had the known bits has them.
+-- What is known is still reached from each set from which it was.
 pub record Keeps (c : Checks) (old new : Lanes) : Type 0 where
   pub known : (p : ℕ) → bit old.known.items p ≡ true → bit new.known.items p ≡ true
   pub bits : (p : ℕ) → bit old.known.items p ≡ true → bit new.bits.items p ≡ bit old.bits.items p

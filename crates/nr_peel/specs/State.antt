@@ -6,11 +6,12 @@ use Rattle.nr_peel.specs.Peeling.{Peeling}
 use Rattle.nr_peel.specs.declared.fix.Fix.{Fix}
 use Rattle.nr_peel.specs.declared.lifted.Lifted.{Lifted}
 
+-- the parity checks of a lifted table
 abbrev pub lifted_checks : Lifted → Checks
 lifted_checks l = plan_checks l.table.now l.plan
 
--- the positions that were given and those that are known, their bits, the steps that fixed positions, and the counts of
--- visits and of lane operations
+-- what is seen: the positions that were given, those known and their bits, the steps, and the counts of visits and of lane
+-- operations
 abbrev pub seen_of : Lifted → List Bool → List Bool → List Bool → List Fix → ℕ → ℕ → Peeling
 seen_of l given known bits order touches lanes = record {
   table = l.table.now;

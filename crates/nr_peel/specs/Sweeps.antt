@@ -41,7 +41,7 @@ pub record AreLanes (c : Checks) (s : Lanes) : Type 0 where
   pub blank : (p : ℕ) → bit s.known.items p ≡ false → bit s.bits.items p ≡ false
   pub within : Within (bit s.fresh.items) (bit s.known.items)
 
--- Steps that are accepted, in turn, from any set that has the positions of K fixed positions that weren't known: each
+-- Steps fixed positions that weren't known. They are accepted, in turn, from any set that has the positions of K. Each
 -- word that meets every row and had the known bits has them still.
 pub record Fixes (c : Checks) (K : ℕ → Bool) (old new : Lanes) : Type 0 where
   pub steps : List Fix
@@ -55,8 +55,8 @@ pub record Fixes (c : Checks) (K : ℕ → Bool) (old new : Lanes) : Type 0 wher
   pub lanes : AreLanes c new
   pub capacity : vec_capacity new.order ≡ vec_capacity old.order
 
--- The rows of row of blocks i fixed the positions that they had alone to fix: at most one step for each row that has one
--- unknown position by its count, and then such a row has none; the steps' rows have no more positions than such rows.
+-- The rows of row block i fixed the positions that they had alone to fix. There is at most one step for each row that has
+-- one unknown position by its count, and then such a row has none. The steps' rows have no more positions than such rows.
 pub record IsBlockSought (c : Checks) (counts : List ℕ) (i : ℕ) (old new : Lanes) : Type 0 where
   pub fixes : Fixes c (counted_in old) old new
   pub few : length fixes.steps ≤ marked (λ t. has_count 1 counts (i * c.lanes + t)) c.lanes

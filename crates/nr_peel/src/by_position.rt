@@ -23,7 +23,7 @@ use nr_bitvec::Bits;
 use nr_shifttable::Entry;
 use std::alloc::{AllocError, Global};
 
-// The positions that were given and those that are known, the bits of the known ones (zero elsewhere), the counters,
+// The positions that were given, those that are known, and the bits of the known ones (zero elsewhere). Then the counters,
 // the steps that fixed positions, and how many positions below K' aren't known.
 #[derive(Drop)]
 pub(crate) struct ByPosition {

@@ -59,9 +59,9 @@ fn all_known(known: &Bits, count: u32) -> bool
     true
 }
 
-/// Whether the steps are a fix order from the positions that `known` marks, for a code block of a plan: each step in
-/// range, its position in its row, every other position of the row known before; and at the end every position
-/// below K' known. `known` then marks also the positions of the accepted steps, up to the first that was not.
+/// Whether the steps are a fix order from the positions that `known` marks, for a code block of a plan. Each step is in
+/// range, its position stands in its row, and every other position of the row was known before. At the end every position
+/// below K' is known. `known` then marks also the positions of the accepted steps, up to the first that was not.
 pub fn check_order(table: &Table, plan: &Plan, known: &mut Bits, steps: &[Fix]) -> bool
     requires { length known.old.items
         ≡ (plan_checks table.now plan.now).size }
@@ -159,9 +159,9 @@ fn never_one(lifted: &Lifted<'_>, set: &[u32]) -> bool
     true
 }
 
-/// Whether the set is a stopping set beside the positions that `given` marks, for a code block of a plan: strictly
-/// ascending, in range, with no given position and with one below K', such that no row has exactly one member. Then
-/// no steps are a fix order from the given positions.
+/// Whether the set is a stopping set beside the positions that `given` marks, for a code block of a plan. It is strictly
+/// ascending, in range, with no given position and with one below K'. No row has exactly one member. Then no steps are a
+/// fix order from the given positions.
 pub fn check_stuck(table: &Table, plan: &Plan, given: &Bits, set: &[u32]) -> bool
     requires { length given.now.items
         ≡ (plan_checks table.now plan.now).size }

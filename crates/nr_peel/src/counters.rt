@@ -26,7 +26,7 @@ impl<'t> Lifted<'t> {
     }
 }
 
-// For each row the number of its positions that aren't known, the rows that have exactly one, and how many visits
+// For each row the number of its positions that aren't known, and the rows that have exactly one. Then how many visits
 // there were of a row and a position of it.
 #[derive(Drop)]
 pub(crate) struct Counters {

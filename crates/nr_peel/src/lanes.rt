@@ -126,8 +126,8 @@ fn push_lane(order: &mut Vec<Fix>, entry: &Entry, size: u32, turn: u32, lane: &[
     }
 }
 
-// What is known of a code block: the positions that are, their bits (zero elsewhere), those that the counts of the
-// rows don't know of yet, and the steps that fixed positions.
+// What is known of a code block: the positions that are, and their bits (zero elsewhere). Then those that the counts of
+// the rows don't know of yet, and the steps that fixed positions.
 #[derive(Drop)]
 pub(crate) struct Lanes {
     pub(crate) known: Rings,

@@ -8,7 +8,7 @@ ghost use Rattle.nr_ldpcenc.specs.Rows.{one_at};
 use nr_segment::Plan;
 use nr_shifttable::{Entry, Table};
 
-// What a number is multiplied by where it would be divided by a lifting size, which takes longer: the high half of the
+// What a number is multiplied by in place of a division by a lifting size, which takes longer. The high half of the
 // product is the quotient.
 pub(crate) fn reciprocal(z: u32) -> u64
     requires { 0 < z }

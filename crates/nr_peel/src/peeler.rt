@@ -149,10 +149,10 @@ impl<'t> Peeler<'t> {
         self.work.left()
     }
 
-    /// How many visits there were of a row and a position of it: with n the number of pairs of a row and a known
-    /// position of it, at least n and at most 2 n. So all calls of a peeler's life together make at most twice the
-    /// lifting size times the entries of the base graph. By words the work is done lane by lane: at most three lane
-    /// operations a visit, and one for each row block.
+    /// How many visits there were of a row and a position of it. With n the number of pairs of a row and a known position
+    /// of it, they are at least n and at most 2 n. So all calls of a peeler's life together make at most twice the lifting
+    /// size times the entries of the base graph. By words the work is done lane by lane: at most three lane operations a
+    /// visit, and one for each row block.
     pub fn touches(&self) -> u64
         ensures value { result ≡ self.now.touches }
         ensures few { result ≤ most_visits self.now }

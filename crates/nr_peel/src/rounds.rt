@@ -145,8 +145,8 @@ fn go_round(lifted: &Lifted<'_>, unknown: &mut Bits, tally: &mut Tally, known: &
     again
 }
 
-/// Adds to the marked positions of a code block of a plan all that they fix, round by round, until a round finds no
-/// row with exactly one position that is not marked (TS 38.212, 5.3.2). A `Peeler` comes to the same positions.
+/// Adds to the marked positions of a code block of a plan all that they fix, round by round (TS 38.212, 5.3.2). It ends
+/// where a round finds no row with exactly one position that is not marked. A `Peeler` comes to the same positions.
 ///
 /// # Errors
 ///

@@ -27,8 +27,8 @@ fn degrees(alloc: Global, lifted: &Lifted<'_>) -> Result<Planes, AllocError>
     Ok(counts)
 }
 
-// What is known of a code block, for each row the count of its positions that weren't known when counts last fell, and
-// how many visits there were of a row and a position of it.
+// What is known of a code block, and for each row the count of its positions that weren't known when counts last fell.
+// Then how many visits there were of a row and a position of it.
 #[derive(Drop)]
 pub(crate) struct Sweep {
     pub(crate) lanes: Lanes,

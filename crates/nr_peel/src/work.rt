@@ -27,8 +27,8 @@ use nr_bitvec::Bits;
 use std::alloc::{AllocError, Global};
 
 // Below this lifting size a peeler works position by position. By words each round costs about as much for a block of
-// few rows as for one of 64, so that it is the slower of the two where a block fills less than a third of a word and
-// much was not heard.
+// few rows as for one of 64. So it is the slower of the two where a block fills less than a third of a word and much was
+// not received.
 const FEW_ROWS: u32 = 20;
 
 // What is known of a code block, in one of the two ways.

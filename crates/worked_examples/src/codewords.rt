@@ -9,8 +9,8 @@ use nr_shifttable::Table;
 use std::alloc::{AllocError, Global};
 use std::test::Fail;
 
-/// By hand, a digit a column: with E and O the sums of the even and the odd information columns, the first four parity
-/// columns are 0, E, E + O and O, and each later one is an information column, rotated.
+/// By hand, a digit a column. E and O are the sums of the even and of the odd information columns. The first four parity
+/// columns are 0, E, E + O and O. Each later one is an information column, rotated.
 pub(crate) const WORD_01: [u8; 26] = [
     0x01, 0x10, 0x21, 0x00, 0x00, 0x03, 0x30, 0x22, 0x00, 0x00, 0x08, 0x10, 0x88, 0x00, 0x00, 0x02,
     0x40, 0x22, 0x00, 0x00, 0x08, 0x10, 0x88, 0x00, 0x00, 0x02,

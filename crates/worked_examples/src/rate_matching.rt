@@ -75,8 +75,7 @@ fn other_place(bits: &Bits, at: &[usize]) -> Option<usize> {
     None
 }
 
-/// How many bits are selected, and the first of them, by its place, that is a one and should be a zero, or the other way
-/// round.
+/// How many bits are selected, and the place of the first that is a one and should be a zero, or the other way round.
 fn first_other(
     alloc: Global,
     (lbrm, rv, e): (Option<u32>, u32, u32),

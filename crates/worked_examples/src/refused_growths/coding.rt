@@ -85,8 +85,8 @@ fn closed(alloc: Global, table: &Table, plan: &Plan, known: &mut Bits) -> Closed
     (answer, [known.octet(0), known.octet(200)])
 }
 
-/// What closing comes to, and whether the answer is right at last, where memory is there: that of a call made again if it
-/// was refused.
+/// What closing comes to, and whether the answer is right at last, where memory is there. A call that was refused is made
+/// again.
 fn closed_again(alloc: Global, table: &Table, plan: &Plan, known: &mut Bits) -> (Closed, bool) {
     let first = closed(alloc, table, plan, known);
     if first.0.is_err() && !has_memory(alloc) {
