@@ -230,12 +230,16 @@ fn dash(path: &str) -> u8
 
 // The fault of words that begin with no command of the program: help, or how the program is used.
 fn other_fault(alloc: Global, words: &[String]) -> JobFault {
-    let mut command = match program(alloc) {
-        Ok(command) => command,
-        Err(AllocError) => return JobFault::Memory,
-    };
+    match program(alloc) {
+        Ok(mut command) => fault_at(alloc, &mut command, words),
+        Err(AllocError) => JobFault::Memory,
+    }
+}
+
+// The fault of these words, by the program.
+fn fault_at<'a>(alloc: Global, command: &mut Command<'a>, words: &'a [String]) -> JobFault {
     match command.try_get_matches_from_mut(words) {
-        Ok(_) => own_fault(alloc, &mut command, "a command is missing"),
+        Ok(_) => own_fault(alloc, command, "a command is missing"),
         Err(error) => fault_of(alloc, &error),
     }
 }

@@ -1,7 +1,7 @@
 //! What clap is told of the program and of each command.
 
 ghost use Rattle.std.specs.Prelude.{◌≡◌, false, IfOk};
-ghost use Rattle.clap.specs.Words.{app_of, new_app, rule_of, with_rule};
+ghost use Rattle.clap.specs.Words.{App, app_of, new_app, rule_of, with_rule};
 ghost use Rattle.nr_job.specs.Commands.{check_app, cut_app, file_rule, files_app, rate_rule, with_files};
 ghost use Rattle.nr_job.specs.Jobs.{files_job, name_of};
 
@@ -207,10 +207,26 @@ pub(super) fn files_command<'a>(
 fn with_files<'a>(alloc: Global, command: Command<'a>) -> Result<Command<'a>, AllocError>
     ensures { IfOk result (λ c. app_of c ≡ with_files (app_of command.entry)) }
 {
-    let command = with_file(alloc, command, "table", (TABLE, TABLE_LONG))?;
-    let command = with_file(alloc, command, "settings", (SETTINGS, SETTINGS_LONG))?;
-    let command = with_file(alloc, command, "blocks", (BLOCKS, BLOCKS_LONG))?;
-    with_file(alloc, command, "schedule", (SCHEDULE, SCHEDULE_LONG))
+    let command = with_file(alloc, command, "table", (TABLE, TABLE_LONG));
+    let command = and_file(alloc, command, "settings", (SETTINGS, SETTINGS_LONG));
+    let command = and_file(alloc, command, "blocks", (BLOCKS, BLOCKS_LONG));
+    and_file(alloc, command, "schedule", (SCHEDULE, SCHEDULE_LONG))
+}
+
+// Adds a required option to a command that there was memory for.
+fn and_file<'a>(
+    alloc: Global,
+    command: Result<Command<'a>, AllocError>,
+    name: &'a str,
+    helps: (&'a str, &'a str),
+) -> Result<Command<'a>, AllocError>
+    ensures { (app : App) → IfOk command.entry (λ c. app_of c ≡ app)
+        → IfOk result (λ c. app_of c ≡ with_rule app (file_rule name.entry.now)) }
+{
+    match command {
+        Ok(command) => with_file(alloc, command, name, helps),
+        Err(AllocError) => Err(AllocError),
+    }
 }
 
 // Adds a required option, whose value is the path of a file.
