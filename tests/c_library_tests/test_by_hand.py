@@ -33,8 +33,8 @@ class ByHand(unittest.TestCase):
             self.assertEqual(room.numbers(), [check])
 
     def test_lengths(self):
-        """At the rate 0.25, 3832 bits have two code blocks and 7632 bits three. Of two the second has the longer length, of
-        three the third; those that are scheduled share all (5.4.2.1)."""
+        """At the rate 0.25, 3832 bits have two code blocks and 7632 bits three. Of two the second has the longer length,
+        of three the third; those that are scheduled share all (5.4.2.1)."""
         for a, tx, wanted in [
             (3832, built.tx(28, qm=4), [12, 16]),
             (3832, built.tx(4, qm=4), [0, 4]),

@@ -57,6 +57,15 @@ ROWS = [
             "attached 1 31323334353637383931c3",
             "code 1 0 31323334353637383931c3",
         ),
+        blocks=lines(NINE_OCTETS),
+    ),
+    Row(
+        "the nine octets without a LF",
+        lines(
+            "block 1 a 72 b 88 graph 2 c 1 l 0 kdash 88 kb 6 z 15 set 7 k 150 n 750",
+            "attached 1 31323334353637383931c3",
+            "code 1 0 31323334353637383931c3",
+        ),
         blocks=NINE_OCTETS,
     ),
     Row(

@@ -31,6 +31,7 @@ BLOCKS = [
     Row("37 octets without base graph 1", refused="block 1 Graph", blocks="00" * 37),
     Row("the second block is of 37 octets", refused="block 2 Graph", blocks="01\n" + "00" * 37),
     Row("a limit of nothing", refused="block 1 NoBuffer", settings=NO_BUFFER),
+    Row("three octets with a limit of nothing", refused="block 1 NoBuffer", settings=NO_BUFFER, blocks="000000"),
     Row("37 octets with a limit of nothing", refused="block 1 Graph", settings=NO_BUFFER, blocks="00" * 37),
     Row("955 octets with a limit of nothing", refused="block 1 Uneven", settings=NO_BUFFER_LOW, blocks="00" * 955),
     Row(

@@ -100,8 +100,8 @@ PROCESSES = [
     ),
 ]
 
-# Four rounds of one process, each of two transmissions of 28 bits: the link erases the last four bits of the one and all
-# others of the other. Neither burst alone fixes all, and both do in either order.
+# Four rounds of one process, each of two transmissions of 28 bits: the link erases the last four bits of the one and
+# all others of the other. Neither burst alone fixes all, and both do in either order.
 FIRST_24, LAST_4 = "1,0,28,1,1,24-27,-,all,15", "1,0,28,1,1,0-23,-,all,15"
 TWO_BURSTS = row(
     "two bursts of a round",

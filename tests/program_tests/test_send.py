@@ -7,7 +7,7 @@ import functools
 import operator
 
 from programs import Program, Row
-from texts import ALL_OF_01, QUARTER_RATE, counted, eight, lines, practice_of, practice_with, record, six
+from texts import ALL_OF_01, PRACTICE, QUARTER_RATE, counted, eight, lines, practice_of, practice_with, record, six
 from worked_texts import both_graphs
 
 TWO_CODE_BLOCKS = "00" * 479
@@ -44,18 +44,20 @@ ROWS = [
     ),
 ]
 
-# What was sent or refused before a transmission is nothing to it: column 15 on, by two bits a symbol, and a version that
-# there is not. The information columns are 0 1 1 0 2 1, the parity columns 0 3 3 0, and then information columns, rotated.
+# What was sent or refused before a transmission is nothing to it: column 15 on, by two bits a symbol, and a version
+# that there is not. The information columns are 0 1 1 0 2 1, the parity columns 0 3 3 0, and then come information
+# columns, rotated.
 BEHIND_OTHERS = [
     Row(
-        f"{record} behind two others",
+        f"{last} behind two others",
         lines("sent 1 1 08", "refused 2 1 Rv", f"sent 3 1 {bits}"),
-        schedule=six("1,1,8,2,1,-", "1,4,30,3,1,-", record),
+        schedule=six("1,1,8,2,1,-", "1,4,30,3,1,-", last),
     )
-    for record, bits in [("1,0,24,4,1,-", "000a51"), ("1,3,40,1,1,-", "8000002102"), ("1,0,24,1,1,-", "102103")]
+    for last, bits in [("1,0,24,4,1,-", "000a51"), ("1,3,40,1,1,-", "8000002102"), ("1,0,24,1,1,-", "102103")]
 ]
 
-# The values of the first parity column turn it, and with it the next three. In row 1 column 0 stands too, turned by one.
+# The values of the first parity column turn it, and with it the next three. In row 1 column 0 stands too, turned by
+# one.
 BY_THE_TABLE = [
     Row(
         f"the first parity column turned by {first} and {middle}",
@@ -68,24 +70,29 @@ BY_THE_TABLE = [
 ]
 
 AGAIN_AND_AGAIN = Row(
-    "a buffer of one bit, which is a one", "sent 1 1 fff\n", settings=ONE_BIT, blocks="80", schedule=six("1,2,12,2,1,-")
+    "a buffer of one bit, which is a one",
+    "sent 1 1 fff\n",
+    settings=ONE_BIT,
+    blocks="80",
+    schedule=six("1,2,12,2,1,-"),
 )
 
-# 296 zeros but for the last bit have the CRC 1021, so columns 19 and 20, of 15 bits, have ones at 10 14 and 6 11, and the
-# other information columns none. The parity columns 22 to 25 are 0, column 20, both and column 19; columns 41 and 63 are
-# column 19, rotated by 19 and 41, and columns 42 and 64 column 20, by 20 and 42. Positions 0 to 29 are not sent, nor are
-# the fillers 312 to 329.
+# 296 zeros but for the last bit have the CRC 1021. So columns 19 and 20, of 15 bits, have ones at 10 14 and 6 11, and
+# the other information columns none. The parity columns 22 to 25 are 0, column 20, both and column 19. Columns 41 and
+# 63 are column 19, rotated by 19 and 41, and columns 42 and 64 column 20, by 20 and 42. Positions 0 to 29 are not sent,
+# nor are the fillers 312 to 329.
 ONES = [265, 269, 276, 281, 303, 308, 318, 322, 323, 326, 337, 341, 573, 577, 583, 588, 900, 911, 921, 926]
 GRAPH_1 = Row(
     "the first 972 bits",
     f"sent 1 1 {sum(1 << (971 - place) for place in ONES):0243x}\n",
-    table=practice_of(1),
+    table=practice_of(1) + PRACTICE,
     blocks="00" * 36 + "01",
     schedule=six("1,0,972,1,1,-"),
 )
 
-# 479 octets have two code blocks, the second of which begins with bit 1928, and Zc is 208. So redundancy version 0 begins
-# with bits 416 and 2344: the octets 35 36 and 27 28 of those that count up. A group of four bits has one of each quarter.
+# 479 octets have two code blocks, the second of which begins with bit 1928, and Zc is 208. So redundancy version 0
+# begins with bits 416 and 2344: the octets 35 36 and 27 28 of those that count up. A group of four bits has one of each
+# quarter.
 COUNTING = bytes(place % 255 + 1 for place in range(479)).hex()
 TWO_BEGINNINGS = [
     Row(
