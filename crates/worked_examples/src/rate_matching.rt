@@ -1,5 +1,6 @@
-//! Buffers, where their redundancy versions begin, and what these select, by hand from TS 38.212, 5.4.2.1. A code block of 40 bits with base graph 2 has Zc 7 and N 350. Positions 0 to 13 are punctured,
-//! 40 to 69 are fillers. A limit of 200 bits keeps 300 of them, and one of 1 bit a single one.
+//! Buffers, where their redundancy versions begin, and what these select, by hand from TS 38.212, 5.4.2.1. A code block
+//! of 40 bits with base graph 2 has Zc 7 and N 350. Positions 0 to 13 are punctured, 40 to 69 are fillers. A limit of 200
+//! bits keeps 300 of them, and one of 1 bit a single one.
 
 use nr_bitvec::Bits;
 use nr_graphpick::Graph;
