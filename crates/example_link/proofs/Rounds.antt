@@ -10,10 +10,10 @@ use Rattle.nr_blockdesk.specs.Explains.{IsAccepted, Reception, reception, recept
 use Rattle.nr_blockdesk.specs.Heard.{IsRecordOf}
 use Rattle.nr_blockdesk.specs.Link.{Link, demanded, link_said}
 use Rattle.nr_blockdesk.specs.Outcome.{Verdict, contradiction, delivered, outcome_of}
-use Rattle.nr_blockdesk.specs.Processing.{BeginsAt, Processing, TakesAt, process}
+use Rattle.nr_blockdesk.specs.Processing.{BeginsAt, ProcessesView, TakesAt, process}
 use Rattle.nr_blockdesk.specs.ReceiverLaws.{EndsAreSafe, IsMarked, IsSafeOverErasures, arrived}
-use Rattle.nr_blockdesk.specs.Receiving.{Receiving, verdict}
-use Rattle.nr_blockdesk.specs.Sent.{AcceptedSendAll, Sending, sending_said, sent, sent_said, tx_said}
+use Rattle.nr_blockdesk.specs.Receiving.{ReceiverView, verdict}
+use Rattle.nr_blockdesk.specs.Sent.{AcceptedSendAll, SenderView, sending_said, sent, sent_said, tx_said}
 use Rattle.nr_transmission.specs.declared.fault.DeskFault.{DeskFault}
 use Rattle.nr_transmission.specs.declared.fault.DeskFault.TheVariants as fault
 use Rattle.nr_blockdesk.specs.declared.heard.Heard.{Heard}
@@ -24,8 +24,8 @@ use Rattle.example_link.specs.Delivery.{arrivals, heard_in, is_lost, with_marks,
 use Rattle.example_link.specs.declared.delivery.Attempt.{Attempt}
 
 -- process p has received a list of receptions over a link since it began, and this is their outcome
-pub record HasHeard (link : Link) (list : List Reception) (s : Processing) (p : ℕ) (answer : Outcome) : Type 0 where
-  pub receiver : Receiving
+pub record HasHeard (link : Link) (list : List Reception) (s : ProcessesView) (p : ℕ) (answer : Outcome) : Type 0 where
+  pub receiver : ReceiverView
   pub has : process s p ≡ Some receiver
   pub linked : receiver.link ≡ link
   pub heard : IsRecordOf link list receiver.heard
@@ -45,16 +45,16 @@ pub given-err : (e : DeskFault) (result : Result Outcome DeskFault) (said : Resu
 given-err e result said is why = subst (λ r. Gives fault.Memory verdict r said) (sym is) why
 
 -- what a sender says of the link and of its block, and the fault of one that is refused
-made-of : (sender : Sending) (block : List Bool) (r : Result Link DeskFault) → (r >>= λ link. Ok (record { link = link; block = block })) ≡ Ok sender → (r ≡ Ok sender.link) × (sender.block ≡ block)
+made-of : (sender : SenderView) (block : List Bool) (r : Result Link DeskFault) → (r >>= λ link. Ok (record { link = link; block = block })) ≡ Ok sender → (r ≡ Ok sender.link) × (sender.block ≡ block)
 made-of sender block (Ok link) is =
     let same : record { link = link; block = block } ≡ sender = cc in
-    (ap (λ (s : Sending). Ok s.link) same, ap (λ (s : Sending). s.block) (sym same))
+    (ap (λ (s : SenderView). Ok s.link) same, ap (λ (s : SenderView). s.block) (sym same))
 made-of sender block (Err e) is = absurd (cc)
 
-pub sender-made : (table : Entries) (settings : Settings) (block : List Bool) (sender : Sending) → sending_said table settings block ≡ Ok sender → (link_said table settings (length block) ≡ Ok sender.link) × (sender.block ≡ block)
+pub sender-made : (table : Entries) (settings : Settings) (block : List Bool) (sender : SenderView) → sending_said table settings block ≡ Ok sender → (link_said table settings (length block) ≡ Ok sender.link) × (sender.block ≡ block)
 sender-made table settings block sender said = made-of sender block (link_said table settings (length block)) said
 
-unmade-of : (block : List Bool) (e : DeskFault) (r : Result Link DeskFault) → ◌≡◌ {A = Result Sending DeskFault} (r >>= λ link. Ok (record { link = link; block = block })) (Err e) → r ≡ Err e
+unmade-of : (block : List Bool) (e : DeskFault) (r : Result Link DeskFault) → ◌≡◌ {A = Result SenderView DeskFault} (r >>= λ link. Ok (record { link = link; block = block })) (Err e) → r ≡ Err e
 unmade-of block e (Ok link) is = absurd (cc)
 unmade-of block e (Err d) is = let same : d ≡ e = cc in ap Err same
 
@@ -109,53 +109,53 @@ arrivals-split link block (x ∷ xs) (suc i) d inside =
     (rest.0, ap (λ ys. arrival link block x ∷ ys) rest.1)
 
 -- a process that has just begun
-pub heard-none : (s t : Processing) (p a : ℕ) (link : Link) (answer : Outcome) → p < 16 → length s.places ≡ 16 → BeginsAt s t p a → link_said s.table s.settings a ≡ Ok link → verdict answer ≡ outcome_of link [] → HasHeard link [] t p answer
+pub heard-none : (s t : ProcessesView) (p a : ℕ) (link : Link) (answer : Outcome) → p < 16 → length s.places ≡ 16 → BeginsAt s t p a → link_said s.table s.settings a ≡ Ok link → verdict answer ≡ outcome_of link [] → HasHeard link [] t p answer
 heard-none s t p a link answer low many begins said is =
     let same : begins.receiver.link ≡ link = same-ok begins.receiver.link link (sym begins.said ∙ said) in
     record {
       receiver = begins.receiver;
-      has = ap (λ (v : Processing). process v p) begins.has ∙ get_or-set_same s.places p (Some begins.receiver) None (omega (arith, low, many));
+      has = ap (λ (v : ProcessesView). process v p) begins.has ∙ get_or-set_same s.places p (Some begins.receiver) None (omega (arith, low, many));
       linked = same;
       heard = subst (λ (l : Link). IsRecordOf l [] begins.receiver.heard) same begins.empty;
       outcome = is;
-      many = ap (λ (v : Processing). length v.places) begins.has ∙ length-set s.places p (Some begins.receiver) ∙ many;
+      many = ap (λ (v : ProcessesView). length v.places) begins.has ∙ length-set s.places p (Some begins.receiver) ∙ many;
     }
 
 same-some : {X : Type 0} (x y : X) → Some x ≡ Some y → x ≡ y
 same-some x y is = cc
 
 -- a process that has received one transmission more
-pub heard-more : (s t : Processing) (p : ℕ) (link : Link) (list : List Reception) (x y : Reception) (before answer : Outcome) → p < 16 → x ≡ y → HasHeard link list s p before → TakesAt s t p x (Ok answer) → HasHeard link (list ++ y ∷ []) t p answer
+pub heard-more : (s t : ProcessesView) (p : ℕ) (link : Link) (list : List Reception) (x y : Reception) (before answer : Outcome) → p < 16 → x ≡ y → HasHeard link list s p before → TakesAt s t p x (Ok answer) → HasHeard link (list ++ y ∷ []) t p answer
 heard-more s t p link list x y before answer low is had takes =
     let one : takes.before ≡ had.receiver = same-some takes.before had.receiver (sym takes.had ∙ had.has) in
-    let same : takes.before.link ≡ link = ap (λ (r : Receiving). r.link) one ∙ had.linked in
+    let same : takes.before.link ≡ link = ap (λ (r : ReceiverView). r.link) one ∙ had.linked in
     let record_before : IsRecordOf takes.before.link list takes.before.heard =
     subst (λ (l : Link). IsRecordOf l list takes.before.heard) (sym same)
-    (subst (λ (r : Receiving). IsRecordOf link list r.heard) (sym one) had.heard) in
+    (subst (λ (r : ReceiverView). IsRecordOf link list r.heard) (sym one) had.heard) in
     subst (λ v. HasHeard link (list ++ v ∷ []) t p answer) is
     (record {
       receiver = takes.after;
-      has = ap (λ (v : Processing). process v p) takes.has ∙ get_or-set_same s.places p (Some takes.after) None (omega (arith, low, had.many));
+      has = ap (λ (v : ProcessesView). process v p) takes.has ∙ get_or-set_same s.places p (Some takes.after) None (omega (arith, low, had.many));
       linked = takes.takes.link ∙ same;
       heard = subst (λ (l : Link). IsRecordOf l (list ++ x ∷ []) takes.after.heard) same (takes.takes.heard list record_before);
       outcome = takes.takes.outcome list record_before ∙ ap (λ (l : Link). outcome_of l (list ++ x ∷ [])) same;
-      many = ap (λ (v : Processing). length v.places) takes.has ∙ length-set s.places p (Some takes.after) ∙ had.many;
+      many = ap (λ (v : ProcessesView). length v.places) takes.has ∙ length-set s.places p (Some takes.after) ∙ had.many;
     })
 
 -- a process that has received what arrived in all attempts
-pub heard-all : (link : Link) (block : List Bool) (attempts : List Attempt) (i : ℕ) (s : Processing) (p : ℕ) (answer : Outcome) → length attempts ≤ i → HasHeard link (arrivals link block (take i attempts)) s p answer → HasHeard link (arrivals link block attempts) s p answer
+pub heard-all : (link : Link) (block : List Bool) (attempts : List Attempt) (i : ℕ) (s : ProcessesView) (p : ℕ) (answer : Outcome) → length attempts ≤ i → HasHeard link (arrivals link block (take i attempts)) s p answer → HasHeard link (arrivals link block attempts) s p answer
 heard-all link block attempts i s p answer done had =
     subst (λ xs. HasHeard link (arrivals link block xs) s p answer) (take_all i attempts done) had
 
 -- it has begun
-pub heard-begun : (s : Processing) (p : ℕ) (link : Link) (list : List Reception) (answer : Outcome) → HasHeard link list s p answer → IsTrue (is_some (process s p))
-heard-begun s p link list answer had = subst (λ (o : Option Receiving). IsTrue (is_some o)) (sym had.has) refl
+pub heard-begun : (s : ProcessesView) (p : ℕ) (link : Link) (list : List Reception) (answer : Outcome) → HasHeard link list s p answer → IsTrue (is_some (process s p))
+heard-begun s p link list answer had = subst (λ (o : Option ReceiverView). IsTrue (is_some o)) (sym had.has) refl
 
 -- the fault of a reception that it refuses
-pub refused-take : (s t : Processing) (p : ℕ) (link : Link) (list : List Reception) (x y : Reception) (before : Outcome) (e : DeskFault) → x ≡ y → HasHeard link list s p before → TakesAt s t p x (Err e) → (e ≡ fault.Memory) ⊎ (reception_said link y ≡ Err e)
+pub refused-take : (s t : ProcessesView) (p : ℕ) (link : Link) (list : List Reception) (x y : Reception) (before : Outcome) (e : DeskFault) → x ≡ y → HasHeard link list s p before → TakesAt s t p x (Err e) → (e ≡ fault.Memory) ⊎ (reception_said link y ≡ Err e)
 refused-take s t p link list x y before e is had takes =
     let one : takes.before ≡ had.receiver = same-some takes.before had.receiver (sym takes.had ∙ had.has) in
-    let same : takes.before.link ≡ link = ap (λ (r : Receiving). r.link) one ∙ had.linked in
+    let same : takes.before.link ≡ link = ap (λ (r : ReceiverView). r.link) one ∙ had.linked in
     subst (λ v. (e ≡ fault.Memory) ⊎ (reception_said link v ≡ Err e)) is
     (subst (λ (l : Link). (e ≡ fault.Memory) ⊎ (reception_said l x ≡ Err e)) same takes.takes.refused)
 
@@ -183,7 +183,7 @@ unsent link x own e said =
     ap (λ (r : Result (List ℕ) DeskFault). r >>= λ lengths. (demanded fault.Length (nat_eq (length x.heard) x.tx.g) >>= λ whole. Ok lengths)) (unsent-of (tx_said link x.tx) (sent link x.tx own) e said)
 
 -- what a round says where a reception is refused
-module _ (table : Entries) (settings : Settings) (block : List Bool) (attempts : List Attempt) (i : ℕ) (d : Attempt) (link : Link) (s : Processing) (p : ℕ) (answer : Outcome) where
+module _ (table : Entries) (settings : Settings) (block : List Bool) (attempts : List Attempt) (i : ℕ) (d : Attempt) (link : Link) (s : ProcessesView) (p : ℕ) (answer : Outcome) where
   pub said-untaken : (e : DeskFault) → link_said table settings (length block) ≡ Ok link → i < length attempts → HasHeard link (arrivals link block (take i attempts)) s p answer
       → (e ≡ fault.Memory) ⊎ (reception_said link (arrival link block (get_or attempts i d)) ≡ Err e) → (e ≡ fault.Memory) ⊎ (round_said table settings block attempts ≡ Err e)
   said-untaken e is inside had (inl wanted) = inl wanted
@@ -212,7 +212,7 @@ marked-all link block (x ∷ xs) all =
     (marked-all link block xs (All-tail (IsAccepted link) (arrival link block x) (arrivals link block xs) all))
 
 -- what a round says at its end, and that over erasures the block that was sent is delivered
-module _ (table : Entries) (settings : Settings) (block : List Bool) (attempts : List Attempt) (sender : Sending) (s : Processing) (p : ℕ) (answer : Outcome) (made : sending_said table settings block ≡ Ok sender) (had : HasHeard sender.link (arrivals sender.link block attempts) s p answer) where
+module _ (table : Entries) (settings : Settings) (block : List Bool) (attempts : List Attempt) (sender : SenderView) (s : ProcessesView) (p : ℕ) (answer : Outcome) (made : sending_said table settings block ≡ Ok sender) (had : HasHeard sender.link (arrivals sender.link block attempts) s p answer) where
   pub said-all : round_said table settings block attempts ≡ Ok (verdict answer)
   said-all =
       said-linked table settings block attempts sender.link (Ok tt) (sender-made table settings block sender made).0 (taken-all sender.link (arrivals sender.link block attempts) had.heard.accepted)

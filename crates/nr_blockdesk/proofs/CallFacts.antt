@@ -8,8 +8,8 @@ use Rattle.nr_blockdesk.specs.Explains.{Reception, reception_said}
 use Rattle.nr_blockdesk.specs.Heard.{IsRecordOf}
 use Rattle.nr_blockdesk.specs.Link.{link_said}
 use Rattle.nr_blockdesk.specs.Outcome.{Verdict, outcome_of}
-use Rattle.nr_blockdesk.specs.Processing.{BeginsAt, Processing, TakesAt, process, with_process}
-use Rattle.nr_blockdesk.specs.Receiving.{Receiving, RefusesAs, verdict}
+use Rattle.nr_blockdesk.specs.Processing.{BeginsAt, ProcessesView, TakesAt, process, with_process}
+use Rattle.nr_blockdesk.specs.Receiving.{ReceiverView, RefusesAs, verdict}
 use Rattle.nr_transmission.specs.declared.fault.DeskFault.{DeskFault}
 use Rattle.nr_transmission.specs.declared.fault.DeskFault.TheVariants as fault
 use Rattle.nr_blockdesk.specs.declared.outcome.Outcome.{Outcome}
@@ -46,18 +46,18 @@ pub calls-apart : ProcessesAreApart
 calls-apart table settings p xs ys same =
     round-own table settings p None xs ∙ ap (round_from table settings p None) same ∙ sym (round-own table settings p None ys)
 
-pub new-after : (s : Processing) → s.places ≡ replicate 16 None → IsAfter s []
+pub new-after : (s : ProcessesView) → s.places ≡ replicate 16 None → IsAfter s []
 unfolding round_from
 new-after s none = λ p low. subst (λ o. Holds o None) (sym (ap (λ l. get_or l p None) none ∙ get_or-replicate 16 p None None low)) tt
 
-process-own : (s : Processing) (p : ℕ) (r : Receiving) → length s.places ≡ 16 → p < 16 → process (with_process s p r) p ≡ Some r
+process-own : (s : ProcessesView) (p : ℕ) (r : ReceiverView) → length s.places ≡ 16 → p < 16 → process (with_process s p r) p ≡ Some r
 process-own s p r long low = get_or-set_same s.places p (Some r) None (subst (λ n. p < n) (sym long) low)
 
-process-other : (s : Processing) (p q : ℕ) (r : Receiving) → (q ≡ p → ⊥) → process (with_process s p r) q ≡ process s q
+process-other : (s : ProcessesView) (p q : ℕ) (r : ReceiverView) → (q ≡ p → ⊥) → process (with_process s p r) q ≡ process s q
 process-other s p q r apart = get_or-set_other s.places p q (Some r) None apart
 
 -- After a call that gives process p a receiver.
-module _ (s : Processing) (p : ℕ) (r : Receiving) (calls : List Call) (call : Call) where
+module _ (s : ProcessesView) (p : ℕ) (r : ReceiverView) (calls : List Call) (call : Call) where
   step-own : length s.places ≡ 16 → p < 16
       → Holds (Some r) (after_call s.table s.settings p (round_after s.table s.settings p calls) call)
       → (q : ℕ) → q ≡ p → Holds (process (with_process s p r) q) (round_after s.table s.settings q (calls ++ call ∷ []))
@@ -81,15 +81,15 @@ module _ (s : Processing) (p : ℕ) (r : Receiving) (calls : List Call) (call : 
       λ q inside. ⊎_elim (step-own long low here q) (step-other others before q inside) (cases_eq q p)
 
 -- After a call that changes no round.
-stays : (s : Processing) (calls : List Call) (call : Call)
+stays : (s : ProcessesView) (calls : List Call) (call : Call)
     → ((q : ℕ) → q < 16 → after_call s.table s.settings q (round_after s.table s.settings q calls) call ≡ round_after s.table s.settings q calls)
     → IsAfter s calls → IsAfter s (calls ++ call ∷ [])
 stays s calls call same before =
     λ q low. subst (λ o. Holds (process s q) o) (sym (round-more s.table s.settings q None calls call ∙ same q low)) (before q low)
 
 -- `begin` of process p.
-module _ (s : Processing) (p a : ℕ) (calls : List Call) where
-  begin-accepted : (t : Processing) → length s.places ≡ 16 → p < 16 → BeginsAt s t p a → IsAfter s calls → IsAfter t (calls ++ begin p a ∷ [])
+module _ (s : ProcessesView) (p a : ℕ) (calls : List Call) where
+  begin-accepted : (t : ProcessesView) → length s.places ≡ 16 → p < 16 → BeginsAt s t p a → IsAfter s calls → IsAfter t (calls ++ begin p a ∷ [])
   begin-accepted t long low begins before =
       let round = round_after s.table s.settings p calls in
       let fresh = cond-true (p == p) (begun_as (link_said s.table s.settings a) round) round (eq-eqb p p refl)
@@ -107,7 +107,7 @@ module _ (s : Processing) (p a : ℕ) (calls : List Call) where
       both true o = refl
       both false o = refl
 
-pub begin-after : (s t : Processing) (p a : ℕ) (result : Result (Unit {0}) DeskFault) → length s.places ≡ 16 → p < 16
+pub begin-after : (s t : ProcessesView) (p a : ℕ) (result : Result (Unit {0}) DeskFault) → length s.places ≡ 16 → p < 16
     → RefusesAs fault.Memory result (link_said s.table s.settings a) → OnOk result (BeginsAt s t p a) → OnErr result (t ≡ s)
     → HadMemory result → (calls : List Call) → IsAfter s calls → IsAfter t (calls ++ begin p a ∷ [])
 begin-after s t p a (Ok done) long low refused begins kept had = λ calls before. begin-accepted s p a calls t long low begins before
@@ -116,13 +116,13 @@ begin-after s t p a (Err e) long low refused begins kept had =
     (begin-refused s p a calls e (⊎_elim (λ memory. absurd (had memory)) (λ said. said) refused) before)
 
 -- The round that a receiver holds.
-record HasRound (r : Receiving) (o : Option Round) : Type 0 where
+record HasRound (r : ReceiverView) (o : Option Round) : Type 0 where
   round : Round
   is : o ≡ Some round
   link : r.link ≡ round.link
   heard : IsRecordOf round.link round.list r.heard
 
-has_round : (r : Receiving) (o : Option Round) → Holds (Some r) o → HasRound r o
+has_round : (r : ReceiverView) (o : Option Round) → Holds (Some r) o → HasRound r o
 has_round r None holds = absurd holds
 has_round r (Some round) holds = record { round = round; is = refl; link = holds.0; heard = holds.1 }
 
@@ -132,7 +132,7 @@ heard-ok (Ok lengths) x round ok = refl
 heard-ok (Err e) x round ok = cc ok
 
 -- `take` of process p.
-module _ (s t : Processing) (p : ℕ) (x : Reception) (calls : List Call) (low : p < 16) (before : IsAfter s calls) where
+module _ (s t : ProcessesView) (p : ℕ) (x : Reception) (calls : List Call) (low : p < 16) (before : IsAfter s calls) where
   round-taken : (result : Result Outcome DeskFault) → (takes : TakesAt s t p x result) → HasRound takes.before (round_after s.table s.settings p calls)
   round-taken result takes =
       has_round takes.before (round_after s.table s.settings p calls)
@@ -193,14 +193,14 @@ module _ (s t : Processing) (p : ℕ) (x : Reception) (calls : List Call) (low :
       ∙ ap (λ l. Some (outcome_of l (has.round.list ++ x ∷ []))) (sym has.link)
       ∙ ap Some (sym (takes.takes.outcome has.round.list heard))
 
-pub take-after : (s t : Processing) (p : ℕ) (x : Reception) (result : Result Outcome DeskFault) → length s.places ≡ 16 → p < 16
+pub take-after : (s t : ProcessesView) (p : ℕ) (x : Reception) (result : Result Outcome DeskFault) → length s.places ≡ 16 → p < 16
     → TakesAt s t p x result → OnErr result (t ≡ s) → HadMemory result
     → (calls : List Call) → IsAfter s calls → IsAfter t (calls ++ take p x ∷ [])
 take-after s t p x (Ok answer) long low takes kept had = λ calls before. take-accepted s t p x calls low before answer long takes
 take-after s t p x (Err e) long low takes kept had =
     λ calls before. subst (λ v. IsAfter v (calls ++ take p x ∷ [])) (sym kept) (take-refused s t p x calls low before e had takes)
 
-pub take-answer : (s t : Processing) (p : ℕ) (x : Reception) (result : Result Outcome DeskFault) → p < 16 → TakesAt s t p x result
+pub take-answer : (s t : ProcessesView) (p : ℕ) (x : Reception) (result : Result Outcome DeskFault) → p < 16 → TakesAt s t p x result
     → IfOk result (λ answer. (calls : List Call) → IsAfter s calls → answer_after s p (calls ++ take p x ∷ []) ≡ Some (verdict answer))
 take-answer s t p x (Ok answer) low takes = λ calls before. take-answers s t p x calls low before answer takes
 take-answer s t p x (Err e) low takes = tt

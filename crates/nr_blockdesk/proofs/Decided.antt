@@ -14,7 +14,7 @@ use Rattle.nr_bitvec.specs.Bit.{bit}
 use Rattle.nr_crcattach.specs.Attachment.{BlocksLengthen, attached, block_poly, attached_length}
 use Rattle.nr_crcattach.specs.Crc.{crc_of, degree, high_first}
 use Rattle.nr_graphpick.specs.Graph.{cols_of}
-use Rattle.nr_harqbuf.specs.Record.{Heardbits, first_at, first_heard, is_heard, record_of}
+use Rattle.nr_harqbuf.specs.Record.{HeardBits, first_at, first_heard, is_heard, record_of}
 use Rattle.nr_graphpick.specs.declared.Graph.{Graph}
 use Rattle.nr_ldpcenc.specs.Codeword.{codeword, filler}
 use Rattle.nr_ldpcenc.specs.Rows.{Checks, Meets, block_checks}
@@ -40,20 +40,20 @@ use Rattle.nr_blockdesk.proofs.Taking.{one-all}
 
 -- an outcome that a record decides is that of each list of which it is the record
 pub outcome-of_record : ExplainsByRecord → ExplainedIsDelivered → DeliveredIsOnly → (link : Link) (list : List Reception)
-    (records : List Heardbits) (o : Outcome) → IsLink link → IsRecordOf link list records → IsDecided link records o
+    (records : List HeardBits) (o : Outcome) → IsLink link → IsRecordOf link list records → IsDecided link records o
     → verdict o ≡ outcome_of link list
 unfolding outcome_of
 outcome-of_record by_record delivers only link list records outcome.Open is of decided =
     sym (ap (λ b. cond b (verdict_on (find (explains link list) (blocks_of link.a))) open_still)
-    (ap (λ (l : List Heardbits). all_fixed link l) (sym of.same) ∙ decided))
+    (ap (λ (l : List HeardBits). all_fixed link l) (sym of.same) ∙ decided))
 outcome-of_record by_record delivers only link list records (outcome.Delivered b) is of decided =
-    let all : all_fixed link (heard_record link list) ≡ true = ap (λ (l : List Heardbits). all_fixed link l) (sym of.same) ∙ decided.0 in
-    let by : ExplainedBy link (heard_record link list) b.items = subst (λ (l : List Heardbits). ExplainedBy link l b.items) of.same decided.2 in
+    let all : all_fixed link (heard_record link list) ≡ true = ap (λ (l : List HeardBits). all_fixed link l) (sym of.same) ∙ decided.0 in
+    let by : ExplainedBy link (heard_record link list) b.items = subst (λ (l : List HeardBits). ExplainedBy link l b.items) of.same decided.2 in
     sym (delivers link list b.items is of.accepted decided.1 ((by_record link list b.items is of.accepted decided.1).1 by) all)
 outcome-of_record by_record delivers only link list records outcome.Contradiction is of decided = go (find (explains link list) (blocks_of link.a)) refl
   where
     all : all_fixed link (heard_record link list) ≡ true
-    all = ap (λ (l : List Heardbits). all_fixed link l) (sym of.same) ∙ decided.0
+    all = ap (λ (l : List HeardBits). all_fixed link l) (sym of.same) ∙ decided.0
 
     go : (o : Option (List Bool)) → find (explains link list) (blocks_of link.a) ≡ o
         → contradiction ≡ cond (all_fixed link (heard_record link list)) (verdict_on (find (explains link list) (blocks_of link.a))) open_still
@@ -62,11 +62,11 @@ outcome-of_record by_record delivers only link list records outcome.Contradictio
     go (Some x) e =
         let one = only link list x is of.accepted
         (ap (λ b. cond b (verdict_on (find (explains link list) (blocks_of link.a))) open_still) all ∙ ap verdict_on e) in
-        absurd (decided.1 x one.is_block (subst (λ (l : List Heardbits). ExplainedBy link l x) (sym of.same)
+        absurd (decided.1 x one.is_block (subst (λ (l : List HeardBits). ExplainedBy link l x) (sym of.same)
         ((by_record link list x is of.accepted one.is_block).0 one.explains)))
 
 -- what a peeler knows is what its code block's record fixes
-pub known-fixed : (link : Link) (s : Heardbits) (p : Peeling) → IsTied link s p → (k : ℕ) → bit p.known k ≡ fixed link s k
+pub known-fixed : (link : Link) (s : HeardBits) (p : Peeling) → IsTied link s p → (k : ℕ) → bit p.known k ≡ fixed link s k
 known-fixed link s p tied k =
     let sets : bit p.given ≡ given link s = λ i j. tied.positions j i in
     tied.peeled.closed k
@@ -95,7 +95,7 @@ pub sound-of : PlansAreSound → (link : Link) → IsLink link → IsSound link.
 sound-of sound link is = sound link.graph (attached_length link.a) link.plan is.planned
 
 -- as many are left
-pub left-known : PlansAreSound → (link : Link) (s : Heardbits) (p : Peeling) → IsLink link → IsTied link s p
+pub left-known : PlansAreSound → (link : Link) (s : HeardBits) (p : Peeling) → IsLink link → IsTied link s p
     → left_of p.numbers.kdash p.known ≡ count_by (λ k. not (fixed link s k)) (range_with_len 0 link.plan.kdash)
 left-known sound link s p is tied =
     let sane = sound-of sound link is in
@@ -121,7 +121,7 @@ all-range p q (x ∷ xs) a d each =
     next k inside = let on : a + suc k ≡ a + 1 + k = omega arith in each (suc k) (omega (arith, inside)) ∙ ap q on
 
 -- each peeler knows all exactly where all is fixed
-pub all-known : PlansAreSound → (link : Link) (records : List Heardbits) (peelers : List Peeling) → IsLink link → IsDesk link records peelers
+pub all-known : PlansAreSound → (link : Link) (records : List HeardBits) (peelers : List Peeling) → IsLink link → IsDesk link records peelers
     → list_all (λ (p : Peeling). left_of p.numbers.kdash p.known == 0) peelers ≡ all_fixed link records
 all-known sound link records peelers is desk =
     all-range (λ (p : Peeling). left_of p.numbers.kdash p.known == 0) (λ r. left link records r == 0) peelers 0
@@ -137,13 +137,13 @@ all-known sound link records peelers is desk =
         ∙ ap (λ j. left link records j == 0) none
 
 -- each transport block that explains a list has the bits that the peelers know by its record
-pub known-bits : WordsArePlain → ExplainsByRecord → (link : Link) (records : List Heardbits) (peelers : List Peeling)
+pub known-bits : WordsArePlain → ExplainsByRecord → (link : Link) (records : List HeardBits) (peelers : List Peeling)
     (list : List Reception) (block : List Bool) (r : ℕ) → IsLink link → IsDesk link records peelers → r < link.plan.c
     → IsRecordOf link list records → IsBlock link block → Explains link list block
     → AgreesWith (peeling_of link peelers r) (bit (word link block r))
 known-bits plain by_record link records peelers list block r is desk inside of whole explained =
     let by : ExplainedBy link records block =
-    subst (λ (l : List Heardbits). ExplainedBy link l block) (sym of.same) ((by_record link list block is of.accepted whole).0 explained) in
+    subst (λ (l : List HeardBits). ExplainedBy link l block) (sym of.same) ((by_record link list block is of.accepted whole).0 explained) in
     (desk.tied r inside).words (bit (word link block r)) (plain link block r is whole inside).plain (by r inside).1
 
 known-value : (known : Bool) (b : Bool) → known ≡ true → unwrap_or (cond known (Some b) None) false ≡ b
@@ -152,7 +152,7 @@ known-value false b e = cc e
 
 -- where all is fixed, a transport block that explains a record is the one that the peelers know
 pub candidate-only : PlansAreSound → WordsArePlain → BlocksLengthen → CodeBlocksAreLong → (link : Link)
-    (records : List Heardbits) (peelers : List Peeling) (bits : List Bool) → IsLink link → IsDesk link records peelers
+    (records : List HeardBits) (peelers : List Peeling) (bits : List Bool) → IsLink link → IsDesk link records peelers
     → all_fixed link records ≡ true → length bits ≡ link.a
     → ((i : ℕ) → i < link.a → IsRead link.plan peelers bits i)
     → (y : List Bool) → IsBlock link y → ExplainedBy link records y → y ≡ bits
@@ -205,27 +205,27 @@ candidate-only sound plain blocks codes link records peelers bits is desk all ma
         get_or_default y i d false inside ∙ one i low ∙ get_or_default bits i false d (omega (arith, many, low))
 
 -- what the peeler of a code block has, wherever it is read
-pub peeler-at : (link : Link) (records : List Heardbits) (peelers : List Peeling) → IsDesk link records peelers → (r : ℕ) (d : Peeling)
+pub peeler-at : (link : Link) (records : List HeardBits) (peelers : List Peeling) → IsDesk link records peelers → (r : ℕ) (d : Peeling)
     → r < link.plan.c → get_or peelers r d ≡ peeling_of link peelers r
 peeler-at link records peelers desk r d block =
     get_or_default peelers r d
     (record { table = link.table; graph = link.graph; numbers = link.plan; given = []; known = []; bits = []; order = []; touches = 0; lanes = 0 })
     (omega (arith, desk.peelings, block))
 
-pub peeler-size : (link : Link) (records : List Heardbits) (peelers : List Peeling) → IsDesk link records peelers → (r : ℕ) (d : Peeling)
+pub peeler-size : (link : Link) (records : List HeardBits) (peelers : List Peeling) → IsDesk link records peelers → (r : ℕ) (d : Peeling)
     → r < link.plan.c → (checks_for (get_or peelers r d)).size ≡ word_size link.graph link.plan
 peeler-size link records peelers desk r d block =
     ap (λ (p : Peeling). (checks_for p).size) (peeler-at link records peelers desk r d block)
     ∙ ap (λ (c : Checks). c.size) (same-checks link (heard_of records r) (peeling_of link peelers r) (desk.tied r block))
 
-pub wide-peelers : PlansAreSound → (link : Link) (records : List Heardbits) (peelers : List Peeling) → IsLink link → IsDesk link records peelers
+pub wide-peelers : PlansAreSound → (link : Link) (records : List HeardBits) (peelers : List Peeling) → IsLink link → IsDesk link records peelers
     → (r : ℕ) (d : Peeling) → r < link.plan.c → link.plan.kdash ≤ (checks_for (get_or peelers r d)).size
 wide-peelers sound link records peelers is desk r d block =
     let sane = sound-of sound link is in
     let fits = k-fits link.graph link.plan sane.columns in
     omega (arith, sane.held, fits, peeler-size link records peelers desk r d block)
 
-pub sized-of : (link : Link) (records : List Heardbits) (peelers : List Peeling) → IsLink link → IsDesk link records peelers
+pub sized-of : (link : Link) (records : List HeardBits) (peelers : List Peeling) → IsLink link → IsDesk link records peelers
     → (r : ℕ) (d : Peeling) → r < length records
     → IsSized (cols_of link.buffer.graph * link.buffer.z) (heard_of records r) (get_or peelers r d)
 sized-of link records peelers is desk r d inside =
@@ -238,31 +238,31 @@ sized-of link records peelers is desk r d inside =
     }
 
 -- what was compared is what explains
-pub explained-by : (link : Link) (records same : List Heardbits) (l block : List Bool) → same ≡ records → l ≡ attached block
+pub explained-by : (link : Link) (records same : List HeardBits) (l block : List Bool) → same ≡ records → l ≡ attached block
     → ((r : ℕ) → r < link.plan.c → Fits (heard_of same r) (bit (codeword link.table link.graph link.plan (code_bits link.plan l r))))
     → ExplainedBy link records block
 unfolding word
 explained-by link records same l block same-is l-is fits r inside =
-    subst (λ (s : List Heardbits). Fits (heard_of s r) (bit (codeword link.table link.graph link.plan (code_bits link.plan (attached block) r)))) same-is
+    subst (λ (s : List HeardBits). Fits (heard_of s r) (bit (codeword link.table link.graph link.plan (code_bits link.plan (attached block) r)))) same-is
     (subst (λ (b : List Bool). Fits (heard_of same r) (bit (codeword link.table link.graph link.plan (code_bits link.plan b r)))) l-is (fits r inside))
 
-pub explained-to : (link : Link) (records same : List Heardbits) (l block : List Bool) → same ≡ records → l ≡ attached block
+pub explained-to : (link : Link) (records same : List HeardBits) (l block : List Bool) → same ≡ records → l ≡ attached block
     → ExplainedBy link records block
     → (r : ℕ) → r < link.plan.c → Fits (heard_of same r) (bit (codeword link.table link.graph link.plan (code_bits link.plan l r)))
 unfolding word
 explained-to link records same l block same-is l-is by r inside =
-    subst (λ (s : List Heardbits). Fits (heard_of s r) (bit (codeword link.table link.graph link.plan (code_bits link.plan l r)))) (sym same-is)
+    subst (λ (s : List HeardBits). Fits (heard_of s r) (bit (codeword link.table link.graph link.plan (code_bits link.plan l r)))) (sym same-is)
     (subst (λ (b : List Bool). Fits (heard_of records r) (bit (codeword link.table link.graph link.plan (code_bits link.plan b r)))) (sym l-is) (by r inside))
 
 -- a new store and a new peeler
-pub started-tied : PlansAreSound → (link : Link) (s : Heardbits) (p : Peeling) → IsLink link → IsStarted link.table link.graph link.plan p
+pub started-tied : PlansAreSound → (link : Link) (s : HeardBits) (p : Peeling) → IsLink link → IsStarted link.table link.graph link.plan p
     → s ≡ record_of (word_size link.graph link.plan) [] → IsTied link s p
 unfolding first_heard
 started-tied sound link s p is start s-is = record {
   table = start.table;
   graph = start.graph;
   numbers = start.numbers;
-  long = ap (λ (h : Heardbits). length h.first) s-is ∙ length-map-range_with_len (first_heard []) 0 N;
+  long = ap (λ (h : HeardBits). length h.first) s-is ∙ length-map-range_with_len (first_heard []) 0 N;
   positions = positions;
   words = λ w plain has. start.words w (subst (λ (c : Checks). Meets c w) (sym checks) plain.meets) plain.zero;
   peeled = start.peeled;
@@ -284,7 +284,7 @@ started-tied sound link s p is start s-is = record {
     gives = start.given ∙ ap (λ (c : Checks). map fill (range_with_len 0 c.size)) checks
 
     none : (k : ℕ) → is_heard (first_at s k) ≡ false
-    none k = ap (λ (h : Heardbits). is_heard (first_at h k)) s-is ∙ ap is_heard (none_heard N k)
+    none k = ap (λ (h : HeardBits). is_heard (first_at h k)) s-is ∙ ap is_heard (none_heard N k)
 
     positions : (k : ℕ) → bit p.given k ≡ given link s k
     positions k =
@@ -304,7 +304,7 @@ started-tied sound link s p is start s-is = record {
         and-false true = refl
         and-false false = refl
 
-pub desk-new : PlansAreSound → (link : Link) (S : List Heardbits) (P : List Peeling) → IsLink link → length S ≡ link.plan.c → length P ≡ link.plan.c
+pub desk-new : PlansAreSound → (link : Link) (S : List HeardBits) (P : List Peeling) → IsLink link → length S ≡ link.plan.c → length P ≡ link.plan.c
     → All (λ s. s ≡ record_of (word_size link.graph link.plan) []) S → All (IsStarted link.table link.graph link.plan) P → IsDesk link S P
 desk-new sound link S P is stores peelers empty started = record {
   stores = stores;
@@ -316,7 +316,7 @@ desk-new sound link S P is stores peelers empty started = record {
 }
 
 -- nothing was received yet
-pub record-new : (link : Link) (S : List Heardbits) → length S ≡ link.plan.c → All (λ s. s ≡ record_of (word_size link.graph link.plan) []) S
+pub record-new : (link : Link) (S : List HeardBits) → length S ≡ link.plan.c → All (λ s. s ≡ record_of (word_size link.graph link.plan) []) S
     → IsRecordOf link [] S
 unfolding heard_record hearings
 record-new link S stores empty = record {
@@ -324,10 +324,10 @@ record-new link S stores empty = record {
   same = same_lists S (map f (range_with_len 0 link.plan.c)) (stores ∙ sym (length-map-range_with_len f 0 link.plan.c)) at;
 }
   where
-    f : ℕ → Heardbits
+    f : ℕ → HeardBits
     f = λ r. record_of (word_size link.graph link.plan) []
 
-    at : (k : ℕ) (d : Heardbits) → k < length S → get_or S k d ≡ get_or (map f (range_with_len 0 link.plan.c)) k d
+    at : (k : ℕ) (d : HeardBits) → k < length S → get_or S k d ≡ get_or (map f (range_with_len 0 link.plan.c)) k d
     at k d inside =
         empty k d inside ∙ sym (get_or-map-range_with_len f 0 link.plan.c k k d (subst (λ n. k < n) stores inside) (omega arith))
 

@@ -9,7 +9,7 @@ use Rattle.std.proofs.Math.Seq.{take-append_seam}
 use Rattle.nr_bitvec.specs.Bit.{bit}
 use Rattle.nr_crcattach.specs.Attachment.{BlocksLengthen, attached, block_poly, attached_length}
 use Rattle.nr_crcattach.specs.Crc.{crc_of, degree, high_first}
-use Rattle.nr_harqbuf.specs.Record.{Heardbits, HasFirsts, first_at, is_heard}
+use Rattle.nr_harqbuf.specs.Record.{HeardBits, HasFirsts, first_at, is_heard}
 use Rattle.nr_ldpcenc.specs.Codeword.{IsPlain, filler}
 use Rattle.nr_ldpcenc.specs.Rows.{block_checks}
 use Rattle.nr_peel.specs.Closure.{AgreeOn}
@@ -22,7 +22,7 @@ use Rattle.nr_blockdesk.specs.ReceiverLaws.{ExplainersAgree, ExplainsByRecord, O
 use Rattle.nr_blockdesk.proofs.Tested.{range_each}
 
 -- two words with the first bits of a record, and with zeros for the fillers, agree where something is given
-pub given_agree : (link : Link) (s : Heardbits) (v w : ℕ → Bool) → HasFirsts s v → HasFirsts s w
+pub given_agree : (link : Link) (s : HeardBits) (v w : ℕ → Bool) → HasFirsts s v → HasFirsts s w
     → IsPlain link.table link.graph link.plan v → IsPlain link.table link.graph link.plan w → AgreeOn (given link s) v w
 given_agree link s v w has-v has-w plain-v plain-w p is = go (first_at s p) refl
   where
@@ -35,7 +35,7 @@ given_agree link s v w has-v has-w plain-v plain-w p is = go (first_at s p) refl
 
 pub explainers-agree : ChecksAreSound → WordsAgreeOnClosure → WordsArePlain → ExplainsByRecord → ExplainersAgree
 explainers-agree sound agree plain by_record link list x y r is accepted whole-x whole-y ex ey inside =
-    let s : Heardbits = heard_of (heard_record link list) r in
+    let s : HeardBits = heard_of (heard_record link list) r in
     let by-x = (by_record link list x is accepted whole-x).0 ex r inside in
     let by-y = (by_record link list y is accepted whole-y).0 ey r inside in
     let plain-x : IsPlain link.table link.graph link.plan (bit (word link x r)) = (plain link x r is whole-x inside).plain in
@@ -66,7 +66,7 @@ not-false true e = refl
 not-false false e = cc e
 
 -- where all are fixed, each position below K' is
-pub every_fixed : (link : Link) (records : List Heardbits) → all_fixed link records ≡ true → (r : ℕ) → r < link.plan.c
+pub every_fixed : (link : Link) (records : List HeardBits) → all_fixed link records ≡ true → (r : ℕ) → r < link.plan.c
     → (p : ℕ) → p < link.plan.kdash → fixed link (heard_of records r) p ≡ true
 every_fixed link records all r inside p low =
     let zero-left : left link records r ≡ 0 =

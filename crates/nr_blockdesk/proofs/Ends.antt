@@ -9,7 +9,7 @@ use Rattle.nr_refusal.specs.Refusal.{◌>>=◌}
 use Rattle.nr_blockdesk.specs.Explains.{IsAccepted, reception}
 use Rattle.nr_blockdesk.specs.Link.{IsBlock, IsLink, Link, LinksAreSound, demanded, link_said}
 use Rattle.nr_blockdesk.specs.ReceiverLaws.{AreEnds, EndsAreSafe, ErasuresAreSafe, IsMarked, arrived, arrived_bit}
-use Rattle.nr_blockdesk.specs.Sent.{AcceptedSendAll, Sending, sent, tx_said}
+use Rattle.nr_blockdesk.specs.Sent.{AcceptedSendAll, SenderView, sent, tx_said}
 use Rattle.nr_transmission.specs.declared.fault.DeskFault.{DeskFault}
 use Rattle.nr_transmission.specs.declared.fault.DeskFault.TheVariants as fault
 use Rattle.nr_blockdesk.specs.declared.heard.Heard.{Heard}
@@ -42,7 +42,7 @@ arrived-accepted all link block x marked = go (tx_said link x.0) refl marked.0
     )
     go (Err e) said none = cc none
 
-abbrev made : Link → List Bool → Sending
+abbrev made : Link → List Bool → SenderView
 made link block = record { link = link; block = block }
 
 pub ends-safe : LinksAreSound → AcceptedSendAll → ErasuresAreSafe → EndsAreSafe
@@ -56,5 +56,5 @@ ends-safe sound all safe table settings block sender link txs is-table said agre
     All-map (IsAccepted link)
     (λ (x : Tx × List Bool). reception x.0 (map (λ at. arrived_bit at.0 at.1) (zip x.1 (sent link x.0 block)))) txs
     (λ k d inside. arrived-accepted all link block _ (marked k d inside)) in
-    subst (λ (s : Sending). AreEnds s link txs) is-sender
+    subst (λ (s : SenderView). AreEnds s link txs) is-sender
     (record { same = refl; accepted = accepted; safe = safe link block txs is whole accepted })

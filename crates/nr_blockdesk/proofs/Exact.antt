@@ -8,7 +8,7 @@ use Rattle.std.proofs.lemmas.Grind.{flat_map-append}
 use Rattle.std.proofs.lemmas.List.{get_or_append_left}
 use Rattle.std.proofs.lemmas.List.Folds.{find-append, list_all-append}
 use Rattle.std.proofs.lemmas.List.Sums.{sum_by-cons}
-use Rattle.nr_harqbuf.specs.Record.{Heardbits, Hearing, first_at, first_heard, is_heard, record_of}
+use Rattle.nr_harqbuf.specs.Record.{HeardBits, Observation, first_at, first_heard, is_heard, record_of}
 use Rattle.nr_ldpcenc.specs.Codeword.{filler}
 use Rattle.nr_ldpcenc.specs.Rows.{block_checks}
 use Rattle.nr_segment.specs.Plan.{word_size}
@@ -58,7 +58,7 @@ not-true true e = cc e
 not-true false e = refl
 
 -- where each position below K' is fixed none is left
-none_left : (link : Link) (records : List Heardbits)
+none_left : (link : Link) (records : List HeardBits)
     → ((r p : ℕ) → r < link.plan.c → p < link.plan.kdash → fixed link (heard_of records r) p ≡ true) → all_fixed link records ≡ true
 none_left link records each = range_all (λ r. left link records r == 0) 0 link.plan.c (λ r low high. go r (omega (arith, high)) (left link records r == 0) refl)
   where
@@ -139,11 +139,11 @@ pub outcomes-exact : DeliveredIsOnly → ExplainedIsDelivered → OutcomesAreExa
 outcomes-exact only delivers link list is accepted = exact-one only delivers link list is accepted
 
 -- a position that was received stays received
-found-more : (o p : Option Hearing) → is_heard (option_map (λ h. h.1) o) ≡ true → is_heard (option_map (λ h. h.1) (option_or o p)) ≡ true
+found-more : (o p : Option Observation) → is_heard (option_map (λ h. h.1) o) ≡ true → is_heard (option_map (λ h. h.1) (option_or o p)) ≡ true
 found-more None p e = cc e
 found-more (Some h) p e = refl
 
-heard-more : (n : ℕ) (hs more : List Hearing) (p : ℕ) → is_heard (first_at (record_of n hs) p) ≡ true
+heard-more : (n : ℕ) (hs more : List Observation) (p : ℕ) → is_heard (first_at (record_of n hs) p) ≡ true
     → is_heard (first_at (record_of n (hs ++ more)) p) ≡ true
 unfolding first_heard
 heard-more n hs more p e = ⊎_elim inside past (cases_lt p n)
@@ -151,8 +151,8 @@ heard-more n hs more p e = ⊎_elim inside past (cases_lt p n)
     inside : p < n → is_heard (first_at (record_of n (hs ++ more)) p) ≡ true
     inside low =
         ap is_heard (first-inside n (hs ++ more) p low)
-        ∙ ap (λ o. is_heard (option_map (λ h. h.1) o)) (find-append (λ (h : Hearing). h.0 == p) hs more)
-        ∙ found-more (find (λ (h : Hearing). h.0 == p) hs) (find (λ (h : Hearing). h.0 == p) more)
+        ∙ ap (λ o. is_heard (option_map (λ h. h.1) o)) (find-append (λ (h : Observation). h.0 == p) hs more)
+        ∙ found-more (find (λ (h : Observation). h.0 == p) hs) (find (λ (h : Observation). h.0 == p) more)
         (sym (ap is_heard (first-inside n hs p low)) ∙ e)
 
     past : n ≤ p → is_heard (first_at (record_of n (hs ++ more)) p) ≡ true
@@ -170,10 +170,10 @@ unfolding hearings
 fixed-more monotone link list more r block =
     monotone (block_checks link.table link.graph link.plan) (given link S) (given link T) within
   where
-    S : Heardbits
+    S : HeardBits
     S = heard_of (heard_record link list) r
 
-    T : Heardbits
+    T : HeardBits
     T = heard_of (heard_record link (list ++ more)) r
 
     N : ℕ
@@ -185,9 +185,9 @@ fixed-more monotone link list more r block =
     within : Within (given link S) (given link T)
     within p =
         or-more (is_heard (first_at S p)) (is_heard (first_at T p)) (filler link.plan.kdash link.plan.k p)
-        (λ e. ap (λ (h : Heardbits). is_heard (first_at h p)) T-is
+        (λ e. ap (λ (h : HeardBits). is_heard (first_at h p)) T-is
         ∙ heard-more N (hearings link list r) (hearings link more r) p
-        (sym (ap (λ (h : Heardbits). is_heard (first_at h p)) (record-at link list r block)) ∙ e))
+        (sym (ap (λ (h : HeardBits). is_heard (first_at h p)) (record-at link list r block)) ∙ e))
 
 explains-before : (link : Link) (list more : List Reception) (x : List Bool) → Explains link (list ++ more) x → Explains link list x
 unfolding explains

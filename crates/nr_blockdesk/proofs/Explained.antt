@@ -5,18 +5,18 @@ use Rattle.std.specs.Bool.{beq}
 use Rattle.std.specs.List.{filter_map, list_all, range_with_len}
 use Rattle.std.proofs.lemmas.Bool.{and_from, and_parts, eqb-true, eq-eqb}
 use Rattle.nr_bitvec.specs.Bit.{bit}
-use Rattle.nr_harqbuf.specs.Record.{Hearing}
+use Rattle.nr_harqbuf.specs.Record.{Observation}
 use Rattle.nr_blockdesk.specs.Explains.{Explains, Reception, agrees, all_agree, explains, heard_at}
 use Rattle.nr_blockdesk.specs.Heard.{hearing_at, hearings, hearings_in}
 use Rattle.nr_blockdesk.specs.Hearing.{heard_bit}
 use Rattle.nr_blockdesk.specs.Link.{Link}
-use Rattle.nr_blockdesk.specs.Sent.{Matching, block_at, matching, position_at, sent}
+use Rattle.nr_blockdesk.specs.Sent.{RateMatching, block_at, matching, position_at, sent}
 use Rattle.nr_blockdesk.specs.declared.heard.Heard.{Heard}
 use Rattle.nr_blockdesk.specs.declared.heard.Heard.TheVariants as heard
 use Rattle.nr_blockdesk.proofs.Tested.{flat_all, given_all, holds_if, range_all, range_each}
 
 -- a word's bits are those of a hearing
-abbrev pub fits : (ℕ → Bool) → Hearing → Bool
+abbrev pub fits : (ℕ → Bool) → Observation → Bool
 fits w h = beq (w h.0) h.1
 
 agrees-is : (h : Heard) (v : Bool) → agrees h v ≡ holds_if (λ b. beq v b) (heard_bit h)
@@ -41,22 +41,22 @@ place-tells w q r p h true-there = go (q == r) refl
         let same : q ≡ r = eqb-true q r e in
         own (w r) p (heard_bit h) ∙ sym (agrees-is h (w r p)) ∙ ap (λ k. agrees h (w k p)) (sym same) ∙ true-there
 
-place-told : (w : ℕ → ℕ → Bool) (q p : ℕ) (h : Heard)
+place-part_masks : (w : ℕ → ℕ → Bool) (q p : ℕ) (h : Heard)
     → holds_if (fits (w q)) (cond (q == q) (option_map (λ b. (p, b)) (heard_bit h)) None) ≡ true → agrees h (w q p) ≡ true
-place-told w q p h fit =
+place-part_masks w q p h fit =
     let same : (q == q) ≡ true = eq-eqb q q refl in
     agrees-is h (w q p) ∙ sym (own (w q) p (heard_bit h))
     ∙ ap (λ b. holds_if (fits (w q)) (cond b (option_map (λ v. (p, v)) (heard_bit h)) None)) (sym same) ∙ fit
 
 -- the bits sent are those of the words
-abbrev pub AreOf : Matching → (ℕ → ℕ → Bool) → List Bool → ℕ → Type 0
+abbrev pub AreOf : RateMatching → (ℕ → ℕ → Bool) → List Bool → ℕ → Type 0
 AreOf t w bits n = (m : ℕ) → m < n → bit bits m ≡ w (block_at t m) (position_at t m)
 
 -- what a reception tells of each code block
-abbrev pub told_of : Matching → List Heard → ℕ → List Hearing
+abbrev pub told_of : RateMatching → List Heard → ℕ → List Observation
 told_of t places r = filter_map (hearing_at t places r) (range_with_len 0 (length places))
 
-pub agree-fits : (t : Matching) (places : List Heard) (w : ℕ → ℕ → Bool) (bits : List Bool) → AreOf t w bits (length places)
+pub agree-fits : (t : RateMatching) (places : List Heard) (w : ℕ → ℕ → Bool) (bits : List Bool) → AreOf t w bits (length places)
     → all_agree places bits ≡ true → (r : ℕ) → list_all (fits (w r)) (told_of t places r) ≡ true
 agree-fits t places w bits are agree r =
     given_all (hearing_at t places r) (fits (w r)) (range_with_len 0 (length places))
@@ -69,7 +69,7 @@ agree-fits t places w bits are agree r =
         place-tells w (block_at t m) r (position_at t m) (heard_at places m)
         (ap (agrees (heard_at places m)) (sym (are m inside)) ∙ agreed)
 
-pub fits-agree : (c : ℕ) (t : Matching) (places : List Heard) (w : ℕ → ℕ → Bool) (bits : List Bool) → AreOf t w bits (length places)
+pub fits-agree : (c : ℕ) (t : RateMatching) (places : List Heard) (w : ℕ → ℕ → Bool) (bits : List Bool) → AreOf t w bits (length places)
     → ((m : ℕ) → m < length places → block_at t m < c)
     → ((r : ℕ) → r < c → list_all (fits (w r)) (told_of t places r) ≡ true) → all_agree places bits ≡ true
 fits-agree c t places w bits are owned fit =
@@ -81,7 +81,7 @@ fits-agree c t places w bits are owned fit =
         let q : ℕ = block_at t m in
         let all = sym (given_all (hearing_at t places q) (fits (w q)) (range_with_len 0 (length places))) ∙ fit q (owned m inside) in
         let one = range_each (λ k. holds_if (fits (w q)) (hearing_at t places q k)) 0 (length places) all m low high in
-        ap (agrees (heard_at places m)) (are m inside) ∙ place-told w q (position_at t m) (heard_at places m) one
+        ap (agrees (heard_at places m)) (are m inside) ∙ place-part_masks w q (position_at t m) (heard_at places m) one
 
 -- what is true of all is true of the first, and of the others
 pub all-first : {X : Type 0} (P : X → Type 0) (x : X) (xs : List X) → All P (x ∷ xs) → P x

@@ -43,13 +43,13 @@ module _ (word next digit n : ℕ) (small : digit ≤ 1) (inside : n < 64) (is :
 
 -- n places from place `from` on stand in a word of marks and one of bits
 pub record IsGathered (places : List Heard) (from now bits n : ℕ) : Type 0 where
-  pub told : (j : ℕ) → j < n → place_heard (bit_at now j == 1) (bit_at bits j == 1) ≡ heard_at places (from + j)
+  pub part_masks : (j : ℕ) → j < n → place_heard (bit_at now j == 1) (bit_at bits j == 1) ≡ heard_at places (from + j)
   pub marks : (j : ℕ) → n ≤ j → bit_at now j ≡ 0
   pub digits : (j : ℕ) → n ≤ j → bit_at bits j ≡ 0
 
 pub gathered-none : (places : List Heard) (from : ℕ) → IsGathered places from 0 0 0
 gathered-none places from = record {
-  told = λ j below. absurd (omega (arith, below));
+  part_masks = λ j below. absurd (omega (arith, below));
   marks = λ j _. bit_at-zero j;
   digits = λ j _. bit_at-zero j;
 }
@@ -59,17 +59,17 @@ pub gathered-more : (places : List Heard) (from now bits n now' bits' mark bit :
     → place_heard (mark == 1) (bit == 1) ≡ heard_at places (from + n)
     → IsGathered places from now bits n → IsGathered places from now' bits' (n + 1)
 gathered-more places from now bits n now' bits' mark bit inside small small-too is is-too here gathered = record {
-  told = told;
+  part_masks = part_masks;
   marks = digit-low now now' mark n small inside is gathered.marks;
   digits = digit-low bits bits' bit n small-too inside is-too gathered.digits;
 }
   where
-    told : (j : ℕ) → j < n + 1 → place_heard (bit_at now' j == 1) (bit_at bits' j == 1) ≡ heard_at places (from + j)
-    told j below = elim (cases_lt j n) [
+    part_masks : (j : ℕ) → j < n + 1 → place_heard (bit_at now' j == 1) (bit_at bits' j == 1) ≡ heard_at places (from + j)
+    part_masks j below = elim (cases_lt j n) [
       | inl before ↦
           ap (λ m. place_heard (m == 1) (bit_at bits' j == 1)) (digit-before now now' mark n small inside is gathered.marks j before)
           ∙ ap (λ m. place_heard (bit_at now j == 1) (m == 1)) (digit-before bits bits' bit n small-too inside is-too gathered.digits j before)
-          ∙ gathered.told j before
+          ∙ gathered.part_masks j before
       | inr past ↦
           let last : j ≡ n = omega (arith, below, past) in
           ap (λ i. place_heard (bit_at now' i == 1) (bit_at bits' i == 1)) last

@@ -9,7 +9,7 @@ use Rattle.std.proofs.lemmas.List.{get_or-set_other, get_or_read}
 use Rattle.std.proofs.lemmas.List.Elements.{filter_map-append}
 use Rattle.nr_bitvec.specs.Bit.{bit}
 use Rattle.nr_graphpick.specs.declared.Graph.{Graph}
-use Rattle.nr_harqbuf.specs.Record.{HasFirsts, Heardbits, Hearing, RecordContinues, differs, first_at, is_heard, record_of, with_hearing}
+use Rattle.nr_harqbuf.specs.Record.{HasFirsts, HeardBits, Observation, RecordContinues, differs, first_at, is_heard, record_of, with_hearing}
 use Rattle.nr_interleave.specs.Interleaving.{seat_of}
 use Rattle.nr_ldpcenc.specs.Rows.{block_checks}
 use Rattle.nr_segment.specs.Plan.{Numbers}
@@ -20,7 +20,7 @@ use Rattle.nr_blockdesk.specs.Explains.{heard_at}
 use Rattle.nr_blockdesk.specs.Heard.{heard_of}
 use Rattle.nr_blockdesk.specs.Hearing.{heard_bit}
 use Rattle.nr_blockdesk.specs.Link.{Link}
-use Rattle.nr_blockdesk.specs.Receiving.{AllTell, Fits, HearsPart, IsTied, Tells, part_hearing, part_hearings, word_at}
+use Rattle.nr_blockdesk.specs.Receiving.{AllAgree, Fits, HearsPart, IsTied, Agrees, part_hearing, part_hearings, word_at}
 use Rattle.nr_blockdesk.specs.declared.heard.Heard.{Heard}
 use Rattle.nr_transmission.specs.declared.tx.Tx.{Tx}
 
@@ -40,13 +40,13 @@ range-split a (suc n) k =
 part-more : (b : Circular) (tx : Tx) (heard : List Heard) (m : ℕ)
     → part_hearings b tx heard (m + 1) ≡ part_hearings b tx heard m ++ cons_option (part_hearing b tx heard m) []
 part-more b tx heard m =
-    let f : ℕ → Option Hearing = part_hearing b tx heard in
+    let f : ℕ → Option Observation = part_hearing b tx heard in
     let last : 0 + m ≡ m = omega arith in
     ap (λ ms. filter_map f ms) (range-split 0 m 1)
     ∙ filter_map-append f (range_with_len 0 m) (range_with_len (0 + m) 1)
     ∙ ap (λ k. filter_map f (range_with_len 0 m) ++ cons_option (f k) []) last
 
-nothing-more : (xs : List Hearing) → xs ++ [] ≡ xs
+nothing-more : (xs : List Observation) → xs ++ [] ≡ xs
 nothing-more [] = refl
 nothing-more (x ∷ xs) = ap (λ ys. x ∷ ys) (nothing-more xs)
 
@@ -66,27 +66,27 @@ part-some b tx heard m pos v some at =
     ∙ ap (λ p. part_hearings b tx heard m ++ (p, v) ∷ []) (sym at)
 
 -- the record of one hearing more
-pub recorded-more : RecordContinues → (n : ℕ) (hs told more : List Hearing) (s t : Heardbits) (pos : ℕ) (v : Bool) → pos < n
-    → s ≡ record_of n (hs ++ told) → t ≡ with_hearing s (pos, v) → more ≡ told ++ (pos, v) ∷ [] → t ≡ record_of n (hs ++ more)
-recorded-more continues n hs told more s t pos v inside s-is t-is more-is =
+pub recorded-more : RecordContinues → (n : ℕ) (hs part_masks more : List Observation) (s t : HeardBits) (pos : ℕ) (v : Bool) → pos < n
+    → s ≡ record_of n (hs ++ part_masks) → t ≡ with_hearing s (pos, v) → more ≡ part_masks ++ (pos, v) ∷ [] → t ≡ record_of n (hs ++ more)
+recorded-more continues n hs part_masks more s t pos v inside s-is t-is more-is =
     t-is
     ∙ ap (λ r. with_hearing r (pos, v)) s-is
-    ∙ continues n (hs ++ told) (pos, v) inside
-    ∙ ap (λ l. record_of n l) (append_assoc hs told ((pos, v) ∷ []))
+    ∙ continues n (hs ++ part_masks) (pos, v) inside
+    ∙ ap (λ l. record_of n l) (append_assoc hs part_masks ((pos, v) ∷ []))
     ∙ ap (λ l. record_of n (hs ++ l)) (sym more-is)
 
 -- the first bits after one hearing more
-pub first-kept : (s : Heardbits) (pos : ℕ) (v : Bool) → is_heard (first_at s pos) ≡ true → (with_hearing s (pos, v)).first ≡ s.first
+pub first-kept : (s : HeardBits) (pos : ℕ) (v : Bool) → is_heard (first_at s pos) ≡ true → (with_hearing s (pos, v)).first ≡ s.first
 unfolding with_hearing
 first-kept s pos v is = ap (λ b. cond b s.first (set s.first pos (Some v))) is
 
-pub first-set : (s : Heardbits) (pos : ℕ) (v : Bool) → is_heard (first_at s pos) ≡ false
+pub first-set : (s : HeardBits) (pos : ℕ) (v : Bool) → is_heard (first_at s pos) ≡ false
     → (with_hearing s (pos, v)).first ≡ set s.first pos (Some v)
 unfolding with_hearing
 first-set s pos v is = ap (λ b. cond b s.first (set s.first pos (Some v))) is
 
 -- the first bits before one that was received nowhere yet
-firsts-before : (s t : Heardbits) (pos : ℕ) (v : Bool) (w : ℕ → Bool) → is_heard (first_at s pos) ≡ false → t.first ≡ set s.first pos (Some v)
+firsts-before : (s t : HeardBits) (pos : ℕ) (v : Bool) (w : ℕ → Bool) → is_heard (first_at s pos) ≡ false → t.first ≡ set s.first pos (Some v)
     → HasFirsts t w → HasFirsts s w
 firsts-before s t pos v w unheard firsts has k b is = ⊎_elim
     (λ (here : k ≡ pos).
@@ -114,7 +114,7 @@ some-same : (a b : Bool) → Some a ≡ Some b → a ≡ b
 some-same a b e = cc e
 
 -- a word fits a record with one hearing more exactly where it fits the record and has the bit
-module _ (s : Heardbits) (pos : ℕ) (v : Bool) (w : ℕ → Bool) (inside : pos < length s.first) where
+module _ (s : HeardBits) (pos : ℕ) (v : Bool) (w : ℕ → Bool) (inside : pos < length s.first) where
   clash-more : (with_hearing s (pos, v)).clash ≡ (s.clash || differs (first_at s pos) v)
   unfolding with_hearing
   clash-more = refl
@@ -164,55 +164,55 @@ module _ (s : Heardbits) (pos : ℕ) (v : Bool) (w : ℕ → Bool) (inside : pos
           )
 
   -- so one hearing more tells whether it agrees with the word
-  pub tells-more : (told : Bool) (s₀ : Heardbits) → Tells told w s₀ s → Tells (told && beq (w pos) v) w s₀ (with_hearing s (pos, v))
+  pub tells-more : (part_masks : Bool) (s₀ : HeardBits) → Agrees part_masks w s₀ s → Agrees (part_masks && beq (w pos) v) w s₀ (with_hearing s (pos, v))
   tells-more false s₀ tells = λ fits. tells (fits-before fits)
   tells-more true s₀ tells = go (beq (w pos) v) refl
     where
-      go : (b : Bool) → beq (w pos) v ≡ b → Tells b w s₀ (with_hearing s (pos, v))
+      go : (b : Bool) → beq (w pos) v ≡ b → Agrees b w s₀ (with_hearing s (pos, v))
       go false e = λ fits. absurd (true≢false (sym (beq-self v) ∙ ap (λ b. beq b v) (sym (fits-bit fits)) ∙ e))
       go true e = λ fits. fits-more (tells fits) (same-bit (w pos) v (ap not e))
 
 -- what is told of the first r code blocks, with one code block more
-pub all-tell-more : (told one : Bool) (words : List (List Bool)) (w : List Bool) (S₀ S : List Heardbits) (r : ℕ) (s t : Heardbits) → r < length S
-    → w ≡ word_at words r → s ≡ heard_of S₀ r → Tells one (bit w) s t → AllTell told r words S₀ S
-    → AllTell (told && one) (r + 1) words S₀ (set S r t)
-all-tell-more told one words w S₀ S r s t inside w-is s-is tells all = go told one tells all
+pub all-tell-more : (part_masks one : Bool) (words : List (List Bool)) (w : List Bool) (S₀ S : List HeardBits) (r : ℕ) (s t : HeardBits) → r < length S
+    → w ≡ word_at words r → s ≡ heard_of S₀ r → Agrees one (bit w) s t → AllAgree part_masks r words S₀ S
+    → AllAgree (part_masks && one) (r + 1) words S₀ (set S r t)
+all-tell-more part_masks one words w S₀ S r s t inside w-is s-is tells all = go part_masks one tells all
   where
-    nothing : Heardbits
+    nothing : HeardBits
     nothing = record { first = []; clash = false }
 
     here : (k : ℕ) → k ≡ r → Fits t (bit w) → Fits (heard_of (set S r t) k) (bit (word_at words k))
     here k e fits =
-        subst (λ (h : Heardbits). Fits h (bit (word_at words k))) (sym (get_or-set_at S r k t nothing e inside))
+        subst (λ (h : HeardBits). Fits h (bit (word_at words k))) (sym (get_or-set_at S r k t nothing e inside))
         (subst (λ (x : List Bool). Fits t (bit x)) (w-is ∙ ap (λ j. word_at words j) (sym e)) fits)
 
     here-too : Fits (heard_of (set S r t) r) (bit (word_at words r)) → Fits t (bit w)
     here-too fits =
         subst (λ (x : List Bool). Fits t (bit x)) (sym w-is)
-        (subst (λ (h : Heardbits). Fits h (bit (word_at words r))) (get_or-set_at S r r t nothing refl inside) fits)
+        (subst (λ (h : HeardBits). Fits h (bit (word_at words r))) (get_or-set_at S r r t nothing refl inside) fits)
 
-    go : (told one : Bool) → Tells one (bit w) s t → AllTell told r words S₀ S → AllTell (told && one) (r + 1) words S₀ (set S r t)
+    go : (part_masks one : Bool) → Agrees one (bit w) s t → AllAgree part_masks r words S₀ S → AllAgree (part_masks && one) (r + 1) words S₀ (set S r t)
     go false one tells all = λ each. all (λ k below.
         let other : k ≢ r = λ e. omega (arith, e, below) in
-        subst (λ (h : Heardbits). Fits h (bit (word_at words k))) (get_or-set_other S r k t nothing other) (each k (omega arith)))
+        subst (λ (h : HeardBits). Fits h (bit (word_at words k))) (get_or-set_other S r k t nothing other) (each k (omega arith)))
     go true false tells all = λ each. tells (here-too (each r (omega arith)))
     go true true tells all = λ k below fits. ⊎_elim
-        (λ (e : k ≡ r). here k e (tells (subst (λ (h : Heardbits). Fits h (bit w)) (sym s-is)
+        (λ (e : k ≡ r). here k e (tells (subst (λ (h : HeardBits). Fits h (bit w)) (sym s-is)
         (subst (λ (x : List Bool). Fits (heard_of S₀ r) (bit x)) (sym w-is)
         (subst (λ j. Fits (heard_of S₀ j) (bit (word_at words j))) e fits)))))
-        (λ (e : k ≢ r). subst (λ (h : Heardbits). Fits h (bit (word_at words k))) (sym (get_or-set_other S r k t nothing e))
+        (λ (e : k ≢ r). subst (λ (h : HeardBits). Fits h (bit (word_at words k))) (sym (get_or-set_other S r k t nothing e))
         (all k (omega (arith, below, e)) fits))
         (cases_eq k r)
 
 -- the code of a peeler that is tied
-pub same-checks : (link : Link) (s : Heardbits) (p : Peeling) → IsTied link s p → checks_for p ≡ block_checks link.table link.graph link.plan
+pub same-checks : (link : Link) (s : HeardBits) (p : Peeling) → IsTied link s p → checks_for p ≡ block_checks link.table link.graph link.plan
 same-checks link s p tied =
     ap (λ (t : Entries). block_checks t p.graph p.numbers) tied.table
     ∙ ap (λ (g : Graph). block_checks link.table g p.numbers) tied.graph
     ∙ ap (λ (n : Numbers). block_checks link.table link.graph n) tied.numbers
 
 -- a part that was received, in other words
-pub hears-same : (b : Circular) (tx : Tx) (part part' : List Heard) (s s' t t' : Heardbits) (p p' q q' : Peeling)
+pub hears-same : (b : Circular) (tx : Tx) (part part' : List Heard) (s s' t t' : HeardBits) (p p' q q' : Peeling)
     → part ≡ part' → s ≡ s' → p ≡ p' → t ≡ t' → q ≡ q' → HearsPart b tx part s p t q → HearsPart b tx part' s' p' t' q'
 hears-same b tx part part' s s' t t' p p' q q' e1 e2 e3 e4 e5 hears =
     subst (λ x. HearsPart b tx part' s' p' t' x) e5
@@ -222,8 +222,8 @@ hears-same b tx part part' s s' t t' p p' q q' e1 e2 e3 e4 e5 hears =
     (subst (λ x. HearsPart b tx x s p t q) e1 hears))))
 
 -- one code block more has received its part
-pub done-more : (b : Circular) (tx : Tx) (pieces : ℕ → List Heard) (S₀ S : List Heardbits) (P₀ P : List Peeling) (r : ℕ)
-    (part : List Heard) (s t : Heardbits) (p q : Peeling) → r < length S → r < length P → part ≡ pieces r
+pub done-more : (b : Circular) (tx : Tx) (pieces : ℕ → List Heard) (S₀ S : List HeardBits) (P₀ P : List Peeling) (r : ℕ)
+    (part : List Heard) (s t : HeardBits) (p q : Peeling) → r < length S → r < length P → part ≡ pieces r
     → s ≡ get_or S r s → p ≡ get_or P r p → HearsPart b tx part s p t q
     → ((k : ℕ) (d : Peeling) → k < r → HearsPart b tx (pieces k) (heard_of S₀ k) (get_or P₀ k d) (heard_of S k) (get_or P k d))
     → ((k : ℕ) → r ≤ k → heard_of S k ≡ heard_of S₀ k)
@@ -232,7 +232,7 @@ pub done-more : (b : Circular) (tx : Tx) (pieces : ℕ → List Heard) (S₀ S :
     → HearsPart b tx (pieces k) (heard_of S₀ k) (get_or P₀ k d) (heard_of (set S r t) k) (get_or (set P r q) k d)
 done-more b tx pieces S₀ S P₀ P r part s t p q in-S in-P part-is s-is p-is hears done later later_p k d below = ⊎_elim here there (cases_eq k r)
   where
-    nothing : Heardbits
+    nothing : HeardBits
     nothing = record { first = []; clash = false }
 
     here : k ≡ r → HearsPart b tx (pieces k) (heard_of S₀ k) (get_or P₀ k d) (heard_of (set S r t) k) (get_or (set P r q) k d)
@@ -250,7 +250,7 @@ done-more b tx pieces S₀ S P₀ P r part s t p q in-S in-P part-is s-is p-is h
         refl refl refl (sym (get_or-set_other S r k t nothing e)) (sym (get_or-set_other P r k q d e))
         (done k d (omega (arith, below, e)))
 
-pub later-kept : (S₀ S : List Heardbits) (r : ℕ) (t : Heardbits) → ((k : ℕ) → r ≤ k → heard_of S k ≡ heard_of S₀ k)
+pub later-kept : (S₀ S : List HeardBits) (r : ℕ) (t : HeardBits) → ((k : ℕ) → r ≤ k → heard_of S k ≡ heard_of S₀ k)
     → (k : ℕ) → r + 1 ≤ k → heard_of (set S r t) k ≡ heard_of S₀ k
 later-kept S₀ S r t later k above =
     let other : k ≢ r = λ e. omega (arith, e, above) in

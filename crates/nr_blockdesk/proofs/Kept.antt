@@ -7,15 +7,15 @@ use Rattle.std.proofs.Math.Seq.{take-append_seam}
 use Rattle.nr_bitvec.specs.Bit.{bit}
 use Rattle.nr_crcattach.specs.Attachment.{attached, block_poly}
 use Rattle.nr_crcattach.specs.Crc.{crc_of, degree, high_first}
-use Rattle.nr_harqbuf.specs.Record.{Heardbits}
+use Rattle.nr_harqbuf.specs.Record.{HeardBits}
 use Rattle.nr_ldpcenc.specs.Codeword.{codeword}
 use Rattle.nr_segment.specs.CodeBlock.{code_bits}
 use Rattle.nr_blockdesk.specs.Heard.{heard_of}
 use Rattle.nr_blockdesk.specs.Link.{IsBlock, Link, word}
 use Rattle.nr_blockdesk.specs.Outcome.{ExplainedBy}
-use Rattle.nr_blockdesk.specs.Receiving.{AllTell, AreWords, Fits, IsExplained, Stands, standing_after, word_at}
-use Rattle.nr_blockdesk.specs.declared.candidate.Standing.{Standing}
-use Rattle.nr_blockdesk.specs.declared.candidate.Standing.TheVariants as standing
+use Rattle.nr_blockdesk.specs.Receiving.{AllAgree, AreWords, Fits, IsExplained, Stands, candidate_after, word_at}
+use Rattle.nr_blockdesk.specs.declared.candidate.CandidateState.{CandidateState}
+use Rattle.nr_blockdesk.specs.declared.candidate.CandidateState.TheVariants as candidate_state
 
 -- one word is another one of as many bits
 pub words-set : (c n : ℕ) (words : List (List Bool)) (r : ℕ) (w : List Bool) → AreWords c n words → r < c → length w ≡ n → AreWords c n (set words r w)
@@ -37,15 +37,15 @@ words-more words r w f inside is before q below = ⊎_elim
     (cases_eq q r)
 
 -- A record that was made after another.
-module _ (link : Link) (S T : List Heardbits) (fewer : (r : ℕ) (w : ℕ → Bool) → r < link.plan.c → Fits (heard_of T r) w → Fits (heard_of S r) w) where
+module _ (link : Link) (S T : List HeardBits) (fewer : (r : ℕ) (w : ℕ → Bool) → r < link.plan.c → Fits (heard_of T r) w → Fits (heard_of S r) w) where
   explained-before : (y : List Bool) → ExplainedBy link T y → ExplainedBy link S y
   explained-before y by r inside = fewer r (bit (word link y r)) inside (by r inside)
 
   -- how the one transport block that may explain all stands, once its codewords were compared with what was received
-  pub stands-after : (list : List Bool) (words : List (List Bool)) (agreed : Bool) (st : Standing) → AllTell agreed link.plan.c words S T
-      → Stands link S list words st → Stands link T list words (standing_after st agreed)
-  stands-after list words agreed standing.Unread tells stands = tt
-  stands-after list words true standing.Explains tells stands = record {
+  pub stands-after : (list : List Bool) (words : List (List Bool)) (agreed : Bool) (st : CandidateState) → AllAgree agreed link.plan.c words S T
+      → Stands link S list words st → Stands link T list words (candidate_after st agreed)
+  stands-after list words agreed candidate_state.NotRead tells stands = tt
+  stands-after list words true candidate_state.Consistent tells stands = record {
     held = stands.held;
     explains = λ r inside.
         subst (λ (w : List Bool). Fits (heard_of T r) (bit w)) (stands.coded r inside)
@@ -53,15 +53,15 @@ module _ (link : Link) (S T : List Heardbits) (fewer : (r : ℕ) (w : ℕ → Bo
     only = λ y whole by. stands.only y whole (explained-before y by);
     coded = stands.coded;
   }
-  stands-after list words false standing.Explains tells stands = λ y whole by.
+  stands-after list words false candidate_state.Consistent tells stands = λ y whole by.
       let is : y ≡ take link.a list = stands.only y whole (explained-before y by) in
       tells (λ r inside.
       subst (λ (w : List Bool). Fits (heard_of T r) (bit w)) (sym (stands.coded r inside))
       (subst (λ (x : List Bool). Fits (heard_of T r) (bit (word link x r))) is (by r inside)))
-  stands-after list words agreed standing.Fails tells stands = λ y whole by. stands y whole (explained-before y by)
+  stands-after list words agreed candidate_state.Inconsistent tells stands = λ y whole by. stands y whole (explained-before y by)
 
 -- the one transport block that may explain all, read and encoded, is kept
-pub kept-read : (link : Link) (records : List Heardbits) (list bits : List Bool) (words : List (List Bool)) → list ≡ attached bits → IsBlock link bits
+pub kept-read : (link : Link) (records : List HeardBits) (list bits : List Bool) (words : List (List Bool)) → list ≡ attached bits → IsBlock link bits
     → ExplainedBy link records bits → ((y : List Bool) → IsBlock link y → ExplainedBy link records y → y ≡ bits)
     → ((r : ℕ) → r < link.plan.c → word_at words r ≡ codeword link.table link.graph link.plan (code_bits link.plan list r))
     → IsExplained link records list words
@@ -83,12 +83,12 @@ kept-read link records list bits words list-is whole by only coded = record {
     begins = ap (take link.a) list-is ∙ ap (λ n. take n (attached bits)) (sym whole) ∙ take-append_seam bits check
 
 -- what was received agrees with the words or not, of the receiver's own lists
-pub told-of : (agreed : Bool) (c : ℕ) (words words₁ : List (List Bool)) (S S₁ T : List Heardbits) → words₁ ≡ words → S₁ ≡ S → length S ≡ c
-    → AllTell agreed (length S₁) words₁ S₁ T → AllTell agreed c words S T
-told-of agreed c words words₁ S S₁ T words-is S-is many tells =
-    subst (λ n. AllTell agreed n words S T) many
-    (subst (λ (l : List Heardbits). AllTell agreed (length l) words l T) S-is
-    (subst (λ (l : List (List Bool)). AllTell agreed (length S₁) l S₁ T) words-is tells))
+pub part_masks-of : (agreed : Bool) (c : ℕ) (words words₁ : List (List Bool)) (S S₁ T : List HeardBits) → words₁ ≡ words → S₁ ≡ S → length S ≡ c
+    → AllAgree agreed (length S₁) words₁ S₁ T → AllAgree agreed c words S T
+part_masks-of agreed c words words₁ S S₁ T words-is S-is many tells =
+    subst (λ n. AllAgree agreed n words S T) many
+    (subst (λ (l : List HeardBits). AllAgree agreed (length l) words l T) S-is
+    (subst (λ (l : List (List Bool)). AllAgree agreed (length S₁) l S₁ T) words-is tells))
 
 -- what is written back to the whole of a list
 pub written : {X : Type 0} (n : ℕ) (xs ys : List X) → length xs ≡ n → take n (xs ++ ys) ≡ xs

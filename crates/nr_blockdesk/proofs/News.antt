@@ -5,7 +5,7 @@ use Rattle.std.proofs.lemmas.Bool.{cases_eq, true≢false}
 use Rattle.std.proofs.lemmas.Grind.{get_or-set_at}
 use Rattle.std.proofs.lemmas.List.{get_or-set_other, length-set}
 use Rattle.nr_bitvec.specs.Bit.{bit}
-use Rattle.nr_harqbuf.specs.Record.{HasFirsts, Heardbits, first_at, is_heard}
+use Rattle.nr_harqbuf.specs.Record.{HasFirsts, HeardBits, first_at, is_heard}
 use Rattle.nr_ldpcenc.specs.Codeword.{filler}
 use Rattle.nr_ldpcenc.specs.Rows.{Checks, Meets}
 use Rattle.nr_peel.specs.Peeling.{GivesAll, IsPeeled, IsSameCode, KeepsAllWords, Peeling}
@@ -15,7 +15,7 @@ use Rattle.nr_blockdesk.specs.Receiving.{IsNews, IsTied}
 use Rattle.nr_blockdesk.proofs.Hears.{same-checks}
 
 -- a position that was received before
-pub news-again : (s t u : Heardbits) (marks value : List Bool) → u.first ≡ t.first → IsNews s t marks value → IsNews s u marks value
+pub news-again : (s t u : HeardBits) (marks value : List Bool) → u.first ≡ t.first → IsNews s t marks value → IsNews s u marks value
 news-again s t u marks value same news =
     let at : (p : ℕ) → first_at u p ≡ first_at t p = λ p. ap (λ (xs : List (Option Bool)). get_or xs p None) same in
     record {
@@ -26,7 +26,7 @@ news-again s t u marks value same news =
     }
 
 -- one that was not
-module _ (s t u : Heardbits) (marks value : List Bool) (pos : ℕ) (v : Bool) (inside : pos < length t.first) (marked : pos < length marks) (valued : pos < length value)
+module _ (s t u : HeardBits) (marks value : List Bool) (pos : ℕ) (v : Bool) (inside : pos < length t.first) (marked : pos < length marks) (valued : pos < length value)
     (unheard : is_heard (first_at t pos) ≡ false) (firsts : u.first ≡ set t.first pos (Some v)) (news : IsNews s t marks value) where
   here : (p : ℕ) → p ≡ pos → first_at u p ≡ Some v
   here p e = ap (λ (xs : List (Option Bool)). get_or xs p None) firsts ∙ get_or-set_at t.first pos p (Some v) None e inside
@@ -58,7 +58,7 @@ module _ (s t u : Heardbits) (marks value : List Bool) (pos : ℕ) (v : Bool) (i
   }
 
 -- store and peeler after the news were learned, or where there was none
-module _ (s t : Heardbits) (marks value : List Bool) (news : IsNews s t marks value) (link : Link) (p : Peeling) (tied : IsTied link s p) where
+module _ (s t : HeardBits) (marks value : List Bool) (news : IsNews s t marks value) (link : Link) (p : Peeling) (tied : IsTied link s p) where
   firsts-before : (w : ℕ → Bool) → HasFirsts t w → HasFirsts s w
   firsts-before w has k b is = has k b (news.kept k b is)
 

@@ -5,7 +5,7 @@ use Rattle.std.specs.List.{find, range_with_len}
 use Rattle.std.proofs.lemmas.Bool.{false_from_ne_true, true≢false}
 use Rattle.std.proofs.lemmas.List.Sums.{sum_by-cons}
 use Rattle.nr_crcattach.specs.Attachment.{attached_length}
-use Rattle.nr_harqbuf.specs.Record.{Heardbits, first_at, is_heard, record_of}
+use Rattle.nr_harqbuf.specs.Record.{HeardBits, first_at, is_heard, record_of}
 use Rattle.nr_ldpcenc.specs.Codeword.{filler}
 use Rattle.nr_ldpcenc.specs.Rows.{block_checks}
 use Rattle.nr_segment.specs.Plan.{word_size, PlansAreSound, IsSound}
@@ -29,10 +29,10 @@ none_fixed : NothingHeardFixesNothing → PlansAreSound → (link : Link) (r p :
     → fixed link (heard_of (heard_record link []) r) p ≡ false
 unfolding hearings
 none_fixed nothing plans link r p is block low =
-    let s : Heardbits = heard_of (heard_record link []) r in
+    let s : HeardBits = heard_of (heard_record link []) r in
     let same : s ≡ record_of (word_size link.graph link.plan) [] = record-at link [] r block in
     let sets : given link s ≡ filler link.plan.kdash link.plan.k =
-    λ i k. (ap (λ (h : Heardbits). is_heard (first_at h k) || filler link.plan.kdash link.plan.k k) same
+    λ i k. (ap (λ (h : HeardBits). is_heard (first_at h k) || filler link.plan.kdash link.plan.k k) same
     ∙ ap (λ o. is_heard o || filler link.plan.kdash link.plan.k k) (none_heard (word_size link.graph link.plan) k)) i in
     ap (λ (S : ℕ → Bool). closure (block_checks link.table link.graph link.plan) S p) sets
     ∙ nothing link.table link.graph (attached_length link.a) link.plan p is.table
@@ -64,6 +64,6 @@ count_full t a (suc n) each =
 -- so all K' are left
 pub nothing-leaves_all : NothingHeardFixesNothing → PlansAreSound → NothingLeavesAll
 nothing-leaves_all nothing plans link records r is of block =
-    ap (λ (l : List Heardbits). left link l r) of.same
+    ap (λ (l : List HeardBits). left link l r) of.same
     ∙ count_full (λ p. not (fixed link (heard_of (heard_record link []) r) p)) 0 link.plan.kdash
     (λ p low high. ap not (none_fixed nothing plans link r p is block (omega (arith, high))))

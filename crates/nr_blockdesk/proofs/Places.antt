@@ -9,7 +9,7 @@ use Rattle.nr_bitvec.specs.Bit.{bit}
 use Rattle.nr_cbconcat.specs.Concatenation.{PlacesHaveOneOwner, owner_of}
 use Rattle.nr_interleave.specs.Interleaving.{SeatsAreSeating, interleaved, seat_of}
 use Rattle.nr_ratematch.specs.Selection.{Circular, PlacesAreSent, place_of, selected}
-use Rattle.nr_blockdesk.specs.Sent.{Matching, PartsAreAt, SentBitsAreAt, SentIsLong, block_sent, position_at, sent_of}
+use Rattle.nr_blockdesk.specs.Sent.{RateMatching, PartsAreAt, SentBitsAreAt, SentIsLong, block_sent, position_at, sent_of}
 
 pub length-selected : (b : Circular) (word : List Bool) (rv e : ℕ) → length (selected b word rv e) ≡ e
 unfolding selected
@@ -28,10 +28,10 @@ unfolding interleaved
 bit-interleaved qm bits p inside =
     get_or-map-range_with_len (λ m. bit bits (seat_of qm (length bits) m)) 0 (length bits) p p false inside (omega arith)
 
-pub length-block_sent : (t : Matching) (word : List Bool) (e : ℕ) → length (block_sent t word e) ≡ e
+pub length-block_sent : (t : RateMatching) (word : List Bool) (e : ℕ) → length (block_sent t word e) ≡ e
 length-block_sent t word e = length-interleaved t.qm (selected t.buffer word t.rv e) ∙ length-selected t.buffer word t.rv e
 
-bit-block_sent : (t : Matching) (word : List Bool) (e p : ℕ) → p < e → seat_of t.qm e p < e
+bit-block_sent : (t : RateMatching) (word : List Bool) (e p : ℕ) → p < e → seat_of t.qm e p < e
     → bit (block_sent t word e) p ≡ bit word (place_of t.buffer t.rv (seat_of t.qm e p))
 bit-block_sent t word e p inside seat =
     let bits : List Bool = selected t.buffer word t.rv e in
@@ -68,21 +68,21 @@ length-pieces f lengths (suc n) long within =
     subst (λ k. length (flat_map f (range_with_len 0 k)) ≡ sum (take k lengths)) next more
 
 -- the bits sent of the first n code blocks
-abbrev pub front_sent : Matching → (ℕ → List Bool) → ℕ → List Bool
+abbrev pub front_sent : RateMatching → (ℕ → List Bool) → ℕ → List Bool
 front_sent t words n = flat_map (λ r. block_sent t (words r) (slice_index t.lengths r)) (range_with_len 0 n)
 
-pub front-more : (t : Matching) (words : ℕ → List Bool) (n : ℕ)
+pub front-more : (t : RateMatching) (words : ℕ → List Bool) (n : ℕ)
     → front_sent t words n ++ block_sent t (words n) (slice_index t.lengths n) ≡ front_sent t words (n + 1)
 front-more t words n = pieces-more (λ r. block_sent t (words r) (slice_index t.lengths r)) n
 
-pub length-front : (t : Matching) (words : ℕ → List Bool) (n : ℕ) → n ≤ length t.lengths
+pub length-front : (t : RateMatching) (words : ℕ → List Bool) (n : ℕ) → n ≤ length t.lengths
     → length (front_sent t words n) ≡ sum (take n t.lengths)
 length-front t words n within =
     length-pieces (λ r. block_sent t (words r) (slice_index t.lengths r)) t.lengths n
     (λ r. length-block_sent t (words r) (slice_index t.lengths r)) within
 
 -- there is room among all bits for those of one code block more
-pub front-inside : (t : Matching) (words : ℕ → List Bool) (n : ℕ) → n < length t.lengths
+pub front-inside : (t : RateMatching) (words : ℕ → List Bool) (n : ℕ) → n < length t.lengths
     → length (front_sent t words n) + length (block_sent t (words n) (slice_index t.lengths n)) ≤ sum t.lengths
 front-inside t words n within =
     let before = length-front t words n (omega arith) in
@@ -96,7 +96,7 @@ sent-long t words =
     length-front t words (length t.lengths) (omega arith) ∙ ap sum (take_all (length t.lengths) t.lengths (omega arith))
 
 -- bit p of code block r's part, in the whole
-bit-sent : (t : Matching) (words : ℕ → List Bool) (r p : ℕ) → r < length t.lengths → p < slice_index t.lengths r
+bit-sent : (t : RateMatching) (words : ℕ → List Bool) (r p : ℕ) → r < length t.lengths → p < slice_index t.lengths r
     → bit (sent_of t words) (sum (take r t.lengths) + p) ≡ bit (block_sent t (words r) (slice_index t.lengths r)) p
 unfolding sent_of
 bit-sent t words r p block inside =
@@ -146,7 +146,7 @@ parts-at owners t m r p owner =
     )
 
 -- codewords that are the same send the same
-front-same : (t : Matching) (f g : ℕ → List Bool) (n : ℕ) → ((r : ℕ) → r < n → f r ≡ g r) → front_sent t f n ≡ front_sent t g n
+front-same : (t : RateMatching) (f g : ℕ → List Bool) (n : ℕ) → ((r : ℕ) → r < n → f r ≡ g r) → front_sent t f n ≡ front_sent t g n
 front-same t f g zero same = refl
 front-same t f g (suc n) same =
     let before = front-same t f g n (λ r less. same r (omega arith)) in
@@ -158,6 +158,6 @@ front-same t f g (suc n) same =
     let next : n + 1 ≡ suc n = omega arith in
     subst (λ k. front_sent t f k ≡ front_sent t g k) next more
 
-pub sent-same : (t : Matching) (f g : ℕ → List Bool) → ((r : ℕ) → r < length t.lengths → f r ≡ g r) → sent_of t f ≡ sent_of t g
+pub sent-same : (t : RateMatching) (f g : ℕ → List Bool) → ((r : ℕ) → r < length t.lengths → f r ≡ g r) → sent_of t f ≡ sent_of t g
 unfolding sent_of
 sent-same t f g same = front-same t f g (length t.lengths) same

@@ -9,7 +9,7 @@ use Rattle.std.proofs.lemmas.List.{get_or_past}
 use Rattle.std.proofs.lemmas.List.FromFn.{get_or-map-range_with_len, length-map-range_with_len}
 use Rattle.nr_bitvec.specs.Bit.{bit}
 use Rattle.nr_graphpick.specs.Graph.{cols_of}
-use Rattle.nr_harqbuf.specs.Record.{FitsByRecord, HasFirsts, Heardbits, Hearing, first_at, first_heard, is_heard, record_of}
+use Rattle.nr_harqbuf.specs.Record.{FitsByRecord, HasFirsts, HeardBits, Observation, first_at, first_heard, is_heard, record_of}
 use Rattle.nr_segment.specs.Plan.{word_size}
 use Rattle.nr_blockdesk.specs.Explains.{Explains, IsAccepted, Reception, heard_at}
 use Rattle.nr_blockdesk.specs.Heard.{hearing_at, heard_of, heard_record, hearings, hearings_in}
@@ -17,7 +17,7 @@ use Rattle.nr_blockdesk.specs.Hearing.{heard_bit}
 use Rattle.nr_blockdesk.specs.Link.{IsLink, Link, demanded, word}
 use Rattle.nr_blockdesk.specs.Outcome.{ExplainedBy}
 use Rattle.nr_blockdesk.specs.ReceiverLaws.{ExplainsByRecord}
-use Rattle.nr_blockdesk.specs.Sent.{AcceptedAreMatched, IsMatched, Matching, SentBitsAreAt, block_at, matching, position_at, sent, tx_said}
+use Rattle.nr_blockdesk.specs.Sent.{AcceptedAreMatched, IsMatched, RateMatching, SentBitsAreAt, block_at, matching, position_at, sent, tx_said}
 use Rattle.nr_transmission.specs.declared.fault.DeskFault.TheVariants as fault
 use Rattle.nr_blockdesk.proofs.Explained.{IsOf, IsOwned, all-first, all-others, explained-fits, fits, fits-explained}
 use Rattle.nr_blockdesk.proofs.Links.{bind-ok, demanded-ok}
@@ -46,7 +46,7 @@ pub placed : AcceptedAreMatched → SentBitsAreAt → (link : Link) (x : Recepti
 unfolding sent
 placed matched at link x is accepted m inside =
     let taken = taken-from link x accepted in
-    let t : Matching = matching link x.tx in
+    let t : RateMatching = matching link x.tx in
     let is-matched : IsMatched link x.tx taken.lengths = matched link x.tx taken.lengths is taken.said in
     let long : sum t.lengths ≡ x.tx.g = ap sum is-matched.same ∙ is-matched.shared.together in
     let many : length t.lengths ≡ link.plan.c = ap length is-matched.same ∙ is-matched.shared.counted in
@@ -68,10 +68,10 @@ record-at link list r inside =
     (record { first = []; clash = false }) inside (omega arith)
 
 -- what a record keeps of a position: the first bit received there, and nothing of one that the word lacks
-pub first-inside : (n : ℕ) (hs : List Hearing) (p : ℕ) → p < n → first_at (record_of n hs) p ≡ first_heard hs p
+pub first-inside : (n : ℕ) (hs : List Observation) (p : ℕ) → p < n → first_at (record_of n hs) p ≡ first_heard hs p
 first-inside n hs p inside = get_or-map-range_with_len (first_heard hs) 0 n p p None inside (omega arith)
 
-pub first-past : (n : ℕ) (hs : List Hearing) (p : ℕ) → n ≤ p → first_at (record_of n hs) p ≡ None
+pub first-past : (n : ℕ) (hs : List Observation) (p : ℕ) → n ≤ p → first_at (record_of n hs) p ≡ None
 first-past n hs p past =
     let long : length (map (first_heard hs) (range_with_len 0 n)) ≤ p = omega (arith, length-map-range_with_len (first_heard hs) 0 n, past) in
     get_or_past (map (first_heard hs) (range_with_len 0 n)) p None long
@@ -82,7 +82,7 @@ unfolding first_heard
 none_heard n p = ⊎_elim (λ (low : p < n). first-inside n [] p low) (λ (high : n ≤ p). first-past n [] p high) (cases_lt p n)
 
 -- the hearings of code block r are positions of its word
-abbrev is_below : ℕ → Hearing → Bool
+abbrev is_below : ℕ → Observation → Bool
 is_below n h = nat_lt h.0 n
 
 place-below : (n p : ℕ) (own : Bool) (o : Option Bool) → p < n
@@ -111,7 +111,7 @@ below-all matched at link (x ∷ xs) r is accepted =
     ∙ below-all matched at link xs r is (all-others (IsAccepted link) x xs accepted))
 
 pub hearings-below : AcceptedAreMatched → SentBitsAreAt → (link : Link) (list : List Reception) (r : ℕ) → IsLink link
-    → All (IsAccepted link) list → All (λ (h : Hearing). h.0 < word_size link.graph link.plan) (hearings link list r)
+    → All (IsAccepted link) list → All (λ (h : Observation). h.0 < word_size link.graph link.plan) (hearings link list r)
 hearings-below matched at link list r is accepted k d inside =
     let test = all-at (is_below (word_size link.graph link.plan)) (hearings link list r) k d (below-all matched at link list r is accepted) inside in
     grind (arith, nat_tests)
@@ -130,7 +130,7 @@ explains-by_record matched at by_record link list block is accepted whole = (for
 
     forth : Explains link list block → ExplainedBy link (heard_record link list) block
     forth explained r inside =
-        subst (λ (s : Heardbits). (s.clash ≡ false) × HasFirsts s (w r)) (sym (record-at link list r inside))
+        subst (λ (s : HeardBits). (s.clash ≡ false) × HasFirsts s (w r)) (sym (record-at link list r inside))
         ((by_record (w r) (word_size link.graph link.plan) (hearings link list r) (hearings-below matched at link list r is accepted)).0
         (explained-fits link w block list are explained r))
 
@@ -140,7 +140,7 @@ explains-by_record matched at by_record link list block is accepted whole = (for
         each : (r : ℕ) → r < link.plan.c → list_all (fits (w r)) (hearings link list r) ≡ true
         each r inside =
             (by_record (w r) (word_size link.graph link.plan) (hearings link list r) (hearings-below matched at link list r is accepted)).1
-            (subst (λ (s : Heardbits). (s.clash ≡ false) × HasFirsts s (w r)) (record-at link list r inside) (by r inside))
+            (subst (λ (s : HeardBits). (s.clash ≡ false) × HasFirsts s (w r)) (record-at link list r inside) (by r inside))
 
 -- a bit was received, in other words
 pub heard-some : (o : Option Bool) → is_heard o ≡ is_some o

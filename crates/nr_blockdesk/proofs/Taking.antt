@@ -9,7 +9,7 @@ use Rattle.std.proofs.lemmas.List.Elements.{All-append, filter_map-append}
 use Rattle.std.proofs.lemmas.List.FromFn.{length-map-range_with_len}
 use Rattle.std.proofs.lemmas.List.Sums.{sum_by_more_le}
 use Rattle.nr_cbconcat.specs.Concatenation.{IsOwner, PlacesHaveOneOwner, owner_of}
-use Rattle.nr_harqbuf.specs.Record.{Heardbits, Hearing, record_of}
+use Rattle.nr_harqbuf.specs.Record.{HeardBits, Observation, record_of}
 use Rattle.nr_interleave.specs.Interleaving.{seat_of}
 use Rattle.nr_segment.specs.Plan.{word_size}
 use Rattle.nr_peel.specs.Peeling.{Peeling}
@@ -19,7 +19,7 @@ use Rattle.nr_blockdesk.specs.Heard.{IsRecordOf, hearing_at, heard_of, heard_rec
 use Rattle.nr_blockdesk.specs.Hearing.{heard_bit}
 use Rattle.nr_blockdesk.specs.Link.{IsLink, Link, demanded}
 use Rattle.nr_blockdesk.specs.Receiving.{HearsPart, IsDesk, IsTied, part_hearing, part_hearings, peeling_of, piece}
-use Rattle.nr_blockdesk.specs.Sent.{AcceptedAreMatched, IsMatched, Matching, PartsAreAt, block_at, matching, position_at, tx_said, tx_said_of}
+use Rattle.nr_blockdesk.specs.Sent.{AcceptedAreMatched, IsMatched, RateMatching, PartsAreAt, block_at, matching, position_at, tx_said, tx_said_of}
 use Rattle.nr_transmission.specs.declared.fault.DeskFault.TheVariants as fault
 use Rattle.nr_blockdesk.specs.declared.heard.Heard.{Heard}
 use Rattle.nr_blockdesk.specs.declared.heard.Heard.TheVariants as kind
@@ -29,21 +29,21 @@ use Rattle.nr_blockdesk.proofs.Links.{bind-ok, never-bind, never-demanded}
 use Rattle.nr_blockdesk.proofs.Sends.{tx-never_memory}
 use Rattle.nr_blockdesk.proofs.Recorded.{record-at}
 
-none-told : (f : ℕ → Option Hearing) (a n : ℕ) → ((m : ℕ) → a ≤ m → m < a + n → f m ≡ None) → filter_map f (range_with_len a n) ≡ []
-none-told f a zero each = refl
-none-told f a (suc n) each =
+none-part_masks : (f : ℕ → Option Observation) (a n : ℕ) → ((m : ℕ) → a ≤ m → m < a + n → f m ≡ None) → filter_map f (range_with_len a n) ≡ []
+none-part_masks f a zero each = refl
+none-part_masks f a (suc n) each =
     ap (λ o. cons_option o (filter_map f (range_with_len (a + 1) n))) (each a (omega arith) (omega arith))
-    ∙ none-told f (a + 1) n (λ m low high. each m (omega arith) (omega arith))
+    ∙ none-part_masks f (a + 1) n (λ m low high. each m (omega arith) (omega arith))
 
-same-told : (f g : ℕ → Option Hearing) (a b n : ℕ) → ((k : ℕ) → k < n → f (a + k) ≡ g (b + k))
+same-part_masks : (f g : ℕ → Option Observation) (a b n : ℕ) → ((k : ℕ) → k < n → f (a + k) ≡ g (b + k))
     → filter_map f (range_with_len a n) ≡ filter_map g (range_with_len b n)
-same-told f g a b zero each = refl
-same-told f g a b (suc n) each =
+same-part_masks f g a b zero each = refl
+same-part_masks f g a b (suc n) each =
     let left : a ≡ a + 0 = omega arith in
     let right : b + 0 ≡ b = omega arith in
     let first : f a ≡ g b = ap f left ∙ each 0 (omega arith) ∙ ap g right in
     ap (λ o. cons_option o (filter_map f (range_with_len (a + 1) n))) first
-    ∙ ap (λ hs. cons_option (g b) hs) (same-told f g (a + 1) (b + 1) n next)
+    ∙ ap (λ hs. cons_option (g b) hs) (same-part_masks f g (a + 1) (b + 1) n next)
   where
     next : (k : ℕ) → k < n → f (a + 1 + k) ≡ g (b + 1 + k)
     next k inside =
@@ -51,32 +51,32 @@ same-told f g a b (suc n) each =
         let right : b + suc k ≡ b + 1 + k = omega arith in
         ap f left ∙ each (suc k) (omega arith) ∙ ap g right
 
-nothing-before : (xs ys : List Hearing) → xs ≡ [] → ys ≡ [] → (zs : List Hearing) → xs ++ (zs ++ ys) ≡ zs
+nothing-before : (xs ys : List Observation) → xs ≡ [] → ys ≡ [] → (zs : List Observation) → xs ++ (zs ++ ys) ≡ zs
 nothing-before xs ys front back zs = ap (λ l. l ++ (zs ++ ys)) front ∙ ap (λ l. zs ++ l) back ∙ go zs
   where
-    go : (zs : List Hearing) → zs ++ [] ≡ zs
+    go : (zs : List Observation) → zs ++ [] ≡ zs
     go [] = refl
     go (z ∷ zs) = ap (λ l. z ∷ l) (go zs)
 
 -- what the places of one code block tell
-pub piece-told : PartsAreAt → PlacesHaveOneOwner → (t : Matching) (tx : Tx) (heard : List Heard) (r : ℕ) → t.rv ≡ tx.rv → t.qm ≡ tx.qm
+pub piece-part_masks : PartsAreAt → PlacesHaveOneOwner → (t : RateMatching) (tx : Tx) (heard : List Heard) (r : ℕ) → t.rv ≡ tx.rv → t.qm ≡ tx.qm
     → sum t.lengths ≡ length heard → r < length t.lengths
     → filter_map (hearing_at t heard r) (range_with_len 0 (length heard))
     ≡ part_hearings t.buffer tx (piece t.lengths heard r) (length (piece t.lengths heard r))
-piece-told parts owners t tx heard r rv qm together block =
+piece-part_masks parts owners t tx heard r rv qm together block =
     ap (λ n. filter_map f (range_with_len 0 n)) all
     ∙ ap (filter_map f) (range-split 0 start (e + rest))
     ∙ filter_map-append f (range_with_len 0 start) (range_with_len (0 + start) (e + rest))
     ∙ ap (λ ms. filter_map f (range_with_len 0 start) ++ filter_map f ms) (range-split (0 + start) e rest)
     ∙ ap (λ hs. filter_map f (range_with_len 0 start) ++ hs) (filter_map-append f (range_with_len (0 + start) e) (range_with_len (0 + start + e) rest))
     ∙ nothing-before (filter_map f (range_with_len 0 start)) (filter_map f (range_with_len (0 + start + e) rest))
-    (none-told f 0 start (λ m low high. outside m (omega (arith, high, all)) (λ from. omega (arith, high, from.0))))
-    (none-told f (0 + start + e) rest (λ m low high. outside m (omega (arith, high, all)) (λ from. omega (arith, low, from.1))))
+    (none-part_masks f 0 start (λ m low high. outside m (omega (arith, high, all)) (λ from. omega (arith, high, from.0))))
+    (none-part_masks f (0 + start + e) rest (λ m low high. outside m (omega (arith, high, all)) (λ from. omega (arith, low, from.1))))
     (filter_map f (range_with_len (0 + start) e))
-    ∙ same-told f g (0 + start) 0 e inside
+    ∙ same-part_masks f g (0 + start) 0 e inside
     ∙ ap (λ n. filter_map g (range_with_len 0 n)) (sym long)
   where
-    f : ℕ → Option Hearing
+    f : ℕ → Option Observation
     f = hearing_at t heard r
 
     start : ℕ
@@ -88,7 +88,7 @@ piece-told parts owners t tx heard r rv qm together block =
     pc : List Heard
     pc = piece t.lengths heard r
 
-    g : ℕ → Option Hearing
+    g : ℕ → Option Observation
     g = part_hearing t.buffer tx pc
 
     most : start + e ≤ sum t.lengths
@@ -139,20 +139,20 @@ abbrev pub none-of : Link → Peeling
 none-of link = record { table = link.table; graph = link.graph; numbers = link.plan; given = []; known = []; bits = []; order = []; touches = 0; lanes = 0 }
 
 -- each code block's part of an accepted reception was received
-abbrev pub AreHeard : Link → Tx → List ℕ → List Heard → List Heardbits → List Peeling → List Heardbits → List Peeling → Type 0
+abbrev pub AreHeard : Link → Tx → List ℕ → List Heard → List HeardBits → List Peeling → List HeardBits → List Peeling → Type 0
 AreHeard link tx lengths heard S P S' P' =
     (r : ℕ) (d : Peeling) → r < link.plan.c → HearsPart link.buffer tx (piece lengths heard r) (heard_of S r) (get_or P r d) (heard_of S' r) (get_or P' r d)
 
-pub hearings-told : PartsAreAt → PlacesHaveOneOwner → AcceptedAreMatched → (link : Link) (tx : Tx) (lengths : List ℕ) (heard : List Heard) (r : ℕ)
+pub hearings-part_masks : PartsAreAt → PlacesHaveOneOwner → AcceptedAreMatched → (link : Link) (tx : Tx) (lengths : List ℕ) (heard : List Heard) (r : ℕ)
     → IsLink link → tx_said link tx ≡ Ok lengths → length heard ≡ tx.g → r < link.plan.c
     → hearings_in link r (reception tx heard) ≡ part_hearings link.buffer tx (piece lengths heard r) (length (piece lengths heard r))
 unfolding hearings_in
-hearings-told parts owners matched link tx lengths heard r is said whole block =
+hearings-part_masks parts owners matched link tx lengths heard r is said whole block =
     let are : IsMatched link tx lengths = matched link tx lengths is said in
-    let t : Matching = matching link tx in
+    let t : RateMatching = matching link tx in
     let together : sum t.lengths ≡ length heard = ap sum are.same ∙ are.shared.together ∙ sym whole in
     let many : length t.lengths ≡ link.plan.c = ap length are.same ∙ are.shared.counted in
-    piece-told parts owners t tx heard r refl refl together (subst (λ n. r < n) (sym many) block)
+    piece-part_masks parts owners t tx heard r refl refl together (subst (λ n. r < n) (sym many) block)
     ∙ ap (λ (es : List ℕ). part_hearings link.buffer tx (piece es heard r) (length (piece es heard r))) are.same
 
 hearings-more : (link : Link) (list : List Reception) (x : Reception) (r : ℕ) → hearings link (list ++ x ∷ []) r ≡ hearings link list r ++ hearings_in link r x
@@ -160,7 +160,7 @@ unfolding hearings
 hearings-more link list x r =
     flat_map-append (hearings_in link r) list (x ∷ []) ∙ ap (λ hs. flat_map (hearings_in link r) list ++ hs) (go (hearings_in link r x))
   where
-    go : (zs : List Hearing) → zs ++ [] ≡ zs
+    go : (zs : List Observation) → zs ++ [] ≡ zs
     go [] = refl
     go (z ∷ zs) = ap (λ l. z ∷ l) (go zs)
 
@@ -174,7 +174,7 @@ length-record link list = length-map-range_with_len (λ r. record_of (word_size 
 
 -- so the record is that of the longer list
 pub record-taken : PartsAreAt → PlacesHaveOneOwner → AcceptedAreMatched → (link : Link) (tx : Tx) (lengths : List ℕ) (heard : List Heard)
-    (S S' : List Heardbits) (P P' : List Peeling) → IsLink link → IsDesk link S P → IsAccepted link (reception tx heard)
+    (S S' : List HeardBits) (P P' : List Peeling) → IsLink link → IsDesk link S P → IsAccepted link (reception tx heard)
     → tx_said link tx ≡ Ok lengths → length heard ≡ tx.g → length S' ≡ link.plan.c → AreHeard link tx lengths heard S P S' P'
     → (list : List Reception) → IsRecordOf link list S → IsRecordOf link (list ++ reception tx heard ∷ []) S'
 record-taken parts owners matched link tx lengths heard S S' P P' is desk accepted said whole many hears list of = record {
@@ -191,22 +191,22 @@ record-taken parts owners matched link tx lengths heard S S' P P' is desk accept
     N : ℕ
     N = word_size link.graph link.plan
 
-    nothing : Heardbits
+    nothing : HeardBits
     nothing = record { first = []; clash = false }
 
     here : (r : ℕ) → r < link.plan.c → heard_of S' r ≡ heard_of (heard_record link longer) r
     here r block =
         let tied = desk.tied r block in
-        let hs : List Hearing = hearings link list r in
+        let hs : List Observation = hearings link list r in
         let before : heard_of S r ≡ record_of (length (heard_of S r).first) hs =
-        ap (λ (l : List Heardbits). heard_of l r) of.same ∙ record-at link list r block ∙ ap (λ n. record_of n hs) (sym tied.long) in
+        ap (λ (l : List HeardBits). heard_of l r) of.same ∙ record-at link list r block ∙ ap (λ n. record_of n hs) (sym tied.long) in
         (hears r (none-of link) block).recorded hs before
         ∙ ap (λ n. record_of n (hs ++ part_hearings link.buffer tx (piece lengths heard r) (length (piece lengths heard r)))) tied.long
-        ∙ ap (λ l. record_of N (hs ++ l)) (sym (hearings-told parts owners matched link tx lengths heard r is said whole block))
+        ∙ ap (λ l. record_of N (hs ++ l)) (sym (hearings-part_masks parts owners matched link tx lengths heard r is said whole block))
         ∙ ap (λ l. record_of N l) (sym (hearings-more link list x r))
         ∙ sym (record-at link longer r block)
 
-    at : (k : ℕ) (d : Heardbits) → k < length S' → get_or S' k d ≡ get_or (heard_record link longer) k d
+    at : (k : ℕ) (d : HeardBits) → k < length S' → get_or S' k d ≡ get_or (heard_record link longer) k d
     at k d inside =
         let block : k < link.plan.c = subst (λ n. k < n) many inside in
         get_or_default S' k d nothing inside
@@ -214,7 +214,7 @@ record-taken parts owners matched link tx lengths heard S S' P P' is desk accept
         ∙ get_or_default (heard_record link longer) k nothing d (subst (λ n. k < n) (sym (length-record link longer)) block)
 
 -- and stores and peelers belong together again
-pub desk-taken : (link : Link) (tx : Tx) (lengths : List ℕ) (heard : List Heard) (S S' : List Heardbits) (P P' : List Peeling)
+pub desk-taken : (link : Link) (tx : Tx) (lengths : List ℕ) (heard : List Heard) (S S' : List HeardBits) (P P' : List Peeling)
     → IsDesk link S P → length S' ≡ link.plan.c → length P' ≡ link.plan.c → AreHeard link tx lengths heard S P S' P' → IsDesk link S' P'
 desk-taken link tx lengths heard S S' P P' desk stores peelers hears = record {
   stores = stores;
@@ -241,20 +241,20 @@ reception-never_memory c x =
     (never-demanded fault.Length (length x.heard == x.tx.g) (λ e. cc e)) (λ u e. cc e))
 
 -- the parts, of the receiver's own lists
-pub parts-are : (link : Link) (tx : Tx) (es es' : List ℕ) (heard : List Heard) (S S₁ S' : List Heardbits) (P P₁ P' : List Peeling)
+pub parts-are : (link : Link) (tx : Tx) (es es' : List ℕ) (heard : List Heard) (S S₁ S' : List HeardBits) (P P₁ P' : List Peeling)
     → es' ≡ es → S₁ ≡ S → P₁ ≡ P → length S ≡ link.plan.c
     → ((r : ℕ) (d : Peeling) → r < length S₁
     → HearsPart link.buffer tx (piece es' heard r) (heard_of S₁ r) (get_or P₁ r d) (heard_of S' r) (get_or P' r d))
     → AreHeard link tx es heard S P S' P'
 parts-are link tx es es' heard S S₁ S' P P₁ P' es-is S-is P-is many parts r d block =
     subst (λ (l : List ℕ). HearsPart link.buffer tx (piece l heard r) (heard_of S r) (get_or P r d) (heard_of S' r) (get_or P' r d)) es-is
-    (subst (λ (l : List Heardbits). HearsPart link.buffer tx (piece es' heard r) (heard_of l r) (get_or P r d) (heard_of S' r) (get_or P' r d)) S-is
+    (subst (λ (l : List HeardBits). HearsPart link.buffer tx (piece es' heard r) (heard_of l r) (get_or P r d) (heard_of S' r) (get_or P' r d)) S-is
     (subst (λ (l : List Peeling). HearsPart link.buffer tx (piece es' heard r) (heard_of S₁ r) (get_or l r d) (heard_of S' r) (get_or P' r d)) P-is
-    (parts r d (subst (λ (l : List Heardbits). r < length l) (sym S-is) (subst (λ n. r < n) (sym many) block)))))
+    (parts r d (subst (λ (l : List HeardBits). r < length l) (sym S-is) (subst (λ n. r < n) (sym many) block)))))
 
 -- the record after a reception that was taken
 pub all-taken : PartsAreAt → PlacesHaveOneOwner → AcceptedAreMatched → (link : Link) (tx : Tx) (es : List ℕ) (heard : List Heard)
-    (S S' : List Heardbits) (P P' : List Peeling) → IsLink link → IsDesk link S P → reception_said link (reception tx heard) ≡ Ok es
+    (S S' : List HeardBits) (P P' : List Peeling) → IsLink link → IsDesk link S P → reception_said link (reception tx heard) ≡ Ok es
     → length heard ≡ tx.g → length S' ≡ length S → AreHeard link tx es heard S P S' P'
     → (list : List Reception) → IsRecordOf link list S → IsRecordOf link (list ++ reception tx heard ∷ []) S'
 all-taken parts owners matched link tx es heard S S' P P' is desk said whole many hears list of =

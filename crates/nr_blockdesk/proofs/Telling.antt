@@ -10,7 +10,7 @@ use Rattle.std.proofs.lemmas.List.Folds.{list_any-append}
 use Rattle.std.proofs.Math.Bool.{or_assoc}
 use Rattle.nr_bitvec.specs.Bit.{bit}
 use Rattle.nr_harqbuf.specs.Masks.{says, word_says}
-use Rattle.nr_harqbuf.specs.Record.{Hearing, heard_as}
+use Rattle.nr_harqbuf.specs.Record.{Observation, heard_as}
 use Rattle.nr_interleave.proofs.Seats.{seat-given, seat-inside}
 use Rattle.nr_interleave.specs.Interleaving.{interleaved, seat_of}
 use Rattle.nr_ratematch.specs.Selection.{Circular, place_of}
@@ -108,12 +108,12 @@ module _ (b : Circular) (rv : ℕ) (marks bits : List Bool) (k position count no
           (sym (one-says p v j inside) ∙ ap (bit_says b rv marks bits p v) at ∙ it.is) in
           let here : position + j ≡ p = eqb-true (position + j) p both.0 in
           let back : j ≡ p - position = omega (arith, here) in
-          let told = and_parts (bit_at now j == 1) (beq (bit_at word j == 1) v) both.1 in
+          let part_masks = and_parts (bit_at now j == 1) (beq (bit_at word j == 1) v) both.1 in
           and_from (nat_le position p && nat_lt p (position + count) && (bit_at now (p - position) == 1)) (beq (bit_at word (p - position) == 1) v)
           (and_from (nat_le position p && nat_lt p (position + count)) (bit_at now (p - position) == 1)
           (and_from (nat_le position p) (nat_lt p (position + count)) (le-leb position p (omega (arith, here))) (lt-ltb p (position + count) (omega (arith, here, inside))))
-          (sym (ap (λ i. bit_at now i == 1) back) ∙ told.0))
-          (sym (ap (λ i. beq (bit_at word i == 1) v) back) ∙ told.1)
+          (sym (ap (λ i. bit_at now i == 1) back) ∙ part_masks.0))
+          (sym (ap (λ i. beq (bit_at word i == 1) v) back) ∙ part_masks.1)
 
   -- a run more
   pub run-more : (first old new : ℕ → Bool → Bool) (one more : Bool)
@@ -130,29 +130,29 @@ module _ (b : Circular) (rv : ℕ) (marks bits : List Bool) (k position count no
       ∙ ap (λ t. first p v || t) (sym (any-more f k count))
 
 -- what is received at a place, as a hearing, and whether it tells this bit of this position
-told_by : ℕ → Bool → Option Hearing → Bool
+told_by : ℕ → Bool → Option Observation → Bool
 told_by p v None = false
 told_by p v (Some h) = (h.0 == p) && beq h.1 v
 
-cons_any : (p : ℕ) (v : Bool) (o : Option Hearing) (hs : List Hearing) (b : Bool) → list_any (λ (h : Hearing). (h.0 == p) && beq h.1 v) hs ≡ b
-    → list_any (λ (h : Hearing). (h.0 == p) && beq h.1 v) (cons_option o hs) ≡ (told_by p v o || b)
+cons_any : (p : ℕ) (v : Bool) (o : Option Observation) (hs : List Observation) (b : Bool) → list_any (λ (h : Observation). (h.0 == p) && beq h.1 v) hs ≡ b
+    → list_any (λ (h : Observation). (h.0 == p) && beq h.1 v) (cons_option o hs) ≡ (told_by p v o || b)
 unfolding told_by
 cons_any p v None hs b rest = rest
 cons_any p v (Some h) hs b rest = ap (λ t. ((h.0 == p) && beq h.1 v) || t) rest
 
-any-told : (f : ℕ → Option Hearing) (p : ℕ) (v : Bool) (ns : List ℕ)
-    → list_any (λ (h : Hearing). (h.0 == p) && beq h.1 v) (filter_map f ns) ≡ list_any (λ m. told_by p v (f m)) ns
-any-told f p v [] = refl
-any-told f p v (n ∷ ns) = cons_any p v (f n) (filter_map f ns) (list_any (λ m. told_by p v (f m)) ns) (any-told f p v ns)
+any-part_masks : (f : ℕ → Option Observation) (p : ℕ) (v : Bool) (ns : List ℕ)
+    → list_any (λ (h : Observation). (h.0 == p) && beq h.1 v) (filter_map f ns) ≡ list_any (λ m. told_by p v (f m)) ns
+any-part_masks f p v [] = refl
+any-part_masks f p v (n ∷ ns) = cons_any p v (f n) (filter_map f ns) (list_any (λ m. told_by p v (f m)) ns) (any-part_masks f p v ns)
 
-told-at : (p q : ℕ) (v : Bool) (o : Option Bool) → told_by p v (option_map (λ b. (q, b)) o) ≡ ((q == p) && tells o v)
+part_masks-at : (p q : ℕ) (v : Bool) (o : Option Bool) → told_by p v (option_map (λ b. (q, b)) o) ≡ ((q == p) && tells o v)
 unfolding told_by
-told-at p q v None = go (q == p)
+part_masks-at p q v None = go (q == p)
   where
     go : (b : Bool) → false ≡ (b && false)
     go true = refl
     go false = refl
-told-at p q v (Some b) = refl
+part_masks-at p q v (Some b) = refl
 
 -- bits that interleave to the marks and bits of a part say what its places tell
 module _ (b : Circular) (tx : Tx) (marks bits chosen chosen-too : List Bool) (from n : ℕ) (some : 0 < tx.qm) (whole : n % tx.qm ≡ 0)
@@ -182,7 +182,7 @@ module _ (b : Circular) (tx : Tx) (marks bits chosen chosen-too : List Bool) (fr
   place-says : (p : ℕ) (v : Bool) (m : ℕ) → m < n → by_place p v m ≡ bit_says b tx.rv chosen chosen-too p v (seat_of tx.qm n m)
   place-says p v m below =
       let at : ℕ = place_of b tx.rv (seat_of tx.qm n m) in
-      told-at p (place_of b tx.rv (seat_of tx.qm (length places) m)) v (heard_bit (heard_at places m))
+      part_masks-at p (place_of b tx.rv (seat_of tx.qm (length places) m)) v (heard_bit (heard_at places m))
       ∙ ap (λ k. (place_of b tx.rv (seat_of tx.qm k m) == p) && tells (heard_bit (heard_at places m)) v) (length-heards marks bits from n)
       ∙ ap (λ h. (at == p) && tells (heard_bit h) v) (heard-at marks bits from n m below)
       ∙ ap (λ t. (at == p) && t) (tells-marked (bit marks (from + m)) (bit bits (from + m)) v)
@@ -211,7 +211,7 @@ module _ (b : Circular) (tx : Tx) (marks bits chosen chosen-too : List Bool) (fr
   unfolding heard_as
   says-part p v =
       same_test (list_any (bit_says b tx.rv chosen chosen-too p v) (range_with_len 0 (length chosen))) (list_any (by_place p v) (range_with_len 0 (length places))) (forth p v) (back p v)
-      ∙ sym (any-told (part_hearing b tx places) p v (range_with_len 0 (length places)))
+      ∙ sym (any-part_masks (part_hearing b tx places) p v (range_with_len 0 (length places)))
 
 pub none-more : (a : Bool) → a ≡ (a || false)
 none-more true = refl

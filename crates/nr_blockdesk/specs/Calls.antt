@@ -5,8 +5,8 @@ use Rattle.nr_blockdesk.specs.Explains.{Reception, reception_said}
 use Rattle.nr_blockdesk.specs.Heard.{IsRecordOf}
 use Rattle.nr_blockdesk.specs.Link.{Link, link_said}
 use Rattle.nr_blockdesk.specs.Outcome.{Verdict, outcome_of}
-use Rattle.nr_blockdesk.specs.Processing.{Processing, process}
-use Rattle.nr_blockdesk.specs.Receiving.{Receiving}
+use Rattle.nr_blockdesk.specs.Processing.{ProcessesView, process}
+use Rattle.nr_blockdesk.specs.Receiving.{ReceiverView}
 use Rattle.nr_transmission.specs.declared.fault.DeskFault.{DeskFault}
 use Rattle.nr_transmission.specs.declared.fault.DeskFault.TheVariants as fault
 use Rattle.nr_transmission.specs.declared.settings.Settings.{Settings}
@@ -56,17 +56,17 @@ is_on p (begin q a) = q == p
 is_on p (take q x) = q == p
 
 -- a receiver has the link of a round, and the record of its receptions
-abbrev pub Holds : Option Receiving → Option Round → Type 0
+abbrev pub Holds : Option ReceiverView → Option Round → Type 0
 Holds None None = Unit {0}
 Holds (Some receiver) (Some round) = (receiver.link ≡ round.link) × IsRecordOf round.link round.list receiver.heard
 Holds _ _ = ⊥
 
 -- each process is as these calls leave it
-abbrev pub IsAfter : Processing → List Call → Type 0
+abbrev pub IsAfter : ProcessesView → List Call → Type 0
 IsAfter s calls = (p : ℕ) → p < 16 → Holds (process s p) (round_after s.table s.settings p calls)
 
 -- the outcome of process p's receptions since it last began
-abbrev pub answer_after : Processing → ℕ → List Call → Option Verdict
+abbrev pub answer_after : ProcessesView → ℕ → List Call → Option Verdict
 answer_after s p calls = option_map (λ round. outcome_of round.link round.list) (round_after s.table s.settings p calls)
 
 -- a call was not refused for memory

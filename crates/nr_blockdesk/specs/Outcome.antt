@@ -2,7 +2,7 @@
 use Rattle.std.specs.Prelude.{◌≡◌, ℕ, ◌<◌, ◌==◌, ◌||◌, zero, suc, Bool, true, false, not, if◌then◌else◌, List, [], ◌∷◌, flat_map, find, count_by, Option, Some, None}
 use Rattle.std.specs.List.{list_all, range_with_len}
 use Rattle.nr_bitvec.specs.Bit.{bit}
-use Rattle.nr_harqbuf.specs.Record.{Heardbits, HasFirsts, first_at, is_heard}
+use Rattle.nr_harqbuf.specs.Record.{HeardBits, HasFirsts, first_at, is_heard}
 use Rattle.nr_ldpcenc.specs.Codeword.{filler}
 use Rattle.nr_ldpcenc.specs.Rows.{block_checks}
 use Rattle.nr_peel.specs.Closure.{closure}
@@ -11,23 +11,23 @@ use Rattle.nr_blockdesk.specs.Heard.{heard_of, heard_record}
 use Rattle.nr_blockdesk.specs.Link.{Link, word}
 
 -- the positions of a code block that were received, and its fillers
-abbrev pub given : Link → Heardbits → ℕ → Bool
+abbrev pub given : Link → HeardBits → ℕ → Bool
 given link s p = is_heard (first_at s p) || filler link.plan.kdash link.plan.k p
 
 -- the positions that the parity rows fix from them, applied one unknown at a time
-abbrev pub fixed : Link → Heardbits → ℕ → Bool
+abbrev pub fixed : Link → HeardBits → ℕ → Bool
 fixed link s = closure (block_checks link.table link.graph link.plan) (given link s)
 
 -- how many positions below K' of code block r aren't fixed
-abbrev pub left : Link → List Heardbits → ℕ → ℕ
+abbrev pub left : Link → List HeardBits → ℕ → ℕ
 left link records r = count_by (λ p. not (fixed link (heard_of records r) p)) (range_with_len 0 link.plan.kdash)
 
 -- in no code block is one left
-abbrev pub all_fixed : Link → List Heardbits → Bool
+abbrev pub all_fixed : Link → List HeardBits → Bool
 all_fixed link records = list_all (λ r. left link records r == 0) (range_with_len 0 link.plan.c)
 
 -- a transport block's codewords have every first bit of a record in which no position has both bits
-abbrev pub ExplainedBy : Link → List Heardbits → List Bool → Type 0
+abbrev pub ExplainedBy : Link → List HeardBits → List Bool → Type 0
 ExplainedBy link records block =
     (r : ℕ) → r < link.plan.c → ((heard_of records r).clash ≡ false) × HasFirsts (heard_of records r) (bit (word link block r))
 

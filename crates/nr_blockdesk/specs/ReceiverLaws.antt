@@ -1,14 +1,14 @@
 -- Believed: laws of receptions and their outcome, whoever receives.
 use Rattle.std.specs.Prelude.{◌≡◌, ◌≢◌, ◌↔◌, ℕ, ◌<◌, Bool, true, false, Ok, IsOk, List, [], length, map, All, zip}
 use Rattle.nr_bitvec.specs.Bit.{bit}
-use Rattle.nr_harqbuf.specs.Record.{Heardbits}
+use Rattle.nr_harqbuf.specs.Record.{HeardBits}
 use Rattle.nr_peel.specs.Closure.{AgreeOn}
 use Rattle.nr_shifttable.specs.Accepted.{Entries, IsTable}
 use Rattle.nr_blockdesk.specs.Explains.{Explains, IsAccepted, Reception, reception}
 use Rattle.nr_blockdesk.specs.Heard.{IsRecordOf, heard_of, heard_record}
 use Rattle.nr_blockdesk.specs.Link.{IsBlock, IsLink, Link, link_said, word}
 use Rattle.nr_blockdesk.specs.Outcome.{ExplainedBy, all_fixed, contradiction, delivered, fixed, left, open_still, outcome_of}
-use Rattle.nr_blockdesk.specs.Sent.{Sending, sending_said, sent, tx_said}
+use Rattle.nr_blockdesk.specs.Sent.{SenderView, sending_said, sent, tx_said}
 use Rattle.nr_blockdesk.specs.declared.heard.Heard.{Heard}
 use Rattle.nr_blockdesk.specs.declared.heard.Heard.TheVariants as heard
 use Rattle.nr_transmission.specs.declared.settings.Settings.{Settings}
@@ -79,14 +79,14 @@ IsMarked link x = IsOk (tx_said link x.0) × (length x.1 ≡ x.0.g)
 
 -- A receiver has the sender's link and takes all that arrives of what the sender sends. Over erasures alone the outcome
 -- is no contradiction, and what is delivered is the sender's transport block.
-pub record AreEnds (sender : Sending) (link : Link) (txs : List (Tx × List Bool)) : Type 0 where
+pub record AreEnds (sender : SenderView) (link : Link) (txs : List (Tx × List Bool)) : Type 0 where
   pub same : link ≡ sender.link
   pub accepted : All (IsAccepted link) (arrived link sender.block txs)
   pub safe : IsSafeOverErasures link sender.block txs
 
 -- a sender and a receiver that agreed on a table, the settings and the size of a transport block are such ends
 abbrev pub EndsAreSafe : Type 0
-EndsAreSafe = (table : Entries) (settings : Settings) (block : List Bool) (sender : Sending) (link : Link)
+EndsAreSafe = (table : Entries) (settings : Settings) (block : List Bool) (sender : SenderView) (link : Link)
     (txs : List (Tx × List Bool)) → IsTable table → sending_said table settings block ≡ Ok sender
     → link_said table settings (length block) ≡ Ok link → All (IsMarked link) txs → AreEnds sender link txs
 
@@ -96,5 +96,5 @@ NothingIsOpen = (link : Link) → IsLink link → outcome_of link [] ≡ open_st
 
 -- with nothing received no position below K' of a code block is fixed, so K' are left
 abbrev pub NothingLeavesAll : Type 0
-NothingLeavesAll = (link : Link) (records : List Heardbits) (r : ℕ) → IsLink link → IsRecordOf link [] records
+NothingLeavesAll = (link : Link) (records : List HeardBits) (r : ℕ) → IsLink link → IsRecordOf link [] records
     → r < link.plan.c → left link records r ≡ link.plan.kdash

@@ -26,7 +26,7 @@ abbrev pub tx_said : Link → Tx → Result (List ℕ) DeskFault
 tx_said link tx = tx_said_of link.plan.c tx
 
 -- how a transmission matches its rate: the buffer, the redundancy version, Qm, and E_r of each code block
-pub record Matching : Type 0 where
+pub record RateMatching : Type 0 where
   pub buffer : Circular
   pub rv : ℕ
   pub qm : ℕ
@@ -38,19 +38,19 @@ answered (Ok lengths) = lengths
 answered (Err e) = []
 
 -- how a transmission with these lengths matches its rate
-abbrev pub matching_of : Circular → Tx → List ℕ → Matching
+abbrev pub matching_of : Circular → Tx → List ℕ → RateMatching
 matching_of buffer tx lengths = record { buffer = buffer; rv = tx.rv; qm = tx.qm; lengths = lengths }
 
 -- how a transmission over a link matches its rate
-abbrev pub matching : Link → Tx → Matching
+abbrev pub matching : Link → Tx → RateMatching
 matching link tx = matching_of link.buffer tx (answered (tx_said link tx))
 
 -- f of one code block: e bits of its codeword, selected and interleaved (5.4.2.1 and 5.4.2.2)
-abbrev pub block_sent : Matching → List Bool → ℕ → List Bool
+abbrev pub block_sent : RateMatching → List Bool → ℕ → List Bool
 block_sent t codeword e = interleaved t.qm (selected t.buffer codeword t.rv e)
 
 -- the bits sent: f of each code block, one after the other (5.5), where `words r` is the codeword of code block r
-unfoldable pub sent_of : Matching → (ℕ → List Bool) → List Bool
+unfoldable pub sent_of : RateMatching → (ℕ → List Bool) → List Bool
 sent_of t words = flat_map (λ r. block_sent t (words r) (slice_index t.lengths r)) (range_with_len 0 (length t.lengths))
 
 -- the bits sent of a transport block
@@ -62,12 +62,12 @@ abbrev pub sent_said : Link → Tx → List Bool → Result (List Bool) DeskFaul
 sent_said link tx block = tx_said link tx >>= λ lengths. Ok (sent link tx block)
 
 -- what contracts see of a `Sender`: the link, and the transport block
-pub record Sending : Type 0 where
+pub record SenderView : Type 0 where
   pub link : Link
   pub block : List Bool
 
 -- the sender of a transport block, or the first fault
-abbrev pub sending_said : Entries → Settings → List Bool → Result Sending DeskFault
+abbrev pub sending_said : Entries → Settings → List Bool → Result SenderView DeskFault
 sending_said table settings block = link_said table settings (length block) >>= λ link. Ok (record { link = link; block = block })
 
 -- what a sender keeps: the codewords of its transport block
@@ -76,15 +76,15 @@ pub record IsSender (link : Link) (block : List Bool) (words : List (List Bool))
   pub encoded : words ≡ words_of link block
 
 -- the code block of place m of the sent bits
-abbrev pub block_at : Matching → ℕ → ℕ
+abbrev pub block_at : RateMatching → ℕ → ℕ
 block_at t m = (owner_of t.lengths m).0
 
 -- the position of that bit in the code block's codeword
-unfoldable pub position_at : Matching → ℕ → ℕ
+unfoldable pub position_at : RateMatching → ℕ → ℕ
 position_at t m = place_of t.buffer t.rv (seat_of t.qm (slice_index t.lengths (block_at t m)) (owner_of t.lengths m).1)
 
 -- what an accepted transmission's matching keeps to
-pub record IsMatching (t : Matching) : Type 0 where
+pub record IsMatching (t : RateMatching) : Type 0 where
   pub circular : IsCircular t.buffer
   pub version : t.rv < 4
   pub order_some : 0 < t.qm
@@ -102,23 +102,23 @@ AcceptedAreMatched = (link : Link) (tx : Tx) (lengths : List ℕ) → IsLink lin
 
 -- as many bits are sent as the lengths say
 abbrev pub SentIsLong : Type 0
-SentIsLong = (t : Matching) (words : ℕ → List Bool) → length (sent_of t words) ≡ sum t.lengths
+SentIsLong = (t : RateMatching) (words : ℕ → List Bool) → length (sent_of t words) ≡ sum t.lengths
 
 -- an accepted transmission sends G bits
 abbrev pub AcceptedSendAll : Type 0
 AcceptedSendAll = (link : Link) (tx : Tx) (block : List Bool) → IsOk (tx_said link tx) → length (sent link tx block) ≡ tx.g
 
 -- place m of the sent bits is a position of a code block that can be sent, and has its codeword's bit
-pub record IsBitAt (t : Matching) (m : ℕ) : Type 0 where
+pub record IsBitAt (t : RateMatching) (m : ℕ) : Type 0 where
   pub block : block_at t m < length t.lengths
   pub position : IsSent t.buffer (position_at t m)
   pub value : (words : ℕ → List Bool) → bit (sent_of t words) m ≡ bit (words (block_at t m)) (position_at t m)
 
 -- every place of the sent bits is so
 abbrev pub SentBitsAreAt : Type 0
-SentBitsAreAt = (t : Matching) (m : ℕ) → IsMatching t → m < sum t.lengths → IsBitAt t m
+SentBitsAreAt = (t : RateMatching) (m : ℕ) → IsMatching t → m < sum t.lengths → IsBitAt t m
 
 -- what stands at place p of code block r's part of the sent bits, which is place m of all
 abbrev pub PartsAreAt : Type 0
-PartsAreAt = (t : Matching) (m r p : ℕ) → IsOwner t.lengths m r p
+PartsAreAt = (t : RateMatching) (m r p : ℕ) → IsOwner t.lengths m r p
     → (block_at t m ≡ r) × (position_at t m ≡ place_of t.buffer t.rv (seat_of t.qm (slice_index t.lengths r) p))

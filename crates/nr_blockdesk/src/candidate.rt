@@ -4,7 +4,7 @@ ghost use Rattle.std.specs.Prelude.{◌≡◌, ℕ, ◌==◌, ◌<◌, ◌≤◌
 ghost use Rattle.std.specs.List.{list_all};
 ghost use Rattle.nr_peel.specs.Peeling.{Peeling, checks_for, left_of};
 ghost use Rattle.nr_segment.specs.CodeBlock.{numbers};
-ghost use Rattle.nr_blockdesk.specs.Receiving.{IsRead, standing_after};
+ghost use Rattle.nr_blockdesk.specs.Receiving.{IsRead, candidate_after};
 
 use nr_bitvec::Bits;
 use nr_peel::Peeler;
@@ -12,23 +12,23 @@ use nr_segment::Plan;
 
 /// How the one transport block that may explain what was received stands.
 #[derive(Clone, Copy)]
-pub(crate) enum Standing {
+pub(crate) enum CandidateState {
     /// Some position below K' was not known yet when it was last asked for.
-    Unread,
+    NotRead,
     /// It explains all that was received.
-    Explains,
+    Consistent,
     /// It doesn't, and so none does.
-    Fails,
+    Inconsistent,
 }
 
-impl Standing {
+impl CandidateState {
     // How it stands when more is received, which agrees with its codewords or does not. A contradiction
     // stays.
-    pub(crate) fn after(self, agreed: bool) -> Standing
-        ensures { result ≡ standing_after self agreed }
+    pub(crate) fn after(self, agreed: bool) -> CandidateState
+        ensures { result ≡ candidate_after self agreed }
     {
         match self {
-            Standing::Explains if !agreed => Standing::Fails,
+            CandidateState::Consistent if !agreed => CandidateState::Inconsistent,
             other => other,
         }
     }

@@ -4,7 +4,7 @@ ghost use Rattle.std.specs.Prelude.{◌≡◌, ℕ, true, false, ◌+◌, ◌-�
 ghost use Rattle.nr_bitvec.specs.Bit.{bit};
 ghost use Rattle.nr_crcattach.specs.Crc.{crc_of};
 ghost use Rattle.nr_crcattach.specs.declared.Poly.TheVariants.{B24};
-ghost use Rattle.nr_harqbuf.specs.Record.{Heardbits};
+ghost use Rattle.nr_harqbuf.specs.Record.{HeardBits};
 ghost use Rattle.nr_ldpcenc.specs.Codeword.{codeword};
 ghost use Rattle.nr_segment.specs.CodeBlock.{positions_of, code_bits, code_block, numbers, shared_bits};
 ghost use Rattle.nr_shifttable.specs.Accepted.{has_graph};

@@ -5,21 +5,21 @@ ghost use Rattle.std.specs.Prelude.{◌≡◌, ℕ, ◌*◌, ◌%◌, ◌^◌, �
 ghost use Rattle.nr_bitvec.specs.Bit.{bit};
 ghost use Rattle.nr_graphpick.specs.Graph.{cols_of};
 ghost use Rattle.nr_harqbuf.specs.Masks.{AreMasks};
-ghost use Rattle.nr_harqbuf.specs.Record.{Hearing, Heardbits};
+ghost use Rattle.nr_harqbuf.specs.Record.{Observation, HeardBits};
 ghost use Rattle.nr_peel.specs.Peeling.{Peeling, checks_for};
 ghost use Rattle.nr_ratematch.specs.Lengths.{IsShared};
 ghost use Rattle.nr_blockdesk.specs.Explains.{hearing_said_of};
 ghost use Rattle.nr_blockdesk.specs.Heard.{heard_of};
 ghost use Rattle.nr_blockdesk.specs.Link.{Link};
 ghost use Rattle.nr_blockdesk.specs.Marks.{HasRoomFor, heards, heards_of};
-ghost use Rattle.nr_blockdesk.specs.Receiving.{AllTell, AreWords, HearsAll, HearsPart, IsNews, IsSized, IsTied, Tells, piece};
-ghost use Rattle.nr_blockdesk.specs.Telling.{IsUntold};
+ghost use Rattle.nr_blockdesk.specs.Receiving.{AllAgree, AreWords, HearsAll, HearsPart, IsNews, IsSized, IsTied, Agrees, piece};
+ghost use Rattle.nr_blockdesk.specs.Telling.{AreEmpty};
 
-use crate::deposit::deposit;
+use crate::gather_part::gather_part;
 use crate::part::Part;
 use crate::selected::Selected;
 use crate::sender::judge;
-use crate::told::Told;
+use crate::part_masks::PartMasks;
 use arrayvec::ArrayVec;
 use nr_bitvec::Bits;
 use nr_harqbuf::{Store, agrees, record_continues, record_merges};
@@ -64,7 +64,7 @@ fn hear_part(
     store: &mut Store,
     peeler: &mut Peeler<'_>,
     word: &Word,
-    told: &mut Told,
+    part_masks: &mut PartMasks,
     selected: &mut Selected,
 ) -> bool
     requires version { tx.now.rv < 4 }
@@ -72,57 +72,57 @@ fn hear_part(
     requires whole { part.now.count % tx.now.qm ≡ 0 }
     requires sized { IsSized (cols_of buffer.now.graph * buffer.now.z) store.old peeler.old }
     requires long { length word.now ≡ cols_of buffer.now.graph * buffer.now.z }
-    requires untold { IsUntold (cols_of buffer.now.graph * buffer.now.z) told.old }
+    requires empty { AreEmpty (cols_of buffer.now.graph * buffer.now.z) part_masks.old }
     requires room { HasRoomFor part.now.count selected.old }
     ensures hears { HearsPart buffer.now tx.now (heards_of part.now) store.old peeler.old store.new peeler.new }
-    ensures agreed { Tells result (bit word.now) store.old store.new }
-    ensures untold { IsUntold (cols_of buffer.now.graph * buffer.now.z) told.new }
+    ensures agreed { Agrees result (bit word.now) store.old store.new }
+    ensures empty { AreEmpty (cols_of buffer.now.graph * buffer.now.z) part_masks.new }
     ensures room { (n : ℕ) → HasRoomFor n selected.old → HasRoomFor n selected.new }
 {
-    if (part.count as usize) < told.heard.len() / POSITIONS_PER_PLACE {
-        return hear_by_places(buffer, tx, part, store, peeler, word, told);
+    if (part.count as usize) < part_masks.heard.len() / POSITIONS_PER_PLACE {
+        return hear_by_places(buffer, tx, part, store, peeler, word, part_masks);
     }
     selected.read(tx.qm, part);
-    if deposit(buffer, tx.rv, selected, told) {
-        teach(told, store, peeler, word)
+    if gather_part(buffer, tx.rv, selected, part_masks) {
+        absorb(part_masks, store, peeler, word)
     } else {
-        hear_by_places(buffer, tx, part, store, peeler, word, told)
+        hear_by_places(buffer, tx, part, store, peeler, word, part_masks)
     }
 }
 
 // Receives all that is told: what is told for the first time is learned at once. Returns whether each bit told is that
 // of `word`. Nothing is told then.
-fn teach(told: &mut Told, store: &mut Store, peeler: &mut Peeler<'_>, word: &Word) -> bool
-    requires sized { IsSized (length told.old.heard.items) store.old peeler.old }
-    requires bits { length told.old.value.items ≡ length told.old.heard.items }
-    ensures hears { (more : List Hearing)
-        → AreMasks more told.old.heard.items told.old.value.items
+fn absorb(part_masks: &mut PartMasks, store: &mut Store, peeler: &mut Peeler<'_>, word: &Word) -> bool
+    requires sized { IsSized (length part_masks.old.heard.items) store.old peeler.old }
+    requires bits { length part_masks.old.value.items ≡ length part_masks.old.heard.items }
+    ensures hears { (more : List Observation)
+        → AreMasks more part_masks.old.heard.items part_masks.old.value.items
         → HearsAll more store.old peeler.old store.new peeler.new }
-    ensures agreed { Tells result (bit word.now) store.old store.new }
-    ensures untold { IsUntold (length told.old.heard.items) told.new }
+    ensures agreed { Agrees result (bit word.now) store.old store.new }
+    ensures empty { AreEmpty (length part_masks.old.heard.items) part_masks.new }
 {
     record_merges();
-    let agreed = agrees(&told.heard, &told.value, word.bits());
-    store.hear_all(&mut told.heard, &told.value);
-    learn_told(told, peeler);
+    let agreed = agrees(&part_masks.heard, &part_masks.value, word.bits());
+    store.hear_all(&mut part_masks.heard, &part_masks.value);
+    learn_masks(part_masks, peeler);
     agreed
 }
 
 // Learns all that is told. Nothing is told then.
-fn learn_told(told: &mut Told, peeler: &mut Peeler<'_>)
-    requires heard { length told.old.heard.items ≡ (checks_for peeler.old).size }
-    requires bits { length told.old.value.items ≡ length told.old.heard.items }
-    ensures tied { (link : Link) (s t : Heardbits)
-        → IsNews s t told.old.heard.items told.old.value.items
+fn learn_masks(part_masks: &mut PartMasks, peeler: &mut Peeler<'_>)
+    requires heard { length part_masks.old.heard.items ≡ (checks_for peeler.old).size }
+    requires bits { length part_masks.old.value.items ≡ length part_masks.old.heard.items }
+    ensures tied { (link : Link) (s t : HeardBits)
+        → IsNews s t part_masks.old.heard.items part_masks.old.value.items
         → IsTied link s peeler.old → IsTied link t peeler.new }
     ensures visited { peeler.old.touches ≤ peeler.new.touches }
-    ensures untold { IsUntold (length told.old.heard.items) told.new }
+    ensures empty { AreEmpty (length part_masks.old.heard.items) part_masks.new }
 {
-    if told.is_empty() {
+    if part_masks.is_empty() {
         return;
     }
-    peeler.learn_all(&told.heard, &told.value);
-    told.heard.zero();
+    peeler.learn_all(&part_masks.heard, &part_masks.value);
+    part_masks.heard.zero();
 }
 
 // Receives a part place by place: what is received for the first time is told, and then learned at once.
@@ -133,17 +133,17 @@ fn hear_by_places(
     store: &mut Store,
     peeler: &mut Peeler<'_>,
     word: &Word,
-    told: &mut Told,
+    part_masks: &mut PartMasks,
 ) -> bool
     requires version { tx.now.rv < 4 }
     requires order { 0 < tx.now.qm }
     requires whole { part.now.count % tx.now.qm ≡ 0 }
     requires sized { IsSized (cols_of buffer.now.graph * buffer.now.z) store.old peeler.old }
     requires long { length word.now ≡ cols_of buffer.now.graph * buffer.now.z }
-    requires untold { IsUntold (cols_of buffer.now.graph * buffer.now.z) told.old }
+    requires empty { AreEmpty (cols_of buffer.now.graph * buffer.now.z) part_masks.old }
     ensures hears { HearsPart buffer.now tx.now (heards_of part.now) store.old peeler.old store.new peeler.new }
-    ensures agreed { Tells result (bit word.now) store.old store.new }
-    ensures untold { IsUntold (cols_of buffer.now.graph * buffer.now.z) told.new }
+    ensures agreed { Agrees result (bit word.now) store.old store.new }
+    ensures empty { AreEmpty (cols_of buffer.now.graph * buffer.now.z) part_masks.new }
 {
     record_continues();
     let mut agreed = true;
@@ -153,14 +153,14 @@ fn hear_by_places(
             let bit = part.value.get(at);
             let pos = buffer.place(tx.rv, seat(tx.qm, part.count, m));
             if store.heard(pos).is_none() {
-                told.heard.set(pos as usize, true);
-                told.value.set(pos as usize, bit);
+                part_masks.heard.set(pos as usize, true);
+                part_masks.value.set(pos as usize, bit);
             }
             store.hear(pos, bit);
             agreed &= word.get(pos as usize) == bit;
         }
     }
-    learn_told(told, peeler);
+    learn_masks(part_masks, peeler);
     agreed
 }
 
@@ -175,7 +175,7 @@ pub(crate) fn hear(
     stores: &mut [Store],
     peelers: &mut [Peeler<'_>],
     words: &[Word],
-    told: &mut Told,
+    part_masks: &mut PartMasks,
     selected: &mut Selected,
 ) -> bool
     requires version { tx.now.rv < 4 }
@@ -188,7 +188,7 @@ pub(crate) fn hear(
         (heard_of stores.old r) (slice_index_or peelers.old r d) }
     requires words { AreWords (length stores.old)
         (cols_of buffer.now.graph * buffer.now.z) words.now }
-    requires untold { IsUntold (cols_of buffer.now.graph * buffer.now.z) told.old }
+    requires empty { AreEmpty (cols_of buffer.now.graph * buffer.now.z) part_masks.old }
     requires room { (r : ℕ) → r < length lengths.now → HasRoomFor (slice_index lengths.now r) selected.old }
     ensures stores { length stores.new ≡ length stores.old }
     ensures peelers { length peelers.new ≡ length peelers.old }
@@ -196,8 +196,8 @@ pub(crate) fn hear(
         → HearsPart buffer.now tx.now (piece lengths.now (heards heard.now.items value.now.items) r)
         (heard_of stores.old r) (slice_index_or peelers.old r d)
         (heard_of stores.new r) (slice_index_or peelers.new r d) }
-    ensures agreed { AllTell result (length stores.old) words.now stores.old stores.new }
-    ensures untold { IsUntold (cols_of buffer.now.graph * buffer.now.z) told.new }
+    ensures agreed { AllAgree result (length stores.old) words.now stores.old stores.new }
+    ensures empty { AreEmpty (cols_of buffer.now.graph * buffer.now.z) part_masks.new }
 {
     let mut agreed = true;
     let mut from = 0;
@@ -211,7 +211,7 @@ pub(crate) fn hear(
         };
         let store = &mut stores[r];
         let peeler = &mut peelers[r];
-        agreed &= hear_part(buffer, tx, &part, store, peeler, &words[r], told, selected);
+        agreed &= hear_part(buffer, tx, &part, store, peeler, &words[r], part_masks, selected);
         from += count;
     }
     agreed

@@ -11,7 +11,7 @@
 #![tactic(auto)]
 
 mod candidate;
-mod deposit;
+mod gather_part;
 mod encoder;
 mod heard;
 mod hearing;
@@ -25,7 +25,7 @@ mod receiver;
 mod receiver_laws;
 mod selected;
 mod sender;
-mod told;
+mod part_masks;
 
 pub use heard::Heard;
 pub use laws::{

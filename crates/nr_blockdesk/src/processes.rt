@@ -32,9 +32,9 @@ pub struct Processes<'t> {
 
 impl<'t> Model for Processes<'t> {
     ghost use Rattle.std.specs.Prelude.{◌≡◌, length};
-    ghost use Rattle.nr_blockdesk.specs.Processing.{Processing};
+    ghost use Rattle.nr_blockdesk.specs.Processing.{ProcessesView};
 
-    ghost Value = { Processing };
+    ghost Value = { ProcessesView };
 
     ghost view = { λ x. record {
       table = x.table.now;

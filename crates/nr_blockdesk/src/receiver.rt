@@ -16,7 +16,7 @@ ghost use Rattle.nr_blockdesk.specs.Receiving.{AreWords, IsDecided, RefusesAs, p
 
 mod taking;
 
-use crate::candidate::{Standing, all_known, candidate, copy_bits};
+use crate::candidate::{CandidateState, all_known, candidate, copy_bits};
 use crate::encoder::explains;
 use crate::heard::Heard;
 use crate::hearing::judge_heard;
@@ -25,7 +25,7 @@ use crate::link::agree;
 use crate::marks::marks_of;
 use crate::outcome::Outcome;
 use crate::receiver_laws::explains_by_record;
-use crate::told::Told;
+use crate::part_masks::PartMasks;
 use nr_bitvec::Bits;
 use nr_crcattach::{attach_into, attachment_lengthens};
 use nr_harqbuf::Store;
@@ -54,16 +54,16 @@ pub struct Receiver<'t> {
     peelers: Vec<Peeler<'t>>,
     block: Bits,
     words: Vec<Word>,
-    standing: Standing,
-    told: Told,
+    candidate_state: CandidateState,
+    part_masks: PartMasks,
     alloc: Global,
 }
 
 impl<'t> Model for Receiver<'t> {
     ghost use Rattle.nr_blockdesk.specs.Link.{link_of};
-    ghost use Rattle.nr_blockdesk.specs.Receiving.{IsReceiver, Receiving};
+    ghost use Rattle.nr_blockdesk.specs.Receiving.{IsReceiver, ReceiverView};
 
-    ghost Value = { Receiving };
+    ghost Value = { ReceiverView };
 
     ghost view = { λ x. record {
       link = link_of x.table.now x.plan x.a x.buffer;
@@ -72,8 +72,8 @@ impl<'t> Model for Receiver<'t> {
     } };
 
     ghost invariant = { λ x. IsReceiver (link_of x.table.now x.plan x.a x.buffer)
-        x.plan.b x.stores.items x.peelers.items x.block x.words.items x.standing
-        x.told };
+        x.plan.b x.stores.items x.peelers.items x.block x.words.items x.candidate_state
+        x.part_masks };
 }
 
 impl<'t> Receiver<'t> {
@@ -117,7 +117,7 @@ impl<'t> Receiver<'t> {
         let (stores, peelers) = parts(alloc, table, &plan)?;
         let block = Bits::with_room(alloc, plan.b)?;
         let words = blank_words(alloc, &plan)?;
-        let told = Told::new(alloc, &plan)?;
+        let part_masks = PartMasks::new(alloc, &plan)?;
         Ok(Receiver {
             table,
             plan,
@@ -127,8 +127,8 @@ impl<'t> Receiver<'t> {
             peelers,
             block,
             words,
-            standing: Standing::Unread,
-            told,
+            candidate_state: CandidateState::NotRead,
+            part_masks,
             alloc,
         })
     }
@@ -225,13 +225,13 @@ impl<'t> Receiver<'t> {
         if !all_known(&self.peelers) {
             return Outcome::Open;
         }
-        match self.standing {
-            Standing::Unread => self.read(list),
-            Standing::Explains => {
+        match self.candidate_state {
+            CandidateState::NotRead => self.read(list),
+            CandidateState::Consistent => {
                 copy_bits(&self.block, &mut list);
                 Outcome::Delivered(list)
             }
-            Standing::Fails => Outcome::Contradiction,
+            CandidateState::Inconsistent => Outcome::Contradiction,
         }
     }
 
@@ -255,10 +255,10 @@ impl<'t> Receiver<'t> {
             &self.block,
             &mut self.words,
         ) {
-            self.standing = Standing::Explains;
+            self.candidate_state = CandidateState::Consistent;
             Outcome::Delivered(block)
         } else {
-            self.standing = Standing::Fails;
+            self.candidate_state = CandidateState::Inconsistent;
             Outcome::Contradiction
         }
     }

@@ -44,9 +44,9 @@ pub struct Sender<'t> {
 impl<'t> Model for Sender<'t> {
     ghost use Rattle.std.specs.Prelude.{length};
     ghost use Rattle.nr_blockdesk.specs.Link.{link_of};
-    ghost use Rattle.nr_blockdesk.specs.Sent.{IsSender, Sending};
+    ghost use Rattle.nr_blockdesk.specs.Sent.{IsSender, SenderView};
 
-    ghost Value = { Sending };
+    ghost Value = { SenderView };
 
     ghost view = { λ s. record {
       link = link_of s.table.now s.plan (length s.block.items) s.buffer;

@@ -3,7 +3,7 @@ use Rattle.std.proofs.Common.{◌≡◌, ◌≢◌, ◌⊎◌, inl, inr, refl, s
 use Rattle.std.proofs.lemmas.Bool.{le-leb, lt-leb}
 use Rattle.std.proofs.lemmas.List.FromFn.{length-map-range_with_len}
 use Rattle.nr_refusal.specs.Refusal.{◌>>=◌, Gives, with_fault}
-use Rattle.nr_harqbuf.specs.Record.{Heardbits}
+use Rattle.nr_harqbuf.specs.Record.{HeardBits}
 use Rattle.nr_blockdesk.specs.Explains.{Reception, reception_said}
 use Rattle.nr_blockdesk.specs.Heard.{IsRecordOf, heard_record}
 use Rattle.nr_blockdesk.specs.Link.{IsLink, Link, demanded}
@@ -20,7 +20,7 @@ use Rattle.nr_calls.specs.declared.findings.Found.{Found}
 
 -- Some of n transmissions were received, and these are their record, the outcomes after each, and the last one. What is
 -- said of all is said of them and the transmissions ts that are left.
-pub record HasHeard (link : Link) (records : List Heardbits) (outcomes : List ℕ) (last : Verdict) (n : ℕ) (said : Result Findings Fault)
+pub record HasHeard (link : Link) (records : List HeardBits) (outcomes : List ℕ) (last : Verdict) (n : ℕ) (said : Result Findings Fault)
     (ts : List NrTx) (octets : List ℕ) : Type 0 where
   pub list : List Reception
   pub recorded : IsRecordOf link list records
@@ -57,13 +57,13 @@ told (Ok l) w v is = cc
 told (Err e) w v is = cc
 
 -- what is left begins with the next transmission
-split : (link : Link) (records : List Heardbits) (outcomes : List ℕ) (last : Verdict) (n : ℕ) (said : Result Findings Fault) (all : List NrTx)
+split : (link : Link) (records : List HeardBits) (outcomes : List ℕ) (last : Verdict) (n : ℕ) (said : Result Findings Fault) (all : List NrTx)
     (t : NrTx) (ts : List NrTx) (octets : List ℕ) → HasHeard link records outcomes last n said all octets → all ≡ t ∷ ts
     → HasHeard link records outcomes last n said (t ∷ ts) octets
 split link records outcomes last n said all t ts octets h is = subst (λ (l : List NrTx). HasHeard link records outcomes last n said l octets) is h
 
 -- one more was received
-more-heard : (link : Link) (records later : List Heardbits) (outcomes more : List ℕ) (last next : Verdict) (n : ℕ) (said : Result Findings Fault)
+more-heard : (link : Link) (records later : List HeardBits) (outcomes more : List ℕ) (last next : Verdict) (n : ℕ) (said : Result Findings Fault)
     (t : NrTx) (ts : List NrTx) (octets : List ℕ) → HasHeard link records outcomes last n said (t ∷ ts) octets → t.g ≤ length octets
     → ((list : List Reception) → IsRecordOf link list records → IsRecordOf link (list ++ arrival t octets ∷ []) later)
     → ((list : List Reception) → IsRecordOf link list records → one_more_said link list (arrival t octets) ≡ Ok next)
@@ -85,7 +85,7 @@ more-heard link records later outcomes more last next n said t ts octets h fits 
 }
 
 -- what a call says of all, with one transmission more received
-pub heard-more : (new link : Link) (records later : List Heardbits) (outcomes more : List ℕ) (last next : Verdict) (n : ℕ) (said : Result Findings Fault)
+pub heard-more : (new link : Link) (records later : List HeardBits) (outcomes more : List ℕ) (last next : Verdict) (n : ℕ) (said : Result Findings Fault)
     (all : List NrTx) (t : NrTx) (ts : List NrTx) (octets behind : List ℕ) (x : Reception) → HasHeard link records outcomes last n said all octets
     → t.g ≤ length octets
     → ((list : List Reception) → IsRecordOf link list records → IsRecordOf link (list ++ x ∷ []) later)
@@ -101,7 +101,7 @@ heard-more new link records later outcomes more last next n said all t ts octets
     (subst (λ (y : Reception). (list : List Reception) → IsRecordOf link list records → outcomes ≡ outcomes_of link list → more ≡ outcomes_of link (list ++ y ∷ [])) arrives outcomes-more)))
 
 -- the next one is refused
-pub heard-err : (link : Link) (records : List Heardbits) (outcomes : List ℕ) (last : Verdict) (n : ℕ) (said : Result Findings Fault)
+pub heard-err : (link : Link) (records : List HeardBits) (outcomes : List ℕ) (last : Verdict) (n : ℕ) (said : Result Findings Fault)
     (all : List NrTx) (t : NrTx) (ts : List NrTx) (octets : List ℕ) (x : Reception) (e : Fault) (r : Result Found Fault)
     → HasHeard link records outcomes last n said all octets → t.g ≤ length octets
     → ((e ≡ fault.Memory) ⊎ (with_fault {X = List ℕ} fault.Desk (reception_said link x) ≡ Err e)) → r ≡ Err e
@@ -116,7 +116,7 @@ heard-err link records outcomes last n said all t ts octets x e r h fits (inr re
     (ap (λ (y : Reception). with_fault {X = List ℕ} fault.Desk (reception_said link y)) (sym arrives) ∙ refused)))
 
 -- the next one lacks places
-pub heard-short : (link : Link) (records : List Heardbits) (outcomes : List ℕ) (last : Verdict) (n : ℕ) (said : Result Findings Fault)
+pub heard-short : (link : Link) (records : List HeardBits) (outcomes : List ℕ) (last : Verdict) (n : ℕ) (said : Result Findings Fault)
     (all : List NrTx) (t : NrTx) (ts : List NrTx) (octets : List ℕ) → HasHeard link records outcomes last n said all octets → length octets < t.g
     → all ≡ t ∷ ts → said ≡ Err (fault.Desk desk.Length)
 unfolding heard_said
@@ -125,7 +125,7 @@ heard-short link records outcomes last n said all t ts octets h short is =
     begun.said_is ∙ step-short (nat_le t.g (length octets)) _ (lt-leb t.g (length octets) short)
 
 -- places are left over
-pub heard-over : (link : Link) (records : List Heardbits) (outcomes : List ℕ) (last : Verdict) (n : ℕ) (said : Result Findings Fault)
+pub heard-over : (link : Link) (records : List HeardBits) (outcomes : List ℕ) (last : Verdict) (n : ℕ) (said : Result Findings Fault)
     (ts : List NrTx) (octets : List ℕ) → HasHeard link records outcomes last n said ts octets → length ts ≡ 0 → length octets ≢ 0
     → said ≡ Err (fault.Desk desk.Length)
 unfolding heard_said
@@ -134,7 +134,7 @@ heard-over link records outcomes last n said [] [] h none some = absurd (some re
 heard-over link records outcomes last n said (t ∷ ts) octets h none some = absurd (omega (arith, none))
 
 -- all were received
-pub heard-all : (link : Link) (records : List Heardbits) (outcomes left : List ℕ) (last : Verdict) (n : ℕ) (said : Result Findings Fault)
+pub heard-all : (link : Link) (records : List HeardBits) (outcomes left : List ℕ) (last : Verdict) (n : ℕ) (said : Result Findings Fault)
     (ts : List NrTx) (octets : List ℕ) → HasHeard link records outcomes last n said ts octets → length ts ≡ 0 → length octets ≡ 0
     → left ≡ lefts link records → said ≡ Ok (record { outcomes = outcomes; left = left; last = last })
 unfolding heard_said
@@ -148,7 +148,7 @@ heard-all link records outcomes left last n said [] (o ∷ octets) h none whole 
 heard-all link records outcomes left last n said (t ∷ ts) octets h none whole is = absurd (omega (arith, none))
 
 -- an outcome for each transmission
-pub heard-many : (link : Link) (records : List Heardbits) (outcomes : List ℕ) (last : Verdict) (n : ℕ) (said : Result Findings Fault)
+pub heard-many : (link : Link) (records : List HeardBits) (outcomes : List ℕ) (last : Verdict) (n : ℕ) (said : Result Findings Fault)
     (ts : List NrTx) (octets : List ℕ) → HasHeard link records outcomes last n said ts octets → length ts ≡ 0 → length outcomes ≡ n
 heard-many link records outcomes last n said ts octets h none =
     let outcomes-are : length outcomes ≡ length h.list =
@@ -157,7 +157,7 @@ heard-many link records outcomes last n said ts octets h none =
     omega (arith, outcomes-are, many, none)
 
 -- a block that is delivered has the link's bits
-pub heard-block : (link : Link) (records : List Heardbits) (outcomes : List ℕ) (last : Verdict) (n : ℕ) (said : Result Findings Fault)
+pub heard-block : (link : Link) (records : List HeardBits) (outcomes : List ℕ) (last : Verdict) (n : ℕ) (said : Result Findings Fault)
     (ts : List NrTx) (octets : List ℕ) → DeliveredIsOnly → IsLink link → HasHeard link records outcomes last n said ts octets
     → IsLastBlock link.a last
 heard-block link records outcomes last n said ts octets only sound h block is =

@@ -6,7 +6,7 @@ use Rattle.std.proofs.Math.Seq.{take-append-add}
 use Rattle.std.specs.List.{range_with_len}
 use Rattle.std.specs.Prelude.{Result, Ok, Err}
 use Rattle.nr_refusal.specs.Refusal.{◌>>=◌, with_fault}
-use Rattle.nr_harqbuf.specs.Record.{Heardbits}
+use Rattle.nr_harqbuf.specs.Record.{HeardBits}
 use Rattle.nr_blockdesk.specs.Explains.{Reception, reception_said}
 use Rattle.nr_blockdesk.specs.Link.{Link}
 use Rattle.nr_blockdesk.specs.Outcome.{Verdict, left, outcome_of}
@@ -56,7 +56,7 @@ outcomes_after link list x v old new said before pushed =
     ∙ sym (outcomes_more link list x)
 
 -- one more code block adds what is left of it
-pub lefts_more : (link : Link) (records : List Heardbits) (r n : ℕ) (old new : List ℕ) → old ≡ map (left link records) (range_with_len 0 r)
+pub lefts_more : (link : Link) (records : List HeardBits) (r n : ℕ) (old new : List ℕ) → old ≡ map (left link records) (range_with_len 0 r)
     → new ≡ old ++ n ∷ [] → n ≡ left link records r → new ≡ map (left link records) (range_with_len 0 (r + 1))
 lefts_more link records r n old new before pushed is =
     pushed

@@ -1,7 +1,7 @@
 -- Believed, with internal helpers: what a list of receptions comes to, and what a call writes of it to its caller's memory.
 use Rattle.std.specs.Prelude.{◌≡◌, ◌⊎◌, ℕ, ◌+◌, ◌*◌, ◌/◌, ◌==◌, ◌&&◌, Bool, true, Result, Ok, Err, List, length, map, take}
 use Rattle.std.specs.List.{range_with_len}
-use Rattle.nr_harqbuf.specs.Record.{Heardbits}
+use Rattle.nr_harqbuf.specs.Record.{HeardBits}
 use Rattle.nr_blockdesk.specs.Explains.{Reception}
 use Rattle.nr_blockdesk.specs.Heard.{heard_record}
 use Rattle.nr_blockdesk.specs.Link.{Link}
@@ -24,7 +24,7 @@ abbrev pub outcomes_of : Link → List Reception → List ℕ
 outcomes_of link list = map (λ k. outcome_number (outcome_of link (take (k + 1) list))) (range_with_len 0 (length list))
 
 -- how many positions below K' of each code block aren't fixed
-abbrev pub lefts : Link → List Heardbits → List ℕ
+abbrev pub lefts : Link → List HeardBits → List ℕ
 lefts link records = map (left link records) (range_with_len 0 link.plan.c)
 
 -- What is found over a list of receptions: the number of the outcome after each of them, and the outcome at last. It

@@ -17,7 +17,7 @@ use std::marker::Model;
 const STREAM: u64 = 54;
 
 // So many ranges at most are marked in turn, each by words: no more work than place by place.
-const FEW: usize = 64;
+const RANGES_BY_WORDS: usize = 64;
 
 /// The places from `first` to `last`, both of them too. Places are counted from 0.
 #[derive(Clone, Copy, Debug, PartialEq, Eq)]
@@ -110,7 +110,7 @@ pub fn named(alloc: Global, places: &Places, count: u32) -> Result<Bits, AllocEr
     match places {
         Places::Nothing => Bits::zeros(alloc, count),
         Places::All => ones(alloc, count),
-        Places::Listed(list) if list.ranges().len() <= FEW => ranged(alloc, list.ranges(), count),
+        Places::Listed(list) if list.ranges().len() <= RANGES_BY_WORDS => ranged(alloc, list.ranges(), count),
         Places::Listed(list) => {
             let marks = listed(alloc, list.ranges(), count)?;
             packed(alloc, &marks)

@@ -8,7 +8,7 @@ use Rattle.std.proofs.lemmas.List.{get_or-set_same, get_or-set_other, get_or_pas
 use Rattle.std.proofs.lemmas.List.FromFn.{get_or-map-range_with_len, length-map-range_with_len}
 use Rattle.nr_bitvec.specs.Bit.{bit}
 use Rattle.nr_harqbuf.specs.Positions.{kept, kept_at}
-use Rattle.nr_harqbuf.specs.Record.{HasFirsts, Heardbits, first_at, first_heard, with_hearing, record_of, clashes}
+use Rattle.nr_harqbuf.specs.Record.{HasFirsts, HeardBits, first_at, first_heard, with_hearing, record_of, clashes}
 
 pub length-kept : (heard value : List Bool) → length (kept heard value) ≡ length heard
 length-kept heard value = length-map-range_with_len (kept_at heard value) 0 (length heard)
@@ -93,14 +93,14 @@ kept-none n = same_lists (kept (replicate n false) (replicate n false)) (map (fi
 
 -- a position is received again, and for the first time
 pub heard_again : (heard value : List Bool) (clash : Bool) (p : ℕ) (b : Bool) → bit heard p ≡ true
-    → ◌≡◌ {A = Heardbits} (record { first = kept heard value; clash = clash || not (beq (bit value p) b) }) (with_hearing (record { first = kept heard value; clash = clash }) (p, b))
+    → ◌≡◌ {A = HeardBits} (record { first = kept heard value; clash = clash || not (beq (bit value p) b) }) (with_hearing (record { first = kept heard value; clash = clash }) (p, b))
 unfolding with_hearing
 heard_again heard value clash p b h =
     let e : first_at (record { first = kept heard value; clash = clash }) p ≡ Some (bit value p) = kept-at heard value p ∙ ap (λ t. cond t (Some (bit value p)) None) h in
     rw e refl
 
 pub heard_first : (heard value : List Bool) (clash : Bool) (p : ℕ) (b : Bool) → p < length heard → length value ≡ length heard → bit heard p ≡ false
-    → ◌≡◌ {A = Heardbits} (record { first = kept (set heard p true) (set value p b); clash = clash }) (with_hearing (record { first = kept heard value; clash = clash }) (p, b))
+    → ◌≡◌ {A = HeardBits} (record { first = kept (set heard p true) (set value p b); clash = clash }) (with_hearing (record { first = kept heard value; clash = clash }) (p, b))
 unfolding with_hearing
 heard_first heard value clash p b lt same h =
     let e : first_at (record { first = kept heard value; clash = clash }) p ≡ None = kept-at heard value p ∙ ap (λ t. cond t (Some (bit value p)) None) h in
@@ -110,6 +110,6 @@ heard_first heard value clash p b lt same h =
     or_none true = refl
     or_none false = refl
 
-pub record-none : (n : ℕ) → ◌≡◌ {A = Heardbits} (record { first = kept (replicate n false) (replicate n false); clash = false }) (record_of n [])
+pub record-none : (n : ℕ) → ◌≡◌ {A = HeardBits} (record { first = kept (replicate n false) (replicate n false); clash = false }) (record_of n [])
 unfolding clashes
 record-none n = ap (λ l. record { first = l; clash = false }) (kept-none n)

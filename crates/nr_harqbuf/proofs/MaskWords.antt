@@ -72,15 +72,15 @@ merged_bit h v n b = v ⊕ ((n && not h) && (v ⊕ b))
 abbrev pub clashing : Bool → Bool → Bool → Bool → Bool
 clashing h v n b = (n && h) && (v ⊕ b)
 
-pub fresh-word : (before now j : ℕ) → before < 2 ^ 64 → j < 64 → on (bit_and now (bit_not w64 before)) j ≡ (on now j && not (on before j))
-fresh-word before now j fits h = on-and now (bit_not w64 before) j ∙ ap (λ t. on now j && t) (on-not before j fits h)
+pub news-word : (before now j : ℕ) → before < 2 ^ 64 → j < 64 → on (bit_and now (bit_not w64 before)) j ≡ (on now j && not (on before j))
+news-word before now j fits h = on-and now (bit_not w64 before) j ∙ ap (λ t. on now j && t) (on-not before j fits h)
 
 pub value-word : (before old now bits j : ℕ) → before < 2 ^ 64 → j < 64
     → on (bit_xor old (bit_and (bit_and now (bit_not w64 before)) (bit_xor old bits))) j ≡ merged_bit (on before j) (on old j) (on now j) (on bits j)
 value-word before old now bits j fits h =
     on-xor old (bit_and (bit_and now (bit_not w64 before)) (bit_xor old bits)) j
     ∙ ap (λ t. on old j ⊕ t) (on-and (bit_and now (bit_not w64 before)) (bit_xor old bits) j)
-    ∙ ap (λ t. on old j ⊕ (t && on (bit_xor old bits) j)) (fresh-word before now j fits h)
+    ∙ ap (λ t. on old j ⊕ (t && on (bit_xor old bits) j)) (news-word before now j fits h)
     ∙ ap (λ t. on old j ⊕ ((on now j && not (on before j)) && t)) (on-xor old bits j)
 
 pub clash-word : (before old now bits j : ℕ) → on (bit_and (bit_and now before) (bit_xor old bits)) j ≡ clashing (on before j) (on old j) (on now j) (on bits j)

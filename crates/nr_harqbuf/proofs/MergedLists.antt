@@ -5,7 +5,7 @@ use Rattle.std.specs.Int.Bits.{bit_and, bit_or, bit_xor, and_lt, xor_lt}
 use Rattle.std.proofs.lemmas.Bool.{cases_lt, true≢false, or_from, or_parts, eqb-true, eq-eqb}
 use Rattle.std.proofs.lemmas.List.{get_or_past}
 use Rattle.nr_bitvec.specs.Bit.{◌⊕◌, bit}
-use Rattle.nr_harqbuf.proofs.MaskWords.{on, on-or, IsPut, put-in, read-at, merged_bit, clashing, fresh-word, value-word, clash-word, word-zero, zero-none}
+use Rattle.nr_harqbuf.proofs.MaskWords.{on, on-or, IsPut, put-in, read-at, merged_bit, clashing, news-word, value-word, clash-word, word-zero, zero-none}
 
 -- a store's lists and its clash, and the marks of a mask
 pub record Lists : Type 0 where
@@ -82,7 +82,7 @@ step-in at count before old now bits s word new step p from below =
     triple _ _ _ _ _ _
     (put-in s.heard new.heard at count (bit_or before now) p step.put_heard from below ∙ on-or before now (p - at) ∙ rw (h, n) refl)
     (put-in s.value new.value at count (bit_xor old (bit_and (bit_and now (bit_not w64 before)) (bit_xor old bits))) p step.put_value from below ∙ value-word before old now bits (p - at) step.before_fits j ∙ rw (h, v, n, b) refl)
-    (put-in s.marks new.marks at count (bit_and now (bit_not w64 before)) p step.put_marks from below ∙ fresh-word before now (p - at) step.before_fits j ∙ rw (h, n) refl)
+    (put-in s.marks new.marks at count (bit_and now (bit_not w64 before)) p step.put_marks from below ∙ news-word before now (p - at) step.before_fits j ∙ rw (h, n) refl)
 
 -- a clash at a position of the word
 step-clash : (at count before old now bits : ℕ) (s : Lists) (word : List Bool) (new : Lists) → IsStep at count before old now bits s word new

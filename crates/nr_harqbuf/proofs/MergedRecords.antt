@@ -10,7 +10,7 @@ use Rattle.std.proofs.lemmas.List.FromFn.{get_or-map-range_with_len, length-map-
 use Rattle.nr_bitvec.specs.Bit.{bit}
 use Rattle.nr_harqbuf.specs.Masks.{AreMasks, first_merged, differs_at, merged, RecordMerges}
 use Rattle.nr_harqbuf.specs.Positions.{kept_at}
-use Rattle.nr_harqbuf.specs.Record.{Heardbits, Hearing, first_at, first_heard, is_heard, differs, record_of, clashes}
+use Rattle.nr_harqbuf.specs.Record.{HeardBits, Observation, first_at, first_heard, is_heard, differs, record_of, clashes}
 use Rattle.nr_harqbuf.proofs.MergedStores.{in_range}
 use Rattle.nr_harqbuf.proofs.Records.{record_of-at, first_heard-append, beq_true, beq_same, same_truth, Passes, one_passes, heard_there, heard_here, first_is_heard, first_there, some_differs, clashes-differs, differs-before}
 
@@ -18,7 +18,7 @@ none_some : {A : Type 0} {a : A} → None ≡ Some a → ⊥
 none_some h = cc
 
 -- the masks keep the bit that was received first, since a position was received with one bit alone
-mask-first : (more : List Hearing) (heard value : List Bool) → AreMasks more heard value → (p : ℕ) → kept_at heard value p ≡ first_heard more p
+mask-first : (more : List Observation) (heard value : List Bool) → AreMasks more heard value → (p : ℕ) → kept_at heard value p ≡ first_heard more p
 mask-first more heard value masks p = go (first_heard more p) refl
   where
     go : (o : Option Bool) → first_heard more p ≡ o → kept_at heard value p ≡ o
@@ -35,14 +35,14 @@ mask-first more heard value masks p = go (first_heard more p) refl
             none_some (sym e ∙ ap (first_heard more) (sym (eqb-true (get_or more r.index (0, false)).0 p parts.0)) ∙ f.is)
 
 -- the first bit of all
-merged-first : (n : ℕ) (hs more : List Hearing) (heard value : List Bool) → AreMasks more heard value → (p : ℕ) → p < n → first_merged (record_of n hs) heard value p ≡ first_heard (hs ++ more) p
+merged-first : (n : ℕ) (hs more : List Observation) (heard value : List Bool) → AreMasks more heard value → (p : ℕ) → p < n → first_merged (record_of n hs) heard value p ≡ first_heard (hs ++ more) p
 merged-first n hs more heard value masks p lt =
     ap (λ o. cond (is_heard o) o (kept_at heard value p)) (record_of-at n hs p lt)
     ∙ ap (λ o. cond (is_heard (first_heard hs p)) (first_heard hs p) o) (mask-first more heard value masks p)
     ∙ sym (first_heard-append hs more p)
 
 -- a marked bit differs from the first one of all where it does from that of the record
-differs-marked : (n : ℕ) (hs more : List Hearing) (heard value : List Bool) → AreMasks more heard value → (p : ℕ) (b : Bool) → p < n → bit heard p ≡ true → bit value p ≡ b
+differs-marked : (n : ℕ) (hs more : List Observation) (heard value : List Bool) → AreMasks more heard value → (p : ℕ) (b : Bool) → p < n → bit heard p ≡ true → bit value p ≡ b
     → differs_at (record_of n hs) heard value p ≡ differs (first_heard (hs ++ more) p) b
 differs-marked n hs more heard value masks p b lt marked is =
     ap (λ t. t && differs (first_at (record_of n hs) p) (bit value p)) marked
@@ -60,7 +60,7 @@ differs-marked n hs more heard value masks p b lt marked is =
     own (Some a) = refl
 
 -- some marked bit differs where some hearing does
-differs-masked : (n : ℕ) (hs more : List Hearing) (heard value : List Bool) → All (λ h. h.0 < n) more → AreMasks more heard value
+differs-masked : (n : ℕ) (hs more : List Observation) (heard value : List Bool) → All (λ h. h.0 < n) more → AreMasks more heard value
     → list_any (differs_at (record_of n hs) heard value) (range_with_len 0 n) ≡ some_differs (hs ++ more) more
 differs-masked n hs more heard value inside masks = same_truth (list_any (differs_at (record_of n hs) heard value) (range_with_len 0 n)) (some_differs (hs ++ more) more) up down
   where
@@ -76,13 +76,13 @@ differs-masked n hs more heard value inside masks = same_truth (list_any (differ
             let q = heard_there more p (bit value p) (masks p (bit value p) ∙ and_from (bit heard p) (beq (bit value p) (bit value p)) marked (beq_same (bit value p))) in
             let x = get_or more q.index (0, false) in
             let parts = and_parts (x.0 == p) (beq x.1 (bit value p)) q.passes in
-            list_any_at (λ (h : Hearing). differs (first_heard (hs ++ more) h.0) h.1) more q.index (0, false) q.below
+            list_any_at (λ (h : Observation). differs (first_heard (hs ++ more) h.0) h.1) more q.index (0, false) q.below
             (ap (λ k. differs (first_heard (hs ++ more) k) x.1) (eqb-true x.0 p parts.0) ∙ ap (differs (first_heard (hs ++ more) p)) (beq_true x.1 (bit value p) parts.1)
             ∙ sym (differs-marked n hs more heard value masks p (bit value p) lt marked refl) ∙ d)
 
     down : some_differs (hs ++ more) more ≡ true → list_any (differs_at (record_of n hs) heard value) (range_with_len 0 n) ≡ true
     down h =
-        let r = one_passes (λ (x : Hearing). differs (first_heard (hs ++ more) x.0) x.1) more (0, false) h in
+        let r = one_passes (λ (x : Observation). differs (first_heard (hs ++ more) x.0) x.1) more (0, false) h in
         let x = get_or more r.index (0, false) in
         let lt : x.0 < n = inside r.index (0, false) r.below in
         let parts = and_parts (bit heard x.0) (beq (bit value x.0) x.1) (sym (masks x.0 x.1) ∙ heard_here more r.index x.0 x.1 r.below refl refl) in
@@ -94,7 +94,7 @@ pub record-merges : RecordMerges
 unfolding merged
 record-merges n hs more heard value inside masks = both _ _ _ _ firsts clash
   where
-    both : (a b : List (Option Bool)) (s t : Bool) → a ≡ b → s ≡ t → ◌≡◌ {A = Heardbits} (record { first = a; clash = s }) (record { first = b; clash = t })
+    both : (a b : List (Option Bool)) (s t : Bool) → a ≡ b → s ≡ t → ◌≡◌ {A = HeardBits} (record { first = a; clash = s }) (record { first = b; clash = t })
     both a b s t e f = cc
 
     count : ℕ
@@ -120,4 +120,4 @@ record-merges n hs more heard value inside masks = both _ _ _ _ firsts clash
         ap (λ k. clashes hs || list_any (differs_at (record_of n hs) heard value) (range_with_len 0 k)) long
         ∙ or_both (clashes hs) (some_differs (hs ++ more) hs) (list_any (differs_at (record_of n hs) heard value) (range_with_len 0 n)) (some_differs (hs ++ more) more)
         (clashes-differs hs ∙ sym (differs-before hs more)) (differs-masked n hs more heard value inside masks)
-        ∙ sym (clashes-differs (hs ++ more) ∙ list_any-append (λ (x : Hearing). differs (first_heard (hs ++ more) x.0) x.1) hs more)
+        ∙ sym (clashes-differs (hs ++ more) ∙ list_any-append (λ (x : Observation). differs (first_heard (hs ++ more) x.0) x.1) hs more)

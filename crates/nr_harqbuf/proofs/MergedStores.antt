@@ -9,13 +9,13 @@ use Rattle.std.proofs.lemmas.List.FromFn.{get_or-map-range_with_len, length-map-
 use Rattle.nr_bitvec.specs.Bit.{bit}
 use Rattle.nr_harqbuf.specs.Masks.{merged, first_merged, differs_at}
 use Rattle.nr_harqbuf.specs.Positions.{kept, kept_at}
-use Rattle.nr_harqbuf.specs.Record.{Heardbits, first_at, is_heard, differs}
+use Rattle.nr_harqbuf.specs.Record.{HeardBits, first_at, is_heard, differs}
 use Rattle.nr_harqbuf.proofs.Keeping.{length-kept, kept-at}
 use Rattle.nr_harqbuf.proofs.MaskWords.{merged_bit, clashing}
 use Rattle.nr_harqbuf.proofs.MergedLists.{Lists, IsMerged, at_position, after_hearing, clashes_at}
 
 -- the record of a store's lists
-abbrev pub record_in : Lists → Heardbits
+abbrev pub record_in : Lists → HeardBits
 record_in s = record { first = kept s.heard s.value; clash = s.clash }
 
 -- the bit kept at a position whose mark is h and whose bit is v, received with mark n and bit b
@@ -48,9 +48,9 @@ fresh_bits true v n = refl
 fresh_bits false v n = refl
 
 -- the fresh marks stay
-pub fresh-done : (old : Lists) (bits : List Bool) (new : Lists) (k : ℕ) → IsMerged k old bits new → length old.marks ≤ k
+pub news-done : (old : Lists) (bits : List Bool) (new : Lists) (k : ℕ) → IsMerged k old bits new → length old.marks ≤ k
     → (p : ℕ) → bit new.marks p ≡ (bit old.marks p && not (is_heard (first_at (record_in old) p)))
-fresh-done old bits new k m long p = elim (cases_lt p k) [
+news-done old bits new k m long p = elim (cases_lt p k) [
   | inl low ↦ ap (λ (t : Bool × Bool × Bool). t.2) (m.below p low) ∙ fresh_bits (bit old.heard p) (bit old.value p) (bit old.marks p)
       ∙ ap (λ o. bit old.marks p && not (is_heard o)) (sym (kept-at old.heard old.value p))
   | inr high ↦
@@ -79,7 +79,7 @@ pub merged-done : (old : Lists) (bits : List Bool) (new : Lists) (k : ℕ) → I
 unfolding merged
 merged-done old bits new k m whole = both _ _ _ _ firsts clash
   where
-    both : (a b : List (Option Bool)) (s t : Bool) → a ≡ b → s ≡ t → ◌≡◌ {A = Heardbits} (record { first = a; clash = s }) (record { first = b; clash = t })
+    both : (a b : List (Option Bool)) (s t : Bool) → a ≡ b → s ≡ t → ◌≡◌ {A = HeardBits} (record { first = a; clash = s }) (record { first = b; clash = t })
     both a b s t e f = cc
 
     count : ℕ

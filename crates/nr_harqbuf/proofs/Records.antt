@@ -7,22 +7,22 @@ use Rattle.std.proofs.lemmas.Bool.{cases_eq, cases_lt, eqb-true, eq-eqb, ne_eqb,
 use Rattle.std.proofs.lemmas.List.{get_or-set_same, get_or-set_other, get_or_past, length-set, same_lists}
 use Rattle.std.proofs.lemmas.List.FromFn.{get_or-map-range_with_len, length-map-range_with_len}
 use Rattle.std.proofs.lemmas.List.Folds.{list_any-append, list_any_at, list_all_at}
-use Rattle.nr_harqbuf.specs.Record.{Heardbits, Hearing, HasFirsts, first_at, first_heard, heard_as, is_heard, differs, with_hearing, record_of, clashes, RecordContinues, FitsByRecord}
+use Rattle.nr_harqbuf.specs.Record.{HeardBits, Observation, HasFirsts, first_at, first_heard, heard_as, is_heard, differs, with_hearing, record_of, clashes, RecordContinues, FitsByRecord}
 
 -- what a record holds at a position
-pub record_of-at : (n : ℕ) (hs : List Hearing) (p : ℕ) → p < n → first_at (record_of n hs) p ≡ first_heard hs p
+pub record_of-at : (n : ℕ) (hs : List Observation) (p : ℕ) → p < n → first_at (record_of n hs) p ≡ first_heard hs p
 record_of-at n hs p lt = get_or-map-range_with_len (first_heard hs) 0 n p p None lt (omega arith)
 
-pub first_heard-cons : (h : Hearing) (hs : List Hearing) (p : ℕ) → first_heard (h ∷ hs) p ≡ cond (h.0 == p) (Some h.1) (first_heard hs p)
+pub first_heard-cons : (h : Observation) (hs : List Observation) (p : ℕ) → first_heard (h ∷ hs) p ≡ cond (h.0 == p) (Some h.1) (first_heard hs p)
 unfolding first_heard
 first_heard-cons h hs p = go (h.0 == p)
   where
-    go : (b : Bool) → option_map (λ (x : Hearing). x.1) (cond b (Some h) (find (λ (x : Hearing). x.0 == p) hs)) ≡ cond b (Some h.1) (option_map (λ (x : Hearing). x.1) (find (λ (x : Hearing). x.0 == p) hs))
+    go : (b : Bool) → option_map (λ (x : Observation). x.1) (cond b (Some h) (find (λ (x : Observation). x.0 == p) hs)) ≡ cond b (Some h.1) (option_map (λ (x : Observation). x.1) (find (λ (x : Observation). x.0 == p) hs))
     go true = refl
     go false = refl
 
 -- more hearings, and one more
-pub first_heard-append : (hs more : List Hearing) (p : ℕ) → first_heard (hs ++ more) p ≡ cond (is_heard (first_heard hs p)) (first_heard hs p) (first_heard more p)
+pub first_heard-append : (hs more : List Observation) (p : ℕ) → first_heard (hs ++ more) p ≡ cond (is_heard (first_heard hs p)) (first_heard hs p) (first_heard more p)
 unfolding first_heard
 first_heard-append [] more p = refl
 first_heard-append (x ∷ hs) more p = first_heard-cons x (hs ++ more) p ∙ ap (λ o. cond (x.0 == p) (Some x.1) o) (first_heard-append hs more p) ∙ go (x.0 == p) ∙ ap (λ o. cond (is_heard o) o (first_heard more p)) (sym (first_heard-cons x hs p))
@@ -32,7 +32,7 @@ first_heard-append (x ∷ hs) more p = first_heard-cons x (hs ++ more) p ∙ ap 
     go true = refl
     go false = refl
 
-pub first_heard-push : (hs : List Hearing) (h : Hearing) (p : ℕ) → first_heard (hs ++ h ∷ []) p ≡ cond (is_heard (first_heard hs p)) (first_heard hs p) (cond (h.0 == p) (Some h.1) None)
+pub first_heard-push : (hs : List Observation) (h : Observation) (p : ℕ) → first_heard (hs ++ h ∷ []) p ≡ cond (is_heard (first_heard hs p)) (first_heard hs p) (cond (h.0 == p) (Some h.1) None)
 unfolding first_heard
 first_heard-push hs h p = first_heard-append hs (h ∷ []) p ∙ ap (λ o. cond (is_heard (first_heard hs p)) (first_heard hs p) o) (first_heard-cons h [] p)
 
@@ -51,7 +51,7 @@ same_truth true b f g = sym (f refl)
 same_truth false true f g = g refl
 same_truth false false f g = refl
 
-none : Hearing
+none : Observation
 none = (0, false)
 
 -- an element that passes
@@ -69,17 +69,17 @@ one_passes {X} p (x ∷ xs) d h = go (p x) refl h (λ k. one_passes p xs d k)
     go false e k ih = let r = ih k in record { index = suc r.index; below = omega arith; passes = r.passes }
 
 -- a position was received with a bit where some hearing says so
-pub heard_there : (hs : List Hearing) (p : ℕ) (b : Bool) → heard_as hs p b ≡ true → Passes (λ (h : Hearing). (h.0 == p) && beq h.1 b) hs (0, false)
+pub heard_there : (hs : List Observation) (p : ℕ) (b : Bool) → heard_as hs p b ≡ true → Passes (λ (h : Observation). (h.0 == p) && beq h.1 b) hs (0, false)
 unfolding heard_as
-heard_there hs p b h = one_passes (λ (x : Hearing). (x.0 == p) && beq x.1 b) hs (0, false) h
+heard_there hs p b h = one_passes (λ (x : Observation). (x.0 == p) && beq x.1 b) hs (0, false) h
 
-pub heard_here : (hs : List Hearing) (i p : ℕ) (b : Bool) → i < length hs → (get_or hs i (0, false)).0 ≡ p → (get_or hs i (0, false)).1 ≡ b → heard_as hs p b ≡ true
+pub heard_here : (hs : List Observation) (i p : ℕ) (b : Bool) → i < length hs → (get_or hs i (0, false)).0 ≡ p → (get_or hs i (0, false)).1 ≡ b → heard_as hs p b ≡ true
 unfolding heard_as
-heard_here hs i p b lt e f = list_any_at (λ (x : Hearing). (x.0 == p) && beq x.1 b) hs i (0, false) lt
+heard_here hs i p b lt e f = list_any_at (λ (x : Observation). (x.0 == p) && beq x.1 b) hs i (0, false) lt
     (and_from ((get_or hs i (0, false)).0 == p) (beq (get_or hs i (0, false)).1 b) (eq-eqb (get_or hs i (0, false)).0 p e) (rw f (beq_same b)))
 
 -- the first bit of a position was received there, and a position that was received has one
-pub first_is_heard : (hs : List Hearing) (p : ℕ) (a : Bool) → first_heard hs p ≡ Some a → heard_as hs p a ≡ true
+pub first_is_heard : (hs : List Observation) (p : ℕ) (a : Bool) → first_heard hs p ≡ Some a → heard_as hs p a ≡ true
 unfolding first_heard heard_as
 first_is_heard [] p a h = absurd (none_some h)
   where
@@ -90,16 +90,16 @@ first_is_heard (x ∷ hs) p a h = go (x.0 == p) refl (sym (first_heard-cons x hs
     some_same : (u v : Bool) → Some u ≡ Some v → u ≡ v
     some_same u v h = cc
 
-    go : (t : Bool) → (x.0 == p) ≡ t → cond t (Some x.1) (first_heard hs p) ≡ Some a → (first_heard hs p ≡ Some a → list_any (λ (h : Hearing). (h.0 == p) && beq h.1 a) hs ≡ true)
-        → (((x.0 == p) && beq x.1 a) || list_any (λ (h : Hearing). (h.0 == p) && beq h.1 a) hs) ≡ true
-    go true e k ih = or_left ((x.0 == p) && beq x.1 a) (list_any (λ (h : Hearing). (h.0 == p) && beq h.1 a) hs) (and_from (x.0 == p) (beq x.1 a) e (rw (some_same x.1 a k) (beq_same a)))
-    go false e k ih = or_right ((x.0 == p) && beq x.1 a) (list_any (λ (h : Hearing). (h.0 == p) && beq h.1 a) hs) (ih k)
+    go : (t : Bool) → (x.0 == p) ≡ t → cond t (Some x.1) (first_heard hs p) ≡ Some a → (first_heard hs p ≡ Some a → list_any (λ (h : Observation). (h.0 == p) && beq h.1 a) hs ≡ true)
+        → (((x.0 == p) && beq x.1 a) || list_any (λ (h : Observation). (h.0 == p) && beq h.1 a) hs) ≡ true
+    go true e k ih = or_left ((x.0 == p) && beq x.1 a) (list_any (λ (h : Observation). (h.0 == p) && beq h.1 a) hs) (and_from (x.0 == p) (beq x.1 a) e (rw (some_same x.1 a k) (beq_same a)))
+    go false e k ih = or_right ((x.0 == p) && beq x.1 a) (list_any (λ (h : Observation). (h.0 == p) && beq h.1 a) hs) (ih k)
 
-pub record HasFirst (hs : List Hearing) (p : ℕ) : Type 0 where
+pub record HasFirst (hs : List Observation) (p : ℕ) : Type 0 where
   pub bit : Bool
   pub is : first_heard hs p ≡ Some bit
 
-pub first_there : (hs : List Hearing) (i : ℕ) → i < length hs → HasFirst hs (get_or hs i (0, false)).0
+pub first_there : (hs : List Observation) (i : ℕ) → i < length hs → HasFirst hs (get_or hs i (0, false)).0
 first_there [] i lt = absurd (omega arith)
 first_there (x ∷ hs) zero lt = record { bit = x.1; is = first_heard-cons x hs x.0 ∙ ap (λ t. cond t (Some x.1) (first_heard hs x.0)) (eq-eqb x.0 x.0 refl) }
 first_there (x ∷ hs) (suc i) lt = go (x.0 == (get_or hs i (0, false)).0) (first_there hs i (omega arith)) (first_heard-cons x hs (get_or hs i (0, false)).0)
@@ -109,8 +109,8 @@ first_there (x ∷ hs) (suc i) lt = go (x.0 == (get_or hs i (0, false)).0) (firs
     go false r e = record { bit = r.bit; is = e ∙ r.is }
 
 -- some hearing differs from the first one at its position
-abbrev pub some_differs : List Hearing → List Hearing → Bool
-some_differs firsts hs = list_any (λ (h : Hearing). differs (first_heard firsts h.0) h.1) hs
+abbrev pub some_differs : List Observation → List Observation → Bool
+some_differs firsts hs = list_any (λ (h : Observation). differs (first_heard firsts h.0) h.1) hs
 
 differs_not : (a b : Bool) → differs (Some a) b ≡ true → a ≡ not b
 differs_not true false h = refl
@@ -122,26 +122,26 @@ not_differs : (b : Bool) → differs (Some b) (not b) ≡ true
 not_differs true = refl
 not_differs false = refl
 
-pub clashes-differs : (hs : List Hearing) → clashes hs ≡ some_differs hs hs
+pub clashes-differs : (hs : List Observation) → clashes hs ≡ some_differs hs hs
 unfolding clashes
-clashes-differs hs = same_truth (list_any (λ (h : Hearing). heard_as hs h.0 (not h.1)) hs) (some_differs hs hs) down up
+clashes-differs hs = same_truth (list_any (λ (h : Observation). heard_as hs h.0 (not h.1)) hs) (some_differs hs hs) down up
   where
-    down : list_any (λ (h : Hearing). heard_as hs h.0 (not h.1)) hs ≡ true → some_differs hs hs ≡ true
-    down h = at_one (one_passes (λ (x : Hearing). heard_as hs x.0 (not x.1)) hs (0, false) h)
+    down : list_any (λ (h : Observation). heard_as hs h.0 (not h.1)) hs ≡ true → some_differs hs hs ≡ true
+    down h = at_one (one_passes (λ (x : Observation). heard_as hs x.0 (not x.1)) hs (0, false) h)
       where
-        at_two : (x : Hearing) → Passes (λ (h : Hearing). (h.0 == x.0) && beq h.1 (not x.1)) hs (0, false) → first_heard hs x.0 ≡ Some x.1 → some_differs hs hs ≡ true
+        at_two : (x : Observation) → Passes (λ (h : Observation). (h.0 == x.0) && beq h.1 (not x.1)) hs (0, false) → first_heard hs x.0 ≡ Some x.1 → some_differs hs hs ≡ true
         at_two x r e =
             let y = get_or hs r.index (0, false) in
             let parts = and_parts (y.0 == x.0) (beq y.1 (not x.1)) r.passes in
             let same : y.0 ≡ x.0 = eqb-true y.0 x.0 parts.0 in
             let other : y.1 ≡ not x.1 = beq_true y.1 (not x.1) parts.1 in
-            list_any_at (λ (h : Hearing). differs (first_heard hs h.0) h.1) hs r.index (0, false) r.below
+            list_any_at (λ (h : Observation). differs (first_heard hs h.0) h.1) hs r.index (0, false) r.below
             (ap (λ p. differs (first_heard hs p) y.1) same ∙ ap (λ o. differs o y.1) e ∙ ap (differs (Some x.1)) other ∙ not_differs x.1)
 
-        at_one : Passes (λ (x : Hearing). heard_as hs x.0 (not x.1)) hs (0, false) → some_differs hs hs ≡ true
+        at_one : Passes (λ (x : Observation). heard_as hs x.0 (not x.1)) hs (0, false) → some_differs hs hs ≡ true
         at_one r = go (differs (Some f.bit) x.1) refl
           where
-            x : Hearing
+            x : Observation
             x = get_or hs r.index (0, false)
 
             f : HasFirst hs (get_or hs r.index (0, false)).0
@@ -154,22 +154,22 @@ clashes-differs hs = same_truth (list_any (λ (h : Hearing). heard_as hs h.0 (no
             agree false true h = absurd (false≢true (sym h))
 
             go : (t : Bool) → differs (Some f.bit) (get_or hs r.index (0, false)).1 ≡ t → some_differs hs hs ≡ true
-            go true e = list_any_at (λ (h : Hearing). differs (first_heard hs h.0) h.1) hs r.index (0, false) r.below (ap (λ o. differs o (get_or hs r.index (0, false)).1) f.is ∙ e)
+            go true e = list_any_at (λ (h : Observation). differs (first_heard hs h.0) h.1) hs r.index (0, false) r.below (ap (λ o. differs o (get_or hs r.index (0, false)).1) f.is ∙ e)
             go false e = at_two (get_or hs r.index (0, false)) (heard_there hs (get_or hs r.index (0, false)).0 (not (get_or hs r.index (0, false)).1) r.passes) (f.is ∙ ap Some (agree f.bit (get_or hs r.index (0, false)).1 e))
 
-    up : some_differs hs hs ≡ true → list_any (λ (h : Hearing). heard_as hs h.0 (not h.1)) hs ≡ true
-    up h = at_one (one_passes (λ (x : Hearing). differs (first_heard hs x.0) x.1) hs (0, false) h)
+    up : some_differs hs hs ≡ true → list_any (λ (h : Observation). heard_as hs h.0 (not h.1)) hs ≡ true
+    up h = at_one (one_passes (λ (x : Observation). differs (first_heard hs x.0) x.1) hs (0, false) h)
       where
-        at_one : Passes (λ (x : Hearing). differs (first_heard hs x.0) x.1) hs (0, false) → list_any (λ (h : Hearing). heard_as hs h.0 (not h.1)) hs ≡ true
+        at_one : Passes (λ (x : Observation). differs (first_heard hs x.0) x.1) hs (0, false) → list_any (λ (h : Observation). heard_as hs h.0 (not h.1)) hs ≡ true
         at_one r =
             let f = first_there hs r.index r.below in
             let x = get_or hs r.index (0, false) in
             let d : differs (Some f.bit) x.1 ≡ true = sym (ap (λ o. differs o x.1) f.is) ∙ r.passes in
-            list_any_at (λ (h : Hearing). heard_as hs h.0 (not h.1)) hs r.index (0, false) r.below
+            list_any_at (λ (h : Observation). heard_as hs h.0 (not h.1)) hs r.index (0, false) r.below
             (ap (heard_as hs x.0) (sym (differs_not f.bit x.1 d)) ∙ first_is_heard hs x.0 f.bit f.is)
 
 -- the first bit of a position that was received stays when more is received
-pub first_stays : (hs more : List Hearing) (p : ℕ) (a : Bool) → first_heard hs p ≡ Some a → first_heard (hs ++ more) p ≡ Some a
+pub first_stays : (hs more : List Observation) (p : ℕ) (a : Bool) → first_heard hs p ≡ Some a → first_heard (hs ++ more) p ≡ Some a
 first_stays hs more p a e = first_heard-append hs more p ∙ ap (λ o. cond (is_heard o) o (first_heard more p)) e
 
 -- two tests that agree at each element
@@ -181,14 +181,14 @@ any_same {X} p q (x ∷ xs) d h = or_both (p x) (q x) (list_any p xs) (list_any 
     or_both a b c e f g = cc
 
 -- more hearings change nothing for those before
-pub differs-before : (hs more : List Hearing) → some_differs (hs ++ more) hs ≡ some_differs hs hs
+pub differs-before : (hs more : List Observation) → some_differs (hs ++ more) hs ≡ some_differs hs hs
 differs-before hs more =
-    any_same (λ (x : Hearing). differs (first_heard (hs ++ more) x.0) x.1) (λ (x : Hearing). differs (first_heard hs x.0) x.1) hs (0, false)
+    any_same (λ (x : Observation). differs (first_heard (hs ++ more) x.0) x.1) (λ (x : Observation). differs (first_heard hs x.0) x.1) hs (0, false)
     (λ i lt. let f = first_there hs i lt in let x = get_or hs i (0, false) in ap (λ o. differs o x.1) (first_stays hs more x.0 f.bit f.is ∙ sym f.is))
 
-clashes-push : (hs : List Hearing) (h : Hearing) → clashes (hs ++ h ∷ []) ≡ (clashes hs || differs (first_heard hs h.0) h.1)
+clashes-push : (hs : List Observation) (h : Observation) → clashes (hs ++ h ∷ []) ≡ (clashes hs || differs (first_heard hs h.0) h.1)
 clashes-push hs h =
-    clashes-differs (hs ++ h ∷ []) ∙ list_any-append (λ (x : Hearing). differs (first_heard (hs ++ h ∷ []) x.0) x.1) hs (h ∷ []) ∙ both (some_differs (hs ++ h ∷ []) hs) (some_differs hs hs) (clashes hs) _ _ (differs-before hs (h ∷ [])) (clashes-differs hs) last
+    clashes-differs (hs ++ h ∷ []) ∙ list_any-append (λ (x : Observation). differs (first_heard (hs ++ h ∷ []) x.0) x.1) hs (h ∷ []) ∙ both (some_differs (hs ++ h ∷ []) hs) (some_differs hs hs) (clashes hs) _ _ (differs-before hs (h ∷ [])) (clashes-differs hs) last
   where
     own : (b : Bool) → not (beq b b) ≡ false
     own true = refl
@@ -216,7 +216,7 @@ record-continues n hs h lt =
     let first-is = ap (λ o. cond (is_heard o) (map (first_heard hs) (range_with_len 0 n)) (set (map (first_heard hs) (range_with_len 0 n)) h.0 (Some h.1))) at ∙ firsts in
     both _ _ _ _ first-is clash-is
   where
-    both : (a b : List (Option Bool)) (s t : Bool) → a ≡ b → s ≡ t → ◌≡◌ {A = Heardbits} (record { first = a; clash = s }) (record { first = b; clash = t })
+    both : (a b : List (Option Bool)) (s t : Bool) → a ≡ b → s ≡ t → ◌≡◌ {A = HeardBits} (record { first = a; clash = s }) (record { first = b; clash = t })
     both a b s t e f = cc
 
     firsts : cond (is_heard (first_heard hs h.0)) (map (first_heard hs) (range_with_len 0 n)) (set (map (first_heard hs) (range_with_len 0 n)) h.0 (Some h.1)) ≡ map (first_heard (hs ++ h ∷ [])) (range_with_len 0 n)
@@ -265,28 +265,28 @@ all_at p xs d i h lt = true_from_ne_false (p (get_or xs i d)) (λ e. true≢fals
 pub fits-by_record : FitsByRecord
 fits-by_record w n hs below = (there, back)
   where
-    agree : (h : Hearing) → Bool
+    agree : (h : Observation) → Bool
     agree h = beq (w h.0) h.1
 
-    heard_agrees : list_all (λ (h : Hearing). beq (w h.0) h.1) hs ≡ true → (p : ℕ) (b : Bool) → heard_as hs p b ≡ true → w p ≡ b
+    heard_agrees : list_all (λ (h : Observation). beq (w h.0) h.1) hs ≡ true → (p : ℕ) (b : Bool) → heard_as hs p b ≡ true → w p ≡ b
     heard_agrees all p b h =
         let r = heard_there hs p b h in
         let y = get_or hs r.index (0, false) in
         let parts = and_parts (y.0 == p) (beq y.1 b) r.passes in
-        let fits : w y.0 ≡ y.1 = beq_true (w y.0) y.1 (all_at (λ (h : Hearing). beq (w h.0) h.1) hs (0, false) r.index all r.below) in
+        let fits : w y.0 ≡ y.1 = beq_true (w y.0) y.1 (all_at (λ (h : Observation). beq (w h.0) h.1) hs (0, false) r.index all r.below) in
         ap w (sym (eqb-true y.0 p parts.0)) ∙ fits ∙ beq_true y.1 b parts.1
 
-    there : list_all (λ (h : Hearing). beq (w h.0) h.1) hs ≡ true → (clashes hs ≡ false) × HasFirsts (record_of n hs) w
+    there : list_all (λ (h : Observation). beq (w h.0) h.1) hs ≡ true → (clashes hs ≡ false) × HasFirsts (record_of n hs) w
     there all = (false_from_ne_true (clashes hs) no_clash, firsts)
       where
         no_clash : clashes hs ≡ true → ⊥
         no_clash h =
-            let r = one_passes (λ (x : Hearing). differs (first_heard hs x.0) x.1) hs (0, false) (sym (clashes-differs hs) ∙ h) in
+            let r = one_passes (λ (x : Observation). differs (first_heard hs x.0) x.1) hs (0, false) (sym (clashes-differs hs) ∙ h) in
             let f = first_there hs r.index r.below in
             let x = get_or hs r.index (0, false) in
             let d : differs (Some f.bit) x.1 ≡ true = sym (ap (λ o. differs o x.1) f.is) ∙ r.passes in
             let first : w x.0 ≡ f.bit = heard_agrees all x.0 f.bit (first_is_heard hs x.0 f.bit f.is) in
-            let own : w x.0 ≡ x.1 = beq_true (w x.0) x.1 (all_at (λ (h : Hearing). beq (w h.0) h.1) hs (0, false) r.index all r.below) in
+            let own : w x.0 ≡ x.1 = beq_true (w x.0) x.1 (all_at (λ (h : Observation). beq (w h.0) h.1) hs (0, false) r.index all r.below) in
             unlike x.1 (sym own ∙ first ∙ differs_not f.bit x.1 d)
           where
             unlike : (b : Bool) → b ≡ not b → ⊥
@@ -302,8 +302,8 @@ fits-by_record w n hs below = (there, back)
             none_some : {A : Type 0} {a : A} → None ≡ Some a → ⊥
             none_some h = cc
 
-    back : (clashes hs ≡ false) × HasFirsts (record_of n hs) w → list_all (λ (h : Hearing). beq (w h.0) h.1) hs ≡ true
-    back h = all_from (λ (x : Hearing). beq (w x.0) x.1) hs (0, false) each
+    back : (clashes hs ≡ false) × HasFirsts (record_of n hs) w → list_all (λ (h : Observation). beq (w h.0) h.1) hs ≡ true
+    back h = all_from (λ (x : Observation). beq (w x.0) x.1) hs (0, false) each
       where
         each : (i : ℕ) → i < length hs → beq (w (get_or hs i (0, false)).0) (get_or hs i (0, false)).1 ≡ true
         each i lt =
@@ -311,7 +311,7 @@ fits-by_record w n hs below = (there, back)
             let x = get_or hs i (0, false) in
             let inside : x.0 < n = below i (0, false) lt in
             let first : w x.0 ≡ f.bit = h.1 x.0 f.bit (record_of-at n hs x.0 inside ∙ f.is) in
-            let same : differs (Some f.bit) x.1 ≡ false = false_from_ne_true (differs (Some f.bit) x.1) (λ d. true≢false (sym (list_any_at (λ (h : Hearing). differs (first_heard hs h.0) h.1) hs i (0, false) lt (ap (λ o. differs o x.1) f.is ∙ d)) ∙ sym (clashes-differs hs) ∙ h.0)) in
+            let same : differs (Some f.bit) x.1 ≡ false = false_from_ne_true (differs (Some f.bit) x.1) (λ d. true≢false (sym (list_any_at (λ (h : Observation). differs (first_heard hs h.0) h.1) hs i (0, false) lt (ap (λ o. differs o x.1) f.is ∙ d)) ∙ sym (clashes-differs hs) ∙ h.0)) in
             let e : beq f.bit x.1 ≡ true = unnot (beq f.bit x.1) same in
             ap (λ b. beq b x.1) first ∙ e
           where

@@ -4,32 +4,32 @@ use Rattle.std.specs.Bool.{beq}
 use Rattle.std.specs.List.{list_all, list_any, range_with_len}
 
 -- a position, and the bit received there
-abbrev pub Hearing : Type 0
-Hearing = ℕ × Bool
+abbrev pub Observation : Type 0
+Observation = ℕ × Bool
 
 -- the bit that a position was received with first
-unfoldable pub first_heard : List Hearing → ℕ → Option Bool
+unfoldable pub first_heard : List Observation → ℕ → Option Bool
 first_heard hs p = option_map (λ h. h.1) (find (λ h. h.0 == p) hs)
 
 -- a position was received with this bit
-unfoldable pub heard_as : List Hearing → ℕ → Bool → Bool
+unfoldable pub heard_as : List Observation → ℕ → Bool → Bool
 heard_as hs p b = list_any (λ h. (h.0 == p) && beq h.1 b) hs
 
 -- some position was received with both bits
-unfoldable pub clashes : List Hearing → Bool
+unfoldable pub clashes : List Observation → Bool
 clashes hs = list_any (λ h. heard_as hs h.0 (not h.1)) hs
 
 -- what contracts see of a `Store`: for each position its first bit, and whether some position had both
-pub record Heardbits : Type 0 where
+pub record HeardBits : Type 0 where
   pub first : List (Option Bool)
   pub clash : Bool
 
 -- the record of what was received, at n positions
-abbrev pub record_of : ℕ → List Hearing → Heardbits
+abbrev pub record_of : ℕ → List Observation → HeardBits
 record_of n hs = record { first = map (first_heard hs) (range_with_len 0 n); clash = clashes hs }
 
 -- the first bit at a position, if one was received
-abbrev pub first_at : Heardbits → ℕ → Option Bool
+abbrev pub first_at : HeardBits → ℕ → Option Bool
 first_at s p = slice_index_or s.first p None
 
 -- a bit was received, and it is the other one
@@ -43,22 +43,22 @@ is_heard None = false
 is_heard (Some a) = true
 
 -- the record after one more bit received: the first bit of a position stays
-unfoldable pub with_hearing : Heardbits → Hearing → Heardbits
+unfoldable pub with_hearing : HeardBits → Observation → HeardBits
 with_hearing s h = record {
   first = (if is_heard (first_at s h.0) then s.first else slice_set s.first h.0 (Some h.1));
   clash = s.clash || differs (first_at s h.0) h.1;
 }
 
 -- a word has every first bit
-abbrev pub HasFirsts : Heardbits → (ℕ → Bool) → Type 0
+abbrev pub HasFirsts : HeardBits → (ℕ → Bool) → Type 0
 HasFirsts s w = (p : ℕ) (b : Bool) → first_at s p ≡ Some b → w p ≡ b
 
 -- a record with one more bit received is the record of the longer list
 abbrev pub RecordContinues : Type 0
-RecordContinues = (n : ℕ) (hs : List Hearing) (h : Hearing) → h.0 < n → with_hearing (record_of n hs) h ≡ record_of n (hs ++ h ∷ [])
+RecordContinues = (n : ℕ) (hs : List Observation) (h : Observation) → h.0 < n → with_hearing (record_of n hs) h ≡ record_of n (hs ++ h ∷ [])
 
 -- A word agrees with all that was received exactly where no position was received with both bits and the word has every first bit. So the record says
 -- which words agree.
 abbrev pub FitsByRecord : Type 0
-FitsByRecord = (w : ℕ → Bool) (n : ℕ) (hs : List Hearing) → All (λ h. h.0 < n) hs
+FitsByRecord = (w : ℕ → Bool) (n : ℕ) (hs : List Observation) → All (λ h. h.0 < n) hs
     → (list_all (λ h. beq (w h.0) h.1) hs ≡ true) ↔ ((clashes hs ≡ false) × HasFirsts (record_of n hs) w)

@@ -33,9 +33,9 @@ pub fn merge_word(
     let before = heard.window(at);
     let old = value.window(at);
     let now = low_bits(now, count);
-    let fresh = now & !before;
+    let news = now & !before;
     heard.put(at, count, before | now);
-    value.put(at, count, old ^ (fresh & (old ^ bits)));
+    value.put(at, count, old ^ (news & (old ^ bits)));
     now & before & (old ^ bits) == 0
 }
 

@@ -24,9 +24,9 @@ pub struct Store {
 impl Model for Store {
     ghost use Rattle.std.specs.Prelude.{◌≡◌, length};
     ghost use Rattle.nr_harqbuf.specs.Positions.{kept};
-    ghost use Rattle.nr_harqbuf.specs.Record.{Heardbits};
+    ghost use Rattle.nr_harqbuf.specs.Record.{HeardBits};
 
-    ghost Value = { Heardbits };
+    ghost Value = { HeardBits };
 
     ghost view = { λ s. record { first = kept s.heard.items s.value.items; clash = s.clash } };
 
@@ -73,7 +73,7 @@ impl Store {
     pub fn hear_all(&mut self, heard: &mut Bits, value: &Bits)
         requires marks { length heard.old.items ≡ length self.old.first }
         ensures merged { self.new ≡ merged self.old heard.old.items value.now.items }
-        ensures fresh { (p : ℕ) → bit heard.new.items p
+        ensures news { (p : ℕ) → bit heard.new.items p
             ≡ (bit heard.old.items p && not (is_heard (first_at self.old p))) }
         ensures long { length heard.new.items ≡ length heard.old.items }
     {
@@ -84,11 +84,11 @@ impl Store {
             let old = self.value.window(at);
             let now = heard.window(at);
             let bits = value.window(at);
-            let fresh = now & !before;
+            let news = now & !before;
             self.clash |= now & before & (old ^ bits) != 0;
             self.heard.put(at, count, before | now);
-            self.value.put(at, count, old ^ (fresh & (old ^ bits)));
-            heard.put(at, count, fresh);
+            self.value.put(at, count, old ^ (news & (old ^ bits)));
+            heard.put(at, count, news);
         }
     }
 

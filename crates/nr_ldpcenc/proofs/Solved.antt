@@ -13,15 +13,15 @@ module _ (es : List Entry) (set n z : ℕ) (pos : 0 < z) (old new sums : ℕ →
   -- the first parity column
   pub first_put : (rot p : ℕ) → at ≡ n * z → rot ≡ core_rotation es set n → p ≡ (z - rot % z) % z → AgreeBelow at old new
       → ((u : ℕ) → u < z → new (at + u) ≡ sums ((u + p) % z)) → ((t : ℕ) → t < z → sums t ≡ core_sum es set z old n t) → IsSolvedTo es set n z 1 new
-  first_put rot p is_at is_rot is_turn before put sum =
+  first_put rot p is_at is_rot is_rotation before put sum =
       solved_first es set n z pos old new (subst (λ m. AgreeBelow m old new) is_at before) here
     where
-      turn : (u : ℕ) → (u + p) % z ≡ unrotate z (core_rotation es set n) u
-      turn u = ap (λ q. (u + q) % z) is_turn ∙ add-mod-mod u (z - rot % z) z ∙ ap (λ r. (u + (z - r % z)) % z) is_rot
+      rotation : (u : ℕ) → (u + p) % z ≡ unrotate z (core_rotation es set n) u
+      rotation u = ap (λ q. (u + q) % z) is_rotation ∙ add-mod-mod u (z - rot % z) z ∙ ap (λ r. (u + (z - r % z)) % z) is_rot
 
       here : (u : ℕ) → u < z → new (n * z + u) ≡ core_sum es set z old n (unrotate z (core_rotation es set n) u)
       here u lt =
-          ap (λ m. new (m + u)) (sym is_at) ∙ put u lt ∙ ap sums (turn u)
+          ap (λ m. new (m + u)) (sym is_at) ∙ put u lt ∙ ap sums (rotation u)
           ∙ sum (unrotate z (core_rotation es set n) u) (mod_below (u + (z - core_rotation es set n % z)) z pos)
 
   -- a later one

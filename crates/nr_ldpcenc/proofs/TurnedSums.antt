@@ -25,23 +25,23 @@ pub col_at : (z : ℕ) (cols : List ℕ) (c u : ℕ) → u < z → col_bit z col
 col_at z cols c u lt = (λ i. place cols (768 * div-mul-add c z u lt i + mod-mul-add c z u lt i) == 1)
 
 -- in a column that stands twice each rotation stands in one piece
-pub turned_place : (z n : ℕ) (cols : List ℕ) (c t p : ℕ) → AreTwice z n cols → c < n → t < z → p < z → place cols (64 * (12 * c) + p + t) ≡ place cols (768 * c + (t + p) % z)
-turned_place z n cols c t p twice column lt turn = elim (cases_lt (t + p) z) [
+pub rotated_place : (z n : ℕ) (cols : List ℕ) (c t p : ℕ) → AreTwice z n cols → c < n → t < z → p < z → place cols (64 * (12 * c) + p + t) ≡ place cols (768 * c + (t + p) % z)
+rotated_place z n cols c t p twice column lt rotation = elim (cases_lt (t + p) z) [
   | inl h ↦
       let there : 64 * (12 * c) + p + t ≡ 768 * c + (t + p) % z = omega (arith, mod_small (t + p) z h) in
       ap (place cols) there
   | inr h ↦
-      let once : (t + p) % z ≡ t + p - z = mod_once (t + p) z h (omega (arith, lt, turn)) in
+      let once : (t + p) % z ≡ t + p - z = mod_once (t + p) z h (omega (arith, lt, rotation)) in
       let there : 64 * (12 * c) + p + t ≡ 768 * c + z + (t + p - z) = omega (arith, h) in
-      ap (place cols) there ∙ twice c (t + p - z) column (omega (arith, lt, turn, h)) ∙ ap (λ u. place cols (768 * c + u)) (sym once)
+      ap (place cols) there ∙ twice c (t + p - z) column (omega (arith, lt, rotation, h)) ∙ ap (λ u. place cols (768 * c + u)) (sym once)
 ]
 
 -- so what it gains at a place is a bit of the word
-pub turned_bit : (z n : ℕ) (cols : List ℕ) (c t p v : ℕ) → AreTwice z n cols → c < n → t < z → p ≡ v % z → p < z
+pub rotated_bit : (z n : ℕ) (cols : List ℕ) (c t p v : ℕ) → AreTwice z n cols → c < n → t < z → p ≡ v % z → p < z
     → (place cols (64 * (12 * c) + p + t) == 1) ≡ col_bit z cols (c * z + (t + v % z) % z)
-turned_bit z n cols c t p v twice column lt is turn =
+rotated_bit z n cols c t p v twice column lt is rotation =
     let small : (t + v % z) % z < z = mod_below (t + v % z) z (omega (arith, lt)) in
-    ap (λ n. n == 1) (turned_place z n cols c t p twice column lt turn ∙ ap (λ q. place cols (768 * c + (t + q) % z)) is)
+    ap (λ n. n == 1) (rotated_place z n cols c t p twice column lt rotation ∙ ap (λ q. place cols (768 * c + (t + q) % z)) is)
     ∙ sym (col_at z cols c ((t + v % z) % z) small)
 
 -- one column more stands twice

@@ -7,7 +7,7 @@ ghost use Rattle.nr_bitvec.specs.Packed.{place, IsClear};
 ghost use Rattle.nr_ldpcenc.specs.Doubled.{col_bit, AreTwice, HasColumns};
 ghost use Rattle.nr_ldpcenc.specs.Solving.{sum_before, AgreeBelow};
 
-use crate::lanes::{add_turned, put_twice, read_lane};
+use crate::lanes::{add_rotated, put_twice, read_lane};
 use nr_bitvec::Bits;
 use nr_shifttable::Entry;
 
@@ -33,7 +33,7 @@ pub(crate) fn add_row<const Z: usize, const W: usize>(
     for entry in row {
         let col = usize::from(entry.col);
         if col < before {
-            add_turned(sum, cols, 12 * col, usize::from(entry.values[set]) % Z);
+            add_rotated(sum, cols, 12 * col, usize::from(entry.values[set]) % Z);
         }
     }
 }

@@ -18,15 +18,15 @@ fn word_or_zero<const W: usize>(words: &[u64; W], i: usize) -> u64
 }
 
 // Adds to the words of a sum, modulo two, the places from place `p` of word `at` on.
-pub(crate) fn add_turned<const W: usize>(sum: &mut [u64; W], cols: &[u64], at: usize, p: usize)
+pub(crate) fn add_rotated<const W: usize>(sum: &mut [u64; W], cols: &[u64], at: usize, p: usize)
     requires inside { at + p / 64 + W < length cols.now }
     ensures { (t : ℕ) → t < 64 * W
         → place sum.new t ≡ (place sum.old t + place cols.now (64 * at + p + t)) % 2 }
 {
     let from = at + p / 64;
-    let turn = p % 64;
+    let rotation = p % 64;
     for k in 0..W {
-        sum[k] ^= cols[from + k] >> turn | cols[from + k + 1] << 1 << (63 - turn);
+        sum[k] ^= cols[from + k] >> rotation | cols[from + k + 1] << 1 << (63 - rotation);
     }
 }
 
@@ -87,14 +87,14 @@ pub(crate) fn rotated<const Z: usize, const W: usize>(sum: &[u64; W], p: usize) 
     requires some { 0 < Z }
     requires most { W ≤ 6 }
     requires clear { IsClear sum.now Z }
-    requires turn { p < Z }
-    ensures turned { (t : ℕ) → t < Z → place result t ≡ place sum.now ((t + p) % Z) }
+    requires rotation { p < Z }
+    ensures rotated { (t : ℕ) → t < Z → place result t ≡ place sum.now ((t + p) % Z) }
     ensures clear { IsClear result Z }
 {
     let mut twice = [0; 12];
     put_twice::<Z, W>(&mut twice, 0, sum);
-    let mut turned = [0; W];
-    add_turned(&mut turned, &twice, 0, p);
-    clip::<Z, W>(&mut turned);
-    turned
+    let mut rotated = [0; W];
+    add_rotated(&mut rotated, &twice, 0, p);
+    clip::<Z, W>(&mut rotated);
+    rotated
 }

@@ -10,7 +10,7 @@ use Rattle.std.proofs.lemmas.List.FromFn.{length-map-range_with_len}
 use Rattle.nr_bitvec.specs.Bit.{bit}
 use Rattle.nr_bitvec.specs.Packed.{place}
 use Rattle.nr_lifting.specs.Rings.{is_set}
-use Rattle.nr_lifting.specs.Planes.{BlockCounts, FallsTurned, block_counts, number, number_at, number_below, plane_count}
+use Rattle.nr_lifting.specs.Planes.{BlockCounts, FallsRotated, block_counts, number, number_at, number_below, plane_count}
 use Rattle.nr_lifting.proofs.LaneViews.{place-lt}
 use Rattle.nr_lifting.proofs.PlaneCounts.{below-next, below-same}
 use Rattle.nr_lifting.proofs.RingViews.{block_past, view_at, view_past}
@@ -81,23 +81,23 @@ module _ (z : ℕ) (some : 0 < z) where
       → (t : ℕ) → t < z → place ring t ≡ (if bit bits (j * z + t) then 1 else 0)
   ring_digit ring bits j are t below = digit (place ring t) (bit bits (j * z + t)) (place-lt ring t) (are t below)
 
-  pub lowered_counts : (blocks : List (List (List ℕ))) (i : ℕ) (groups : List (List ℕ)) (ring : List ℕ) (bits : List Bool) (j turn : ℕ) → i < length blocks
-      → FallsTurned z groups (get_or blocks i []) ring turn → ((t : ℕ) → t < z → is_set ring t ≡ bit bits (j * z + t))
-      → (h t : ℕ) → t < z → get_or (block_counts z (set blocks i groups)).items (h * z + t) 0 + (if (i == h) && bit bits (j * z + (t + turn) % z) then 1 else 0)
+  pub lowered_counts : (blocks : List (List (List ℕ))) (i : ℕ) (groups : List (List ℕ)) (ring : List ℕ) (bits : List Bool) (j rotation : ℕ) → i < length blocks
+      → FallsRotated z groups (get_or blocks i []) ring rotation → ((t : ℕ) → t < z → is_set ring t ≡ bit bits (j * z + t))
+      → (h t : ℕ) → t < z → get_or (block_counts z (set blocks i groups)).items (h * z + t) 0 + (if (i == h) && bit bits (j * z + (t + rotation) % z) then 1 else 0)
       ≡ get_or (block_counts z blocks).items (h * z + t) 0
-  lowered_counts blocks i groups ring bits j turn within falls are h t below = elim (cases_eq h i) [
+  lowered_counts blocks i groups ring bits j rotation within falls are h t below = elim (cases_eq h i) [
     | inl e ↦
-        let u = (t + turn) % z in
+        let u = (t + rotation) % z in
         let b = bit bits (j * z + u) in
         let same : (if (i == h) && b then 1 else 0) ≡ place ring u =
-        ap (λ c. if c && b then 1 else 0) (eq-eqb i h (sym e)) ∙ sym (ring_digit ring bits j are u (mod_below (t + turn) z some)) in
+        ap (λ c. if c && b then 1 else 0) (eq-eqb i h (sym e)) ∙ sym (ring_digit ring bits j are u (mod_below (t + rotation) z some)) in
         ap (λ k. get_or (block_counts z (set blocks i groups)).items (k * z + t) 0 + (if (i == h) && b then 1 else 0)) e
         ∙ ap (λ n. n + (if (i == h) && b then 1 else 0)) (written_counts blocks i groups within t below)
         ∙ ap (λ n. number_at groups t + n) same ∙ falls.numbers t below
         ∙ sym (ap (λ k. get_or (block_counts z blocks).items (k * z + t) 0) e ∙ count_in blocks i t below)
     | inr apart ↦
-        let none : ◌≡◌ {A = ℕ} (if (i == h) && bit bits (j * z + (t + turn) % z) then 1 else 0) 0 =
-        ap (λ c. if c && bit bits (j * z + (t + turn) % z) then 1 else 0) (ne_eqb i h (λ e. apart (sym e))) in
+        let none : ◌≡◌ {A = ℕ} (if (i == h) && bit bits (j * z + (t + rotation) % z) then 1 else 0) 0 =
+        ap (λ c. if c && bit bits (j * z + (t + rotation) % z) then 1 else 0) (ne_eqb i h (λ e. apart (sym e))) in
         omega (arith, none, kept_counts blocks i groups h apart t below)
   ]
 

@@ -5,7 +5,7 @@ use Rattle.std.proofs.lemmas.Nat.Bits.{bit_at_and, bit_at_not, bit_at_or, bit_at
 use Rattle.std.specs.Int.{bit_at, bit_not, w64}
 use Rattle.std.specs.Int.RustNames.{bit_and, bit_or, bit_xor}
 use Rattle.nr_bitvec.specs.Packed.{place, IsClear}
-use Rattle.nr_lifting.specs.Lane.{IsLane, IsTurnedWord}
+use Rattle.nr_lifting.specs.Lane.{IsLane, IsRotatedWord}
 use Rattle.nr_bitvec.proofs.BitFacts.{place_of, place_past}
 use Rattle.nr_bitvec.proofs.Places.{place-set_same, place-set_other}
 
@@ -56,50 +56,50 @@ written_lane z i G ws old h all above below = record {
 
 -- A word of a lane, and the word of a rotated block that meets it. Below place z each has the places of its list, and
 -- past it zeros.
-module _ (z i p now turned : ℕ) (ws src : List ℕ) (kept : now ≡ get_or ws i 0) (clear : IsClear ws z)
-    (is : IsTurnedWord z src i p turned) (none : (j : ℕ) → z ≤ 64 * i + j → bit_at turned j ≡ 0) (j : ℕ) (short : j < 64) where
+module _ (z i p now rotated : ℕ) (ws src : List ℕ) (kept : now ≡ get_or ws i 0) (clear : IsClear ws z)
+    (is : IsRotatedWord z src i p rotated) (none : (j : ℕ) → z ≤ 64 * i + j → bit_at rotated j ≡ 0) (j : ℕ) (short : j < 64) where
   pub word_at : bit_at now j ≡ place ws (64 * i + j)
   word_at = ap (λ n. bit_at n j) kept ∙ sym (place_of ws (64 * i + j) i j refl short)
 
   word_past : z ≤ 64 * i + j → bit_at now j ≡ 0
   word_past past = word_at ∙ clear (64 * i + j) past
 
-  pub summed_low : 64 * i + j < z → bit_at (bit_xor now turned) j ≡ (place ws (64 * i + j) + place src ((64 * i + j + p) % z)) % 2
+  pub summed_low : 64 * i + j < z → bit_at (bit_xor now rotated) j ≡ (place ws (64 * i + j) + place src ((64 * i + j + p) % z)) % 2
   summed_low below =
-      bit_at_xor now turned j ∙ ap (λ n. (n + bit_at turned j) % 2) word_at ∙ ap (λ n. (place ws (64 * i + j) + n) % 2) (is j short below)
+      bit_at_xor now rotated j ∙ ap (λ n. (n + bit_at rotated j) % 2) word_at ∙ ap (λ n. (place ws (64 * i + j) + n) % 2) (is j short below)
 
-  pub summed_high : z ≤ 64 * i + j → bit_at (bit_xor now turned) j ≡ 0
-  summed_high past = omega (arith, bit_at_xor now turned j, word_past past, none j past)
+  pub summed_high : z ≤ 64 * i + j → bit_at (bit_xor now rotated) j ≡ 0
+  summed_high past = omega (arith, bit_at_xor now rotated j, word_past past, none j past)
 
-  pub joined_low : 64 * i + j < z → bit_at (bit_or now turned) j ≡ max (place ws (64 * i + j)) (place src ((64 * i + j + p) % z))
-  joined_low below = bit_at_or now turned j ∙ ap (λ n. max n (bit_at turned j)) word_at ∙ ap (max (place ws (64 * i + j))) (is j short below)
+  pub joined_low : 64 * i + j < z → bit_at (bit_or now rotated) j ≡ max (place ws (64 * i + j)) (place src ((64 * i + j + p) % z))
+  joined_low below = bit_at_or now rotated j ∙ ap (λ n. max n (bit_at rotated j)) word_at ∙ ap (max (place ws (64 * i + j))) (is j short below)
 
-  pub joined_high : z ≤ 64 * i + j → bit_at (bit_or now turned) j ≡ 0
-  joined_high past = omega (arith, bit_at_or now turned j, word_past past, none j past)
+  pub joined_high : z ≤ 64 * i + j → bit_at (bit_or now rotated) j ≡ 0
+  joined_high past = omega (arith, bit_at_or now rotated j, word_past past, none j past)
 
-  pub less_low : turned < 2 ^ 64 → 64 * i + j < z → bit_at (bit_and now (bit_not w64 turned)) j ≡ min (place ws (64 * i + j)) (1 - place src ((64 * i + j + p) % z))
+  pub less_low : rotated < 2 ^ 64 → 64 * i + j < z → bit_at (bit_and now (bit_not w64 rotated)) j ≡ min (place ws (64 * i + j)) (1 - place src ((64 * i + j + p) % z))
   less_low fits below =
-      bit_at_and now (bit_not w64 turned) j ∙ ap (min (bit_at now j)) (bit_at_not w64 turned j fits short)
-      ∙ ap (λ n. min n (1 - bit_at turned j)) word_at ∙ ap (λ n. min (place ws (64 * i + j)) (1 - n)) (is j short below)
+      bit_at_and now (bit_not w64 rotated) j ∙ ap (min (bit_at now j)) (bit_at_not w64 rotated j fits short)
+      ∙ ap (λ n. min n (1 - bit_at rotated j)) word_at ∙ ap (λ n. min (place ws (64 * i + j)) (1 - n)) (is j short below)
 
-  pub less_high : z ≤ 64 * i + j → bit_at (bit_and now (bit_not w64 turned)) j ≡ 0
-  less_high past = omega (arith, bit_at_and now (bit_not w64 turned) j, word_past past)
+  pub less_high : z ≤ 64 * i + j → bit_at (bit_and now (bit_not w64 rotated)) j ≡ 0
+  less_high past = omega (arith, bit_at_and now (bit_not w64 rotated) j, word_past past)
 
   -- with a second lane, whose word gains the places that both have
   module _ (word : ℕ) (more : List ℕ) (other : word ≡ get_or more i 0) (free : IsClear more z) where
     at_more : bit_at word j ≡ place more (64 * i + j)
     at_more = ap (λ n. bit_at n j) other ∙ sym (place_of more (64 * i + j) i j refl short)
 
-    bits : bit_at (bit_or word (bit_and now turned)) j ≡ max (bit_at word j) (min (bit_at now j) (bit_at turned j))
-    bits = bit_at_or word (bit_and now turned) j ∙ ap (max (bit_at word j)) (bit_at_and now turned j)
+    bits : bit_at (bit_or word (bit_and now rotated)) j ≡ max (bit_at word j) (min (bit_at now j) (bit_at rotated j))
+    bits = bit_at_or word (bit_and now rotated) j ∙ ap (max (bit_at word j)) (bit_at_and now rotated j)
 
-    pub twice_low : 64 * i + j < z → bit_at (bit_or word (bit_and now turned)) j ≡ max (place more (64 * i + j)) (min (place ws (64 * i + j)) (place src ((64 * i + j + p) % z)))
+    pub twice_low : 64 * i + j < z → bit_at (bit_or word (bit_and now rotated)) j ≡ max (place more (64 * i + j)) (min (place ws (64 * i + j)) (place src ((64 * i + j + p) % z)))
     twice_low below =
-        bits ∙ ap (λ n. max n (min (bit_at now j) (bit_at turned j))) at_more
-        ∙ ap (λ n. max (place more (64 * i + j)) (min n (bit_at turned j))) word_at
+        bits ∙ ap (λ n. max n (min (bit_at now j) (bit_at rotated j))) at_more
+        ∙ ap (λ n. max (place more (64 * i + j)) (min n (bit_at rotated j))) word_at
         ∙ ap (λ n. max (place more (64 * i + j)) (min (place ws (64 * i + j)) n)) (is j short below)
 
-    pub twice_high : z ≤ 64 * i + j → bit_at (bit_or word (bit_and now turned)) j ≡ 0
+    pub twice_high : z ≤ 64 * i + j → bit_at (bit_or word (bit_and now rotated)) j ≡ 0
     twice_high past = omega (arith, bits, at_more, free (64 * i + j) past, none j past)
 
 -- ---- one word of a ring

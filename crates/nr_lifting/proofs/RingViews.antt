@@ -13,7 +13,7 @@ use Rattle.nr_bitvec.specs.Bit.{◌⊕◌, bit}
 use Rattle.nr_bitvec.specs.Packed.{place, IsClear}
 use Rattle.nr_bitvec.proofs.Places.{same_from_bits}
 use Rattle.nr_lifting.specs.Lane.{AddsPlaces}
-use Rattle.nr_lifting.specs.Rings.{AreRings, BlockBits, IsRing, GainsTwice, IsTurned, block_bits, is_set, lane_marks, ring_bit}
+use Rattle.nr_lifting.specs.Rings.{AreRings, BlockBits, IsRing, GainsTwice, IsRotated, block_bits, is_set, lane_marks, ring_bit}
 use Rattle.nr_lifting.proofs.LaneViews.{max_bits, place-lt, place-zeros, rest_bits, sum_bits}
 use Rattle.nr_lifting.proofs.Turns.{mod_small}
 
@@ -74,27 +74,27 @@ module _ (z : ℕ) (some : 0 < z) where
       let inside : p < length rings * z = omega (arith, subst (λ (u : BlockBits). p < length u.items) (sym e) below, long_is rings) in
       div_below p z (length rings) some inside
 
-  pub lane_read : (rings : List (List ℕ)) (j turn : ℕ) (lane : List ℕ) → IsTurned z lane (get_or rings j []) turn
-      → (t : ℕ) → t < z → is_set lane t ≡ bit (block_bits z rings).items (j * z + (t + turn) % z)
-  lane_read rings j turn lane turned t below =
-      ap (λ n. n == 1) (turned t below) ∙ sym (bit_in rings j ((t + turn) % z) (mod_below (t + turn) z some))
+  pub lane_read : (rings : List (List ℕ)) (j rotation : ℕ) (lane : List ℕ) → IsRotated z lane (get_or rings j []) rotation
+      → (t : ℕ) → t < z → is_set lane t ≡ bit (block_bits z rings).items (j * z + (t + rotation) % z)
+  lane_read rings j rotation lane rotated t below =
+      ap (λ n. n == 1) (rotated t below) ∙ sym (bit_in rings j ((t + rotation) % z) (mod_below (t + rotation) z some))
 
   -- a lane gains a block, and what it has and a block lacks
-  pub lane_gains : (rings : List (List ℕ)) (j turn : ℕ) (sum old : List ℕ) → AddsPlaces z sum old (get_or rings j []) turn
-      → (t : ℕ) → t < z → is_set sum t ≡ is_set old t ⊕ bit (block_bits z rings).items (j * z + (t + turn) % z)
-  lane_gains rings j turn sum old adds t below =
-      let u = (t + turn) % z in
+  pub lane_gains : (rings : List (List ℕ)) (j rotation : ℕ) (sum old : List ℕ) → AddsPlaces z sum old (get_or rings j []) rotation
+      → (t : ℕ) → t < z → is_set sum t ≡ is_set old t ⊕ bit (block_bits z rings).items (j * z + (t + rotation) % z)
+  lane_gains rings j rotation sum old adds t below =
+      let u = (t + rotation) % z in
       ap (λ n. n == 1) (adds t below)
       ∙ sum_bits (place old t) (place (get_or rings j []) u) (place-lt old t) (place-lt (get_or rings j []) u)
-      ∙ ap (λ b. is_set old t ⊕ b) (sym (bit_in rings j u (mod_below (t + turn) z some)))
+      ∙ ap (λ b. is_set old t ⊕ b) (sym (bit_in rings j u (mod_below (t + rotation) z some)))
 
-  pub lane_lacks : (rings : List (List ℕ)) (j turn : ℕ) (rest lane : List ℕ) → ((t : ℕ) → t < z → place rest t ≡ min (place lane t) (1 - place (get_or rings j []) ((t + turn) % z)))
-      → (t : ℕ) → t < z → is_set rest t ≡ (is_set lane t && not (bit (block_bits z rings).items (j * z + (t + turn) % z)))
-  lane_lacks rings j turn rest lane less t below =
-      let u = (t + turn) % z in
+  pub lane_lacks : (rings : List (List ℕ)) (j rotation : ℕ) (rest lane : List ℕ) → ((t : ℕ) → t < z → place rest t ≡ min (place lane t) (1 - place (get_or rings j []) ((t + rotation) % z)))
+      → (t : ℕ) → t < z → is_set rest t ≡ (is_set lane t && not (bit (block_bits z rings).items (j * z + (t + rotation) % z)))
+  lane_lacks rings j rotation rest lane less t below =
+      let u = (t + rotation) % z in
       ap (λ n. n == 1) (less t below)
       ∙ rest_bits (place lane t) (place (get_or rings j []) u) (place-lt lane t) (place-lt (get_or rings j []) u)
-      ∙ ap (λ b. is_set lane t && not b) (sym (bit_in rings j u (mod_below (t + turn) z some)))
+      ∙ ap (λ b. is_set lane t && not b) (sym (bit_in rings j u (mod_below (t + rotation) z some)))
 
   -- ---- writes
 

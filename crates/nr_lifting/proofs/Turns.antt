@@ -15,29 +15,29 @@ mod_once n z h k = mod-eq-sub-mod h ∙ mod_small (n - z) z (omega (arith, h, k)
 
 -- The word from the place on and the word of the wrapped places make up the rotated word. Where one has a bit, the
 -- other has a zero.
-pub turned : (ws : List ℕ) (z t p first wrapped : ℕ) → t < z → p < z → IsClear ws z
+pub rotated : (ws : List ℕ) (z t p first wrapped : ℕ) → t < z → p < z → IsClear ws z
     → first ≡ place ws (t + p) → (t < z - p → wrapped ≡ 0) → (z - p ≤ t → wrapped ≡ place ws (t - (z - p)))
     → max first wrapped ≡ place ws ((t + p) % z)
-turned ws z t p first wrapped below turn clear straight low high = elim (cases_lt (t + p) z) [
+rotated ws z t p first wrapped below rotation clear straight low high = elim (cases_lt (t + p) z) [
   | inl h ↦
       let e : (t + p) % z ≡ t + p = mod_small (t + p) z h in
       let none : wrapped ≡ 0 = low (omega (arith, h)) in
       let all : max first wrapped ≡ first = omega (arith, none) in
       all ∙ straight ∙ sym (ap (place ws) e)
   | inr h ↦
-      let e : (t + p) % z ≡ t - (z - p) = mod_once (t + p) z h (omega (arith, below, turn)) ∙ omega (arith, h, turn) in
+      let e : (t + p) % z ≡ t - (z - p) = mod_once (t + p) z h (omega (arith, below, rotation)) ∙ omega (arith, h, rotation) in
       let none : first ≡ 0 = straight ∙ clear (t + p) h in
       let all : max first wrapped ≡ wrapped = omega (arith, none) in
       all ∙ high (omega (arith, h)) ∙ sym (ap (place ws) e)
 ]
 
 -- in a ring a rotated block stands in one piece
-pub ring-turned : (ring : List ℕ) (z t p : ℕ) → t < z → p < z → IsRing z ring → place ring (t + p) ≡ place ring ((t + p) % z)
-ring-turned ring z t p below turn twice = elim (cases_lt (t + p) z) [
+pub ring-rotated : (ring : List ℕ) (z t p : ℕ) → t < z → p < z → IsRing z ring → place ring (t + p) ≡ place ring ((t + p) % z)
+ring-rotated ring z t p below rotation twice = elim (cases_lt (t + p) z) [
   | inl h ↦ sym (ap (place ring) (mod_small (t + p) z h))
   | inr h ↦
       let split : z + (t + p - z) ≡ t + p = omega (arith, h) in
-      sym (ap (place ring) split) ∙ twice (t + p - z) (omega (arith, h, below, turn)) ∙ sym (ap (place ring) (mod_once (t + p) z h (omega (arith, below, turn))))
+      sym (ap (place ring) split) ∙ twice (t + p - z) (omega (arith, h, below, rotation)) ∙ sym (ap (place ring) (mod_once (t + p) z h (omega (arith, below, rotation))))
 ]
 
 -- the places of a block and those moved up by its size make up its ring

@@ -13,16 +13,16 @@ pub record IsLane (z w : ℕ) (ws : List ℕ) : Type 0 where
 -- ---- lanes of z bits, of which `src` is rotated by p: its bit (t + p) mod z comes to place t
 
 -- each bit gains, modulo two, the one that comes to it
-abbrev pub AddsTurned : ℕ → List Bool → List Bool → List Bool → ℕ → Type 0
-AddsTurned z new old src p = (t : ℕ) → t < z → bit new t ≡ bit old t ⊕ bit src ((t + p) % z)
+abbrev pub AddsRotated : ℕ → List Bool → List Bool → List Bool → ℕ → Type 0
+AddsRotated z new old src p = (t : ℕ) → t < z → bit new t ≡ bit old t ⊕ bit src ((t + p) % z)
 
 -- each bit is set where it was or where the one that comes to it is
-abbrev pub JoinsTurned : ℕ → List Bool → List Bool → List Bool → ℕ → Type 0
-JoinsTurned z new old src p = (t : ℕ) → t < z → bit new t ≡ bit old t || bit src ((t + p) % z)
+abbrev pub JoinsRotated : ℕ → List Bool → List Bool → List Bool → ℕ → Type 0
+JoinsRotated z new old src p = (t : ℕ) → t < z → bit new t ≡ bit old t || bit src ((t + p) % z)
 
 -- each bit is set where it was, or where that of `ones` and the one that comes to it are
-abbrev pub MeetsTurned : ℕ → List Bool → List Bool → List Bool → List Bool → ℕ → Type 0
-MeetsTurned z new old ones src p =
+abbrev pub MeetsRotated : ℕ → List Bool → List Bool → List Bool → List Bool → ℕ → Type 0
+MeetsRotated z new old ones src p =
     (t : ℕ) → t < z → bit new t ≡ bit old t || bit ones t && bit src ((t + p) % z)
 
 -- ---- sums and counts of lanes, by the places of their words
@@ -40,8 +40,8 @@ MeetsPlaces z new old ones src p =
 -- ---- single words
 
 -- the word has the bits of a block of z bits, from bit 64 i on, after a rotation by p
-abbrev pub IsTurnedWord : ℕ → List ℕ → ℕ → ℕ → ℕ → Type 0
-IsTurnedWord z ws i p word = (j : ℕ) → j < 64 → 64 * i + j < z → bit_at word j ≡ place ws ((64 * i + j + p) % z)
+abbrev pub IsRotatedWord : ℕ → List ℕ → ℕ → ℕ → ℕ → Type 0
+IsRotatedWord z ws i p word = (j : ℕ) → j < 64 → 64 * i + j < z → bit_at word j ≡ place ws ((64 * i + j + p) % z)
 
 -- the word has the places from place `start` on, after all places have moved up by `up`
 abbrev pub IsMovedWord : List ℕ → ℕ → ℕ → ℕ → Type 0

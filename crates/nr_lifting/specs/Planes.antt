@@ -24,7 +24,7 @@ pub record Falls (new old : List ℕ) (bits : ℕ) : Type 0 where
   pub long : length new ≡ length old
 
 -- of z counts those fall by one to which a rotation by p brings a set place; it brings bit (t + p) mod z to count t
-pub record FallsTurned (z : ℕ) (new old : List (List ℕ)) (places : List ℕ) (p : ℕ) : Type 0 where
+pub record FallsRotated (z : ℕ) (new old : List (List ℕ)) (places : List ℕ) (p : ℕ) : Type 0 where
   pub numbers : (t : ℕ) → t < z → number_at new t + place places ((t + p) % z) ≡ number_at old t
   pub long : length new ≡ length old
 

@@ -20,7 +20,7 @@ fn add_lanes<const Z: usize, const W: usize>(
     requires below { Z ≤ 64 * W }
     requires place { at + Z ≤ length acc.old.items }
     requires source { from + Z ≤ length src.now.items }
-    requires turn { p < Z }
+    requires rotation { p < Z }
     ensures sum { GainsBlock Z acc.new.items acc.old.items at src.now.items from p }
     ensures room { acc.new.room ≡ acc.old.room }
 {
@@ -34,7 +34,7 @@ pub(crate) fn add_0(z: usize, acc: &mut Bits, at: usize, src: &Bits, from: usize
     requires size { IsTrue (is_in z set_0) }
     requires place { at + z ≤ length acc.old.items }
     requires source { from + z ≤ length src.now.items }
-    requires turn { p < z }
+    requires rotation { p < z }
     ensures sum { GainsBlock z acc.new.items acc.old.items at src.now.items from p }
     ensures room { acc.new.room ≡ acc.old.room }
 {
@@ -46,7 +46,7 @@ pub(crate) fn add_1(z: usize, acc: &mut Bits, at: usize, src: &Bits, from: usize
     requires size { IsTrue (is_in z set_1) }
     requires place { at + z ≤ length acc.old.items }
     requires source { from + z ≤ length src.now.items }
-    requires turn { p < z }
+    requires rotation { p < z }
     ensures sum { GainsBlock z acc.new.items acc.old.items at src.now.items from p }
     ensures room { acc.new.room ≡ acc.old.room }
 {
@@ -58,7 +58,7 @@ pub(crate) fn add_2(z: usize, acc: &mut Bits, at: usize, src: &Bits, from: usize
     requires size { IsTrue (is_in z set_2) }
     requires place { at + z ≤ length acc.old.items }
     requires source { from + z ≤ length src.now.items }
-    requires turn { p < z }
+    requires rotation { p < z }
     ensures sum { GainsBlock z acc.new.items acc.old.items at src.now.items from p }
     ensures room { acc.new.room ≡ acc.old.room }
 {
@@ -70,7 +70,7 @@ pub(crate) fn add_3(z: usize, acc: &mut Bits, at: usize, src: &Bits, from: usize
     requires size { IsTrue (is_in z set_3) }
     requires place { at + z ≤ length acc.old.items }
     requires source { from + z ≤ length src.now.items }
-    requires turn { p < z }
+    requires rotation { p < z }
     ensures sum { GainsBlock z acc.new.items acc.old.items at src.now.items from p }
     ensures room { acc.new.room ≡ acc.old.room }
 {
@@ -82,7 +82,7 @@ pub(crate) fn add_4(z: usize, acc: &mut Bits, at: usize, src: &Bits, from: usize
     requires size { IsTrue (is_in z set_4) }
     requires place { at + z ≤ length acc.old.items }
     requires source { from + z ≤ length src.now.items }
-    requires turn { p < z }
+    requires rotation { p < z }
     ensures sum { GainsBlock z acc.new.items acc.old.items at src.now.items from p }
     ensures room { acc.new.room ≡ acc.old.room }
 {
@@ -94,7 +94,7 @@ pub(crate) fn add_5(z: usize, acc: &mut Bits, at: usize, src: &Bits, from: usize
     requires size { IsTrue (is_in z set_5) }
     requires place { at + z ≤ length acc.old.items }
     requires source { from + z ≤ length src.now.items }
-    requires turn { p < z }
+    requires rotation { p < z }
     ensures sum { GainsBlock z acc.new.items acc.old.items at src.now.items from p }
     ensures room { acc.new.room ≡ acc.old.room }
 {
@@ -106,7 +106,7 @@ pub(crate) fn add_6(z: usize, acc: &mut Bits, at: usize, src: &Bits, from: usize
     requires size { IsTrue (is_in z set_6) }
     requires place { at + z ≤ length acc.old.items }
     requires source { from + z ≤ length src.now.items }
-    requires turn { p < z }
+    requires rotation { p < z }
     ensures sum { GainsBlock z acc.new.items acc.old.items at src.now.items from p }
     ensures room { acc.new.room ≡ acc.old.room }
 {
@@ -118,7 +118,7 @@ pub(crate) fn add_7(z: usize, acc: &mut Bits, at: usize, src: &Bits, from: usize
     requires size { IsTrue (is_in z set_7) }
     requires place { at + z ≤ length acc.old.items }
     requires source { from + z ≤ length src.now.items }
-    requires turn { p < z }
+    requires rotation { p < z }
     ensures sum { GainsBlock z acc.new.items acc.old.items at src.now.items from p }
     ensures room { acc.new.room ≡ acc.old.room }
 {

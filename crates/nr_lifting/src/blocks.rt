@@ -16,7 +16,7 @@ pub fn add_block(z: usize, acc: &mut Bits, at: usize, src: &Bits, from: usize, p
     requires size { IsSize z }
     requires place { at + z ≤ length acc.old.items }
     requires source { from + z ≤ length src.now.items }
-    requires turn { p < z }
+    requires rotation { p < z }
     ensures sum { GainsBlock z acc.new.items acc.old.items at src.now.items from p }
     ensures room { acc.new.room ≡ acc.old.room }
 {
@@ -41,7 +41,7 @@ pub fn tally_block(z: usize, ones: &mut Bits, more: &mut Bits, src: &Bits, from:
     requires ones { z ≤ length ones.old.items }
     requires more { z ≤ length more.old.items }
     requires source { from + z ≤ length src.now.items }
-    requires turn { p < z }
+    requires rotation { p < z }
     ensures tally { TalliesBlock z ones.new.items ones.old.items more.new.items more.old.items
         src.now.items from p }
     ensures ones_room { ones.new.room ≡ ones.old.room }

@@ -4,7 +4,7 @@ ghost use Rattle.std.specs.Prelude.{◌≡◌, ℕ, ◌+◌, ◌*◌, ◌<◌, �
 ghost use Rattle.std.specs.Int.{bit_at};
 ghost use Rattle.nr_bitvec.specs.Bit.{bit};
 ghost use Rattle.nr_bitvec.specs.Packed.{IsClear};
-ghost use Rattle.nr_lifting.specs.Lane.{IsLane, AddsTurned, JoinsTurned, MeetsTurned, AddsPlaces, JoinsPlaces, MeetsPlaces, IsTurnedWord, IsMovedWord};
+ghost use Rattle.nr_lifting.specs.Lane.{IsLane, AddsRotated, JoinsRotated, MeetsRotated, AddsPlaces, JoinsPlaces, MeetsPlaces, IsRotatedWord, IsMovedWord};
 
 use nr_bitvec::Bits;
 use nr_bitvec::words::{low_bits, window};
@@ -76,7 +76,7 @@ impl<const Z: usize, const W: usize> Lane<Z, W> {
     /// Adds `src` to the lane, modulo two, rotated by `p`: bit t gains bit (t + p) mod Z of `src`.
     pub fn add_shifted(&mut self, src: &Self, p: usize)
         requires { p < Z }
-        ensures sum { AddsTurned Z self.new self.old src.now p }
+        ensures sum { AddsRotated Z self.new self.old src.now p }
         ensures long { length self.new ≡ length self.old }
     {
         add_words(&mut self.words, &src.words, Z, p);
@@ -86,8 +86,8 @@ impl<const Z: usize, const W: usize> Lane<Z, W> {
     /// `more` is set where bit t of `ones` and u are, and then bit t of `ones` where u is.
     pub fn tally(ones: &mut Self, more: &mut Self, src: &Self, p: usize)
         requires { p < Z }
-        ensures ones { JoinsTurned Z ones.new ones.old src.now p }
-        ensures more { MeetsTurned Z more.new more.old ones.old src.now p }
+        ensures ones { JoinsRotated Z ones.new ones.old src.now p }
+        ensures more { MeetsRotated Z more.new more.old ones.old src.now p }
         ensures ones_long { length ones.new ≡ length ones.old }
         ensures more_long { length more.new ≡ length more.old }
     {
@@ -96,11 +96,11 @@ impl<const Z: usize, const W: usize> Lane<Z, W> {
 }
 
 // Word `i` of a block of `size` bits that is rotated by `p`.
-pub(crate) fn turned_word(words: &[u64], size: usize, i: usize, p: usize) -> u64
+pub(crate) fn rotated_word(words: &[u64], size: usize, i: usize, p: usize) -> u64
     requires start { 64 * i < size }
-    requires turn { p < size }
+    requires rotation { p < size }
     requires clear { IsClear words.now size }
-    ensures turned { IsTurnedWord size words.now i p result }
+    ensures rotated { IsRotatedWord size words.now i p result }
     ensures clear { (j : ℕ) → size ≤ 64 * i + j → bit_at result j ≡ 0 }
 {
     let start = 64 * i;
@@ -128,20 +128,20 @@ pub(crate) fn wrapped_word(words: &[u64], start: usize, up: usize) -> u64
 
 // Adds a block of `size` bits to another, modulo two, rotated by `p`.
 fn add_words(words: &mut [u64], src: &[u64], size: usize, p: usize)
-    requires turn { p < size }
+    requires rotation { p < size }
     requires words { IsLane size (length words.old) words.old }
     requires src { IsClear src.now size }
     ensures lane { IsLane size (length words.new) words.new }
     ensures sum { AddsPlaces size words.new words.old src.now p }
 {
     for i in 0..words.len() {
-        words[i] ^= turned_word(src, size, i, p);
+        words[i] ^= rotated_word(src, size, i, p);
     }
 }
 
 // Counts a block of `size` bits, rotated by `p`, among others, as far as twice.
 fn tally_words(ones: &mut [u64], more: &mut [u64], src: &[u64], size: usize, p: usize)
-    requires turn { p < size }
+    requires rotation { p < size }
     requires ones { IsLane size (length ones.old) ones.old }
     requires more { IsLane size (length more.old) more.old }
     requires src { IsClear src.now size }
@@ -151,8 +151,8 @@ fn tally_words(ones: &mut [u64], more: &mut [u64], src: &[u64], size: usize, p: 
     ensures more { MeetsPlaces size more.new more.old ones.old src.now p }
 {
     for i in 0..ones.len() {
-        let turned = turned_word(src, size, i, p);
-        more[i] |= ones[i] & turned;
-        ones[i] |= turned;
+        let rotated = rotated_word(src, size, i, p);
+        more[i] |= ones[i] & rotated;
+        ones[i] |= rotated;
     }
 }

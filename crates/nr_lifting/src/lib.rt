@@ -1,9 +1,9 @@
 //! The 51 lifting sizes of the LDPC codes of 5G NR (3GPP TS 38.212, Table 5.3.2-1), and sums of rotated blocks of bits.
 //! `SIZES`, `set_of` and `smallest` are the table (specs/Sizes.antt). What a call makes of a block is said bit by bit
-//! (specs/Blocks.antt, specs/Lane.antt). `Rings::new` and `Planes::new` alone take memory.
+//! (specs/Blocks.antt, specs/Lane.antt). `DoubledLanes::new` and `BitSlicedCounts::new` alone take memory.
 //!
 //! Inside, blocks go 64 bits at a time. `add_block` and `tally_block` add up and count blocks of any of the sizes, by
-//! `Lane`, which is generic in the size. `Rings` keeps blocks from which lanes of any rotation are read. `Planes` keeps
+//! `Lane`, which is generic in the size. `DoubledLanes` keeps blocks from which lanes of any rotation are read. `BitSlicedCounts` keeps
 //! blocks of counts that fall by a lane at a time (specs/Rings.antt, specs/Planes.antt). Stands on nr_bitvec.
 //!
 //! Used by nr_segment for the sizes, by nr_ldpcenc and nr_peel, and by nr_blockdesk and nr_calls in contracts.
@@ -13,8 +13,8 @@ mod add;
 mod blocks;
 mod lane;
 mod lane_words;
-mod planes;
-mod rings;
+mod bit_sliced_counts;
+mod doubled_lanes;
 mod sizes;
 mod tally;
 mod with_size;
@@ -22,6 +22,6 @@ mod with_size;
 pub use blocks::{add_block, tally_block};
 pub use lane::Lane;
 pub use lane_words::{add_lane, common, lane_count, without};
-pub use planes::{Planes, lower_block, lower_word, ones_word};
-pub use rings::{Rings, join_ring, ring_word, turn_lane};
+pub use bit_sliced_counts::{BitSlicedCounts, lower_block, lower_word, ones_word};
+pub use doubled_lanes::{DoubledLanes, join_ring, ring_word, rotate_lane};
 pub use sizes::{SIZES, set_of, size_table, smallest};

@@ -21,7 +21,7 @@ fn tally_lanes<const Z: usize, const W: usize>(
     requires ones { Z ≤ length ones.old.items }
     requires more { Z ≤ length more.old.items }
     requires source { from + Z ≤ length src.now.items }
-    requires turn { p < Z }
+    requires rotation { p < Z }
     ensures tally { TalliesBlock Z ones.new.items ones.old.items more.new.items more.old.items
         src.now.items from p }
     ensures ones_room { ones.new.room ≡ ones.old.room }
@@ -40,7 +40,7 @@ pub(crate) fn tally_0(z: usize, ones: &mut Bits, more: &mut Bits, src: &Bits, fr
     requires ones { z ≤ length ones.old.items }
     requires more { z ≤ length more.old.items }
     requires source { from + z ≤ length src.now.items }
-    requires turn { p < z }
+    requires rotation { p < z }
     ensures tally { TalliesBlock z ones.new.items ones.old.items more.new.items more.old.items
         src.now.items from p }
     ensures ones_room { ones.new.room ≡ ones.old.room }
@@ -55,7 +55,7 @@ pub(crate) fn tally_1(z: usize, ones: &mut Bits, more: &mut Bits, src: &Bits, fr
     requires ones { z ≤ length ones.old.items }
     requires more { z ≤ length more.old.items }
     requires source { from + z ≤ length src.now.items }
-    requires turn { p < z }
+    requires rotation { p < z }
     ensures tally { TalliesBlock z ones.new.items ones.old.items more.new.items more.old.items
         src.now.items from p }
     ensures ones_room { ones.new.room ≡ ones.old.room }
@@ -70,7 +70,7 @@ pub(crate) fn tally_2(z: usize, ones: &mut Bits, more: &mut Bits, src: &Bits, fr
     requires ones { z ≤ length ones.old.items }
     requires more { z ≤ length more.old.items }
     requires source { from + z ≤ length src.now.items }
-    requires turn { p < z }
+    requires rotation { p < z }
     ensures tally { TalliesBlock z ones.new.items ones.old.items more.new.items more.old.items
         src.now.items from p }
     ensures ones_room { ones.new.room ≡ ones.old.room }
@@ -85,7 +85,7 @@ pub(crate) fn tally_3(z: usize, ones: &mut Bits, more: &mut Bits, src: &Bits, fr
     requires ones { z ≤ length ones.old.items }
     requires more { z ≤ length more.old.items }
     requires source { from + z ≤ length src.now.items }
-    requires turn { p < z }
+    requires rotation { p < z }
     ensures tally { TalliesBlock z ones.new.items ones.old.items more.new.items more.old.items
         src.now.items from p }
     ensures ones_room { ones.new.room ≡ ones.old.room }
@@ -100,7 +100,7 @@ pub(crate) fn tally_4(z: usize, ones: &mut Bits, more: &mut Bits, src: &Bits, fr
     requires ones { z ≤ length ones.old.items }
     requires more { z ≤ length more.old.items }
     requires source { from + z ≤ length src.now.items }
-    requires turn { p < z }
+    requires rotation { p < z }
     ensures tally { TalliesBlock z ones.new.items ones.old.items more.new.items more.old.items
         src.now.items from p }
     ensures ones_room { ones.new.room ≡ ones.old.room }
@@ -115,7 +115,7 @@ pub(crate) fn tally_5(z: usize, ones: &mut Bits, more: &mut Bits, src: &Bits, fr
     requires ones { z ≤ length ones.old.items }
     requires more { z ≤ length more.old.items }
     requires source { from + z ≤ length src.now.items }
-    requires turn { p < z }
+    requires rotation { p < z }
     ensures tally { TalliesBlock z ones.new.items ones.old.items more.new.items more.old.items
         src.now.items from p }
     ensures ones_room { ones.new.room ≡ ones.old.room }
@@ -130,7 +130,7 @@ pub(crate) fn tally_6(z: usize, ones: &mut Bits, more: &mut Bits, src: &Bits, fr
     requires ones { z ≤ length ones.old.items }
     requires more { z ≤ length more.old.items }
     requires source { from + z ≤ length src.now.items }
-    requires turn { p < z }
+    requires rotation { p < z }
     ensures tally { TalliesBlock z ones.new.items ones.old.items more.new.items more.old.items
         src.now.items from p }
     ensures ones_room { ones.new.room ≡ ones.old.room }
@@ -145,7 +145,7 @@ pub(crate) fn tally_7(z: usize, ones: &mut Bits, more: &mut Bits, src: &Bits, fr
     requires ones { z ≤ length ones.old.items }
     requires more { z ≤ length more.old.items }
     requires source { from + z ≤ length src.now.items }
-    requires turn { p < z }
+    requires rotation { p < z }
     ensures tally { TalliesBlock z ones.new.items ones.old.items more.new.items more.old.items
         src.now.items from p }
     ensures ones_room { ones.new.room ≡ ones.old.room }

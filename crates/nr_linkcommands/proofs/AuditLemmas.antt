@@ -11,7 +11,7 @@ use Rattle.std.specs.Option.{is_some}
 use Rattle.nr_crcattach.specs.Attachment.{attached_length}
 use Rattle.nr_bitvec.specs.Bit.{bit}
 use Rattle.nr_graphpick.specs.declared.Graph.{Graph}
-use Rattle.nr_harqbuf.specs.Record.{Heardbits}
+use Rattle.nr_harqbuf.specs.Record.{HeardBits}
 use Rattle.nr_ldpcenc.specs.Rows.{Checks, block_checks}
 use Rattle.nr_segment.specs.Plan.{word_size, Numbers, PlansAreSound}
 use Rattle.nr_peel.specs.Closure.{closure}
@@ -21,8 +21,8 @@ use Rattle.nr_blockdesk.specs.Explains.{Reception}
 use Rattle.nr_blockdesk.specs.Heard.{heard_of, heard_record}
 use Rattle.nr_blockdesk.specs.Link.{IsLink, Link}
 use Rattle.nr_blockdesk.specs.Outcome.{fixed, given, left}
-use Rattle.nr_blockdesk.specs.Receiving.{Receiving}
-use Rattle.nr_blockdesk.specs.Sent.{Sending}
+use Rattle.nr_blockdesk.specs.Receiving.{ReceiverView}
+use Rattle.nr_blockdesk.specs.Sent.{SenderView}
 use Rattle.nr_linkcommands.specs.AuditText.{HasHeard, audit_lines, audit_of}
 use Rattle.nr_linkcommands.specs.AuditLines.{audit_block, audit_line, gained, order_line, position_word, steps_of, stuck_line, unfixed}
 use Rattle.nr_files.specs.Rounds.{IsOfBlock, of_process}
@@ -33,13 +33,13 @@ use Rattle.nr_linkcommands.proofs.RunLines.{some-lines}
 use Rattle.nr_commands.proofs.WrittenLemmas.{some_at_end}
 
 -- the line of a code block that is fixed, and of one that is not
-pub audit_line-order : (n : ℕ) (link : Link) (records : List Heardbits) (r : ℕ) → left link records r ≡ 0
+pub audit_line-order : (n : ℕ) (link : Link) (records : List HeardBits) (r : ℕ) → left link records r ≡ 0
     → audit_line n link records r ≡ order_line n r (steps_of link (heard_of records r))
 unfolding audit_line
 audit_line-order n link records r none =
     ap (λ (k : ℕ). if k == 0 then order_line n r (steps_of link (heard_of records r)) else stuck_line n r (unfixed link (heard_of records r))) none
 
-pub audit_line-stuck : (n : ℕ) (link : Link) (records : List Heardbits) (r : ℕ) → (left link records r == 0) ≡ false
+pub audit_line-stuck : (n : ℕ) (link : Link) (records : List HeardBits) (r : ℕ) → (left link records r == 0) ≡ false
     → audit_line n link records r ≡ stuck_line n r (unfixed link (heard_of records r))
 unfolding audit_line
 audit_line-stuck n link records r some =
@@ -55,7 +55,7 @@ unfolding stuck_line
 stuck_line-some n r positions =
     some_at_end (codes "stuck " ++ decimal n ++ codes " " ++ decimal r ++ codes " " ++ decimal (length positions) ++ flat_map position_word positions)
 
-audit_line-some : (n : ℕ) (link : Link) (records : List Heardbits) (r : ℕ) → 0 < length (audit_line n link records r)
+audit_line-some : (n : ℕ) (link : Link) (records : List HeardBits) (r : ℕ) → 0 < length (audit_line n link records r)
 unfolding audit_line
 audit_line-some n link records r = go (left link records r == 0)
   where
@@ -64,43 +64,43 @@ audit_line-some n link records r = go (left link records r == 0)
     go false = stuck_line-some n r (unfixed link (heard_of records r))
 
 -- the peeler of a code block: its positions are given by the record of what was received
-pub record IsPeelerOf (link : Link) (s : Heardbits) (p : Peeling) : Type 0 where
+pub record IsPeelerOf (link : Link) (s : HeardBits) (p : Peeling) : Type 0 where
   pub table : p.table ≡ link.table
   pub graph : p.graph ≡ link.graph
   pub numbers : p.numbers ≡ link.plan
   pub positions : (k : ℕ) → bit p.given k ≡ given link s k
   pub peeled : IsPeeled p
 
-same_checks : (link : Link) (s : Heardbits) (p : Peeling) → IsPeelerOf link s p → checks_for p ≡ block_checks link.table link.graph link.plan
+same_checks : (link : Link) (s : HeardBits) (p : Peeling) → IsPeelerOf link s p → checks_for p ≡ block_checks link.table link.graph link.plan
 same_checks link s p of =
     ap (λ (t : Entries). block_checks t p.graph p.numbers) of.table
     ∙ ap (λ (g : Graph). block_checks link.table g p.numbers) of.graph
     ∙ ap (λ (n : Numbers). block_checks link.table link.graph n) of.numbers
 
-same_given : (link : Link) (s : Heardbits) (p : Peeling) → IsPeelerOf link s p → bit p.given ≡ given link s
+same_given : (link : Link) (s : HeardBits) (p : Peeling) → IsPeelerOf link s p → bit p.given ≡ given link s
 same_given link s p of = λ i k. of.positions k i
 
 -- what it knows is what is fixed
-known_fixed : (link : Link) (s : Heardbits) (p : Peeling) → IsPeelerOf link s p → (k : ℕ) → bit p.known k ≡ fixed link s k
+known_fixed : (link : Link) (s : HeardBits) (p : Peeling) → IsPeelerOf link s p → (k : ℕ) → bit p.known k ≡ fixed link s k
 known_fixed link s p of k =
     of.peeled.closed k
     ∙ ap (λ (c : Checks). closure c (bit p.given) k) (same_checks link s p of)
     ∙ ap (λ (g : ℕ → Bool). closure (block_checks link.table link.graph link.plan) g k) (same_given link s p of)
 
-same_known : (link : Link) (s : Heardbits) (p : Peeling) → IsPeelerOf link s p → bit p.known ≡ fixed link s
+same_known : (link : Link) (s : HeardBits) (p : Peeling) → IsPeelerOf link s p → bit p.known ≡ fixed link s
 same_known link s p of = λ i k. known_fixed link s p of k i
 
-same_size : (link : Link) (s : Heardbits) (p : Peeling) → IsPeelerOf link s p → (checks_for p).size ≡ word_size link.graph link.plan
+same_size : (link : Link) (s : HeardBits) (p : Peeling) → IsPeelerOf link s p → (checks_for p).size ≡ word_size link.graph link.plan
 same_size link s p of = ap (λ (c : Checks). c.size) (same_checks link s p of)
 
 -- what it gained are the steps, and what it does not know is not fixed
-pub gained-steps : (link : Link) (s : Heardbits) (p : Peeling) → IsPeelerOf link s p → gained p ≡ steps_of link s
+pub gained-steps : (link : Link) (s : HeardBits) (p : Peeling) → IsPeelerOf link s p → gained p ≡ steps_of link s
 gained-steps link s p of =
     ap (λ (f : ℕ → Bool). count_by (λ k. f k && not (bit p.given k)) (range_with_len 0 (length p.given))) (same_known link s p of)
     ∙ ap (λ (g : ℕ → Bool). count_by (λ k. fixed link s k && not (g k)) (range_with_len 0 (length p.given))) (same_given link s p of)
     ∙ ap (λ (n : ℕ). count_by (λ k. fixed link s k && not (given link s k)) (range_with_len 0 n)) (of.peeled.given_long ∙ same_size link s p of)
 
-pub unknown-unfixed : (link : Link) (s : Heardbits) (p : Peeling) → IsPeelerOf link s p → unknown_in p.known ≡ unfixed link s
+pub unknown-unfixed : (link : Link) (s : HeardBits) (p : Peeling) → IsPeelerOf link s p → unknown_in p.known ≡ unfixed link s
 unknown-unfixed link s p of =
     ap (λ (f : ℕ → Bool). filter (λ k. not (f k)) (range_with_len 0 (length p.known))) (same_known link s p of)
     ∙ ap (λ (n : ℕ). filter (λ k. not (fixed link s k)) (range_with_len 0 n)) (of.peeled.known_long ∙ same_size link s p of)
@@ -136,13 +136,13 @@ step-few true step is = omega (arith, is)
 step-few false step is = omega (arith, is)
 
 -- the lines of the blocks before the one at index i, its own, and those behind it
-pub audit_lines-parts : (schedule : List Transmission) (n : ℕ) (senders : List Sending) (i : ℕ) (sender none : Sending) → i < length senders → sender ≡ get_or senders i none
+pub audit_lines-parts : (schedule : List Transmission) (n : ℕ) (senders : List SenderView) (i : ℕ) (sender none : SenderView) → i < length senders → sender ≡ get_or senders i none
     → audit_lines schedule n senders ≡ (audit_lines schedule n (take i senders) ++ audit_of schedule (i + n) sender) ++ audit_lines schedule (i + n + 1) (drop (i + 1) senders)
 unfolding audit_lines
 audit_lines-parts schedule n [] i sender none within is = absurd (omega (arith, within))
 audit_lines-parts schedule n (x ∷ xs) zero sender none within is =
     let same : n ≡ 0 + n = omega arith in
-    ap (λ (s : Sending). audit_of schedule n s ++ audit_lines schedule (n + 1) xs) (sym is)
+    ap (λ (s : SenderView). audit_of schedule n s ++ audit_lines schedule (n + 1) xs) (sym is)
     ∙ ap (λ (k : ℕ). audit_of schedule k sender ++ audit_lines schedule (k + 1) xs) same
 audit_lines-parts schedule n (x ∷ xs) (suc i) sender none within is =
     let next : i + (n + 1) ≡ suc i + n = omega arith in
@@ -157,7 +157,7 @@ audit_lines-parts schedule n (x ∷ xs) (suc i) sender none within is =
     ∙ ap (λ (lines : List ℕ). lines ++ rest) (sym (append_assoc first front own))
     ∙ ap (λ (k : ℕ). (first ++ front ++ own) ++ audit_lines schedule (suc i + n + 1) (drop k (x ∷ xs))) (sym step)
 
-pub audit_lines-more : (schedule : List Transmission) (n : ℕ) (senders : List Sending) (i : ℕ) (sender none : Sending) → i < length senders → sender ≡ get_or senders i none
+pub audit_lines-more : (schedule : List Transmission) (n : ℕ) (senders : List SenderView) (i : ℕ) (sender none : SenderView) → i < length senders → sender ≡ get_or senders i none
     → audit_lines schedule n (take (i + 1) senders) ≡ audit_lines schedule n (take i senders) ++ audit_of schedule (i + n) sender
 unfolding audit_lines
 audit_lines-more schedule n [] i sender none within is = absurd (omega (arith, within))
@@ -175,7 +175,7 @@ audit_lines-more schedule n (x ∷ xs) (suc i) sender none within is =
     ∙ sym (append_assoc first front (audit_of schedule (suc i + n) sender))
 
 -- what is received of a process with one transmission more: its own, and that of another process
-pub received-next : (p : ℕ) (sender : Sending) (xs : List Transmission) (i : ℕ) (x none : Transmission) → i < length xs → x ≡ get_or xs i none
+pub received-next : (p : ℕ) (sender : SenderView) (xs : List Transmission) (i : ℕ) (x none : Transmission) → i < length xs → x ≡ get_or xs i none
     → received sender (of_process p (take (i + 1) xs)) ≡ received sender (of_process p (take i xs)) ++ received sender (of_process p (x ∷ []))
 received-next p sender xs i x none within is =
     ap (λ (l : List Transmission). received sender (of_process p l)) (take_more xs i none within ∙ ap (λ (y : Transmission). take i xs ++ y ∷ []) (sym is))
@@ -183,38 +183,38 @@ received-next p sender xs i x none within is =
     ∙ flat_map-append (received_of sender) (of_process p (take i xs)) (of_process p (x ∷ []))
 
 -- one transmission is the process's own, or is not
-pub received-own : (p : ℕ) (sender : Sending) (x : Transmission) → (x.process == p) ≡ true → received sender (of_process p (x ∷ [])) ≡ received_of sender x
+pub received-own : (p : ℕ) (sender : SenderView) (x : Transmission) → (x.process == p) ≡ true → received sender (of_process p (x ∷ [])) ≡ received_of sender x
 received-own p sender x mine =
     ap (λ (b : Bool). received sender (cond b (x ∷ []) [])) mine ∙ append-nil (received_of sender x)
 
-pub received-other : (p : ℕ) (sender : Sending) (x : Transmission) → (x.process == p) ≡ false → received sender (of_process p (x ∷ [])) ≡ []
+pub received-other : (p : ℕ) (sender : SenderView) (x : Transmission) → (x.process == p) ≡ false → received sender (of_process p (x ∷ [])) ≡ []
 received-other p sender x other = ap (λ (b : Bool). received sender (cond b (x ∷ []) [])) other
 
 -- a receiver that hears nothing more
-pub heard_same : (sender : Sending) (list more : List Reception) (receiver : Receiving) → more ≡ [] → HasHeard sender list receiver → HasHeard sender (list ++ more) receiver
+pub heard_same : (sender : SenderView) (list more : List Reception) (receiver : ReceiverView) → more ≡ [] → HasHeard sender list receiver → HasHeard sender (list ++ more) receiver
 heard_same sender list more receiver none has =
     subst (λ (l : List Reception). HasHeard sender l receiver) (sym (ap (λ (l : List Reception). list ++ l) none ∙ append-nil list)) has
 
 -- a block's lines by the receiver that received this list
-pub audit_block-heard : (head : List ℕ) (n : ℕ) (sender : Sending) (list : List Reception) (receiver : Receiving) → HasHeard sender list receiver
+pub audit_block-heard : (head : List ℕ) (n : ℕ) (sender : SenderView) (list : List Reception) (receiver : ReceiverView) → HasHeard sender list receiver
     → audit_block head n receiver.link receiver.heard ≡ audit_block head n sender.link (heard_record sender.link list)
 audit_block-heard head n sender list receiver has =
     ap (λ (l : Link). audit_block head n l receiver.heard) has.link ∙ ap (audit_block head n sender.link) has.heard.same
 
 -- a block's lines by a receiver of its process's transmissions, where each block has a process of its number
-pub audit_of-heard : (schedule : List Transmission) (n : ℕ) (sender : Sending) (receiver : Receiving) → All IsOfBlock schedule → HasHeard sender (received sender (of_process n schedule)) receiver
+pub audit_of-heard : (schedule : List Transmission) (n : ℕ) (sender : SenderView) (receiver : ReceiverView) → All IsOfBlock schedule → HasHeard sender (received sender (of_process n schedule)) receiver
     → audit_block [] n receiver.link receiver.heard ≡ audit_of schedule n sender
 audit_of-heard schedule n sender receiver placed has =
     audit_block-heard [] n sender (received sender (of_process n schedule)) receiver has
     ∙ ap (λ (xs : List Transmission). audit_block [] n sender.link (heard_record sender.link (received sender xs))) (own-block n schedule placed)
 
 -- a line behind its first words is not empty
-pub behind-some : (head : List ℕ) (n : ℕ) (link : Link) (records : List Heardbits) (r : ℕ) → 0 < length (head ++ audit_line n link records r)
+pub behind-some : (head : List ℕ) (n : ℕ) (link : Link) (records : List HeardBits) (r : ℕ) → 0 < length (head ++ audit_line n link records r)
 behind-some head n link records r =
     omega (arith, audit_line-some n link records r, length-append head (audit_line n link records r))
 
 -- a block's lines are not empty, since there is a code block
-pub audit_block-some : PlansAreSound → (head : List ℕ) (n : ℕ) (link : Link) (records : List Heardbits) → IsLink link → 0 < length (audit_block head n link records)
+pub audit_block-some : PlansAreSound → (head : List ℕ) (n : ℕ) (link : Link) (records : List HeardBits) → IsLink link → 0 < length (audit_block head n link records)
 audit_block-some sound head n link records is =
     let plan = sound link.graph (attached_length link.a) link.plan is.planned in
     some-lines (λ r. head ++ audit_line n link records r) link.plan.c (behind-some head n link records) plan.some

@@ -8,7 +8,7 @@ use Rattle.std.proofs.lemmas.Option.{slice_get-get_or}
 use Rattle.nr_segment.specs.Plan.{PlansAreSound}
 use Rattle.nr_blockdesk.specs.Heard.{heard_record}
 use Rattle.nr_blockdesk.specs.Link.{IsLink}
-use Rattle.nr_blockdesk.specs.Sent.{Sending}
+use Rattle.nr_blockdesk.specs.Sent.{SenderView}
 use Rattle.nr_linkcommands.specs.AuditLines.{audit_block}
 use Rattle.nr_linkcommands.specs.AuditText.{audit_words}
 use Rattle.nr_linkcommands.specs.RunLines.{process_words}
@@ -48,7 +48,7 @@ pub round-named : (blocks number p : ℕ) (before : List Transmission) → All (
 round-named blocks number p before all is = first-named blocks number (round_of p before) (All-round (HasBlock blocks) p before all) is
 
 -- the lines of a round, by its block and that block's sender
-pub lines-some : (senders : List Sending) (p number : ℕ) (round : List Transmission) (sender : Sending) → Some number ≡ block_of round → number - 1 < length senders → sender ≡ get_or senders (number - 1) sender
+pub lines-some : (senders : List SenderView) (p number : ℕ) (round : List Transmission) (sender : SenderView) → Some number ≡ block_of round → number - 1 < length senders → sender ≡ get_or senders (number - 1) sender
     → round_lines audit_words senders p round ≡ audit_block (process_words p) number sender.link (heard_record sender.link (received sender round))
 lines-some senders p number [] sender is within at = absurd (cc)
 lines-some senders p number (x ∷ more) sender is within at =
@@ -58,13 +58,13 @@ lines-some senders p number (x ∷ more) sender is within at =
     ∙ ap (λ o. ended_if audit_words p number o (x ∷ more)) there
 
 -- they are not empty
-pub lines-there : PlansAreSound → (senders : List Sending) (p number : ℕ) (round : List Transmission) (sender : Sending) → Some number ≡ block_of round → number - 1 < length senders → sender ≡ get_or senders (number - 1) sender → IsLink sender.link
+pub lines-there : PlansAreSound → (senders : List SenderView) (p number : ℕ) (round : List Transmission) (sender : SenderView) → Some number ≡ block_of round → number - 1 < length senders → sender ≡ get_or senders (number - 1) sender → IsLink sender.link
     → 0 < length (round_lines audit_words senders p round)
 lines-there sound senders p number round sender is within at linked =
     rw (lines-some senders p number round sender is within at)
     (audit_block-some sound (process_words p) number sender.link (heard_record sender.link (received sender round)) linked)
 
 -- nothing is said of a transmission
-pub unsaid : (o : Option Sending) (round : List Transmission) (x : Transmission) → said_if audit_words o round x ≡ []
+pub unsaid : (o : Option SenderView) (round : List Transmission) (x : Transmission) → said_if audit_words o round x ≡ []
 unsaid None round x = refl
 unsaid (Some sender) round x = refl

@@ -1,7 +1,7 @@
 -- The one contract of the commands over four files, and what they say by what they work from.
 use Rattle.std.proofs.Common.{◌≡◌, ◌≢◌, ℕ, ◌⊎◌, inl, inr, Option, Result, Ok, Err, List, ap, refl}
 use Rattle.nr_refusal.specs.Refusal.{◌>>=◌, FailsAs}
-use Rattle.nr_blockdesk.specs.Sent.{Sending}
+use Rattle.nr_blockdesk.specs.Sent.{SenderView}
 use Rattle.nr_files.specs.Schedule.{Timetable}
 use Rattle.nr_commands.specs.Command.{Delivers, IsBlockFault, Writes}
 use Rattle.nr_commands.specs.declared.fault.RunFault.{RunFault}
@@ -12,21 +12,21 @@ use Rattle.nr_linkcommands.specs.Inputs.{Given, Ready, files_said, inputs_said, 
 use Rattle.nr_linkcommands.proofs.InputLemmas.{inputs_said-ready, inputs_said-refused, inputs_said-unsent, of_block_or_memory}
 
 -- what a command says by what it works from
-said-inputs : (text : List Sending → Timetable → List ℕ) (t s b d : List ℕ) (said : Result Ready RunFault) → inputs_said t s b d ≡ said → said_over text t s b d ≡ (said >>= λ inputs. Ok (text inputs.senders inputs.schedule))
+said-inputs : (text : List SenderView → Timetable → List ℕ) (t s b d : List ℕ) (said : Result Ready RunFault) → inputs_said t s b d ≡ said → said_over text t s b d ≡ (said >>= λ inputs. Ok (text inputs.senders inputs.schedule))
 unfolding said_over
 said-inputs text t s b d said is = ap (λ r. r >>= λ inputs. Ok (text inputs.senders inputs.schedule)) is
 
 -- a refusal of the files, and of a transport block
-pub said-refused : (text : List Sending → Timetable → List ℕ) (t s b d : List ℕ) (e : RunFault) → (e ≡ Memory) ⊎ (files_said t s b d ≡ Err e) → (e ≡ Memory) ⊎ (said_over text t s b d ≡ Err e)
+pub said-refused : (text : List SenderView → Timetable → List ℕ) (t s b d : List ℕ) (e : RunFault) → (e ≡ Memory) ⊎ (files_said t s b d ≡ Err e) → (e ≡ Memory) ⊎ (said_over text t s b d ≡ Err e)
 said-refused text t s b d e (inl is) = inl is
 said-refused text t s b d e (inr is) = inr (said-inputs text t s b d (Err e) (inputs_said-refused t s b d e is))
 
-pub said-unsent : (text : List Sending → Timetable → List ℕ) (t s b d : List ℕ) (given : Given) (e : RunFault) → files_said t s b d ≡ Ok given → (e ≡ Memory) ⊎ (senders_from given.table given.settings 1 given.blocks ≡ Err e) → (e ≡ Memory) ⊎ (said_over text t s b d ≡ Err e)
+pub said-unsent : (text : List SenderView → Timetable → List ℕ) (t s b d : List ℕ) (given : Given) (e : RunFault) → files_said t s b d ≡ Ok given → (e ≡ Memory) ⊎ (senders_from given.table given.settings 1 given.blocks ≡ Err e) → (e ≡ Memory) ⊎ (said_over text t s b d ≡ Err e)
 said-unsent text t s b d given e first (inl is) = inl is
 said-unsent text t s b d given e first (inr is) = inr (said-inputs text t s b d (Err e) (inputs_said-unsent t s b d given e first is))
 
 -- the text
-pub said-ready : (text : List Sending → Timetable → List ℕ) (t s b d : List ℕ) (given : Given) (senders : List Sending) → files_said t s b d ≡ Ok given → senders_from given.table given.settings 1 given.blocks ≡ Ok senders → said_over text t s b d ≡ Ok (text senders given.schedule)
+pub said-ready : (text : List SenderView → Timetable → List ℕ) (t s b d : List ℕ) (given : Given) (senders : List SenderView) → files_said t s b d ≡ Ok given → senders_from given.table given.settings 1 given.blocks ≡ Ok senders → said_over text t s b d ≡ Ok (text senders given.schedule)
 said-ready text t s b d given senders first is =
     said-inputs text t s b d (Ok (record { senders = senders; schedule = given.schedule })) (inputs_said-ready t s b d given senders first is)
 

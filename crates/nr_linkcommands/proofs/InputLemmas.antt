@@ -12,7 +12,7 @@ use Rattle.nr_commands.specs.Faults.{blocks_refusal, schedule_refusal, settings_
 use Rattle.nr_linkcommands.specs.Inputs.{Given, HasNoFault, IsFirst, LeavesLater, OfFour, files_said, inputs_said, sender_said, senders_from}
 use Rattle.nr_files.specs.Schedule.{Timetable, schedule_said}
 use Rattle.nr_files.specs.Settings.{settings_said}
-use Rattle.nr_blockdesk.specs.Sent.{Sending}
+use Rattle.nr_blockdesk.specs.Sent.{SenderView}
 use Rattle.nr_transmission.specs.declared.settings.Settings.{Settings}
 use Rattle.nr_files.specs.declared.settings.SettingsFault.{SettingsFault}
 use Rattle.nr_files.specs.declared.settings.SettingsFault.TheVariants as settings_fault
@@ -114,35 +114,35 @@ pub gives-refused : {X Y : Type 0} (view : X → Y) (r : Result X RunFault) (exi
 gives-refused view r exit e said is same given = rw (is, same) given
 
 -- a sender for each block, one by one
-abbrev pub after_senders : List Sending → Result (List Sending) RunFault → Result (List Sending) RunFault
+abbrev pub after_senders : List SenderView → Result (List SenderView) RunFault → Result (List SenderView) RunFault
 after_senders front said = said >>= λ more. Ok (front ++ more)
 
-after_senders-more : (front : List Sending) (sender : Sending) (said : Result (List Sending) RunFault) → after_senders front (said >>= λ more. Ok (sender ∷ more)) ≡ after_senders (front ++ sender ∷ []) said
+after_senders-more : (front : List SenderView) (sender : SenderView) (said : Result (List SenderView) RunFault) → after_senders front (said >>= λ more. Ok (sender ∷ more)) ≡ after_senders (front ++ sender ∷ []) said
 after_senders-more front sender (Ok more) = ap Ok (sym (append_assoc front (sender ∷ []) more))
 after_senders-more front sender (Err e) = refl
 
 -- the block at index n is the first of those from n on
-senders_turn : (table : Entries) (settings : Settings) (front : List Sending) (n : ℕ) (blocks : List (List ℕ)) (octets : List ℕ) → n < length blocks → octets ≡ get_or blocks n octets → after_senders front (senders_from table settings (n + 1) (drop n blocks)) ≡ after_senders front (sender_said table settings (n + 1) octets >>= λ sender. senders_from table settings (n + 1 + 1) (drop (n + 1) blocks) >>= λ more. Ok (sender ∷ more))
+senders_turn : (table : Entries) (settings : Settings) (front : List SenderView) (n : ℕ) (blocks : List (List ℕ)) (octets : List ℕ) → n < length blocks → octets ≡ get_or blocks n octets → after_senders front (senders_from table settings (n + 1) (drop n blocks)) ≡ after_senders front (sender_said table settings (n + 1) octets >>= λ sender. senders_from table settings (n + 1 + 1) (drop (n + 1) blocks) >>= λ more. Ok (sender ∷ more))
 unfolding senders_from
 senders_turn table settings front n blocks octets h is =
     ap (λ xs. after_senders front (senders_from table settings (n + 1) xs)) (drop_more blocks n octets h ∙ ap (λ x. x ∷ drop (n + 1) blocks) (sym is))
 
 -- where that block has a sender
-pub senders_turn-ok : (table : Entries) (settings : Settings) (front : List Sending) (n : ℕ) (blocks : List (List ℕ)) (octets : List ℕ) (sender : Sending) → n < length blocks → octets ≡ get_or blocks n octets → sender_said table settings (n + 1) octets ≡ Ok sender → after_senders (front ++ sender ∷ []) (senders_from table settings (n + 1 + 1) (drop (n + 1) blocks)) ≡ after_senders front (senders_from table settings (n + 1) (drop n blocks))
+pub senders_turn-ok : (table : Entries) (settings : Settings) (front : List SenderView) (n : ℕ) (blocks : List (List ℕ)) (octets : List ℕ) (sender : SenderView) → n < length blocks → octets ≡ get_or blocks n octets → sender_said table settings (n + 1) octets ≡ Ok sender → after_senders (front ++ sender ∷ []) (senders_from table settings (n + 1 + 1) (drop (n + 1) blocks)) ≡ after_senders front (senders_from table settings (n + 1) (drop n blocks))
 senders_turn-ok table settings front n blocks octets sender h is said =
     sym (senders_turn table settings front n blocks octets h is
     ∙ ap (λ r. after_senders front (r >>= λ sender. senders_from table settings (n + 1 + 1) (drop (n + 1) blocks) >>= λ more. Ok (sender ∷ more))) said
     ∙ after_senders-more front sender (senders_from table settings (n + 1 + 1) (drop (n + 1) blocks)))
 
 -- where it is refused
-pub senders_turn-err : (table : Entries) (settings : Settings) (front : List Sending) (n : ℕ) (blocks : List (List ℕ)) (octets : List ℕ) (whole : Result (List Sending) RunFault) (e : RunFault) → after_senders front (senders_from table settings (n + 1) (drop n blocks)) ≡ whole → n < length blocks → octets ≡ get_or blocks n octets → (e ≡ faults.Memory) ⊎ (sender_said table settings (n + 1) octets ≡ Err e) → (e ≡ faults.Memory) ⊎ (whole ≡ Err e)
+pub senders_turn-err : (table : Entries) (settings : Settings) (front : List SenderView) (n : ℕ) (blocks : List (List ℕ)) (octets : List ℕ) (whole : Result (List SenderView) RunFault) (e : RunFault) → after_senders front (senders_from table settings (n + 1) (drop n blocks)) ≡ whole → n < length blocks → octets ≡ get_or blocks n octets → (e ≡ faults.Memory) ⊎ (sender_said table settings (n + 1) octets ≡ Err e) → (e ≡ faults.Memory) ⊎ (whole ≡ Err e)
 senders_turn-err table settings front n blocks octets whole e so_far h is (inl memory) = inl memory
 senders_turn-err table settings front n blocks octets whole e so_far h is (inr said) =
     inr (sym so_far ∙ senders_turn table settings front n blocks octets h is
     ∙ ap (λ r. after_senders front (r >>= λ sender. senders_from table settings (n + 1 + 1) (drop (n + 1) blocks) >>= λ more. Ok (sender ∷ more))) said)
 
 -- behind the last block
-pub senders_last : (table : Entries) (settings : Settings) (front : List Sending) (n : ℕ) (blocks : List (List ℕ)) → length blocks ≤ n → after_senders front (senders_from table settings (n + 1) (drop n blocks)) ≡ Ok front
+pub senders_last : (table : Entries) (settings : Settings) (front : List SenderView) (n : ℕ) (blocks : List (List ℕ)) → length blocks ≤ n → after_senders front (senders_from table settings (n + 1) (drop n blocks)) ≡ Ok front
 unfolding senders_from
 senders_last table settings front n blocks h =
     ap (λ xs. after_senders front (senders_from table settings (n + 1) xs)) (drop_all n blocks h) ∙ ap Ok (append-nil front)
@@ -155,13 +155,13 @@ inputs_files t s b d said is = ap (λ r. r >>= λ given. senders_from given.tabl
 pub inputs_said-refused : (t s b d : List ℕ) (e : RunFault) → files_said t s b d ≡ Err e → inputs_said t s b d ≡ Err e
 inputs_said-refused t s b d e is = inputs_files t s b d (Err e) is
 
-inputs_senders : (t s b d : List ℕ) (given : Given) (said : Result (List Sending) RunFault) → files_said t s b d ≡ Ok given → senders_from given.table given.settings 1 given.blocks ≡ said → inputs_said t s b d ≡ (said >>= λ senders. Ok (record { senders = senders; schedule = given.schedule }))
+inputs_senders : (t s b d : List ℕ) (given : Given) (said : Result (List SenderView) RunFault) → files_said t s b d ≡ Ok given → senders_from given.table given.settings 1 given.blocks ≡ said → inputs_said t s b d ≡ (said >>= λ senders. Ok (record { senders = senders; schedule = given.schedule }))
 inputs_senders t s b d given said first is = inputs_files t s b d (Ok given) first ∙ ap (λ r. r >>= λ senders. Ok (record { senders = senders; schedule = given.schedule })) is
 
 pub inputs_said-unsent : (t s b d : List ℕ) (given : Given) (e : RunFault) → files_said t s b d ≡ Ok given → senders_from given.table given.settings 1 given.blocks ≡ Err e → inputs_said t s b d ≡ Err e
 inputs_said-unsent t s b d given e first is = inputs_senders t s b d given (Err e) first is
 
-pub inputs_said-ready : (t s b d : List ℕ) (given : Given) (senders : List Sending) → files_said t s b d ≡ Ok given → senders_from given.table given.settings 1 given.blocks ≡ Ok senders → inputs_said t s b d ≡ Ok (record { senders = senders; schedule = given.schedule })
+pub inputs_said-ready : (t s b d : List ℕ) (given : Given) (senders : List SenderView) → files_said t s b d ≡ Ok given → senders_from given.table given.settings 1 given.blocks ≡ Ok senders → inputs_said t s b d ≡ Ok (record { senders = senders; schedule = given.schedule })
 inputs_said-ready t s b d given senders first is = inputs_senders t s b d given (Ok senders) first is
 
 -- a fault of a transport block is no other fault but `Memory`

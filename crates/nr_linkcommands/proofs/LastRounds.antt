@@ -3,7 +3,7 @@ use Rattle.std.proofs.Common.{◌≡◌, ℕ, ◌+◌, ◌<◌, List, [], ◌∷
 use Rattle.std.specs.List.{range_with_len}
 use Rattle.std.proofs.lemmas.List.FromFn.{map-range_with_len_more}
 use Rattle.std.proofs.lemmas.List.{get_or_default}
-use Rattle.nr_blockdesk.specs.Sent.{Sending}
+use Rattle.nr_blockdesk.specs.Sent.{SenderView}
 use Rattle.nr_linkcommands.specs.Ends.{HoldRounds, HoldsRound, goes_on, empty_slot}
 use Rattle.nr_linkcommands.specs.RoundTexts.{Words, last_rounds, pieces_joined, round_lines}
 use Rattle.nr_files.specs.Rounds.{round_of}
@@ -15,7 +15,7 @@ joined-map : (f : ℕ → List ℕ) (ps : List ℕ) → pieces_joined (map (λ p
 joined-map f [] = refl
 joined-map f (p ∷ ps) = ap (λ lines. f p ++ lines) (joined-map f ps)
 
-pub last-lines : (words : Words) (senders : List Sending) (schedule : List Transmission) → pieces_joined (last_rounds words senders schedule) ≡ flat_map (λ p. round_lines words senders p (round_of p schedule)) (range_with_len 0 16)
+pub last-lines : (words : Words) (senders : List SenderView) (schedule : List Transmission) → pieces_joined (last_rounds words senders schedule) ≡ flat_map (λ p. round_lines words senders p (round_of p schedule)) (range_with_len 0 16)
 last-lines words senders schedule = joined-map (λ p. round_lines words senders p (round_of p schedule)) (range_with_len 0 16)
 
 -- those of the processes up to p, behind those that ended before
@@ -26,6 +26,6 @@ last-more ended schedule p =
     ∙ ap (λ (rounds : List (List Transmission)). ended ++ rounds) (sym (map-range_with_len_more (λ q. round_of q schedule) 0 p p (omega arith)))
 
 -- what the slot of a process has received
-pub holds-round : (senders : List Sending) (schedule later : List Transmission) (slots : List Slot) (p : ℕ) (slot : Slot) → p < length slots → slot ≡ get_or slots p slot → HoldRounds senders schedule later slots → HoldsRound (goes_on p later) senders (round_of p schedule) slot
+pub holds-round : (senders : List SenderView) (schedule later : List Transmission) (slots : List Slot) (p : ℕ) (slot : Slot) → p < length slots → slot ≡ get_or slots p slot → HoldRounds senders schedule later slots → HoldsRound (goes_on p later) senders (round_of p schedule) slot
 holds-round senders schedule later slots p slot within is held =
     subst (HoldsRound (goes_on p later) senders (round_of p schedule)) (sym (is ∙ get_or_default slots p slot empty_slot within)) (held p within)

@@ -12,7 +12,7 @@ use Rattle.nr_refusal.specs.Refusal.{◌>>=◌}
 use Rattle.nr_blockdesk.specs.Explains.{IsAccepted, Reception, agrees, all_agree, explains, heard_at, reception, reception_said}
 use Rattle.nr_blockdesk.specs.Link.{Link, demanded}
 use Rattle.nr_blockdesk.specs.ReceiverLaws.{arrived_bit}
-use Rattle.nr_blockdesk.specs.Sent.{AcceptedSendAll, Sending, sent, sent_said, tx_said}
+use Rattle.nr_blockdesk.specs.Sent.{AcceptedSendAll, SenderView, sent, sent_said, tx_said}
 use Rattle.nr_transmission.specs.declared.fault.DeskFault.{DeskFault}
 use Rattle.nr_transmission.specs.declared.fault.DeskFault.TheVariants as fault
 use Rattle.nr_blockdesk.specs.declared.heard.Heard.{Heard}
@@ -39,13 +39,13 @@ said-whole link tx places lengths said whole =
     ∙ ap (λ b. demanded fault.Length b >>= λ all. Ok lengths) tested
 
 -- what is received of one transmission, by what is said of it
-of_said : (sender : Sending) (x : Transmission) (said : Result (List ℕ) DeskFault) → tx_said sender.link x.tx ≡ said → received_of sender x ≡ received_if x (said >>= λ lengths. Ok (sent sender.link x.tx sender.block))
+of_said : (sender : SenderView) (x : Transmission) (said : Result (List ℕ) DeskFault) → tx_said sender.link x.tx ≡ said → received_of sender x ≡ received_if x (said >>= λ lengths. Ok (sent sender.link x.tx sender.block))
 of_said sender x said is = ap (λ (r : Result (List ℕ) DeskFault). received_if x (r >>= λ lengths. Ok (sent sender.link x.tx sender.block))) is
 
-sent-long : AcceptedSendAll → (sender : Sending) (x : Transmission) (lengths : List ℕ) → tx_said sender.link x.tx ≡ Ok lengths → length (sent sender.link x.tx sender.block) ≡ x.tx.g
+sent-long : AcceptedSendAll → (sender : SenderView) (x : Transmission) (lengths : List ℕ) → tx_said sender.link x.tx ≡ Ok lengths → length (sent sender.link x.tx sender.block) ≡ x.tx.g
 sent-long all sender x lengths is = all sender.link x.tx sender.block (subst IsOk (sym is) refl)
 
-one-accepted : AcceptedSendAll → (sender : Sending) (x : Transmission) → All (IsAccepted sender.link) (received_of sender x)
+one-accepted : AcceptedSendAll → (sender : SenderView) (x : Transmission) → All (IsAccepted sender.link) (received_of sender x)
 one-accepted all sender x = go (tx_said sender.link x.tx) refl
   where
     go : (said : Result (List ℕ) DeskFault) → tx_said sender.link x.tx ≡ said → All (IsAccepted sender.link) (received_of sender x)
@@ -57,16 +57,16 @@ one-accepted all sender x = go (tx_said sender.link x.tx) refl
         (All-nil (IsAccepted sender.link)))
     go (Err e) is = subst (All (IsAccepted sender.link)) (sym (of_said sender x (Err e) is)) (All-nil (IsAccepted sender.link))
 
-pub received-accepted : AcceptedSendAll → (sender : Sending) (xs : List Transmission) → All (IsAccepted sender.link) (received sender xs)
+pub received-accepted : AcceptedSendAll → (sender : SenderView) (xs : List Transmission) → All (IsAccepted sender.link) (received sender xs)
 received-accepted all sender [] = All-nil (IsAccepted sender.link)
 received-accepted all sender (x ∷ xs) =
     All-append (IsAccepted sender.link) (received_of sender x) (received sender xs) (one-accepted all sender x) (received-accepted all sender xs)
 
-pub one_received-accepted : AcceptedSendAll → (sender : Sending) (x : Transmission) → All (IsAccepted sender.link) (received_of sender x)
+pub one_received-accepted : AcceptedSendAll → (sender : SenderView) (x : Transmission) → All (IsAccepted sender.link) (received_of sender x)
 one_received-accepted = one-accepted
 
 -- so is what arrives of the bits that a sender sends
-pub sent-accepted : AcceptedSendAll → (sender : Sending) (x : Transmission) (bits : List Bool) → sent_said sender.link x.tx sender.block ≡ Ok bits → IsAccepted sender.link (reception x.tx (heard_through x bits))
+pub sent-accepted : AcceptedSendAll → (sender : SenderView) (x : Transmission) (bits : List Bool) → sent_said sender.link x.tx sender.block ≡ Ok bits → IsAccepted sender.link (reception x.tx (heard_through x bits))
 sent-accepted all sender x bits said =
     All-head (IsAccepted sender.link) (reception x.tx (heard_through x bits)) []
     (subst (All (IsAccepted sender.link)) (received_of-sent sender x bits said) (one-accepted all sender x))
@@ -91,10 +91,10 @@ all-agree x bits long steady =
     (λ m low high. place-agrees x bits m (omega (arith, high, heard-long x bits)) (steady m (omega (arith, high, heard-long x bits, long))))
 
 -- so the sender's block explains it
-abbrev explained : Sending → List Reception → Bool
+abbrev explained : SenderView → List Reception → Bool
 explained sender list = list_all (λ (x : Reception). all_agree x.heard (sent sender.link x.tx sender.block)) list
 
-one-explained : AcceptedSendAll → (sender : Sending) (x : Transmission) → OnlyErases x → explained sender (received_of sender x) ≡ true
+one-explained : AcceptedSendAll → (sender : SenderView) (x : Transmission) → OnlyErases x → explained sender (received_of sender x) ≡ true
 one-explained all sender x steady = go (tx_said sender.link x.tx) refl
   where
     go : (said : Result (List ℕ) DeskFault) → tx_said sender.link x.tx ≡ said → explained sender (received_of sender x) ≡ true
@@ -104,13 +104,13 @@ one-explained all sender x steady = go (tx_said sender.link x.tx) refl
         ∙ ap (λ b. b && true) (all-agree x bits (sent-long all sender x lengths is) steady)
     go (Err e) is = ap (explained sender) (of_said sender x (Err e) is)
 
-all-explained : AcceptedSendAll → (sender : Sending) (xs : List Transmission) → All OnlyErases xs → explained sender (received sender xs) ≡ true
+all-explained : AcceptedSendAll → (sender : SenderView) (xs : List Transmission) → All OnlyErases xs → explained sender (received sender xs) ≡ true
 all-explained all sender [] steady = refl
 all-explained all sender (x ∷ xs) steady =
     list_all-append (λ (y : Reception). all_agree y.heard (sent sender.link y.tx sender.block)) (received_of sender x) (received sender xs)
     ∙ ap (λ b. b && explained sender (received sender xs)) (one-explained all sender x (All-head OnlyErases x xs steady))
     ∙ all-explained all sender xs (All-tail OnlyErases x xs steady)
 
-pub received-explained : AcceptedSendAll → (sender : Sending) (xs : List Transmission) → All OnlyErases xs → explains sender.link (received sender xs) sender.block ≡ true
+pub received-explained : AcceptedSendAll → (sender : SenderView) (xs : List Transmission) → All OnlyErases xs → explains sender.link (received sender xs) sender.block ≡ true
 unfolding explains
 received-explained all sender xs steady = all-explained all sender xs steady

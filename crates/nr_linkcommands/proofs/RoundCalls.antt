@@ -11,7 +11,7 @@ use Rattle.nr_blockdesk.specs.Calls as calls
 use Rattle.nr_blockdesk.specs.Calls.{Call, Round, begun_as, after_call, round_after, round_from, taken, taken_as}
 use Rattle.nr_blockdesk.specs.Explains.{IsAccepted, Reception}
 use Rattle.nr_blockdesk.specs.Link.{Link, link_said}
-use Rattle.nr_blockdesk.specs.Sent.{AcceptedSendAll, Sending, sending_said}
+use Rattle.nr_blockdesk.specs.Sent.{AcceptedSendAll, SenderView, sending_said}
 use Rattle.nr_transmission.specs.declared.settings.Settings.{Settings}
 use Rattle.nr_linkcommands.specs.Inputs.{senders_from}
 use Rattle.nr_linkcommands.specs.RoundCalls.{RoundsAreCalls, calls_by, calls_of, given_if, round_given}
@@ -54,10 +54,10 @@ taken-none table settings p q o (x ∷ xs) other =
     ap (λ b. round_from table settings p (cond b (option_map (taken x) o) o) (map (calls.take q) xs)) other ∙ taken-none table settings p q o xs other
 
 -- the calls of one transmission
-abbrev calls_in : Sending → Transmission → Bool → List Call
+abbrev calls_in : SenderView → Transmission → Bool → List Call
 calls_in sender x fresh = cond fresh (calls.begin x.process (length sender.block) ∷ []) [] ++ map (calls.take x.process) (received_of sender x)
 
-other-calls : (table : Entries) (settings : Settings) (p : ℕ) (o : Option Round) (sender : Sending) (x : Transmission) (fresh : Bool) → (x.process == p) ≡ false → round_from table settings p o (calls_in sender x fresh) ≡ o
+other-calls : (table : Entries) (settings : Settings) (p : ℕ) (o : Option Round) (sender : SenderView) (x : Transmission) (fresh : Bool) → (x.process == p) ≡ false → round_from table settings p o (calls_in sender x fresh) ≡ o
 unfolding round_from
 other-calls table settings p o sender x true other =
     ap (λ b. round_from table settings p (cond b (begun_as (link_said table settings (length sender.block)) o) o) (map (calls.take x.process) (received_of sender x))) other
@@ -65,7 +65,7 @@ other-calls table settings p o sender x true other =
 other-calls table settings p o sender x false other = taken-none table settings p x.process o (received_of sender x) other
 
 -- a fresh one begins the round of its process
-fresh-calls : (table : Entries) (settings : Settings) (p : ℕ) (o : Option Round) (sender : Sending) (x : Transmission) → (x.process == p) ≡ true → link_said table settings (length sender.block) ≡ Ok sender.link → All (IsAccepted sender.link) (received_of sender x)
+fresh-calls : (table : Entries) (settings : Settings) (p : ℕ) (o : Option Round) (sender : SenderView) (x : Transmission) → (x.process == p) ≡ true → link_said table settings (length sender.block) ≡ Ok sender.link → All (IsAccepted sender.link) (received_of sender x)
     → round_from table settings p o (calls_in sender x true) ≡ Some (record { link = sender.link; list = received sender (x ∷ []) })
 unfolding round_from
 fresh-calls table settings p o sender x own linked accepted =
@@ -80,7 +80,7 @@ begun-block : (y x : Transmission) (b : Bool) → cond b (Some y.block) None ≡
 begun-block y x true is = cc
 begun-block y x false is = absurd (cc)
 
-going-on : (table : Entries) (settings : Settings) (p : ℕ) (senders : List Sending) (sender : Sending) (x : Transmission) (round : List Transmission) → (x.process == p) ≡ true → sender_of senders x ≡ Some sender → fresh_block round ≡ Some x.block → All (IsAccepted sender.link) (received_of sender x)
+going-on : (table : Entries) (settings : Settings) (p : ℕ) (senders : List SenderView) (sender : SenderView) (x : Transmission) (round : List Transmission) → (x.process == p) ≡ true → sender_of senders x ≡ Some sender → fresh_block round ≡ Some x.block → All (IsAccepted sender.link) (received_of sender x)
     → round_from table settings p (round_given senders round) (calls_in sender x false) ≡ round_given senders (round ++ x ∷ [])
 going-on table settings p senders sender x [] own there begun accepted = absurd (cc)
 going-on table settings p senders sender x (y ∷ more) own there begun accepted =
@@ -92,16 +92,16 @@ going-on table settings p senders sender x (y ∷ more) own there begun accepted
     ∙ ap (λ o. given_if o (y ∷ more ++ x ∷ [])) (sym same)
 
 -- the sender at a place
-found-at : (P : Sending → Type 0) (senders : List Sending) (i : ℕ) → i < length senders → All P senders → (sender : Sending) × (slice_get senders i ≡ Some sender) × P sender
+found-at : (P : SenderView → Type 0) (senders : List SenderView) (i : ℕ) → i < length senders → All P senders → (sender : SenderView) × (slice_get senders i ≡ Some sender) × P sender
 found-at P [] i within all = absurd (omega (arith, within))
 found-at P (s ∷ ss) i within all = (get_or (s ∷ ss) i s, slice_get-get_or (s ∷ ss) i s within, All-get_or P (s ∷ ss) i s within all)
 
 -- one transmission more
-module _ (all : AcceptedSendAll) (table : Entries) (settings : Settings) (senders : List Sending) (p : ℕ) where
+module _ (all : AcceptedSendAll) (table : Entries) (settings : Settings) (senders : List SenderView) (p : ℕ) where
   abbrev Agree : List Transmission → Type 0
   Agree xs = round_after table settings p (calls_of senders xs) ≡ round_given senders (round_of p xs)
 
-  turn : (round : List Transmission) (sender : Sending) (x : Transmission) (mine fresh : Bool) → (x.process == p) ≡ mine → x.fresh ≡ fresh → sender_of senders x ≡ Some sender → link_said table settings (length sender.block) ≡ Ok sender.link
+  turn : (round : List Transmission) (sender : SenderView) (x : Transmission) (mine fresh : Bool) → (x.process == p) ≡ mine → x.fresh ≡ fresh → sender_of senders x ≡ Some sender → link_said table settings (length sender.block) ≡ Ok sender.link
       → (mine ≡ true → fresh ≡ false → fresh_block round ≡ Some x.block)
       → round_from table settings p (round_given senders round) (calls_in sender x fresh) ≡ round_given senders (cond mine (cond fresh (x ∷ []) (round ++ x ∷ [])) round)
   turn round sender x false fresh mine is there linked goes_on = other-calls table settings p (round_given senders round) sender x fresh mine
@@ -111,7 +111,7 @@ module _ (all : AcceptedSendAll) (table : Entries) (settings : Settings) (sender
   turn round sender x true false mine is there linked goes_on =
       going-on table settings p senders sender x round mine there (goes_on refl refl) (one_received-accepted all sender x)
 
-  agree-more : (before : List Transmission) (sender : Sending) (x : Transmission) → sender_of senders x ≡ Some sender → link_said table settings (length sender.block) ≡ Ok sender.link → GoesOn before x → Agree before → Agree (before ++ x ∷ [])
+  agree-more : (before : List Transmission) (sender : SenderView) (x : Transmission) → sender_of senders x ≡ Some sender → link_said table settings (length sender.block) ≡ Ok sender.link → GoesOn before x → Agree before → Agree (before ++ x ∷ [])
   agree-more before sender x there linked goes_on agree =
       let by : Transmission → List Call = λ y. calls_by (sender_of senders y) y in
       let calls_more : calls_of senders (before ++ x ∷ []) ≡ calls_of senders before ++ calls_in sender x x.fresh =
@@ -126,20 +126,20 @@ module _ (all : AcceptedSendAll) (table : Entries) (settings : Settings) (sender
       subst (λ q. fresh_block (round_of q before) ≡ Some x.block) number (goes_on stale))
       ∙ ap (round_given senders) (sym (round-more p before x))
 
-  agree-taken : (xs : List Transmission) (d : Transmission) → All (λ (sender : Sending). link_said table settings (length sender.block) ≡ Ok sender.link) senders → All (HasBlock (length senders)) xs → EachGoesOn xs → (i : ℕ) → i ≤ length xs → Agree (take i xs)
+  agree-taken : (xs : List Transmission) (d : Transmission) → All (λ (sender : SenderView). link_said table settings (length sender.block) ≡ Ok sender.link) senders → All (HasBlock (length senders)) xs → EachGoesOn xs → (i : ℕ) → i ≤ length xs → Agree (take i xs)
   unfolding since_fresh round_from
   agree-taken xs d linked named goes_on zero within = refl
   agree-taken xs d linked named goes_on (suc i) within =
       let inside : i < length xs = omega (arith, within) in
       let x : Transmission = get_or xs i d in
       let has : HasBlock (length senders) x = All-get_or (HasBlock (length senders)) xs i d inside named in
-      let found = found-at (λ (sender : Sending). link_said table settings (length sender.block) ≡ Ok sender.link) senders (x.block - 1) (omega (arith, has.0, has.1)) linked in
+      let found = found-at (λ (sender : SenderView). link_said table settings (length sender.block) ≡ Ok sender.link) senders (x.block - 1) (omega (arith, has.0, has.1)) linked in
       let one : suc i ≡ i + 1 = omega arith in
       subst Agree (sym (ap (λ n. take n xs) one ∙ take_more xs i d inside))
       (agree-more (take i xs) found.0 x found.1 found.2 (goes_on i x inside (get_or_default xs i d x inside))
       (agree-taken xs d linked named goes_on i (omega (arith, within))))
 
-  agree : (xs : List Transmission) → All (λ (sender : Sending). link_said table settings (length sender.block) ≡ Ok sender.link) senders → All (HasBlock (length senders)) xs → EachGoesOn xs → Agree xs
+  agree : (xs : List Transmission) → All (λ (sender : SenderView). link_said table settings (length sender.block) ≡ Ok sender.link) senders → All (HasBlock (length senders)) xs → EachGoesOn xs → Agree xs
   unfolding since_fresh round_from
   agree [] linked named goes_on = refl
   agree (x ∷ xs) linked named goes_on =
@@ -148,8 +148,8 @@ module _ (all : AcceptedSendAll) (table : Entries) (settings : Settings) (sender
 
 pub rounds_calls : AcceptedSendAll → RoundsAreCalls
 rounds_calls all table settings blocks senders schedule p said timetable by_process =
-    let own : Sending → Type 0 = λ (sender : Sending). sending_said table settings sender.block ≡ Ok sender in
+    let own : SenderView → Type 0 = λ (sender : SenderView). sending_said table settings sender.block ≡ Ok sender in
     let made : All own senders = of_ok (All own) (senders_from table settings 1 blocks) senders said (senders-own table settings 1 blocks) in
-    let linked : All (λ (sender : Sending). link_said table settings (length sender.block) ≡ Ok sender.link) senders =
-    All-weaker own (λ (sender : Sending). link_said table settings (length sender.block) ≡ Ok sender.link) (sender-linked table settings) senders made in
+    let linked : All (λ (sender : SenderView). link_said table settings (length sender.block) ≡ Ok sender.link) senders =
+    All-weaker own (λ (sender : SenderView). link_said table settings (length sender.block) ≡ Ok sender.link) (sender-linked table settings) senders made in
     agree all table settings senders p schedule.transmissions linked timetable.named (timetable.rounds by_process)

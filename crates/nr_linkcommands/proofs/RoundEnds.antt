@@ -11,7 +11,7 @@ use Rattle.std.proofs.lemmas.List.Elements.{All-filter, All-head, All-tail}
 use Rattle.std.proofs.lemmas.Option.{slice_get-get_or}
 use Rattle.nr_blockdesk.specs.Explains.{Reception}
 use Rattle.nr_blockdesk.specs.Link.{Link}
-use Rattle.nr_blockdesk.specs.Sent.{Sending}
+use Rattle.nr_blockdesk.specs.Sent.{SenderView}
 use Rattle.nr_linkcommands.specs.Ends.{HasReceived, HoldRounds, HoldsState, HoldsIf, HoldsSummary, HoldsSlot, HoldsRound, IsOfRound, IsOver, KeepsRounds, goes_on, empty_slot}
 use Rattle.nr_linkcommands.specs.RunText.{counted, counted_if, received, received_of, round_counted, run_words}
 use Rattle.nr_linkcommands.specs.RunLines.{outcome_line, process_words}
@@ -28,7 +28,7 @@ use Rattle.nr_linkcommands.proofs.RunLines.{has_received, received-few}
 use Rattle.nr_linkcommands.proofs.RunOutcomes.{outcome_line-some}
 
 -- the sender of a block that there is
-pub sender-there : (senders : List Sending) (x : Transmission) (number : ℕ) (sender : Sending) → x.block ≡ number → number - 1 < length senders → sender ≡ get_or senders (number - 1) sender → sender_of senders x ≡ Some sender
+pub sender-there : (senders : List SenderView) (x : Transmission) (number : ℕ) (sender : SenderView) → x.block ≡ number → number - 1 < length senders → sender ≡ get_or senders (number - 1) sender → sender_of senders x ≡ Some sender
 sender-there senders x number sender is within at =
     ap (λ n. slice_get senders (n - 1)) is ∙ slice_get-get_or senders (number - 1) sender within ∙ ap Some (sym at)
 
@@ -83,41 +83,41 @@ round-named n number p before is all =
     let named = block-named n number (round_of p before) is (round-all (HasBlock n) p before all) in
     (named.0, omega (arith, named.0, named.1))
 
-pub round-held : (senders : List Sending) (number : ℕ) (sender : Sending) (round : List Transmission) (slot : Slot) → Some number ≡ option_map (λ x. x.block) (slice_get round 0) → number - 1 < length senders → sender ≡ get_or senders (number - 1) sender → HoldsRound false senders round slot → HoldsSummary sender.link (received sender round) slot.summary
+pub round-held : (senders : List SenderView) (number : ℕ) (sender : SenderView) (round : List Transmission) (slot : Slot) → Some number ≡ option_map (λ x. x.block) (slice_get round 0) → number - 1 < length senders → sender ≡ get_or senders (number - 1) sender → HoldsRound false senders round slot → HoldsSummary sender.link (received sender round) slot.summary
 round-held senders number sender [] slot is within at held = absurd (cc)
 round-held senders number sender (x ∷ more) slot is within at held =
     let block : x.block ≡ number = cc in
     let holds : HoldsSlot false sender.link (received sender (x ∷ more)) slot =
-    subst (λ (s : Option Sending). HoldsIf false s (x ∷ more) slot) (sender-there senders x number sender block within at) held in
+    subst (λ (s : Option SenderView). HoldsIf false s (x ∷ more) slot) (sender-there senders x number sender block within at) held in
     holds.1
 
-pub round_lines-some : (senders : List Sending) (p number : ℕ) (sender : Sending) (round : List Transmission) → Some number ≡ option_map (λ x. x.block) (slice_get round 0) → number - 1 < length senders → sender ≡ get_or senders (number - 1) sender → round_lines run_words senders p round ≡ process_words p ++ outcome_line number sender.link (received sender round)
+pub round_lines-some : (senders : List SenderView) (p number : ℕ) (sender : SenderView) (round : List Transmission) → Some number ≡ option_map (λ x. x.block) (slice_get round 0) → number - 1 < length senders → sender ≡ get_or senders (number - 1) sender → round_lines run_words senders p round ≡ process_words p ++ outcome_line number sender.link (received sender round)
 round_lines-some senders p number sender [] is within at = absurd (cc)
 round_lines-some senders p number sender (x ∷ more) is within at =
     let block : x.block ≡ number = cc in
-    ap (λ (s : Option Sending). ended_if run_words p x.block s (x ∷ more)) (sender-there senders x number sender block within at)
+    ap (λ (s : Option SenderView). ended_if run_words p x.block s (x ∷ more)) (sender-there senders x number sender block within at)
     ∙ ap (λ n. process_words p ++ outcome_line n sender.link (received sender (x ∷ more))) block
 
-pub round_lines-long : (senders : List Sending) (p number : ℕ) (sender : Sending) (round : List Transmission) → Some number ≡ option_map (λ x. x.block) (slice_get round 0) → number - 1 < length senders → sender ≡ get_or senders (number - 1) sender → 0 < length (round_lines run_words senders p round)
+pub round_lines-long : (senders : List SenderView) (p number : ℕ) (sender : SenderView) (round : List Transmission) → Some number ≡ option_map (λ x. x.block) (slice_get round 0) → number - 1 < length senders → sender ≡ get_or senders (number - 1) sender → 0 < length (round_lines run_words senders p round)
 round_lines-long senders p number sender round is within at =
     let line : List ℕ = outcome_line number sender.link (received sender round) in
     omega (arith, ap length (round_lines-some senders p number sender round is within at), length-append (process_words p) line, outcome_line-some number sender.link (received sender round))
 
-pub round_counted-some : (t : Totals) (senders : List Sending) (number : ℕ) (sender : Sending) (round : List Transmission) → Some number ≡ option_map (λ x. x.block) (slice_get round 0) → number - 1 < length senders → sender ≡ get_or senders (number - 1) sender → round_counted t senders round ≡ counted t sender.link (received sender round)
+pub round_counted-some : (t : Totals) (senders : List SenderView) (number : ℕ) (sender : SenderView) (round : List Transmission) → Some number ≡ option_map (λ x. x.block) (slice_get round 0) → number - 1 < length senders → sender ≡ get_or senders (number - 1) sender → round_counted t senders round ≡ counted t sender.link (received sender round)
 round_counted-some t senders number sender [] is within at = absurd (cc)
 round_counted-some t senders number sender (x ∷ more) is within at =
     let block : x.block ≡ number = cc in
-    ap (λ (s : Option Sending). counted_if t s (x ∷ more)) (sender-there senders x number sender block within at)
+    ap (λ (s : Option SenderView). counted_if t s (x ∷ more)) (sender-there senders x number sender block within at)
 
 -- one that has none is empty
 round-none : (round : List Transmission) → None ≡ option_map (λ x. x.block) (slice_get round 0) → round ≡ []
 round-none [] is = refl
 round-none (x ∷ more) is = absurd (cc)
 
-pub round_lines-none : (senders : List Sending) (p : ℕ) (round : List Transmission) → None ≡ option_map (λ x. x.block) (slice_get round 0) → round_lines run_words senders p round ≡ []
+pub round_lines-none : (senders : List SenderView) (p : ℕ) (round : List Transmission) → None ≡ option_map (λ x. x.block) (slice_get round 0) → round_lines run_words senders p round ≡ []
 round_lines-none senders p round is = ap (round_lines run_words senders p) (round-none round is)
 
-pub round_counted-none : (t : Totals) (senders : List Sending) (round : List Transmission) → None ≡ option_map (λ x. x.block) (slice_get round 0) → round_counted t senders round ≡ t
+pub round_counted-none : (t : Totals) (senders : List SenderView) (round : List Transmission) → None ≡ option_map (λ x. x.block) (slice_get round 0) → round_counted t senders round ≡ t
 round_counted-none t senders round is = ap (round_counted t senders) (round-none round is)
 
 -- a transmission is of the block of the round that it goes on with
@@ -138,13 +138,13 @@ pub goes_on-other : (p : ℕ) (x : Transmission) (later : List Transmission) →
 goes_on-other p x later other = ap (λ b. cond b (not x.fresh) (goes_on p later)) other
 
 -- what is received of the round that a transmission goes on with, by the sender of its block
-holds-by : (senders : List Sending) (round : List Transmission) (x : Transmission) (sender : Sending) (slot : Slot) → sender_of senders x ≡ Some sender → IsOfRound round x → HoldsRound true senders round slot → HoldsSlot true sender.link (received sender round) slot
+holds-by : (senders : List SenderView) (round : List Transmission) (x : Transmission) (sender : SenderView) (slot : Slot) → sender_of senders x ≡ Some sender → IsOfRound round x → HoldsRound true senders round slot → HoldsSlot true sender.link (received sender round) slot
 holds-by senders [] x sender slot there of held = subst (HoldsSlot true sender.link []) (sym held) (refl, refl)
 holds-by senders (y ∷ more) x sender slot there of held =
-    subst (λ (s : Option Sending). HoldsIf true s (y ∷ more) slot) (ap (λ n. slice_get senders (n - 1)) of ∙ there) held
+    subst (λ (s : Option SenderView). HoldsIf true s (y ∷ more) slot) (ap (λ n. slice_get senders (n - 1)) of ∙ there) held
 
 -- where a fresh one forgets what was received
-begun-holds : (senders : List Sending) (before later : List Transmission) (x : Transmission) (old new : Slot) → new ≡ cond x.fresh empty_slot old → HoldsRound (goes_on x.process (x ∷ later)) senders (round_of x.process before) old → HoldsRound true senders (continued before x) new
+begun-holds : (senders : List SenderView) (before later : List Transmission) (x : Transmission) (old new : Slot) → new ≡ cond x.fresh empty_slot old → HoldsRound (goes_on x.process (x ∷ later)) senders (round_of x.process before) old → HoldsRound true senders (continued before x) new
 begun-holds senders before later x old new is held =
     go x.fresh is (subst (λ b. HoldsRound b senders (round_of x.process before) old) (goes_on-turn x later) held)
   where
@@ -152,13 +152,13 @@ begun-holds senders before later x old new is held =
     go true none holds = none
     go false same holds = subst (HoldsRound true senders (round_of x.process before)) (sym same) holds
 
-pub made-held : (senders : List Sending) (before later : List Transmission) (ended : List (List Transmission)) (x : Transmission) (sender : Sending) (slots : List Slot) (totals : Totals) (old new : Slot)
+pub made-held : (senders : List SenderView) (before later : List Transmission) (ended : List (List Transmission)) (x : Transmission) (sender : SenderView) (slots : List Slot) (totals : Totals) (old new : Slot)
     → KeepsRounds senders before (x ∷ later) ended slots totals → IsOfRound (continued before x) x → x.process < length slots → old ≡ get_or slots x.process old → new ≡ cond x.fresh empty_slot old → sender_of senders x ≡ Some sender → HoldsSlot true sender.link (received sender (continued before x)) new
 made-held senders before later ended x sender slots totals old new keeps of inside at is there =
     holds-by senders (continued before x) x sender new there of (begun-holds senders before later x old new is (holds-round senders before (x ∷ later) slots x.process old inside at keeps.held))
 
 -- it is no more than the transmissions before
-pub continued-room : (sender : Sending) (before : List Transmission) (n : ℕ) (x : Transmission) (state : Option RxState) → length before ≤ n → HoldsState sender.link (received sender (continued before x)) state → HasReceived n state
+pub continued-room : (sender : SenderView) (before : List Transmission) (n : ℕ) (x : Transmission) (state : Option RxState) → length before ≤ n → HoldsState sender.link (received sender (continued before x)) state → HasReceived n state
 continued-room sender before n x state few held =
     has_received sender.link (received sender (continued before x)) n state held
     (omega (arith, few, received-few sender (continued before x), continued-few before x))
@@ -169,21 +169,21 @@ held-over link list None held = tt
 held-over link list (Some state) held = held.same_link
 
 -- and with the transmission
-holds-more : (goes : Bool) (senders : List Sending) (round : List Transmission) (x : Transmission) (sender : Sending) (slot : Slot) → sender_of senders x ≡ Some sender → IsOfRound round x → HoldsSlot goes sender.link (received sender round ++ received_of sender x) slot → HoldsRound goes senders (round ++ x ∷ []) slot
+holds-more : (goes : Bool) (senders : List SenderView) (round : List Transmission) (x : Transmission) (sender : SenderView) (slot : Slot) → sender_of senders x ≡ Some sender → IsOfRound round x → HoldsSlot goes sender.link (received sender round ++ received_of sender x) slot → HoldsRound goes senders (round ++ x ∷ []) slot
 holds-more goes senders [] x sender slot there of holds =
-    subst (λ (s : Option Sending). HoldsIf goes s (x ∷ []) slot) (sym there)
+    subst (λ (s : Option SenderView). HoldsIf goes s (x ∷ []) slot) (sym there)
     (subst (λ list. HoldsSlot goes sender.link list slot) (sym (received-more sender [] x)) holds)
 holds-more goes senders (y ∷ more) x sender slot there of holds =
-    subst (λ (s : Option Sending). HoldsIf goes s (y ∷ more ++ x ∷ []) slot) (sym (ap (λ n. slice_get senders (n - 1)) of ∙ there))
+    subst (λ (s : Option SenderView). HoldsIf goes s (y ∷ more ++ x ∷ []) slot) (sym (ap (λ n. slice_get senders (n - 1)) of ∙ there))
     (subst (λ list. HoldsSlot goes sender.link list slot) (sym (received-more sender (y ∷ more) x)) holds)
 
 -- before any transmission no slot has received anything
-pub rounds-first : (senders : List Sending) (later : List Transmission) (n : ℕ) → HoldRounds senders [] later (replicate n empty_slot)
+pub rounds-first : (senders : List SenderView) (later : List Transmission) (n : ℕ) → HoldRounds senders [] later (replicate n empty_slot)
 unfolding since_fresh
 rounds-first senders later n = λ p within. get_or-replicate n p empty_slot empty_slot (omega (arith, within, length-replicate {A = Slot} n empty_slot))
 
 -- after a transmission more
-pub rounds-more : (senders : List Sending) (before later : List Transmission) (x : Transmission) (sender : Sending) (slots : List Slot) (after : Slot) → IsOfRound (continued before x) x → sender_of senders x ≡ Some sender → x.process < length slots → HoldRounds senders before (x ∷ later) slots
+pub rounds-more : (senders : List SenderView) (before later : List Transmission) (x : Transmission) (sender : SenderView) (slots : List Slot) (after : Slot) → IsOfRound (continued before x) x → sender_of senders x ≡ Some sender → x.process < length slots → HoldRounds senders before (x ∷ later) slots
     → HoldsSlot (goes_on x.process later) sender.link (received sender (continued before x) ++ received_of sender x) after → HoldRounds senders (before ++ x ∷ []) later (set slots x.process after)
 rounds-more senders before later x sender slots after of there inside held holds = λ p low.
     ⊎_elim (same p) (other p low) (cases_eq p x.process)
@@ -206,7 +206,7 @@ rounds-more senders before later x sender slots after of there inside held holds
         (subst (HoldsRound (goes_on p (x ∷ later)) senders (round_of p before)) (sym (get_or-set_other slots x.process p after empty_slot differ)) (held p there_too)))
 
 -- the lines of the transmission at index i: those of the round that it ends, its own, and those behind them
-pub turn-parts : (words : Words) (senders : List Sending) (xs : List Transmission) (i : ℕ) (x : Transmission) → i < length xs → x ≡ get_or xs i x
+pub turn-parts : (words : Words) (senders : List SenderView) (xs : List Transmission) (i : ℕ) (x : Transmission) → i < length xs → x ≡ get_or xs i x
     → pieces_joined (turns words senders (take i xs) (drop i xs)) ≡ cond x.fresh (round_lines words senders x.process (round_of x.process (take i xs))) [] ++ (said_if words (sender_of senders x) (continued (take i xs) x) x ++ pieces_joined (turns words senders (take (i + 1) xs) (drop (i + 1) xs)))
 turn-parts words senders xs i x within is =
     turns-turn words senders xs i x within is

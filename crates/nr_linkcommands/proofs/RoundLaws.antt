@@ -4,7 +4,7 @@ use Rattle.std.specs.Prelude.{◌==◌}
 use Rattle.std.specs.List.{filter, range_with_len}
 use Rattle.std.proofs.lemmas.Bool.Decides.{nat_tests}
 use Rattle.std.proofs.lemmas.List.Elements.{filter-append}
-use Rattle.nr_blockdesk.specs.Sent.{Sending}
+use Rattle.nr_blockdesk.specs.Sent.{SenderView}
 use Rattle.nr_linkcommands.specs.RoundTexts.{LinesAreOwn, Piece, Words, is_about, last_rounds, round_lines, said_if, sender_of, turn_lines, turns}
 use Rattle.nr_files.specs.Rounds.{of_process, round_of, since_fresh}
 use Rattle.nr_files.specs.declared.schedule.Transmission.{Transmission}
@@ -21,12 +21,12 @@ own-own p (x ∷ xs) = go (x.process == p) refl (own-own p xs)
 round-own : (p q : ℕ) (xs : List Transmission) → q ≡ p → round_of q (of_process p xs) ≡ round_of q xs
 round-own p q xs is = ap (λ n. round_of n (of_process p xs)) is ∙ ap since_fresh (own-own p xs) ∙ ap (λ n. round_of n xs) (sym is)
 
-turn-own : (words : Words) (senders : List Sending) (p : ℕ) (before : List Transmission) (x : Transmission) → x.process ≡ p → turn_lines words senders (of_process p before) x ≡ turn_lines words senders before x
+turn-own : (words : Words) (senders : List SenderView) (p : ℕ) (before : List Transmission) (x : Transmission) → x.process ≡ p → turn_lines words senders (of_process p before) x ≡ turn_lines words senders before x
 turn-own words senders p before x is =
     ap (λ round. cond x.fresh (round_lines words senders x.process round) [] ++ said_if words (sender_of senders x) (cond x.fresh [] round) x)
     (round-own p x.process before is)
 
-turns-own : (words : Words) (senders : List Sending) (p : ℕ) (before xs : List Transmission) → filter (is_about p) (turns words senders before xs) ≡ turns words senders (of_process p before) (of_process p xs)
+turns-own : (words : Words) (senders : List SenderView) (p : ℕ) (before xs : List Transmission) → filter (is_about p) (turns words senders before xs) ≡ turns words senders (of_process p before) (of_process p xs)
 unfolding turns
 turns-own words senders p before [] = refl
 turns-own words senders p before (x ∷ xs) =
@@ -44,7 +44,7 @@ turns-own words senders p before (x ∷ xs) =
         (so_far ∙ ap (λ b. turns words senders b (of_process p xs)) (next true is))
     go later false is so_far = so_far ∙ ap (λ b. turns words senders b (of_process p xs)) (next false is)
 
-last-own : (words : Words) (senders : List Sending) (p : ℕ) (schedule : List Transmission) (qs : List ℕ) → filter (is_about p) (map (λ q. (q, round_lines words senders q (round_of q schedule))) qs) ≡ filter (is_about p) (map (λ q. (q, round_lines words senders q (round_of q (of_process p schedule)))) qs)
+last-own : (words : Words) (senders : List SenderView) (p : ℕ) (schedule : List Transmission) (qs : List ℕ) → filter (is_about p) (map (λ q. (q, round_lines words senders q (round_of q schedule))) qs) ≡ filter (is_about p) (map (λ q. (q, round_lines words senders q (round_of q (of_process p schedule)))) qs)
 last-own words senders p schedule [] = refl
 last-own words senders p schedule (q ∷ qs) = go _ _ (q == p) refl (last-own words senders p schedule qs)
   where

@@ -4,7 +4,7 @@ use Rattle.std.specs.Prelude.{◌==◌}
 use Rattle.std.proofs.lemmas.Bool.Decides.{nat_tests}
 use Rattle.std.proofs.lemmas.Grind.{flat_map-append}
 use Rattle.std.proofs.lemmas.List.{append-nil, drop_more, take_more}
-use Rattle.nr_blockdesk.specs.Sent.{Sending}
+use Rattle.nr_blockdesk.specs.Sent.{SenderView}
 use Rattle.nr_linkcommands.specs.RunText.{received, received_of, round_counted, rounds_counted}
 use Rattle.nr_linkcommands.specs.RoundTexts.{Words, pieces_joined, turn_lines, turns}
 use Rattle.nr_files.specs.Rounds.{continued, ended_by, ended_rounds, round_of}
@@ -25,14 +25,14 @@ pub all-behind : {X : Type 0} (n : ℕ) (xs : List X) → take (length xs - n) (
 all-behind n xs = take_all (length xs - n) (drop n xs) (omega (arith, length-drop n xs))
 
 -- the lines of the transmission at index i, and those behind them
-pub turns-turn : (words : Words) (senders : List Sending) (xs : List Transmission) (i : ℕ) (x : Transmission) → i < length xs → x ≡ get_or xs i x
+pub turns-turn : (words : Words) (senders : List SenderView) (xs : List Transmission) (i : ℕ) (x : Transmission) → i < length xs → x ≡ get_or xs i x
     → pieces_joined (turns words senders (take i xs) (drop i xs)) ≡ turn_lines words senders (take i xs) x ++ pieces_joined (turns words senders (take (i + 1) xs) (drop (i + 1) xs))
 unfolding turns
 turns-turn words senders xs i x within is =
     ap (λ ys. pieces_joined (turns words senders (take i xs) ys)) (left-turn xs i x within is)
     ∙ ap (λ before. turn_lines words senders (take i xs) x ++ pieces_joined (turns words senders before (drop (i + 1) xs))) (sym (taken-more xs i x within is))
 
-pub turns-end : (words : Words) (senders : List Sending) (before xs : List Transmission) → xs ≡ [] → pieces_joined (turns words senders before xs) ≡ []
+pub turns-end : (words : Words) (senders : List SenderView) (before xs : List Transmission) → xs ≡ [] → pieces_joined (turns words senders before xs) ≡ []
 unfolding turns
 turns-end words senders before xs is = ap (λ ys. pieces_joined (turns words senders before ys)) is
 
@@ -55,7 +55,7 @@ other-more p before x other =
     ∙ ap (λ b. cond b (cond x.fresh (x ∷ []) (round_of p before ++ x ∷ [])) (round_of p before)) other
 
 -- what is received of a round with a transmission more
-pub received-more : (sender : Sending) (round : List Transmission) (x : Transmission) → received sender (round ++ x ∷ []) ≡ received sender round ++ received_of sender x
+pub received-more : (sender : SenderView) (round : List Transmission) (x : Transmission) → received sender (round ++ x ∷ []) ≡ received sender round ++ received_of sender x
 received-more sender round x =
     flat_map-append (received_of sender) round (x ∷ []) ∙ ap (λ ys. received sender round ++ ys) (append-nil (received_of sender x))
 
@@ -86,11 +86,11 @@ ended-few before (x ∷ xs) =
     omega (arith, ended_by-few before x, ended-few (before ++ x ∷ []) xs, length-append (ended_by before x) (ended_rounds (before ++ x ∷ []) xs))
 
 -- their totals
-counted-append : (t : Totals) (senders : List Sending) (xs ys : List (List Transmission)) → rounds_counted t senders (xs ++ ys) ≡ rounds_counted (rounds_counted t senders xs) senders ys
+counted-append : (t : Totals) (senders : List SenderView) (xs ys : List (List Transmission)) → rounds_counted t senders (xs ++ ys) ≡ rounds_counted (rounds_counted t senders xs) senders ys
 unfolding rounds_counted
 counted-append t senders [] ys = refl
 counted-append t senders (x ∷ xs) ys = counted-append (round_counted t senders x) senders xs ys
 
-pub counted-more : (t : Totals) (senders : List Sending) (ended : List (List Transmission)) (round : List Transmission) → rounds_counted t senders (ended ++ round ∷ []) ≡ round_counted (rounds_counted t senders ended) senders round
+pub counted-more : (t : Totals) (senders : List SenderView) (ended : List (List Transmission)) (round : List Transmission) → rounds_counted t senders (ended ++ round ∷ []) ≡ round_counted (rounds_counted t senders ended) senders round
 unfolding rounds_counted
 counted-more t senders ended round = counted-append t senders ended (round ∷ [])

@@ -8,14 +8,14 @@ use Rattle.std.proofs.lemmas.List.{drop_all, drop_more}
 use Rattle.std.proofs.lemmas.List.FromFn.{get_or-map-range_with_len}
 use Rattle.std.proofs.lemmas.List.Sums.{sum_by-cons}
 use Rattle.std.proofs.lemmas.Bool.Decides.{nat_tests}
-use Rattle.nr_harqbuf.specs.Record.{Heardbits, record_of}
+use Rattle.nr_harqbuf.specs.Record.{HeardBits, record_of}
 use Rattle.nr_segment.specs.Plan.{word_size}
 use Rattle.nr_blockdesk.specs.Explains.{Reception, explains}
 use Rattle.nr_blockdesk.specs.Heard.{heard_of, heard_record, hearings}
 use Rattle.nr_blockdesk.specs.Link.{IsLink, Link}
 use Rattle.nr_blockdesk.specs.Outcome.{Verdict, all_fixed, blocks_of, contradiction, delivered, fixed, left, open_still, outcome_of, verdict_on}
 use Rattle.nr_blockdesk.specs.ReceiverLaws.{NothingIsOpen}
-use Rattle.nr_blockdesk.specs.Sent.{Sending}
+use Rattle.nr_blockdesk.specs.Sent.{SenderView}
 use Rattle.nr_linkcommands.specs.Ends.{IsWithin}
 use Rattle.nr_commands.specs.Hex.{hex}
 use Rattle.nr_linkcommands.specs.RunLines.{contradiction_line, delivered_line, last_line, left_line, open_line, outcome_line, outcome_line_by, unfixed_blocks}
@@ -61,7 +61,7 @@ unfolding outcome_of
 open-unfixed link list is = open-if (all_fixed link (heard_record link list)) (find (explains link list) (blocks_of link.a)) is
 
 -- how many positions of a code block are left, by its record alone
-abbrev left_by : Link → Heardbits → ℕ
+abbrev left_by : Link → HeardBits → ℕ
 left_by link s = count_by (λ p. not (fixed link s p)) (range_with_len 0 link.plan.kdash)
 
 -- with nothing received every code block has the same record
@@ -88,22 +88,22 @@ unfixed-nothing nothing link is =
     unfixed-if link (left_by link (record_of (word_size link.graph link.plan) []) == 0) refl (open-unfixed link [] (nothing link is))
 
 -- the lines of the blocks from index i on: that of the block there, and those behind it
-pub outcome_lines-turn : (senders : List Sending) (schedule : List Transmission) (i : ℕ) (sender : Sending) → i < length senders → sender ≡ get_or senders i sender → outcome_lines (i + 1) (drop i senders) schedule ≡ outcome_line (i + 1) sender.link (received sender (own (i + 1) schedule)) ++ outcome_lines (i + 1 + 1) (drop (i + 1) senders) schedule
+pub outcome_lines-turn : (senders : List SenderView) (schedule : List Transmission) (i : ℕ) (sender : SenderView) → i < length senders → sender ≡ get_or senders i sender → outcome_lines (i + 1) (drop i senders) schedule ≡ outcome_line (i + 1) sender.link (received sender (own (i + 1) schedule)) ++ outcome_lines (i + 1 + 1) (drop (i + 1) senders) schedule
 unfolding outcome_lines
 outcome_lines-turn senders schedule i sender h is =
     ap (λ xs. outcome_lines (i + 1) xs schedule) (drop_more senders i sender h ∙ ap (λ s. s ∷ drop (i + 1) senders) (sym is))
 
-pub outcome_lines-end : (senders : List Sending) (schedule : List Transmission) (i : ℕ) → length senders ≤ i → outcome_lines (i + 1) (drop i senders) schedule ≡ []
+pub outcome_lines-end : (senders : List SenderView) (schedule : List Transmission) (i : ℕ) → length senders ≤ i → outcome_lines (i + 1) (drop i senders) schedule ≡ []
 unfolding outcome_lines
 outcome_lines-end senders schedule i h = ap (λ xs. outcome_lines (i + 1) xs schedule) (drop_all i senders h)
 
 -- the totals likewise
-pub totals-turn : (t : Totals) (senders : List Sending) (schedule : List Transmission) (i : ℕ) (sender : Sending) → i < length senders → sender ≡ get_or senders i sender → totals_from t (i + 1) (drop i senders) schedule ≡ totals_from (counted t sender.link (received sender (own (i + 1) schedule))) (i + 1 + 1) (drop (i + 1) senders) schedule
+pub totals-turn : (t : Totals) (senders : List SenderView) (schedule : List Transmission) (i : ℕ) (sender : SenderView) → i < length senders → sender ≡ get_or senders i sender → totals_from t (i + 1) (drop i senders) schedule ≡ totals_from (counted t sender.link (received sender (own (i + 1) schedule))) (i + 1 + 1) (drop (i + 1) senders) schedule
 unfolding totals_from
 totals-turn t senders schedule i sender h is =
     ap (λ xs. totals_from t (i + 1) xs schedule) (drop_more senders i sender h ∙ ap (λ s. s ∷ drop (i + 1) senders) (sym is))
 
-pub totals-end : (t : Totals) (senders : List Sending) (schedule : List Transmission) (i : ℕ) → length senders ≤ i → totals_from t (i + 1) (drop i senders) schedule ≡ t
+pub totals-end : (t : Totals) (senders : List SenderView) (schedule : List Transmission) (i : ℕ) → length senders ≤ i → totals_from t (i + 1) (drop i senders) schedule ≡ t
 unfolding totals_from
 totals-end t senders schedule i h = ap (λ xs. totals_from t (i + 1) xs schedule) (drop_all i senders h)
 
@@ -153,7 +153,7 @@ within-more n m t more is = record {
 }
 
 -- what a run says after all transmissions is not empty, and so its text is not
-run_ends-some : (b : Bool) (senders : List Sending) (schedule : List Transmission) → 0 < length (run_ends b senders schedule)
+run_ends-some : (b : Bool) (senders : List SenderView) (schedule : List Transmission) → 0 < length (run_ends b senders schedule)
 run_ends-some true senders schedule =
     let last : List ℕ = last_line (codes "rounds") (rounds_counted no_totals senders (all_rounds schedule)) in
     let some : 0 < length last = last_line-some (codes "rounds") (rounds_counted no_totals senders (all_rounds schedule)) in
@@ -163,7 +163,7 @@ run_ends-some false senders schedule =
     let some : 0 < length last = last_line-some (codes "blocks") (totals_from no_totals 1 senders schedule) in
     omega (arith, some, length-append (outcome_lines 1 senders schedule) last)
 
-pub text_of_run-some : (senders : List Sending) (schedule : Timetable) → 0 < length (text_of_run senders schedule)
+pub text_of_run-some : (senders : List SenderView) (schedule : Timetable) → 0 < length (text_of_run senders schedule)
 text_of_run-some senders schedule =
     let some : 0 < length (run_ends schedule.by_process senders schedule.transmissions) = run_ends-some schedule.by_process senders schedule.transmissions in
     omega (arith, some, length-append (pieces_joined (turns run_words senders [] schedule.transmissions)) (run_ends schedule.by_process senders schedule.transmissions))

@@ -8,7 +8,7 @@ use Rattle.nr_refusal.specs.Refusal.{◌>>=◌, with_fault}
 use Rattle.nr_shifttable.specs.Accepted.{Entries}
 use Rattle.nr_blockdesk.specs.Link.{IsBlock, IsLink, Link, LinksAreSound, link_said}
 use Rattle.nr_blockdesk.specs.ReceiverLaws.{DeliveredIsOnly, ExplainedIsDelivered, ExplainedNeverContradicts}
-use Rattle.nr_blockdesk.specs.Sent.{AcceptedSendAll, Sending, sending_said}
+use Rattle.nr_blockdesk.specs.Sent.{AcceptedSendAll, SenderView, sending_said}
 use Rattle.nr_transmission.specs.declared.fault.DeskFault.{DeskFault}
 use Rattle.nr_transmission.specs.declared.settings.Settings.{Settings}
 use Rattle.nr_linkcommands.specs.Inputs.{sender_said, senders_from}
@@ -21,13 +21,13 @@ use Rattle.nr_files.proofs.Refusals.{holds_then, of_ok}
 use Rattle.nr_linkcommands.proofs.RunInputs.{link-sized}
 
 -- the link that a sender was said for
-link-of : (sender : Sending) (block : List Bool) (r : Result Link DeskFault) → (r >>= λ link. Ok (record { link = link; block = block })) ≡ Ok sender → (r ≡ Ok sender.link) × (sender.block ≡ block)
+link-of : (sender : SenderView) (block : List Bool) (r : Result Link DeskFault) → (r >>= λ link. Ok (record { link = link; block = block })) ≡ Ok sender → (r ≡ Ok sender.link) × (sender.block ≡ block)
 link-of sender block (Ok link) is =
     let same : record { link = link; block = block } ≡ sender = cc in
-    (ap (λ (s : Sending). Ok s.link) same, ap (λ (s : Sending). s.block) (sym same))
+    (ap (λ (s : SenderView). Ok s.link) same, ap (λ (s : SenderView). s.block) (sym same))
 link-of sender block (Err e) is = absurd (cc)
 
-pub sender-linked : (table : Entries) (settings : Settings) (sender : Sending) → sending_said table settings sender.block ≡ Ok sender → link_said table settings (length sender.block) ≡ Ok sender.link
+pub sender-linked : (table : Entries) (settings : Settings) (sender : SenderView) → sending_said table settings sender.block ≡ Ok sender → link_said table settings (length sender.block) ≡ Ok sender.link
 sender-linked table settings sender said = (link-of sender sender.block (link_said table settings (length sender.block)) said).0
 
 pub erasures_alone : LinksAreSound → AcceptedSendAll → DeliveredIsOnly → ExplainedIsDelivered → ExplainedNeverContradicts → ErasuresAloneAreSafe
@@ -80,18 +80,18 @@ rounds-some P schedule all =
     (each-of (λ p. All P (round_of p schedule)) (range_with_len 0 16) (λ p. round-some P p schedule all)))
 
 -- each sender is what is said of its block
-sender-own : (table : Entries) (settings : Settings) (n : ℕ) (octets : List ℕ) (sender : Sending) (r : Result Link DeskFault) → link_said table settings (length (bits_of octets)) ≡ r → with_fault (Desk n) (r >>= λ link. Ok (record { link = link; block = bits_of octets })) ≡ Ok sender → sending_said table settings sender.block ≡ Ok sender
+sender-own : (table : Entries) (settings : Settings) (n : ℕ) (octets : List ℕ) (sender : SenderView) (r : Result Link DeskFault) → link_said table settings (length (bits_of octets)) ≡ r → with_fault (Desk n) (r >>= λ link. Ok (record { link = link; block = bits_of octets })) ≡ Ok sender → sending_said table settings sender.block ≡ Ok sender
 sender-own table settings n octets sender (Ok link) said is =
     let same : record { link = link; block = bits_of octets } ≡ sender = cc in
-    subst (λ (s : Sending). sending_said table settings s.block ≡ Ok s) same
+    subst (λ (s : SenderView). sending_said table settings s.block ≡ Ok s) same
     (ap (λ (r : Result Link DeskFault). r >>= λ l. Ok (record { link = l; block = bits_of octets })) said)
 sender-own table settings n octets sender (Err e) said is = absurd (cc)
 
-pub senders-own : (table : Entries) (settings : Settings) (n : ℕ) (blocks : List (List ℕ)) → IfOk (senders_from table settings n blocks) (All (λ (sender : Sending). sending_said table settings sender.block ≡ Ok sender))
+pub senders-own : (table : Entries) (settings : Settings) (n : ℕ) (blocks : List (List ℕ)) → IfOk (senders_from table settings n blocks) (All (λ (sender : SenderView). sending_said table settings sender.block ≡ Ok sender))
 unfolding senders_from
-senders-own table settings n [] = All-nil (λ (sender : Sending). sending_said table settings sender.block ≡ Ok sender)
+senders-own table settings n [] = All-nil (λ (sender : SenderView). sending_said table settings sender.block ≡ Ok sender)
 senders-own table settings n (octets ∷ blocks) =
-    let own : Sending → Type 0 = λ (sender : Sending). sending_said table settings sender.block ≡ Ok sender in
+    let own : SenderView → Type 0 = λ (sender : SenderView). sending_said table settings sender.block ≡ Ok sender in
     holds_then (All own) (sender_said table settings n octets) _
     (λ sender is. holds_then (All own) (senders_from table settings (n + 1) blocks) _
     (λ more are. All-cons own sender more (sender-own table settings n octets sender (link_said table settings (length (bits_of octets))) refl is)
@@ -99,10 +99,10 @@ senders-own table settings n (octets ∷ blocks) =
 
 pub runs_safe : ErasuresAloneAreSafe → RunsAreSafe
 runs_safe safe table settings blocks senders schedule is_table said steady =
-    All-weaker (λ (sender : Sending). sending_said table settings sender.block ≡ Ok sender) (IsSafeRun schedule) run senders
-    (of_ok (All (λ (sender : Sending). sending_said table settings sender.block ≡ Ok sender)) (senders_from table settings 1 blocks) senders said (senders-own table settings 1 blocks))
+    All-weaker (λ (sender : SenderView). sending_said table settings sender.block ≡ Ok sender) (IsSafeRun schedule) run senders
+    (of_ok (All (λ (sender : SenderView). sending_said table settings sender.block ≡ Ok sender)) (senders_from table settings 1 blocks) senders said (senders-own table settings 1 blocks))
   where
-    run : (sender : Sending) → sending_said table settings sender.block ≡ Ok sender → IsSafeRun schedule sender
+    run : (sender : SenderView) → sending_said table settings sender.block ≡ Ok sender → IsSafeRun schedule sender
     run sender is = record {
       blocks = λ n. safe table settings sender _ is_table is (All-filter (λ x. x.block == n) OnlyErases schedule steady);
       rounds = All-weaker (All OnlyErases) (IsSafelyReceived sender)

@@ -6,7 +6,7 @@ use Rattle.std.specs.Fmt.{decimal}
 use Rattle.nr_commands.specs.Hex.{hex}
 use Rattle.nr_linkcommands.specs.SendLines.{answer_line, refusal_name, refused_line, sent_line}
 use Rattle.nr_linkcommands.specs.SendText.{line_by, transmission_line}
-use Rattle.nr_blockdesk.specs.Sent.{Sending, sent_said}
+use Rattle.nr_blockdesk.specs.Sent.{SenderView, sent_said}
 use Rattle.nr_transmission.specs.declared.fault.DeskFault.{DeskFault}
 use Rattle.nr_files.specs.declared.schedule.Transmission.{Transmission}
 use Rattle.nr_commands.proofs.WrittenLemmas.{some_at_end}
@@ -21,7 +21,7 @@ lines-parts line xs i x none within is =
     ∙ sym (append_assoc (flat_map line (take i xs)) (line x) (flat_map line (drop (i + 1) xs)))
 
 -- the line of a transmission by the sender of its block
-pub transmission_line-at : (senders : List Sending) (x : Transmission) (sender : Sending) → slice_get senders (x.block - 1) ≡ Some sender → transmission_line senders x ≡ answer_line x.number x.block (sent_said sender.link x.tx sender.block)
+pub transmission_line-at : (senders : List SenderView) (x : Transmission) (sender : SenderView) → slice_get senders (x.block - 1) ≡ Some sender → transmission_line senders x ≡ answer_line x.number x.block (sent_said sender.link x.tx sender.block)
 unfolding transmission_line
 transmission_line-at senders x sender is = ap (λ o. line_by o x) is
 

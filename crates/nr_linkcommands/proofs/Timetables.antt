@@ -6,7 +6,7 @@ use Rattle.std.proofs.lemmas.Bool.Decides.{nat_tests}
 use Rattle.std.proofs.lemmas.Grind.{get_or_after_one}
 use Rattle.std.proofs.lemmas.List.Elements.{All-get_or, All-head, All-take, filter_passes}
 use Rattle.std.proofs.lemmas.Option.{slice_get-get_or}
-use Rattle.nr_blockdesk.specs.Sent.{Sending}
+use Rattle.nr_blockdesk.specs.Sent.{SenderView}
 use Rattle.nr_linkcommands.specs.Ends.{AllHold, AreOfRounds, HoldRounds, HoldsIf, HoldsSlot, HoldsRound, IsOfRound, empty_slot}
 use Rattle.nr_files.specs.Rounds.{IsOfBlock, round_of}
 use Rattle.nr_linkcommands.specs.RunText.{own, received}
@@ -55,15 +55,15 @@ placed-in b n slots xs placed named count = λ k d within. one b (get_or xs k d)
     one false x alone there is = omega (arith, alone.process, there.1, is)
 
 -- a slot that holds a round of transmissions of one block
-round-holds : (senders : List Sending) (n : ℕ) (sender : Sending) (round : List Transmission) (slot : Slot) → slice_get senders (n - 1) ≡ Some sender → All (λ (y : Transmission). (y.block == n) ≡ true) round → HoldsRound false senders round slot → HoldsSlot false sender.link (received sender round) slot
+round-holds : (senders : List SenderView) (n : ℕ) (sender : SenderView) (round : List Transmission) (slot : Slot) → slice_get senders (n - 1) ≡ Some sender → All (λ (y : Transmission). (y.block == n) ≡ true) round → HoldsRound false senders round slot → HoldsSlot false sender.link (received sender round) slot
 round-holds senders n sender [] slot there all holds = subst (HoldsSlot false sender.link []) (sym holds) (refl, refl)
 round-holds senders n sender (y ∷ more) slot there all holds =
     let first : (y.block == n) ≡ true = All-head (λ (z : Transmission). (z.block == n) ≡ true) y more all in
     let number : y.block ≡ n = grind (arith, nat_tests) in
-    subst (λ (o : Option Sending). HoldsIf false o (y ∷ more) slot) (ap (λ k. slice_get senders (k - 1)) number ∙ there) holds
+    subst (λ (o : Option SenderView). HoldsIf false o (y ∷ more) slot) (ap (λ k. slice_get senders (k - 1)) number ∙ there) holds
 
 -- where no processes are named, slot i + 1 has received the transmissions of block i + 1
-pub blocks-hold : (senders : List Sending) (schedule : List Transmission) (slots : List Slot) → All IsOfBlock schedule → length slots ≡ length senders + 1 → HoldRounds senders schedule [] slots → AllHold senders schedule (take (length slots - 1) (drop 1 slots))
+pub blocks-hold : (senders : List SenderView) (schedule : List Transmission) (slots : List Slot) → All IsOfBlock schedule → length slots ≡ length senders + 1 → HoldRounds senders schedule [] slots → AllHold senders schedule (take (length slots - 1) (drop 1 slots))
 blocks-hold senders schedule slots all long held = subst (AllHold senders schedule) (sym (all-behind 1 slots)) each
   where
     each : AllHold senders schedule (drop 1 slots)

@@ -3,7 +3,7 @@ use Rattle.std.specs.Prelude.{List, [], codes, count_by, filter, flat_map, if◌
 use Rattle.std.specs.Fmt.{decimal}
 use Rattle.std.specs.List.{range_with_len}
 use Rattle.nr_bitvec.specs.Bit.{bit}
-use Rattle.nr_harqbuf.specs.Record.{Heardbits}
+use Rattle.nr_harqbuf.specs.Record.{HeardBits}
 use Rattle.nr_segment.specs.Plan.{word_size}
 use Rattle.nr_peel.specs.Peeling.{Peeling}
 use Rattle.nr_blockdesk.specs.Heard.{heard_of}
@@ -11,12 +11,12 @@ use Rattle.nr_blockdesk.specs.Link.{Link}
 use Rattle.nr_blockdesk.specs.Outcome.{fixed, given, left}
 
 -- how many positions of a code block peeling fixed: those that are fixed, but neither received nor fillers
-abbrev pub steps_of : Link → Heardbits → ℕ
+abbrev pub steps_of : Link → HeardBits → ℕ
 steps_of link s =
     count_by (λ p. fixed link s p && not (given link s p)) (range_with_len 0 (word_size link.graph link.plan))
 
 -- the positions that are not fixed, ascending
-abbrev pub unfixed : Link → Heardbits → List ℕ
+abbrev pub unfixed : Link → HeardBits → List ℕ
 unfixed link s = filter (λ p. not (fixed link s p)) (range_with_len 0 (word_size link.graph link.plan))
 
 -- how many positions a peeler knows that it was not given
@@ -40,11 +40,11 @@ stuck_line n r positions =
 
 -- The line of code block r of block n by the record of what was received. It is fixed where no position below K' is
 -- left.
-unfoldable pub audit_line : ℕ → Link → List Heardbits → ℕ → List ℕ
+unfoldable pub audit_line : ℕ → Link → List HeardBits → ℕ → List ℕ
 audit_line n link records r =
     if left link records r == 0 then order_line n r (steps_of link (heard_of records r))
     else stuck_line n r (unfixed link (heard_of records r))
 
 -- the lines of block n's code blocks, each behind these words
-abbrev pub audit_block : List ℕ → ℕ → Link → List Heardbits → List ℕ
+abbrev pub audit_block : List ℕ → ℕ → Link → List HeardBits → List ℕ
 audit_block head n link records = flat_map (λ r. head ++ audit_line n link records r) (range_with_len 0 link.plan.c)

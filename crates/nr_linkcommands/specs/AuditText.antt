@@ -2,8 +2,8 @@
 use Rattle.std.specs.Prelude.{Bool, List, Result, [], false, true, ℕ, ◌++◌, ◌+◌, ◌∷◌, ◌≡◌}
 use Rattle.nr_blockdesk.specs.Explains.{Reception}
 use Rattle.nr_blockdesk.specs.Heard.{IsRecordOf, heard_record}
-use Rattle.nr_blockdesk.specs.Receiving.{Receiving}
-use Rattle.nr_blockdesk.specs.Sent.{Sending}
+use Rattle.nr_blockdesk.specs.Receiving.{ReceiverView}
+use Rattle.nr_blockdesk.specs.Sent.{SenderView}
 use Rattle.nr_linkcommands.specs.RunText.{own, received}
 use Rattle.nr_files.specs.declared.schedule.Transmission.{Transmission}
 use Rattle.nr_linkcommands.specs.AuditLines.{audit_block}
@@ -14,16 +14,16 @@ use Rattle.nr_commands.specs.declared.fault.RunFault.{RunFault}
 use Rattle.nr_linkcommands.specs.RunLines.{process_words}
 
 -- the lines of block n's code blocks after the transmissions of a schedule
-abbrev pub audit_of : List Transmission → ℕ → Sending → List ℕ
+abbrev pub audit_of : List Transmission → ℕ → SenderView → List ℕ
 audit_of schedule n sender = audit_block [] n sender.link (heard_record sender.link (received sender (own n schedule)))
 
 -- the lines of the blocks from block n on, each with its sender
-unfoldable pub audit_lines : List Transmission → ℕ → List Sending → List ℕ
+unfoldable pub audit_lines : List Transmission → ℕ → List SenderView → List ℕ
 audit_lines schedule n [] = []
 audit_lines schedule n (sender ∷ senders) = audit_of schedule n sender ++ audit_lines schedule (n + 1) senders
 
 -- a receiver of a sender's transport block has received this list
-pub record HasHeard (sender : Sending) (list : List Reception) (receiver : Receiving) : Type 0 where
+pub record HasHeard (sender : SenderView) (list : List Reception) (receiver : ReceiverView) : Type 0 where
   pub link : receiver.link ≡ sender.link
   pub heard : IsRecordOf sender.link list receiver.heard
 
@@ -36,11 +36,11 @@ audit_words = record {
 }
 
 -- the text of an audit: by processes, or by blocks
-abbrev pub audit_by : Bool → List Sending → List Transmission → List ℕ
+abbrev pub audit_by : Bool → List SenderView → List Transmission → List ℕ
 audit_by true senders schedule = pieces_joined (written audit_words senders schedule)
 audit_by false senders schedule = audit_lines schedule 1 senders
 
-abbrev pub text_of_audit : List Sending → Timetable → List ℕ
+abbrev pub text_of_audit : List SenderView → Timetable → List ℕ
 text_of_audit senders schedule = audit_by schedule.by_process senders schedule.transmissions
 
 -- what `audit` says of its four files: its text, or the first refusal

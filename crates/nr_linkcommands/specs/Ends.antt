@@ -5,7 +5,7 @@ use Rattle.nr_blockdesk.specs.Heard.{IsRecordOf, heard_record}
 use Rattle.nr_blockdesk.specs.Link.{Link}
 use Rattle.nr_blockdesk.specs.Outcome.{outcome_of}
 use Rattle.nr_blockdesk.specs.Receiving.{verdict}
-use Rattle.nr_blockdesk.specs.Sent.{Sending}
+use Rattle.nr_blockdesk.specs.Sent.{SenderView}
 use Rattle.nr_linkcommands.specs.RoundTexts.{sender_of}
 use Rattle.nr_files.specs.Rounds.{round_of}
 use Rattle.nr_linkcommands.specs.RunLines.{unfixed_blocks}
@@ -61,19 +61,19 @@ HoldsSlot true link list slot = (HoldsState link list slot.state) × (slot.summa
 HoldsSlot false link list slot = (slot.state ≡ None) × HoldsSummary link list slot.summary
 
 -- of each transport block what its sender's transmissions among these gave is kept, and no receiver is left
-abbrev pub AllHold : List Sending → List Transmission → List Slot → Type 0
-AllHold senders transmissions slots = (i : ℕ) (sender : Sending) → i < length senders
+abbrev pub AllHold : List SenderView → List Transmission → List Slot → Type 0
+AllHold senders transmissions slots = (i : ℕ) (sender : SenderView) → i < length senders
     → sender ≡ slice_index_or senders i sender
     → HoldsSlot false sender.link (received sender (own (i + 1) transmissions)) (slice_index_or slots i empty_slot)
 
 -- a slot has received what a round gave, by the sender of the round's block
-abbrev pub HoldsIf : Bool → Option Sending → List Transmission → Slot → Type 0
+abbrev pub HoldsIf : Bool → Option SenderView → List Transmission → Slot → Type 0
 HoldsIf goes_on None round slot = Unit {0}
 HoldsIf goes_on (Some sender) round slot = HoldsSlot goes_on sender.link (received sender round) slot
 
 -- A slot has received what a round gave, by the block that the round's first transmission names. A slot that is in no
 -- round has received nothing.
-abbrev pub HoldsRound : Bool → List Sending → List Transmission → Slot → Type 0
+abbrev pub HoldsRound : Bool → List SenderView → List Transmission → Slot → Type 0
 HoldsRound goes_on senders [] slot = slot ≡ empty_slot
 HoldsRound goes_on senders (x ∷ more) slot = HoldsIf goes_on (sender_of senders x) (x ∷ more) slot
 
@@ -83,7 +83,7 @@ goes_on p [] = false
 goes_on p (x ∷ more) = if x.process == p then not x.fresh else goes_on p more
 
 -- each slot has received its process's round
-abbrev pub HoldRounds : List Sending → List Transmission → List Transmission → List Slot → Type 0
+abbrev pub HoldRounds : List SenderView → List Transmission → List Transmission → List Slot → Type 0
 HoldRounds senders before later slots = (p : ℕ) → p < length slots
     → HoldsRound (goes_on p later) senders (round_of p before) (slice_index_or slots p empty_slot)
 
@@ -107,7 +107,7 @@ pub record IsWithin (n : ℕ) (t : Totals) : Type 0 where
   pub failed : t.failed ≤ n * 4294967296
 
 -- A run's slots after these transmissions and before those later, and its totals of the rounds that ended.
-pub record KeepsRounds (senders : List Sending) (before later : List Transmission) (ended : List (List Transmission)) (slots : List Slot) (totals : Totals) : Type 0 where
+pub record KeepsRounds (senders : List SenderView) (before later : List Transmission) (ended : List (List Transmission)) (slots : List Slot) (totals : Totals) : Type 0 where
   pub held : HoldRounds senders before later slots
   pub counted : totals ≡ rounds_counted no_totals senders ended
   pub within : IsWithin (length ended) totals

@@ -2,7 +2,7 @@
 use Rattle.std.specs.Prelude.{◌≡◌, ◌≢◌, ℕ, List, Option, Result, Ok, Err, IsErr, IfErr, IfOk}
 use Rattle.nr_refusal.specs.Refusal.{◌>>=◌, FailsAs}
 use Rattle.nr_shifttable.specs.declared.fault.TableFault.TheVariants as table_fault
-use Rattle.nr_blockdesk.specs.Sent.{Sending}
+use Rattle.nr_blockdesk.specs.Sent.{SenderView}
 use Rattle.nr_files.specs.Schedule.{Timetable}
 use Rattle.nr_files.specs.declared.blocks.BlocksFault.TheVariants as blocks_fault
 use Rattle.nr_files.specs.declared.schedule.ScheduleFault.TheVariants as schedule_fault
@@ -14,7 +14,7 @@ use Rattle.nr_linkcommands.specs.Inputs.{HaveNoFault, IsFirst, IsFoundIn, Leaves
 
 -- what a command says of its four files: the text of a sender for each transport block and of the schedule, or the first
 -- refusal
-unfoldable pub said_over : (List Sending → Timetable → List ℕ) → List ℕ → List ℕ → List ℕ → List ℕ → Result (List ℕ) RunFault
+unfoldable pub said_over : (List SenderView → Timetable → List ℕ) → List ℕ → List ℕ → List ℕ → List ℕ → Result (List ℕ) RunFault
 said_over text table settings blocks schedule = do
   inputs ← inputs_said table settings blocks schedule
   Ok (text inputs.senders inputs.schedule)

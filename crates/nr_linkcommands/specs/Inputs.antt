@@ -6,7 +6,7 @@ use Rattle.nr_shifttable.specs.Accepted.{Entries, table_said}
 use Rattle.nr_files.specs.Blocks.{blocks_said}
 use Rattle.nr_files.specs.Schedule.{Timetable, schedule_said, timetable_by}
 use Rattle.nr_files.specs.Settings.{settings_said}
-use Rattle.nr_blockdesk.specs.Sent.{Sending, sending_said}
+use Rattle.nr_blockdesk.specs.Sent.{SenderView, sending_said}
 use Rattle.nr_transmission.specs.declared.settings.Settings.{Settings}
 use Rattle.nr_files.specs.declared.blocks.BlocksFault.TheVariants as blocks_fault
 use Rattle.nr_linkcommands.specs.declared.four_files.Inputs.{Inputs}
@@ -43,11 +43,11 @@ files_said table_file settings_file blocks_file schedule_file = do
   Ok (record { table = table; settings = settings; blocks = blocks; schedule = schedule })
 
 -- the sender of transport block n, or why that block is refused
-abbrev pub sender_said : Entries → Settings → ℕ → List ℕ → Result Sending RunFault
+abbrev pub sender_said : Entries → Settings → ℕ → List ℕ → Result SenderView RunFault
 sender_said table settings n octets = with_fault (faults.Desk n) (sending_said table settings (bits_of octets))
 
 -- a sender for each transport block from block n on, or the first fault
-unfoldable pub senders_from : Entries → Settings → ℕ → List (List ℕ) → Result (List Sending) RunFault
+unfoldable pub senders_from : Entries → Settings → ℕ → List (List ℕ) → Result (List SenderView) RunFault
 senders_from table settings n [] = Ok []
 senders_from table settings n (octets ∷ blocks) = do
   sender ← sender_said table settings n octets
@@ -56,7 +56,7 @@ senders_from table settings n (octets ∷ blocks) = do
 
 -- a sender for each transport block, and the schedule
 pub record Ready : Type 0 where
-  pub senders : List Sending
+  pub senders : List SenderView
   pub schedule : Timetable
 
 -- what a command over a schedule works from, or the first fault: that of a file, or of a transport block

@@ -2,7 +2,7 @@
 use Rattle.std.specs.Prelude.{Bool, List, [], codes, count_by, flat_map, length, not, ℕ, ◌++◌, ◌==◌, ◌∷◌}
 use Rattle.std.specs.Fmt.{decimal}
 use Rattle.std.specs.List.{range_with_len}
-use Rattle.nr_harqbuf.specs.Record.{Heardbits}
+use Rattle.nr_harqbuf.specs.Record.{HeardBits}
 use Rattle.nr_blockdesk.specs.Explains.{Reception}
 use Rattle.nr_blockdesk.specs.Heard.{heard_record}
 use Rattle.nr_blockdesk.specs.Link.{Link}
@@ -16,12 +16,12 @@ left_line t n r count =
     codes "left " ++ decimal t ++ codes " " ++ decimal n ++ codes " " ++ decimal r ++ codes " " ++ decimal count ++ 10 ∷ []
 
 -- the lines of the code blocks, by what was received of them
-abbrev pub left_lines : ℕ → ℕ → Link → List Heardbits → List ℕ
+abbrev pub left_lines : ℕ → ℕ → Link → List HeardBits → List ℕ
 left_lines t n link records =
     flat_map (λ r. left_line t n r (left link records r)) (range_with_len 0 link.plan.c)
 
 -- how many code blocks have a position below K' that is not fixed
-unfoldable pub unfixed_blocks : Link → List Heardbits → ℕ
+unfoldable pub unfixed_blocks : Link → List HeardBits → ℕ
 unfixed_blocks link records = count_by (λ r. not (left link records r == 0)) (range_with_len 0 link.plan.c)
 
 -- the line of block n of c code blocks after tx transmissions: it is delivered

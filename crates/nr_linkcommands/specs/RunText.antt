@@ -6,7 +6,7 @@ use Rattle.nr_blockdesk.specs.Explains.{Reception, reception}
 use Rattle.nr_blockdesk.specs.Heard.{heard_record}
 use Rattle.nr_blockdesk.specs.Link.{Link}
 use Rattle.nr_blockdesk.specs.Outcome.{Verdict, contradiction, delivered, open_still, outcome_of}
-use Rattle.nr_blockdesk.specs.Sent.{Sending, sent_said}
+use Rattle.nr_blockdesk.specs.Sent.{SenderView, sent_said}
 use Rattle.nr_transmission.specs.declared.fault.DeskFault.{DeskFault}
 use Rattle.nr_linkcommands.specs.Hearing.{heard_through}
 use Rattle.nr_linkcommands.specs.SendLines.{refused_line, sent_line}
@@ -29,11 +29,11 @@ received_if x (Ok bits) = reception x.tx (heard_through x bits) ∷ []
 received_if x (Err e) = []
 
 -- what is received of a transmission
-abbrev pub received_of : Sending → Transmission → List Reception
+abbrev pub received_of : SenderView → Transmission → List Reception
 received_of sender x = received_if x (sent_said sender.link x.tx sender.block)
 
 -- what is received of a transport block's transmissions
-abbrev pub received : Sending → List Transmission → List Reception
+abbrev pub received : SenderView → List Transmission → List Reception
 received sender transmissions = flat_map (received_of sender) transmissions
 
 -- the lines of a transmission by what its sender says, where this is all that was received of its block by then
@@ -43,12 +43,12 @@ lines_if x link list (Ok bits) =
 lines_if x link list (Err e) = refused_line x.number x.block e
 
 -- the lines of a transmission by the sender of its block, and by what was received of that block before
-unfoldable pub lines_of : Sending → List Reception → Transmission → List ℕ
+unfoldable pub lines_of : SenderView → List Reception → Transmission → List ℕ
 lines_of sender list x =
     lines_if x sender.link (list ++ received_of sender x) (sent_said sender.link x.tx sender.block)
 
 -- the lines of the blocks from block n on, after the whole schedule
-unfoldable pub outcome_lines : ℕ → List Sending → List Transmission → List ℕ
+unfoldable pub outcome_lines : ℕ → List SenderView → List Transmission → List ℕ
 outcome_lines n [] schedule = []
 outcome_lines n (sender ∷ senders) schedule =
     outcome_line n sender.link (received sender (own n schedule)) ++ outcome_lines (n + 1) senders schedule
@@ -82,7 +82,7 @@ abbrev pub counted : Totals → Link → List Reception → Totals
 counted t link list = counted_by t link list (outcome_of link list)
 
 -- the totals with the blocks from block n on
-unfoldable pub totals_from : Totals → ℕ → List Sending → List Transmission → Totals
+unfoldable pub totals_from : Totals → ℕ → List SenderView → List Transmission → Totals
 totals_from t n [] schedule = t
 totals_from t n (sender ∷ senders) schedule =
     totals_from (counted t sender.link (received sender (own n schedule))) (n + 1) senders schedule
@@ -99,22 +99,22 @@ run_words = record {
 }
 
 -- the totals with a round more, where its block has a sender
-abbrev pub counted_if : Totals → Option Sending → List Transmission → Totals
+abbrev pub counted_if : Totals → Option SenderView → List Transmission → Totals
 counted_if t None round = t
 counted_if t (Some sender) round = counted t sender.link (received sender round)
 
 -- the totals with a round more, by the block that it names first; an empty round is none
-abbrev pub round_counted : Totals → List Sending → List Transmission → Totals
+abbrev pub round_counted : Totals → List SenderView → List Transmission → Totals
 round_counted t senders [] = t
 round_counted t senders (x ∷ more) = counted_if t (sender_of senders x) (x ∷ more)
 
 -- the totals with these rounds
-unfoldable pub rounds_counted : Totals → List Sending → List (List Transmission) → Totals
+unfoldable pub rounds_counted : Totals → List SenderView → List (List Transmission) → Totals
 rounds_counted t senders [] = t
 rounds_counted t senders (round ∷ rounds) = rounds_counted (round_counted t senders round) senders rounds
 
 -- what `run` says after all transmissions: by processes, or by blocks
-abbrev pub run_ends : Bool → List Sending → List Transmission → List ℕ
+abbrev pub run_ends : Bool → List SenderView → List Transmission → List ℕ
 run_ends true senders schedule =
     pieces_joined (last_rounds run_words senders schedule)
     ++ last_line (codes "rounds") (rounds_counted no_totals senders (all_rounds schedule))
@@ -122,7 +122,7 @@ run_ends false senders schedule =
     outcome_lines 1 senders schedule ++ last_line (codes "blocks") (totals_from no_totals 1 senders schedule)
 
 -- the text of a run
-abbrev pub text_of_run : List Sending → Timetable → List ℕ
+abbrev pub text_of_run : List SenderView → Timetable → List ℕ
 text_of_run senders schedule =
     pieces_joined (turns run_words senders [] schedule.transmissions)
     ++ run_ends schedule.by_process senders schedule.transmissions

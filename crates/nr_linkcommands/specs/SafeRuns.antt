@@ -4,7 +4,7 @@ use Rattle.nr_shifttable.specs.Accepted.{Entries, IsTable}
 use Rattle.nr_blockdesk.specs.Explains.{Explains}
 use Rattle.nr_blockdesk.specs.Heard.{heard_record}
 use Rattle.nr_blockdesk.specs.Outcome.{all_fixed, contradiction, delivered, outcome_of}
-use Rattle.nr_blockdesk.specs.Sent.{Sending, sending_said}
+use Rattle.nr_blockdesk.specs.Sent.{SenderView, sending_said}
 use Rattle.nr_transmission.specs.declared.settings.Settings.{Settings}
 use Rattle.nr_files.specs.Erasures.{is_named}
 use Rattle.nr_linkcommands.specs.Inputs.{senders_from}
@@ -18,7 +18,7 @@ OnlyErases x = (m : ℕ) → m < x.tx.g → is_named x.flip m ≡ false
 
 -- Of what these transmissions of a sender's transport block gave: that block explains all of it, so there is no
 -- contradiction; a block that is delivered is that one; and it is delivered once every position below K' is fixed.
-pub record IsSafelyReceived (sender : Sending) (xs : List Transmission) : Type 0 where
+pub record IsSafelyReceived (sender : SenderView) (xs : List Transmission) : Type 0 where
   pub explained : Explains sender.link (received sender xs) sender.block
   pub no_contradiction : outcome_of sender.link (received sender xs) ≢ contradiction
   pub sent_one : (block : List Bool) → outcome_of sender.link (received sender xs) ≡ delivered block → block ≡ sender.block
@@ -27,16 +27,16 @@ pub record IsSafelyReceived (sender : Sending) (xs : List Transmission) : Type 0
 
 -- whichever transmissions of a sender's block that only erase
 abbrev pub ErasuresAloneAreSafe : Type 0
-ErasuresAloneAreSafe = (table : Entries) (settings : Settings) (sender : Sending) (xs : List Transmission) → IsTable table
+ErasuresAloneAreSafe = (table : Entries) (settings : Settings) (sender : SenderView) (xs : List Transmission) → IsTable table
     → sending_said table settings sender.block ≡ Ok sender → All OnlyErases xs → IsSafelyReceived sender xs
 
 -- what holds of a sender's block over a whole schedule: after all transmissions of block n, and after each round
-pub record IsSafeRun (schedule : List Transmission) (sender : Sending) : Type 0 where
+pub record IsSafeRun (schedule : List Transmission) (sender : SenderView) : Type 0 where
   pub blocks : (n : ℕ) → IsSafelyReceived sender (own n schedule)
   pub rounds : All (IsSafelyReceived sender) (all_rounds schedule)
 
 -- where no transmission of a schedule flips, it holds of the sender of each transport block
 abbrev pub RunsAreSafe : Type 0
-RunsAreSafe = (table : Entries) (settings : Settings) (blocks : List (List ℕ)) (senders : List Sending)
+RunsAreSafe = (table : Entries) (settings : Settings) (blocks : List (List ℕ)) (senders : List SenderView)
     (schedule : List Transmission) → IsTable table → senders_from table settings 1 blocks ≡ Ok senders
     → All OnlyErases schedule → All (IsSafeRun schedule) senders

@@ -1,7 +1,7 @@
 //! What the commands over a schedule have in common: four files, read and judged whole, and a sender for each block.
 
 ghost use Rattle.std.specs.Prelude.{ℕ, ◌^◌, ◌<◌, List};
-ghost use Rattle.nr_blockdesk.specs.Sent.{Sending};
+ghost use Rattle.nr_blockdesk.specs.Sent.{SenderView};
 ghost use Rattle.nr_commands.specs.Command.{Writes};
 ghost use Rattle.nr_refusal.specs.Refusal.{FailsAs};
 ghost use Rattle.nr_files.specs.Schedule.{Timetable, timetable_by};
@@ -16,7 +16,7 @@ use std::alloc::Global;
 /// What a command says of its files once nothing in them is refused.
 pub(crate) trait Text {
     /// The text of a sender for each transport block, and of the schedule.
-    ghost text: { List Sending → Timetable → List ℕ };
+    ghost text: { List SenderView → Timetable → List ℕ };
 
     /// Writes the text, each line as soon as it is made.
     ///

@@ -2,7 +2,7 @@
 //! it ends, and at last come the rounds that none ends.
 
 ghost use Rattle.std.specs.Prelude.{All, List, OnOk, [], ◌∷◌, ◌++◌, false, if◌then◌else◌, length, ℕ, ◌<◌, ◌^◌, ◌≡◌, ◌≤◌};
-ghost use Rattle.nr_blockdesk.specs.Sent.{Sending};
+ghost use Rattle.nr_blockdesk.specs.Sent.{SenderView};
 ghost use Rattle.nr_commands.specs.Command.{Writes};
 ghost use Rattle.nr_refusal.specs.Refusal.{FailsAs};
 ghost use Rattle.nr_files.specs.Rounds.{all_rounds, continued, ended_by, ended_rounds, round_of};
@@ -21,7 +21,7 @@ pub(crate) trait Walk<'t> {
     ghost words: { Words };
 
     /// What is kept of senders between these transmissions and those later, of which these rounds have ended.
-    ghost Keeps: { Self → List Sending → List Transmission → List Transmission
+    ghost Keeps: { Self → List SenderView → List Transmission → List Transmission
         → List (List Transmission) → Type 0 };
 
     /// How many processes there is a slot for.

@@ -9,14 +9,14 @@ use Rattle.nr_bitvec.specs.Bit.{bit}
 use Rattle.nr_graphpick.specs.Graph.{rows_of}
 use Rattle.nr_shifttable.specs.Accepted.{IsTable}
 use Rattle.nr_ldpcenc.specs.Rows.{Checks}
-use Rattle.nr_peel.specs.ByPosition.{IsBlank}
+use Rattle.nr_peel.specs.Worklist.{IsBlank}
 use Rattle.nr_peel.specs.Closure.{stands}
 use Rattle.nr_peel.specs.Certificates.{all_accepted}
 use Rattle.nr_peel.specs.Counters.{AreAtStart}
 use Rattle.nr_peel.specs.Peeling.{left_of}
 use Rattle.nr_peel.specs.State.{lifted_checks}
 use Rattle.nr_peel.specs.Touches.{all_pairs, row_length, step_pairs, sum_below}
-use Rattle.nr_peel.specs.declared.by_position.ByPosition.{ByPosition}
+use Rattle.nr_peel.specs.declared.worklist_peeler.WorklistPeeler.{WorklistPeeler}
 use Rattle.nr_peel.specs.declared.counters.Counters.{Counters}
 use Rattle.nr_peel.specs.declared.lifted.Lifted.{Lifted}
 use Rattle.nr_peel.proofs.Closed.{cases_below}
@@ -97,7 +97,7 @@ built_start l s table untouched b room = record {
     past k le one = absurd (omega (arith, get_or_past s.counts.items k 0 (omega (arith, b.long)), one))
 
 -- the state with which nothing is known
-pub blank_state : (c : Checks) (n : ℕ) (s : ByPosition) → n ≤ c.size → AreAtStart c s.counters → s.given.items ≡ replicate c.size false → s.known.items ≡ replicate c.size false → s.bits.items ≡ replicate c.size false
+pub blank_state : (c : Checks) (n : ℕ) (s : WorklistPeeler) → n ≤ c.size → AreAtStart c s.counters → s.given.items ≡ replicate c.size false → s.known.items ≡ replicate c.size false → s.bits.items ≡ replicate c.size false
     → s.order.items ≡ [] → c.rows * c.lanes ≤ vec_capacity s.order → s.left ≡ n → IsBlank c n s
 blank_state c n s le start given known bits order room left = record {
   busy = record {

@@ -134,16 +134,16 @@ sum_single f (suc n) r below none = elim (cases_below r n below) [
 ]
 
 -- the sum over a lane is that over the lane turned
-sum_turned : (f : ℕ → ℕ) (z w : ℕ) → w < z → sum_below (λ t. f ((t + w) % z)) z ≡ sum_below f z
-sum_turned f z w below =
+sum_rotated : (f : ℕ → ℕ) (z w : ℕ) → w < z → sum_below (λ t. f ((t + w) % z)) z ≡ sum_below f z
+sum_rotated f z w below =
     let g = λ (t : ℕ). f ((t + w) % z) in
     let back : z - w + w ≡ z = omega (arith, below) in
     let on : w + (z - w) ≡ z = omega (arith, below) in
-    let turned = sym (ap (sum_below g) back) ∙ sum_below-append g (z - w) w in
+    let rotated = sym (ap (sum_below g) back) ∙ sum_below-append g (z - w) w in
     let plain = sym (ap (sum_below f) on) ∙ sum_below-append f w (z - w) in
     let low = sum_below-same g (λ t. f (w + t)) (z - w) (λ t h. ap f (mod_low (t + w) z (omega (arith, h)) ∙ omega arith)) in
     let high = sum_below-same (λ t. g (z - w + t)) f w (λ t h. ap f (mod_high (z - w + t + w) z (omega (arith, below)) (omega (arith, h, below)) ∙ omega (arith, below))) in
-    omega (arith, turned, plain, low, high)
+    omega (arith, rotated, plain, low, high)
 
 marked_sum : (u : ℕ → Bool) (n : ℕ) → marked u n ≡ sum_below (λ t. cond (u t) 1 0) n
 marked_sum u zero = refl
@@ -155,7 +155,7 @@ entry_hits : (set z j rows : ℕ) (M : ℕ → Bool) (e : Entry) → 0 < z → e
 entry_hits set z j rows M e some inside =
     sum_single (λ i. sum_below (λ t. cond (hits set z j M i t e) 1 0) z) rows e.row inside (λ i _ apart. sum_zeros (λ t. cond (hits set z j M i t e) 1 0) z (λ t _. other i t apart))
     ∙ sum_below-same (λ t. cond (hits set z j M e.row t e) 1 0) (λ t. cond (M (one_at z t j (value_in set e))) 1 0) z (λ t _. ap {B = ℕ} (λ b. cond (b && M (one_at z t j (value_in set e))) 1 0) (eq-eqb e.row e.row refl))
-    ∙ sum_turned (λ u. cond (M (j * z + u)) 1 0) z (value_in set e % z) (mod_below (value_in set e) z some)
+    ∙ sum_rotated (λ u. cond (M (j * z + u)) 1 0) z (value_in set e % z) (mod_below (value_in set e) z some)
     ∙ sym (marked_sum (λ t. M (j * z + t)) z)
   where
     other : (i t : ℕ) → i ≢ e.row → ◌≡◌ {A = ℕ} (cond (hits set z j M i t e) 1 0) 0

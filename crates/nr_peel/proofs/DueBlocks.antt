@@ -15,7 +15,7 @@ use Rattle.nr_shifttable.specs.declared.entry.Entry.{Entry}
 use Rattle.nr_shifttable.specs.Accepted.{entries_in, row_of}
 use Rattle.nr_shifttable.specs.Tails.{value_in}
 use Rattle.nr_ldpcenc.specs.Rows.{one_at}
-use Rattle.nr_peel.specs.Due.{AreFreshMarks, AreKept, due_in}
+use Rattle.nr_peel.specs.Due.{ArePendingMarks, AreKept, due_in}
 use Rattle.nr_peel.specs.State.{lifted_checks}
 use Rattle.nr_peel.specs.Sweeps.{CountsOf, has_count}
 use Rattle.nr_peel.specs.declared.lifted.Lifted.{Lifted}
@@ -121,7 +121,7 @@ no_count n j = elim (cases_lt j n) [
   | inr past ↦ get_or_past (replicate n 0) j 0 (omega (arith, length-replicate {A = ℕ} n 0, past))
 ]
 
-pub marks_new : (r : BlockBits) (count size : ℕ) → 0 < size → count ≤ 68 → r.lanes ≡ size → r.items ≡ replicate (count * size) false → AreFreshMarks r (replicate 68 0)
+pub marks_new : (r : BlockBits) (count size : ℕ) → 0 < size → count ≤ 68 → r.lanes ≡ size → r.items ≡ replicate (count * size) false → ArePendingMarks r (replicate 68 0)
 marks_new r count size some few lanes items = record {
   some = omega (arith, lanes, some);
   few =
@@ -131,8 +131,8 @@ marks_new r count size some few lanes items = record {
 }
 
 -- a column's number is made anew, and the others' marks are as they were
-marks_set : (a d : BlockBits) (columns : List ℕ) (j n : ℕ) → AreFreshMarks a columns → j < length columns → d.lanes ≡ a.lanes → length d.items ≡ length a.items
-    → ((i t : ℕ) → i ≢ j → t < a.lanes → bit d.items (i * a.lanes + t) ≡ bit a.items (i * a.lanes + t)) → n ≡ marked (λ t. bit d.items (j * a.lanes + t)) a.lanes → AreFreshMarks d (set columns j n)
+marks_set : (a d : BlockBits) (columns : List ℕ) (j n : ℕ) → ArePendingMarks a columns → j < length columns → d.lanes ≡ a.lanes → length d.items ≡ length a.items
+    → ((i t : ℕ) → i ≢ j → t < a.lanes → bit d.items (i * a.lanes + t) ≡ bit a.items (i * a.lanes + t)) → n ≡ marked (λ t. bit d.items (j * a.lanes + t)) a.lanes → ArePendingMarks d (set columns j n)
 marks_set a d columns j n old within lanes long same count = record {
   some = omega (arith, old.some, lanes);
   few = rw lanes (omega (arith, old.few, long));
@@ -147,8 +147,8 @@ marks_set a d columns j n old within lanes long same count = record {
           ∙ marked-same (λ t. bit a.items (i * a.lanes + t)) (λ t. bit d.items (i * a.lanes + t)) a.lanes (λ t below. sym (same i t other below))
     ]
 
-pub marks_join : (a d : BlockBits) (columns : List ℕ) (j n : ℕ) (M : ℕ → Bool) → AreFreshMarks a columns → j < length columns → d.lanes ≡ a.lanes → length d.items ≡ length a.items
-    → ((p : ℕ) → bit d.items p ≡ (bit a.items p || lane_marks a.lanes j M p)) → n ≡ marked (λ t. bit d.items (j * a.lanes + t)) a.lanes → AreFreshMarks d (set columns j n)
+pub marks_join : (a d : BlockBits) (columns : List ℕ) (j n : ℕ) (M : ℕ → Bool) → ArePendingMarks a columns → j < length columns → d.lanes ≡ a.lanes → length d.items ≡ length a.items
+    → ((p : ℕ) → bit d.items p ≡ (bit a.items p || lane_marks a.lanes j M p)) → n ≡ marked (λ t. bit d.items (j * a.lanes + t)) a.lanes → ArePendingMarks d (set columns j n)
 marks_join a d columns j n M old within lanes long joined count = marks_set a d columns j n old within lanes long same count
   where
     plain : (b : Bool) → (b || false) ≡ b
@@ -160,8 +160,8 @@ marks_join a d columns j n M old within lanes long joined count = marks_set a d 
         let p = i * a.lanes + t in
         joined p ∙ ap (λ b. bit a.items p || (b && M (p % a.lanes))) (ap (λ h. h == j) (block_at i t a.lanes below) ∙ ne_eqb i j other) ∙ plain (bit a.items p)
 
-pub marks_clear : (a d : BlockBits) (columns : List ℕ) (j : ℕ) → AreFreshMarks a columns → j < length columns → d.lanes ≡ a.lanes → length d.items ≡ length a.items
-    → ((p : ℕ) → bit d.items p ≡ (bit a.items p && not (p / a.lanes == j))) → AreFreshMarks d (set columns j 0)
+pub marks_clear : (a d : BlockBits) (columns : List ℕ) (j : ℕ) → ArePendingMarks a columns → j < length columns → d.lanes ≡ a.lanes → length d.items ≡ length a.items
+    → ((p : ℕ) → bit d.items p ≡ (bit a.items p && not (p / a.lanes == j))) → ArePendingMarks d (set columns j 0)
 marks_clear a d columns j old within lanes long cleared = marks_set a d columns j 0 old within lanes long same (sym (no_marks (λ t. bit d.items (j * a.lanes + t)) a.lanes none))
   where
     plain : (b : Bool) → (b && true) ≡ b

@@ -10,11 +10,11 @@ use Rattle.nr_ldpcenc.specs.Rows.{Checks}
 use Rattle.nr_peel.specs.Closure.{IsOnlyMissing, AreSound, Within, stands}
 use Rattle.nr_peel.specs.Certificates.{accepts, after_steps, is_fixed_by, with_position}
 use Rattle.nr_peel.specs.Counters.{Follows, IsLowered, AreTied}
-use Rattle.nr_peel.specs.ByPosition.{Grows, IsWorking}
+use Rattle.nr_peel.specs.Worklist.{Grows, IsWorklistSound}
 use Rattle.nr_peel.specs.Touches.{all_pairs, step_pairs}
 use Rattle.nr_peel.specs.declared.counters.Counters.{Counters}
 use Rattle.nr_peel.specs.declared.fix.Fix.{Fix}
-use Rattle.nr_peel.specs.declared.by_position.ByPosition.{ByPosition}
+use Rattle.nr_peel.specs.declared.worklist_peeler.WorklistPeeler.{WorklistPeeler}
 use Rattle.nr_peel.proofs.Standing.{count_alike, fixes_more, stands_counted}
 use Rattle.nr_peel.proofs.Words.{forced_bit, only_fixes}
 use Rattle.nr_peel.proofs.Ordered.{after_accepted, all_accepted-push, goes_none, goes_then, is_fixed_by-push, step_accepted}
@@ -31,7 +31,7 @@ row_below c i t li lt =
     omega arith
 
 -- what happened from a to d: row t of row of blocks i fixed a position
-pub record IsFix (c : Checks) (a d : ByPosition) (i t pos : ℕ) (v : Bool) (step : Fix) : Type 0 where
+pub record IsFix (c : Checks) (a d : WorklistPeeler) (i t pos : ℕ) (v : Bool) (step : Fix) : Type 0 where
   pub row : i < c.rows
   pub lane : t < c.lanes
   pub only : IsOnlyMissing (bit a.known.items) (c.row i t) pos
@@ -51,7 +51,7 @@ pub record IsFix (c : Checks) (a d : ByPosition) (i t pos : ℕ) (v : Bool) (ste
   pub falls : (k : ℕ) → slice_index d.counters.counts.items k ≤ slice_index a.counters.counts.items k
   pub visits : d.counters.touches + sum d.counters.counts.items ≡ a.counters.touches + length (c.row i t) + sum a.counters.counts.items
 
-module _ (c : Checks) (a d : ByPosition) (i t pos : ℕ) (v : Bool) (step : Fix) (sound : AreSound c) (w : IsWorking c a) (f : IsFix c a d i t pos v step) where
+module _ (c : Checks) (a d : WorklistPeeler) (i t pos : ℕ) (v : Bool) (step : Fix) (sound : AreSound c) (w : IsWorklistSound c a) (f : IsFix c a d i t pos v step) where
   in_known : pos < length a.known.items
   in_known = omega (arith, f.inside, w.known_long)
 
@@ -95,7 +95,7 @@ module _ (c : Checks) (a d : ByPosition) (i t pos : ℕ) (v : Bool) (step : Fix)
       step_accepted c (after_steps c (bit a.given.items) a.order.items) step (omega (arith, f.row, f.row_is)) (omega (arith, f.lane, f.lane_is)) (omega (arith, f.inside, f.pos_is))
       (rw (f.row_is, f.lane_is, f.pos_is) more)
 
-  pub fix_works : IsWorking c d
+  pub fix_works : IsWorklistSound c d
   fix_works = record {
     given_long = ap length f.given ∙ w.given_long;
     known_long = ap length f.known ∙ length-set a.known.items pos true ∙ w.known_long;
@@ -154,13 +154,13 @@ follows_lowered hits a m d counts ready low = record {
 }
 
 -- how many visits there may be
-pub few_visits : (c : Checks) (s : ByPosition) → IsWorking c s → s.counters.touches + sum s.counters.counts.items ≤ 2 * all_pairs c
+pub few_visits : (c : Checks) (s : WorklistPeeler) → IsWorklistSound c s → s.counters.touches + sum s.counters.counts.items ≤ 2 * all_pairs c
 few_visits c s w = omega (arith, w.most, spent_le c s.counters.counts.items)
 
-pub grows_none : (c : Checks) (s : ByPosition) → Grows c s s
+pub grows_none : (c : Checks) (s : WorklistPeeler) → Grows c s s
 grows_none c s = record { given = refl; known = λ q h. h; bits = λ q h. refl; words = λ u m h. h; order = goes_none s.order.items; visited = omega arith }
 
-pub grows_then : (c : Checks) (a b d : ByPosition) → Grows c a b → Grows c b d → Grows c a d
+pub grows_then : (c : Checks) (a b d : WorklistPeeler) → Grows c a b → Grows c b d → Grows c a d
 grows_then c a b d one two = record {
   given = two.given ∙ one.given;
   known = λ q h. two.known q (one.known q h);

@@ -19,9 +19,9 @@ use Rattle.nr_peel.proofs.Sets.{sound_set}
 some_entry : (t : Entries) (g : Graph) → has_graph g t ≡ true → 0 < length (entries_in g t)
 some_entry t g h = ⊎_elim (λ lt. lt) (λ le. absurd (true≢false (sym h ∙ ap not (eq-eqb (length (entries_in g t)) 0 (omega arith))))) (cases_lt 0 (length (entries_in g t)))
 
-pub fresh_left : (s : Peeling) (b : ℕ) → IsTable s.table → has_graph s.graph s.table ≡ true → IsSound s.graph b s.numbers → s.given ≡ fillers (checks_for s) s.numbers → IsPeeled s
+pub pending_left : (s : Peeling) (b : ℕ) → IsTable s.table → has_graph s.graph s.table ≡ true → IsSound s.graph b s.numbers → s.given ≡ fillers (checks_for s) s.numbers → IsPeeled s
     → s.numbers.kdash ≤ length s.known → left_of s.numbers.kdash s.known ≡ s.numbers.kdash
-fresh_left s b table has plan given peeled fits = all_left s.numbers.kdash s.known fits out
+pending_left s b table has plan given peeled fits = all_left s.numbers.kdash s.known fits out
   where
     start : Within (bit s.given) (filler s.numbers.kdash s.numbers.k)
     start q h = fillers_within (checks_for s) s.numbers q (ap (λ l. bit l q) (sym given) ∙ h)

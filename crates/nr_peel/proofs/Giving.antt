@@ -5,12 +5,12 @@ use Rattle.std.proofs.lemmas.Bool.{and_from, and_parts, cases_eq, cases_lt, eqb-
 use Rattle.std.proofs.lemmas.List.{get_or_past, get_or-set_same, get_or-set_other, length-set}
 use Rattle.nr_bitvec.specs.Bit.{bit}
 use Rattle.nr_ldpcenc.specs.Rows.{Checks}
-use Rattle.nr_peel.specs.ByPosition.{GivesMarks, IsWorking}
+use Rattle.nr_peel.specs.Worklist.{GivesMarks, IsWorklistSound}
 use Rattle.nr_peel.specs.Closure.{Within}
 use Rattle.nr_peel.specs.Certificates.{is_fixed_by, with_position}
 use Rattle.nr_peel.specs.Counters.{AreTied, IsListed, IsLowered}
 use Rattle.nr_peel.specs.Touches.{step_pairs}
-use Rattle.nr_peel.specs.declared.by_position.ByPosition.{ByPosition}
+use Rattle.nr_peel.specs.declared.worklist_peeler.WorklistPeeler.{WorklistPeeler}
 use Rattle.nr_peel.specs.declared.counters.Counters.{Counters}
 use Rattle.nr_peel.proofs.Closed.{cases_below, same_truth}
 use Rattle.nr_peel.proofs.Ordered.{all_accepted_within}
@@ -23,7 +23,7 @@ or_false true = refl
 or_false false = refl
 
 -- what happened from a to d: a position that was not known was given a bit
-pub record IsTaken (c : Checks) (a d : ByPosition) (pos : ℕ) (v : Bool) : Type 0 where
+pub record IsTaken (c : Checks) (a d : WorklistPeeler) (pos : ℕ) (v : Bool) : Type 0 where
   pub inside : pos < c.size
   pub missing : bit a.known.items pos ≡ false
   pub given : d.given.items ≡ set a.given.items pos true
@@ -41,7 +41,7 @@ regroup false true true = refl
 regroup false true false = refl
 regroup false false m = sym (or_false m)
 
-module _ (c : Checks) (a d : ByPosition) (pos : ℕ) (v : Bool) (w : IsWorking c a) (f : IsTaken c a d pos v) where
+module _ (c : Checks) (a d : WorklistPeeler) (pos : ℕ) (v : Bool) (w : IsWorklistSound c a) (f : IsTaken c a d pos v) where
   in_known : pos < length a.known.items
   in_known = omega (arith, f.inside, w.known_long)
 
@@ -73,7 +73,7 @@ module _ (c : Checks) (a d : ByPosition) (pos : ℕ) (v : Bool) (w : IsWorking c
     visited = f.visited;
   }
 
-  pub take_works : IsWorking c d
+  pub take_works : IsWorklistSound c d
   take_works = record {
     given_long = ap length f.given ∙ length-set a.given.items pos true ∙ w.given_long;
     known_long = ap length f.known ∙ length-set a.known.items pos true ∙ w.known_long;
@@ -104,7 +104,7 @@ module _ (c : Checks) (a d : ByPosition) (pos : ℕ) (v : Bool) (w : IsWorking c
           go true e = absurd (true≢false (sym (take_known q e) ∙ h))
 
 -- a known position is given
-module _ (c : Checks) (a d : ByPosition) (pos : ℕ) (v : Bool) (w : IsWorking c a) (lt : pos < c.size) (there : bit a.known.items pos ≡ true) (given : d.given.items ≡ set a.given.items pos true)
+module _ (c : Checks) (a d : WorklistPeeler) (pos : ℕ) (v : Bool) (w : IsWorklistSound c a) (lt : pos < c.size) (there : bit a.known.items pos ≡ true) (given : d.given.items ≡ set a.given.items pos true)
     (known : d.known ≡ a.known) (bits : d.bits ≡ a.bits) where
   marked_is : (q : ℕ) → bit d.given.items q ≡ with_position (bit a.given.items) pos q
   marked_is q = ap (λ l. bit l q) given ∙ bit-mark a.given.items pos (omega (arith, lt, w.given_long)) q
@@ -124,7 +124,7 @@ module _ (c : Checks) (a d : ByPosition) (pos : ℕ) (v : Bool) (w : IsWorking c
       already false true h = absurd (true≢false (sym (h refl)))
       already false false h = refl
 
-  pub given_works : d.counters ≡ a.counters → d.order ≡ a.order → IsWorking c d
+  pub given_works : d.counters ≡ a.counters → d.order ≡ a.order → IsWorklistSound c d
   given_works counters order = record {
     given_long = ap length given ∙ length-set a.given.items pos true ∙ w.given_long;
     known_long = ap (λ b. length b.items) known ∙ w.known_long;
@@ -152,7 +152,7 @@ module _ (c : Checks) (a d : ByPosition) (pos : ℕ) (v : Bool) (w : IsWorking c
           other false e = or_false (bit a.given.items q)
 
 -- what is given is known
-pub given_known : (c : Checks) (s : ByPosition) → IsWorking c s → Within (bit s.given.items) (bit s.known.items)
+pub given_known : (c : Checks) (s : WorklistPeeler) → IsWorklistSound c s → Within (bit s.given.items) (bit s.known.items)
 given_known c s w p h = w.reached p ∙ or_left (bit s.given.items p) (is_fixed_by s.order.items p) h
 
 -- each row that has one unknown position stays listed
@@ -165,7 +165,7 @@ listed_after hits a d listed low k one = ⊎_elim (λ e. low.kept k (listed k e)
 abbrev pub first : (ℕ → Bool) → ℕ → ℕ → Bool
 first H n p = H p && nat_lt p n
 
-gives_same : (H K V : ℕ → Bool) (a d : ByPosition) → ((p : ℕ) → H p ≡ K p) → GivesMarks H V a d → GivesMarks K V a d
+gives_same : (H K V : ℕ → Bool) (a d : WorklistPeeler) → ((p : ℕ) → H p ≡ K p) → GivesMarks H V a d → GivesMarks K V a d
 gives_same H K V a d same g = record {
   given = λ p. g.given p ∙ ap (λ b. bit a.given.items p || b) (same p);
   known = λ p. g.known p ∙ ap (λ b. bit a.known.items p || b) (same p);
@@ -175,7 +175,7 @@ gives_same H K V a d same g = record {
   visited = g.visited;
 }
 
-gives_then : (H V : ℕ → Bool) (n : ℕ) (v : Bool) (a b d : ByPosition) → GivesMarks H V a b → GivesMarks (λ p. n == p) (λ p. v) b d → v ≡ V n → GivesMarks (λ p. H p || (n == p)) V a d
+gives_then : (H V : ℕ → Bool) (n : ℕ) (v : Bool) (a b d : WorklistPeeler) → GivesMarks H V a b → GivesMarks (λ p. n == p) (λ p. v) b d → v ≡ V n → GivesMarks (λ p. H p || (n == p)) V a d
 gives_then H V n v a b d one two is = record {
   given = λ p. two.given p ∙ ap (λ x. x || (n == p)) (one.given p) ∙ assoc (bit a.given.items p) (H p) (n == p);
   known = λ p. two.known p ∙ ap (λ x. x || (n == p)) (one.known p) ∙ assoc (bit a.known.items p) (H p) (n == p);
@@ -195,7 +195,7 @@ gives_then H V n v a b d one two is = record {
         let at : (n == p) ≡ true = ap (λ b. b || (n == p)) (sym e) ∙ h in
         two.taken p at (one.known p ∙ ap (λ b. bit a.known.items p || b) e ∙ or_false (bit a.known.items p) ∙ out) ∙ is ∙ ap V (eqb-true n p at)
 
-pub gives_more : (H V : ℕ → Bool) (n : ℕ) (a b d : ByPosition) → H n ≡ true → GivesMarks (first H n) V a b → GivesMarks (λ p. n == p) (λ p. V n) b d → GivesMarks (first H (n + 1)) V a d
+pub gives_more : (H V : ℕ → Bool) (n : ℕ) (a b d : WorklistPeeler) → H n ≡ true → GivesMarks (first H n) V a b → GivesMarks (λ p. n == p) (λ p. V n) b d → GivesMarks (first H (n + 1)) V a d
 gives_more H V n a b d there one two =
     gives_same (λ p. first H n p || (n == p)) (first H (n + 1)) V a d
     (λ p. same_truth (first H n p || (n == p)) (first H (n + 1) p)
@@ -210,7 +210,7 @@ gives_more H V n a b d there one two =
     (gives_then (first H n) V n (V n) a b d one two refl)
 
 -- positions up to m that aren't in the set, or were given
-pub gives_jump : (H V : ℕ → Bool) (n m : ℕ) (a b : ByPosition) → n ≤ m → Within (bit a.given.items) (bit a.known.items) → ((p : ℕ) → n ≤ p → p < m → H p ≡ true → bit b.given.items p ≡ true)
+pub gives_jump : (H V : ℕ → Bool) (n m : ℕ) (a b : WorklistPeeler) → n ≤ m → Within (bit a.given.items) (bit a.known.items) → ((p : ℕ) → n ≤ p → p < m → H p ≡ true → bit b.given.items p ≡ true)
     → GivesMarks (first H n) V a b → GivesMarks (first H m) V a b
 gives_jump H V n m a b le within past one = record {
   given = λ p. one.given p ∙ same (bit a.given.items p) (first H n p) (first H m p) (more p) (before p);
@@ -243,7 +243,7 @@ gives_jump H V n m a b le within past one = record {
     taken p h out false e = absurd (true≢false (sym (within p (before p h e)) ∙ out))
 
 -- when all of a list's positions are given
-pub gives_all : (heard : List Bool) (V : ℕ → Bool) (n : ℕ) (a d : ByPosition) → length heard ≤ n → GivesMarks (first (bit heard) n) V a d → GivesMarks (bit heard) V a d
+pub gives_all : (heard : List Bool) (V : ℕ → Bool) (n : ℕ) (a d : WorklistPeeler) → length heard ≤ n → GivesMarks (first (bit heard) n) V a d → GivesMarks (bit heard) V a d
 gives_all heard V n a d long g = gives_same (first (bit heard) n) (bit heard) V a d (λ p. elim (cases_lt p n) [
   | inl below ↦ ap (λ b. bit heard p && b) (lt-ltb p n below) ∙ whole (bit heard p)
   | inr past ↦ ap (λ b. b && nat_lt p n) (get_or_past heard p false (omega (arith, long, past))) ∙ sym (get_or_past heard p false (omega (arith, long, past)))

@@ -10,7 +10,7 @@ use Rattle.nr_ldpcenc.specs.Rows.{Checks}
 use Rattle.nr_peel.specs.Due.{work_of}
 use Rattle.nr_peel.specs.Certificates.{accepts, after_steps, all_accepted, is_fixed_by, with_position}
 use Rattle.nr_peel.specs.Closure.{Within}
-use Rattle.nr_peel.specs.Settled.{CatchesUp, HasNoFresh, IsHeld, Keeps, Reaches}
+use Rattle.nr_peel.specs.Settled.{CatchesUp, HasNonePending, IsHeld, Keeps, Reaches}
 use Rattle.nr_peel.specs.Sweeps.{AreLanes, AreSought, CountsOf, Fixes, counted_in, has_count, searched_pairs}
 use Rattle.nr_peel.specs.Touches.{step_pairs}
 use Rattle.nr_peel.specs.declared.fix.Fix.{Fix}
@@ -28,10 +28,10 @@ use Rattle.nr_peel.proofs.Tallies.{marked_most, none_and_one, searched_most, sea
 
 -- ---- the column half
 
-module _ (c : Checks) (s : Lanes) (counts : List ℕ) (within : Within (bit s.fresh.items) (bit s.known.items)) (counted : CountsOf c (counted_in s) counts) where
+module _ (c : Checks) (s : Lanes) (counts : List ℕ) (within : Within (bit s.pending.items) (bit s.known.items)) (counted : CountsOf c (counted_in s) counts) where
   -- the positions of a row that the counts don't know of are the unknown ones and the fresh ones
-  split : (i t : ℕ) → count_by (λ p. not (bit s.known.items p)) (c.row i t) + count_by (bit s.fresh.items) (c.row i t) ≡ count_by (λ p. not (counted_in s p)) (c.row i t)
-  split i t = count_plus (λ p. not (bit s.known.items p)) (bit s.fresh.items) (λ p. not (counted_in s p)) (λ p. one (bit s.known.items p) (bit s.fresh.items p) (within p)) (c.row i t)
+  split : (i t : ℕ) → count_by (λ p. not (bit s.known.items p)) (c.row i t) + count_by (bit s.pending.items) (c.row i t) ≡ count_by (λ p. not (counted_in s p)) (c.row i t)
+  split i t = count_plus (λ p. not (bit s.known.items p)) (bit s.pending.items) (λ p. not (counted_in s p)) (λ p. one (bit s.known.items p) (bit s.pending.items p) (within p)) (c.row i t)
     where
       one : (a b : Bool) → (b ≡ true → a ≡ true) → cond (not a) 1 0 + cond b 1 0 ≡ cond (not (a && not b)) 1 0
       one true true k = refl
@@ -39,10 +39,10 @@ module _ (c : Checks) (s : Lanes) (counts : List ℕ) (within : Within (bit s.fr
       one false true k = absurd (false≢true (k refl))
       one false false k = refl
 
-  pub enough_fresh : (i t : ℕ) → i < c.rows → t < c.lanes → count_by (bit s.fresh.items) (c.row i t) ≤ slice_index counts (i * c.lanes + t)
-  enough_fresh i t li lt = omega (arith, split i t, counted i t li lt)
+  pub enough_pending : (i t : ℕ) → i < c.rows → t < c.lanes → count_by (bit s.pending.items) (c.row i t) ≤ slice_index counts (i * c.lanes + t)
+  enough_pending i t li lt = omega (arith, split i t, counted i t li lt)
 
-  pub known_counted : (new : List ℕ) → ((i t : ℕ) → i < c.rows → t < c.lanes → slice_index new (i * c.lanes + t) + count_by (bit s.fresh.items) (c.row i t) ≡ slice_index counts (i * c.lanes + t))
+  pub known_counted : (new : List ℕ) → ((i t : ℕ) → i < c.rows → t < c.lanes → slice_index new (i * c.lanes + t) + count_by (bit s.pending.items) (c.row i t) ≡ slice_index counts (i * c.lanes + t))
       → CountsOf c (bit s.known.items) new
   known_counted new falls i t li lt = omega (arith, split i t, counted i t li lt, falls i t li lt)
 
@@ -72,16 +72,16 @@ module _ (c : Checks) (b d : Sweep) (lanes : AreLanes c b.lanes) (caught : Catch
   caught_lanes = record {
     known_long = ap (λ r. length r.items) caught.known ∙ lanes.known_long;
     bits_long = ap (λ r. length r.items) caught.bits ∙ lanes.bits_long;
-    fresh_long = caught.fresh_long ∙ lanes.fresh_long;
+    pending_long = caught.pending_long ∙ lanes.pending_long;
     known_lanes = ap (λ r. r.lanes) caught.known ∙ lanes.known_lanes;
     bits_lanes = ap (λ r. r.lanes) caught.bits ∙ lanes.bits_lanes;
-    fresh_lanes = caught.fresh_lanes ∙ lanes.fresh_lanes;
+    pending_lanes = caught.pending_lanes ∙ lanes.pending_lanes;
     blank = λ p e. bits_same p ∙ lanes.blank p (sym (known_same p) ∙ e);
-    within = λ p e. absurd (true≢false (sym e ∙ caught.no_fresh p));
+    within = λ p e. absurd (true≢false (sym e ∙ caught.none_pending p));
   }
 
   pub caught_counted : CountsOf c (counted_in d.lanes) d.counts.items
-  caught_counted = counts_same c (bit d.lanes.known.items) (counted_in d.lanes) d.counts.items caught.counted (λ p. all (bit d.lanes.known.items p) (bit d.lanes.fresh.items p) (caught.no_fresh p))
+  caught_counted = counts_same c (bit d.lanes.known.items) (counted_in d.lanes) d.counts.items caught.counted (λ p. all (bit d.lanes.known.items p) (bit d.lanes.pending.items p) (caught.none_pending p))
     where
       all : (a b : Bool) → b ≡ false → a ≡ (a && not b)
       all true b e = sym (ap not e)
@@ -240,8 +240,8 @@ module _ (c : Checks) (some : 0 < c.lanes) (a b : Sweep) (h : IsHeld c a) (sough
       small = h.small;
     }
 
-    pub stop_fresh : HasNoFresh a.lanes → HasNoFresh b.lanes
-    stop_fresh fresh p = sought.fixes.fresh p ∙ ap (λ x. x || is_fixed_by sought.fixes.steps p) (fresh p) ∙ ap (λ ss. is_fixed_by ss p) no_steps
+    pub stop_pending : HasNonePending a.lanes → HasNonePending b.lanes
+    stop_pending pending p = sought.fixes.pending p ∙ ap (λ x. x || is_fixed_by sought.fixes.steps p) (pending p) ∙ ap (λ ss. is_fixed_by ss p) no_steps
 
     pub stop_settled : (k : ℕ) → slice_index b.counts.items k ≢ 1
     stop_settled k one = elim (cases_lt k (c.rows * c.lanes)) [

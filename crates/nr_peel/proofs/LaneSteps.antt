@@ -10,7 +10,7 @@ use Rattle.nr_shifttable.specs.Tails.{value_in}
 use Rattle.nr_ldpcenc.specs.Rows.{Checks, Meets, one_at, unrotate}
 use Rattle.nr_peel.specs.Closure.{IsOnlyMissing, Within, any_below, fixes, stands}
 use Rattle.nr_peel.specs.Certificates.{accepts, is_fixed_by}
-use Rattle.nr_peel.specs.Lanes.{TakesLane, lacks, marks_of, steps_below, turned_step}
+use Rattle.nr_peel.specs.Lanes.{TakesLane, lacks, marks_of, steps_below, rotated_step}
 use Rattle.nr_peel.specs.State.{lifted_checks}
 use Rattle.nr_peel.specs.Peeling.{HasBits}
 use Rattle.nr_peel.specs.Sweeps.{AreLanes, Fixes}
@@ -73,14 +73,14 @@ module _ (z j v : ℕ) (some : 0 < z) (u : ℕ → Bool) where
       and_from (p / z == j) (u (unrotate z v (p % z))) (eq-eqb (p / z) j (sym (eqb-true j (p / z) parts.0))) (ap u (eqb-true (unrotate z v (p % z)) t parts.1) ∙ set)
 
   -- the steps of the marked rows fix the positions that these mark
-  pub marks_fixed : (i p : ℕ) → is_fixed_by (steps_below (turned_step z i j (v % z)) u z) p ≡ marks_of z j v u p
+  pub marks_fixed : (i p : ℕ) → is_fixed_by (steps_below (rotated_step z i j (v % z)) u z) p ≡ marks_of z j v u p
   marks_fixed i p = same_truth (is_fixed_by (steps_below step u z) p) (marks_of z j v u p) there back
     where
       step : ℕ → Fix
-      step = turned_step z i j (v % z)
+      step = rotated_step z i j (v % z)
 
       fixed : is_fixed_by (steps_below step u z) p ≡ any_below (λ t. u t && (one_at z t j v == p)) z
-      fixed = steps_fix (turned_step z i j (v % z)) u p z
+      fixed = steps_fix (rotated_step z i j (v % z)) u p z
 
       there : is_fixed_by (steps_below step u z) p ≡ true → marks_of z j v u p ≡ true
       there h =
@@ -114,7 +114,7 @@ module _ (l : Lifted) (i : ℕ) (e : Entry) (ones sums : List ℕ) (K : ℕ → 
   at t = one_at z t e.col v
 
   abbrev step : ℕ → Fix
-  step = turned_step z e.row e.col (v % z)
+  step = rotated_step z e.row e.col (v % z)
 
   unknown_at : (t : ℕ) → u t ≡ true → bit a.known.items (at t) ≡ false
   unknown_at t h = unnot (bit a.known.items (at t)) (and_parts (is_set ones t) (not (bit a.known.items (at t))) h).1
@@ -135,11 +135,11 @@ module _ (l : Lifted) (i : ℕ) (e : Entry) (ones sums : List ℕ) (K : ℕ → 
       took.bits p ∙ or_none (bit a.bits.items p) (marks_of z e.col v (λ t. u t && is_set sums t) p) (and_less (p / z == e.col) (u (unrotate z v (p % z))) (is_set sums (unrotate z v (p % z))) parts.1)
       ∙ lanes.blank p parts.0
 
-  fresh_within : Within (bit d.fresh.items) (bit d.known.items)
-  fresh_within p h = ⊎_elim
+  pending_within : Within (bit d.pending.items) (bit d.known.items)
+  pending_within p h = ⊎_elim
       (λ f. took.known p ∙ or_left (bit a.known.items p) (marks_of z e.col v u p) (lanes.within p f))
       (λ m. took.known p ∙ or_right (bit a.known.items p) (marks_of z e.col v u p) m)
-      (or_cases (bit a.fresh.items p) (marks_of z e.col v u p) (sym (took.fresh p) ∙ h))
+      (or_cases (bit a.pending.items p) (marks_of z e.col v u p) (sym (took.pending p) ∙ h))
 
   module _ (some : 0 < z) (block : i < c.rows) (row_is : e.row ≡ i) (column : (e.col + 1) * z ≤ c.size) (within : Within K (bit a.known.items))
       (there : (t : ℕ) → t < z → stands (at t) (c.row i t) ≡ true) (one : (t : ℕ) → t < z → is_set ones t ≡ true → count_by (λ p. not (K p)) (c.row i t) ≡ 1) where
@@ -154,7 +154,7 @@ module _ (l : Lifted) (i : ℕ) (e : Entry) (ones sums : List ℕ) (K : ℕ → 
         step_accepted c K (step t) (omega (arith, row_is, block)) below (place_fits z t e v c.size below column)
         (ap (λ r. fixes K (c.row r t) (at t)) row_is ∙ only_fixes K (c.row i t) (at t) (only_at t below h))
 
-    fixed_is : (p : ℕ) → marks_of z e.col v u p ≡ is_fixed_by (steps_below (turned_step z e.row e.col (v % z)) u z) p
+    fixed_is : (p : ℕ) → marks_of z e.col v u p ≡ is_fixed_by (steps_below (rotated_step z e.row e.col (v % z)) u z) p
     fixed_is p = sym (marks_fixed z e.col v some u e.row p)
 
     new_bit : (right : (w : ℕ → Bool) → Meets c w → HasBits a.known.items a.bits.items w → (t : ℕ) → t < z → u t ≡ true → w (at t) ≡ is_set sums t) (p : ℕ) → marks_of z e.col v u p ≡ true → (w : ℕ → Bool) → Meets c w → HasBits a.known.items a.bits.items w → w p ≡ bit d.bits.items p
@@ -168,15 +168,15 @@ module _ (l : Lifted) (i : ℕ) (e : Entry) (ones sums : List ℕ) (K : ℕ → 
         sym (ap w place) ∙ right w meets has t below parts.1 ∙ sym (took.bits p ∙ or_only (bit a.bits.items p) (marks_of z e.col v (λ t. u t && is_set sums t) p) zero ∙ sum)
 
     -- what an entry's block fixes, with as many steps as rows marked it
-    pub take_fixes : ((w : ℕ → Bool) → Meets c w → HasBits a.known.items a.bits.items w → (t : ℕ) → t < z → u t ≡ true → w (at t) ≡ is_set sums t) → (f : Fixes c K a d) × (f.steps ≡ steps_below (turned_step z e.row e.col (v % z)) u z)
+    pub take_fixes : ((w : ℕ → Bool) → Meets c w → HasBits a.known.items a.bits.items w → (t : ℕ) → t < z → u t ≡ true → w (at t) ≡ is_set sums t) → (f : Fixes c K a d) × (f.steps ≡ steps_below (rotated_step z e.row e.col (v % z)) u z)
     take_fixes right = (
       record {
-        steps = steps_below (turned_step z e.row e.col (v % z)) u z;
+        steps = steps_below (rotated_step z e.row e.col (v % z)) u z;
         known = λ p. took.known p ∙ ap (λ b. bit a.known.items p || b) (fixed_is p);
-        fresh = λ p. took.fresh p ∙ ap (λ b. bit a.fresh.items p || b) (fixed_is p);
+        pending = λ p. took.pending p ∙ ap (λ b. bit a.pending.items p || b) (fixed_is p);
         order = took.order;
         missing = λ p h. missing_of some p (fixed_is p ∙ h);
-        accepted = λ S more. steps_accepted c K S (turned_step z e.row e.col (v % z)) u z more each_accepted;
+        accepted = λ S more. steps_accepted c K S (rotated_step z e.row e.col (v % z)) u z more each_accepted;
         kept = bits_kept some;
         words = λ w meets has p h. ⊎_elim
             (λ k. has p k ∙ sym (bits_kept some p k))
@@ -185,12 +185,12 @@ module _ (l : Lifted) (i : ℕ) (e : Entry) (ones sums : List ℕ) (K : ℕ → 
         lanes = record {
           known_long = took.known_long ∙ lanes.known_long;
           bits_long = took.bits_long ∙ lanes.bits_long;
-          fresh_long = took.fresh_long ∙ lanes.fresh_long;
+          pending_long = took.pending_long ∙ lanes.pending_long;
           known_lanes = took.known_lanes ∙ lanes.known_lanes;
           bits_lanes = took.bits_lanes ∙ lanes.bits_lanes;
-          fresh_lanes = took.fresh_lanes ∙ lanes.fresh_lanes;
+          pending_lanes = took.pending_lanes ∙ lanes.pending_lanes;
           blank = blank_still;
-          within = fresh_within;
+          within = pending_within;
         };
         capacity = took.capacity;
       },

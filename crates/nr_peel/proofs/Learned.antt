@@ -9,14 +9,14 @@ use Rattle.nr_shifttable.specs.Accepted.{IsTable}
 use Rattle.nr_ldpcenc.specs.Rows.{Checks}
 use Rattle.nr_peel.specs.Certificates.{all_accepted, is_fixed_by}
 use Rattle.nr_peel.specs.Hearing.{Hears}
-use Rattle.nr_peel.specs.Learning.{IsFilled, IsLearner, Learns, learner_view}
+use Rattle.nr_peel.specs.Learning.{IsFilled, IsSweepPeeler, Learns, sweep_peeler_view}
 use Rattle.nr_peel.specs.Peeling.{HasBits, IsPeeled, fillers, left_of}
-use Rattle.nr_peel.specs.Settled.{HasNoFresh, IsHeld, Keeps, Reaches}
+use Rattle.nr_peel.specs.Settled.{HasNonePending, IsHeld, Keeps, Reaches}
 use Rattle.nr_peel.specs.Starts.{IsBlankSweep}
 use Rattle.nr_peel.specs.State.{lifted_checks}
 use Rattle.nr_peel.specs.Sweeps.{AreLanes, counted_in, has_count}
 use Rattle.nr_peel.specs.declared.lanes.Lanes.{Lanes}
-use Rattle.nr_peel.specs.declared.learner.Learner.{Learner}
+use Rattle.nr_peel.specs.declared.sweep_peeler.SweepPeeler.{SweepPeeler}
 use Rattle.nr_peel.specs.declared.lifted.Lifted.{Lifted}
 use Rattle.nr_peel.specs.declared.sweep.Sweep.{Sweep}
 use Rattle.nr_peel.proofs.Filled.{fillers_fit, fillers_long, fillers_there, fillers_within}
@@ -58,8 +58,8 @@ module _ (c : Checks) (H V : ℕ → Bool) (a d : Lanes) (lanes : AreLanes c a) 
   -- the counts know of the same positions
   heard_counted : (p : ℕ) → counted_in a p ≡ counted_in d p
   heard_counted p =
-      same (bit a.known.items p) (bit a.fresh.items p) (H p) (lanes.within p)
-      ∙ ap (λ b. b && not (bit a.fresh.items p || (H p && not (bit a.known.items p)))) (sym (h.known p)) ∙ ap (λ b. bit d.known.items p && not b) (sym (h.fresh p))
+      same (bit a.known.items p) (bit a.pending.items p) (H p) (lanes.within p)
+      ∙ ap (λ b. b && not (bit a.pending.items p || (H p && not (bit a.known.items p)))) (sym (h.known p)) ∙ ap (λ b. bit d.known.items p && not b) (sym (h.pending p))
     where
       same : (k f m : Bool) → (f ≡ true → k ≡ true) → (k && not f) ≡ ((k || m) && not (f || (m && not k)))
       same true true m w = refl
@@ -100,22 +100,22 @@ heard_held c H V a d held h counts touches = record {
   small = held.small;
 }
 
-module _ (l : Lifted) (new : Learner) (held : IsHeld (lifted_checks l) new.sweep) (no_fresh : HasNoFresh new.sweep.lanes) (settled : (k : ℕ) → slice_index new.sweep.counts.items k ≢ 1)
+module _ (l : Lifted) (new : SweepPeeler) (held : IsHeld (lifted_checks l) new.sweep) (none_pending : HasNonePending new.sweep.lanes) (settled : (k : ℕ) → slice_index new.sweep.counts.items k ≢ 1)
     (counted : new.left ≡ left_of l.plan.kdash new.sweep.lanes.known.items) (table : IsTable l.table.now) where
   -- what follows from positions that were given
-  pub learned : (H V : ℕ → Bool) (old : Learner) (mid : Lanes) → IsLearner l old → Hears (lifted_checks l) H V old.sweep.lanes mid → length new.given.items ≡ length old.given.items
+  pub learned : (H V : ℕ → Bool) (old : SweepPeeler) (mid : Lanes) → IsSweepPeeler l old → Hears (lifted_checks l) H V old.sweep.lanes mid → length new.given.items ≡ length old.given.items
       → ((p : ℕ) → bit new.given.items p ≡ (bit old.given.items p || H p)) → Keeps (lifted_checks l) mid new.sweep.lanes → old.sweep.touches ≤ new.sweep.touches → Learns l H V old new
   learned H V old mid was h long given keeps visited =
       let c = lifted_checks l in
       let a = old.sweep.lanes in
       let lanes = was.sweep.held.lanes in
       record {
-        learner = record {
+        sweep_peeler = record {
           sweep = record {
             table = table;
             given_long = long ∙ was.sweep.given_long;
             held = held;
-            no_fresh = no_fresh;
+            none_pending = none_pending;
             settled = settled;
             reaches = keeps.reaches (bit new.given.items) (heard_reaches c H V a mid lanes h (bit old.given.items) (bit new.given.items) given was.sweep.reaches);
           };
@@ -143,12 +143,12 @@ module _ (l : Lifted) (new : Learner) (held : IsHeld (lifted_checks l) new.sweep
         reached = λ p. start.blank.unknown p ∙ sym (ap (λ v. is_fixed_by v p) start.blank.order);
       } in
       record {
-        learner = record {
+        sweep_peeler = record {
           sweep = record {
             table = table;
             given_long = ap length given ∙ fillers_long c (numbers l.plan);
             held = held;
-            no_fresh = no_fresh;
+            none_pending = none_pending;
             settled = settled;
             reaches = keeps.reaches (bit new.given.items) (heard_reaches c (bit new.given.items) (bit []) a mid lanes h (λ p. false) (bit new.given.items) (λ p. refl) none);
           };
@@ -161,11 +161,11 @@ module _ (l : Lifted) (new : Learner) (held : IsHeld (lifted_checks l) new.sweep
       }
 
 -- the fillers are known
-pub fillers_known : (l : Lifted) (s : Learner) → IsLearner l s → (p : ℕ) → l.plan.kdash ≤ p → p < l.plan.k → bit s.sweep.lanes.known.items p ≡ true
+pub fillers_known : (l : Lifted) (s : SweepPeeler) → IsSweepPeeler l s → (p : ℕ) → l.plan.kdash ≤ p → p < l.plan.k → bit s.sweep.lanes.known.items p ≡ true
 fillers_known l s h p low below = h.sweep.reaches.reached p ∙ or_left (bit s.given.items p) (is_fixed_by s.sweep.lanes.order.items p) (h.fillers p low below)
 
-pub learner_peeled : (l : Lifted) (s : Learner) → IsLearner l s → IsPeeled (learner_view l s)
-learner_peeled l s h = sweep_peeled l s.given.items s.sweep h.sweep
+pub sweep_peeler_peeled : (l : Lifted) (s : SweepPeeler) → IsSweepPeeler l s → IsPeeled (sweep_peeler_view l s)
+sweep_peeler_peeled l s h = sweep_peeled l s.given.items s.sweep h.sweep
 
-pub kdash_fits : (l : Lifted) (s : Learner) → IsLearner l s → l.plan.kdash ≤ length s.sweep.lanes.known.items
+pub kdash_fits : (l : Lifted) (s : SweepPeeler) → IsSweepPeeler l s → l.plan.kdash ≤ length s.sweep.lanes.known.items
 kdash_fits l s h = omega (arith, h.sweep.held.lanes.known_long, l.plan.sound.held, fillers_fit l)

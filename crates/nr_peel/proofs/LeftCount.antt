@@ -25,11 +25,11 @@ pub left_marked : (n : ℕ) (known : List Bool) (pos : ℕ) → pos < length kno
 left_marked n [] pos lt out = absurd (omega arith)
 left_marked zero (x ∷ known) pos lt out = ap (λ b. 0 + bool_byte b) (le-ltb pos 0 (omega arith))
 left_marked (suc n) (x ∷ known) zero lt out =
-    ap (λ b. left_of (suc n) (true ∷ known) + bool_byte b) (lt-ltb 0 (suc n) (omega arith)) ∙ ap (λ m. m + 1) (left_cons n true known) ∙ turned (left_of n known)
+    ap (λ b. left_of (suc n) (true ∷ known) + bool_byte b) (lt-ltb 0 (suc n) (omega arith)) ∙ ap (λ m. m + 1) (left_cons n true known) ∙ rotated (left_of n known)
     ∙ sym (left_cons n x known ∙ ap (λ b. cond (not b) 1 0 + left_of n known) out)
   where
-    turned : (m : ℕ) → 0 + m + 1 ≡ 1 + m
-    turned m = omega arith
+    rotated : (m : ℕ) → 0 + m + 1 ≡ 1 + m
+    rotated m = omega arith
 left_marked (suc n) (x ∷ known) (suc pos) lt out =
     ap (λ b. left_of (suc n) (x ∷ set known pos true) + bool_byte b) below ∙ ap (λ m. m + bool_byte (nat_lt pos n)) (left_cons n x (set known pos true))
     ∙ behind (cond (not x) 1 0) (left_of n (set known pos true)) (bool_byte (nat_lt pos n)) (left_of n known) (left_marked n known pos (omega arith) out) ∙ sym (left_cons n x known)

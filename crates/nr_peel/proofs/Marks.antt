@@ -8,7 +8,7 @@ use Rattle.std.proofs.lemmas.Bool.{cases_eq, cases_lt, eq-eqb, ne_eqb}
 use Rattle.std.proofs.lemmas.List.{append-nil, get_or-set_same, get_or-set_other}
 use Rattle.std.proofs.lemmas.Nat.{div_below, mod_below}
 use Rattle.nr_bitvec.specs.Packed.{IsClear}
-use Rattle.nr_lifting.specs.Rings.{IsTurned, is_set, lane_marks, marked}
+use Rattle.nr_lifting.specs.Rings.{IsRotated, is_set, lane_marks, marked}
 use Rattle.nr_lifting.proofs.LaneViews.{place-zeros}
 use Rattle.nr_ldpcenc.specs.Rows.{one_at, unrotate}
 use Rattle.nr_peel.specs.Lanes.{lacks, marks_of, steps_below}
@@ -55,12 +55,12 @@ module _ (z j v : ℕ) (some : 0 < z) where
   ]
 
   -- a lane that is turned back marks its rows' positions
-  pub turned_marks : (marks lane : List ℕ) (u : ℕ → Bool) → IsTurned z marks lane ((z - v % z) % z) → ((t : ℕ) → is_set lane t ≡ u t)
+  pub rotated_marks : (marks lane : List ℕ) (u : ℕ → Bool) → IsRotated z marks lane ((z - v % z) % z) → ((t : ℕ) → is_set lane t ≡ u t)
       → (p : ℕ) → lane_marks z j (is_set marks) p ≡ marks_of z j v u p
-  turned_marks marks lane u turned is p =
+  rotated_marks marks lane u rotated is p =
       let small : p % z < z = mod_below p z some in
       let back : (p % z + (z - v % z) % z) % z ≡ unrotate z v (p % z) = add-mod-mod (p % z) (z - v % z) z in
-      ap (λ n. (p / z == j) && (n == 1)) (turned (p % z) small)
+      ap (λ n. (p / z == j) && (n == 1)) (rotated (p % z) small)
       ∙ ap (λ t. (p / z == j) && is_set lane t) back
       ∙ ap (λ b. (p / z == j) && b) (is (unrotate z v (p % z)))
 

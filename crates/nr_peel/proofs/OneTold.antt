@@ -36,15 +36,15 @@ one_clear z pos lane some is t past = digit_is (place lane t) false (place-lt la
 
 module _ (c : Checks) (pos : ℕ) (value : Bool) (old : Lanes) (lanes : AreLanes c old) where
   -- a position that wasn't known
-  pub one_told : (now : Lanes) → bit old.known.items pos ≡ false → ((p : ℕ) → bit now.known.items p ≡ (bit old.known.items p || (pos == p))) → ((p : ℕ) → bit now.fresh.items p ≡ (bit old.fresh.items p || (pos == p)))
+  pub one_told : (now : Lanes) → bit old.known.items pos ≡ false → ((p : ℕ) → bit now.known.items p ≡ (bit old.known.items p || (pos == p))) → ((p : ℕ) → bit now.pending.items p ≡ (bit old.pending.items p || (pos == p)))
       → ((p : ℕ) → bit now.bits.items p ≡ (bit old.bits.items p || ((pos == p) && value))) → now.order ≡ old.order → length now.known.items ≡ length old.known.items → length now.bits.items ≡ length old.bits.items
-      → length now.fresh.items ≡ length old.fresh.items → now.known.lanes ≡ old.known.lanes → now.bits.lanes ≡ old.bits.lanes → now.fresh.lanes ≡ old.fresh.lanes → Hears c (λ p. pos == p) (λ p. value) old now
-  one_told now out known fresh bits order known_long bits_long fresh_long known_lanes bits_lanes fresh_lanes = record {
+      → length now.pending.items ≡ length old.pending.items → now.known.lanes ≡ old.known.lanes → now.bits.lanes ≡ old.bits.lanes → now.pending.lanes ≡ old.pending.lanes → Hears c (λ p. pos == p) (λ p. value) old now
+  one_told now out known pending bits order known_long bits_long pending_long known_lanes bits_lanes pending_lanes = record {
     known = known;
-    fresh = λ p. fresh p ∙ ap (λ b. bit old.fresh.items p || b) (new p);
+    pending = λ p. pending p ∙ ap (λ b. bit old.pending.items p || b) (new p);
     bits = λ p. bits p ∙ ap (λ b. bit old.bits.items p || (b && value)) (new p);
     order = order;
-    lanes = told_lanes c (λ p. pos == p) (λ p. value) old now lanes known fresh bits known_long bits_long fresh_long known_lanes bits_lanes fresh_lanes;
+    lanes = told_lanes c (λ p. pos == p) (λ p. value) old now lanes known pending bits known_long bits_long pending_long known_lanes bits_lanes pending_lanes;
   }
     where
       new : (p : ℕ) → (pos == p) ≡ news (λ q. pos == q) old p

@@ -6,14 +6,14 @@ use Rattle.std.proofs.lemmas.List.{get_or_default, same_lists}
 use Rattle.nr_bitvec.specs.Bit.{bit}
 use Rattle.nr_segment.specs.CodeBlock.{numbers}
 use Rattle.nr_ldpcenc.specs.Rows.{Checks}
-use Rattle.nr_peel.specs.ByPosition.{GivesMarks, Grows, IsBlank, IsByPosition, IsWorking, position_view}
+use Rattle.nr_peel.specs.Worklist.{GivesMarks, Grows, IsBlank, IsWorklistPeeler, IsWorklistSound, position_view}
 use Rattle.nr_peel.specs.Closure.{AreSound, Within, closure}
 use Rattle.nr_peel.specs.Certificates.{is_fixed_by}
 use Rattle.nr_peel.specs.Counters.{IsSettled}
 use Rattle.nr_peel.specs.Peeling.{HasBits, IsPeeled, fillers}
 use Rattle.nr_peel.specs.State.{lifted_checks}
 use Rattle.nr_peel.specs.Taken.{HasFillers, TakesUp}
-use Rattle.nr_peel.specs.declared.by_position.ByPosition.{ByPosition}
+use Rattle.nr_peel.specs.declared.worklist_peeler.WorklistPeeler.{WorklistPeeler}
 use Rattle.nr_peel.specs.declared.lifted.Lifted.{Lifted}
 use Rattle.nr_peel.proofs.Counting.{pairs_and_counts, spent_known}
 use Rattle.nr_peel.proofs.Filled.{fillers_long, fillers_within}
@@ -21,7 +21,7 @@ use Rattle.nr_peel.proofs.Grid.{checks_sound}
 use Rattle.nr_peel.proofs.Ordered.{after_accepted, goes_taken, steps_stay}
 use Rattle.nr_peel.proofs.Words.{done_is_closure}
 
-settled_closed : (c : Checks) (s : ByPosition) → AreSound c → IsWorking c s → IsSettled s.counters → (p : ℕ) → bit s.known.items p ≡ closure c (bit s.given.items) p
+settled_closed : (c : Checks) (s : WorklistPeeler) → AreSound c → IsWorklistSound c s → IsSettled s.counters → (p : ℕ) → bit s.known.items p ≡ closure c (bit s.given.items) p
 settled_closed c s sound w settled = done_is_closure c (bit s.given.items) (bit s.known.items) sound up inside lacks
   where
     up : Within (bit s.given.items) (bit s.known.items)
@@ -33,7 +33,7 @@ settled_closed c s sound w settled = done_is_closure c (bit s.given.items) (bit 
     lacks : (i t : ℕ) → i < c.rows → t < c.lanes → count_by (λ p. not (bit s.known.items p)) (c.row i t) ≢ 1
     lacks i t li lt one = settled (i * c.lanes + t) (w.tied.counted i t li lt ∙ one)
 
-pub position_peeled : (l : Lifted) (s : ByPosition) → IsByPosition l s → IsPeeled (position_view l s)
+pub position_peeled : (l : Lifted) (s : WorklistPeeler) → IsWorklistPeeler l s → IsPeeled (position_view l s)
 position_peeled l s h =
     let c = lifted_checks l in
     let w = h.working in
@@ -53,7 +53,7 @@ position_peeled l s h =
     }
 
 -- a word that has the known bits, and those of the positions that are given
-given_words : (H V : ℕ → Bool) (a d : ByPosition) → GivesMarks H V a d → (w : ℕ → Bool) → HasBits a.known.items a.bits.items w → ((p : ℕ) → H p ≡ true → w p ≡ V p) → HasBits d.known.items d.bits.items w
+given_words : (H V : ℕ → Bool) (a d : WorklistPeeler) → GivesMarks H V a d → (w : ℕ → Bool) → HasBits a.known.items a.bits.items w → ((p : ℕ) → H p ≡ true → w p ≡ V p) → HasBits d.known.items d.bits.items w
 given_words H V a d g w has are p e = go (bit a.known.items p) refl
   where
     go : (b : Bool) → bit a.known.items p ≡ b → w p ≡ bit d.bits.items p
@@ -63,7 +63,7 @@ given_words H V a d g w has are p e = go (bit a.known.items p) refl
         are p given ∙ sym (g.taken p given k)
 
 -- what follows from positions that were given
-pub taken_up : (l : Lifted) (H V : ℕ → Bool) (a b d : ByPosition) → GivesMarks H V a b → Grows (lifted_checks l) b d → TakesUp H V (position_view l a) (position_view l d)
+pub taken_up : (l : Lifted) (H V : ℕ → Bool) (a b d : WorklistPeeler) → GivesMarks H V a b → Grows (lifted_checks l) b d → TakesUp H V (position_view l a) (position_view l d)
 taken_up l H V a b d g grows = record {
   given = λ p. ap (λ v. bit v p) grows.given ∙ g.given p;
   known = λ p e. grows.known p (g.known p ∙ or_left (bit a.known.items p) (H p) e);
@@ -75,8 +75,8 @@ taken_up l H V a b d g grows = record {
 }
 
 -- what follows from the fillers alone
-pub filled_up : (l : Lifted) (V : ℕ → Bool) (n : ℕ) (a b d : ByPosition) → ((p : ℕ) → V p ≡ false) → IsBlank (lifted_checks l) n a → GivesMarks (bit (fillers (lifted_checks l) (numbers l.plan))) V a b
-    → Grows (lifted_checks l) b d → IsWorking (lifted_checks l) d → HasFillers l (position_view l d)
+pub filled_up : (l : Lifted) (V : ℕ → Bool) (n : ℕ) (a b d : WorklistPeeler) → ((p : ℕ) → V p ≡ false) → IsBlank (lifted_checks l) n a → GivesMarks (bit (fillers (lifted_checks l) (numbers l.plan))) V a b
+    → Grows (lifted_checks l) b d → IsWorklistSound (lifted_checks l) d → HasFillers l (position_view l d)
 filled_up l V n a b d zeros blank g grows w =
     let c = lifted_checks l in
     let marks = fillers c (numbers l.plan) in

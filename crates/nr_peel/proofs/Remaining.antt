@@ -80,8 +80,8 @@ left_end known kdash k low fits all =
     let split : kdash + (k - kdash) ≡ k = omega (arith, low) in
     sym (ap (λ m. left_of m known) split) ∙ left_known known kdash (k - kdash) (omega (arith, split, fits)) (λ p above below. all p above (omega (arith, below, split)))
 
-pub info_turns : (z k info : ℕ) → 0 < z → k ≡ info * z → k / z ≡ info
-info_turns z k info some is = ap (λ m. m / z) (is ∙ plain (info * z)) ∙ div-mul-add info z 0 some
+pub info_rotations : (z k info : ℕ) → 0 < z → k ≡ info * z → k / z ≡ info
+info_rotations z k info some is = ap (λ m. m / z) (is ∙ plain (info * z)) ∙ div-mul-add info z 0 some
   where
     plain : (m : ℕ) → m ≡ m + 0
     plain m = omega arith

@@ -11,13 +11,13 @@ use Rattle.nr_peel.specs.Sweeps.{has_count}
 use Rattle.nr_peel.specs.Touches.{spent_pairs, step_pairs}
 use Rattle.nr_peel.specs.Closure.{stands}
 use Rattle.nr_peel.specs.Counters.{Follows, IsListed, AreTied}
-use Rattle.nr_peel.specs.ByPosition.{IsWorking}
+use Rattle.nr_peel.specs.Worklist.{IsWorklistSound}
 use Rattle.nr_peel.specs.declared.counters.Counters.{Counters}
-use Rattle.nr_peel.specs.declared.by_position.ByPosition.{ByPosition}
+use Rattle.nr_peel.specs.declared.worklist_peeler.WorklistPeeler.{WorklistPeeler}
 use Rattle.nr_peel.proofs.Searched.{stands-push}
 
 -- a row was taken off the worklist
-pub record IsPopped (a d : ByPosition) (row : ℕ) : Type 0 where
+pub record IsPopped (a d : WorklistPeeler) (row : ℕ) : Type 0 where
   pub given : d.given ≡ a.given
   pub known : d.known ≡ a.known
   pub bits : d.bits ≡ a.bits
@@ -62,7 +62,7 @@ listed_skip a p row listed ready counts other k one =
     let was : stands k (p.ready.items ++ row ∷ []) ≡ true = sym (ap (stands k) ready) ∙ listed k (sym (ap (λ v. slice_index v.items k) counts) ∙ one) in
     ⊎_elim (λ s. s) (λ q. absurd (other (ap (slice_index p.counts.items) (eqb-true row k q) ∙ one))) (or_cases (stands k p.ready.items) (row == k) (sym (stands-push p.ready.items row k) ∙ was))
 
-pub popped_works : (c : Checks) (a d : ByPosition) (row : ℕ) → IsPopped a d row → IsWorking c a → IsWorking c d
+pub popped_works : (c : Checks) (a d : WorklistPeeler) (row : ℕ) → IsPopped a d row → IsWorklistSound c a → IsWorklistSound c d
 popped_works c a d row f w = record {
   given_long = ap (λ b. length b.items) f.given ∙ w.given_long;
   known_long = ap (λ b. length b.items) f.known ∙ w.known_long;

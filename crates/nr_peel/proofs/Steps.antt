@@ -8,7 +8,7 @@ use Rattle.nr_lifting.proofs.LaneBits.{counted_all, marked-append, marked-same, 
 use Rattle.std.proofs.lemmas.List.{append-nil}
 use Rattle.nr_bitvec.specs.Packed.{IsClear}
 use Rattle.nr_lifting.specs.Rings.{is_set, marked}
-use Rattle.nr_peel.specs.Lanes.{steps_below, turned_step}
+use Rattle.nr_peel.specs.Lanes.{steps_below, rotated_step}
 use Rattle.nr_peel.specs.declared.fix.Fix.{Fix}
 
 -- no step where nothing is marked
@@ -128,10 +128,10 @@ module _ (step : ℕ → Fix) (word at : ℕ) where
       ap u (sym back) ∙ ap (λ n. n == 1) (sym (left (t - at)) ∙ ap (λ m. bit_at m (t - at)) none ∙ bit_at-zero (t - at))))
 
 -- the step that is pushed
-pub pushed : (size row col turn start at skip place : ℕ) → place ≡ col * size + (start + at + skip + turn) % size
-    → ◌≡◌ {A = Fix} (record { row = row; lane = start + at + skip; pos = place }) (turned_step size row col turn (start + (at + skip)))
-pushed size row col turn start at skip place is =
-    ap (λ p. record { row = row; lane = start + at + skip; pos = p }) is ∙ ap (turned_step size row col turn) (regroup start at skip)
+pub pushed : (size row col rotation start at skip place : ℕ) → place ≡ col * size + (start + at + skip + rotation) % size
+    → ◌≡◌ {A = Fix} (record { row = row; lane = start + at + skip; pos = place }) (rotated_step size row col rotation (start + (at + skip)))
+pushed size row col rotation start at skip place is =
+    ap (λ p. record { row = row; lane = start + at + skip; pos = p }) is ∙ ap (rotated_step size row col rotation) (regroup start at skip)
   where
     regroup : (a b d : ℕ) → a + b + d ≡ a + (b + d)
     regroup a b d = omega arith

@@ -59,7 +59,7 @@ fixes_none c K a lanes = (
   record {
     steps = [];
     known = λ p. sym (or_none (bit a.known.items p) false refl);
-    fresh = λ p. sym (or_none (bit a.fresh.items p) false refl);
+    pending = λ p. sym (or_none (bit a.pending.items p) false refl);
     order = sym (append-nil a.order.items);
     missing = λ p h. absurd (false≢true h);
     accepted = λ S m. refl;
@@ -76,7 +76,7 @@ fixes_then c K a b d f g = (
   record {
     steps = f.steps ++ g.steps;
     known = λ p. joined (bit a.known.items p) (bit b.known.items p) (bit d.known.items p) p (f.known p) (g.known p);
-    fresh = λ p. joined (bit a.fresh.items p) (bit b.fresh.items p) (bit d.fresh.items p) p (f.fresh p) (g.fresh p);
+    pending = λ p. joined (bit a.pending.items p) (bit b.pending.items p) (bit d.pending.items p) p (f.pending p) (g.pending p);
     order = g.order ∙ ap (λ xs. xs ++ g.steps) f.order ∙ append_assoc a.order.items f.steps g.steps;
     missing = λ p h. ⊎_elim
         (λ s. f.missing p s)
@@ -101,7 +101,7 @@ fixes_on c K M a d f more = (
   record {
     steps = f.steps;
     known = f.known;
-    fresh = f.fresh;
+    pending = f.pending;
     order = f.order;
     missing = f.missing;
     accepted = λ S m. f.accepted S (λ p k. m p (more p k));
@@ -116,8 +116,8 @@ fixes_on c K M a d f more = (
 -- what the counts know stays the same
 pub counted_same : (c : Checks) (K : ℕ → Bool) (a d : Lanes) → Fixes c K a d → (p : ℕ) → counted_in d p ≡ counted_in a p
 counted_same c K a d f p =
-    ap (λ x. x && not (bit d.fresh.items p)) (f.known p) ∙ ap (λ x. (bit a.known.items p || is_fixed_by f.steps p) && not x) (f.fresh p)
-    ∙ still (bit a.known.items p) (is_fixed_by f.steps p) (bit a.fresh.items p) (f.missing p)
+    ap (λ x. x && not (bit d.pending.items p)) (f.known p) ∙ ap (λ x. (bit a.known.items p || is_fixed_by f.steps p) && not x) (f.pending p)
+    ∙ still (bit a.known.items p) (is_fixed_by f.steps p) (bit a.pending.items p) (f.missing p)
   where
     still : (k s r : Bool) → (s ≡ true → k ≡ false) → ((k || s) && not (r || s)) ≡ (k && not r)
     still true true r h = absurd (true≢false (h refl))
@@ -135,7 +135,7 @@ pub known_more : (c : Checks) (K : ℕ → Bool) (a d : Lanes) → Fixes c K a d
 known_more c K a d f p k = f.known p ∙ or_left (bit a.known.items p) (is_fixed_by f.steps p) k
 
 pub counted_known : (a : Lanes) → Within (counted_in a) (bit a.known.items)
-counted_known a p h = (and_parts (bit a.known.items p) (not (bit a.fresh.items p)) h).0
+counted_known a p h = (and_parts (bit a.known.items p) (not (bit a.pending.items p)) h).0
 
 -- ---- rows of blocks one after another
 

@@ -18,7 +18,7 @@ use Rattle.nr_ldpcenc.specs.Parity.{parity}
 use Rattle.nr_ldpcenc.specs.Rows.{Checks, Meets, one_at, positions}
 use Rattle.nr_peel.specs.Closure.{AreSound, IsOnlyMissing, Within, stands}
 use Rattle.nr_peel.specs.Certificates.{is_fixed_by}
-use Rattle.nr_peel.specs.Lanes.{TakesLane, lacks, turned_step}
+use Rattle.nr_peel.specs.Lanes.{TakesLane, lacks, rotated_step}
 use Rattle.nr_peel.specs.State.{lifted_checks}
 use Rattle.nr_peel.specs.Peeling.{HasBits}
 use Rattle.nr_peel.specs.Sweeps.{AreLanes, CountsOf, Fixes, IsBlockSought, counted_in, has_count}
@@ -140,7 +140,7 @@ module _ (l : Lifted) (i : ℕ) (ones : List ℕ) (a : Lanes) (table : IsTable l
       column = row_columns l.table.now l.plan.graph (numbers l.plan) table l.plan.sound.size_some i n none within_row
 
       abbrev step : ℕ → Fix
-      step = turned_step z e.row e.col (value_in set e % z)
+      step = rotated_step z e.row e.col (value_in set e % z)
 
       row_long : (t : ℕ) → t < z → length (c.row (step t).row (step t).lane) ≡ length row
       row_long t below = ap (λ r. length (c.row r t)) row_is ∙ length-map row (λ (x : Entry). one_at z t x.col (value_in set x))

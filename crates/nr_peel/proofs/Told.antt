@@ -27,28 +27,28 @@ digit_test false = refl
 -- lanes in which the positions below one column have been given
 pub record AreTold (z : ℕ) (N V : ℕ → Bool) (j : ℕ) (old now : Lanes) : Type 0 where
   pub known : (p : ℕ) → bit now.known.items p ≡ (bit old.known.items p || below_column z N j p)
-  pub fresh : (p : ℕ) → bit now.fresh.items p ≡ (bit old.fresh.items p || below_column z N j p)
+  pub pending : (p : ℕ) → bit now.pending.items p ≡ (bit old.pending.items p || below_column z N j p)
   pub bits : (p : ℕ) → bit now.bits.items p ≡ (bit old.bits.items p || (below_column z N j p && V p))
   pub order : now.order ≡ old.order
   pub known_long : length now.known.items ≡ length old.known.items
   pub bits_long : length now.bits.items ≡ length old.bits.items
-  pub fresh_long : length now.fresh.items ≡ length old.fresh.items
+  pub pending_long : length now.pending.items ≡ length old.pending.items
   pub known_lanes : now.known.lanes ≡ old.known.lanes
   pub bits_lanes : now.bits.lanes ≡ old.bits.lanes
-  pub fresh_lanes : now.fresh.lanes ≡ old.fresh.lanes
+  pub pending_lanes : now.pending.lanes ≡ old.pending.lanes
 
 pub told_none : (z : ℕ) (N V : ℕ → Bool) (s : Lanes) → AreTold z N V 0 s s
 told_none z N V s = record {
   known = λ p. none (bit s.known.items p) (N p) (nat_lt (p / z) 0) (le-ltb (p / z) 0 (omega arith));
-  fresh = λ p. none (bit s.fresh.items p) (N p) (nat_lt (p / z) 0) (le-ltb (p / z) 0 (omega arith));
+  pending = λ p. none (bit s.pending.items p) (N p) (nat_lt (p / z) 0) (le-ltb (p / z) 0 (omega arith));
   bits = λ p. no_bit (bit s.bits.items p) (N p) (nat_lt (p / z) 0) (V p) (le-ltb (p / z) 0 (omega arith));
   order = refl;
   known_long = refl;
   bits_long = refl;
-  fresh_long = refl;
+  pending_long = refl;
   known_lanes = refl;
   bits_lanes = refl;
-  fresh_lanes = refl;
+  pending_lanes = refl;
 }
   where
     none : (a n l : Bool) → l ≡ false → a ≡ (a || (n && l))
@@ -120,24 +120,24 @@ module _ (z j : ℕ) (some : 0 < z) (old now : Lanes) (H V : ℕ → Bool) (h : 
       go true e =
           let column : p / z ≡ j = eqb-true (p / z) j e in
           let at : j * z + p % z ≡ p = ap (λ m. m * z + p % z) (sym column) ∙ row_number p z in
-          let turned : (p % z + 0) % z ≡ p % z = mod_low (p % z + 0) z (omega (arith, small)) ∙ omega arith in
+          let rotated : (p % z + 0) % z ≡ p % z = mod_low (p % z + 0) z (omega (arith, small)) ∙ omega arith in
           let past : nat_lt (p / z) j ≡ false = le-ltb (p / z) j (omega (arith, column)) in
           let before : bit now.known.items p ≡ bit old.known.items p = h.known p ∙ ap (λ b. bit old.known.items p || (N p && b)) past ∙ ap (λ b. bit old.known.items p || b) (and_false (N p)) ∙ or_false (bit old.known.items p) in
           lane_is (p % z) small ∙ ap (λ b. b && not (bit now.known.items (j * z + (p % z + 0) % z))) (told_is (p % z) small ∙ ap H at)
-          ∙ ap (λ b. H p && not b) (ap (λ m. bit now.known.items (j * z + m)) turned ∙ ap (bit now.known.items) at ∙ before)
+          ∙ ap (λ b. H p && not b) (ap (λ m. bit now.known.items (j * z + m)) rotated ∙ ap (bit now.known.items) at ∙ before)
           ∙ sym (and_true (N p))
 
   -- the column's new positions are given
   pub told_next : (next : Lanes) (lane both told : List ℕ) → ((p : ℕ) → lane_marks z j (is_set lane) p ≡ in_column z N j p)
       → ((t : ℕ) → is_set both t ≡ (is_set lane t && is_set told t)) → ((t : ℕ) → t < z → is_set told t ≡ V (j * z + t))
       → ((p : ℕ) → bit next.known.items p ≡ (bit now.known.items p || lane_marks z j (is_set lane) p))
-      → ((p : ℕ) → bit next.fresh.items p ≡ (bit now.fresh.items p || lane_marks z j (is_set lane) p))
+      → ((p : ℕ) → bit next.pending.items p ≡ (bit now.pending.items p || lane_marks z j (is_set lane) p))
       → ((p : ℕ) → bit next.bits.items p ≡ (bit now.bits.items p || lane_marks z j (is_set both) p))
-      → next.order ≡ now.order → length next.known.items ≡ length now.known.items → length next.bits.items ≡ length now.bits.items → length next.fresh.items ≡ length now.fresh.items
-      → next.known.lanes ≡ now.known.lanes → next.bits.lanes ≡ now.bits.lanes → next.fresh.lanes ≡ now.fresh.lanes → AreTold z N V (j + 1) old next
-  told_next next lane both told marks both_is told_is known fresh bits order known_long bits_long fresh_long known_lanes bits_lanes fresh_lanes = record {
+      → next.order ≡ now.order → length next.known.items ≡ length now.known.items → length next.bits.items ≡ length now.bits.items → length next.pending.items ≡ length now.pending.items
+      → next.known.lanes ≡ now.known.lanes → next.bits.lanes ≡ now.bits.lanes → next.pending.lanes ≡ now.pending.lanes → AreTold z N V (j + 1) old next
+  told_next next lane both told marks both_is told_is known pending bits order known_long bits_long pending_long known_lanes bits_lanes pending_lanes = record {
     known = λ p. known p ∙ ap (λ b. bit now.known.items p || b) (marks p) ∙ ap (λ b. b || in_column z N j p) (h.known p) ∙ more_bits (bit old.known.items p) (N p) (p / z) j;
-    fresh = λ p. fresh p ∙ ap (λ b. bit now.fresh.items p || b) (marks p) ∙ ap (λ b. b || in_column z N j p) (h.fresh p) ∙ more_bits (bit old.fresh.items p) (N p) (p / z) j;
+    pending = λ p. pending p ∙ ap (λ b. bit now.pending.items p || b) (marks p) ∙ ap (λ b. b || in_column z N j p) (h.pending p) ∙ more_bits (bit old.pending.items p) (N p) (p / z) j;
     bits = λ p.
         bits p ∙ ap (λ b. bit now.bits.items p || b) (valued_marks p ∙ valued (N p) (p / z == j) (V p))
         ∙ ap (λ b. b || ((N p && V p) && (p / z == j))) (h.bits p ∙ ap (λ b. bit old.bits.items p || b) (valued (N p) (nat_lt (p / z) j) (V p)))
@@ -145,10 +145,10 @@ module _ (z j : ℕ) (some : 0 < z) (old now : Lanes) (H V : ℕ → Bool) (h : 
     order = order ∙ h.order;
     known_long = known_long ∙ h.known_long;
     bits_long = bits_long ∙ h.bits_long;
-    fresh_long = fresh_long ∙ h.fresh_long;
+    pending_long = pending_long ∙ h.pending_long;
     known_lanes = known_lanes ∙ h.known_lanes;
     bits_lanes = bits_lanes ∙ h.bits_lanes;
-    fresh_lanes = fresh_lanes ∙ h.fresh_lanes;
+    pending_lanes = pending_lanes ∙ h.pending_lanes;
   }
     where
       valued_marks : (p : ℕ) → lane_marks z j (is_set both) p ≡ (in_column z N j p && V p)
@@ -166,17 +166,17 @@ module _ (z j : ℕ) (some : 0 < z) (old now : Lanes) (H V : ℕ → Bool) (h : 
   pub told_skip : (lane : List ℕ) → ((p : ℕ) → lane_marks z j (is_set lane) p ≡ in_column z N j p) → ((t : ℕ) → is_set lane t ≡ false) → AreTold z N V (j + 1) old now
   told_skip lane marks none = record {
     known = λ p. h.known p ∙ same (bit old.known.items p) (N p) p (nothing p);
-    fresh = λ p. h.fresh p ∙ same (bit old.fresh.items p) (N p) p (nothing p);
+    pending = λ p. h.pending p ∙ same (bit old.pending.items p) (N p) p (nothing p);
     bits = λ p.
         h.bits p ∙ ap (λ b. bit old.bits.items p || b) (valued (N p) (nat_lt (p / z) j) (V p)) ∙ same (bit old.bits.items p) (N p && V p) p (sym (valued (N p) (p / z == j) (V p)) ∙ ap (λ b. b && V p) (nothing p))
         ∙ ap (λ b. bit old.bits.items p || b) (sym (valued (N p) (nat_lt (p / z) (j + 1)) (V p)));
     order = h.order;
     known_long = h.known_long;
     bits_long = h.bits_long;
-    fresh_long = h.fresh_long;
+    pending_long = h.pending_long;
     known_lanes = h.known_lanes;
     bits_lanes = h.bits_lanes;
-    fresh_lanes = h.fresh_lanes;
+    pending_lanes = h.pending_lanes;
   }
     where
       nothing : (p : ℕ) → in_column z N j p ≡ false
@@ -195,18 +195,18 @@ module _ (z j : ℕ) (some : 0 < z) (old now : Lanes) (H V : ℕ → Bool) (h : 
 
 -- ---- lanes in which positions that weren't known are given
 
-pub told_lanes : (c : Checks) (N V : ℕ → Bool) (old now : Lanes) → AreLanes c old → ((p : ℕ) → bit now.known.items p ≡ (bit old.known.items p || N p)) → ((p : ℕ) → bit now.fresh.items p ≡ (bit old.fresh.items p || N p))
-    → ((p : ℕ) → bit now.bits.items p ≡ (bit old.bits.items p || (N p && V p))) → length now.known.items ≡ length old.known.items → length now.bits.items ≡ length old.bits.items → length now.fresh.items ≡ length old.fresh.items
-    → now.known.lanes ≡ old.known.lanes → now.bits.lanes ≡ old.bits.lanes → now.fresh.lanes ≡ old.fresh.lanes → AreLanes c now
-told_lanes c N V old now lanes known fresh bits known_long bits_long fresh_long known_lanes bits_lanes fresh_lanes = record {
+pub told_lanes : (c : Checks) (N V : ℕ → Bool) (old now : Lanes) → AreLanes c old → ((p : ℕ) → bit now.known.items p ≡ (bit old.known.items p || N p)) → ((p : ℕ) → bit now.pending.items p ≡ (bit old.pending.items p || N p))
+    → ((p : ℕ) → bit now.bits.items p ≡ (bit old.bits.items p || (N p && V p))) → length now.known.items ≡ length old.known.items → length now.bits.items ≡ length old.bits.items → length now.pending.items ≡ length old.pending.items
+    → now.known.lanes ≡ old.known.lanes → now.bits.lanes ≡ old.bits.lanes → now.pending.lanes ≡ old.pending.lanes → AreLanes c now
+told_lanes c N V old now lanes known pending bits known_long bits_long pending_long known_lanes bits_lanes pending_lanes = record {
   known_long = known_long ∙ lanes.known_long;
   bits_long = bits_long ∙ lanes.bits_long;
-  fresh_long = fresh_long ∙ lanes.fresh_long;
+  pending_long = pending_long ∙ lanes.pending_long;
   known_lanes = known_lanes ∙ lanes.known_lanes;
   bits_lanes = bits_lanes ∙ lanes.bits_lanes;
-  fresh_lanes = fresh_lanes ∙ lanes.fresh_lanes;
+  pending_lanes = pending_lanes ∙ lanes.pending_lanes;
   blank = λ p e. bits p ∙ no_bit (bit old.known.items p) (N p) (bit old.bits.items p) (V p) (sym (known p) ∙ e) (lanes.blank p);
-  within = λ p e. known p ∙ in_both (bit old.known.items p) (N p) (bit old.fresh.items p) (sym (fresh p) ∙ e) (lanes.within p);
+  within = λ p e. known p ∙ in_both (bit old.known.items p) (N p) (bit old.pending.items p) (sym (pending p) ∙ e) (lanes.within p);
 }
   where
     no_bit : (a n x v : Bool) → (a || n) ≡ false → (a ≡ false → x ≡ false) → (x || (n && v)) ≡ false
@@ -225,11 +225,11 @@ pub told_all : (c : Checks) (z cols : ℕ) (heard : List Bool) (V : ℕ → Bool
     → AreTold z (news (bit heard) old) V cols old now → Hears c (bit heard) V old now
 told_all c z cols heard V old now some size long lanes h = record {
   known = λ p. known p ∙ with_old (bit old.known.items p) (bit heard p);
-  fresh = fresh;
+  pending = pending;
   bits = bits;
   order = h.order;
   lanes =
-      told_lanes c (news (bit heard) old) V old now lanes known fresh bits h.known_long h.bits_long h.fresh_long h.known_lanes h.bits_lanes h.fresh_lanes;
+      told_lanes c (news (bit heard) old) V old now lanes known pending bits h.known_long h.bits_long h.pending_long h.known_lanes h.bits_lanes h.pending_lanes;
 }
   where
     low : (p : ℕ) → bit heard p ≡ true → nat_lt (p / z) cols ≡ true
@@ -249,8 +249,8 @@ told_all c z cols heard V old now some size long lanes h = record {
     known : (p : ℕ) → bit now.known.items p ≡ (bit old.known.items p || news (bit heard) old p)
     known p = h.known p ∙ ap (λ b. bit old.known.items p || b) (all p)
 
-    fresh : (p : ℕ) → bit now.fresh.items p ≡ (bit old.fresh.items p || news (bit heard) old p)
-    fresh p = h.fresh p ∙ ap (λ b. bit old.fresh.items p || b) (all p)
+    pending : (p : ℕ) → bit now.pending.items p ≡ (bit old.pending.items p || news (bit heard) old p)
+    pending p = h.pending p ∙ ap (λ b. bit old.pending.items p || b) (all p)
 
     bits : (p : ℕ) → bit now.bits.items p ≡ (bit old.bits.items p || (news (bit heard) old p && V p))
     bits p = h.bits p ∙ ap (λ b. bit old.bits.items p || (b && V p)) (all p)

@@ -8,7 +8,7 @@ use Rattle.nr_ldpcenc.specs.Rows.{Checks}
 use Rattle.nr_peel.specs.Closure.{AreSound, Within, closure}
 use Rattle.nr_peel.specs.Certificates.{is_fixed_by}
 use Rattle.nr_peel.specs.Peeling.{IsPeeled}
-use Rattle.nr_peel.specs.Settled.{HasNoFresh, Reaches}
+use Rattle.nr_peel.specs.Settled.{HasNonePending, Reaches}
 use Rattle.nr_peel.specs.State.{lifted_checks}
 use Rattle.nr_peel.specs.Sweeps.{CountsOf, counted_in}
 use Rattle.nr_peel.specs.Swept.{IsSettledSweep, sweep_view}
@@ -22,7 +22,7 @@ use Rattle.nr_peel.proofs.Standing.{count_alike}
 use Rattle.nr_peel.proofs.Words.{done_is_closure}
 
 -- where no position is fresh, the counts know of all that is known
-pub all_counted : (c : Checks) (s : Lanes) (counts : List ℕ) → HasNoFresh s → CountsOf c (counted_in s) counts → CountsOf c (bit s.known.items) counts
+pub all_counted : (c : Checks) (s : Lanes) (counts : List ℕ) → HasNonePending s → CountsOf c (counted_in s) counts → CountsOf c (bit s.known.items) counts
 all_counted c s counts none counted i t block lane =
     counted i t block lane ∙ count_alike (λ p. not (counted_in s p)) (λ p. not (bit s.known.items p)) (λ p. ap not (ap (λ b. bit s.known.items p && not b) (none p) ∙ plain (bit s.known.items p))) (c.row i t)
   where
@@ -48,7 +48,7 @@ pub sweep_peeled : (l : Lifted) (given : List Bool) (s : Sweep) → IsSettledSwe
 sweep_peeled l given s h =
     let c = lifted_checks l in
     let pos : 0 < l.plan.z = l.plan.sound.size_some in
-    let counted = all_counted c s.lanes s.counts.items h.no_fresh h.held.counted in
+    let counted = all_counted c s.lanes s.counts.items h.none_pending h.held.counted in
     let pairs = pairs_and_counts c s.lanes.known.items s.counts.items pos counted h.held.counts_long in
     let spent = spent_known c s.lanes.known.items s.counts.items pos counted h.held.counts_long in
     record {

@@ -35,7 +35,7 @@ pub record AreKept (counts : BlockCounts) (due : List Bool) : Type 0 where
   pub settled : (k : ℕ) → bit due (k / counts.lanes) ≡ false → slice_index counts.items k ≢ 1
 
 -- marks of positions, and for each column how many it has
-pub record AreFreshMarks (marks : BlockBits) (columns : List ℕ) : Type 0 where
+pub record ArePendingMarks (marks : BlockBits) (columns : List ℕ) : Type 0 where
   pub some : 0 < marks.lanes
   pub few : length marks.items ≤ 68 * marks.lanes
   pub counted : (j : ℕ) → slice_index columns j ≡ marked (λ t. bit marks.items (j * marks.lanes + t)) marks.lanes

@@ -12,7 +12,7 @@ news H s p = H p && not (bit s.known.items p)
 -- The positions of a set are given: those that weren't known take the bits V, and are fresh. Nothing else has changed.
 pub record Hears (c : Checks) (H V : ℕ → Bool) (old new : Lanes) : Type 0 where
   pub known : (p : ℕ) → bit new.known.items p ≡ (bit old.known.items p || H p)
-  pub fresh : (p : ℕ) → bit new.fresh.items p ≡ (bit old.fresh.items p || news H old p)
+  pub pending : (p : ℕ) → bit new.pending.items p ≡ (bit old.pending.items p || news H old p)
   pub bits : (p : ℕ) → bit new.bits.items p ≡ (bit old.bits.items p || (news H old p && V p))
   pub order : new.order ≡ old.order
   pub lanes : AreLanes c new

@@ -9,9 +9,9 @@ use Rattle.nr_peel.specs.declared.fix.Fix.{Fix}
 use Rattle.nr_peel.specs.declared.lanes.Lanes.{Lanes}
 use Rattle.nr_peel.specs.declared.lifted.Lifted.{Lifted}
 
--- the step by which row t of row block i fixes its position in the block of column j, which is rotated by `turn`
-abbrev pub turned_step : ℕ → ℕ → ℕ → ℕ → ℕ → Fix
-turned_step z i j turn t = record { row = i; lane = t; pos = j * z + (t + turn) % z }
+-- the step by which row t of row block i fixes its position in the block of column j, which is rotated by `rotation`
+abbrev pub rotated_step : ℕ → ℕ → ℕ → ℕ → ℕ → Fix
+rotated_step z i j rotation t = record { row = i; lane = t; pos = j * z + (t + rotation) % z }
 
 -- the steps of those of the first n rows that are marked
 abbrev pub steps_below : (ℕ → Fix) → (ℕ → Bool) → ℕ → List Fix
@@ -34,13 +34,13 @@ hits set z j M i t e = (e.row == i) && M (one_at z t j (value_in set e))
 -- else has changed.
 pub record TakesLane (l : Lifted) (e : Entry) (ones sums : List ℕ) (old new : Lanes) : Type 0 where
   pub known : (p : ℕ) → bit new.known.items p ≡ (bit old.known.items p || marks_of l.plan.z e.col (value_in l.plan.set e) (lacks l.plan.z e.col (value_in l.plan.set e) ones (bit old.known.items)) p)
-  pub fresh : (p : ℕ) → bit new.fresh.items p ≡ (bit old.fresh.items p || marks_of l.plan.z e.col (value_in l.plan.set e) (lacks l.plan.z e.col (value_in l.plan.set e) ones (bit old.known.items)) p)
+  pub pending : (p : ℕ) → bit new.pending.items p ≡ (bit old.pending.items p || marks_of l.plan.z e.col (value_in l.plan.set e) (lacks l.plan.z e.col (value_in l.plan.set e) ones (bit old.known.items)) p)
   pub bits : (p : ℕ) → bit new.bits.items p ≡ (bit old.bits.items p || marks_of l.plan.z e.col (value_in l.plan.set e) (λ t. lacks l.plan.z e.col (value_in l.plan.set e) ones (bit old.known.items) t && is_set sums t) p)
-  pub order : new.order.items ≡ old.order.items ++ steps_below (turned_step l.plan.z e.row e.col (value_in l.plan.set e % l.plan.z)) (lacks l.plan.z e.col (value_in l.plan.set e) ones (bit old.known.items)) l.plan.z
+  pub order : new.order.items ≡ old.order.items ++ steps_below (rotated_step l.plan.z e.row e.col (value_in l.plan.set e % l.plan.z)) (lacks l.plan.z e.col (value_in l.plan.set e) ones (bit old.known.items)) l.plan.z
   pub capacity : vec_capacity new.order ≡ vec_capacity old.order
   pub known_long : length new.known.items ≡ length old.known.items
-  pub fresh_long : length new.fresh.items ≡ length old.fresh.items
+  pub pending_long : length new.pending.items ≡ length old.pending.items
   pub bits_long : length new.bits.items ≡ length old.bits.items
   pub known_lanes : new.known.lanes ≡ old.known.lanes
-  pub fresh_lanes : new.fresh.lanes ≡ old.fresh.lanes
+  pub pending_lanes : new.pending.lanes ≡ old.pending.lanes
   pub bits_lanes : new.bits.lanes ≡ old.bits.lanes

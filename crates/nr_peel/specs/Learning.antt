@@ -7,32 +7,32 @@ use Rattle.nr_ldpcenc.specs.Rows.{Meets}
 use Rattle.nr_peel.specs.Peeling.{GivesAll, HasBits, KeepsAllWords, KeepsBits, KeepsKnown, Peeling, TakesAll, fillers, left_of}
 use Rattle.nr_peel.specs.State.{lifted_checks}
 use Rattle.nr_peel.specs.Swept.{IsSettledSweep, sweep_view}
-use Rattle.nr_peel.specs.declared.learner.Learner.{Learner}
+use Rattle.nr_peel.specs.declared.sweep_peeler.SweepPeeler.{SweepPeeler}
 use Rattle.nr_peel.specs.declared.lifted.Lifted.{Lifted}
 
 -- what it is seen as
-abbrev pub learner_view : Lifted → Learner → Peeling
-learner_view l s = sweep_view l s.given.items s.sweep
+abbrev pub sweep_peeler_view : Lifted → SweepPeeler → Peeling
+sweep_peeler_view l s = sweep_view l s.given.items s.sweep
 
 -- what was given is followed to its end, the fillers are given, and what is left is counted
-pub record IsLearner (l : Lifted) (s : Learner) : Type 0 where
+pub record IsSweepPeeler (l : Lifted) (s : SweepPeeler) : Type 0 where
   pub sweep : IsSettledSweep l s.given.items s.sweep
   pub fillers : (p : ℕ) → l.plan.kdash ≤ p → p < l.plan.k → bit s.given.items p ≡ true
   pub counted : s.left ≡ left_of l.plan.kdash s.sweep.lanes.known.items
 
 -- the positions of a set H are given, and those that weren't known take the bits V
-pub record Learns (l : Lifted) (H V : ℕ → Bool) (old new : Learner) : Type 0 where
-  pub learner : IsLearner l new
-  pub given : GivesAll H (learner_view l old) (learner_view l new)
-  pub known : KeepsKnown (learner_view l old) (learner_view l new)
-  pub bits : KeepsBits (learner_view l old) (learner_view l new)
-  pub taken : TakesAll H V (learner_view l old) (learner_view l new)
-  pub words : KeepsAllWords H V (learner_view l old) (learner_view l new)
+pub record Learns (l : Lifted) (H V : ℕ → Bool) (old new : SweepPeeler) : Type 0 where
+  pub sweep_peeler : IsSweepPeeler l new
+  pub given : GivesAll H (sweep_peeler_view l old) (sweep_peeler_view l new)
+  pub known : KeepsKnown (sweep_peeler_view l old) (sweep_peeler_view l new)
+  pub bits : KeepsBits (sweep_peeler_view l old) (sweep_peeler_view l new)
+  pub taken : TakesAll H V (sweep_peeler_view l old) (sweep_peeler_view l new)
+  pub words : KeepsAllWords H V (sweep_peeler_view l old) (sweep_peeler_view l new)
   pub steps : take (length old.sweep.lanes.order.items) new.sweep.lanes.order.items ≡ old.sweep.lanes.order.items
   pub visited : old.sweep.touches ≤ new.sweep.touches
 
 -- The fillers alone are given, as zeros: each word that meets every row and is zero at the fillers has the known bits.
-pub record IsFilled (l : Lifted) (s : Learner) : Type 0 where
-  pub learner : IsLearner l s
+pub record IsFilled (l : Lifted) (s : SweepPeeler) : Type 0 where
+  pub sweep_peeler : IsSweepPeeler l s
   pub given : s.given.items ≡ fillers (lifted_checks l) (numbers l.plan)
   pub words : (w : ℕ → Bool) → Meets (lifted_checks l) w → ((q : ℕ) → filler l.plan.kdash l.plan.k q ≡ true → w q ≡ false) → HasBits s.sweep.lanes.known.items s.sweep.lanes.bits.items w

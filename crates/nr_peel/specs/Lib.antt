@@ -15,5 +15,5 @@ pub mod Swept
 pub mod Learning
 pub mod Counters
 pub mod Taken
-pub mod ByPosition
-pub mod Work
+pub mod Worklist
+pub mod Engine

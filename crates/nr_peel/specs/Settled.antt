@@ -27,8 +27,8 @@ pub record IsHeld (c : Checks) (s : Sweep) : Type 0 where
   pub small : 16 * all_pairs c + c.rows + 4 < 2 ^ 62
 
 -- no position is fresh: the counts know of all that is known
-abbrev pub HasNoFresh : Lanes → Type 0
-HasNoFresh s = (p : ℕ) → bit s.fresh.items p ≡ false
+abbrev pub HasNonePending : Lanes → Type 0
+HasNonePending s = (p : ℕ) → bit s.pending.items p ≡ false
 
 -- the counts have fallen by the fresh positions, each pair of a row and a fresh position was visited, and nothing else
 -- has changed
@@ -38,14 +38,14 @@ pub record CatchesUp (c : Checks) (old new : Sweep) : Type 0 where
   pub visits : new.touches + sum new.counts.items ≡ old.touches + sum old.counts.items
   pub visited : old.touches ≤ new.touches
   pub worked : work_of new.counts + 2 * old.touches ≤ work_of old.counts + 2 * new.touches
-  pub no_fresh : HasNoFresh new.lanes
+  pub none_pending : HasNonePending new.lanes
   pub known : new.lanes.known ≡ old.lanes.known
   pub bits : new.lanes.bits ≡ old.lanes.bits
   pub order : new.lanes.order ≡ old.lanes.order
   pub counts_lanes : new.counts.lanes ≡ old.counts.lanes
   pub counts_long : length new.counts.items ≡ length old.counts.items
-  pub fresh_lanes : new.lanes.fresh.lanes ≡ old.lanes.fresh.lanes
-  pub fresh_long : length new.lanes.fresh.items ≡ length old.lanes.fresh.items
+  pub pending_lanes : new.lanes.pending.lanes ≡ old.lanes.pending.lanes
+  pub pending_long : length new.lanes.pending.items ≡ length old.lanes.pending.items
 
 -- the steps are accepted in turn from a set, and with it are all that is known
 pub record Reaches (c : Checks) (G : ℕ → Bool) (s : Lanes) : Type 0 where

@@ -3,7 +3,7 @@ use Rattle.std.specs.Prelude.{◌≡◌, ℕ, ◌+◌, ◌*◌, ◌<◌, ◌≤�
 use Rattle.nr_bitvec.specs.Bit.{bit}
 use Rattle.nr_lifting.specs.Planes.{BlockCounts}
 use Rattle.nr_ldpcenc.specs.Rows.{Checks}
-use Rattle.nr_peel.specs.Settled.{HasNoFresh, IsHeld}
+use Rattle.nr_peel.specs.Settled.{HasNonePending, IsHeld}
 use Rattle.nr_peel.specs.Sweeps.{AreLanes}
 use Rattle.nr_peel.specs.declared.lanes.Lanes.{Lanes}
 use Rattle.nr_peel.specs.declared.sweep.Sweep.{Sweep}
@@ -18,7 +18,7 @@ pub record AreDegrees (c : Checks) (counts : BlockCounts) : Type 0 where
 pub record AreBlank (c : Checks) (s : Lanes) : Type 0 where
   pub lanes : AreLanes c s
   pub unknown : (p : ℕ) → bit s.known.items p ≡ false
-  pub no_fresh : HasNoFresh s
+  pub none_pending : HasNonePending s
   pub order : s.order.items ≡ []
   pub room : c.rows * c.lanes ≤ vec_capacity s.order
 

@@ -16,7 +16,7 @@ CountsOf c K counts = (i t : ℕ) → i < c.rows → t < c.lanes → slice_index
 
 -- the positions that the counts know of: those that are known and not fresh
 abbrev pub counted_in : Lanes → ℕ → Bool
-counted_in s p = bit s.known.items p && not (bit s.fresh.items p)
+counted_in s p = bit s.known.items p && not (bit s.pending.items p)
 
 -- whether row number k has so many unknown positions
 abbrev pub has_count : ℕ → List ℕ → ℕ → Bool
@@ -34,19 +34,19 @@ searched_pairs c counts = searched_below c counts (c.rows * c.lanes)
 pub record AreLanes (c : Checks) (s : Lanes) : Type 0 where
   pub known_long : length s.known.items ≡ c.size
   pub bits_long : length s.bits.items ≡ c.size
-  pub fresh_long : length s.fresh.items ≡ c.size
+  pub pending_long : length s.pending.items ≡ c.size
   pub known_lanes : s.known.lanes ≡ c.lanes
   pub bits_lanes : s.bits.lanes ≡ c.lanes
-  pub fresh_lanes : s.fresh.lanes ≡ c.lanes
+  pub pending_lanes : s.pending.lanes ≡ c.lanes
   pub blank : (p : ℕ) → bit s.known.items p ≡ false → bit s.bits.items p ≡ false
-  pub within : Within (bit s.fresh.items) (bit s.known.items)
+  pub within : Within (bit s.pending.items) (bit s.known.items)
 
 -- Steps fixed positions that weren't known. They are accepted, in turn, from any set that has the positions of K. Each
 -- word that meets every row and had the known bits has them still.
 pub record Fixes (c : Checks) (K : ℕ → Bool) (old new : Lanes) : Type 0 where
   pub steps : List Fix
   pub known : (p : ℕ) → bit new.known.items p ≡ (bit old.known.items p || is_fixed_by steps p)
-  pub fresh : (p : ℕ) → bit new.fresh.items p ≡ (bit old.fresh.items p || is_fixed_by steps p)
+  pub pending : (p : ℕ) → bit new.pending.items p ≡ (bit old.pending.items p || is_fixed_by steps p)
   pub order : new.order.items ≡ old.order.items ++ steps
   pub missing : (p : ℕ) → is_fixed_by steps p ≡ true → bit old.known.items p ≡ false
   pub accepted : (S : ℕ → Bool) → Within K S → all_accepted c S steps ≡ true

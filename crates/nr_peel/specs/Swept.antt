@@ -3,7 +3,7 @@ use Rattle.std.specs.Prelude.{◌≡◌, ◌≢◌, ℕ, Bool, List, length, sli
 use Rattle.nr_bitvec.specs.Bit.{bit}
 use Rattle.nr_shifttable.specs.Accepted.{IsTable}
 use Rattle.nr_peel.specs.Peeling.{Peeling}
-use Rattle.nr_peel.specs.Settled.{HasNoFresh, IsHeld, Reaches}
+use Rattle.nr_peel.specs.Settled.{HasNonePending, IsHeld, Reaches}
 use Rattle.nr_peel.specs.State.{lifted_checks, seen_of}
 use Rattle.nr_peel.specs.declared.lifted.Lifted.{Lifted}
 use Rattle.nr_peel.specs.declared.sweep.Sweep.{Sweep}
@@ -13,7 +13,7 @@ pub record IsSettledSweep (l : Lifted) (given : List Bool) (s : Sweep) : Type 0 
   pub table : IsTable l.table.now
   pub given_long : length given ≡ (lifted_checks l).size
   pub held : IsHeld (lifted_checks l) s
-  pub no_fresh : HasNoFresh s.lanes
+  pub none_pending : HasNonePending s.lanes
   pub settled : (k : ℕ) → slice_index s.counts.items k ≢ 1
   pub reaches : Reaches (lifted_checks l) (bit given) s.lanes
 

@@ -16,13 +16,13 @@ impl<'t> Lifted<'t> {
         ensures { result ≡ holder self.now.plan.set self.now.plan.z lane entry.now }
     {
         let z = self.plan.z;
-        let turn = self.turn(entry);
-        let turned = if lane < turn {
-            lane + (z - turn)
+        let rotation = self.rotation(entry);
+        let rotated = if lane < rotation {
+            lane + (z - rotation)
         } else {
-            lane - turn
+            lane - rotation
         };
-        u32::from(entry.row) * z + turned
+        u32::from(entry.row) * z + rotated
     }
 }
 

@@ -53,7 +53,7 @@ impl Lanes {
             if lane_count(&lane) != 0 {
                 let bits = common(&lane, &read_lane(values, j * size, size));
                 self.known.join(j, &lane);
-                self.fresh.join(j, &lane);
+                self.pending.join(j, &lane);
                 self.bits.join(j, &bits);
             }
         }
@@ -69,7 +69,7 @@ impl Lanes {
             let j = (pos / lifted.plan.z) as usize;
             let lane = one_marked((pos % lifted.plan.z) as usize);
             self.known.join(j, &lane);
-            self.fresh.join(j, &lane);
+            self.pending.join(j, &lane);
             if value {
                 self.bits.join(j, &lane);
             }

@@ -10,21 +10,21 @@ ghost use Rattle.nr_shifttable.specs.Tails.{value_in};
 ghost use Rattle.nr_ldpcenc.specs.Parity.{parity};
 ghost use Rattle.nr_ldpcenc.specs.Rows.{positions};
 ghost use Rattle.nr_peel.specs.Due.{due_in, work_of};
-ghost use Rattle.nr_peel.specs.Lanes.{TakesLane, hits, lacks, steps_below, turned_step};
+ghost use Rattle.nr_peel.specs.Lanes.{TakesLane, hits, lacks, steps_below, rotated_step};
 ghost use Rattle.nr_peel.specs.Starts.{AreBlank};
 ghost use Rattle.nr_peel.specs.State.{lifted_checks};
 ghost use Rattle.nr_peel.specs.Sweeps.{AreLanes, CountsOf, IsBlockSought, counted_in, has_count};
 
 use crate::fix::Fix;
-use crate::fresh_marks::FreshMarks;
+use crate::pending_marks::PendingMarks;
 use crate::lifted::Lifted;
 use crate::row_counts::RowCounts;
-use nr_lifting::{Rings, common, lane_count, turn_lane};
+use nr_lifting::{DoubledLanes, common, lane_count, rotate_lane};
 use nr_shifttable::Entry;
 use std::alloc::{AllocError, Global};
 
 // The sum of the bits of each row of a row of blocks, modulo two.
-pub(crate) fn row_sum(bits: &Rings, lifted: &Lifted<'_>, row: &[Entry]) -> [u64; 6]
+pub(crate) fn row_sum(bits: &DoubledLanes, lifted: &Lifted<'_>, row: &[Entry]) -> [u64; 6]
     requires same { bits.now.lanes ≡ lifted.now.plan.z }
     requires columns { All (λ e. (e.col + 1) * lifted.now.plan.z ≤ length bits.now.items) row.now }
     ensures sums { (t : ℕ) → t < lifted.now.plan.z → is_set result t
@@ -33,8 +33,8 @@ pub(crate) fn row_sum(bits: &Rings, lifted: &Lifted<'_>, row: &[Entry]) -> [u64;
 {
     let mut sum = [0; 6];
     for entry in row {
-        let turn = lifted.turn(entry);
-        bits.add_turned(usize::from(entry.col), turn as usize, &mut sum);
+        let rotation = lifted.rotation(entry);
+        bits.add_rotated(usize::from(entry.col), rotation as usize, &mut sum);
     }
     sum
 }
@@ -42,7 +42,7 @@ pub(crate) fn row_sum(bits: &Rings, lifted: &Lifted<'_>, row: &[Entry]) -> [u64;
 // The counts of a column's rows fall by one where a position that is marked stands in them.
 pub(crate) fn lower_column(
     counts: &mut RowCounts,
-    marks: &Rings,
+    marks: &DoubledLanes,
     lifted: &Lifted<'_>,
     column: &[Entry],
     j: u32,
@@ -66,32 +66,32 @@ pub(crate) fn lower_column(
     ensures due { due_in counts.new.due ≤ due_in counts.old.due + length column.now }
 {
     for entry in column {
-        let turn = lifted.turn(entry);
-        counts.lower(usize::from(entry.row), marks, j as usize, turn as usize);
+        let rotation = lifted.rotation(entry);
+        counts.lower(usize::from(entry.row), marks, j as usize, rotation as usize);
     }
 }
 
-// The position of a row in the block of a column that is rotated by `turn`.
-fn placed(size: u32, col: u16, turn: u32, lane: u32) -> u32
+// The position of a row in the block of a column that is rotated by `rotation`.
+fn placed(size: u32, col: u16, rotation: u32, lane: u32) -> u32
     requires lane { lane < size }
-    requires turn { turn < size }
+    requires rotation { rotation < size }
     requires few { size ≤ 384 }
-    ensures { result ≡ col * size + (lane + turn) % size }
+    ensures { result ≡ col * size + (lane + rotation) % size }
 {
-    let turned = lane + turn;
-    let turned = if turned < size { turned } else { turned - size };
-    u32::from(col) * size + turned
+    let rotated = lane + rotation;
+    let rotated = if rotated < size { rotated } else { rotated - size };
+    u32::from(col) * size + rotated
 }
 
 // Adds the steps of those of 64 rows of an entry's block that a word marks, from row `start` on.
-fn push_word(order: &mut Vec<Fix>, entry: &Entry, size: u32, turn: u32, start: u32, word: u64)
+fn push_word(order: &mut Vec<Fix>, entry: &Entry, size: u32, rotation: u32, start: u32, word: u64)
     requires few { size ≤ 384 }
-    requires turn { turn < size }
+    requires rotation { rotation < size }
     requires inside { (b : ℕ) → bit_at word b ≡ 1 → start + b < size }
     requires room { length order.old.items + marked (λ b. bit_at word b == 1) 64
         ≤ vec_capacity order.old }
     ensures steps { order.new.items ≡ order.old.items
-        ++ steps_below (λ b. turned_step size entry.now.row entry.now.col turn (start + b))
+        ++ steps_below (λ b. rotated_step size entry.now.row entry.now.col rotation (start + b))
         (λ b. bit_at word b == 1) 64 }
     ensures capacity { vec_capacity order.new ≡ vec_capacity order.old }
 {
@@ -103,7 +103,7 @@ fn push_word(order: &mut Vec<Fix>, entry: &Entry, size: u32, turn: u32, start: u
         order.push_reserved(Fix {
             row: entry.row,
             lane: lane as u16,
-            pos: placed(size, entry.col, turn, lane),
+            pos: placed(size, entry.col, rotation, lane),
         });
         rest = rest >> skip >> 1;
         at += skip + 1;
@@ -111,18 +111,18 @@ fn push_word(order: &mut Vec<Fix>, entry: &Entry, size: u32, turn: u32, start: u
 }
 
 // Adds the steps of those rows of an entry's block that a lane marks.
-fn push_lane(order: &mut Vec<Fix>, entry: &Entry, size: u32, turn: u32, lane: &[u64; 6])
+fn push_lane(order: &mut Vec<Fix>, entry: &Entry, size: u32, rotation: u32, lane: &[u64; 6])
     requires few { size ≤ 384 }
-    requires turn { turn < size }
+    requires rotation { rotation < size }
     requires clear { IsClear lane.now size }
     requires room { length order.old.items + marked (is_set lane.now) size
         ≤ vec_capacity order.old }
     ensures steps { order.new.items ≡ order.old.items
-        ++ steps_below (turned_step size entry.now.row entry.now.col turn) (is_set lane.now) size }
+        ++ steps_below (rotated_step size entry.now.row entry.now.col rotation) (is_set lane.now) size }
     ensures capacity { vec_capacity order.new ≡ vec_capacity order.old }
 {
     for i in 0..6u32 {
-        push_word(order, entry, size, turn, 64 * i, lane[i as usize]);
+        push_word(order, entry, size, rotation, 64 * i, lane[i as usize]);
     }
 }
 
@@ -130,9 +130,9 @@ fn push_lane(order: &mut Vec<Fix>, entry: &Entry, size: u32, turn: u32, lane: &[
 // the rows don't know of yet, and the steps that fixed positions.
 #[derive(Drop)]
 pub(crate) struct Lanes {
-    pub(crate) known: Rings,
-    pub(crate) bits: Rings,
-    pub(crate) fresh: FreshMarks,
+    pub(crate) known: DoubledLanes,
+    pub(crate) bits: DoubledLanes,
+    pub(crate) pending: PendingMarks,
     pub(crate) order: Vec<Fix>,
 }
 
@@ -143,16 +143,16 @@ impl Lanes {
     {
         let size = lifted.plan.z as usize;
         let cols = lifted.plan.graph.cols() as usize;
-        let known = Rings::new(alloc, cols, size)?;
-        let bits = Rings::new(alloc, cols, size)?;
-        let fresh = FreshMarks::new(alloc, cols, size)?;
+        let known = DoubledLanes::new(alloc, cols, size)?;
+        let bits = DoubledLanes::new(alloc, cols, size)?;
+        let pending = PendingMarks::new(alloc, cols, size)?;
         // Each row fixes one position at most.
         let rows = lifted.plan.graph.rows() as usize;
         let order = Vec::with_capacity(alloc, rows * size)?;
         Ok(Lanes {
             known,
             bits,
-            fresh,
+            pending,
             order,
         })
     }
@@ -167,10 +167,10 @@ impl Lanes {
     )
         requires known { (entry.now.col + 1) * lifted.now.plan.z ≤ length self.old.known.items }
         requires bits { (entry.now.col + 1) * lifted.now.plan.z ≤ length self.old.bits.items }
-        requires fresh { (entry.now.col + 1) * lifted.now.plan.z ≤ length self.old.fresh.items }
+        requires pending { (entry.now.col + 1) * lifted.now.plan.z ≤ length self.old.pending.items }
         requires same { self.old.known.lanes ≡ lifted.now.plan.z }
         requires same_bits { self.old.bits.lanes ≡ lifted.now.plan.z }
-        requires same_fresh { self.old.fresh.lanes ≡ lifted.now.plan.z }
+        requires same_pending { self.old.pending.lanes ≡ lifted.now.plan.z }
         requires clear { IsClear ones.now lifted.now.plan.z }
         requires room { length self.old.order.items
             + marked (lacks lifted.now.plan.z entry.now.col (value_in lifted.now.plan.set entry.now)
@@ -178,16 +178,16 @@ impl Lanes {
         ensures { TakesLane lifted.now entry.now ones.now sums.now self.old self.new }
     {
         let size = lifted.plan.z;
-        let turn = lifted.turn(entry);
+        let rotation = lifted.rotation(entry);
         let col = usize::from(entry.col);
-        let lane = self.known.lacking(col, turn as usize, ones);
+        let lane = self.known.lacking(col, rotation as usize, ones);
         if lane_count(&lane) != 0 {
-            push_lane(&mut self.order, entry, size, turn, &lane);
-            let back = (size - turn) % size;
-            let marks = turn_lane(&lane, size as usize, back as usize);
-            let bits = turn_lane(&common(&lane, sums), size as usize, back as usize);
+            push_lane(&mut self.order, entry, size, rotation, &lane);
+            let back = (size - rotation) % size;
+            let marks = rotate_lane(&lane, size as usize, back as usize);
+            let bits = rotate_lane(&common(&lane, sums), size as usize, back as usize);
             self.known.join(col, &marks);
-            self.fresh.join(col, &marks);
+            self.pending.join(col, &marks);
             self.bits.join(col, &bits);
         }
     }

@@ -12,24 +12,24 @@
 //! Used by nr_blockdesk, nr_linkcommands and worked_examples.
 #![tactic(auto)]
 
-mod by_position;
+mod worklist_peeler;
 mod check;
 mod counters;
 mod fix;
-mod fresh_marks;
+mod pending_marks;
 mod hearing;
 mod lanes;
 pub mod laws;
-mod learner;
+mod sweep_peeler;
 mod lifted;
 mod lowering;
 mod peeler;
 mod rounds;
 mod row_counts;
-mod settle;
+mod propagate;
 mod sweep;
 mod unknown;
-mod work;
+mod engine;
 
 pub use check::{check_order, check_stuck};
 pub use fix::Fix;

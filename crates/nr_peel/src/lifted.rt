@@ -40,7 +40,7 @@ pub(crate) struct Lifted<'t> {
 
 impl<'t> Lifted<'t> {
     // An entry's shift value, reduced modulo the lifting size.
-    pub(crate) fn turn(&self, entry: &Entry) -> u32
+    pub(crate) fn rotation(&self, entry: &Entry) -> u32
         ensures value { result ≡ value_in self.now.plan.set entry.now % self.now.plan.z }
         ensures small { result < self.now.plan.z }
         ensures size { self.now.plan.z ≤ 384 }
@@ -59,9 +59,9 @@ impl<'t> Lifted<'t> {
             ≡ one_at self.now.plan.z lane entry.now.col (value_in self.now.plan.set entry.now) }
     {
         let z = self.plan.z;
-        let turned = lane + self.turn(entry);
-        let turned = if turned < z { turned } else { turned - z };
-        u32::from(entry.col) * z + turned
+        let rotated = lane + self.rotation(entry);
+        let rotated = if rotated < z { rotated } else { rotated - z };
+        u32::from(entry.col) * z + rotated
     }
 
     // The entries of a row of blocks.

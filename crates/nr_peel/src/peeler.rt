@@ -27,7 +27,7 @@ ghost use Rattle.nr_peel.specs.Peeling.{
 
 use crate::fix::Fix;
 use crate::lifted::{Lifted, reciprocal};
-use crate::work::Work;
+use crate::engine::Engine;
 use nr_bitvec::Bits;
 use nr_ldpcenc::EncFault;
 use nr_segment::Plan;
@@ -40,18 +40,18 @@ use std::marker::Model;
 #[derive(Drop)]
 pub struct Peeler<'t> {
     lifted: Lifted<'t>,
-    work: Work,
+    engine: Engine,
 }
 
 impl<'t> Model for Peeler<'t> {
     ghost use Rattle.nr_peel.specs.Peeling.{Peeling};
-    ghost use Rattle.nr_peel.specs.Work.{IsWork, work_view};
+    ghost use Rattle.nr_peel.specs.Engine.{IsEngine, engine_view};
 
     ghost Value = { Peeling };
 
-    ghost view = { λ a. work_view a.lifted a.work };
+    ghost view = { λ a. engine_view a.lifted a.engine };
 
-    ghost invariant = { λ a. IsWork a.lifted a.work };
+    ghost invariant = { λ a. IsEngine a.lifted a.engine };
 }
 
 impl<'t> Peeler<'t> {
@@ -75,8 +75,8 @@ impl<'t> Peeler<'t> {
             plan: *plan,
             reciprocal: reciprocal(plan.z),
         };
-        match Work::new(alloc, &lifted) {
-            Ok(work) => Ok(Peeler { lifted, work }),
+        match Engine::new(alloc, &lifted) {
+            Ok(engine) => Ok(Peeler { lifted, engine }),
             Err(_) => Err(EncFault::Memory),
         }
     }
@@ -95,7 +95,7 @@ impl<'t> Peeler<'t> {
         ensures counted { self.old.touches ≤ self.new.touches }
         ensures peeled { IsPeeled self.new }
     {
-        self.work.learn(&self.lifted, pos, value);
+        self.engine.learn(&self.lifted, pos, value);
     }
 
     /// Gives all positions that `heard` marks; those that weren't known take the bits of `values`, and all that follows
@@ -115,7 +115,7 @@ impl<'t> Peeler<'t> {
         ensures counted { self.old.touches ≤ self.new.touches }
         ensures peeled { IsPeeled self.new }
     {
-        self.work.learn_all(&self.lifted, heard, values);
+        self.engine.learn_all(&self.lifted, heard, values);
     }
 
     /// The bit of a position, if it is known.
@@ -124,7 +124,7 @@ impl<'t> Peeler<'t> {
         ensures value { result ≡ known_at self.now pos }
         ensures peeled { IsPeeled self.now }
     {
-        self.work.known(pos as usize)
+        self.engine.known(pos as usize)
     }
 
     /// The bits of the positions from `pos` on, the first of them lowest, and zero for one that isn't known; and how many
@@ -137,7 +137,7 @@ impl<'t> Peeler<'t> {
         ensures few { result.1 ≤ 64 }
         ensures peeled { IsPeeled self.now }
     {
-        self.work.bits_from(pos as usize)
+        self.engine.bits_from(pos as usize)
     }
 
     /// How many positions below K' aren't known. They are counted as they become known, so this takes the same time
@@ -146,7 +146,7 @@ impl<'t> Peeler<'t> {
         ensures value { result ≡ left_of self.now.numbers.kdash self.now.known }
         ensures peeled { IsPeeled self.now }
     {
-        self.work.left()
+        self.engine.left()
     }
 
     /// How many visits there were of a row and a position of it. With n the number of pairs of a row and a known position
@@ -158,7 +158,7 @@ impl<'t> Peeler<'t> {
         ensures few { result ≤ most_visits self.now }
         ensures peeled { IsPeeled self.now }
     {
-        self.work.touches()
+        self.engine.touches()
     }
 
     /// The positions that were given, marked: the fillers and those learned.
@@ -166,7 +166,7 @@ impl<'t> Peeler<'t> {
         ensures value { result.now.items ≡ self.now.given }
         ensures peeled { IsPeeled self.now }
     {
-        self.work.given()
+        self.engine.given()
     }
 
     /// The steps that fixed positions, in turn. Where no position below K' is left they are a fix order from the
@@ -178,7 +178,7 @@ impl<'t> Peeler<'t> {
             → IsFixOrder (checks_for self.now) self.now.numbers.kdash
             (bit self.now.given) self.now.order }
     {
-        self.work.order()
+        self.engine.order()
     }
 
     /// All positions that aren't known, ascending. Where a position below K' is left they are a stopping set beside
@@ -193,7 +193,7 @@ impl<'t> Peeler<'t> {
         ensures stops { IfOk result (λ v. StopsWhereLeft self.now v.items) }
         ensures largest { IfOk result (λ v. HasEachStopping self.now v.items) }
     {
-        let positions = self.work.unknown(&self.lifted)?;
+        let positions = self.engine.unknown(&self.lifted)?;
         Ok(positions)
     }
 }

@@ -47,8 +47,8 @@ impl Tally {
         clear(&mut self.more);
         for entry in row {
             let from = usize::from(entry.col) * z;
-            let turn = lifted.turn(entry) as usize;
-            tally_block(z, &mut self.ones, &mut self.more, marks, from, turn);
+            let rotation = lifted.rotation(entry) as usize;
+            tally_block(z, &mut self.ones, &mut self.more, marks, from, rotation);
         }
     }
 

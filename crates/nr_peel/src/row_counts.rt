@@ -7,13 +7,13 @@ ghost use Rattle.nr_bitvec.specs.Packed.{IsClear};
 ghost use Rattle.nr_lifting.specs.Rings.{is_set, marked};
 ghost use Rattle.nr_peel.specs.Due.{due_in, raised, work_of};
 
-use nr_lifting::{Planes, Rings, lane_count};
+use nr_lifting::{BitSlicedCounts, DoubledLanes, lane_count};
 use std::marker::Model;
 
 // Counts of rows. A row block that isn't due has no row with a count of one.
 #[derive(Drop)]
 pub(crate) struct RowCounts {
-    planes: Planes,
+    planes: BitSlicedCounts,
     due: [bool; 46],
     operations: u64,
 }
@@ -30,7 +30,7 @@ impl Model for RowCounts {
 
 impl RowCounts {
     // Counts of `rows` row blocks, all of which are due.
-    pub(crate) fn new(planes: Planes, rows: usize) -> RowCounts
+    pub(crate) fn new(planes: BitSlicedCounts, rows: usize) -> RowCounts
         requires some { 0 < planes.lanes }
         requires few { rows ≤ 46 }
         requires long { length planes.items ≡ rows * planes.lanes }
@@ -49,20 +49,20 @@ impl RowCounts {
         }
     }
 
-    // Takes one off those counts of row block `i` to which a rotation by `turn` brings a one of block `j` of `marks`. None
+    // Takes one off those counts of row block `i` to which a rotation by `rotation` brings a one of block `j` of `marks`. None
     // of them is 0. The row block is due then.
-    pub(crate) fn lower(&mut self, i: usize, marks: &Rings, j: usize, turn: usize)
+    pub(crate) fn lower(&mut self, i: usize, marks: &DoubledLanes, j: usize, rotation: usize)
         requires block { (i + 1) * self.old.lanes ≤ length self.old.items }
         requires mark { (j + 1) * marks.now.lanes ≤ length marks.now.items }
         requires same { marks.now.lanes ≡ self.old.lanes }
-        requires turn { turn < self.old.lanes }
+        requires rotation { rotation < self.old.lanes }
         requires enough { (t : ℕ) → t < self.old.lanes
-            → (if bit marks.now.items (j * self.old.lanes + (t + turn) % self.old.lanes) then 1 else 0)
+            → (if bit marks.now.items (j * self.old.lanes + (t + rotation) % self.old.lanes) then 1 else 0)
             ≤ slice_index self.old.items (i * self.old.lanes + t) }
         requires room { self.old.operations + 1 < 2 ^ 64 }
         ensures falls { (h t : ℕ) → t < self.old.lanes
             → slice_index self.new.items (h * self.old.lanes + t)
-            + (if (i == h) && bit marks.now.items (j * self.old.lanes + (t + turn) % self.old.lanes) then 1 else 0)
+            + (if (i == h) && bit marks.now.items (j * self.old.lanes + (t + rotation) % self.old.lanes) then 1 else 0)
             ≡ slice_index self.old.items (h * self.old.lanes + t) }
         ensures long { length self.new.items ≡ length self.old.items }
         ensures lanes { self.new.lanes ≡ self.old.lanes }
@@ -71,7 +71,7 @@ impl RowCounts {
     {
         self.operations += 1;
         self.due[i] = true;
-        self.planes.lower(i, marks, j, turn);
+        self.planes.lower(i, marks, j, rotation);
     }
 
     // Marks those counts of row block `i` that are exactly one. Where it isn't due nothing is read.

@@ -11,16 +11,16 @@ ghost use Rattle.nr_peel.specs.Sweeps.{AreLanes, AreSought, CountsOf, counted_in
 use crate::lanes::Lanes;
 use crate::lifted::Lifted;
 use crate::row_counts::RowCounts;
-use nr_lifting::Planes;
+use nr_lifting::BitSlicedCounts;
 use std::alloc::{AllocError, Global};
 
 // The counts with which nothing is known.
-fn degrees(alloc: Global, lifted: &Lifted<'_>) -> Result<Planes, AllocError>
+fn degrees(alloc: Global, lifted: &Lifted<'_>) -> Result<BitSlicedCounts, AllocError>
     requires { IsTable lifted.now.table.now }
     ensures { IfOk result (AreDegrees (lifted_checks lifted.now)) }
 {
     let rows = lifted.plan.graph.rows();
-    let mut counts = Planes::new(alloc, rows as usize, lifted.plan.z as usize)?;
+    let mut counts = BitSlicedCounts::new(alloc, rows as usize, lifted.plan.z as usize)?;
     for i in 0..rows {
         counts.fill(i as usize, lifted.row(i).len() as u8);
     }

@@ -11,7 +11,7 @@ use Rattle.nr_graphpick.specs.Graph.{cols_of}
 use Rattle.nr_ratematch.specs.Places.{GivesPlaces}
 use Rattle.nr_ratematch.specs.Rounds.{index_of}
 use Rattle.nr_ratematch.specs.Selection.{Circular, IsSent, place_of, selected}
-use Rattle.nr_ratematch.specs.declared.round.Round.{Round}
+use Rattle.nr_ratematch.specs.declared.round.BufferCycle.{BufferCycle}
 
 -- n places further round
 pub turned-more : (first k n count : ℕ) → (first + (k + n) % count) % count ≡ ((first + k % count) % count + n) % count
@@ -36,7 +36,7 @@ pub record IsRun (b : Circular) (word : List Bool) (rv k n position : ℕ) : Typ
   pub inside : position + n ≤ length word
 
 -- the positions of a round's places
-pub run-places : (round : Round) (b : Circular) (rv at k n position : ℕ) → GivesPlaces round b rv → at ≡ (round.first + k % round.count) % round.count → at + n ≤ round.count
+pub run-places : (round : BufferCycle) (b : Circular) (rv at k n position : ℕ) → GivesPlaces round b rv → at ≡ (round.first + k % round.count) % round.count → at + n ≤ round.count
     → ((j : ℕ) → j < n → index_of round.front round.skip (at + j) + round.punctured ≡ position + j) → (j : ℕ) → j < n → place_of b rv (k + j) ≡ position + j
 run-places round b rv at k n position gives here inside places j below =
     let turned : (round.first + (k + j) % round.count) % round.count ≡ at + j =
@@ -52,7 +52,7 @@ run-inside b rv k n position long some sent e places =
     omega (arith, some, coded, last, e)
 
 -- a round's run, or the first part of one
-pub run-is : (round : Round) (b : Circular) (word : List Bool) (rv at k most n position : ℕ) → 0 < n → n ≤ most → GivesPlaces round b rv → ((m : ℕ) → IsSent b (place_of b rv m))
+pub run-is : (round : BufferCycle) (b : Circular) (word : List Bool) (rv at k most n position : ℕ) → 0 < n → n ≤ most → GivesPlaces round b rv → ((m : ℕ) → IsSent b (place_of b rv m))
     → length word ≡ cols_of b.graph * b.z → at ≡ (round.first + k % round.count) % round.count → at + most ≤ round.count
     → ((j : ℕ) → j < most → index_of round.front round.skip (at + j) + round.punctured ≡ position + j) → IsRun b word rv k n position
 run-is round b word rv at k most n position some few gives sent long here inside places =

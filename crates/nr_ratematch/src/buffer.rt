@@ -7,7 +7,7 @@ ghost use Rattle.nr_ratematch.specs.Places.{GivesPlaces};
 ghost use Rattle.nr_ratematch.specs.Selection.{buffer_said, start_columns, start_of, place_of, IsSent};
 
 use crate::fault::RmFault;
-use crate::round::Round;
+use crate::round::BufferCycle;
 use nr_graphpick::Graph;
 use nr_segment::Plan;
 use std::marker::Model;
@@ -137,7 +137,7 @@ impl Buffer {
     }
 
     // The places of the buffer once round, as a redundancy version takes them.
-    pub(crate) fn round(&self, rv: u32) -> Round
+    pub(crate) fn round(&self, rv: u32) -> BufferCycle
         requires { rv < 4 }
         ensures places { GivesPlaces result self.now rv }
         ensures sent { (k : ℕ) → IsSent self.now (place_of self.now rv k) }
@@ -146,7 +146,7 @@ impl Buffer {
         let punctured = 2 * self.z;
         let front = (self.kdash - punctured).min(self.ncb);
         let end = (self.k - punctured).min(self.ncb);
-        Round {
+        BufferCycle {
             front,
             skip: end - front,
             count: self.ncb - (end - front),

@@ -5,7 +5,7 @@ ghost use Rattle.nr_ratematch.specs.Rounds.{index_of, index_from};
 
 // The places of a buffer that are no fillers, from the start of a redundancy version on.
 #[derive(Clone, Copy)]
-pub(crate) struct Round {
+pub(crate) struct BufferCycle {
     // How many places stand before the fillers.
     pub front: u32,
     // How many places fillers have.
@@ -21,7 +21,7 @@ pub(crate) struct Round {
     ghost short: { count + skip + punctured < 2 ^ 16 },
 }
 
-impl Round {
+impl BufferCycle {
     // The position in the codeword of selected bit k.
     pub(crate) fn place(self, k: u32) -> u32
         ensures { result

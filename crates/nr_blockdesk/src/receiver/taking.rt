@@ -80,10 +80,10 @@ impl<'t> Receiver<'t> {
             &mut self.stores,
             &mut self.peelers,
             &self.words,
-            &mut self.told,
+            &mut self.part_masks,
             &mut selected,
         );
-        self.standing = self.standing.after(agreed);
+        self.candidate_state = self.candidate_state.after(agreed);
         Ok(self.answer(list))
     }
 }

@@ -2,7 +2,7 @@ use Rattle.std.proofs.Common.{◌≡◌, ◌+◌, Err, List, length, take, ap, s
 use Rattle.std.proofs.lemmas.Result.{err_from_is_err_and}
 use Rattle.nr_blockdesk.specs.Explains.{Reception}
 use Rattle.nr_blockdesk.specs.Link.{Link, link_said}
-use Rattle.nr_blockdesk.specs.Processing.{Processing}
+use Rattle.nr_blockdesk.specs.Processing.{ProcessesView}
 use Rattle.nr_blockdesk.specs.declared.outcome.Outcome.TheVariants as outcome
 use Rattle.example_link.specs.Delivery.{arrivals}
 use Rattle.example_link.proofs.Rounds.{HasHeard, arrivals-more, given-err, heard-all, heard-begun, heard-more, heard-none, no-contradiction, refused-take, said-all, said-unmade, said-unsent, said-untaken, same-ok, sender-made, sent-bits, sent-one, taken-up}
@@ -18,8 +18,8 @@ pub loop-attempt-init : goal.loop-attempt-init
 loop-attempt-init c = λ link said.
     let none = c.new-processes.ensures.none in
     heard-none c.new-processes.result c.begin.new.self c.args.p c.len.result link outcome.Open c.requires.place
-    (ap (λ (s : Processing). length s.places) none) c.in_ok-begin.ensures.begins
-    (ap (λ (s : Processing). link_said s.table s.settings c.len.result) none ∙ ap (link_said c.args.table.now c.args.settings) c.len.ensures.value ∙ said)
+    (ap (λ (s : ProcessesView). length s.places) none) c.in_ok-begin.ensures.begins
+    (ap (λ (s : ProcessesView). link_said s.table s.settings c.len.result) none ∙ ap (link_said c.args.table.now c.args.settings) c.len.ensures.value ∙ said)
     (sym (c.nothing_is_open.ensures link (c.links_are_sound.ensures c.args.table.now c.args.settings (length c.args.block.now.items) link c.requires.accepted said)))
 
 pub returns-in_err-sent-clause-said : goal.returns-in_err-sent-clause-said

@@ -2,7 +2,7 @@ use Rattle.std.proofs.Common.{◌≡◌, ◌≢◌, ℕ, ◌<◌, [], Bool, fals
 use Rattle.std.proofs.lemmas.Bool.{cases_eq}
 use Rattle.std.proofs.lemmas.List.{get_or_read}
 use Rattle.nr_bitvec.specs.Bit.{bit}
-use Rattle.nr_harqbuf.specs.Record.{Heardbits}
+use Rattle.nr_harqbuf.specs.Record.{HeardBits}
 use Rattle.nr_ldpcenc.specs.Codeword.{codeword}
 use Rattle.nr_segment.specs.Plan.{word_size}
 use Rattle.nr_segment.specs.CodeBlock.{code_bits, numbers}
@@ -23,7 +23,7 @@ agrees-requires c =
     let elem = c.index-stores-r.result in
     let r = c.loop-r.r in
     let inside : r < length c.args.stores.now = omega (arith, c.requires.all, c.loop-r-test.true) in
-    ap (λ (s : Heardbits). length s.first) (get_or_read c.args.stores.now r elem inside c.index-stores-r.is (record { first = []; clash = false }))
+    ap (λ (s : HeardBits). length s.first) (get_or_read c.args.stores.now r elem inside c.index-stores-r.is (record { first = []; clash = false }))
     ∙ c.requires.stored r c.loop-r-test.true
     ∙ sym c.encode_into.ensures.long
 

@@ -41,7 +41,7 @@ loop-r-preserved c =
           part-is c.index-stores-r.is c.index-peelers-r.is hears inv.done inv.later inv.later_peelers;
       later = later-kept c.args.stores.now c.loop-r.stores r c.hear_part-agreed.new.store inv.later;
       later_peelers = peelers-kept c.args.peelers.now c.loop-r.peelers r c.hear_part-agreed.new.peeler inv.later_peelers;
-      untold = c.hear_part-agreed.ensures.untold;
+      empty = c.hear_part-agreed.ensures.empty;
       room = λ n has. c.hear_part-agreed.ensures.room n (inv.room n has);
       agreed = all-tell-more c.loop-r.agreed c.hear_part-agreed.result c.args.words.now c.index-words-r.result c.args.stores.now S r (get_or S r s) c.hear_part-agreed.new.store stored
           (get_or_read c.args.words.now r c.index-words-r.result worded c.index-words-r.is [])

@@ -4,8 +4,8 @@ use Rattle.nr_graphpick.specs.Graph.{cols_of}
 use Rattle.nr_peel.specs.Peeling.{Peeling}
 use Rattle.nr_blockdesk.specs.Heard.{heard_of}
 use Rattle.nr_blockdesk.specs.Marks.{HasRoomFor, heards}
-use Rattle.nr_blockdesk.specs.Receiving.{AllTell, HearsPart, piece}
-use Rattle.nr_blockdesk.specs.Telling.{IsUntold}
+use Rattle.nr_blockdesk.specs.Receiving.{AllAgree, HearsPart, piece}
+use Rattle.nr_blockdesk.specs.Telling.{AreEmpty}
 use Rattle.nr_blockdesk.proofs.hearing.hear.Given as goal
 
 abbrev pub invariant-loop-r : goal.invariant-loop-r
@@ -17,7 +17,7 @@ invariant-loop-r l = record {
       (heard_of l.fn.stores q) (slice_index_or l.fn.peelers q d) (heard_of l.stores q) (slice_index_or l.peelers q d);
   later : (q : ℕ) → l.r ≤ q → heard_of l.stores q ≡ heard_of l.fn.stores q;
   later_peelers : (q : ℕ) (d : Peeling) → l.r ≤ q → slice_index_or l.peelers q d ≡ slice_index_or l.fn.peelers q d;
-  untold : IsUntold (cols_of l.buffer.graph * l.buffer.z) l.told;
+  empty : AreEmpty (cols_of l.buffer.graph * l.buffer.z) l.part_masks;
   room : (n : ℕ) → HasRoomFor n l.fn.selected → HasRoomFor n l.selected;
-  agreed : AllTell l.agreed l.r l.words l.fn.stores l.stores;
+  agreed : AllAgree l.agreed l.r l.words l.fn.stores l.stores;
 }

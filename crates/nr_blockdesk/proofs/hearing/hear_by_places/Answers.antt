@@ -2,14 +2,14 @@ use Rattle.std.proofs.Common.{◌≡◌, ℕ, ◌+◌, ◌<◌, Bool, true, fals
 use Rattle.std.specs.Bool.{beq}
 use Rattle.std.proofs.lemmas.List.{length-set}
 use Rattle.nr_bitvec.specs.Bit.{bit}
-use Rattle.nr_harqbuf.specs.Record.{Heardbits, first_at, is_heard, record_of, with_hearing}
+use Rattle.nr_harqbuf.specs.Record.{HeardBits, first_at, is_heard, record_of, with_hearing}
 use Rattle.nr_ratematch.specs.Selection.{place_of}
 use Rattle.nr_interleave.specs.Interleaving.{seat_of}
 use Rattle.nr_blockdesk.specs.Explains.{heard_at}
 use Rattle.nr_blockdesk.specs.Hearing.{heard_bit}
 use Rattle.nr_blockdesk.specs.Marks.{heards_of, place_heard}
-use Rattle.nr_blockdesk.specs.Receiving.{Fits, IsNews, Tells, part_hearings}
-use Rattle.nr_blockdesk.specs.declared.told.Told.{Told}
+use Rattle.nr_blockdesk.specs.Receiving.{Fits, IsNews, Agrees, part_hearings}
+use Rattle.nr_blockdesk.specs.declared.part_masks.PartMasks.{PartMasks}
 use Rattle.nr_blockdesk.proofs.Hears.{first-kept, first-set, fits-before, part-none, part-some, recorded-more, tells-more}
 use Rattle.nr_blockdesk.proofs.Marked.{heard-at, length-heards, some-marked}
 use Rattle.nr_blockdesk.proofs.News.{news-again, news-more}
@@ -29,67 +29,67 @@ loop-m-preserved c =
     let here : heard_at places c.loop-m.m ≡ place_heard (bit part.heard.now.items (part.from + c.loop-m.m)) (bit part.value.now.items (part.from + c.loop-m.m)) =
     heard-at H V part.from part.count c.loop-m.m c.loop-m-test.true in
     let m = c.loop-m.m in
-    let s : Heardbits = c.loop-m.store in
+    let s : HeardBits = c.loop-m.store in
     let inv = c.loop-m.invariant in
-    let s₀ : Heardbits = c.args.store.now in
+    let s₀ : HeardBits = c.args.store.now in
     let heard-word : ℕ → Bool = bit c.args.word.now in
     let n : ℕ = length s₀.first in
     elim c.if-get.branch [
       | then-get w ↦
           let pos : ℕ = w.place-pos.result in
           let v : Bool = w.get-bit.result in
-          let told : heard_bit (heard_at places m) ≡ Some v =
+          let part_masks : heard_bit (heard_at places m) ≡ Some v =
           ap heard_bit here ∙ ap (λ a. heard_bit (place_heard a (bit V at))) (sym c.get.ensures ∙ w.if-get.true) ∙ some-marked (bit V at) ∙ ap Some (sym w.get-bit.ensures) in
           let at : pos ≡ place_of b tx.rv (seat_of tx.qm (length places) m) = w.place-pos.ensures.value ∙ ap (place_of b tx.rv) (w.seat.ensures.value ∙ ap (λ n. seat_of tx.qm n m) (sym (length-heards H V part.from part.count))) in
           let store-is : c.if-get.store ≡ with_hearing s (pos, v) = w.store-is ∙ w.hear.ensures in
           let inside : pos < length s.first = omega (arith, w.place-pos.ensures.sent.coded, inv.news.long, c.requires.sized.stored) in
           record {
             recorded = λ hs e. recorded-more c.record_continues.ensures n hs (part_hearings b tx places m) (part_hearings b tx places (m + 1)) s c.if-get.store pos v
-                (omega (arith, inside, inv.news.long)) (inv.recorded hs e) store-is (part-some b tx places m pos v told at);
+                (omega (arith, inside, inv.news.long)) (inv.recorded hs e) store-is (part-some b tx places m pos v part_masks at);
             news = elim w.if-is_none.branch [
               | then-is_none u ↦
                   let unheard : is_heard (first_at s pos) ≡ false =
                   ap is_heard (sym w.heard.ensures) ∙ heard-some w.heard.result ∙ w.is_none.ensures ∙ ap not u.if-is_none.true in
-                  let heard-is : c.if-get.told.heard.items ≡ set c.loop-m.told.heard.items pos true = ap (λ (t : Told). t.heard.items) (w.told-is ∙ u.told-is) ∙ u.set.ensures.items in
-                  let value-is : c.if-get.told.value.items ≡ set c.loop-m.told.value.items pos v = ap (λ (t : Told). t.value.items) (w.told-is ∙ u.told-is) ∙ u.set-then-is_none.ensures.items in
-                  subst (λ (l : List Bool). IsNews s₀ c.if-get.store c.if-get.told.heard.items l) (sym value-is)
-                  (subst (λ (l : List Bool). IsNews s₀ c.if-get.store l (set c.loop-m.told.value.items pos v)) (sym heard-is)
-                  (news-more s₀ s c.if-get.store c.loop-m.told.heard.items c.loop-m.told.value.items pos v inside
+                  let heard-is : c.if-get.part_masks.heard.items ≡ set c.loop-m.part_masks.heard.items pos true = ap (λ (t : PartMasks). t.heard.items) (w.part_masks-is ∙ u.part_masks-is) ∙ u.set.ensures.items in
+                  let value-is : c.if-get.part_masks.value.items ≡ set c.loop-m.part_masks.value.items pos v = ap (λ (t : PartMasks). t.value.items) (w.part_masks-is ∙ u.part_masks-is) ∙ u.set-then-is_none.ensures.items in
+                  subst (λ (l : List Bool). IsNews s₀ c.if-get.store c.if-get.part_masks.heard.items l) (sym value-is)
+                  (subst (λ (l : List Bool). IsNews s₀ c.if-get.store l (set c.loop-m.part_masks.value.items pos v)) (sym heard-is)
+                  (news-more s₀ s c.if-get.store c.loop-m.part_masks.heard.items c.loop-m.part_masks.value.items pos v inside
                   (omega (arith, w.place-pos.ensures.sent.coded, inv.marks)) (omega (arith, w.place-pos.ensures.sent.coded, inv.bits)) unheard
-                  (ap (λ (h : Heardbits). h.first) store-is ∙ first-set s pos v unheard) inv.news))
+                  (ap (λ (h : HeardBits). h.first) store-is ∙ first-set s pos v unheard) inv.news))
               | else-is_none u ↦
                   let known : is_heard (first_at s pos) ≡ true =
                   ap is_heard (sym w.heard.ensures) ∙ heard-some w.heard.result ∙ w.is_none.ensures ∙ ap not u.if-is_none.false in
-                  subst (λ (t : Told). IsNews s₀ c.if-get.store t.heard.items t.value.items) (sym (w.told-is ∙ u.told-is))
-                  (news-again s₀ s c.if-get.store c.loop-m.told.heard.items c.loop-m.told.value.items
-                  (ap (λ (h : Heardbits). h.first) store-is ∙ first-kept s pos v known) inv.news)
+                  subst (λ (t : PartMasks). IsNews s₀ c.if-get.store t.heard.items t.value.items) (sym (w.part_masks-is ∙ u.part_masks-is))
+                  (news-again s₀ s c.if-get.store c.loop-m.part_masks.heard.items c.loop-m.part_masks.value.items
+                  (ap (λ (h : HeardBits). h.first) store-is ∙ first-kept s pos v known) inv.news)
             ];
             marks = elim w.if-is_none.branch [
-              | then-is_none u ↦ ap (λ (t : Told). length t.heard.items) (w.told-is ∙ u.told-is) ∙ ap length u.set.ensures.items ∙ length-set c.loop-m.told.heard.items pos true ∙ inv.marks
-              | else-is_none u ↦ ap (λ (t : Told). length t.heard.items) (w.told-is ∙ u.told-is) ∙ inv.marks
+              | then-is_none u ↦ ap (λ (t : PartMasks). length t.heard.items) (w.part_masks-is ∙ u.part_masks-is) ∙ ap length u.set.ensures.items ∙ length-set c.loop-m.part_masks.heard.items pos true ∙ inv.marks
+              | else-is_none u ↦ ap (λ (t : PartMasks). length t.heard.items) (w.part_masks-is ∙ u.part_masks-is) ∙ inv.marks
             ];
             bits = elim w.if-is_none.branch [
-              | then-is_none u ↦ ap (λ (t : Told). length t.value.items) (w.told-is ∙ u.told-is) ∙ ap length u.set-then-is_none.ensures.items ∙ length-set c.loop-m.told.value.items pos v ∙ inv.bits
-              | else-is_none u ↦ ap (λ (t : Told). length t.value.items) (w.told-is ∙ u.told-is) ∙ inv.bits
+              | then-is_none u ↦ ap (λ (t : PartMasks). length t.value.items) (w.part_masks-is ∙ u.part_masks-is) ∙ ap length u.set-then-is_none.ensures.items ∙ length-set c.loop-m.part_masks.value.items pos v ∙ inv.bits
+              | else-is_none u ↦ ap (λ (t : PartMasks). length t.value.items) (w.part_masks-is ∙ u.part_masks-is) ∙ inv.bits
             ];
-            fewer = λ f fits. inv.fewer f (fits-before s pos v f inside (subst (λ (h : Heardbits). Fits h f) store-is fits));
-            told = subst (λ b. Tells b heard-word s₀ c.if-get.store)
+            fewer = λ f fits. inv.fewer f (fits-before s pos v f inside (subst (λ (h : HeardBits). Fits h f) store-is fits));
+            part_masks = subst (λ b. Agrees b heard-word s₀ c.if-get.store)
                 (sym (w.agreed-is ∙ ap (λ b. c.loop-m.agreed && beq b v) w.get-then-get.ensures))
-                (subst (λ (h : Heardbits). Tells (c.loop-m.agreed && beq (heard-word pos) v) heard-word s₀ h) (sym store-is)
-                (tells-more s pos v heard-word inside c.loop-m.agreed s₀ inv.told));
+                (subst (λ (h : HeardBits). Agrees (c.loop-m.agreed && beq (heard-word pos) v) heard-word s₀ h) (sym store-is)
+                (tells-more s pos v heard-word inside c.loop-m.agreed s₀ inv.part_masks));
           }
       | else-get w ↦
           let none : heard_bit (heard_at places m) ≡ None =
           ap heard_bit here ∙ ap (λ a. heard_bit (place_heard a (bit V at))) (sym c.get.ensures ∙ w.if-get.false) in
           record {
             recorded = λ hs e. w.store-is ∙ inv.recorded hs e ∙ ap (λ l. record_of n (hs ++ l)) (sym (part-none b tx places m none));
-            news = subst (λ (t : Told). IsNews s₀ c.if-get.store t.heard.items t.value.items) (sym w.told-is)
-                (subst (λ (h : Heardbits). IsNews s₀ h c.loop-m.told.heard.items c.loop-m.told.value.items) (sym w.store-is) inv.news);
-            marks = ap (λ (t : Told). length t.heard.items) w.told-is ∙ inv.marks;
-            bits = ap (λ (t : Told). length t.value.items) w.told-is ∙ inv.bits;
-            fewer = λ f fits. inv.fewer f (subst (λ (h : Heardbits). Fits h f) w.store-is fits);
-            told = subst (λ b. Tells b heard-word s₀ c.if-get.store) (sym w.agreed-is)
-                (subst (λ (h : Heardbits). Tells c.loop-m.agreed heard-word s₀ h) (sym w.store-is) inv.told);
+            news = subst (λ (t : PartMasks). IsNews s₀ c.if-get.store t.heard.items t.value.items) (sym w.part_masks-is)
+                (subst (λ (h : HeardBits). IsNews s₀ h c.loop-m.part_masks.heard.items c.loop-m.part_masks.value.items) (sym w.store-is) inv.news);
+            marks = ap (λ (t : PartMasks). length t.heard.items) w.part_masks-is ∙ inv.marks;
+            bits = ap (λ (t : PartMasks). length t.value.items) w.part_masks-is ∙ inv.bits;
+            fewer = λ f fits. inv.fewer f (subst (λ (h : HeardBits). Fits h f) w.store-is fits);
+            part_masks = subst (λ b. Agrees b heard-word s₀ c.if-get.store) (sym w.agreed-is)
+                (subst (λ (h : HeardBits). Agrees c.loop-m.agreed heard-word s₀ h) (sym w.store-is) inv.part_masks);
           }
     ]
 
@@ -98,12 +98,12 @@ returns-clause-hears c =
     let part = c.args.part.now in
     let b = c.args.buffer.now in
     let tx = c.args.tx.now in
-    let s₀ : Heardbits = c.args.store.now in
+    let s₀ : HeardBits = c.args.store.now in
     let all : c.loop-m.m ≡ length (heards_of part) =
     omega (arith, c.loop-m-test.false, c.loop-m.auto.m-end, length-heards part.heard.now.items part.value.now.items part.from part.count) in
     record {
       recorded = λ hs e. c.loop-m.invariant.recorded hs e ∙ ap (λ k. record_of (length s₀.first) (hs ++ part_hearings b tx (heards_of part) k)) all;
-      tied = λ link tied. c.learn_told.ensures.tied link s₀ c.loop-m.store c.loop-m.invariant.news tied;
+      tied = λ link tied. c.learn_masks.ensures.tied link s₀ c.loop-m.store c.loop-m.invariant.news tied;
       fewer = c.loop-m.invariant.fewer;
-      visited = c.learn_told.ensures.visited;
+      visited = c.learn_masks.ensures.visited;
     }

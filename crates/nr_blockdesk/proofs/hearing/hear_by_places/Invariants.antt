@@ -3,18 +3,18 @@
 use Rattle.std.proofs.Common.{◌≡◌, ℕ, ◌*◌, Bool, List, ◌++◌, length}
 use Rattle.nr_bitvec.specs.Bit.{bit}
 use Rattle.nr_graphpick.specs.Graph.{cols_of}
-use Rattle.nr_harqbuf.specs.Record.{Hearing, record_of}
+use Rattle.nr_harqbuf.specs.Record.{Observation, record_of}
 use Rattle.nr_blockdesk.specs.Marks.{heards_of}
-use Rattle.nr_blockdesk.specs.Receiving.{Fits, IsNews, Tells, part_hearings}
+use Rattle.nr_blockdesk.specs.Receiving.{Fits, IsNews, Agrees, part_hearings}
 use Rattle.nr_blockdesk.proofs.hearing.hear_by_places.Given as goal
 
 abbrev pub invariant-loop-m : goal.invariant-loop-m
 invariant-loop-m l = record {
-  recorded : (hs : List Hearing) → l.fn.store ≡ record_of (length l.fn.store.first) hs
+  recorded : (hs : List Observation) → l.fn.store ≡ record_of (length l.fn.store.first) hs
       → l.store ≡ record_of (length l.fn.store.first) (hs ++ part_hearings l.buffer l.tx (heards_of l.part) l.m);
-  news : IsNews l.fn.store l.store l.told.heard.items l.told.value.items;
-  marks : length l.told.heard.items ≡ cols_of l.buffer.graph * l.buffer.z;
-  bits : length l.told.value.items ≡ cols_of l.buffer.graph * l.buffer.z;
+  news : IsNews l.fn.store l.store l.part_masks.heard.items l.part_masks.value.items;
+  marks : length l.part_masks.heard.items ≡ cols_of l.buffer.graph * l.buffer.z;
+  bits : length l.part_masks.value.items ≡ cols_of l.buffer.graph * l.buffer.z;
   fewer : (w : ℕ → Bool) → Fits l.store w → Fits l.fn.store w;
-  told : Tells l.agreed (bit l.word) l.fn.store l.store;
+  part_masks : Agrees l.agreed (bit l.word) l.fn.store l.store;
 }

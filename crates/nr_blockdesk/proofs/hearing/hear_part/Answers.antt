@@ -4,12 +4,12 @@ use Rattle.nr_blockdesk.specs.Receiving.{part_hearings}
 use Rattle.nr_blockdesk.proofs.Telling.{says-part}
 use Rattle.nr_blockdesk.proofs.hearing.hear_part.Goals as goal
 
-pub returns-then-deposit-clause-hears : goal.returns-then-deposit-clause-hears
-returns-then-deposit-clause-hears c =
+pub returns-then-gather_part-clause-hears : goal.returns-then-gather_part-clause-hears
+returns-then-gather_part-clause-hears c =
     let part = c.args.part.now in
     let b = c.args.buffer.now in
     let tx = c.args.tx.now in
-    c.teach.ensures.hears (part_hearings b tx (heards_of part) (length (heards_of part)))
-    (λ p v. sym (c.deposit.ensures.told c.if-deposit.true p v
+    c.absorb.ensures.hears (part_hearings b tx (heards_of part) (length (heards_of part)))
+    (λ p v. sym (c.gather_part.ensures.part_masks c.if-gather_part.true p v
     ∙ says-part b tx part.heard.now.items part.value.now.items c.read.new.self.heard.items c.read.new.self.value.items part.from part.count c.requires.order c.requires.whole
     part.inside part.both c.read.ensures.marks c.read.ensures.bits p v))

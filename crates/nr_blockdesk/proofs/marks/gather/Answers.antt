@@ -16,4 +16,4 @@ loop-j-preserved c =
     c.loop-j.invariant
 
 pub returns : goal.returns
-returns c = λ j below. c.loop-j.invariant.told j (omega (arith, below, c.loop-j-test.false))
+returns c = λ j below. c.loop-j.invariant.part_masks j (omega (arith, below, c.loop-j-test.false))

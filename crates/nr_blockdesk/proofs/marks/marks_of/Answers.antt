@@ -26,15 +26,15 @@ loop-i-preserved c =
       bits = omega (arith, two, next, start, inv.bits);
       marks_room = omega (arith, one, c.push_word.ensures.room, inv.marks_room);
       bits_room = omega (arith, two, c.push_word-in-loop-i.ensures.room, inv.bits_room);
-      told = λ m below.
+      part_masks = λ m below.
           ap (λ l. place_heard (bit l m) (bit c.push_word-in-loop-i.new.self.items m)) c.push_word.ensures.items
           ∙ ap (λ l. place_heard (bit (marks ++ low_first wide now) m) (bit l m)) c.push_word-in-loop-i.ensures.items
           ∙ heards-more places marks bits (64 * c.loop-i.i) wide now word (inv.marks ∙ start) (inv.bits ∙ start)
-          (λ k low. inv.told k (omega (arith, low, start))) c.gather-marks.ensures m (omega (arith, below, next));
+          (λ k low. inv.part_masks k (omega (arith, low, start))) c.gather-marks.ensures m (omega (arith, below, next));
     }
 
 pub returns-clause-same : goal.returns-clause-same
 returns-clause-same c =
     let inv = c.loop-i.invariant in
     let all : min (64 * c.loop-i.i) (length c.args.places.now) ≡ length c.args.places.now = omega (arith, c.loop-i-test.false, c.div_ceil-i-end.ensures) in
-    heards-are c.loop-i.heard.items c.loop-i.value.items c.args.places.now (inv.marks ∙ all) (λ m below. inv.told m (omega (arith, below, all)))
+    heards-are c.loop-i.heard.items c.loop-i.value.items c.args.places.now (inv.marks ∙ all) (λ m below. inv.part_masks m (omega (arith, below, all)))

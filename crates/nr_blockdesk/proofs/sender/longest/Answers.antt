@@ -6,14 +6,14 @@ use Rattle.std.proofs.lemmas.List.Sums.{get_or-le-sum_by}
 use Rattle.nr_blockdesk.proofs.sender.longest.Goals as goal
 
 -- the greater of two numbers, as code says it
-max-told : (a b : ℕ) → ord_max nat_cmp a b ≡ max a b
-max-told a b = grind (arith, nat_tests)
+max-part_masks : (a b : ℕ) → ord_max nat_cmp a b ≡ max a b
+max-part_masks a b = grind (arith, nat_tests)
 
 pub loop-e-preserved : goal.loop-e-preserved
 loop-e-preserved c =
     let lengths = c.args.lengths.now in
     let e = slice_index c.args.lengths.now c.loop-e.e-index in
-    let greater : c.max-longest.result ≡ max c.loop-e.longest (slice_index c.args.lengths.now c.loop-e.e-index) = c.max-longest.ensures ∙ max-told c.loop-e.longest e in
+    let greater : c.max-longest.result ≡ max c.loop-e.longest (slice_index c.args.lengths.now c.loop-e.e-index) = c.max-longest.ensures ∙ max-part_masks c.loop-e.longest e in
     record {
       all = λ r below. elim (cases_eq r c.loop-e.e-index) [
         | inl here ↦

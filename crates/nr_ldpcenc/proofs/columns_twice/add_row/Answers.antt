@@ -6,7 +6,7 @@ use Rattle.nr_shifttable.specs.declared.entry.Entry.{Entry}
 use Rattle.nr_ldpcenc.specs.Doubled.{col_bit}
 use Rattle.nr_ldpcenc.specs.Solving.{sum_before}
 use Rattle.nr_ldpcenc.proofs.Adding.{sum-next, entry_bit, entry_bit-there, entry_bit-not, gained, not_gained}
-use Rattle.nr_ldpcenc.proofs.TurnedSums.{added_bit, turned_bit}
+use Rattle.nr_ldpcenc.proofs.TurnedSums.{added_bit, rotated_bit}
 use Rattle.nr_ldpcenc.proofs.columns_twice.add_row.Goals as goal
 use Rattle.nr_ldpcenc.proofs.columns_twice.add_row.Goals.{then-col-before, else-col-before}
 
@@ -29,17 +29,17 @@ loop-entry-preserved g c =
       | then-col-before b ↦ λ t lt.
           let col = c.from-col.result in
           let p = b.from.result % z in
-          let same : new t ≡ (place b.add_turned.new.sum t == 1) = ap (λ (l : List ℕ). place l t == 1) b.sum-is in
-          let gain : (place b.add_turned.new.sum t == 1) ≡ old t ⊕ (place cols (64 * (12 * col) + p + t) == 1) =
-          added_bit _ _ cols t (64 * (12 * col) + p + t) (b.add_turned.ensures t (omega (arith, lt))) in
-          let turned : (place cols (64 * (12 * col) + p + t) == 1) ≡ w (col * z + (t + b.from.result % z) % z) =
-          turned_bit z j cols col t p b.from.result c.requires.twice b.if-col-before.true lt refl (mod_below b.from.result z c.requires.some) in
+          let same : new t ≡ (place b.add_rotated.new.sum t == 1) = ap (λ (l : List ℕ). place l t == 1) b.sum-is in
+          let gain : (place b.add_rotated.new.sum t == 1) ≡ old t ⊕ (place cols (64 * (12 * col) + p + t) == 1) =
+          added_bit _ _ cols t (64 * (12 * col) + p + t) (b.add_rotated.ensures t (omega (arith, lt))) in
+          let rotated : (place cols (64 * (12 * col) + p + t) == 1) ≡ w (col * z + (t + b.from.result % z) % z) =
+          rotated_bit z j cols col t p b.from.result c.requires.twice b.if-col-before.true lt refl (mod_below b.from.result z c.requires.some) in
           let added : w (col * z + (t + b.from.result % z) % z) ≡ entry_bit set z w j t e =
           entry_bit-there set z w j t e col b.from.result c.from-col.ensures b.from.ensures b.if-col-before.true in
           gained (first t) (old t) (new t)
           (sum_before set z w j t (take i row)) (sum_before set z w j t (take (i + 1) row)) (entry_bit set z w j t e)
           (c.loop-entry.invariant t lt)
-          (same ∙ gain ∙ ap (λ y. old t ⊕ y) (turned ∙ added))
+          (same ∙ gain ∙ ap (λ y. old t ⊕ y) (rotated ∙ added))
           (next t)
       | else-col-before b ↦ λ t lt.
           let same : new t ≡ old t = ap (λ (l : List ℕ). place l t == 1) b.sum-is in

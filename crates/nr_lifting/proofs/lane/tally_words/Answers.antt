@@ -7,8 +7,8 @@ pub loop-i-preserved : goal.loop-i-preserved
 loop-i-preserved c =
     let ones = c.loop-i.invariant.ones_at.kept c.loop-i.i (omega arith) in
     let more = c.loop-i.invariant.more_at.kept c.loop-i.i (omega arith) in
-    let is = c.turned_word-turned.ensures.turned in
-    let none = c.turned_word-turned.ensures.clear in
+    let is = c.rotated_word-rotated.ensures.rotated in
+    let none = c.rotated_word-rotated.ensures.clear in
     record {
       ones_at = written_more _ _ _ _ _ _ _ c.loop-i.invariant.ones_at (omega arith) refl
           (λ j short below. joined_low _ _ _ _ _ _ _ ones c.requires.ones.clear is none j short below)

@@ -1,6 +1,6 @@
 use Rattle.std.proofs.Common.{◌≡◌, ℕ, ◌+◌, ◌<◌, ◌≤◌, List, length, drop, get_or, ap, refl, subst, sym, ◌∙◌, arith}
 use Rattle.std.proofs.lemmas.Result.{IfOk-weaker, err_from_is_err_and}
-use Rattle.nr_blockdesk.specs.Sent.{Sending}
+use Rattle.nr_blockdesk.specs.Sent.{SenderView}
 use Rattle.nr_files.specs.declared.schedule.Transmission.{Transmission}
 use Rattle.nr_linkcommands.specs.Ends.{AllHold, HoldsSummary}
 use Rattle.nr_linkcommands.specs.RunText.{own, received, totals_from}
@@ -12,7 +12,7 @@ use Rattle.nr_linkcommands.proofs.RunTexts.{left-first, left-last, left-more, le
 use Rattle.nr_linkcommands.proofs.run_command.write_outcomes.Goals as goal
 
 -- what is kept of the block whose slot is read
-kept-at : (senders : List Sending) (schedule : List Transmission) (slots : List Slot) (i : ℕ) (sender : Sending) (slot : Slot) → i < length senders → sender ≡ get_or senders i sender → i < length slots → slot ≡ get_or slots i slot → AllHold senders schedule slots → HoldsSummary sender.link (received sender (own (i + 1) schedule)) slot.summary
+kept-at : (senders : List SenderView) (schedule : List Transmission) (slots : List Slot) (i : ℕ) (sender : SenderView) (slot : Slot) → i < length senders → sender ≡ get_or senders i sender → i < length slots → slot ≡ get_or slots i slot → AllHold senders schedule slots → HoldsSummary sender.link (received sender (own (i + 1) schedule)) slot.summary
 kept-at senders schedule slots i sender slot within at inside is held =
     subst (λ (s : Slot). HoldsSummary sender.link (received sender (own (i + 1) schedule)) s.summary) (sym is) (holds-at senders schedule slots i sender slot within at inside held)
 

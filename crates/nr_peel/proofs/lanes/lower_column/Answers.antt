@@ -24,7 +24,7 @@ lower-requires c =
       block = rw (c.from.ensures, c.loop-entry.invariant.long) (c.requires.rows n none c.loop-entry-test.true);
       mark = rw c.requires.same_marks c.requires.block;
       same = c.requires.same_marks;
-      turn = c.turn-turn.ensures.small;
+      rotation = c.rotation-rotation.ensures.small;
       room = omega (arith, c.loop-entry.invariant.operations, c.loop-entry-test.true, c.requires.room);
       enough = λ t below.
           let p = hits set z c.args.j M e.row t in
@@ -34,7 +34,7 @@ lower-requires c =
           let fell : slice_index c.loop-entry.counts.items (e.row * z + t) + count_by p (take n column) ≡ slice_index c.args.counts.now.items (e.row * z + t) = c.loop-entry.invariant.falls e.row t below in
           let some : count_by p column ≤ slice_index c.args.counts.now.items (e.row * z + t) = c.requires.enough e.row t below in
           let fits : cond (M (one_at z t c.args.j (value_in set e))) 1 0 ≤ slice_index c.loop-entry.counts.items (e.row * z + t) = omega (arith, hit, more, most, fell, some) in
-          rw (c.from.ensures, c.turn-turn.ensures.value) fits;
+          rw (c.from.ensures, c.rotation-rotation.ensures.value) fits;
     })
 
 -- the next entry's counts fall
@@ -48,7 +48,7 @@ loop-entry-preserved c =
     let e = get_or column n none in
     let M = bit c.args.marks.now.items in
     let lanes : c.loop-entry.counts.lanes ≡ z = c.loop-entry.invariant.lanes ∙ c.requires.same in
-    let fell = rw (lanes, c.from.ensures, c.turn-turn.ensures.value) at c.lower.ensures.falls in
+    let fell = rw (lanes, c.from.ensures, c.rotation-rotation.ensures.value) at c.lower.ensures.falls in
     record {
       falls = λ i t below.
           let p = hits set z c.args.j M i t in

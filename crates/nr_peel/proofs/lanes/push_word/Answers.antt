@@ -1,6 +1,6 @@
 use Rattle.std.proofs.Common.{◌≡◌, ◌≢◌, ◌<◌, ◌≤◌, ◌+◌, ◌^◌, ◌==◌, ◌++◌, ℕ, [], ◌∷◌, length, sym, ap, ◌∙◌, arith, length-append}
 use Rattle.std.specs.Int.{bit_at, trailing_zeros, w64}
-use Rattle.nr_peel.specs.Lanes.{steps_below, turned_step}
+use Rattle.nr_peel.specs.Lanes.{steps_below, rotated_step}
 use Rattle.nr_peel.proofs.Steps.{IsLowest, join_steps, lowest, lowest_room, lowest_steps, pushed, rest_left, steps_whole}
 use Rattle.nr_peel.proofs.lanes.push_word.Goals as goal
 
@@ -31,7 +31,7 @@ placed-requires-clause-lane c =
 pub push_reserved-requires : goal.push_reserved-requires
 push_reserved-requires c =
     let low = found c.args.word c.bits.rest c.bits.at c.bits.invariant.few c.bits.invariant.left c.bits-test.true (omega arith) (omega arith) in
-    let step = λ (b : ℕ). turned_step c.args.size c.args.entry.now.row c.args.entry.now.col c.args.turn (c.args.start + b) in
+    let step = λ (b : ℕ). rotated_step c.args.size c.args.entry.now.row c.args.entry.now.col c.args.rotation (c.args.start + b) in
     let long = ap length c.bits.invariant.steps ∙ length-append c.args.order.now.items (steps_below step (λ b. bit_at c.args.word b == 1) c.bits.at) in
     omega (arith, long, c.bits.invariant.capacity, c.requires.room, lowest_room step c.args.word c.bits.at _ low)
 
@@ -43,20 +43,20 @@ bits-smaller c =
 pub bits-preserved : goal.bits-preserved
 bits-preserved c =
     let low = found c.args.word c.bits.rest c.bits.at c.bits.invariant.few c.bits.invariant.left c.bits-test.true (omega arith) (omega arith) in
-    let step = λ (b : ℕ). turned_step c.args.size c.args.entry.now.row c.args.entry.now.col c.args.turn (c.args.start + b) in
+    let step = λ (b : ℕ). rotated_step c.args.size c.args.entry.now.row c.args.entry.now.col c.args.rotation (c.args.start + b) in
     record {
       few = omega (arith, low.inside);
       left = λ j. rest_left c.args.word c.bits.rest c.bits.at _ c.bits.invariant.left j;
       steps =
           join_steps _ _ _ _ _ _ c.push_reserved.ensures.items c.bits.invariant.steps
           (ap (λ s. steps_below step (λ b. bit_at c.args.word b == 1) c.bits.at ++ s ∷ [])
-          (pushed c.args.size c.args.entry.now.row c.args.entry.now.col c.args.turn c.args.start c.bits.at (trailing_zeros w64 c.bits.rest) c.placed.result c.placed.ensures)
+          (pushed c.args.size c.args.entry.now.row c.args.entry.now.col c.args.rotation c.args.start c.bits.at (trailing_zeros w64 c.bits.rest) c.placed.result c.placed.ensures)
           ∙ sym (lowest_steps step c.args.word c.bits.at _ low));
       capacity = c.push_reserved.ensures.capacity ∙ c.bits.invariant.capacity;
     }
 
 pub returns-clause-steps : goal.returns-clause-steps
 returns-clause-steps c =
-    let step = λ (b : ℕ). turned_step c.args.size c.args.entry.now.row c.args.entry.now.col c.args.turn (c.args.start + b) in
+    let step = λ (b : ℕ). rotated_step c.args.size c.args.entry.now.row c.args.entry.now.col c.args.rotation (c.args.start + b) in
     c.bits.invariant.steps
     ∙ ap (λ xs. c.args.order.now.items ++ xs) (steps_whole step c.args.word c.bits.at c.bits.rest c.bits.invariant.few c.bits.invariant.left (omega (arith, c.bits-test.false)))

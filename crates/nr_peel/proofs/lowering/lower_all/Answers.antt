@@ -12,11 +12,11 @@ use Rattle.nr_peel.proofs.lowering.lower_all.Goals.{else-count-ne0, then-count-n
 
 pub loop-j-init : goal.loop-j-init
 loop-j-init c = record {
-  fallen = fallen_none (lifted_checks c.args.lifted.now) c.args.counts.now.items c.args.fresh.now.items c.requires.counts_long;
+  fallen = fallen_none (lifted_checks c.args.lifted.now) c.args.counts.now.items c.args.pending.now.items c.requires.counts_long;
   worked = omega arith;
   counts_lanes = refl;
-  fresh_lanes = refl;
-  fresh_long = refl;
+  pending_lanes = refl;
+  pending_long = refl;
 }
 
 pub lower_column-requires-clause-rows : goal.lower_column-requires-clause-rows
@@ -30,7 +30,7 @@ lower_column-requires-clause-enough c =
     let g = l.plan.graph in
     let es = entries_in g l.table.now in
     rw (c.column-column.ensures, c.rings.ensures)
-    (fallen_enough es l.plan.set l.plan.z (rows_of g) (cols_of g) l.plan.sound.size_some (bit c.args.fresh.now.items) c.loop-j.j c.args.counts.now.items c.loop-j.counts.items c.loop-j.fresh.items c.loop-j.visits c.loop-j.invariant.fallen
+    (fallen_enough es l.plan.set l.plan.z (rows_of g) (cols_of g) l.plan.sound.size_some (bit c.args.pending.now.items) c.loop-j.j c.args.counts.now.items c.loop-j.counts.items c.loop-j.pending.items c.loop-j.visits c.loop-j.invariant.fallen
     c.requires.enough (column_inside l.table.now g c.loop-j.j c.requires.table))
 
 -- the operations so far are at most two a visit
@@ -44,11 +44,11 @@ overflow_mul-visits c =
     let z = l.plan.z in
     let es = entries_in g l.table.now in
     let j = c.loop-j.j in
-    let lanes : c.loop-j.fresh.lanes ≡ z = c.loop-j.invariant.fresh_lanes ∙ c.requires.fresh_lanes in
+    let lanes : c.loop-j.pending.lanes ≡ z = c.loop-j.invariant.pending_lanes ∙ c.requires.pending_lanes in
     let falls = rw (c.column-column.ensures, c.rings.ensures) at c.lower_column.ensures.falls in
     let cleared = rw lanes at c.clear.ensures.cleared in
     let count = rw lanes at c.count-count.ensures in
-    let next = fallen_next es l.plan.set z (rows_of g) (cols_of g) l.plan.sound.size_some (bit c.args.fresh.now.items) j c.args.counts.now.items c.loop-j.counts.items c.loop-j.fresh.items c.loop-j.visits c.loop-j.invariant.fallen
+    let next = fallen_next es l.plan.set z (rows_of g) (cols_of g) l.plan.sound.size_some (bit c.args.pending.now.items) j c.args.counts.now.items c.loop-j.counts.items c.loop-j.pending.items c.loop-j.visits c.loop-j.invariant.fallen
     c.lower_column.new.counts.items c.clear.new.self.items c.count-count.result
     (column_inside l.table.now g j c.requires.table) c.requires.counts_long c.lower_column.ensures.long falls cleared count in
     let product : c.from.result * length c.column-column.result.now ≡ c.count-count.result * length (column_of es j) = rw (c.from.ensures, c.column-column.ensures) refl in
@@ -61,11 +61,11 @@ overflow_add-visits c =
     let z = l.plan.z in
     let es = entries_in g l.table.now in
     let j = c.loop-j.j in
-    let lanes : c.loop-j.fresh.lanes ≡ z = c.loop-j.invariant.fresh_lanes ∙ c.requires.fresh_lanes in
+    let lanes : c.loop-j.pending.lanes ≡ z = c.loop-j.invariant.pending_lanes ∙ c.requires.pending_lanes in
     let falls = rw (c.column-column.ensures, c.rings.ensures) at c.lower_column.ensures.falls in
     let cleared = rw lanes at c.clear.ensures.cleared in
     let count = rw lanes at c.count-count.ensures in
-    let next = fallen_next es l.plan.set z (rows_of g) (cols_of g) l.plan.sound.size_some (bit c.args.fresh.now.items) j c.args.counts.now.items c.loop-j.counts.items c.loop-j.fresh.items c.loop-j.visits c.loop-j.invariant.fallen
+    let next = fallen_next es l.plan.set z (rows_of g) (cols_of g) l.plan.sound.size_some (bit c.args.pending.now.items) j c.args.counts.now.items c.loop-j.counts.items c.loop-j.pending.items c.loop-j.visits c.loop-j.invariant.fallen
     c.lower_column.new.counts.items c.clear.new.self.items c.count-count.result
     (column_inside l.table.now g j c.requires.table) c.requires.counts_long c.lower_column.ensures.long falls cleared count in
     let product : c.from.result * length c.column-column.result.now ≡ c.count-count.result * length (column_of es j) = rw (c.from.ensures, c.column-column.ensures) refl in
@@ -79,33 +79,33 @@ loop-j-preserved c =
     let z = l.plan.z in
     let es = entries_in g l.table.now in
     let j = c.loop-j.j in
-    let lanes : c.loop-j.fresh.lanes ≡ z = c.loop-j.invariant.fresh_lanes ∙ c.requires.fresh_lanes in
+    let lanes : c.loop-j.pending.lanes ≡ z = c.loop-j.invariant.pending_lanes ∙ c.requires.pending_lanes in
     let count = rw lanes at c.count-count.ensures in
     elim c.if-count-ne0.branch [
       | then-count-ne0 w ↦
           let falls = rw (w.column-column.ensures, w.rings.ensures) at w.lower_column.ensures.falls in
           let cleared = rw lanes at w.clear.ensures.cleared in
-          let next = fallen_next es l.plan.set z (rows_of g) (cols_of g) l.plan.sound.size_some (bit c.args.fresh.now.items) j c.args.counts.now.items c.loop-j.counts.items c.loop-j.fresh.items c.loop-j.visits c.loop-j.invariant.fallen
+          let next = fallen_next es l.plan.set z (rows_of g) (cols_of g) l.plan.sound.size_some (bit c.args.pending.now.items) j c.args.counts.now.items c.loop-j.counts.items c.loop-j.pending.items c.loop-j.visits c.loop-j.invariant.fallen
           w.lower_column.new.counts.items w.clear.new.self.items c.count-count.result
           (column_inside l.table.now g j c.requires.table) c.requires.counts_long w.lower_column.ensures.long falls cleared count in
-          rw (w.counts-is, w.fresh-is, w.visits-is, w.from.ensures, w.column-column.ensures) (record {
+          rw (w.counts-is, w.pending-is, w.visits-is, w.from.ensures, w.column-column.ensures) (record {
             fallen = next;
             worked =
                 let more : 1 * length (column_of es j) ≤ c.count-count.result * length (column_of es j) = mul-le-mul_right (length (column_of es j)) (omega (arith, w.if-count-ne0.true)) in
                 omega (arith, c.loop-j.invariant.worked, w.lower_column.ensures.operations, w.lower_column.ensures.due, ap length w.column-column.ensures, more);
             counts_lanes = w.lower_column.ensures.lanes ∙ c.loop-j.invariant.counts_lanes;
-            fresh_lanes = w.clear.ensures.lanes ∙ c.loop-j.invariant.fresh_lanes;
-            fresh_long = w.clear.ensures.long ∙ c.loop-j.invariant.fresh_long;
+            pending_lanes = w.clear.ensures.lanes ∙ c.loop-j.invariant.pending_lanes;
+            pending_long = w.clear.ensures.long ∙ c.loop-j.invariant.pending_long;
           })
       | else-count-ne0 w ↦
-          rw (w.counts-is, w.fresh-is, w.visits-is) (record {
+          rw (w.counts-is, w.pending-is, w.visits-is) (record {
             fallen =
-                fallen_skip es l.plan.set z (rows_of g) (cols_of g) l.plan.sound.size_some (bit c.args.fresh.now.items) j c.args.counts.now.items c.loop-j.counts.items c.loop-j.fresh.items c.loop-j.visits c.loop-j.invariant.fallen
+                fallen_skip es l.plan.set z (rows_of g) (cols_of g) l.plan.sound.size_some (bit c.args.pending.now.items) j c.args.counts.now.items c.loop-j.counts.items c.loop-j.pending.items c.loop-j.visits c.loop-j.invariant.fallen
                 (sym count ∙ omega (arith, w.if-count-ne0.false));
             worked = c.loop-j.invariant.worked;
             counts_lanes = c.loop-j.invariant.counts_lanes;
-            fresh_lanes = c.loop-j.invariant.fresh_lanes;
-            fresh_long = c.loop-j.invariant.fresh_long;
+            pending_lanes = c.loop-j.invariant.pending_lanes;
+            pending_long = c.loop-j.invariant.pending_long;
           })
     ]
 
@@ -115,7 +115,7 @@ returns-clause-falls c =
     let g = l.plan.graph in
     let last : c.loop-j.j ≡ cols_of g = omega (arith, c.loop-j-test.false, c.loop-j.auto.j-end, c.cols-j-end.ensures) in
     let fallen = rw last at c.loop-j.invariant.fallen in
-    fallen_all (entries_in g l.table.now) l.plan.set l.plan.z (rows_of g) (cols_of g) l.plan.sound.size_some c.args.fresh.now.items c.args.counts.now.items c.loop-j.counts.items c.loop-j.fresh.items c.loop-j.visits c.requires.fresh_long fallen
+    fallen_all (entries_in g l.table.now) l.plan.set l.plan.z (rows_of g) (cols_of g) l.plan.sound.size_some c.args.pending.now.items c.args.counts.now.items c.loop-j.counts.items c.loop-j.pending.items c.loop-j.visits c.requires.pending_long fallen
 
 pub returns-clause-cleared : goal.returns-clause-cleared
 returns-clause-cleared c =
@@ -123,4 +123,4 @@ returns-clause-cleared c =
     let g = l.plan.graph in
     let last : c.loop-j.j ≡ cols_of g = omega (arith, c.loop-j-test.false, c.loop-j.auto.j-end, c.cols-j-end.ensures) in
     let fallen = rw last at c.loop-j.invariant.fallen in
-    fallen_clear (entries_in g l.table.now) l.plan.set l.plan.z (rows_of g) (cols_of g) l.plan.sound.size_some c.args.fresh.now.items c.args.counts.now.items c.loop-j.counts.items c.loop-j.fresh.items c.loop-j.visits c.requires.fresh_long fallen
+    fallen_clear (entries_in g l.table.now) l.plan.set l.plan.z (rows_of g) (cols_of g) l.plan.sound.size_some c.args.pending.now.items c.args.counts.now.items c.loop-j.counts.items c.loop-j.pending.items c.loop-j.visits c.requires.pending_long fallen

@@ -1,6 +1,6 @@
 use Rattle.std.proofs.Common.{Ok, length, sym, ap, ◌∙◌, rules}
 use Rattle.std.proofs.lemmas.Grind.{common_steps}
-use Rattle.nr_blockdesk.specs.Processing.{Processing}
+use Rattle.nr_blockdesk.specs.Processing.{ProcessesView}
 use Rattle.nr_blockdesk.proofs.CallFacts.{begin-after}
 use Rattle.nr_blockdesk.proofs.processes.Processes.begin.Goals as goal
 
@@ -20,7 +20,7 @@ returns-clause-kept c = search rules
 
 pub returns-clause-after : goal.returns-clause-after
 returns-clause-after c =
-    let long = ap (λ (s : Processing). length s.places) (sym c.self.view_is) ∙ c.self.invariant in
+    let long = ap (λ (s : ProcessesView). length s.places) (sym c.self.view_is) ∙ c.self.invariant in
     begin-after c.args.self.now _ c.args.p c.args.a (Ok tt) long c.requires (returns-clause-refused c) (returns-clause-begins c) (returns-clause-kept c)
 
 pub returns-in_err-receiver-clause-refused : goal.returns-in_err-receiver-clause-refused
@@ -34,5 +34,5 @@ returns-in_err-receiver-clause-kept c = search rules
 
 pub returns-in_err-receiver-clause-after : goal.returns-in_err-receiver-clause-after
 returns-in_err-receiver-clause-after c =
-    let long = ap (λ (s : Processing). length s.places) (sym c.self.view_is) ∙ c.self.invariant in
+    let long = ap (λ (s : ProcessesView). length s.places) (sym c.self.view_is) ∙ c.self.invariant in
     begin-after c.args.self.now _ c.args.p c.args.a c.from_residual.result long c.requires (returns-in_err-receiver-clause-refused c) (returns-in_err-receiver-clause-begins c) (returns-in_err-receiver-clause-kept c)

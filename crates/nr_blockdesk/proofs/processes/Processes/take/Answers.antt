@@ -1,6 +1,6 @@
 use Rattle.std.proofs.Common.{length, rules, sym, ap, ◌∙◌}
 use Rattle.std.proofs.lemmas.Grind.{common_steps}
-use Rattle.nr_blockdesk.specs.Processing.{Processing}
+use Rattle.nr_blockdesk.specs.Processing.{ProcessesView}
 use Rattle.nr_blockdesk.proofs.CallFacts.{take-after, take-answer}
 use Rattle.nr_blockdesk.proofs.processes.Processes.take.Goals as goal
 
@@ -27,7 +27,7 @@ returns-clause-kept c = search (rules, common_steps)
 
 pub returns-clause-after : goal.returns-clause-after
 returns-clause-after c =
-    let long = ap (λ (s : Processing). length s.places) (sym c.self.view_is) ∙ c.self.invariant in
+    let long = ap (λ (s : ProcessesView). length s.places) (sym c.self.view_is) ∙ c.self.invariant in
     take-after c.args.self.now _ c.args.p _ c.take.result long c.requires.place (returns-clause-takes c) (returns-clause-kept c)
 
 pub returns-clause-answers : goal.returns-clause-answers

@@ -4,7 +4,7 @@ use Rattle.std.proofs.lemmas.List.{length-take-le}
 use Rattle.nr_peel.specs.Peeling.{Peeling, left_of}
 use Rattle.nr_blockdesk.specs.Link.{link_of}
 use Rattle.nr_blockdesk.specs.Outcome.{ExplainedBy, all_fixed}
-use Rattle.nr_blockdesk.specs.Receiving.{IsExplained, Receiving, Stands}
+use Rattle.nr_blockdesk.specs.Receiving.{IsExplained, ReceiverView, Stands}
 use Rattle.nr_blockdesk.proofs.Decided.{all-known}
 use Rattle.nr_blockdesk.proofs.receiver.Receiver.answer.Goals as goal
 
@@ -13,7 +13,7 @@ returns-then-not-all_known-clause-decided c =
     let s = c.self.inside in
     let inv = c.self.invariant in
     let link = link_of s.table.now s.plan s.a s.buffer in
-    sym (ap (λ (v : Receiving). all_fixed v.link v.heard) c.self.view_is)
+    sym (ap (λ (v : ReceiverView). all_fixed v.link v.heard) c.self.view_is)
     ∙ sym (all-known c.plans_are_sound.ensures link s.stores.items s.peelers.items inv.is_link inv.desk)
     ∙ ap (λ (ps : List Peeling). list_all (λ (p : Peeling). left_of p.numbers.kdash p.known == 0) ps) (sym c.deref.ensures.value)
     ∙ sym c.all_known.ensures
@@ -24,14 +24,14 @@ read-requires-clause-all c =
     let s = c.self.inside in
     let inv = c.self.invariant in
     let link = link_of s.table.now s.plan s.a s.buffer in
-    sym (ap (λ (v : Receiving). all_fixed v.link v.heard) c.self.view_is)
+    sym (ap (λ (v : ReceiverView). all_fixed v.link v.heard) c.self.view_is)
     ∙ sym (all-known c.plans_are_sound.ensures link s.stores.items s.peelers.items inv.is_link inv.desk)
     ∙ ap (λ (ps : List Peeling). list_all (λ (p : Peeling). left_of p.numbers.kdash p.known == 0) ps) (sym c.deref.ensures.value)
     ∙ sym c.all_known.ensures
     ∙ c.if-not-all_known.false
 
-pub returns-in-Explains-clause-decided : goal.returns-in-Explains-clause-decided
-returns-in-Explains-clause-decided c =
+pub returns-in-Consistent-clause-decided : goal.returns-in-Consistent-clause-decided
+returns-in-Consistent-clause-decided c =
     let s = c.self.inside in
     let inv = c.self.invariant in
     let link = link_of s.table.now s.plan s.a s.buffer in
@@ -41,8 +41,8 @@ returns-in-Explains-clause-decided c =
     ∙ sym c.all_known.ensures
     ∙ c.if-not-all_known.false in
     let stands : IsExplained link s.stores.items s.block.items s.words.items =
-    subst (Stands link s.stores.items s.block.items s.words.items) c.in-Explains.is inv.stands in
-    let whole : length c.args.list.items ≡ s.a = c.requires.long ∙ sym (ap (λ (v : Receiving). v.link.a) c.self.view_is) in
+    subst (Stands link s.stores.items s.block.items s.words.items) c.in-Consistent.is inv.stands in
+    let whole : length c.args.list.items ≡ s.a = c.requires.long ∙ sym (ap (λ (v : ReceiverView). v.link.a) c.self.view_is) in
     let copied : c.copy_bits.new.list.items ≡ take s.a s.block.items = c.copy_bits.ensures ∙ ap (λ n. take n s.block.items) whole in
     rw (← c.self.view_is) (
       all,
@@ -50,8 +50,8 @@ returns-in-Explains-clause-decided c =
       subst (ExplainedBy link s.stores.items) (sym copied) stands.explains,
     )
 
-pub returns-in-Fails-clause-decided : goal.returns-in-Fails-clause-decided
-returns-in-Fails-clause-decided c =
+pub returns-in-Inconsistent-clause-decided : goal.returns-in-Inconsistent-clause-decided
+returns-in-Inconsistent-clause-decided c =
     let s = c.self.inside in
     let inv = c.self.invariant in
     let link = link_of s.table.now s.plan s.a s.buffer in
@@ -60,4 +60,4 @@ returns-in-Fails-clause-decided c =
     ∙ ap (λ (ps : List Peeling). list_all (λ (p : Peeling). left_of p.numbers.kdash p.known == 0) ps) (sym c.deref.ensures.value)
     ∙ sym c.all_known.ensures
     ∙ c.if-not-all_known.false in
-    rw (← c.self.view_is) (all, subst (Stands link s.stores.items s.block.items s.words.items) c.in-Fails.is inv.stands)
+    rw (← c.self.view_is) (all, subst (Stands link s.stores.items s.block.items s.words.items) c.in-Inconsistent.is inv.stands)

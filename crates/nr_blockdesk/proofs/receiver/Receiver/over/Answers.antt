@@ -14,7 +14,7 @@ invariant_of-result c =
       room = omega (arith, c.in_ok-block.ensures.room);
       sized = c.in_ok-words.ensures;
       stands = tt;
-      untold = c.in_ok-told.ensures;
+      empty = c.in_ok-part_masks.ensures;
     }
 
 pub returns-clause-empty : goal.returns-clause-empty

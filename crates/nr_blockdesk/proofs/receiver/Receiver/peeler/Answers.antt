@@ -2,7 +2,7 @@ use Rattle.std.proofs.Common.{◌≡◌, ◌<◌, subst, sym, ap, ◌∙◌, ari
 use Rattle.nr_bitvec.specs.Bit.{bit}
 use Rattle.nr_peel.specs.Peeling.{AgreesWith, IsPeeled, Peeling}
 use Rattle.nr_blockdesk.specs.Link.{link_of, word}
-use Rattle.nr_blockdesk.specs.Receiving.{Receiving, peeling_of}
+use Rattle.nr_blockdesk.specs.Receiving.{ReceiverView, peeling_of}
 use Rattle.nr_blockdesk.proofs.Decided.{known-bits, peeler-at}
 use Rattle.nr_blockdesk.proofs.receiver.Receiver.peeler.Goals as goal
 
@@ -10,37 +10,37 @@ pub returns-clause-table : goal.returns-clause-table
 returns-clause-table c =
     let s = c.self.inside in
     let link = link_of s.table.now s.plan s.a s.buffer in
-    let count : s.plan.c ≡ c.args.self.now.link.plan.c = ap (λ (v : Receiving). v.link.plan.c) c.self.view_is in
+    let count : s.plan.c ≡ c.args.self.now.link.plan.c = ap (λ (v : ReceiverView). v.link.plan.c) c.self.view_is in
     let here : c.args.r < s.plan.c = omega (arith, count, c.requires) in
     let is : c.index.result.now ≡ peeling_of link s.peelers.items c.args.r =
     c.index.ensures ∙ peeler-at link s.stores.items s.peelers.items c.self.invariant.desk c.args.r c.index.result.now here in
-    ap (λ (p : Peeling). p.table) is ∙ (c.self.invariant.desk.tied c.args.r here).table ∙ ap (λ (v : Receiving). v.link.table) c.self.view_is
+    ap (λ (p : Peeling). p.table) is ∙ (c.self.invariant.desk.tied c.args.r here).table ∙ ap (λ (v : ReceiverView). v.link.table) c.self.view_is
 
 pub returns-clause-graph : goal.returns-clause-graph
 returns-clause-graph c =
     let s = c.self.inside in
     let link = link_of s.table.now s.plan s.a s.buffer in
-    let count : s.plan.c ≡ c.args.self.now.link.plan.c = ap (λ (v : Receiving). v.link.plan.c) c.self.view_is in
+    let count : s.plan.c ≡ c.args.self.now.link.plan.c = ap (λ (v : ReceiverView). v.link.plan.c) c.self.view_is in
     let here : c.args.r < s.plan.c = omega (arith, count, c.requires) in
     let is : c.index.result.now ≡ peeling_of link s.peelers.items c.args.r =
     c.index.ensures ∙ peeler-at link s.stores.items s.peelers.items c.self.invariant.desk c.args.r c.index.result.now here in
-    ap (λ (p : Peeling). p.graph) is ∙ (c.self.invariant.desk.tied c.args.r here).graph ∙ ap (λ (v : Receiving). v.link.graph) c.self.view_is
+    ap (λ (p : Peeling). p.graph) is ∙ (c.self.invariant.desk.tied c.args.r here).graph ∙ ap (λ (v : ReceiverView). v.link.graph) c.self.view_is
 
 pub returns-clause-numbers : goal.returns-clause-numbers
 returns-clause-numbers c =
     let s = c.self.inside in
     let link = link_of s.table.now s.plan s.a s.buffer in
-    let count : s.plan.c ≡ c.args.self.now.link.plan.c = ap (λ (v : Receiving). v.link.plan.c) c.self.view_is in
+    let count : s.plan.c ≡ c.args.self.now.link.plan.c = ap (λ (v : ReceiverView). v.link.plan.c) c.self.view_is in
     let here : c.args.r < s.plan.c = omega (arith, count, c.requires) in
     let is : c.index.result.now ≡ peeling_of link s.peelers.items c.args.r =
     c.index.ensures ∙ peeler-at link s.stores.items s.peelers.items c.self.invariant.desk c.args.r c.index.result.now here in
-    ap (λ (p : Peeling). p.numbers) is ∙ (c.self.invariant.desk.tied c.args.r here).numbers ∙ ap (λ (v : Receiving). v.link.plan) c.self.view_is
+    ap (λ (p : Peeling). p.numbers) is ∙ (c.self.invariant.desk.tied c.args.r here).numbers ∙ ap (λ (v : ReceiverView). v.link.plan) c.self.view_is
 
 pub returns-clause-peeled : goal.returns-clause-peeled
 returns-clause-peeled c =
     let s = c.self.inside in
     let link = link_of s.table.now s.plan s.a s.buffer in
-    let count : s.plan.c ≡ c.args.self.now.link.plan.c = ap (λ (v : Receiving). v.link.plan.c) c.self.view_is in
+    let count : s.plan.c ≡ c.args.self.now.link.plan.c = ap (λ (v : ReceiverView). v.link.plan.c) c.self.view_is in
     let here : c.args.r < s.plan.c = omega (arith, count, c.requires) in
     let is : c.index.result.now ≡ peeling_of link s.peelers.items c.args.r =
     c.index.ensures ∙ peeler-at link s.stores.items s.peelers.items c.self.invariant.desk c.args.r c.index.result.now here in
@@ -50,17 +50,17 @@ pub returns-clause-value : goal.returns-clause-value
 returns-clause-value c =
     let s = c.self.inside in
     let link = link_of s.table.now s.plan s.a s.buffer in
-    let count : s.plan.c ≡ c.args.self.now.link.plan.c = ap (λ (v : Receiving). v.link.plan.c) c.self.view_is in
+    let count : s.plan.c ≡ c.args.self.now.link.plan.c = ap (λ (v : ReceiverView). v.link.plan.c) c.self.view_is in
     let here : c.args.r < s.plan.c = omega (arith, count, c.requires) in
     let is : c.index.result.now ≡ peeling_of link s.peelers.items c.args.r =
     c.index.ensures ∙ peeler-at link s.stores.items s.peelers.items c.self.invariant.desk c.args.r c.index.result.now here in
-    is ∙ ap (λ (v : Receiving). peeling_of v.link v.peelings c.args.r) c.self.view_is
+    is ∙ ap (λ (v : ReceiverView). peeling_of v.link v.peelings c.args.r) c.self.view_is
 
 pub returns-clause-bits : goal.returns-clause-bits
 returns-clause-bits c =
     let s = c.self.inside in
     let link = link_of s.table.now s.plan s.a s.buffer in
-    let count : s.plan.c ≡ c.args.self.now.link.plan.c = ap (λ (v : Receiving). v.link.plan.c) c.self.view_is in
+    let count : s.plan.c ≡ c.args.self.now.link.plan.c = ap (λ (v : ReceiverView). v.link.plan.c) c.self.view_is in
     let here : c.args.r < s.plan.c = omega (arith, count, c.requires) in
     let is : c.index.result.now ≡ peeling_of link s.peelers.items c.args.r =
     c.index.ensures ∙ peeler-at link s.stores.items s.peelers.items c.self.invariant.desk c.args.r c.index.result.now here in

@@ -5,7 +5,7 @@ use Rattle.nr_segment.specs.Plan.{word_size}
 use Rattle.nr_peel.specs.Peeling.{Peeling, checks_for}
 use Rattle.nr_blockdesk.specs.Link.{IsBlock, link_of}
 use Rattle.nr_blockdesk.specs.Outcome.{ExplainedBy, all_fixed}
-use Rattle.nr_blockdesk.specs.Receiving.{AreWords, IsExplained, IsRead, Receiving}
+use Rattle.nr_blockdesk.specs.Receiving.{AreWords, IsExplained, IsRead, ReceiverView}
 use Rattle.nr_blockdesk.proofs.Decided.{candidate-only, explained-by, explained-to, wide-peelers}
 use Rattle.nr_blockdesk.proofs.Kept.{kept-read, written}
 use Rattle.nr_blockdesk.proofs.receiver.Receiver.read.Goals as goal
@@ -22,7 +22,7 @@ pub attach_into-requires : goal.attach_into-requires
 attach_into-requires c =
     let inv = c.self.invariant in
     let whole : length c.candidate-block.result.items ≡ c.self.inside.a =
-    c.candidate-block.ensures.long ∙ c.requires.long ∙ sym (ap (λ (v : Receiving). v.link.a) c.self.view_is) in
+    c.candidate-block.ensures.long ∙ c.requires.long ∙ sym (ap (λ (v : ReceiverView). v.link.a) c.self.view_is) in
     let long = c.attachment_lengthens.ensures.block c.candidate-block.result.items
     ∙ ap attached_length whole in
     record { room = omega (arith, long, inv.whole, inv.room) }
@@ -30,7 +30,7 @@ attach_into-requires c =
 pub explains-requires-clause-whole : goal.explains-requires-clause-whole
 explains-requires-clause-whole c =
     let whole : length c.candidate-block.result.items ≡ c.self.inside.a =
-    c.candidate-block.ensures.long ∙ c.requires.long ∙ sym (ap (λ (v : Receiving). v.link.a) c.self.view_is) in
+    c.candidate-block.ensures.long ∙ c.requires.long ∙ sym (ap (λ (v : ReceiverView). v.link.a) c.self.view_is) in
     ap length c.attach_into.ensures.items
     ∙ c.attachment_lengthens.ensures.block c.candidate-block.result.items
     ∙ ap attached_length whole
@@ -43,8 +43,8 @@ invariant_of-self c =
     let link = link_of s.table.now s.plan s.a s.buffer in
     let bits : List Bool = c.candidate-block.result.items in
     let W : List (List Bool) = c.explains.new.words in
-    let all : all_fixed link s.stores.items ≡ true = ap (λ (v : Receiving). all_fixed v.link v.heard) c.self.view_is ∙ c.requires.all in
-    let whole : IsBlock link bits = c.candidate-block.ensures.long ∙ c.requires.long ∙ sym (ap (λ (v : Receiving). v.link.a) c.self.view_is) in
+    let all : all_fixed link s.stores.items ≡ true = ap (λ (v : ReceiverView). all_fixed v.link v.heard) c.self.view_is ∙ c.requires.all in
+    let whole : IsBlock link bits = c.candidate-block.ensures.long ∙ c.requires.long ∙ sym (ap (λ (v : ReceiverView). v.link.a) c.self.view_is) in
     let only : (y : List Bool) → IsBlock link y → ExplainedBy link s.stores.items y → y ≡ bits =
     candidate-only c.plans_are_sound.ensures c.words_are_plain.ensures c.attachment_lengthens.ensures.block
     c.code_blocks_are_long.ensures.bits link s.stores.items s.peelers.items bits inv.is_link inv.desk all whole
@@ -64,7 +64,7 @@ invariant_of-self c =
       stands = subst (IsExplained link s.stores.items c.attach_into.new.list.items) (sym kept)
           (kept-read link s.stores.items c.attach_into.new.list.items bits W c.attach_into.ensures.items whole by only
           (c.explains.ensures.encoded c.if-explains.true));
-      untold = inv.untold;
+      empty = inv.empty;
     }
 
 pub invariant_of-self-else-explains : goal.invariant_of-self-else-explains
@@ -74,8 +74,8 @@ invariant_of-self-else-explains c =
     let link = link_of s.table.now s.plan s.a s.buffer in
     let bits : List Bool = c.candidate-block.result.items in
     let W : List (List Bool) = c.explains.new.words in
-    let all : all_fixed link s.stores.items ≡ true = ap (λ (v : Receiving). all_fixed v.link v.heard) c.self.view_is ∙ c.requires.all in
-    let whole : IsBlock link bits = c.candidate-block.ensures.long ∙ c.requires.long ∙ sym (ap (λ (v : Receiving). v.link.a) c.self.view_is) in
+    let all : all_fixed link s.stores.items ≡ true = ap (λ (v : ReceiverView). all_fixed v.link v.heard) c.self.view_is ∙ c.requires.all in
+    let whole : IsBlock link bits = c.candidate-block.ensures.long ∙ c.requires.long ∙ sym (ap (λ (v : ReceiverView). v.link.a) c.self.view_is) in
     let only : (y : List Bool) → IsBlock link y → ExplainedBy link s.stores.items y → y ≡ bits =
     candidate-only c.plans_are_sound.ensures c.words_are_plain.ensures c.attachment_lengthens.ensures.block
     c.code_blocks_are_long.ensures.bits link s.stores.items s.peelers.items bits inv.is_link inv.desk all whole
@@ -92,7 +92,7 @@ invariant_of-self-else-explains c =
       stands = λ y long-y by. c.explains.ensures.misfits c.if-explains.false
           (explained-to link s.stores.items c.deref-2.result.now c.attach_into.new.list.items bits c.deref-2.ensures.value c.attach_into.ensures.items
           (subst (ExplainedBy link s.stores.items) (only y long-y by) by));
-      untold = inv.untold;
+      empty = inv.empty;
     }
 
 pub returns-then-explains-clause-decided : goal.returns-then-explains-clause-decided
@@ -101,8 +101,8 @@ returns-then-explains-clause-decided c =
     let link = link_of s.table.now s.plan s.a s.buffer in
     let bits : List Bool = c.candidate-block.result.items in
     rw (← c.self.view_is) (
-      ap (λ (v : Receiving). all_fixed v.link v.heard) c.self.view_is ∙ c.requires.all,
-      c.candidate-block.ensures.long ∙ c.requires.long ∙ sym (ap (λ (v : Receiving). v.link.a) c.self.view_is),
+      ap (λ (v : ReceiverView). all_fixed v.link v.heard) c.self.view_is ∙ c.requires.all,
+      c.candidate-block.ensures.long ∙ c.requires.long ∙ sym (ap (λ (v : ReceiverView). v.link.a) c.self.view_is),
       explained-by link s.stores.items c.deref-2.result.now c.attach_into.new.list.items bits c.deref-2.ensures.value c.attach_into.ensures.items
           (c.explains.ensures.fits c.if-explains.true),
     )
@@ -113,8 +113,8 @@ returns-else-explains-clause-decided c =
     let inv = c.self.invariant in
     let link = link_of s.table.now s.plan s.a s.buffer in
     let bits : List Bool = c.candidate-block.result.items in
-    let all : all_fixed link s.stores.items ≡ true = ap (λ (v : Receiving). all_fixed v.link v.heard) c.self.view_is ∙ c.requires.all in
-    let whole : IsBlock link bits = c.candidate-block.ensures.long ∙ c.requires.long ∙ sym (ap (λ (v : Receiving). v.link.a) c.self.view_is) in
+    let all : all_fixed link s.stores.items ≡ true = ap (λ (v : ReceiverView). all_fixed v.link v.heard) c.self.view_is ∙ c.requires.all in
+    let whole : IsBlock link bits = c.candidate-block.ensures.long ∙ c.requires.long ∙ sym (ap (λ (v : ReceiverView). v.link.a) c.self.view_is) in
     let only : (y : List Bool) → IsBlock link y → ExplainedBy link s.stores.items y → y ≡ bits =
     candidate-only c.plans_are_sound.ensures c.words_are_plain.ensures c.attachment_lengthens.ensures.block
     c.code_blocks_are_long.ensures.bits link s.stores.items s.peelers.items bits inv.is_link inv.desk all whole

@@ -3,7 +3,7 @@ use Rattle.std.proofs.lemmas.Result.{err_from_is_err_and}
 use Rattle.std.specs.Prelude.{IsOk, Result, slice_index}
 use Rattle.std.specs.Vec.{vec_len}
 use Rattle.nr_graphpick.specs.Graph.{cols_of}
-use Rattle.nr_harqbuf.specs.Record.{Heardbits}
+use Rattle.nr_harqbuf.specs.Record.{HeardBits}
 use Rattle.nr_peel.specs.Peeling.{Peeling}
 use Rattle.nr_ratematch.specs.Selection.{Circular}
 use Rattle.nr_blockdesk.specs.Explains.{Reception, hearing_said_of, reception, reception_said_of}
@@ -15,10 +15,10 @@ use Rattle.nr_transmission.specs.declared.tx.Tx.{Tx}
 use Rattle.nr_blockdesk.proofs.Marked.{length-heards, room-less}
 use Rattle.nr_blockdesk.specs.Heard.{IsRecordOf, heard_of}
 use Rattle.nr_blockdesk.specs.Link.{link_of}
-use Rattle.nr_blockdesk.specs.Receiving.{AllTell, IsDesk, IsSized, Receiving, RefusesAs, Stands, peeling_of}
-use Rattle.nr_blockdesk.specs.Telling.{IsUntold}
+use Rattle.nr_blockdesk.specs.Receiving.{AllAgree, IsDesk, IsSized, ReceiverView, RefusesAs, Stands, peeling_of}
+use Rattle.nr_blockdesk.specs.Telling.{AreEmpty}
 use Rattle.nr_blockdesk.proofs.Decided.{outcome-of_record, sized-of}
-use Rattle.nr_blockdesk.proofs.Kept.{stands-after, told-of, written}
+use Rattle.nr_blockdesk.proofs.Kept.{stands-after, part_masks-of, written}
 use Rattle.nr_blockdesk.proofs.Links.{no-memory}
 use Rattle.nr_blockdesk.proofs.Taking.{AreHeard, all-taken, desk-taken, none-of, parts-are, reception-never_memory}
 use Rattle.nr_blockdesk.proofs.receiver.Receiver.take_marks.Goals as goal
@@ -97,9 +97,9 @@ hear-agreed-requires-clause-sized c = λ r d inside.
     let link = link_of s.table.now s.plan s.a s.buffer in
     let stores = c.deref_mut.ensures.value in
     let size = cols_of s.buffer.graph * s.buffer.z in
-    subst (λ (l : List Heardbits). IsSized size (heard_of l r) (get_or c.deref_mut-2.result.now r d)) (sym stores)
+    subst (λ (l : List HeardBits). IsSized size (heard_of l r) (get_or c.deref_mut-2.result.now r d)) (sym stores)
     (subst (λ (l : List Peeling). IsSized size (heard_of s.stores.items r) (get_or l r d)) (sym c.deref_mut-2.ensures.value)
-    (sized-of link s.stores.items s.peelers.items inv.is_link inv.desk r d (subst (λ (l : List Heardbits). r < length l) stores inside)))
+    (sized-of link s.stores.items s.peelers.items inv.is_link inv.desk r d (subst (λ (l : List HeardBits). r < length l) stores inside)))
 
 pub invariant_of-self : goal.invariant_of-self
 invariant_of-self c =
@@ -109,9 +109,9 @@ invariant_of-self c =
     let tx = c.args.tx.now in
     let places = heards c.args.heard.now.items c.args.value.now.items in
     let es = c.in_ok-lengths.lengths.items in
-    let S : List Heardbits = s.stores.items in
+    let S : List HeardBits = s.stores.items in
     let P : List Peeling = s.peelers.items in
-    let S' : List Heardbits = c.hear-agreed.new.stores in
+    let S' : List HeardBits = c.hear-agreed.new.stores in
     let P' : List Peeling = c.hear-agreed.new.peelers in
     let are : AreHeard link tx es places S P S' P' =
     parts-are link tx es c.deref-2.result.now places S c.deref_mut.result.now S' P c.deref_mut-2.result.now P'
@@ -121,24 +121,24 @@ invariant_of-self c =
     let stores-whole : length S' ≡ vec_len s.stores = omega (arith, many) in
     let peelers-whole : length P' ≡ vec_len s.peelers = omega (arith, peeled) in
     let kept : take (vec_len s.stores) (S' ++ drop (length S') S) ≡ S' = written (vec_len s.stores) S' (drop (length S') S) stores-whole in
-    let told : AllTell c.hear-agreed.result s.plan.c s.words.items S S' =
-    told-of c.hear-agreed.result s.plan.c s.words.items c.deref-3.result.now S c.deref_mut.result.now S' c.deref-3.ensures.value c.deref_mut.ensures.value
+    let part_masks : AllAgree c.hear-agreed.result s.plan.c s.words.items S S' =
+    part_masks-of c.hear-agreed.result s.plan.c s.words.items c.deref-3.result.now S c.deref_mut.result.now S' c.deref-3.ensures.value c.deref_mut.ensures.value
     inv.desk.stores c.hear-agreed.ensures.agreed in
     let kept-too : take (vec_len s.peelers) (P' ++ drop (length P') P) ≡ P' = written (vec_len s.peelers) P' (drop (length P') P) peelers-whole in
     record {
       is_link = inv.is_link;
       whole = inv.whole;
-      desk = subst (λ (l : List Heardbits). IsDesk link l (take (vec_len s.peelers) (P' ++ drop (length P') P))) (sym kept)
+      desk = subst (λ (l : List HeardBits). IsDesk link l (take (vec_len s.peelers) (P' ++ drop (length P') P))) (sym kept)
           (subst (λ (l : List Peeling). IsDesk link S' l) (sym kept-too)
           (desk-taken link tx es places S S' P P' inv.desk (many ∙ inv.desk.stores) (peeled ∙ inv.desk.peelings) are));
       room = inv.room;
       sized = inv.sized;
-      stands = subst (λ (l : List Heardbits). Stands link l s.block.items s.words.items c.after-self-inside.result) (sym kept)
+      stands = subst (λ (l : List HeardBits). Stands link l s.block.items s.words.items c.after-self-inside.result) (sym kept)
           (subst (Stands link S' s.block.items s.words.items) (sym c.after-self-inside.ensures)
-          (stands-after link S S' (λ r w block. (are r (none-of link) block).fewer w) s.block.items s.words.items c.hear-agreed.result s.standing
-          told inv.stands));
-      untold = subst (λ n. IsUntold n c.hear-agreed.new.told) (ap (λ (b : Circular). cols_of b.graph * b.z) inv.is_link.buffered)
-          c.hear-agreed.ensures.untold;
+          (stands-after link S S' (λ r w block. (are r (none-of link) block).fewer w) s.block.items s.words.items c.hear-agreed.result s.candidate_state
+          part_masks inv.stands));
+      empty = subst (λ n. AreEmpty n c.hear-agreed.new.part_masks) (ap (λ (b : Circular). cols_of b.graph * b.z) inv.is_link.buffered)
+          c.hear-agreed.ensures.empty;
     }
 
 pub returns-clause-heard : goal.returns-clause-heard
@@ -149,9 +149,9 @@ returns-clause-heard c =
     let tx = c.args.tx.now in
     let places = heards c.args.heard.now.items c.args.value.now.items in
     let es = c.in_ok-lengths.lengths.items in
-    let S : List Heardbits = s.stores.items in
+    let S : List HeardBits = s.stores.items in
     let P : List Peeling = s.peelers.items in
-    let S' : List Heardbits = c.hear-agreed.new.stores in
+    let S' : List HeardBits = c.hear-agreed.new.stores in
     let P' : List Peeling = c.hear-agreed.new.peelers in
     let are : AreHeard link tx es places S P S' P' =
     parts-are link tx es c.deref-2.result.now places S c.deref_mut.result.now S' P c.deref_mut-2.result.now P'
@@ -165,12 +165,12 @@ returns-clause-heard c =
     let long : c.len.result ≡ length places = c.len.ensures.value ∙ sym (length-heards c.args.heard.now.items c.args.value.now.items 0 (length c.args.heard.now.items)) in
     let said : hearing_said_of link.plan.c tx (length places) ≡ Ok es = subst (λ n. hearing_said_of link.plan.c tx n ≡ Ok es) long c.in_ok-lengths.ensures.said in
     let whole : length places ≡ tx.g = sym long ∙ c.in_ok-lengths.ensures.whole in
-    let told = λ (list : List Reception) (of : IsRecordOf link list S).
+    let part_masks = λ (list : List Reception) (of : IsRecordOf link list S).
     all-taken c.parts_are_at.ensures c.places_have_one_owner.ensures c.accepted_are_matched.ensures link tx es places S S' P P'
     inv.is_link inv.desk said whole many are list of in
     rw (← c.self.view_is)
-    (λ list of. subst (λ (l : List Heardbits). IsRecordOf link (list ++ x ∷ []) l)
-    (sym (ap (λ (v : Receiving). v.heard) c.answer.ensures.same ∙ kept)) (told list of))
+    (λ list of. subst (λ (l : List HeardBits). IsRecordOf link (list ++ x ∷ []) l)
+    (sym (ap (λ (v : ReceiverView). v.heard) c.answer.ensures.same ∙ kept)) (part_masks list of))
 
 pub returns-clause-outcome : goal.returns-clause-outcome
 returns-clause-outcome c =
@@ -180,9 +180,9 @@ returns-clause-outcome c =
     let tx = c.args.tx.now in
     let places = heards c.args.heard.now.items c.args.value.now.items in
     let es = c.in_ok-lengths.lengths.items in
-    let S : List Heardbits = s.stores.items in
+    let S : List HeardBits = s.stores.items in
     let P : List Peeling = s.peelers.items in
-    let S' : List Heardbits = c.hear-agreed.new.stores in
+    let S' : List HeardBits = c.hear-agreed.new.stores in
     let P' : List Peeling = c.hear-agreed.new.peelers in
     let are : AreHeard link tx es places S P S' P' =
     parts-are link tx es c.deref-2.result.now places S c.deref_mut.result.now S' P c.deref_mut-2.result.now P'
@@ -196,13 +196,13 @@ returns-clause-outcome c =
     let long : c.len.result ≡ length places = c.len.ensures.value ∙ sym (length-heards c.args.heard.now.items c.args.value.now.items 0 (length c.args.heard.now.items)) in
     let said : hearing_said_of link.plan.c tx (length places) ≡ Ok es = subst (λ n. hearing_said_of link.plan.c tx n ≡ Ok es) long c.in_ok-lengths.ensures.said in
     let whole : length places ≡ tx.g = sym long ∙ c.in_ok-lengths.ensures.whole in
-    let told = λ (list : List Reception) (of : IsRecordOf link list S).
+    let part_masks = λ (list : List Reception) (of : IsRecordOf link list S).
     all-taken c.parts_are_at.ensures c.places_have_one_owner.ensures c.accepted_are_matched.ensures link tx es places S S' P P'
     inv.is_link inv.desk said whole many are list of in
     let outcome = λ (list : List Reception) (of : IsRecordOf link list S).
     outcome-of_record c.explains_by_record.ensures c.explained_is_delivered.ensures c.delivered_is_only.ensures link (list ++ x ∷ [])
     (take (vec_len s.stores) (S' ++ drop (length S') S)) c.answer.result inv.is_link
-    (subst (λ (l : List Heardbits). IsRecordOf link (list ++ x ∷ []) l) (sym kept) (told list of)) c.answer.ensures.decided in
+    (subst (λ (l : List HeardBits). IsRecordOf link (list ++ x ∷ []) l) (sym kept) (part_masks list of)) c.answer.ensures.decided in
     rw (← c.self.view_is) (λ list of. outcome list of)
 
 pub returns-clause-only_one : goal.returns-clause-only_one
@@ -213,9 +213,9 @@ returns-clause-only_one c =
     let tx = c.args.tx.now in
     let places = heards c.args.heard.now.items c.args.value.now.items in
     let es = c.in_ok-lengths.lengths.items in
-    let S : List Heardbits = s.stores.items in
+    let S : List HeardBits = s.stores.items in
     let P : List Peeling = s.peelers.items in
-    let S' : List Heardbits = c.hear-agreed.new.stores in
+    let S' : List HeardBits = c.hear-agreed.new.stores in
     let P' : List Peeling = c.hear-agreed.new.peelers in
     let are : AreHeard link tx es places S P S' P' =
     parts-are link tx es c.deref-2.result.now places S c.deref_mut.result.now S' P c.deref_mut-2.result.now P'
@@ -229,16 +229,16 @@ returns-clause-only_one c =
     let long : c.len.result ≡ length places = c.len.ensures.value ∙ sym (length-heards c.args.heard.now.items c.args.value.now.items 0 (length c.args.heard.now.items)) in
     let said : hearing_said_of link.plan.c tx (length places) ≡ Ok es = subst (λ n. hearing_said_of link.plan.c tx n ≡ Ok es) long c.in_ok-lengths.ensures.said in
     let whole : length places ≡ tx.g = sym long ∙ c.in_ok-lengths.ensures.whole in
-    let told = λ (list : List Reception) (of : IsRecordOf link list S).
+    let part_masks = λ (list : List Reception) (of : IsRecordOf link list S).
     all-taken c.parts_are_at.ensures c.places_have_one_owner.ensures c.accepted_are_matched.ensures link tx es places S S' P P'
     inv.is_link inv.desk said whole many are list of in
     let outcome = λ (list : List Reception) (of : IsRecordOf link list S).
     outcome-of_record c.explains_by_record.ensures c.explained_is_delivered.ensures c.delivered_is_only.ensures link (list ++ x ∷ [])
     (take (vec_len s.stores) (S' ++ drop (length S') S)) c.answer.result inv.is_link
-    (subst (λ (l : List Heardbits). IsRecordOf link (list ++ x ∷ []) l) (sym kept) (told list of)) c.answer.ensures.decided in
+    (subst (λ (l : List HeardBits). IsRecordOf link (list ++ x ∷ []) l) (sym kept) (part_masks list of)) c.answer.ensures.decided in
     rw (← c.self.view_is)
     (λ list y z of e whole explained.
-    (c.delivered_is_only.ensures link (list ++ x ∷ []) y inv.is_link (told list of).accepted (sym (outcome list of) ∙ e)).only z whole explained)
+    (c.delivered_is_only.ensures link (list ++ x ∷ []) y inv.is_link (part_masks list of).accepted (sym (outcome list of) ∙ e)).only z whole explained)
 
 pub returns-clause-no_contradiction : goal.returns-clause-no_contradiction
 returns-clause-no_contradiction c =
@@ -248,9 +248,9 @@ returns-clause-no_contradiction c =
     let tx = c.args.tx.now in
     let places = heards c.args.heard.now.items c.args.value.now.items in
     let es = c.in_ok-lengths.lengths.items in
-    let S : List Heardbits = s.stores.items in
+    let S : List HeardBits = s.stores.items in
     let P : List Peeling = s.peelers.items in
-    let S' : List Heardbits = c.hear-agreed.new.stores in
+    let S' : List HeardBits = c.hear-agreed.new.stores in
     let P' : List Peeling = c.hear-agreed.new.peelers in
     let are : AreHeard link tx es places S P S' P' =
     parts-are link tx es c.deref-2.result.now places S c.deref_mut.result.now S' P c.deref_mut-2.result.now P'
@@ -264,13 +264,13 @@ returns-clause-no_contradiction c =
     let long : c.len.result ≡ length places = c.len.ensures.value ∙ sym (length-heards c.args.heard.now.items c.args.value.now.items 0 (length c.args.heard.now.items)) in
     let said : hearing_said_of link.plan.c tx (length places) ≡ Ok es = subst (λ n. hearing_said_of link.plan.c tx n ≡ Ok es) long c.in_ok-lengths.ensures.said in
     let whole : length places ≡ tx.g = sym long ∙ c.in_ok-lengths.ensures.whole in
-    let told = λ (list : List Reception) (of : IsRecordOf link list S).
+    let part_masks = λ (list : List Reception) (of : IsRecordOf link list S).
     all-taken c.parts_are_at.ensures c.places_have_one_owner.ensures c.accepted_are_matched.ensures link tx es places S S' P P'
     inv.is_link inv.desk said whole many are list of in
     let outcome = λ (list : List Reception) (of : IsRecordOf link list S).
     outcome-of_record c.explains_by_record.ensures c.explained_is_delivered.ensures c.delivered_is_only.ensures link (list ++ x ∷ [])
     (take (vec_len s.stores) (S' ++ drop (length S') S)) c.answer.result inv.is_link
-    (subst (λ (l : List Heardbits). IsRecordOf link (list ++ x ∷ []) l) (sym kept) (told list of)) c.answer.ensures.decided in
+    (subst (λ (l : List HeardBits). IsRecordOf link (list ++ x ∷ []) l) (sym kept) (part_masks list of)) c.answer.ensures.decided in
     rw (← c.self.view_is)
     (λ list y of whole explained e.
     c.explained_never_contradicts.ensures link (list ++ x ∷ []) y whole explained (sym (outcome list of) ∙ e))
@@ -283,9 +283,9 @@ returns-clause-visits c =
     let tx = c.args.tx.now in
     let places = heards c.args.heard.now.items c.args.value.now.items in
     let es = c.in_ok-lengths.lengths.items in
-    let S : List Heardbits = s.stores.items in
+    let S : List HeardBits = s.stores.items in
     let P : List Peeling = s.peelers.items in
-    let S' : List Heardbits = c.hear-agreed.new.stores in
+    let S' : List HeardBits = c.hear-agreed.new.stores in
     let P' : List Peeling = c.hear-agreed.new.peelers in
     let are : AreHeard link tx es places S P S' P' =
     parts-are link tx es c.deref-2.result.now places S c.deref_mut.result.now S' P c.deref_mut-2.result.now P'
@@ -295,4 +295,4 @@ returns-clause-visits c =
     let kept-too : take (vec_len s.peelers) (P' ++ drop (length P') P) ≡ P' = written (vec_len s.peelers) P' (drop (length P') P) peelers-whole in
     rw (← c.self.view_is)
     (λ r block. subst (λ (l : List Peeling). (peeling_of link P r).touches ≤ (peeling_of link l r).touches)
-    (sym (ap (λ (v : Receiving). v.peelings) c.answer.ensures.same ∙ kept-too)) (are r (none-of link) block).visited)
+    (sym (ap (λ (v : ReceiverView). v.peelings) c.answer.ensures.same ∙ kept-too)) (are r (none-of link) block).visited)

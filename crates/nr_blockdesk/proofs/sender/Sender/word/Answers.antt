@@ -2,7 +2,7 @@ use Rattle.std.proofs.Common.{◌≡◌, ◌<◌, [], length, slice_index_or, su
 use Rattle.std.proofs.lemmas.List.{get_or_default}
 use Rattle.nr_ldpcenc.specs.Codeword.{IsCodeword}
 use Rattle.nr_blockdesk.specs.Link.{code_bits_of, link_of, word}
-use Rattle.nr_blockdesk.specs.Sent.{Sending}
+use Rattle.nr_blockdesk.specs.Sent.{SenderView}
 use Rattle.nr_blockdesk.proofs.Sends.{length-words, word-at}
 use Rattle.nr_blockdesk.proofs.sender.Sender.word.Goals as goal
 
@@ -10,7 +10,7 @@ pub index-requires : goal.index-requires
 index-requires c =
     let s = c.self.inside in
     let link = link_of s.table.now s.plan (length s.block.items) s.buffer in
-    let count = ap (λ (v : Sending). v.link.plan.c) c.self.view_is in
+    let count = ap (λ (v : SenderView). v.link.plan.c) c.self.view_is in
     let many = ap length c.self.invariant.encoded ∙ length-words link s.block.items in
     omega (arith, count, many, c.requires)
 
@@ -18,7 +18,7 @@ pub returns-clause-value : goal.returns-clause-value
 returns-clause-value c =
     let s = c.self.inside in
     let link = link_of s.table.now s.plan (length s.block.items) s.buffer in
-    let count : s.plan.c ≡ c.args.self.now.link.plan.c = ap (λ (v : Sending). v.link.plan.c) c.self.view_is in
+    let count : s.plan.c ≡ c.args.self.now.link.plan.c = ap (λ (v : SenderView). v.link.plan.c) c.self.view_is in
     let here : c.args.r < s.plan.c = omega (arith, count, c.requires) in
     let many : length s.words.items ≡ s.plan.c = ap length c.self.invariant.encoded ∙ length-words link s.block.items in
     rw (← c.self.view_is)
@@ -31,7 +31,7 @@ pub returns-clause-meets : goal.returns-clause-meets
 returns-clause-meets c =
     let s = c.self.inside in
     let link = link_of s.table.now s.plan (length s.block.items) s.buffer in
-    let count : s.plan.c ≡ c.args.self.now.link.plan.c = ap (λ (v : Sending). v.link.plan.c) c.self.view_is in
+    let count : s.plan.c ≡ c.args.self.now.link.plan.c = ap (λ (v : SenderView). v.link.plan.c) c.self.view_is in
     let here : c.args.r < s.plan.c = omega (arith, count, c.requires) in
     let many : length s.words.items ≡ s.plan.c = ap length c.self.invariant.encoded ∙ length-words link s.block.items in
     let value : c.index.result.now ≡ word link s.block.items c.args.r =

@@ -1,8 +1,8 @@
 use Rattle.std.proofs.Common.{◌≡◌, ◌<◌, ◌+◌, ◌*◌, min, length, ap, refl, arith}
-use Rattle.nr_harqbuf.specs.Record.{Heardbits}
+use Rattle.nr_harqbuf.specs.Record.{HeardBits}
 use Rattle.nr_harqbuf.proofs.Keeping.{length-kept}
 use Rattle.nr_harqbuf.proofs.MergedLists.{merged-none, merged-step}
-use Rattle.nr_harqbuf.proofs.MergedStores.{merged-done, fresh-done}
+use Rattle.nr_harqbuf.proofs.MergedStores.{merged-done, news-done}
 use Rattle.nr_harqbuf.proofs.store.Store.hear_all.Goals as goal
 
 pub loop-i-init : goal.loop-i-init
@@ -20,7 +20,7 @@ put-requires-clause-inside c =
       c.loop-i.invariant.marks_long,
       c.loop-i.invariant.heard_long,
       length-kept c.self.inside.heard.items c.self.inside.value.items,
-      ap (λ (s : Heardbits). length s.first) c.self.view_is,
+      ap (λ (s : HeardBits). length s.first) c.self.view_is,
       c.requires.marks,
     )
 
@@ -37,7 +37,7 @@ put-requires-in-loop-i-clause-inside c =
       c.loop-i.invariant.value_long,
       c.self.invariant,
       length-kept c.self.inside.heard.items c.self.inside.value.items,
-      ap (λ (s : Heardbits). length s.first) c.self.view_is,
+      ap (λ (s : HeardBits). length s.first) c.self.view_is,
       c.requires.marks,
     )
 
@@ -69,9 +69,9 @@ loop-i-preserved c =
 
 pub returns-clause-merged : goal.returns-clause-merged
 returns-clause-merged c =
-    let long : length c.args.heard.now.items ≡ length c.self.inside.heard.items = omega (arith, length-kept c.self.inside.heard.items c.self.inside.value.items, ap (λ (s : Heardbits). length s.first) c.self.view_is, c.requires.marks) in
+    let long : length c.args.heard.now.items ≡ length c.self.inside.heard.items = omega (arith, length-kept c.self.inside.heard.items c.self.inside.value.items, ap (λ (s : HeardBits). length s.first) c.self.view_is, c.requires.marks) in
     rw (← c.self.view_is) (merged-done _ c.args.value.now.items _ (min (64 * c.loop-i.i) (length c.args.heard.now.items)) c.loop-i.invariant (omega (arith, long, c.loop-i-test.false, c.div_ceil-i-end.ensures, c.len.ensures.value)))
 
-pub returns-clause-fresh : goal.returns-clause-fresh
-returns-clause-fresh c =
-    rw (← c.self.view_is) (fresh-done _ c.args.value.now.items _ (min (64 * c.loop-i.i) (length c.args.heard.now.items)) c.loop-i.invariant (omega (arith, c.loop-i-test.false, c.div_ceil-i-end.ensures, c.len.ensures.value)))
+pub returns-clause-news : goal.returns-clause-news
+returns-clause-news c =
+    rw (← c.self.view_is) (news-done _ c.args.value.now.items _ (min (64 * c.loop-i.i) (length c.args.heard.now.items)) c.loop-i.invariant (omega (arith, c.loop-i-test.false, c.div_ceil-i-end.ensures, c.len.ensures.value)))

@@ -2,12 +2,12 @@ use Rattle.std.proofs.Common.{◌≡◌, sym, ap, ◌∙◌, length, cond, arith
 use Rattle.std.specs.Prelude.{Some, None}
 use Rattle.nr_harqbuf.specs.Positions.{kept_at}
 use Rattle.nr_bitvec.specs.Bit.{bit}
-use Rattle.nr_harqbuf.specs.Record.{Heardbits}
+use Rattle.nr_harqbuf.specs.Record.{HeardBits}
 use Rattle.nr_harqbuf.proofs.Keeping.{length-kept, kept-at}
 use Rattle.nr_harqbuf.proofs.store.Store.heard.Goals as goal
 
 pub get-requires : goal.get-requires
-get-requires c = omega (arith, length-kept c.self.inside.heard.items c.self.inside.value.items, ap (λ (s : Heardbits). length s.first) c.self.view_is, c.requires)
+get-requires c = omega (arith, length-kept c.self.inside.heard.items c.self.inside.value.items, ap (λ (s : HeardBits). length s.first) c.self.view_is, c.requires)
 
 pub returns-then-get : goal.returns-then-get
 returns-then-get c =

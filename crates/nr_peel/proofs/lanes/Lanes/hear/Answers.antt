@@ -19,15 +19,15 @@ lacking-lane-requires-clause-block c =
     let below : c.loop-j.j < cols_of p.graph = omega arith in
     rw (c.loop-j.invariant.known_lanes, c.loop-j.invariant.known_long, c.requires.lanes.known_lanes, c.requires.lanes.known_long) (mul-le-mul_right p.z (omega (arith, below)))
 
-pub lacking-lane-requires-clause-turn : goal.lacking-lane-requires-clause-turn
-lacking-lane-requires-clause-turn c = rw (c.loop-j.invariant.known_lanes, c.requires.lanes.known_lanes) c.args.lifted.now.plan.sound.size_some
+pub lacking-lane-requires-clause-rotation : goal.lacking-lane-requires-clause-rotation
+lacking-lane-requires-clause-rotation c = rw (c.loop-j.invariant.known_lanes, c.requires.lanes.known_lanes) c.args.lifted.now.plan.sound.size_some
 
 pub lacking-lane-requires-clause-clear : goal.lacking-lane-requires-clause-clear
 lacking-lane-requires-clause-clear c = rw (c.loop-j.invariant.known_lanes, c.requires.lanes.known_lanes) c.read_lane-told.ensures.clear
 
 pub join-requires-then-lane_count-ne0-clause-clear : goal.join-requires-then-lane_count-ne0-clause-clear
 join-requires-then-lane_count-ne0-clause-clear c =
-    rw (c.loop-j.invariant.fresh_lanes, c.requires.lanes.fresh_lanes) (rw (c.loop-j.invariant.known_lanes, c.requires.lanes.known_lanes) at c.lacking-lane.ensures.clear)
+    rw (c.loop-j.invariant.pending_lanes, c.requires.lanes.pending_lanes) (rw (c.loop-j.invariant.known_lanes, c.requires.lanes.known_lanes) at c.lacking-lane.ensures.clear)
 
 pub join-requires-then-lane_count-ne0-2-clause-clear : goal.join-requires-then-lane_count-ne0-2-clause-clear
 join-requires-then-lane_count-ne0-2-clause-clear c =
@@ -47,18 +47,18 @@ loop-j-preserved c =
     let inv = c.loop-j.invariant in
     let known_lanes : now.known.lanes ≡ z = inv.known_lanes ∙ c.requires.lanes.known_lanes in
     let bits_lanes : now.bits.lanes ≡ z = inv.bits_lanes ∙ c.requires.lanes.bits_lanes in
-    let fresh_lanes : now.fresh.lanes ≡ z = inv.fresh_lanes ∙ c.requires.lanes.fresh_lanes in
+    let pending_lanes : now.pending.lanes ≡ z = inv.pending_lanes ∙ c.requires.lanes.pending_lanes in
     let lacks = rw known_lanes at c.lacking-lane.ensures.bits in
     let clear = rw known_lanes at c.lacking-lane.ensures.clear in
     let marks = lane_new z j some old now H V inv c.read_lane-told.result c.lacking-lane.result c.read_lane-told.ensures.bits lacks in
     elim c.if-lane_count-ne0.branch [
       | then-lane_count-ne0 w ↦
           let known = rw known_lanes at w.join.ensures.joined in
-          let fresh = rw fresh_lanes at w.join-then-lane_count-ne0.ensures.joined in
+          let pending = rw pending_lanes at w.join-then-lane_count-ne0.ensures.joined in
           let bits = rw bits_lanes at w.join-then-lane_count-ne0-2.ensures.joined in
           rw w.self-is
-          (told_next z j some old now H V inv (record { known = w.join.new.self; bits = w.join-then-lane_count-ne0-2.new.self; fresh = w.join-then-lane_count-ne0.new.self; order = now.order })
-          c.lacking-lane.result w.common-bits.result w.read_lane.result marks w.common-bits.ensures.bits w.read_lane.ensures.bits known fresh bits refl
+          (told_next z j some old now H V inv (record { known = w.join.new.self; bits = w.join-then-lane_count-ne0-2.new.self; pending = w.join-then-lane_count-ne0.new.self; order = now.order })
+          c.lacking-lane.result w.common-bits.result w.read_lane.result marks w.common-bits.ensures.bits w.read_lane.ensures.bits known pending bits refl
           w.join.ensures.long w.join-then-lane_count-ne0-2.ensures.long w.join-then-lane_count-ne0.ensures.long w.join.ensures.lanes w.join-then-lane_count-ne0-2.ensures.lanes w.join-then-lane_count-ne0.ensures.lanes)
       | else-lane_count-ne0 w ↦
           let count : marked (is_set c.lacking-lane.result) z ≡ 0 = sym (c.lane_count.ensures.marked z clear) ∙ omega (arith, w.if-lane_count-ne0.false) in

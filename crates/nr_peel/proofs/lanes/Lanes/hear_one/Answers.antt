@@ -9,7 +9,7 @@ pub join-requires-clause-clear : goal.join-requires-clause-clear
 join-requires-clause-clear c = rw c.requires.lanes.known_lanes (one_clear c.args.lifted.now.plan.z c.args.pos c.one_marked-lane.result c.args.lifted.now.plan.sound.size_some c.one_marked-lane.ensures)
 
 pub join-requires-then-not-get-clause-clear : goal.join-requires-then-not-get-clause-clear
-join-requires-then-not-get-clause-clear c = rw c.requires.lanes.fresh_lanes (one_clear c.args.lifted.now.plan.z c.args.pos c.one_marked-lane.result c.args.lifted.now.plan.sound.size_some c.one_marked-lane.ensures)
+join-requires-then-not-get-clause-clear c = rw c.requires.lanes.pending_lanes (one_clear c.args.lifted.now.plan.z c.args.pos c.one_marked-lane.result c.args.lifted.now.plan.sound.size_some c.one_marked-lane.ensures)
 
 pub join-requires-then-value-clause-clear : goal.join-requires-then-value-clause-clear
 join-requires-then-value-clause-clear c = rw c.requires.lanes.bits_lanes (one_clear c.args.lifted.now.plan.z c.args.pos c.one_marked-lane.result c.args.lifted.now.plan.sound.size_some c.one_marked-lane.ensures)
@@ -33,10 +33,10 @@ returns-then-value c =
     let lanes = c.requires.lanes in
     let marks = λ (p : ℕ). one_marks z pos p c.one_marked-lane.result c.one_marked-lane.ensures in
     let known = rw lanes.known_lanes at c.join.ensures.joined in
-    let fresh = rw lanes.fresh_lanes at c.join-then-not-get.ensures.joined in
+    let pending = rw lanes.pending_lanes at c.join-then-not-get.ensures.joined in
     let bits = rw lanes.bits_lanes at c.join-then-value.ensures.joined in
-    one_told (lifted_checks c.args.lifted.now) pos c.args.value old lanes (record { known = c.join.new.self; bits = c.join-then-value.new.self; fresh = c.join-then-not-get.new.self; order = old.order })
-    (sym c.get.ensures ∙ c.if-not-get.true) (λ p. known p ∙ ap (λ b. bit old.known.items p || b) (marks p)) (λ p. fresh p ∙ ap (λ b. bit old.fresh.items p || b) (marks p))
+    one_told (lifted_checks c.args.lifted.now) pos c.args.value old lanes (record { known = c.join.new.self; bits = c.join-then-value.new.self; pending = c.join-then-not-get.new.self; order = old.order })
+    (sym c.get.ensures ∙ c.if-not-get.true) (λ p. known p ∙ ap (λ b. bit old.known.items p || b) (marks p)) (λ p. pending p ∙ ap (λ b. bit old.pending.items p || b) (marks p))
     (λ p. bits p ∙ ap (λ b. bit old.bits.items p || b) (marks p ∙ with_one (pos == p) c.args.value c.if-value.true)) refl
     c.join.ensures.long c.join-then-value.ensures.long c.join-then-not-get.ensures.long c.join.ensures.lanes c.join-then-value.ensures.lanes c.join-then-not-get.ensures.lanes
 
@@ -48,9 +48,9 @@ returns-else-value c =
     let lanes = c.requires.lanes in
     let marks = λ (p : ℕ). one_marks z pos p c.one_marked-lane.result c.one_marked-lane.ensures in
     let known = rw lanes.known_lanes at c.join.ensures.joined in
-    let fresh = rw lanes.fresh_lanes at c.join-then-not-get.ensures.joined in
-    one_told (lifted_checks c.args.lifted.now) pos c.args.value old lanes (record { known = c.join.new.self; bits = old.bits; fresh = c.join-then-not-get.new.self; order = old.order })
-    (sym c.get.ensures ∙ c.if-not-get.true) (λ p. known p ∙ ap (λ b. bit old.known.items p || b) (marks p)) (λ p. fresh p ∙ ap (λ b. bit old.fresh.items p || b) (marks p))
+    let pending = rw lanes.pending_lanes at c.join-then-not-get.ensures.joined in
+    one_told (lifted_checks c.args.lifted.now) pos c.args.value old lanes (record { known = c.join.new.self; bits = old.bits; pending = c.join-then-not-get.new.self; order = old.order })
+    (sym c.get.ensures ∙ c.if-not-get.true) (λ p. known p ∙ ap (λ b. bit old.known.items p || b) (marks p)) (λ p. pending p ∙ ap (λ b. bit old.pending.items p || b) (marks p))
     (λ p. with_zero (bit old.bits.items p) (pos == p) c.args.value c.if-value.false) refl
     c.join.ensures.long refl c.join-then-not-get.ensures.long c.join.ensures.lanes refl c.join-then-not-get.ensures.lanes
 
@@ -84,7 +84,7 @@ returns-else-not-get c =
         | inl e ↦ or_known (K p) (pos == p) (ap K (sym e) ∙ known)
         | inr apart ↦ or_none (K p) (pos == p) (ne_eqb pos p apart)
       ];
-      fresh = λ p. or_none (bit old.fresh.items p) ((pos == p) && not (K p)) (none_new K pos p known);
+      pending = λ p. or_none (bit old.pending.items p) ((pos == p) && not (K p)) (none_new K pos p known);
       bits = λ p. or_none (bit old.bits.items p) (((pos == p) && not (K p)) && c.args.value) (ap (λ b. b && c.args.value) (none_new K pos p known));
       order = refl;
       lanes = c.requires.lanes;

@@ -43,10 +43,10 @@ take-requires-clause-bits c =
     row_fits c.args.lifted.now c.row-row.result.now c.args.i (length c.loop-entry.self.bits.items) c.requires.table c.row-row.ensures c.loop-entry.invariant.taking.fixes.lanes.bits_long
     c.loop-entry.entry-index none c.loop-entry-test.true
 
-pub take-requires-clause-fresh : goal.take-requires-clause-fresh
-take-requires-clause-fresh c =
+pub take-requires-clause-pending : goal.take-requires-clause-pending
+take-requires-clause-pending c =
     let none : Entry = record { row = 0; col = 0; values = [] } in
-    row_fits c.args.lifted.now c.row-row.result.now c.args.i (length c.loop-entry.self.fresh.items) c.requires.table c.row-row.ensures c.loop-entry.invariant.taking.fixes.lanes.fresh_long
+    row_fits c.args.lifted.now c.row-row.result.now c.args.i (length c.loop-entry.self.pending.items) c.requires.table c.row-row.ensures c.loop-entry.invariant.taking.fixes.lanes.pending_long
     c.loop-entry.entry-index none c.loop-entry-test.true
 
 pub take-requires-clause-room : goal.take-requires-clause-room

@@ -2,4 +2,4 @@ use Rattle.nr_peel.proofs.Working.{work_peeled}
 use Rattle.nr_peel.proofs.peeler.Peeler.known.Goals as goal
 
 pub returns-clause-peeled : goal.returns-clause-peeled
-returns-clause-peeled c = rw (← c.self.view_is) (work_peeled c.self.inside.lifted c.self.inside.work c.self.invariant)
+returns-clause-peeled c = rw (← c.self.view_is) (work_peeled c.self.inside.lifted c.self.inside.engine c.self.invariant)

@@ -10,7 +10,7 @@ pub returns-clause-words : goal.returns-clause-words
 returns-clause-words c = λ w meets agree is. c.learn.ensures.takes.words w (rw (← c.self.view_is) at meets) (rw (← c.self.view_is) at agree) (λ p e. ap w (sym (eqb-true c.args.pos p e)) ∙ is)
 
 pub returns-clause-peeled : goal.returns-clause-peeled
-returns-clause-peeled c = work_peeled c.self.inside.lifted c.learn.new.self c.learn.ensures.work
+returns-clause-peeled c = work_peeled c.self.inside.lifted c.learn.new.self c.learn.ensures.engine
 
 pub returns-clause-steps : goal.returns-clause-steps
 returns-clause-steps c = rw (← c.self.view_is) c.learn.ensures.takes.steps

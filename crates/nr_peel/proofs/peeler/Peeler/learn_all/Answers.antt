@@ -5,7 +5,7 @@ pub returns-clause-words : goal.returns-clause-words
 returns-clause-words c = λ w meets agree are. c.learn_all.ensures.takes.words w (rw (← c.self.view_is) at meets) (rw (← c.self.view_is) at agree) are
 
 pub returns-clause-peeled : goal.returns-clause-peeled
-returns-clause-peeled c = work_peeled c.self.inside.lifted c.learn_all.new.self c.learn_all.ensures.work
+returns-clause-peeled c = work_peeled c.self.inside.lifted c.learn_all.new.self c.learn_all.ensures.engine
 
 pub returns-clause-steps : goal.returns-clause-steps
 returns-clause-steps c = rw (← c.self.view_is) c.learn_all.ensures.takes.steps

@@ -3,7 +3,7 @@ use Rattle.nr_peel.proofs.Working.{work_left, work_peeled}
 use Rattle.nr_peel.proofs.peeler.Peeler.left.Goals as goal
 
 pub returns-clause-peeled : goal.returns-clause-peeled
-returns-clause-peeled c = rw (← c.self.view_is) (work_peeled c.self.inside.lifted c.self.inside.work c.self.invariant)
+returns-clause-peeled c = rw (← c.self.view_is) (work_peeled c.self.inside.lifted c.self.inside.engine c.self.invariant)
 
 pub returns-clause-value : goal.returns-clause-value
-returns-clause-value c = rw (← c.self.view_is) (c.left.ensures ∙ work_left c.self.inside.lifted c.self.inside.work c.self.invariant)
+returns-clause-value c = rw (← c.self.view_is) (c.left.ensures ∙ work_left c.self.inside.lifted c.self.inside.engine c.self.invariant)

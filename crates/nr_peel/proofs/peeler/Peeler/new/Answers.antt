@@ -1,8 +1,8 @@
 use Rattle.std.proofs.Common.{refl, sym, ◌∙◌, arith}
-use Rattle.nr_peel.specs.Work.{work_view}
+use Rattle.nr_peel.specs.Engine.{engine_view}
 use Rattle.nr_peel.specs.declared.lifted.Lifted.{Lifted}
 use Rattle.nr_peel.proofs.Filled.{fillers_fit}
-use Rattle.nr_peel.proofs.Fresh.{fresh_left}
+use Rattle.nr_peel.proofs.Fresh.{pending_left}
 use Rattle.nr_peel.proofs.Sets.{in_sets}
 use Rattle.nr_peel.proofs.peeler.Peeler.new.Goals as goal
 
@@ -25,5 +25,5 @@ pub returns-in-Ok-clause-left : goal.returns-in-Ok-clause-left
 returns-in-Ok-clause-left c =
     let l : Lifted = record { table = c.args.table; plan = c.args.plan.now; reciprocal = c.reciprocal.result; in_sets = in_sets c.args.plan.now; inverse = c.reciprocal.ensures } in
     let started = returns-in-Ok-clause-started c in
-    fresh_left (work_view l c.in-Ok.work) c.args.plan.now.b c.has.ensures.table (sym c.has.ensures.value ∙ c.if-not-has.false) c.args.plan.now.sound started.given started.peeled
+    pending_left (engine_view l c.in-Ok.engine) c.args.plan.now.b c.has.ensures.table (sym c.has.ensures.value ∙ c.if-not-has.false) c.args.plan.now.sound started.given started.peeled
     (omega (arith, started.peeled.known_long, c.args.plan.now.sound.held, fillers_fit l))

@@ -1,13 +1,13 @@
 use Rattle.nr_peel.proofs.Left.{whole_order}
-use Rattle.nr_peel.specs.Work.{work_view}
+use Rattle.nr_peel.specs.Engine.{engine_view}
 use Rattle.nr_peel.proofs.Working.{kdash_fits, work_peeled}
 use Rattle.nr_peel.proofs.peeler.Peeler.order.Goals as goal
 
 pub returns-clause-peeled : goal.returns-clause-peeled
-returns-clause-peeled c = rw (← c.self.view_is) (work_peeled c.self.inside.lifted c.self.inside.work c.self.invariant)
+returns-clause-peeled c = rw (← c.self.view_is) (work_peeled c.self.inside.lifted c.self.inside.engine c.self.invariant)
 
 pub returns-clause-fixes : goal.returns-clause-fixes
 returns-clause-fixes c =
     let l = c.self.inside.lifted in
-    let s = c.self.inside.work in
-    rw (← c.self.view_is) (whole_order (work_view l s) (work_peeled l s c.self.invariant) (kdash_fits l s c.self.invariant))
+    let s = c.self.inside.engine in
+    rw (← c.self.view_is) (whole_order (engine_view l s) (work_peeled l s c.self.invariant) (kdash_fits l s c.self.invariant))

@@ -1,7 +1,7 @@
 use Rattle.std.proofs.Common.{[], Option, sym, refl, ap, arith}
 use Rattle.std.proofs.lemmas.List.{append-nil}
 use Rattle.std.proofs.lemmas.Result.{err_from_is_err_and}
-use Rattle.nr_blockdesk.specs.Sent.{Sending}
+use Rattle.nr_blockdesk.specs.Sent.{SenderView}
 use Rattle.nr_linkcommands.specs.RoundTexts.{said_if}
 use Rattle.nr_linkcommands.specs.RunText.{run_words}
 use Rattle.nr_files.specs.Rounds.{continued}
@@ -37,7 +37,7 @@ returns-in_err-send_and_receive-clause-text g c = λ before ended of keeps.
     let there = sender-there senders x x.block sender refl (omega (arith, c.requires.named.0, c.requires.named.1)) c.sender-sender.ensures.at in
     let held = made-held senders before c.args.later.now ended x sender c.args.self.now.slots.items c.args.self.now.totals c.index_mut-slot.result.now c.begin_round.new.slot keeps of c.requires.placed c.index_mut-slot.ensures.value c.begin_round.ensures there in
     let p = err_from_is_err_and c.from_residual.result c.from_residual.ensures.1 in
-    rw (ap (λ (o : Option Sending). said_if run_words o (continued before x) x) there)
+    rw (ap (λ (o : Option SenderView). said_if run_words o (continued before x) x) there)
     (writes_behind _ _ _ c.from_residual.result p.0 _ _ [] _ [] p.1 p.2 (sym (append-nil _)) (sym (with_text-nil _)) (c.in_err-send_and_receive.ensures.text _ held.0))
 
 pub returns-clause-text : goal.returns-clause-text
@@ -47,7 +47,7 @@ returns-clause-text g c = λ before ended of keeps.
     let sender = c.sender-sender.result.now in
     let there = sender-there senders x x.block sender refl (omega (arith, c.requires.named.0, c.requires.named.1)) c.sender-sender.ensures.at in
     let held = made-held senders before c.args.later.now ended x sender c.args.self.now.slots.items c.args.self.now.totals c.index_mut-slot.result.now c.begin_round.new.slot keeps of c.requires.placed c.index_mut-slot.ensures.value c.begin_round.ensures there in
-    rw (ap (λ (o : Option Sending). said_if run_words o (continued before x) x) there) (c.in_ok-send_and_receive.ensures.text _ held.0)
+    rw (ap (λ (o : Option SenderView). said_if run_words o (continued before x) x) there) (c.in_ok-send_and_receive.ensures.text _ held.0)
 
 pub returns-clause-kept : goal.returns-clause-kept
 returns-clause-kept g c = λ before ended of keeps.

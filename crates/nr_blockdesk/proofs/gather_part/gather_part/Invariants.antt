@@ -1,0 +1,19 @@
+-- What the selected bits so far tell is told.
+use Rattle.std.proofs.Common.{◌≡◌, ℕ, ◌-◌, ◌≤◌, ◌||◌, Bool, true, length}
+use Rattle.std.specs.List.{list_any, range_with_len}
+use Rattle.nr_harqbuf.specs.Masks.{says}
+use Rattle.nr_blockdesk.specs.Marks.{bit_says}
+use Rattle.nr_blockdesk.proofs.gather_part.gather_part.Given as goal
+
+abbrev pub decreases-loop-k : goal.decreases-loop-k
+decreases-loop-k l = l.count - l.k
+
+abbrev pub invariant-loop-k : goal.invariant-loop-k
+invariant-loop-k l = record {
+  part_masks : l.one_bit ≡ true → (p : ℕ) (v : Bool) → says l.part_masks.heard.items l.part_masks.value.items p v
+      ≡ (says l.fn.part_masks.heard.items l.fn.part_masks.value.items p v
+      || list_any (bit_says l.buffer l.rv l.selected.heard.items l.selected.value.items p v) (range_with_len 0 l.k));
+  below : l.k ≤ l.count;
+  marks : length l.part_masks.heard.items ≡ length l.fn.part_masks.heard.items;
+  bits : length l.part_masks.value.items ≡ length l.fn.part_masks.value.items;
+}

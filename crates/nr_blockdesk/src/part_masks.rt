@@ -1,0 +1,42 @@
+//! What one transmission tells of a code block.
+
+ghost use Rattle.std.specs.Prelude.{◌≡◌, ℕ, false, IfOk, IsTrue};
+ghost use Rattle.nr_bitvec.specs.Bit.{bit};
+ghost use Rattle.nr_segment.specs.CodeBlock.{positions_of};
+ghost use Rattle.nr_blockdesk.specs.Telling.{AreEmpty};
+
+use nr_bitvec::Bits;
+use nr_segment::Plan;
+use std::alloc::{AllocError, Global};
+
+/// Which positions of a codeword are told, and their bits. Between code blocks none is told; the bits of positions that
+/// aren't are whatever they were.
+#[derive(Drop)]
+pub(crate) struct PartMasks {
+    pub(crate) heard: Bits,
+    pub(crate) value: Bits,
+}
+
+impl PartMasks {
+    // The lists of a code block of this plan, of which nothing is told.
+    pub(crate) fn new(alloc: Global, plan: &Plan) -> Result<PartMasks, AllocError>
+        ensures { IfOk result (AreEmpty (positions_of plan.now)) }
+    {
+        let count = plan.graph.cols() * plan.z;
+        let heard = Bits::zeros(alloc, count)?;
+        let value = Bits::zeros(alloc, count)?;
+        Ok(PartMasks { heard, value })
+    }
+
+    // Whether no position is told.
+    pub(crate) fn is_empty(&self) -> bool
+        ensures { IsTrue result → (p : ℕ) → bit self.now.heard.items p ≡ false }
+    {
+        for i in 0..self.heard.len().div_ceil(64) {
+            if self.heard.window(64 * i) != 0 {
+                return false;
+            }
+        }
+        true
+    }
+}

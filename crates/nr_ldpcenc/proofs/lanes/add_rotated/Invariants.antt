@@ -1,0 +1,11 @@
+-- The words before word k have been added.
+use Rattle.std.proofs.Common.{◌≡◌, ◌+◌, ◌*◌, ◌%◌, length}
+use Rattle.nr_bitvec.specs.Packed.{place}
+use Rattle.nr_lifting.proofs.LaneWords.{IsWritten}
+use Rattle.nr_ldpcenc.proofs.lanes.add_rotated.Given as goal
+
+abbrev pub invariant-loop-k : goal.invariant-loop-k
+invariant-loop-k g l = record {
+  added : IsWritten (64 * g.row.W) l.k (λ t. (place l.initial.sum t + place l.cols (64 * l.at + l.p + t)) % 2) l.sum l.initial.sum;
+  long : length l.sum ≡ g.row.W;
+}

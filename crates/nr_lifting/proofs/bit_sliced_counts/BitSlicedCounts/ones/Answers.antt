@@ -1,0 +1,16 @@
+use Rattle.std.proofs.Common.{[], ◌==◌, ap, sym, ◌∙◌, arith}
+use Rattle.std.proofs.lemmas.List.{get_or_read}
+use Rattle.nr_lifting.specs.Planes.{number_at}
+use Rattle.nr_lifting.proofs.CountViews.{count_in, counts_within, marks_one}
+use Rattle.nr_lifting.proofs.bit_sliced_counts.BitSlicedCounts.ones.Goals as goal
+
+pub index-requires : goal.index-requires
+index-requires c = omega (arith, counts_within c.self.inside.size c.self.invariant.some c.self.inside.blocks.items _ c.args.i c.self.view_is c.requires)
+
+pub returns-clause-ones : goal.returns-clause-ones
+returns-clause-ones c =
+    let within = counts_within c.self.inside.size c.self.invariant.some c.self.inside.blocks.items _ c.args.i c.self.view_is c.requires in
+    rw (← c.self.view_is) (λ t below.
+    marks_one _ _ (c.ones_lane.ensures.ones t below)
+    ∙ ap (λ g. number_at g t == 1) (get_or_read c.self.inside.blocks.items c.args.i c.index.result.now within c.index.ensures [])
+    ∙ ap (λ n. n == 1) (sym (count_in c.self.inside.size c.self.invariant.some c.self.inside.blocks.items c.args.i t below)))

@@ -1,0 +1,41 @@
+use Rattle.std.proofs.Common.{◌≡◌, ◌≤◌, ◌<◌, ◌+◌, ◌*◌, ◌/◌, ◌%◌, ◌==◌, [], length, sym, ap, ◌∙◌, subst, arith}
+use Rattle.std.proofs.Math.Nat.{mul-le-mul_right}
+use Rattle.std.proofs.lemmas.List.{get_or_read}
+use Rattle.std.proofs.lemmas.Nat.{mod_below}
+use Rattle.nr_bitvec.specs.Bit.{bit}
+use Rattle.nr_bitvec.specs.Packed.{place}
+use Rattle.nr_lifting.specs.Rings.{BlockBits, block_bits, is_set}
+use Rattle.nr_lifting.proofs.RingViews.{bit_in, bit_within, long_is}
+use Rattle.nr_lifting.proofs.doubled_lanes.DoubledLanes.word_from.Goals as goal
+
+pub index-requires : goal.index-requires
+index-requires c = omega (arith, bit_within c.self.inside.size c.self.invariant.some c.self.inside.rings.items _ c.args.p c.self.view_is c.requires)
+
+pub returns-clause-bits : goal.returns-clause-bits
+returns-clause-bits c = λ j below.
+    let z = c.self.inside.size in
+    let rings = c.self.inside.rings.items in
+    let p = c.args.p in
+    let t = p % z in
+    let within = bit_within z c.self.invariant.some rings _ p c.self.view_is c.requires in
+    let small : t < z = mod_below p z c.self.invariant.some in
+    let inside : t + j < z = omega (arith, below, small, c.min.ensures) in
+    let few : j < 64 = omega (arith, below, c.min.ensures) in
+    let there : 64 * (t / 64) + t % 64 + j ≡ t + j = omega arith in
+    let whole : p / z * z + (t + j) ≡ p + j = omega arith in
+    rw (← c.self.view_is) (ap (λ n. n == 1) (c.window-word.ensures j few ∙ ap (place c.index.result.now) there)
+    ∙ ap (λ ring. is_set ring (t + j)) (get_or_read rings (p / z) c.index.result.now within c.index.ensures [])
+    ∙ sym (bit_in z c.self.invariant.some rings (p / z) (t + j) inside)
+    ∙ ap (bit (block_bits z rings).items) whole)
+
+pub returns-clause-inside : goal.returns-clause-inside
+returns-clause-inside c =
+    let z = c.self.inside.size in
+    let rings = c.self.inside.rings.items in
+    let p = c.args.p in
+    let within = bit_within z c.self.invariant.some rings _ p c.self.view_is c.requires in
+    let small : p % z < z = mod_below p z c.self.invariant.some in
+    let blocks : (p / z + 1) * z ≤ length rings * z = mul-le-mul_right z (omega (arith, within)) in
+    let split : p / z * z + p % z ≡ p = omega arith in
+    let inside : p + c.min.result ≤ length (block_bits z rings).items = omega (arith, blocks, split, small, c.min.ensures, long_is z c.self.invariant.some rings) in
+    subst (λ (u : BlockBits). p + c.min.result ≤ length u.items) c.self.view_is inside

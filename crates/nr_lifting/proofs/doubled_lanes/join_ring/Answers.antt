@@ -1,0 +1,21 @@
+use Rattle.std.proofs.Common.{◌*◌, ◌/◌, ◌%◌, refl, ap, ◌∙◌, inl, inr, arith}
+use Rattle.std.proofs.lemmas.Bool.{cases_lt}
+use Rattle.std.specs.Int.{bit_at}
+use Rattle.nr_lifting.proofs.LaneWords.{written_more, ring_low, ring_high}
+use Rattle.nr_lifting.proofs.doubled_lanes.join_ring.Goals as goal
+
+-- the next word is joined
+pub loop-k-preserved : goal.loop-k-preserved
+loop-k-preserved c =
+    written_more _ _ _ _ _ _ _ c.loop-k.invariant (omega arith) refl
+    (λ j short below. ring_low (2 * c.args.size) c.loop-k.k _ c.args.ring.now _ j short (c.loop-k.invariant.kept _ (omega arith)) (c.twice_word.ensures.twice j short below))
+    (λ j short past. ring_high (2 * c.args.size) c.loop-k.k _ c.args.ring.now _ j short (c.loop-k.invariant.kept _ (omega arith)) c.requires.ring_clear past (c.twice_word.ensures.clear j short past))
+
+pub returns-clause-joined : goal.returns-clause-joined
+returns-clause-joined c = λ t below. c.loop-k.invariant.done t (omega (arith, below)) below
+
+pub returns-clause-ring_clear : goal.returns-clause-ring_clear
+returns-clause-ring_clear c = λ t past. elim (cases_lt t (64 * c.loop-k.k)) [
+  | inl inside ↦ c.loop-k.invariant.clear t inside past
+  | inr out ↦ ap (λ n. bit_at n (t % 64)) (c.loop-k.invariant.kept (t / 64) (omega (arith, out))) ∙ c.requires.ring_clear t past
+]

@@ -1,6 +1,0 @@
-use Rattle.nr_lifting.proofs.PlaneCounts.{Borrows}
-use Rattle.nr_lifting.proofs.planes.lower_word.Given as goal
-
--- the planes before plane b have fallen
-abbrev pub invariant-loop-b : goal.invariant-loop-b
-invariant-loop-b g l = Borrows l.b l.planes l.initial.planes l.bits l.borrow

@@ -1,0 +1,168 @@
+//! Counts kept as bit planes, so that 64 of them fall at a time. Word b of a group has bit b of each of its 64 counts.
+
+ghost use Rattle.std.specs.Prelude.{◌≡◌, ℕ, ◌+◌, ◌*◌, ◌%◌, ◌^◌, ◌<◌, ◌≤◌, ◌==◌, ◌&&◌, if◌then◌else◌, length, replicate, slice_index, IfOk};
+ghost use Rattle.std.specs.Int.{bit_at};
+ghost use Rattle.nr_bitvec.specs.Bit.{bit};
+ghost use Rattle.nr_bitvec.specs.Packed.{place, IsClear};
+ghost use Rattle.nr_lifting.specs.Planes.{number, number_at, Falls, FallsRotated};
+ghost use Rattle.nr_lifting.specs.Rings.{IsRing, is_set};
+
+use crate::doubled_lanes::{DoubledLanes, ring_word};
+use nr_bitvec::words::low_bits;
+use std::alloc::{AllocError, Global};
+use std::marker::Model;
+
+/// Takes one off each of 64 counts that `bits` marks, none of which is 0.
+pub fn lower_word<const N: usize>(planes: &mut [u64; N], bits: u64)
+    requires { (j : ℕ) → j < 64 → bit_at bits j ≤ number planes.old j }
+    ensures { Falls planes.new planes.old bits }
+{
+    let mut borrow = bits;
+    for b in 0..N {
+        let word = planes[b];
+        planes[b] = word ^ borrow;
+        borrow &= !word;
+    }
+}
+
+/// Marks those of 64 counts that are exactly one.
+pub fn ones_word<const N: usize>(planes: &[u64; N]) -> u64
+    requires { 0 < N }
+    ensures { (j : ℕ) → j < 64 → bit_at result j ≡ (if number planes.now j == 1 then 1 else 0) }
+{
+    let mut more = 0;
+    for b in 1..N {
+        more |= planes[b];
+    }
+    planes[0] & !more
+}
+
+/// Takes one off some of `size` counts, in the first `count` groups of 64. They are those to which a rotation by `p`
+/// brings a set place of a ring. It brings bit (t + p) mod `size` to count t. None of them is 0.
+pub fn lower_block(planes: &mut [[u64; 7]], count: usize, ring: &[u64], size: usize, p: usize)
+    requires rotation { p < size }
+    requires short { size < 2 ^ 32 }
+    requires ring { IsRing size ring.now }
+    requires above { 64 * count < size + 64 }
+    requires below { size ≤ 64 * count }
+    requires within { count ≤ length planes.old }
+    requires enough { (t : ℕ) → t < size
+        → place ring.now ((t + p) % size) ≤ number_at planes.old t }
+    ensures { FallsRotated size planes.new planes.old ring.now p }
+{
+    for i in 0..count {
+        lower_word(&mut planes[i], ring_word(ring, size, i, p));
+    }
+}
+
+// Marks those of `size` counts, at most 384, that are exactly one.
+fn ones_lane(planes: &[[u64; 7]], size: usize) -> [u64; 6]
+    requires few { size ≤ 384 }
+    requires below { size ≤ 64 * length planes.now }
+    ensures ones { (t : ℕ) → t < size
+        → place result t ≡ (if number_at planes.now t == 1 then 1 else 0) }
+    ensures clear { IsClear result size }
+{
+    let mut lane = [0; 6];
+    for i in 0..size.div_ceil(64) {
+        lane[i] = low_bits(ones_word(&planes[i]), size - 64 * i);
+    }
+    lane
+}
+
+// The bit planes of 64 counts that are all `n`.
+fn alike(n: u8) -> [u64; 7]
+    requires { n < 2 ^ 7 }
+    ensures { (j : ℕ) → j < 64 → number result j ≡ n }
+{
+    let mut planes = [0; 7];
+    for b in 0..7 {
+        if n >> b & 1 == 1 {
+            planes[b] = u64::MAX;
+        }
+    }
+    planes
+}
+
+/// Blocks of counts below 128, of one size, at most 384 counts each. They are kept as bit planes.
+#[derive(Drop)]
+pub struct BitSlicedCounts {
+    size: usize,
+    blocks: Vec<[[u64; 7]; 6]>,
+}
+
+impl Model for BitSlicedCounts {
+    ghost use Rattle.nr_lifting.specs.Planes.{ArePlanes, BlockCounts, block_counts};
+
+    ghost Value = { BlockCounts };
+
+    ghost view = { λ a. block_counts a.size a.blocks.items };
+
+    ghost invariant = { λ a. ArePlanes a.size a.blocks.items };
+}
+
+impl BitSlicedCounts {
+    /// `count` blocks of `size` counts of none.
+    ///
+    /// # Errors
+    ///
+    /// `AllocError` where memory runs out.
+    pub fn new(alloc: Global, count: usize, size: usize) -> Result<BitSlicedCounts, AllocError>
+        requires some { 0 < size }
+        requires short { size ≤ 384 }
+        requires few { count < 2 ^ 16 }
+        ensures items { IfOk result (λ p. p.items ≡ replicate (count * size) 0) }
+        ensures lanes { IfOk result (λ p. p.lanes ≡ size) }
+    {
+        let mut blocks = Vec::with_capacity(alloc, count)?;
+        for k in 0..count {
+            blocks.push_reserved([[0; 7]; 6]);
+        }
+        Ok(BitSlicedCounts { size, blocks })
+    }
+
+    /// Makes every count of block `i` the same.
+    pub fn fill(&mut self, i: usize, n: u8)
+        requires block { (i + 1) * self.old.lanes ≤ length self.old.items }
+        requires small { n < 2 ^ 7 }
+        ensures filled { (h t : ℕ) → t < self.old.lanes
+            → slice_index self.new.items (h * self.old.lanes + t)
+            ≡ (if i == h then n else slice_index self.old.items (h * self.old.lanes + t)) }
+        ensures long { length self.new.items ≡ length self.old.items }
+        ensures lanes { self.new.lanes ≡ self.old.lanes }
+    {
+        let group = alike(n);
+        self.blocks[i] = [group; 6];
+    }
+
+    /// Marks those counts of block `i` that are exactly one.
+    pub fn ones(&self, i: usize) -> [u64; 6]
+        requires { (i + 1) * self.now.lanes ≤ length self.now.items }
+        ensures ones { (t : ℕ) → t < self.now.lanes → is_set result t
+            ≡ (slice_index self.now.items (i * self.now.lanes + t) == 1) }
+        ensures clear { IsClear result self.now.lanes }
+    {
+        ones_lane(&self.blocks[i], self.size)
+    }
+
+    /// Takes one off those counts of block `i` to which a rotation by `rotation` brings a one of block `j` of `marks`. It
+    /// brings bit (t + `rotation`) modulo the blocks' size to count t. None of them is 0.
+    pub fn lower(&mut self, i: usize, marks: &DoubledLanes, j: usize, rotation: usize)
+        requires block { (i + 1) * self.old.lanes ≤ length self.old.items }
+        requires mark { (j + 1) * marks.now.lanes ≤ length marks.now.items }
+        requires same { marks.now.lanes ≡ self.old.lanes }
+        requires rotation { rotation < self.old.lanes }
+        requires enough { (t : ℕ) → t < self.old.lanes
+            → (if bit marks.now.items (j * self.old.lanes + (t + rotation) % self.old.lanes) then 1 else 0)
+            ≤ slice_index self.old.items (i * self.old.lanes + t) }
+        ensures falls { (h t : ℕ) → t < self.old.lanes
+            → slice_index self.new.items (h * self.old.lanes + t)
+            + (if (i == h) && bit marks.now.items (j * self.old.lanes + (t + rotation) % self.old.lanes) then 1 else 0)
+            ≡ slice_index self.old.items (h * self.old.lanes + t) }
+        ensures long { length self.new.items ≡ length self.old.items }
+        ensures lanes { self.new.lanes ≡ self.old.lanes }
+    {
+        let count = self.size.div_ceil(64);
+        lower_block(&mut self.blocks[i], count, marks.ring(j), self.size, rotation);
+    }
+}

@@ -1,0 +1,268 @@
+//! Blocks of bits that are kept twice over in words of 64, and the rotations of blocks that are kept once. A word of
+//! any rotation of the former is read in one piece.
+
+ghost use Rattle.std.specs.Prelude.{◌≡◌, ℕ, ◌+◌, ◌-◌, ◌*◌, ◌/◌, ◌%◌, ◌^◌, ◌<◌, ◌≤◌, ◌==◌, ◌&&◌, ◌||◌, min, not, false, length, replicate, IfOk};
+ghost use Rattle.std.specs.Int.{bit_at};
+ghost use Rattle.nr_bitvec.specs.Bit.{◌⊕◌, bit};
+ghost use Rattle.nr_bitvec.specs.Packed.{place, IsClear};
+ghost use Rattle.nr_lifting.specs.Lane.{AddsPlaces, IsRotatedWord};
+ghost use Rattle.nr_lifting.specs.Rings.{GainsTwice, IsRing, IsRotated, is_set, lane_marks};
+
+use crate::lane::{rotated_word, wrapped_word};
+use nr_bitvec::words::{low_bits, window};
+use std::alloc::{AllocError, Global};
+use std::marker::Model;
+
+/// Word `i` of a block of `size` bits that is rotated by `p`, read from its ring. Bit t of the block is bit (t + p) mod
+/// `size` of the ring's, and zero from bit `size` on.
+pub fn ring_word(ring: &[u64], size: usize, i: usize, p: usize) -> u64
+    requires start { 64 * i < size }
+    requires rotation { p < size }
+    requires short { size < 2 ^ 32 }
+    requires ring { IsRing size ring.now }
+    ensures rotated { IsRotatedWord size ring.now i p result }
+    ensures clear { (j : ℕ) → size ≤ 64 * i + j → bit_at result j ≡ 0 }
+{
+    let from = 64 * i + p;
+    low_bits(window(ring, from / 64, from % 64), size - 64 * i)
+}
+
+/// Sets the places of a ring where a block of `size` bits has a one, from place 0 and from place `size` on.
+pub fn join_ring(ring: &mut [u64], words: &[u64], size: usize)
+    requires short { length ring.old < 2 ^ 32 }
+    requires enough { 2 * size ≤ 64 * length ring.old }
+    requires ring_clear { IsClear ring.old (2 * size) }
+    requires clear { IsClear words.now size }
+    ensures joined { GainsTwice size ring.new ring.old words.now }
+    ensures ring_clear { IsClear ring.new (2 * size) }
+    ensures long { length ring.new ≡ length ring.old }
+{
+    for k in 0..(2 * size).div_ceil(64) {
+        ring[k] |= twice_word(words, size, k);
+    }
+}
+
+// Word `k` of the ring of a block of `size` bits.
+fn twice_word(words: &[u64], size: usize, k: usize) -> u64
+    requires short { k < 2 ^ 32 }
+    requires clear { IsClear words.now size }
+    ensures twice { (j : ℕ) → j < 64 → 64 * k + j < 2 * size
+        → bit_at result j ≡ place words.now ((64 * k + j) % size) }
+    ensures clear { (j : ℕ) → j < 64 → 2 * size ≤ 64 * k + j → bit_at result j ≡ 0 }
+{
+    window(words, k, 0) | wrapped_word(words, 64 * k, size)
+}
+
+/// A block of `size` bits, at most 384, that is rotated by `p`: its bit t is bit (t + p) mod `size` of `words`.
+pub fn rotate_lane(words: &[u64; 6], size: usize, p: usize) -> [u64; 6]
+    requires rotation { p < size }
+    requires few { size ≤ 384 }
+    requires clear { IsClear words.now size }
+    ensures rotated { IsRotated size result words.now p }
+    ensures clear { IsClear result size }
+{
+    if size <= 64 {
+        return one_word(rotated_word(words, size, 0, p));
+    }
+    let mut lane = [0; 6];
+    for i in 0..size.div_ceil(64) {
+        lane[i] = rotated_word(words, size, i, p);
+    }
+    lane
+}
+
+// A lane whose first word is `word`, with no bit after it.
+fn one_word(word: u64) -> [u64; 6]
+    ensures first { (t : ℕ) → t < 64 → place result t ≡ bit_at word t }
+    ensures rest { (t : ℕ) → 64 ≤ t → place result t ≡ 0 }
+{
+    let mut lane = [0; 6];
+    lane[0] = word;
+    lane
+}
+
+// Adds the block of a ring, at most 384 bits, to a lane, modulo two, rotated by `p`.
+fn add_ring(sum: &mut [u64; 6], ring: &[u64], size: usize, p: usize)
+    requires rotation { p < size }
+    requires few { size ≤ 384 }
+    requires ring { IsRing size ring.now }
+    requires clear { IsClear sum.old size }
+    ensures sum { AddsPlaces size sum.new sum.old ring.now p }
+    ensures clear { IsClear sum.new size }
+{
+    for i in 0..size.div_ceil(64) {
+        sum[i] ^= ring_word(ring, size, i, p);
+    }
+}
+
+// The bits of a lane that the block of a ring, at most 384 bits and rotated by `p`, lacks.
+fn lane_less_ring(lane: &[u64; 6], ring: &[u64], size: usize, p: usize) -> [u64; 6]
+    requires rotation { p < size }
+    requires few { size ≤ 384 }
+    requires ring { IsRing size ring.now }
+    requires clear { IsClear lane.now size }
+    ensures less { (t : ℕ) → t < size
+        → place result t ≡ min (place lane.now t) (1 - place ring.now ((t + p) % size)) }
+    ensures clear { IsClear result size }
+{
+    if size <= 64 {
+        return one_word(lane[0] & !ring_word(ring, size, 0, p));
+    }
+    let mut rest = *lane;
+    for i in 0..size.div_ceil(64) {
+        rest[i] &= !ring_word(ring, size, i, p);
+    }
+    rest
+}
+
+// The block of a ring, at most 384 bits, rotated by `p`: its bit t is bit (t + p) mod `size` of the ring's.
+fn ring_lane(ring: &[u64], size: usize, p: usize) -> [u64; 6]
+    requires rotation { p < size }
+    requires few { size ≤ 384 }
+    requires ring { IsRing size ring.now }
+    ensures rotated { IsRotated size result ring.now p }
+    ensures clear { IsClear result size }
+{
+    if size <= 64 {
+        return one_word(ring_word(ring, size, 0, p));
+    }
+    let mut lane = [0; 6];
+    for i in 0..size.div_ceil(64) {
+        lane[i] = ring_word(ring, size, i, p);
+    }
+    lane
+}
+
+/// Blocks of bits of one size, at most 384 bits each, from which lanes of any rotation are read. Each is kept as a
+/// ring.
+#[derive(Drop)]
+pub struct DoubledLanes {
+    size: usize,
+    rings: Vec<[u64; 12]>,
+}
+
+impl Model for DoubledLanes {
+    ghost use Rattle.nr_lifting.specs.Rings.{AreRings, BlockBits, block_bits};
+
+    ghost Value = { BlockBits };
+
+    ghost view = { λ a. block_bits a.size a.rings.items };
+
+    ghost invariant = { λ a. AreRings a.size a.rings.items };
+}
+
+impl DoubledLanes {
+    /// `count` blocks of `size` zeros.
+    ///
+    /// # Errors
+    ///
+    /// `AllocError` where memory runs out.
+    pub fn new(alloc: Global, count: usize, size: usize) -> Result<DoubledLanes, AllocError>
+        requires some { 0 < size }
+        requires short { size ≤ 384 }
+        requires few { count < 2 ^ 16 }
+        ensures items { IfOk result (λ r. r.items ≡ replicate (count * size) false) }
+        ensures lanes { IfOk result (λ r. r.lanes ≡ size) }
+    {
+        let mut rings = Vec::with_capacity(alloc, count)?;
+        for i in 0..count {
+            rings.push_reserved([0; 12]);
+        }
+        Ok(DoubledLanes { size, rings })
+    }
+
+    // The ring of block `j`.
+    pub(crate) fn ring(&self, j: usize) -> &[u64; 12]
+        requires { (j + 1) * self.now.lanes ≤ length self.now.items }
+        ensures ring { IsRing self.now.lanes result.now }
+        ensures bits { (t : ℕ) → t < self.now.lanes
+            → is_set result.now t ≡ bit self.now.items (j * self.now.lanes + t) }
+        ensures short { self.now.lanes ≤ 384 }
+    {
+        &self.rings[j]
+    }
+
+    /// One bit of all.
+    pub fn get(&self, p: usize) -> bool
+        requires { p < length self.now.items }
+        ensures { result ≡ bit self.now.items p }
+    {
+        let t = p % self.size;
+        window(&self.rings[p / self.size], t / 64, t % 64) & 1 == 1
+    }
+
+    /// The bits from bit `p` of all on, the first of them lowest, as many as its block has from there and a word takes;
+    /// and how many these are.
+    pub fn word_from(&self, p: usize) -> (u64, usize)
+        requires { p < length self.now.items }
+        ensures bits { (j : ℕ) → j < result.1
+            → (bit_at result.0 j == 1) ≡ bit self.now.items (p + j) }
+        ensures some { 0 < result.1 }
+        ensures few { result.1 ≤ 64 }
+        ensures inside { p + result.1 ≤ length self.now.items }
+    {
+        let t = p % self.size;
+        let word = window(&self.rings[p / self.size], t / 64, t % 64);
+        (word, (self.size - t).min(64))
+    }
+
+    /// Block `j`, rotated by `rotation`: its bit t is bit (t + `rotation`) modulo the size of the block's.
+    pub fn lane(&self, j: usize, rotation: usize) -> [u64; 6]
+        requires block { (j + 1) * self.now.lanes ≤ length self.now.items }
+        requires rotation { rotation < self.now.lanes }
+        ensures bits { (t : ℕ) → t < self.now.lanes → is_set result t
+            ≡ bit self.now.items (j * self.now.lanes + (t + rotation) % self.now.lanes) }
+        ensures clear { IsClear result self.now.lanes }
+    {
+        ring_lane(&self.rings[j], self.size, rotation)
+    }
+
+    /// Adds block `j`, rotated by `rotation`, to a lane, modulo two: its bit t gains bit (t + `rotation`) modulo the size of the
+    /// block's.
+    pub fn add_rotated(&self, j: usize, rotation: usize, sum: &mut [u64; 6])
+        requires block { (j + 1) * self.now.lanes ≤ length self.now.items }
+        requires rotation { rotation < self.now.lanes }
+        requires clear { IsClear sum.old self.now.lanes }
+        ensures bits { (t : ℕ) → t < self.now.lanes → is_set sum.new t
+            ≡ is_set sum.old t ⊕ bit self.now.items (j * self.now.lanes + (t + rotation) % self.now.lanes) }
+        ensures clear { IsClear sum.new self.now.lanes }
+    {
+        add_ring(sum, &self.rings[j], self.size, rotation);
+    }
+
+    /// The bits of a lane that block `j`, rotated by `rotation`, lacks. They are those t whose bit (t + `rotation`) modulo the
+    /// size is a zero of the block's.
+    pub fn lacking(&self, j: usize, rotation: usize, lane: &[u64; 6]) -> [u64; 6]
+        requires block { (j + 1) * self.now.lanes ≤ length self.now.items }
+        requires rotation { rotation < self.now.lanes }
+        requires clear { IsClear lane.now self.now.lanes }
+        ensures bits { (t : ℕ) → t < self.now.lanes → is_set result t
+            ≡ (is_set lane.now t && not (bit self.now.items (j * self.now.lanes + (t + rotation) % self.now.lanes))) }
+        ensures clear { IsClear result self.now.lanes }
+    {
+        lane_less_ring(lane, &self.rings[j], self.size, rotation)
+    }
+
+    /// Sets the bits of block `j` where a lane has a one.
+    pub fn join(&mut self, j: usize, lane: &[u64; 6])
+        requires block { (j + 1) * self.old.lanes ≤ length self.old.items }
+        requires clear { IsClear lane.now self.old.lanes }
+        ensures joined { (p : ℕ) → bit self.new.items p
+            ≡ (bit self.old.items p || lane_marks self.old.lanes j (is_set lane.now) p) }
+        ensures long { length self.new.items ≡ length self.old.items }
+        ensures lanes { self.new.lanes ≡ self.old.lanes }
+    {
+        join_ring(&mut self.rings[j], lane, self.size);
+    }
+
+    /// Makes the bits of block `j` zeros.
+    pub fn clear(&mut self, j: usize)
+        requires { (j + 1) * self.old.lanes ≤ length self.old.items }
+        ensures cleared { (p : ℕ) → bit self.new.items p
+            ≡ (bit self.old.items p && not (p / self.old.lanes == j)) }
+        ensures long { length self.new.items ≡ length self.old.items }
+        ensures lanes { self.new.lanes ≡ self.old.lanes }
+    {
+        self.rings[j] = [0; 12];
+    }
+}

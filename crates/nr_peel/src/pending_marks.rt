@@ -1,0 +1,86 @@
+//! The positions that counts don't know of yet, and how many of them each column has.
+
+ghost use Rattle.std.specs.Prelude.{◌≡◌, ℕ, ◌+◌, ◌*◌, ◌/◌, ◌<◌, ◌≤◌, ◌==◌, ◌&&◌, ◌||◌, not, false, length, replicate, IfOk};
+ghost use Rattle.nr_bitvec.specs.Bit.{bit};
+ghost use Rattle.nr_bitvec.specs.Packed.{IsClear};
+ghost use Rattle.nr_lifting.specs.Rings.{is_set, lane_marks, marked};
+
+use nr_lifting::{DoubledLanes, lane_count};
+use std::alloc::{AllocError, Global};
+use std::marker::Model;
+
+// Marks of positions, and for each column how many it has: so a column without a mark is passed over unread.
+#[derive(Drop)]
+pub(crate) struct PendingMarks {
+    rings: DoubledLanes,
+    columns: [u16; 68],
+}
+
+impl Model for PendingMarks {
+    ghost use Rattle.nr_lifting.specs.Rings.{BlockBits};
+    ghost use Rattle.nr_peel.specs.Due.{ArePendingMarks};
+
+    ghost Value = { BlockBits };
+
+    ghost view = { λ a. a.rings };
+
+    ghost invariant = { λ a. ArePendingMarks a.rings a.columns };
+}
+
+impl PendingMarks {
+    // Blocks of `count` columns, of `size` positions each, without a mark.
+    pub(crate) fn new(alloc: Global, count: usize, size: usize) -> Result<PendingMarks, AllocError>
+        requires some { 0 < size }
+        requires short { size ≤ 384 }
+        requires few { count ≤ 68 }
+        ensures items { IfOk result (λ r. r.items ≡ replicate (count * size) false) }
+        ensures lanes { IfOk result (λ r. r.lanes ≡ size) }
+    {
+        let rings = DoubledLanes::new(alloc, count, size)?;
+        Ok(PendingMarks {
+            rings,
+            columns: [0; 68],
+        })
+    }
+
+    // The marks as rings.
+    pub(crate) fn rings(&self) -> &DoubledLanes
+        ensures { result.now ≡ self.now }
+    {
+        &self.rings
+    }
+
+    // How many marks a column has. No lane is read.
+    pub(crate) fn count(&self, j: usize) -> u16
+        requires { (j + 1) * self.now.lanes ≤ length self.now.items }
+        ensures { result ≡ marked (λ t. bit self.now.items (j * self.now.lanes + t)) self.now.lanes }
+    {
+        let columns = &self.columns;
+        columns[j]
+    }
+
+    // Marks those positions of a column that a lane marks.
+    pub(crate) fn join(&mut self, j: usize, lane: &[u64; 6])
+        requires block { (j + 1) * self.old.lanes ≤ length self.old.items }
+        requires clear { IsClear lane.now self.old.lanes }
+        ensures joined { (p : ℕ) → bit self.new.items p
+            ≡ (bit self.old.items p || lane_marks self.old.lanes j (is_set lane.now) p) }
+        ensures long { length self.new.items ≡ length self.old.items }
+        ensures lanes { self.new.lanes ≡ self.old.lanes }
+    {
+        self.rings.join(j, lane);
+        self.columns[j] = lane_count(&self.rings.lane(j, 0)) as u16;
+    }
+
+    // No position of a column is marked any more.
+    pub(crate) fn clear(&mut self, j: usize)
+        requires { (j + 1) * self.old.lanes ≤ length self.old.items }
+        ensures cleared { (p : ℕ) → bit self.new.items p
+            ≡ (bit self.old.items p && not (p / self.old.lanes == j)) }
+        ensures long { length self.new.items ≡ length self.old.items }
+        ensures lanes { self.new.lanes ≡ self.old.lanes }
+    {
+        self.rings.clear(j);
+        self.columns[j] = 0;
+    }
+}
