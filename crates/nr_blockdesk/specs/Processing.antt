@@ -30,7 +30,7 @@ pub record Takes (old new : ReceiverView) (x : Reception) (result : Result Outco
   pub link : new.link ≡ old.link
   pub refused : RefusesAs fault.Memory result (reception_said old.link x)
   pub judged : IsErrOf result fault.Memory → IsOk (reception_said old.link x)
-  pub kept : OnErr result (new ≡ old)
+  pub err : OnErr result (new ≡ old)
   pub heard : OnOk result ((list : List Reception) → IsRecordOf old.link list old.heard
       → IsRecordOf old.link (list ++ x ∷ []) new.heard)
   pub outcome : IfOk result (λ answer. (list : List Reception) → IsRecordOf old.link list old.heard

@@ -82,7 +82,7 @@ impl<'t> Processes<'t> {
         ensures judged { IsErrOf result DeskFault.Memory
             → IsOk (link_said self.old.table self.old.settings a) }
         ensures begins { OnOk result (BeginsAt self.old self.new p a) }
-        ensures kept { OnErr result (self.new ≡ self.old) }
+        ensures err { OnErr result (self.new ≡ self.old) }
         ensures after { HadMemory result → (calls : List Call) → IsAfter self.old calls
             → IsAfter self.new (calls ++ begin p a ∷ []) }
     {
@@ -119,7 +119,7 @@ impl<'t> Processes<'t> {
         requires place { p < 16 }
         requires begun { IsTrue (is_some (process self.old p)) }
         ensures takes { TakesAt self.old self.new p (reception tx.now heard.now) result }
-        ensures kept { OnErr result (self.new ≡ self.old) }
+        ensures err { OnErr result (self.new ≡ self.old) }
         ensures after { HadMemory result → (calls : List Call) → IsAfter self.old calls
             → IsAfter self.new (calls ++ take p (reception tx.now heard.now) ∷ []) }
         ensures answers { IfOk result (λ answer. (calls : List Call) → IsAfter self.old calls

@@ -151,7 +151,7 @@ impl<'t> Receiver<'t> {
             (reception_said self.old.link (reception tx.now heard.now)) }
         ensures judged { IsErrOf result DeskFault.Memory
             → IsOk (reception_said self.old.link (reception tx.now heard.now)) }
-        ensures kept { OnErr result (self.new ≡ self.old) }
+        ensures err { OnErr result (self.new ≡ self.old) }
         ensures heard { OnOk result ((list : List Reception)
             → IsRecordOf self.old.link list self.old.heard
             → IsRecordOf self.old.link (list ++ reception tx.now heard.now ∷ []) self.new.heard) }

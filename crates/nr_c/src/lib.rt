@@ -66,7 +66,7 @@ pub extern "C" fn nr_table_entries(
 ) -> u32
     ensures said { Lists result (listing out.old count.old) (listing out.new count.new)
         (table_said text.now) }
-    ensures kept { result ≡ 0
+    ensures same_table { result ≡ 0
         → table_by out.new ≡ with_fault Fault.Table (table_said text.now) }
     ensures long { 4194304 < length text.now → result ≡ 30 }
 {

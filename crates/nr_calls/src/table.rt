@@ -42,7 +42,7 @@ pub fn nr_table_check(alloc: Global, text: &[u8], out: &mut NrReport) -> u32
 fn tell(judged: Result<Table, TableFault>, out: &mut NrReport) -> u32
     ensures status { result ≡ judged_status judged }
     ensures told { result ≢ 1 → out.new ≡ report_of judged }
-    ensures kept { result ≡ 1 → out.new ≡ out.old }
+    ensures err { result ≡ 1 → out.new ≡ out.old }
 {
     match judged {
         Ok(table) => {
@@ -74,7 +74,7 @@ fn tell(judged: Result<Table, TableFault>, out: &mut NrReport) -> u32
 pub fn nr_table_entries(alloc: Global, text: &[u8], out: &mut [NrEntry], count: &mut usize) -> u32
     ensures said { Lists result (listing out.old count.old) (listing out.new count.new)
         (table_said text.now) }
-    ensures kept { result ≡ 0
+    ensures same_table { result ≡ 0
         → table_by out.new ≡ with_fault Fault.Table (table_said text.now) }
     ensures long { 4194304 < length text.now → result ≡ 30 }
 {
@@ -85,7 +85,7 @@ pub fn nr_table_entries(alloc: Global, text: &[u8], out: &mut [NrEntry], count: 
 fn list(judged: Result<Table, TableFault>, out: &mut [NrEntry], count: &mut usize) -> u32
     ensures status { result ≡ listed_status (length out.old) judged }
     ensures places { listing out.new count.new ≡ listed (listing out.old count.old) judged }
-    ensures kept { result ≡ 0 → table_by out.new ≡ with_fault Fault.Table judged }
+    ensures same_table { result ≡ 0 → table_by out.new ≡ with_fault Fault.Table judged }
 {
     match judged {
         Ok(table) => list_of(&table, out, count),
@@ -98,7 +98,7 @@ fn list_of(table: &Table, out: &mut [NrEntry], count: &mut usize) -> u32
     ensures status { result ≡ listed_status (length out.old) (Ok table.now) }
     ensures places { listing out.new count.new
         ≡ listed (listing out.old count.old) (Ok table.now) }
-    ensures kept { result ≡ 0 → table_by out.new ≡ Ok table.now }
+    ensures same_table { result ≡ 0 → table_by out.new ≡ Ok table.now }
 {
     let wanted = table.entries(Graph::One) as usize + table.entries(Graph::Two) as usize;
     *count = wanted;

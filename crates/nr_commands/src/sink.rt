@@ -28,7 +28,7 @@ pub trait Sink {
         ensures some { 0 < length buf.now → IfOk result (λ n. 0 < n) }
         ensures taken { IfOk result
             (λ n. written self.new ≡ with_text (written self.old) (take n buf.now)) }
-        ensures kept { OnErr result (written self.new ≡ written self.old) }
+        ensures err { OnErr result (written self.new ≡ written self.old) }
         ensures failed { failures self.new ≡ failures self.old + failed_count result };
 }
 
@@ -110,7 +110,7 @@ impl Sink for Tape {
         ensures count { IfOk result (λ n. n ≤ length buf.now) }
         ensures some { 0 < length buf.now → IfOk result (λ n. 0 < n) }
         ensures taken { IfOk result (λ n. self.new ≡ with_octets self.old (take n buf.now)) }
-        ensures kept { OnErr result (self.new ≡ with_failure self.old) }
+        ensures err { OnErr result (self.new ≡ with_failure self.old) }
         ensures failed { self.new.failures ≡ self.old.failures + failed_count result }
 
         // What a Tape promises beyond a Sink: when it is Broken, and how much it takes.

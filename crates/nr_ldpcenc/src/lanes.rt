@@ -35,7 +35,7 @@ pub(crate) fn clip<const Z: usize, const W: usize>(sum: &mut [u64; W])
     requires above { 64 * W < Z + 64 }
     requires below { Z ≤ 64 * W }
     requires some { 0 < Z }
-    ensures kept { (t : ℕ) → t < Z → place sum.new t ≡ place sum.old t }
+    ensures within { (t : ℕ) → t < Z → place sum.new t ≡ place sum.old t }
     ensures clear { IsClear sum.new Z }
 {
     sum[W - 1] = low_bits(sum[W - 1], Z - 64 * (W - 1));

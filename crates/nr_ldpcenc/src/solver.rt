@@ -143,7 +143,7 @@ fn solve_first<const Z: usize, const W: usize>(
     ensures solved { IsSolvedTo (entries_in plan.now.graph table.now) plan.now.set
         (info_cols_of plan.now.graph) Z 1 (bit bits.new.items) }
     ensures columns { HasColumns Z (info_cols_of plan.now.graph + 1) cols.new bits.new.items }
-    ensures kept { AgreeBelow (info_cols_of plan.now.graph * Z)
+    ensures same_below { AgreeBelow (info_cols_of plan.now.graph * Z)
         (bit bits.old.items) (bit bits.new.items) }
     ensures long { length bits.new.items ≡ length bits.old.items }
 {
@@ -175,7 +175,7 @@ fn solve_next<const Z: usize, const W: usize>(
         (info_cols_of plan.now.graph) Z (i + 1) (bit bits.new.items) }
     ensures columns { HasColumns Z (info_cols_of plan.now.graph + (i + 1)) cols.new
         bits.new.items }
-    ensures kept { AgreeBelow (info_cols_of plan.now.graph * Z)
+    ensures same_below { AgreeBelow (info_cols_of plan.now.graph * Z)
         (bit bits.old.items) (bit bits.new.items) }
     ensures long { length bits.new.items ≡ length bits.old.items }
 {

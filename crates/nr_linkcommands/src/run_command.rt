@@ -106,7 +106,7 @@ fn write_rounds<'t, O: Sink>(
 ) -> Result<(), RunFault>
     requires puts { O.failures out.old < 2 ^ 32 }
     requires long { length rounds.old.slots.items ≡ 16 }
-    requires kept { KeepsRounds ready.now.senders.items ready.now.inputs.now.schedule.transmissions.items []
+    requires keeps { KeepsRounds ready.now.senders.items ready.now.inputs.now.schedule.transmissions.items []
         (ended_rounds [] ready.now.inputs.now.schedule.transmissions.items)
         rounds.old.slots.items rounds.old.totals }
     ensures text { Writes (O.written out.old) (O.written out.new) result

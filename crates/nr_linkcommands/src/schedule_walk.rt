@@ -41,12 +41,12 @@ pub(crate) trait Walk<'t> {
         requires puts { O.failures out.old < 2 ^ 32 }
         requires named { All (HasBlock (length ready.now.senders.items)) before.now }
         requires placed { process < slots self.old }
-        requires kept { (later : List Transmission) × (ended : List (List Transmission))
+        requires keeps { (later : List Transmission) × (ended : List (List Transmission))
             × (length ended ≤ 65535) × (goes_on process later ≡ false)
             × Keeps self.old ready.now.senders.items before.now later ended }
         ensures text { Writes (O.written out.old) (O.written out.new) result
             (round_lines words ready.now.senders.items process (round_of process before.now)) }
-        ensures kept { OnOk result ((later : List Transmission) (ended : List (List Transmission))
+        ensures keeps { OnOk result ((later : List Transmission) (ended : List (List Transmission))
             → Keeps self.old ready.now.senders.items before.now later ended
             → Keeps self.new ready.now.senders.items before.now later
             (ended ++ round_of process before.now ∷ [])) }
@@ -68,7 +68,7 @@ pub(crate) trait Walk<'t> {
         requires puts { O.failures out.old < 2 ^ 32 }
         requires named { HasBlock (length ready.now.senders.items) transmission.now }
         requires placed { transmission.now.process < slots self.old }
-        requires kept { (before : List Transmission) × (ended : List (List Transmission))
+        requires keeps { (before : List Transmission) × (ended : List (List Transmission))
             × (length before ≤ 4096) × IsOfRound (continued before transmission.now) transmission.now
             × Keeps self.old ready.now.senders.items before (transmission.now ∷ later.now) ended }
         ensures text { (before : List Transmission) (ended : List (List Transmission))
@@ -77,7 +77,7 @@ pub(crate) trait Walk<'t> {
             → Writes (O.written out.old) (O.written out.new) result
             (said_if words (sender_of ready.now.senders.items transmission.now)
             (continued before transmission.now) transmission.now) }
-        ensures kept { OnOk result ((before : List Transmission) (ended : List (List Transmission))
+        ensures keeps { OnOk result ((before : List Transmission) (ended : List (List Transmission))
             → IsOfRound (continued before transmission.now) transmission.now
             → Keeps self.old ready.now.senders.items before (transmission.now ∷ later.now) ended
             → Keeps self.new ready.now.senders.items (before ++ transmission.now ∷ []) later.now ended) }
@@ -100,7 +100,7 @@ pub(crate) fn follow<'t, W: Walk<'t>, O: Sink>(
     requires nothing { W.Keeps walk.old ready.now.senders.items [] ready.now.inputs.now.schedule.transmissions.items [] }
     ensures text { Writes (O.written out.old) (O.written out.new) result
         (pieces_joined (turns W.words ready.now.senders.items [] ready.now.inputs.now.schedule.transmissions.items)) }
-    ensures kept { OnOk result
+    ensures keeps { OnOk result
         (W.Keeps walk.new ready.now.senders.items ready.now.inputs.now.schedule.transmissions.items []
         (ended_rounds [] ready.now.inputs.now.schedule.transmissions.items)) }
     ensures slots { OnOk result (W.slots walk.new ≡ W.slots walk.old) }
@@ -126,7 +126,7 @@ fn end_before<'t, W: Walk<'t>, O: Sink>(
     requires puts { O.failures out.old < 2 ^ 32 }
     requires named { All (HasBlock (length ready.now.senders.items)) before.now }
     requires placed { transmission.now.process < W.slots walk.old }
-    requires kept { (later : List Transmission) × (ended : List (List Transmission))
+    requires keeps { (later : List Transmission) × (ended : List (List Transmission))
         × (length ended ≤ 65535)
         × W.Keeps walk.old ready.now.senders.items before.now (transmission.now ∷ later) ended }
     ensures text { Writes (O.written out.old) (O.written out.new) result
@@ -134,7 +134,7 @@ fn end_before<'t, W: Walk<'t>, O: Sink>(
         then round_lines W.words ready.now.senders.items transmission.now.process
         (round_of transmission.now.process before.now)
         else []) }
-    ensures kept { OnOk result ((later : List Transmission) (ended : List (List Transmission))
+    ensures keeps { OnOk result ((later : List Transmission) (ended : List (List Transmission))
         → W.Keeps walk.old ready.now.senders.items before.now later ended
         → W.Keeps walk.new ready.now.senders.items before.now later
         (ended ++ ended_by before.now transmission.now)) }
@@ -158,11 +158,11 @@ pub(crate) fn end_all<'t, W: Walk<'t>, O: Sink>(
 ) -> Result<(), RunFault>
     requires puts { O.failures out.old < 2 ^ 32 }
     requires placed { 16 ≤ W.slots walk.old }
-    requires kept { W.Keeps walk.old ready.now.senders.items ready.now.inputs.now.schedule.transmissions.items []
+    requires keeps { W.Keeps walk.old ready.now.senders.items ready.now.inputs.now.schedule.transmissions.items []
         (ended_rounds [] ready.now.inputs.now.schedule.transmissions.items) }
     ensures text { Writes (O.written out.old) (O.written out.new) result
         (pieces_joined (last_rounds W.words ready.now.senders.items ready.now.inputs.now.schedule.transmissions.items)) }
-    ensures kept { OnOk result
+    ensures keeps { OnOk result
         (W.Keeps walk.new ready.now.senders.items ready.now.inputs.now.schedule.transmissions.items []
         (all_rounds ready.now.inputs.now.schedule.transmissions.items)) }
     ensures put { FailsAs RunFault.Write result (O.failures out.old) (O.failures out.new) }

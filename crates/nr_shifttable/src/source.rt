@@ -76,7 +76,7 @@ pub fn read_to_end<S: Source>(
     ensures too_long { IsErrOf result ReadFault.TooLong → HasMore (S.remaining source.old) limit }
     ensures failed { TellsFailure ReadFault.Broken
         (S.failures source.old) (S.failures source.new) result }
-    ensures kept { KeepsCount ReadFault.Broken
+    ensures failures { KeepsCount ReadFault.Broken
         (S.failures source.old) (S.failures source.new) result }
 {
     let mut text = Vec::new(alloc);
@@ -218,7 +218,7 @@ impl Source for Endless {
     fn pull(&mut self, buf: &mut [u8]) -> Result<usize, Broken>
         ensures octets { ReadConsumes None None result buf.new }
         ensures gives { result ≡ Ok (min (length buf.old) 1) }
-        ensures kept { length buf.new ≡ length buf.old }
+        ensures long { length buf.new ≡ length buf.old }
         ensures counted { self.new.pulls ≡ min (self.old.pulls + 1) (2 ^ 32 - 1) }
     {
         self.pulls = self.pulls.saturating_add(1);

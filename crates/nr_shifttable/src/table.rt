@@ -58,7 +58,7 @@ impl Table {
         ensures table { IfOk result IsTable }
         ensures failed { TellsFailure TableFault.Read
             (S.failures source.old) (S.failures source.new) result }
-        ensures kept { KeepsCount TableFault.Read
+        ensures failures { KeepsCount TableFault.Read
             (S.failures source.old) (S.failures source.new) result }
         ensures said { TellsTable (S.remaining source.old) result }
     {

@@ -38,7 +38,7 @@ impl<'t> Receiver<'t> {
         ensures judged { IsErrOf result DeskFault.Memory
             → IsOk (reception_said self.old.link
             (reception_by tx.now heard.now.items value.now.items)) }
-        ensures kept { OnErr result (self.new ≡ self.old) }
+        ensures err { OnErr result (self.new ≡ self.old) }
         ensures heard { OnOk result ((list : List Reception)
             → IsRecordOf self.old.link list self.old.heard
             → IsRecordOf self.old.link

@@ -4,7 +4,7 @@ use Rattle.nr_calls.specs.Entries.{table_by}
 use Rattle.nr_calls.proofs.Placed.{answered}
 use Rattle.nr_calls.proofs.table.list_of.Goals as goal
 
-pub returns-clause-kept : goal.returns-clause-kept
-returns-clause-kept c = λ _.
+pub returns-clause-same_table : goal.returns-clause-same_table
+returns-clause-same_table c = λ _.
     ap table_by c.write_entries.ensures
     ∙ answered (kept_listed c.args.table.now) (Ok c.args.table.now) (c.listed_are_kept.ensures c.args.table.now c.tables_are_sound.ensures)

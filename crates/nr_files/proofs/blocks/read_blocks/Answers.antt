@@ -11,5 +11,5 @@ returns-in-Err-TooLong-clause-said g c =
 
 pub returns-clause-pulled : goal.returns-clause-pulled
 returns-clause-pulled g c =
-    let same : g.B.Source.failures c.read_to_end.new.source ≡ g.B.Source.failures c.args.source.now = elim c.in-Ok.ensures.kept [ inl same ↦ same | inr broken ↦ cc ] in
+    let same : g.B.Source.failures c.read_to_end.new.source ≡ g.B.Source.failures c.args.source.now = elim c.in-Ok.ensures.failures [ inl same ↦ same | inr broken ↦ cc ] in
     fails_as-not _ c.parse_blocks.result _ _ (given-unread _ c.parse_blocks.result _ c.parse_blocks.ensures.said) same

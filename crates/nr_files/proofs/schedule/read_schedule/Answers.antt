@@ -12,6 +12,6 @@ returns-in-Err-TooLong-clause-said g c =
 
 pub returns-clause-pulled : goal.returns-clause-pulled
 returns-clause-pulled g c =
-    let same : g.S.Source.failures c.read_to_end.new.source ≡ g.S.Source.failures c.args.source.now = elim c.in-Ok.ensures.kept [ inl same ↦ same | inr broken ↦ cc ] in
+    let same : g.S.Source.failures c.read_to_end.new.source ≡ g.S.Source.failures c.args.source.now = elim c.in-Ok.ensures.failures [ inl same ↦ same | inr broken ↦ cc ] in
     fails_as-not _ c.parse_schedule.result _ _
     (never_given fault.Read fault.Memory _ c.parse_schedule.result _ (λ is. cc) (schedule_said-unread c.args.blocks _) c.parse_schedule.ensures.said) same

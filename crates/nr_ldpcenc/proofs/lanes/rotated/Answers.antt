@@ -13,4 +13,4 @@ returns-clause-rotated g c = λ t lt.
     let none = place-zeros g.row.W t in
     let digit : place twice (64 * 0 + p + t) < 2 = bit_at-lt (get_or twice ((64 * 0 + p + t) / 64) 0) ((64 * 0 + p + t) % 64) in
     let sum : place c.add_rotated.new.sum t ≡ place twice (64 * 0 + p + t) = omega (arith, gain, none, digit) in
-    c.clip.ensures.kept t lt ∙ sum ∙ ap (place twice) there ∙ c.put_twice.ensures.doubled (t + p) (omega (arith, lt))
+    c.clip.ensures.within t lt ∙ sum ∙ ap (place twice) there ∙ c.put_twice.ensures.doubled (t + p) (omega (arith, lt))

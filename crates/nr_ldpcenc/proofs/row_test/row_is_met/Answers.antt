@@ -14,7 +14,7 @@ returns g c =
     let sum = c.clip.new.sum in
     let before = λ (t : ℕ). sum_before c.args.set z (col_bit z c.args.cols.now) c.args.columns t c.args.row.now in
     let here : (t : ℕ) → t < z → (place sum t == 1) ≡ before t =
-    λ t lt. ap (λ n. n == 1) (c.clip.ensures.kept t lt) ∙ c.add_row.ensures t lt ∙ ap (λ n. (n == 1) ⊕ before t) (place-zeros g.row.W t) in (
+    λ t lt. ap (λ n. n == 1) (c.clip.ensures.within t lt) ∙ c.add_row.ensures t lt ∙ ap (λ n. (n == 1) ⊕ before t) (place-zeros g.row.W t) in (
       λ yes t lt. sym (here t lt) ∙ ap (λ n. n == 1) (c.is_clear.ensures.0 yes t),
       λ none. c.is_clear.ensures.1 (λ t. elim (cases_lt t z) [
         | inl lt ↦ none_set sum t (here t lt ∙ none t lt)

@@ -24,7 +24,7 @@ returns-clause-completed g c =
     let solved : IsSolvedTo es plan.set n plan.z (rows_of plan.graph) (bit new) =
     subst (λ m. IsSolvedTo es plan.set n m (rows_of plan.graph) (bit new)) (sym c.requires.size) (subst (λ m. IsSolvedTo es plan.set n g.row.Z m (bit new)) all c.loop-i.invariant.solved) in
     let kept : AgreeBelow plan.k (bit old) (bit new) =
-    subst (λ m. AgreeBelow m (bit old) (bit new)) (sym (plan.sound.columns ∙ ap (λ z. n * z) c.requires.size)) c.loop-i.invariant.kept in
+    subst (λ m. AgreeBelow m (bit old) (bit new)) (sym (plan.sound.columns ∙ ap (λ z. n * z) c.requires.size)) c.loop-i.invariant.same_below in
     completed_word t plan.graph plan.b (numbers plan) shape adds plan.sound old new c.requires.long c.loop-i.invariant.long kept solved
 
 pub returns-clause-is_word : goal.returns-clause-is_word
@@ -44,5 +44,5 @@ returns-clause-is_word g c =
     let solved : IsSolvedTo es plan.set n plan.z (rows_of plan.graph) (bit new) =
     subst (λ m. IsSolvedTo es plan.set n m (rows_of plan.graph) (bit new)) (sym c.requires.size) (subst (λ m. IsSolvedTo es plan.set n g.row.Z m (bit new)) all c.loop-i.invariant.solved) in
     let kept : AgreeBelow plan.k (bit old) (bit new) =
-    subst (λ m. AgreeBelow m (bit old) (bit new)) (sym (plan.sound.columns ∙ ap (λ z. n * z) c.requires.size)) c.loop-i.invariant.kept in
+    subst (λ m. AgreeBelow m (bit old) (bit new)) (sym (plan.sound.columns ∙ ap (λ z. n * z) c.requires.size)) c.loop-i.invariant.same_below in
     completed_is_word t plan.graph plan.b (numbers plan) shape adds plan.sound old new c.requires.long c.loop-i.invariant.long kept solved

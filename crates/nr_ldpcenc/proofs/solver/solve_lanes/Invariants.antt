@@ -11,6 +11,6 @@ abbrev pub invariant-loop-i : goal.invariant-loop-i
 invariant-loop-i g l = record {
   columns : HasColumns g.row.Z (info_cols_of l.plan.graph + l.i) l.cols l.bits.items;
   solved : IsSolvedTo (entries_in l.plan.graph l.table) l.plan.set (info_cols_of l.plan.graph) g.row.Z l.i (bit l.bits.items);
-  kept : AgreeBelow (info_cols_of l.plan.graph * g.row.Z) (bit l.fn.bits.items) (bit l.bits.items);
+  same_below : AgreeBelow (info_cols_of l.plan.graph * g.row.Z) (bit l.fn.bits.items) (bit l.bits.items);
   long : length l.bits.items ≡ length l.fn.bits.items;
 }

@@ -61,7 +61,7 @@ returns-clause-solved g c =
     let rows : c.row_entries.result.now ≡ row_of es (row_ending i) = c.row_entries.ensures.entries ∙ ap (row_of es) its_row in
     let none : (t : ℕ) → (place (replicate g.row.W 0) t == 1) ≡ false = λ t. ap (λ q. q == 1) (place-zeros g.row.W t) in
     let sum : (t : ℕ) → t < z → (place c.clip.new.sum t == 1) ≡ head_sum es plan.set z w (n + i) (row_ending i) t =
-    λ t lt. ap (λ q. q == 1) (c.clip.ensures.kept t lt) ∙ c.add_row.ensures t lt
+    λ t lt. ap (λ q. q == 1) (c.clip.ensures.within t lt) ∙ c.add_row.ensures t lt
     ∙ (λ j. none t j ⊕ sum_before (c.set_in-set.ensures.value j) z v (column j) t (rows j))
     ∙ sym (heads-agree es plan.set z w v (n + i) (row_ending i) t c.requires.some c.requires.columns.same) in
     next_put es plan.set n z c.requires.some w (bit c.put_block.new.bits.items) (λ t. place c.clip.new.sum t == 1) ((c.info_cols.result + i) * z)

@@ -64,7 +64,7 @@ returns-clause-sum g c = λ t lt.
     let b2 : Bool = place c.add_row-2.new.sum t == 1 in
     let b3 : Bool = place c.add_row-3.new.sum t == 1 in
     let b4 : Bool = place c.add_row-4.new.sum t == 1 in
-    ap (λ n. n == 1) (c.clip.ensures.kept t lt)
+    ap (λ n. n == 1) (c.clip.ensures.within t lt)
     ∙ four_sums b0 b1 b2 b3 b4 (head_sum es set z w n 0 t) (head_sum es set z w n 1 t) (head_sum es set z w n 2 t) (head_sum es set z w n 3 t) none
     (c.add_row.ensures t lt ∙ ap (λ y. b0 ⊕ y) (sum 0 c.row_entries.result.now c.row_entries.ensures.entries))
     (c.add_row-2.ensures t lt ∙ ap (λ y. b1 ⊕ y) (sum 1 c.row_entries-2.result.now c.row_entries-2.ensures.entries))

@@ -22,9 +22,9 @@ returns-clause-text g c =
     let senders = c.args.ready.now.senders.items in
     let schedule = c.args.ready.now.inputs.now.schedule.transmissions.items in
     let last : List ℕ = last_line (codes "rounds") (rounds_counted no_totals senders (all_rounds schedule)) in
-    let made = rw c.in_ok-end_all.ensures.kept.counted at c.last_line.ensures in
+    let made = rw c.in_ok-end_all.ensures.keeps.counted at c.last_line.ensures in
     writes_last _ _ _ c.put_line.result (pieces_joined (last_rounds run_words senders schedule)) last c.in_ok-end_all.ensures.text
     (c.put_line.ensures.text _ (last_line-some _ _) made)
 
 pub end_all-requires : goal.end_all-requires
-end_all-requires g c = λ k. ((refl, tt), (c.requires.puts, (omega (arith, c.requires.long), c.requires.kept)))
+end_all-requires g c = λ k. ((refl, tt), (c.requires.puts, (omega (arith, c.requires.long), c.requires.keeps)))

@@ -16,8 +16,8 @@ use Rattle.nr_linkcommands.proofs.schedule_walk.end_all.Goals as goal
 pub loop-process-init : goal.loop-process-init
 loop-process-init g c = record {
   written = sym (with_text-nil (g.O.Sink.written c.args.out.now));
-  kept = subst (λ (rounds : List (List Transmission)). g.W.Walk.Keeps c.args.walk.now c.args.ready.now.senders.items c.args.ready.now.inputs.now.schedule.transmissions.items [] rounds)
-      (sym (append-nil (ended_rounds [] c.args.ready.now.inputs.now.schedule.transmissions.items))) c.requires.kept;
+  keeps = subst (λ (rounds : List (List Transmission)). g.W.Walk.Keeps c.args.walk.now c.args.ready.now.senders.items c.args.ready.now.inputs.now.schedule.transmissions.items [] rounds)
+      (sym (append-nil (ended_rounds [] c.args.ready.now.inputs.now.schedule.transmissions.items))) c.requires.keeps;
   slots = refl;
   sound = refl;
 }
@@ -28,7 +28,7 @@ end_round-requires g c =
     let p = c.loop-process.process in
     let rounds : List (List Transmission) = map (λ q. round_of q schedule) (range_with_len 0 p) in
     let few : length rounds ≡ p = length-map-range_with_len (λ q. round_of q schedule) 0 p in
-    λ k. ((refl, tt), (omega (arith, c.requires.puts, c.loop-process.invariant.sound), ((rw c.as_slice-schedule.ensures.value c.args.ready.now.timetable.named, (omega (arith, c.loop-process-test.true, c.loop-process.invariant.slots, c.requires.placed), rw c.as_slice-schedule.ensures.value ([], ended_rounds [] schedule ++ rounds, omega (arith, few, ended-few [] schedule, length-append (ended_rounds [] schedule) rounds, c.args.ready.now.timetable.few, c.loop-process-test.true), refl, c.loop-process.invariant.kept))))))
+    λ k. ((refl, tt), (omega (arith, c.requires.puts, c.loop-process.invariant.sound), ((rw c.as_slice-schedule.ensures.value c.args.ready.now.timetable.named, (omega (arith, c.loop-process-test.true, c.loop-process.invariant.slots, c.requires.placed), rw c.as_slice-schedule.ensures.value ([], ended_rounds [] schedule ++ rounds, omega (arith, few, ended-few [] schedule, length-append (ended_rounds [] schedule) rounds, c.args.ready.now.timetable.few, c.loop-process-test.true), refl, c.loop-process.invariant.keeps))))))
 
 pub returns-in_err-end_round-clause-text : goal.returns-in_err-end_round-clause-text
 returns-in_err-end_round-clause-text g c =
@@ -50,8 +50,8 @@ loop-process-preserved g c =
       written = (rw c.as_slice-schedule.ensures.value at c.in_ok-end_round.ensures.text) ∙ ap (λ w. with_text w (lines p)) c.loop-process.invariant.written
           ∙ with_text-append _ (flat_map lines (range_with_len 0 p)) (lines p)
           ∙ ap (λ text. with_text (g.O.Sink.written c.args.out.now) text) (flat_map-range_more lines [] p);
-      kept = subst (λ (rounds : List (List Transmission)). g.W.Walk.Keeps c.end_round.new.self c.args.ready.now.senders.items schedule [] rounds) (last-more (ended_rounds [] schedule) schedule p)
-          ((rw c.as_slice-schedule.ensures.value at c.in_ok-end_round.ensures.kept) [] ended c.loop-process.invariant.kept);
+      keeps = subst (λ (rounds : List (List Transmission)). g.W.Walk.Keeps c.end_round.new.self c.args.ready.now.senders.items schedule [] rounds) (last-more (ended_rounds [] schedule) schedule p)
+          ((rw c.as_slice-schedule.ensures.value at c.in_ok-end_round.ensures.keeps) [] ended c.loop-process.invariant.keeps);
       slots = c.in_ok-end_round.ensures.slots ∙ c.loop-process.invariant.slots;
       sound = c.in_ok-end_round.ensures.put ∙ c.loop-process.invariant.sound;
     }
@@ -61,7 +61,7 @@ returns-clause-text g c =
     let all : c.loop-process.process ≡ 16 = omega arith in
     rw (sym (last-lines g.W.Walk.words c.args.ready.now.senders.items c.args.ready.now.inputs.now.schedule.transmissions.items)) at (rw all at c.loop-process.invariant.written)
 
-pub returns-clause-kept : goal.returns-clause-kept
-returns-clause-kept g c =
+pub returns-clause-keeps : goal.returns-clause-keeps
+returns-clause-keeps g c =
     let all : c.loop-process.process ≡ 16 = omega arith in
-    rw all at c.loop-process.invariant.kept
+    rw all at c.loop-process.invariant.keeps

@@ -10,7 +10,7 @@ abbrev pub invariant-loop-process : goal.invariant-loop-process
 invariant-loop-process g l = record {
   written : g.O.Sink.written l.out ≡ with_text (g.O.Sink.written l.fn.out)
       (flat_map (λ p. round_lines g.W.Walk.words l.ready.senders.items p (round_of p l.ready.inputs.now.schedule.transmissions.items)) (range_with_len 0 l.process));
-  kept : g.W.Walk.Keeps l.walk l.ready.senders.items l.ready.inputs.now.schedule.transmissions.items []
+  keeps : g.W.Walk.Keeps l.walk l.ready.senders.items l.ready.inputs.now.schedule.transmissions.items []
       (ended_rounds [] l.ready.inputs.now.schedule.transmissions.items ++ map (λ p. round_of p l.ready.inputs.now.schedule.transmissions.items) (range_with_len 0 l.process));
   slots : g.W.Walk.slots l.walk ≡ g.W.Walk.slots l.fn.walk;
   sound : g.O.Sink.failures l.out ≡ g.O.Sink.failures l.fn.out;

@@ -14,7 +14,7 @@ use Rattle.nr_linkcommands.proofs.schedule_walk.follow.Goals as goal
 
 pub loop-index-init : goal.loop-index-init
 unfolding ended_rounds
-loop-index-init g c = record { lines = left-first _ _; kept = c.requires.nothing; slots = refl; sound = refl }
+loop-index-init g c = record { lines = left-first _ _; keeps = c.requires.nothing; slots = refl; sound = refl }
 
 pub end_before-requires : goal.end_before-requires
 end_before-requires g c =
@@ -25,7 +25,7 @@ end_before-requires g c =
     let within : i < length xs = rw c.as_slice-schedule.ensures.value at c.loop-index-test.true in
     let at : x ≡ get_or xs i x = rw c.as_slice-schedule.ensures.value at c.index-schedule-index.is in
     let placed = all-at (λ (y : Transmission). y.process < g.W.Walk.slots c.args.walk.now) xs i x c.requires.placed within at in
-    λ k. ((refl, tt), (omega (arith, c.requires.puts, c.loop-index.invariant.sound), ((rw c.as_slice-schedule.ensures.value (All-take (HasBlock (length senders)) i xs c.args.ready.now.timetable.named), (omega (arith, placed, c.loop-index.invariant.slots), rw c.as_slice-schedule.ensures.value (drop (i + 1) xs, ended_rounds [] (take i xs), omega (arith, ended-few [] (take i xs), length-take-le i xs (omega (arith, within)), within, c.args.ready.now.timetable.few), rw (left-turn xs i x within at) at c.loop-index.invariant.kept))))))
+    λ k. ((refl, tt), (omega (arith, c.requires.puts, c.loop-index.invariant.sound), ((rw c.as_slice-schedule.ensures.value (All-take (HasBlock (length senders)) i xs c.args.ready.now.timetable.named), (omega (arith, placed, c.loop-index.invariant.slots), rw c.as_slice-schedule.ensures.value (drop (i + 1) xs, ended_rounds [] (take i xs), omega (arith, ended-few [] (take i xs), length-take-le i xs (omega (arith, within)), within, c.args.ready.now.timetable.few), rw (left-turn xs i x within at) at c.loop-index.invariant.keeps))))))
 
 pub transmit-requires : goal.transmit-requires
 transmit-requires g c =
@@ -37,7 +37,7 @@ transmit-requires g c =
     let at : x ≡ get_or xs i x = rw c.as_slice-schedule.ensures.value at c.index-schedule-index.is in
     let ended : List (List Transmission) = ended_rounds [] (take i xs) ++ ended_by (take i xs) x in
     let of = of-continued (take i xs) x ((timetable-of_rounds _ _ c.args.ready.now.timetable) i x within at) in
-    let keeps = (rw c.as_slice-schedule.ensures.value at c.in_ok-end_before.ensures.kept) (x ∷ drop (i + 1) xs) (ended_rounds [] (take i xs)) (rw (left-turn xs i x within at) at c.loop-index.invariant.kept) in
+    let keeps = (rw c.as_slice-schedule.ensures.value at c.in_ok-end_before.ensures.keeps) (x ∷ drop (i + 1) xs) (ended_rounds [] (take i xs)) (rw (left-turn xs i x within at) at c.loop-index.invariant.keeps) in
     let placed = all-at (λ (y : Transmission). y.process < g.W.Walk.slots c.args.walk.now) xs i x c.requires.placed within at in
     λ k. ((refl, tt), (omega (arith, c.requires.puts, c.loop-index.invariant.sound, c.in_ok-end_before.ensures.put), ((all-at (HasBlock (length senders)) xs i x c.args.ready.now.timetable.named within at, (omega (arith, placed, c.loop-index.invariant.slots, c.in_ok-end_before.ensures.slots), rw (c.as_slice-schedule.ensures.value, all-behind (i + 1) xs) (take i xs, ended, omega (arith, length-take-le i xs (omega (arith, within)), within, c.args.ready.now.timetable.few), of, keeps))))))
 
@@ -63,7 +63,7 @@ returns-in_err-transmit-clause-text g c =
     let at : x ≡ get_or xs i x = rw c.as_slice-schedule.ensures.value at c.index-schedule-index.is in
     let ended : List (List Transmission) = ended_rounds [] (take i xs) ++ ended_by (take i xs) x in
     let of = of-continued (take i xs) x ((timetable-of_rounds _ _ c.args.ready.now.timetable) i x within at) in
-    let keeps = (rw c.as_slice-schedule.ensures.value at c.in_ok-end_before.ensures.kept) (x ∷ drop (i + 1) xs) (ended_rounds [] (take i xs)) (rw (left-turn xs i x within at) at c.loop-index.invariant.kept) in
+    let keeps = (rw c.as_slice-schedule.ensures.value at c.in_ok-end_before.ensures.keeps) (x ∷ drop (i + 1) xs) (ended_rounds [] (take i xs)) (rw (left-turn xs i x within at) at c.loop-index.invariant.keeps) in
     let parts = turn-parts g.W.Walk.words senders xs i x within at in
     let before = rw c.as_slice-schedule.ensures.value at c.in_ok-end_before.ensures.text in
     let p = err_from_is_err_and c.from_residual-in_err-transmit.result c.from_residual-in_err-transmit.ensures.1 in
@@ -80,14 +80,14 @@ loop-index-preserved g c =
     let at : x ≡ get_or xs i x = rw c.as_slice-schedule.ensures.value at c.index-schedule-index.is in
     let ended : List (List Transmission) = ended_rounds [] (take i xs) ++ ended_by (take i xs) x in
     let of = of-continued (take i xs) x ((timetable-of_rounds _ _ c.args.ready.now.timetable) i x within at) in
-    let keeps = (rw c.as_slice-schedule.ensures.value at c.in_ok-end_before.ensures.kept) (x ∷ drop (i + 1) xs) (ended_rounds [] (take i xs)) (rw (left-turn xs i x within at) at c.loop-index.invariant.kept) in
+    let keeps = (rw c.as_slice-schedule.ensures.value at c.in_ok-end_before.ensures.keeps) (x ∷ drop (i + 1) xs) (ended_rounds [] (take i xs)) (rw (left-turn xs i x within at) at c.loop-index.invariant.keeps) in
     let parts = turn-parts g.W.Walk.words senders xs i x within at in
     let before = rw c.as_slice-schedule.ensures.value at c.in_ok-end_before.ensures.text in
-    let kept = (rw (c.as_slice-schedule.ensures.value, all-behind (i + 1) xs) at c.in_ok-transmit.ensures.kept) (take i xs) ended of keeps in
+    let kept = (rw (c.as_slice-schedule.ensures.value, all-behind (i + 1) xs) at c.in_ok-transmit.ensures.keeps) (take i xs) ended of keeps in
     let made = (rw (c.as_slice-schedule.ensures.value, all-behind (i + 1) xs) at c.in_ok-transmit.ensures.text) (take i xs) ended of keeps in
     record {
       lines = left-more _ _ _ _ _ _ (left-more _ _ _ _ _ _ (rw parts at c.loop-index.invariant.lines) before) made;
-      kept = subst (λ (ys : List Transmission). g.W.Walk.Keeps c.transmit.new.self senders ys (drop (i + 1) xs) (ended_rounds [] ys)) (sym (taken-more xs i x within at))
+      keeps = subst (λ (ys : List Transmission). g.W.Walk.Keeps c.transmit.new.self senders ys (drop (i + 1) xs) (ended_rounds [] ys)) (sym (taken-more xs i x within at))
           (subst (λ (rounds : List (List Transmission)). g.W.Walk.Keeps c.transmit.new.self senders (take i xs ++ x ∷ []) (drop (i + 1) xs) rounds) (sym (ended-more (take i xs) x)) kept);
       slots = c.in_ok-transmit.ensures.slots ∙ c.in_ok-end_before.ensures.slots ∙ c.loop-index.invariant.slots;
       sound = c.in_ok-transmit.ensures.put ∙ c.in_ok-end_before.ensures.put ∙ c.loop-index.invariant.sound;

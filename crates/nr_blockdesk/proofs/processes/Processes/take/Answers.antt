@@ -14,7 +14,7 @@ returns-clause-takes c = record {
     link = c.take.ensures.link;
     refused = c.take.ensures.refused;
     judged = c.take.ensures.judged;
-    kept = c.take.ensures.kept;
+    err = c.take.ensures.err;
     heard = c.take.ensures.heard;
     outcome = c.take.ensures.outcome;
     only_one = c.take.ensures.only_one;
@@ -22,13 +22,13 @@ returns-clause-takes c = record {
   };
 }
 
-pub returns-clause-kept : goal.returns-clause-kept
-returns-clause-kept c = search (rules, common_steps)
+pub returns-clause-err : goal.returns-clause-err
+returns-clause-err c = search (rules, common_steps)
 
 pub returns-clause-after : goal.returns-clause-after
 returns-clause-after c =
     let long = ap (λ (s : ProcessesView). length s.places) (sym c.self.view_is) ∙ c.self.invariant in
-    take-after c.args.self.now _ c.args.p _ c.take.result long c.requires.place (returns-clause-takes c) (returns-clause-kept c)
+    take-after c.args.self.now _ c.args.p _ c.take.result long c.requires.place (returns-clause-takes c) (returns-clause-err c)
 
 pub returns-clause-answers : goal.returns-clause-answers
 returns-clause-answers c = take-answer c.args.self.now _ c.args.p _ c.take.result c.requires.place (returns-clause-takes c)

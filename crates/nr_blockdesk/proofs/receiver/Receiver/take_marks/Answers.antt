@@ -79,8 +79,8 @@ returns-clause-judged c = λ memory.
     rw (← c.self.view_is)
     (accepted-by c.self.inside.plan.c c.args.tx.now c.args.heard.now.items c.args.value.now.items c.len.result c.in_ok-lengths.lengths.items c.len.ensures.value c.in_ok-lengths.ensures.said)
 
-pub returns-clause-kept : goal.returns-clause-kept
-returns-clause-kept c = tt
+pub returns-clause-err : goal.returns-clause-err
+returns-clause-err c = tt
 
 pub hear-agreed-requires-clause-room : goal.hear-agreed-requires-clause-room
 hear-agreed-requires-clause-room c = λ r inside.

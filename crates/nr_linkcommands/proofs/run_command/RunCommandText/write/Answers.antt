@@ -51,6 +51,6 @@ returns-clause-text g c =
     let blocks : c.slot_count-slots.result ≡ length senders + 1 = rw c.if-by_process.false at (rw many at c.slot_count-slots.ensures) in
     let long : length slots ≡ length senders + 1 =
     omega (arith, blocks, ap length c.deref.ensures.value, c.in_ok-follow.ensures.slots, ap length c.in_ok-rounds.ensures.slots, length-replicate {A = Slot}) in
-    let held : HoldRounds senders schedule [] slots = subst (HoldRounds senders schedule []) (sym c.deref.ensures.value) c.in_ok-follow.ensures.kept.held in
+    let held : HoldRounds senders schedule [] slots = subst (HoldRounds senders schedule []) (sym c.deref.ensures.value) c.in_ok-follow.ensures.keeps.held in
     rw c.if-by_process.false (writes_last _ _ _ c.write_blocks.result (pieces_joined (turns run_words senders [] schedule)) (run_ends false senders schedule) c.in_ok-follow.ensures.text
     (c.write_blocks.ensures.text schedule (blocks-hold senders schedule slots all long held)))

@@ -10,17 +10,17 @@ use Rattle.nr_linkcommands.proofs.run_command.slots.RunSlotsWalk.end_round.Goals
 
 pub write_round_end-requires-clause-few : goal.write_round_end-requires-clause-few
 write_round_end-requires-clause-few g c =
-    let kept = c.requires.kept in
+    let kept = c.requires.keeps in
     within-more (length kept.1) 65535 c.args.self.now.totals kept.2 kept.4.within
 
 pub write_round_end-requires-clause-held : goal.write_round_end-requires-clause-held
 write_round_end-requires-clause-held g c =
-    let kept = c.requires.kept in
+    let kept = c.requires.keeps in
     subst (λ b. HoldsRound b c.args.ready.now.senders.items (round_of c.args.process c.args.before.now) c.index-slot.result.now) kept.3
     (holds-round c.args.ready.now.senders.items c.args.before.now kept.0 c.args.self.now.slots.items c.args.process c.index-slot.result.now c.requires.placed c.index-slot.ensures kept.4.held)
 
-pub returns-clause-kept : goal.returns-clause-kept
-returns-clause-kept g c = λ later ended keeps.
+pub returns-clause-keeps : goal.returns-clause-keeps
+returns-clause-keeps g c = λ later ended keeps.
     let round = round_of c.args.process c.args.before.now in
     record {
       held = keeps.held;

@@ -15,7 +15,7 @@ send_and_receive-requires-clause-room g c =
     let x = c.args.transmission.now in
     let sender = c.sender-sender.result.now in
     let there = sender-there senders x x.block sender refl (omega (arith, c.requires.named.0, c.requires.named.1)) c.sender-sender.ensures.at in
-    let kept = c.requires.kept in
+    let kept = c.requires.keeps in
     let held = made-held senders kept.0 c.args.later.now kept.1 x sender c.args.self.now.slots.items c.args.self.now.totals c.index_mut-slot.result.now c.begin_round.new.slot kept.4 kept.3 c.requires.placed c.index_mut-slot.ensures.value c.begin_round.ensures there in
     continued-room sender kept.0 _ x c.begin_round.new.slot.state (omega (arith, kept.2)) held.0
 
@@ -25,7 +25,7 @@ send_and_receive-requires-clause-same_link g c =
     let x = c.args.transmission.now in
     let sender = c.sender-sender.result.now in
     let there = sender-there senders x x.block sender refl (omega (arith, c.requires.named.0, c.requires.named.1)) c.sender-sender.ensures.at in
-    let kept = c.requires.kept in
+    let kept = c.requires.keeps in
     let held = made-held senders kept.0 c.args.later.now kept.1 x sender c.args.self.now.slots.items c.args.self.now.totals c.index_mut-slot.result.now c.begin_round.new.slot kept.4 kept.3 c.requires.placed c.index_mut-slot.ensures.value c.begin_round.ensures there in
     held-over sender.link _ c.begin_round.new.slot.state held.0
 
@@ -49,8 +49,8 @@ returns-clause-text g c = λ before ended of keeps.
     let held = made-held senders before c.args.later.now ended x sender c.args.self.now.slots.items c.args.self.now.totals c.index_mut-slot.result.now c.begin_round.new.slot keeps of c.requires.placed c.index_mut-slot.ensures.value c.begin_round.ensures there in
     rw (ap (λ (o : Option SenderView). said_if run_words o (continued before x) x) there) (c.in_ok-send_and_receive.ensures.text _ held.0)
 
-pub returns-clause-kept : goal.returns-clause-kept
-returns-clause-kept g c = λ before ended of keeps.
+pub returns-clause-keeps : goal.returns-clause-keeps
+returns-clause-keeps g c = λ before ended of keeps.
     let senders = c.args.ready.now.senders.items in
     let x = c.args.transmission.now in
     let sender = c.sender-sender.result.now in
