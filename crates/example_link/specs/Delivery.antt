@@ -1,14 +1,13 @@
--- Believed, with internal helpers: what a round of a HARQ process delivers. A transport block is sent once for each attempt, over a link that erases.
+-- Believed: what a round of a HARQ process delivers. A transport block is sent once for each attempt, over a link that erases.
 use Rattle.std.specs.Prelude.{ℕ, Bool, nat_le, nat_lt, ◌&&◌, Result, Ok, List, [], ◌∷◌, length, map}
-use Rattle.std.specs.List.{range_with_len, zip}
+use Rattle.std.specs.List.{range_with_len}
 use Rattle.nr_refusal.specs.Refusal.{◌>>=◌}
 use Rattle.nr_shifttable.specs.Accepted.{Entries}
 use Rattle.nr_blockdesk.specs.Explains.{Reception, reception_said}
 use Rattle.nr_blockdesk.specs.Link.{Link, link_said}
 use Rattle.nr_blockdesk.specs.Outcome.{Verdict, outcome_of}
-use Rattle.nr_blockdesk.specs.ReceiverLaws.{arrived, arrived_bit}
+use Rattle.nr_blockdesk.specs.ReceiverLaws.{arrived}
 use Rattle.nr_transmission.specs.declared.fault.DeskFault.{DeskFault}
-use Rattle.nr_blockdesk.specs.declared.heard.Heard.{Heard}
 use Rattle.nr_transmission.specs.declared.settings.Settings.{Settings}
 use Rattle.nr_transmission.specs.declared.tx.Tx.{Tx}
 use Rattle.example_link.specs.declared.delivery.Attempt.{Attempt}
@@ -24,14 +23,6 @@ marks x = map (is_lost x) (range_with_len 0 x.tx.g)
 -- a transmission, and its marks
 abbrev pub with_marks : Attempt → Tx × List Bool
 with_marks x = (x.tx, marks x)
-
--- what arrives of a bit, with its place's mark
-abbrev pub arrived_at : Bool × Bool → Heard
-arrived_at at = arrived_bit at.0 at.1
-
--- what arrives of the bits that are sent
-abbrev pub heard_in : Attempt → List Bool → List Heard
-heard_in x sent = map arrived_at (zip (marks x) sent)
 
 -- what arrives of a transport block in all attempts
 abbrev pub arrivals : Link → List Bool → List Attempt → List Reception

@@ -6,7 +6,8 @@ ghost use Rattle.nr_shifttable.specs.Accepted.{IsTable};
 ghost use Rattle.nr_blockdesk.specs.Outcome.{contradiction, delivered};
 ghost use Rattle.nr_blockdesk.specs.ReceiverLaws.{arrived_bit};
 ghost use Rattle.nr_blockdesk.specs.Receiving.{verdict};
-ghost use Rattle.example_link.specs.Delivery.{heard_in, is_lost, round_said};
+ghost use Rattle.example_link.specs.Delivery.{is_lost, round_said};
+ghost use Rattle.example_link.specs.Inside.{heard_in};
 
 use nr_bitvec::Bits;
 use nr_blockdesk::{

@@ -4,7 +4,8 @@ use Rattle.std.proofs.lemmas.Bool.{cases_lt}
 use Rattle.std.proofs.lemmas.List.{get_or_past, get_or_append_left, get_or-append_right, get_or-replicate, length-replicate, take_all}
 use Rattle.std.proofs.lemmas.Nat.Bits.{bit_at-zero, bit_at_above}
 use Rattle.std.specs.Int.{bit_at}
-use Rattle.nr_bitvec.specs.Packed.{place, moved, IsClear, IsPacked, Joins, unpacked}
+use Rattle.nr_bitvec.specs.Packed.{place, IsClear, unpacked}
+use Rattle.nr_bitvec.specs.PackedInside.{moved, IsPacked, Joins}
 use Rattle.nr_bitvec.proofs.BitFacts.{place_of, place_past}
 use Rattle.nr_bitvec.proofs.Places.{length-unpacked}
 use Rattle.nr_bitvec.proofs.Flips.{moved_below, moved_from, kept}

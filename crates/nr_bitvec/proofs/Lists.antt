@@ -8,7 +8,8 @@ use Rattle.std.specs.Int.{bit_at, from_bool}
 use Rattle.std.specs.Int.RustNames.{bit_and, bit_xor}
 use Rattle.nr_bitvec.specs.Bit.{bit}
 use Rattle.nr_bitvec.specs.BitList.{low_first}
-use Rattle.nr_bitvec.specs.Packed.{place, moved, IsClear, IsPacked, HasPlaces, Changes, unpacked}
+use Rattle.nr_bitvec.specs.Packed.{place, IsClear, unpacked}
+use Rattle.nr_bitvec.specs.PackedInside.{moved, IsPacked, HasPlaces, Changes}
 use Rattle.nr_bitvec.proofs.Places.{length-unpacked, bit-place, same_from_bits}
 use Rattle.nr_bitvec.proofs.Flips.{moved_below, moved_from, kept}
 

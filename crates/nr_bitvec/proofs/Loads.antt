@@ -5,7 +5,8 @@ use Rattle.std.proofs.lemmas.Bool.{cases_lt, lt-ltb, le-ltb}
 use Rattle.std.proofs.lemmas.List.{get_or_past, get_or_append_left, get_or-append_right, length_push, same_lists, get_or_default}
 use Rattle.std.specs.Int.{bit_at, to_be_bytes, to_le_bytes, w64}
 use Rattle.nr_bitvec.specs.BitList.{bits_of, octets_of}
-use Rattle.nr_bitvec.specs.Packed.{place, octet_place, IsPacked, unpacked}
+use Rattle.nr_bitvec.specs.Packed.{place, unpacked}
+use Rattle.nr_bitvec.specs.PackedInside.{octet_place, IsPacked}
 use Rattle.nr_bitvec.proofs.BitFacts.{bit_at_shr, bit_at_mod, place_of, place_past}
 use Rattle.nr_bitvec.proofs.Places.{place-push_old, place-push_new, length-unpacked, bit-place}
 use Rattle.nr_bitvec.proofs.Lists.{unpacked-is}

@@ -4,7 +4,8 @@ use Rattle.std.proofs.lemmas.Bool.{cases_lt}
 use Rattle.std.proofs.lemmas.Nat.Bits.{bit_at-lt}
 use Rattle.nr_bitvec.specs.Bit.{bit}
 use Rattle.nr_bitvec.specs.BitList.{BitList}
-use Rattle.nr_bitvec.specs.Packed.{place, unpacked, IsClear, IsPacked, Joins}
+use Rattle.nr_bitvec.specs.Packed.{place, unpacked, IsClear}
+use Rattle.nr_bitvec.specs.PackedInside.{IsPacked, Joins}
 use Rattle.nr_bitvec.proofs.Places.{length-unpacked, bit-place}
 
 -- a place that is not set

@@ -6,8 +6,10 @@ use Rattle.std.proofs.lemmas.Slice.Eq.{slice_eq-Decides}
 use Rattle.std.specs.Bool.{Decides}
 use Rattle.std.specs.Cmp.{booleans_Decides}
 use Rattle.nr_bitvec.specs.Bit.{bit}
-use Rattle.nr_bitvec.specs.BitList.{BitList, same_bits}
-use Rattle.nr_bitvec.specs.Packed.{place, IsPacked, unpacked}
+use Rattle.nr_bitvec.specs.BitList.{BitList}
+use Rattle.nr_bitvec.specs.Inside.{same_bits}
+use Rattle.nr_bitvec.specs.Packed.{place, unpacked}
+use Rattle.nr_bitvec.specs.PackedInside.{IsPacked}
 use Rattle.nr_bitvec.proofs.BitFacts.{place_of}
 use Rattle.nr_bitvec.proofs.Places.{length-unpacked, bit-place}
 use Rattle.nr_bitvec.proofs.OctetLists.{same_bit}

@@ -6,7 +6,7 @@ use Rattle.std.proofs.lemmas.Nat.Bits.{bit_at-lt, bit_at-zero, bit_at_above, bit
 use Rattle.std.proofs.lemmas.Nat.{be_bytes_8, le_bytes_8}
 use Rattle.std.specs.Int.{bit_at, from_le_bytes, swap_bytes, to_le_bytes, w64}
 use Rattle.std.specs.Int.RustNames.{bit_and, bit_or}
-use Rattle.nr_bitvec.specs.Packed.{moved, octet_place}
+use Rattle.nr_bitvec.specs.PackedInside.{moved, octet_place}
 use Rattle.nr_bitvec.proofs.BitFacts.{bit_at_shr, bit_at_shl_low, bit_at_shl_high, bit_at_mod, bit_at_mod_above}
 use Rattle.nr_bitvec.proofs.Flips.{moved_below, moved_from, moved_up}
 use Rattle.nr_bitvec.proofs.Loads.{be-octet, le-octet, octet-bit, small-octet}

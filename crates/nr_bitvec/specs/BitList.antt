@@ -1,11 +1,8 @@
--- Believed, with internal helpers: a list of bits, and the octets that stand for one. The first bit is the most significant (TS 38.212, 6.2.1 and
+-- Believed: a list of bits, and the octets that stand for one. The first bit is the most significant (TS 38.212, 6.2.1 and
 -- 7.2.1: a_0).
 use Rattle.std.specs.Prelude.{◌≡◌, ℕ, ◌+◌, ◌^◌, ◌<◌, suc, zero, ◌==◌, Bool, List, [], ◌∷◌, if◌then◌else◌, map, flat_map, All}
-use Rattle.std.specs.Bool.{beq}
-use Rattle.std.specs.Cmp.Lexicographic.{pointwise}
 use Rattle.std.specs.Int.{bit_at}
 use Rattle.std.specs.List.{range_with_len}
-use Rattle.std.specs.Ordering.{on}
 
 -- what contracts see of a `Bits`: its bits, and how many more it has memory for, up to 2 ^ 24 bits in all
 pub record BitList : Type 0 where
@@ -39,7 +36,3 @@ octets_of bits = number_of 8 bits ∷ []
 -- octets, written as bits and read again, are the same octets
 abbrev pub OctetsRoundTrip : Type 0
 OctetsRoundTrip = (octets : List ℕ) → All (λ o. o < 2 ^ 8) octets → octets_of (bits_of octets) ≡ octets
-
--- whether two lists have the same bits
-abbrev pub same_bits : BitList → BitList → Bool
-same_bits = on (λ b. b.items) (pointwise beq)

@@ -1,3 +1,5 @@
 pub mod Bit
 pub mod BitList
 pub mod Packed
+pub mod PackedInside
+pub mod Inside

@@ -1,6 +1,6 @@
--- Believed, with internal helpers: bits packed into words of 64 places, place 0 the lowest bit of the first word. TS 38.212 has no rule for this; it
+-- Believed: bits packed into words of 64 places, place 0 the lowest bit of the first word. TS 38.212 has no rule for this; it
 -- is a choice of this crate.
-use Rattle.std.specs.Prelude.{◌≡◌, ℕ, ◌+◌, ◌-◌, ◌*◌, ◌/◌, ◌%◌, ◌^◌, ◌<◌, ◌≤◌, ◌==◌, nat_lt, min, max, bit_and, Bool, List, length, map, if◌then◌else◌, slice_index_or}
+use Rattle.std.specs.Prelude.{◌≡◌, ℕ, ◌-◌, ◌*◌, ◌/◌, ◌%◌, ◌^◌, ◌≤◌, ◌==◌, min, Bool, List, map, slice_index_or}
 use Rattle.std.specs.Int.{bit_at}
 use Rattle.std.specs.List.{range_with_len}
 use Rattle.nr_bitvec.specs.BitList.{BitList}
@@ -8,26 +8,6 @@ use Rattle.nr_bitvec.specs.BitList.{BitList}
 -- place t of packed words, 0 or 1, and 0 past the end
 abbrev pub place : List ℕ → ℕ → ℕ
 place ws t = bit_at (slice_index_or ws (t / 64) 0) (t % 64)
-
--- place t of a number that stands from place `at` on
-abbrev pub moved : ℕ → ℕ → ℕ → ℕ
-moved at n t = if nat_lt t at then 0 else bit_at n (t - at)
-
--- place t of octets, the most significant bit of each first, 0 or 1
-abbrev pub octet_place : List ℕ → ℕ → ℕ
-octet_place os t = bit_at (slice_index_or os (t / 8) 0) (7 - t % 8)
-
--- 64 bits are added modulo two from place `at` on
-abbrev pub Adds : ℕ → ℕ → List ℕ → List ℕ → Type 0
-Adds at bits old new = (t : ℕ) → place new t ≡ (place old t + moved at bits t) % 2
-
--- the places of word w that are set in the mask m, and those `by` above them, stand in each other's place in r
-abbrev pub Swaps : ℕ → ℕ → ℕ → ℕ → Type 0
-Swaps by m w r = (j : ℕ) → j < 64 → bit_at r j ≡ max (min (bit_at w (by + j)) (bit_at m j)) (moved by (bit_and w m) j)
-
--- two lists of words have the same places
-abbrev pub SamePlaces : List ℕ → List ℕ → Type 0
-SamePlaces a b = (t : ℕ) → place a t ≡ place b t
 
 -- no place is set from place n on
 abbrev pub IsClear : List ℕ → ℕ → Type 0
@@ -40,29 +20,3 @@ unpacked n ws = map (λ t. place ws t == 1) (range_with_len 0 n)
 -- the list of n bits in words, which have memory for `capacity` of them
 abbrev pub bit_list : ℕ → List ℕ → ℕ → BitList
 bit_list n ws capacity = record { items = unpacked n ws; room = 64 * min capacity (2 ^ 18) - n }
-
--- The words of a list of n bits, at most 2 ^ 24. They are as few as n places need, and no place is set past the end. So
--- equal lists have equal words.
-pub record IsPacked (n : ℕ) (ws : List ℕ) : Type 0 where
-  pub short : n ≤ 2 ^ 24
-  pub above : 64 * length ws < n + 64
-  pub below : n ≤ 64 * length ws
-  pub clear : IsClear ws n
-
--- words with places for `count` bits from bit n on, and the same places
-pub record HasPlaces (n count : ℕ) (mid ws : List ℕ) : Type 0 where
-  pub same : (t : ℕ) → place mid t ≡ place ws t
-  pub above : 64 * length mid < n + count + 64
-  pub below : n + count ≤ 64 * length mid
-
--- what is added at place `at` to put the `count` lowest bits of n there
-pub record Changes (ws : List ℕ) (at count n change : ℕ) : Type 0 where
-  pub low : (j : ℕ) → j < count → bit_at change j ≡ (place ws (at + j) + bit_at n j) % 2
-  pub high : (j : ℕ) → count ≤ j → bit_at change j ≡ 0
-
--- the first i words of vs stand from place n on, and no place is set after them
-pub record Joins (n : ℕ) (old vs new : List ℕ) (i : ℕ) : Type 0 where
-  pub before : (t : ℕ) → t < n → place new t ≡ place old t
-  pub within : (t : ℕ) → t < 64 * i → place new (n + t) ≡ place vs t
-  pub after : (t : ℕ) → 64 * i ≤ t → place new (n + t) ≡ 0
-  pub long : length new ≡ length old

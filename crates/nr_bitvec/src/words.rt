@@ -3,7 +3,8 @@
 
 ghost use Rattle.std.specs.Prelude.{◌≡◌, ℕ, ◌+◌, ◌-◌, ◌*◌, ◌^◌, ◌<◌, ◌≤◌, ◌++◌, length, replicate, vec_len, vec_capacity, IsTrue, OnOk, OnErr};
 ghost use Rattle.std.specs.Int.{bit_at};
-ghost use Rattle.nr_bitvec.specs.Packed.{place, Adds, Changes, HasPlaces, IsClear, IsPacked, Joins, SamePlaces};
+ghost use Rattle.nr_bitvec.specs.Packed.{place, IsClear};
+ghost use Rattle.nr_bitvec.specs.PackedInside.{Adds, Changes, HasPlaces, IsPacked, Joins, SamePlaces};
 
 use std::alloc::AllocError;
 

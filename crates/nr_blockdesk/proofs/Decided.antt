@@ -29,7 +29,8 @@ use Rattle.nr_blockdesk.specs.Heard.{IsRecordOf, heard_of, heard_record, hearing
 use Rattle.nr_blockdesk.specs.Link.{IsBlock, IsLink, Link, WordsArePlain, word}
 use Rattle.nr_blockdesk.specs.Outcome.{ExplainedBy, all_fixed, blocks_of, contradiction, fixed, given, left, open_still, outcome_of, verdict_on}
 use Rattle.nr_blockdesk.specs.ReceiverLaws.{DeliveredIsOnly, ExplainedIsDelivered, ExplainsByRecord}
-use Rattle.nr_blockdesk.specs.Receiving.{Fits, IsDecided, IsDesk, IsRead, IsSized, IsTied, peeling_of, verdict}
+use Rattle.nr_blockdesk.specs.Receiving.{peeling_of, verdict}
+use Rattle.nr_blockdesk.specs.ReceivingInside.{Fits, IsDecided, IsDesk, IsRead, IsSized, IsTied}
 use Rattle.nr_blockdesk.specs.declared.outcome.Outcome.{Outcome}
 use Rattle.nr_blockdesk.specs.declared.outcome.Outcome.TheVariants as outcome
 use Rattle.nr_blockdesk.proofs.Deciding.{every_fixed}

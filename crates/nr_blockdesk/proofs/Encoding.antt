@@ -14,7 +14,7 @@ use Rattle.nr_graphpick.specs.declared.Graph.TheVariants.{One, Two}
 use Rattle.nr_peel.specs.Peeling.{Peeling}
 use Rattle.nr_segment.specs.CodeBlock.{code_bits, code_block, part_of, share, shared_bits}
 use Rattle.nr_segment.specs.Plan.{Numbers}
-use Rattle.nr_blockdesk.specs.Receiving.{IsRead, known_bit}
+use Rattle.nr_blockdesk.specs.ReceivingInside.{IsRead, known_bit}
 
 length-high_first : (n v : ℕ) → length (high_first n v) ≡ n
 unfolding high_first

@@ -13,7 +13,7 @@ use Rattle.nr_segment.specs.CodeBlock.{code_bits}
 use Rattle.nr_blockdesk.specs.Heard.{heard_of}
 use Rattle.nr_blockdesk.specs.Link.{IsBlock, Link, word}
 use Rattle.nr_blockdesk.specs.Outcome.{ExplainedBy}
-use Rattle.nr_blockdesk.specs.Receiving.{AllAgree, AreWords, Fits, IsExplained, Stands, candidate_after, word_at}
+use Rattle.nr_blockdesk.specs.ReceivingInside.{AllAgree, AreWords, Fits, IsExplained, Stands, candidate_after, word_at}
 use Rattle.nr_blockdesk.specs.declared.candidate.CandidateState.{CandidateState}
 use Rattle.nr_blockdesk.specs.declared.candidate.CandidateState.TheVariants as candidate_state
 

@@ -11,7 +11,7 @@ use Rattle.nr_bitvec.specs.Bit.{bit}
 use Rattle.nr_bitvec.proofs.Places.{same_from_bits}
 use Rattle.nr_harqbuf.specs.Masks.{AreMasks, RecordMerges, differs_at, first_merged, merged}
 use Rattle.nr_harqbuf.specs.Record.{HasFirsts, HeardBits, Observation, differs, first_at, heard_as, is_heard, record_of}
-use Rattle.nr_blockdesk.specs.Receiving.{Fits, IsNews, Agrees}
+use Rattle.nr_blockdesk.specs.ReceivingInside.{Fits, IsNews, Agrees}
 use Rattle.nr_blockdesk.proofs.Hears.{beq-self, same-bit}
 use Rattle.nr_blockdesk.proofs.Telling.{find_it, found}
 

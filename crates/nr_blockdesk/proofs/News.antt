@@ -11,7 +11,7 @@ use Rattle.nr_ldpcenc.specs.Rows.{Checks, Meets}
 use Rattle.nr_peel.specs.Peeling.{GivesAll, IsPeeled, IsSameCode, KeepsAllWords, Peeling}
 use Rattle.nr_blockdesk.specs.Link.{Link}
 use Rattle.nr_blockdesk.specs.Outcome.{given}
-use Rattle.nr_blockdesk.specs.Receiving.{IsNews, IsTied}
+use Rattle.nr_blockdesk.specs.ReceivingInside.{IsNews, IsTied}
 use Rattle.nr_blockdesk.proofs.Hears.{same-checks}
 
 -- a position that was received before

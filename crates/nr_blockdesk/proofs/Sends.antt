@@ -7,7 +7,8 @@ use Rattle.nr_refusal.specs.Refusal.{◌>>=◌}
 use Rattle.nr_ratematch.specs.Lengths.{IsShared, LengthsAreShared, lengths_said, scheduled}
 use Rattle.nr_ratematch.specs.Selection.{Circular}
 use Rattle.nr_ratematch.specs.declared.fault.RmFault.{RmFault}
-use Rattle.nr_blockdesk.specs.Link.{IsBlock, IsLink, Link, WordsArePlain, demanded, word, words_of}
+use Rattle.nr_blockdesk.specs.Link.{IsBlock, IsLink, Link, WordsArePlain, demanded, word}
+use Rattle.nr_blockdesk.specs.Inside.{words_of}
 use Rattle.nr_blockdesk.specs.Sent.{AcceptedAreMatched, AcceptedSendAll, answered, matching, matching_of, sent, sent_of, sent_said, tx_said, tx_said_of}
 use Rattle.nr_transmission.specs.declared.fault.DeskFault.{DeskFault}
 use Rattle.nr_transmission.specs.declared.fault.DeskFault.TheVariants as fault

@@ -18,7 +18,8 @@ use Rattle.nr_blockdesk.specs.Explains.{IsAccepted, Reception, heard_at, recepti
 use Rattle.nr_blockdesk.specs.Heard.{IsRecordOf, hearing_at, heard_of, heard_record, hearings, hearings_in}
 use Rattle.nr_blockdesk.specs.Hearing.{heard_bit}
 use Rattle.nr_blockdesk.specs.Link.{IsLink, Link, demanded}
-use Rattle.nr_blockdesk.specs.Receiving.{HearsPart, IsDesk, IsTied, part_hearing, part_hearings, peeling_of, piece}
+use Rattle.nr_blockdesk.specs.Receiving.{peeling_of}
+use Rattle.nr_blockdesk.specs.ReceivingInside.{HearsPart, IsDesk, IsTied, part_hearing, part_hearings, piece}
 use Rattle.nr_blockdesk.specs.Sent.{AcceptedAreMatched, IsMatched, RateMatching, PartsAreAt, block_at, matching, position_at, tx_said, tx_said_of}
 use Rattle.nr_transmission.specs.declared.fault.DeskFault.TheVariants as fault
 use Rattle.nr_blockdesk.specs.declared.heard.Heard.{Heard}

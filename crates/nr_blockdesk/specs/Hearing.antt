@@ -1,6 +1,5 @@
--- Believed, with internal helpers: what a receiver has at one place of a transmission: a bit, or an erasure.
+-- Believed: what a receiver has at one place of a transmission: a bit, or an erasure.
 use Rattle.std.specs.Prelude.{Bool, true, false, Option, Some, None}
-use Rattle.std.specs.Bool.{beq}
 use Rattle.nr_blockdesk.specs.declared.heard.Heard.{Heard}
 use Rattle.nr_blockdesk.specs.declared.heard.Heard.TheVariants as heard
 
@@ -9,8 +8,3 @@ abbrev pub heard_bit : Heard → Option Bool
 heard_bit heard.Zero = Some false
 heard_bit heard.One = Some true
 heard_bit heard.Erased = None
-
--- what is received is this bit
-abbrev pub tells : Option Bool → Bool → Bool
-tells None v = false
-tells (Some a) v = beq a v

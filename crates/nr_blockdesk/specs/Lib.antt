@@ -7,7 +7,9 @@ pub mod Outcome
 pub mod ReceiverLaws
 pub mod OutcomeLaws
 pub mod Receiving
+pub mod ReceivingInside
 pub mod Telling
 pub mod Marks
 pub mod Processing
 pub mod Calls
+pub mod Inside

@@ -1,7 +1,6 @@
--- Believed, with internal helpers: what both ends of a link agree on. And the codewords of a transport block (TS
+-- Believed: what both ends of a link agree on. And the codewords of a transport block (TS
 -- 38.212, 6.2.1 to 6.2.4 and 7.2.1 to 7.2.4).
-use Rattle.std.specs.Prelude.{◌≡◌, ℕ, ◌%◌, ◌<◌, ◌==◌, Bool, true, false, nat_le, ◌&&◌, Result, Ok, Err, List, length, map}
-use Rattle.std.specs.List.{range_with_len}
+use Rattle.std.specs.Prelude.{◌≡◌, ℕ, ◌%◌, ◌<◌, ◌==◌, Bool, true, false, nat_le, ◌&&◌, Result, Ok, Err, List, length}
 use Rattle.nr_crcattach.specs.Attachment.{attached, attached_length}
 use Rattle.nr_graphpick.specs.declared.Graph.{Graph}
 use Rattle.nr_graphpick.specs.Graph.{picked}
@@ -68,10 +67,6 @@ code_bits_of link block r = code_bits link.plan (attached block) r
 -- the codeword of code block r of a transport block (5.3.2)
 unfoldable pub word : Link → List Bool → ℕ → List Bool
 word link block r = codeword link.table link.graph link.plan (code_bits_of link block r)
-
--- the codewords of a transport block
-abbrev pub words_of : Link → List Bool → List (List Bool)
-words_of link block = map (word link block) (range_with_len 0 link.plan.c)
 
 -- the codewords of a transport block are plain: each begins with its code block, has zeros for the fillers and meets
 -- every row (5.3.2)

@@ -1,15 +1,11 @@
--- Believed, with internal helpers: a reception as two lists of bits. One marks the places at which a bit was received,
+-- Believed: a reception as two lists of bits. One marks the places at which a bit was received,
 -- the other has the bits.
-use Rattle.std.specs.Prelude.{ℕ, ◌+◌, ◌≤◌, ◌==◌, ◌&&◌, Bool, true, false, List, length, map}
+use Rattle.std.specs.Prelude.{ℕ, Bool, true, false, List, length, map}
 use Rattle.std.specs.List.{range_with_len}
 use Rattle.nr_bitvec.specs.Bit.{bit}
-use Rattle.nr_harqbuf.specs.Masks.{says}
-use Rattle.nr_ratematch.specs.Selection.{Circular, place_of}
 use Rattle.nr_blockdesk.specs.Explains.{Reception, reception}
 use Rattle.nr_blockdesk.specs.declared.heard.Heard.{Heard}
 use Rattle.nr_blockdesk.specs.declared.heard.Heard.TheVariants as heard
-use Rattle.nr_blockdesk.specs.declared.part.Part.{Part}
-use Rattle.nr_blockdesk.specs.declared.selected.Selected.{Selected}
 use Rattle.nr_transmission.specs.declared.tx.Tx.{Tx}
 
 -- what a mark and a bit say: where there is no mark the place was erased, whatever the bit
@@ -29,16 +25,3 @@ heards marks bits = heards_from marks bits 0 (length marks)
 -- a transmission, and what two lists say was received of it
 abbrev pub reception_by : Tx → List Bool → List Bool → Reception
 reception_by tx marks bits = reception tx (heards marks bits)
-
--- the places of a code block
-abbrev pub heards_of : Part → List Heard
-heards_of part = heards_from part.heard.now.items part.value.now.items part.from part.count
-
--- selected bit k of a code block was received, has this bit, and stands at this position of its codeword
-abbrev pub bit_says : Circular → ℕ → List Bool → List Bool → ℕ → Bool → ℕ → Bool
-bit_says b rv marks bits p v k = (place_of b rv k == p) && says marks bits k v
-
--- lists that have room for n bits
-pub record HasRoomFor (n : ℕ) (selected : Selected) : Type 0 where
-  pub marks : n ≤ length selected.heard.items + selected.heard.room
-  pub bits : n ≤ length selected.value.items + selected.value.room

@@ -1,4 +1,4 @@
--- Believed, with internal helpers: the bits that are sent of a transport block (TS 38.212, 5.4.2 and 5.5). It says too
+-- Believed: the bits that are sent of a transport block (TS 38.212, 5.4.2 and 5.5). It says too
 -- which codeword bit stands at each place of them.
 use Rattle.std.specs.Prelude.{◌≡◌, ℕ, ◌%◌, ◌<◌, Bool, nat_le, Result, Ok, Err, IsOk, List, [], length, flat_map, All, sum, slice_index}
 use Rattle.std.specs.List.{range_with_len}
@@ -9,7 +9,7 @@ use Rattle.nr_interleave.specs.Interleaving.{interleaved, seat_of}
 use Rattle.nr_ratematch.specs.Lengths.{IsShared, lengths_said, scheduled}
 use Rattle.nr_ratematch.specs.Selection.{Circular, IsCircular, IsSent, place_of, selected}
 use Rattle.nr_shifttable.specs.Accepted.{Entries}
-use Rattle.nr_blockdesk.specs.Link.{Link, IsLink, demanded, link_said, word, words_of}
+use Rattle.nr_blockdesk.specs.Link.{Link, IsLink, demanded, link_said, word}
 use Rattle.nr_transmission.specs.declared.fault.DeskFault.{DeskFault}
 use Rattle.nr_transmission.specs.declared.fault.DeskFault.TheVariants as fault
 use Rattle.nr_transmission.specs.declared.settings.Settings.{Settings}
@@ -69,11 +69,6 @@ pub record SenderView : Type 0 where
 -- the sender of a transport block, or the first fault
 abbrev pub sending_said : Entries → Settings → List Bool → Result SenderView DeskFault
 sending_said table settings block = link_said table settings (length block) >>= λ link. Ok (record { link = link; block = block })
-
--- what a sender keeps: the codewords of its transport block
-pub record IsSender (link : Link) (block : List Bool) (words : List (List Bool)) : Type 0 where
-  pub is_link : IsLink link
-  pub encoded : words ≡ words_of link block
 
 -- the code block of place m of the sent bits
 abbrev pub block_at : RateMatching → ℕ → ℕ

@@ -4,7 +4,7 @@ ghost use Rattle.std.specs.Prelude.{◌≡◌, ℕ, ◌==◌, ◌<◌, ◌≤◌
 ghost use Rattle.std.specs.List.{list_all};
 ghost use Rattle.nr_peel.specs.Peeling.{Peeling, checks_for, left_of};
 ghost use Rattle.nr_segment.specs.CodeBlock.{numbers};
-ghost use Rattle.nr_blockdesk.specs.Receiving.{IsRead, candidate_after};
+ghost use Rattle.nr_blockdesk.specs.ReceivingInside.{IsRead, candidate_after};
 
 use nr_bitvec::Bits;
 use nr_peel::Peeler;

@@ -9,7 +9,7 @@ ghost use Rattle.nr_ldpcenc.specs.Codeword.{codeword};
 ghost use Rattle.nr_segment.specs.CodeBlock.{positions_of, code_bits, code_block, numbers, shared_bits};
 ghost use Rattle.nr_shifttable.specs.Accepted.{has_graph};
 ghost use Rattle.nr_blockdesk.specs.Heard.{heard_of};
-ghost use Rattle.nr_blockdesk.specs.Receiving.{AreWords, Fits, word_at};
+ghost use Rattle.nr_blockdesk.specs.ReceivingInside.{AreWords, Fits, word_at};
 
 use nr_bitvec::Bits;
 use nr_crcattach::{Poly, crc_range};

@@ -5,7 +5,7 @@ ghost use Rattle.std.specs.Prelude.{◌≡◌, ℕ, ◌*◌, ◌<◌, length, Is
 ghost use Rattle.std.specs.List.{list_any, range_with_len};
 ghost use Rattle.nr_graphpick.specs.Graph.{cols_of};
 ghost use Rattle.nr_harqbuf.specs.Masks.{says};
-ghost use Rattle.nr_blockdesk.specs.Marks.{bit_says};
+ghost use Rattle.nr_blockdesk.specs.Inside.{bit_says};
 ghost use Rattle.nr_blockdesk.specs.Telling.{AreEmpty};
 
 use crate::selected::Selected;

@@ -11,8 +11,9 @@ ghost use Rattle.nr_ratematch.specs.Lengths.{IsShared};
 ghost use Rattle.nr_blockdesk.specs.Explains.{hearing_said_of};
 ghost use Rattle.nr_blockdesk.specs.Heard.{heard_of};
 ghost use Rattle.nr_blockdesk.specs.Link.{Link};
-ghost use Rattle.nr_blockdesk.specs.Marks.{HasRoomFor, heards, heards_of};
-ghost use Rattle.nr_blockdesk.specs.Receiving.{AllAgree, AreWords, HearsAll, HearsPart, IsNews, IsSized, IsTied, Agrees, piece};
+ghost use Rattle.nr_blockdesk.specs.Marks.{heards};
+ghost use Rattle.nr_blockdesk.specs.Inside.{HasRoomFor, heards_of};
+ghost use Rattle.nr_blockdesk.specs.ReceivingInside.{AllAgree, AreWords, HearsAll, HearsPart, IsNews, IsSized, IsTied, Agrees, piece};
 ghost use Rattle.nr_blockdesk.specs.Telling.{AreEmpty};
 
 use crate::gather_part::gather_part;

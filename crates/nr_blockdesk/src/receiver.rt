@@ -12,7 +12,8 @@ ghost use Rattle.nr_blockdesk.specs.Explains.{Explains, Reception, reception, re
 ghost use Rattle.nr_blockdesk.specs.Heard.{IsRecordOf, heard_of};
 ghost use Rattle.nr_blockdesk.specs.Link.{IsBlock, IsLink, link_of, link_said, word};
 ghost use Rattle.nr_blockdesk.specs.Outcome.{all_fixed, contradiction, delivered, given, left, outcome_of};
-ghost use Rattle.nr_blockdesk.specs.Receiving.{AreWords, IsDecided, RefusesAs, peeling_of, verdict};
+ghost use Rattle.nr_blockdesk.specs.Receiving.{RefusesAs, peeling_of, verdict};
+ghost use Rattle.nr_blockdesk.specs.ReceivingInside.{AreWords, IsDecided};
 
 mod taking;
 
@@ -61,7 +62,8 @@ pub struct Receiver<'t> {
 
 impl<'t> Model for Receiver<'t> {
     ghost use Rattle.nr_blockdesk.specs.Link.{link_of};
-    ghost use Rattle.nr_blockdesk.specs.Receiving.{IsReceiver, ReceiverView};
+    ghost use Rattle.nr_blockdesk.specs.Receiving.{ReceiverView};
+    ghost use Rattle.nr_blockdesk.specs.ReceivingInside.{IsReceiver};
 
     ghost Value = { ReceiverView };
 

@@ -2,7 +2,7 @@
 
 ghost use Rattle.std.specs.Prelude.{◌≡◌, ℕ, ◌%◌, ◌^◌, ◌≤◌, ◌<◌, length, take, drop, IfOk};
 ghost use Rattle.nr_interleave.specs.Interleaving.{interleaved};
-ghost use Rattle.nr_blockdesk.specs.Marks.{HasRoomFor};
+ghost use Rattle.nr_blockdesk.specs.Inside.{HasRoomFor};
 
 use crate::part::Part;
 use nr_bitvec::Bits;

@@ -16,7 +16,8 @@ use Rattle.nr_blockdesk.specs.Outcome.{Verdict, contradiction, delivered, open_s
 use Rattle.nr_blockdesk.specs.Receiving.{verdict}
 use Rattle.nr_transmission.specs.declared.fault.DeskFault.TheVariants as desk
 use Rattle.nr_transmission.specs.declared.settings.Settings.{Settings}
-use Rattle.nr_calls.specs.Findings.{IsLastBlock, block_fits, findings_of, has_room, is_room}
+use Rattle.nr_calls.specs.Findings.{is_room}
+use Rattle.nr_calls.specs.Inside.{IsLastBlock, block_fits, findings_of, has_room}
 use Rattle.nr_calls.specs.Numbers.{Planned, planned_said}
 use Rattle.nr_calls.specs.declared.fault.Fault.{Fault}
 use Rattle.nr_calls.specs.declared.fault.Fault.TheVariants as fault

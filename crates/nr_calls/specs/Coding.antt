@@ -1,9 +1,8 @@
--- Believed, with internal helpers: the bits that a code block is encoded to (TS 38.212, 5.3.2), for C.
+-- Believed: the bits that a code block is encoded to (TS 38.212, 5.3.2), for C.
 use Rattle.std.specs.Prelude.{◌≡◌, ◌⊎◌, ℕ, ◌+◌, ◌*◌, ◌<◌, ◌==◌, nat_le, Bool, if◌then◌else◌, Result, Ok, Err, List, length, map, slice_index_or}
 use Rattle.std.specs.List.{list_all}
 use Rattle.nr_bitvec.specs.Bit.{bit}
 use Rattle.nr_refusal.specs.Refusal.{◌>>=◌}
-use Rattle.nr_segment.specs.CodeBlock.{numbers}
 use Rattle.nr_segment.specs.Plan.{Numbers}
 use Rattle.nr_shifttable.specs.Accepted.{Entries, has_graph}
 use Rattle.nr_ldpcenc.specs.Codeword.{codeword, filler}
@@ -13,7 +12,6 @@ use Rattle.nr_calls.specs.Crossing.{digit}
 use Rattle.nr_calls.specs.Entries.{table_by}
 use Rattle.nr_calls.specs.Numbers.{planned_said}
 use Rattle.nr_calls.specs.Statuses.{fault_number}
-use Rattle.nr_calls.specs.declared.coded.Coded.{Coded}
 use Rattle.nr_shifttable.specs.declared.entry.KeptEntry.{KeptEntry}
 use Rattle.nr_calls.specs.declared.fault.Fault.{Fault}
 use Rattle.nr_calls.specs.declared.fault.Fault.TheVariants as fault
@@ -33,10 +31,6 @@ bits_said octets = demanded fault.Bit (list_all is_digit octets) >>= λ _. Ok (m
 pub record Codeword : Type 0 where
   pub plan : Numbers
   pub word : List Bool
-
--- what a call has encoded, as a codeword with the numbers of its plan
-abbrev pub coded_of : Coded → Codeword
-coded_of c = record { plan = numbers c.plan; word = c.word }
 
 -- the codeword of a code block of a transport block of a bits, by a shift table, or the first fault
 unfoldable pub coded_by : Entries → ℕ → ℕ → List ℕ → Result Codeword Fault

@@ -1,4 +1,4 @@
--- Believed, with internal helpers: the bits that the K bits of a code block are encoded to, for C. They hang on base
+-- Believed: the bits that the K bits of a code block are encoded to, for C. They hang on base
 -- graph and Zc alone (TS 38.212, 5.3.2).
 use Rattle.std.specs.Prelude.{◌≡◌, ◌⊎◌, ℕ, ◌+◌, ◌-◌, ◌*◌, ◌<◌, ◌==◌, ◌&&◌, nat_le, Bool, if◌then◌else◌, Option, Some, None, unwrap_or, Result, Ok, Err, List, length, map, slice_index_or}
 use Rattle.std.specs.List.{list_all}
@@ -17,7 +17,6 @@ use Rattle.nr_calls.specs.Coding.{is_one}
 use Rattle.nr_calls.specs.Crossing.{digit}
 use Rattle.nr_calls.specs.Entries.{table_by}
 use Rattle.nr_calls.specs.Statuses.{fault_number}
-use Rattle.nr_calls.specs.declared.coded.Coded.{Coded}
 use Rattle.nr_shifttable.specs.declared.entry.KeptEntry.{KeptEntry}
 use Rattle.nr_calls.specs.declared.fault.Fault.{Fault}
 use Rattle.nr_calls.specs.declared.fault.Fault.TheVariants as fault
@@ -43,10 +42,6 @@ pub record Encoded : Type 0 where
   pub graph : Graph
   pub z : ℕ
   pub word : List Bool
-
--- what a call has encoded, with its base graph and Zc
-abbrev pub encoded_of : Coded → Encoded
-encoded_of c = record { graph = c.plan.graph; z = c.plan.z; word = c.word }
 
 -- the base graph by which K octets are encoded for a room of so many octets, or the first fault
 unfoldable pub encode_judged : Entries → ℕ → ℕ → List ℕ → ℕ → Result Graph Fault
@@ -82,8 +77,3 @@ pub record AreEncoded (e : Encoded) (octets d : List ℕ) : Type 0 where
 abbrev pub Encodes : ℕ → List ℕ → List ℕ → List ℕ → Result Encoded Fault → Type 0
 Encodes status octets old new (Ok e) = ((status ≡ 0) × AreEncoded e octets new) ⊎ ((status ≡ 1) × (new ≡ old))
 Encodes status octets old new (Err e) = ((status ≡ fault_number e) ⊎ (status ≡ 1)) × (new ≡ old)
-
--- so many columns Kb that a code block of Kb z bits has the lifting size z (5.2.2), where any has it
-abbrev pub held_columns : Graph → ℕ → ℕ
-held_columns One z = 22
-held_columns Two z = if nat_le z 32 then 6 else (if nat_le z 64 then 8 else 10)

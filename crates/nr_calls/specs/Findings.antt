@@ -1,16 +1,14 @@
--- Believed, with internal helpers: what a list of receptions comes to, and what a call writes of it to its caller's memory.
-use Rattle.std.specs.Prelude.{◌≡◌, ◌⊎◌, ℕ, ◌+◌, ◌*◌, ◌/◌, ◌==◌, ◌&&◌, Bool, true, Result, Ok, Err, List, length, map, take}
+-- Believed: what a list of receptions comes to, and what a call writes of it to its caller's memory.
+use Rattle.std.specs.Prelude.{◌≡◌, ◌⊎◌, ℕ, ◌+◌, ◌/◌, ◌==◌, ◌&&◌, Bool, Result, Ok, Err, List, length, map, take}
 use Rattle.std.specs.List.{range_with_len}
 use Rattle.nr_harqbuf.specs.Record.{HeardBits}
 use Rattle.nr_blockdesk.specs.Explains.{Reception}
 use Rattle.nr_blockdesk.specs.Heard.{heard_record}
 use Rattle.nr_blockdesk.specs.Link.{Link}
 use Rattle.nr_blockdesk.specs.Outcome.{Verdict, contradiction, delivered, left, open_still, outcome_of}
-use Rattle.nr_blockdesk.specs.Receiving.{verdict}
 use Rattle.nr_calls.specs.Crossing.{AreOctets}
 use Rattle.nr_calls.specs.Statuses.{fault_number}
 use Rattle.nr_calls.specs.declared.fault.Fault.{Fault}
-use Rattle.nr_calls.specs.declared.findings.Found.{Found}
 use Rattle.nr_calls.specs.declared.findings.Room.{Room}
 
 -- the number of an outcome
@@ -37,10 +35,6 @@ pub record Findings : Type 0 where
 abbrev pub findings : Link → List Reception → Findings
 findings link list = record { outcomes = outcomes_of link list; left = lefts link (heard_record link list); last = outcome_of link list }
 
--- what a call has found, as findings
-abbrev pub findings_of : Found → Findings
-findings_of f = record { outcomes = f.outcomes.items; left = f.left.items; last = verdict f.last }
-
 -- a caller's places: for the outcomes, for what is left of each code block, and for the octets of a transport block
 pub record Places : Type 0 where
   pub outcomes : List ℕ
@@ -57,20 +51,6 @@ room_in p = record { outcomes = length p.outcomes; left = length p.left; block =
 -- room for what is found over n transmissions of a transport block of a bits in c code blocks
 abbrev pub is_room : Room → ℕ → ℕ → ℕ → Bool
 is_room room c a n = (room.outcomes == n) && (room.left == c) && (room.block == a / 8)
-
--- a block that is delivered fills so many octets
-abbrev pub block_fits : ℕ → Verdict → Bool
-block_fits octets (delivered block) = length block == 8 * octets
-block_fits octets open_still = true
-block_fits octets contradiction = true
-
--- a block that is delivered has a bits
-abbrev pub IsLastBlock : ℕ → Verdict → Type 0
-IsLastBlock a v = (block : List Bool) → v ≡ delivered block → length block ≡ a
-
--- what is found fills the room
-abbrev pub has_room : Room → Findings → Bool
-has_room room f = (length f.outcomes == room.outcomes) && (length f.left == room.left) && block_fits room.block f.last
 
 -- a block that is delivered stands in its place; with any other outcome the place is as it was
 abbrev pub IsHandedUp : Verdict → List ℕ → List ℕ → Type 0

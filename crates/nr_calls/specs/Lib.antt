@@ -10,3 +10,4 @@ pub mod Coding
 pub mod Cutting
 pub mod Encoding
 pub mod Judging
+pub mod Inside

@@ -1,4 +1,4 @@
--- Believed, with internal helpers: the segmentation plan of a transport block (TS 38.212, 5.2.2), and the parity bits of octets (5.1).
+-- Believed: the segmentation plan of a transport block (TS 38.212, 5.2.2), and the parity bits of octets (5.1).
 use Rattle.std.specs.Prelude.{ℕ, ◌==◌, nat_le, if◌then◌else◌, Option, Some, None, Result, Ok, List, [], ◌∷◌, length}
 use Rattle.nr_bitvec.specs.BitList.{bits_of}
 use Rattle.nr_crcattach.specs.Attachment.{attached_length}
@@ -8,9 +8,7 @@ use Rattle.nr_crcattach.specs.declared.Poly.TheVariants as poly
 use Rattle.nr_graphpick.specs.Graph.{picked}
 use Rattle.nr_refusal.specs.Refusal.{◌>>=◌, or_fault, with_fault}
 use Rattle.nr_graphpick.specs.declared.Graph.{Graph}
-use Rattle.nr_segment.specs.CodeBlock.{numbers}
 use Rattle.nr_segment.specs.Plan.{Numbers, plan_of}
-use Rattle.nr_segment.specs.declared.numbers.Plan.{Plan}
 use Rattle.nr_blockdesk.specs.Link.{demanded, is_size}
 use Rattle.nr_transmission.specs.declared.fault.DeskFault.TheVariants as desk
 use Rattle.nr_shifttable.specs.Listed.{graph_number}
@@ -38,10 +36,6 @@ shown graph b p = record {
 pub record Planned : Type 0 where
   pub graph : Graph
   pub plan : Numbers
-
--- those of a plan
-abbrev pub planned : Plan → Planned
-planned p = record { graph = p.graph; plan = numbers p }
 
 -- the base graph and the numbers of a transport block of a bits, or the first fault (TS 38.212, 5.2.2, 6.2.2 and 7.2.2)
 unfoldable pub planned_said : ℕ → ℕ → Result Planned Fault

@@ -1,10 +1,9 @@
--- Believed, with internal helpers: what receiving a transport block over its transmissions returns.
+-- Believed: what receiving a transport block over its transmissions returns.
 use Rattle.std.specs.Prelude.{ℕ, ◌++◌, ◌==◌, nat_le, if◌then◌else◌, Result, Ok, Err, List, [], ◌∷◌, length, map, take, drop}
 use Rattle.nr_refusal.specs.Refusal.{◌>>=◌, with_fault}
 use Rattle.nr_shifttable.specs.Accepted.{Entries}
 use Rattle.nr_blockdesk.specs.Explains.{Reception, reception, reception_said}
 use Rattle.nr_blockdesk.specs.Link.{Link, demanded, link_said}
-use Rattle.nr_blockdesk.specs.Outcome.{Verdict, outcome_of}
 use Rattle.nr_transmission.specs.declared.fault.DeskFault.TheVariants as desk
 use Rattle.nr_blockdesk.specs.declared.heard.Heard.{Heard}
 use Rattle.nr_blockdesk.specs.declared.heard.Heard.TheVariants as heard
@@ -26,10 +25,6 @@ heard_octet o = if o == 0 then heard.Zero else (if o == 1 then heard.One else he
 -- a transmission, and the octets of its places
 abbrev pub arrival : NrTx → List ℕ → Reception
 arrival t octets = reception (tx_of t) (map heard_octet (take t.g octets))
-
--- the outcome of a list of receptions and one more, or its fault
-abbrev pub one_more_said : Link → List Reception → Reception → Result Verdict Fault
-one_more_said link list x = with_fault fault.Desk (reception_said link x) >>= λ _. Ok (outcome_of link (list ++ x ∷ []))
 
 -- what is found over a list of receptions and then some more, whose places stand one transmission after the other, or the
 -- first fault

@@ -5,7 +5,7 @@ ghost use Rattle.nr_bitvec.specs.BitList.{bits_of};
 ghost use Rattle.nr_crcattach.specs.Attachment.{attached, attached_length};
 ghost use Rattle.nr_segment.specs.CodeBlock.{code_bits, numbers};
 ghost use Rattle.nr_calls.specs.Cutting.{Cuts, cut_planned, code_block_said};
-ghost use Rattle.nr_calls.specs.Numbers.{planned};
+ghost use Rattle.nr_calls.specs.Inside.{planned};
 
 use crate::crossing::write_bits;
 use crate::fault::Fault;

@@ -6,7 +6,8 @@ ghost use Rattle.nr_refusal.specs.Refusal.{Gives};
 ghost use Rattle.nr_segment.specs.CodeBlock.{positions_of};
 ghost use Rattle.nr_shifttable.specs.Accepted.{has_graph};
 ghost use Rattle.nr_calls.specs.Coding.{is_one};
-ghost use Rattle.nr_calls.specs.Encoding.{AreEncoded, Encodes, can_lift, encode_by, encode_judged, encode_said, encoded_octet, encoded_of, base_graph, held_columns, is_coded, word_for};
+ghost use Rattle.nr_calls.specs.Encoding.{AreEncoded, Encodes, can_lift, encode_by, encode_judged, encode_said, encoded_octet, base_graph, is_coded, word_for};
+ghost use Rattle.nr_calls.specs.Inside.{encoded_of, held_columns};
 ghost use Rattle.nr_calls.specs.Entries.{are_placed};
 
 use crate::coded::Coded;

@@ -2,7 +2,8 @@
 
 ghost use Rattle.std.specs.Prelude.{◌≡◌, true};
 ghost use Rattle.nr_blockdesk.specs.Receiving.{verdict};
-ghost use Rattle.nr_calls.specs.Findings.{AreWritten, findings_of, has_room, is_room, outcome_number, places, room_in};
+ghost use Rattle.nr_calls.specs.Findings.{AreWritten, is_room, outcome_number, places, room_in};
+ghost use Rattle.nr_calls.specs.Inside.{findings_of, has_room};
 
 use crate::crossing::write_octets;
 use nr_blockdesk::Outcome;

@@ -3,7 +3,8 @@
 ghost use Rattle.std.specs.Prelude.{◌≡◌, IfOk, MatchResult, Ok, Err};
 ghost use Rattle.nr_crcattach.specs.Attachment.{attached_length};
 ghost use Rattle.nr_segment.specs.CodeBlock.{numbers};
-ghost use Rattle.nr_calls.specs.Numbers.{crc_said, plan_said, planned, planned_said, poly_of, shown};
+ghost use Rattle.nr_calls.specs.Numbers.{crc_said, plan_said, planned_said, poly_of, shown};
+ghost use Rattle.nr_calls.specs.Inside.{planned};
 ghost use Rattle.nr_calls.specs.Statuses.{Leaves, TellsStatus};
 
 use crate::fault::Fault;

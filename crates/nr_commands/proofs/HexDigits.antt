@@ -6,7 +6,8 @@ use Rattle.std.specs.Char.{digit_char}
 use Rattle.std.specs.List.{flat_map}
 use Rattle.nr_bitvec.specs.BitList.{number_of, octets_of}
 use Rattle.nr_bitvec.proofs.OctetLists.{number_of-lt}
-use Rattle.nr_commands.specs.Hex.{hex, two_digits}
+use Rattle.nr_commands.specs.Hex.{hex}
+use Rattle.nr_commands.specs.Inside.{two_digits}
 
 -- a bit of a digit, and of the high digit of an octet
 weigh : (b : Bool) → ((if b then 2 ^ 7 else 0) ≡ 16 * (if b then 2 ^ 3 else 0)) × ((if b then 2 ^ 6 else 0) ≡ 16 * (if b then 2 ^ 2 else 0)) × ((if b then 2 ^ 5 else 0) ≡ 16 * (if b then 2 ^ 1 else 0)) × ((if b then 2 ^ 4 else 0) ≡ 16 * (if b then 2 ^ 0 else 0))

@@ -9,7 +9,7 @@ use Rattle.std.proofs.lemmas.Simd.{Each1-all, Each1-get_or, Each1-weaker, Each1-
 use Rattle.std.specs.Simd.Lanes.{Each1, chunk, pick_l, put_chunk, zip2}
 use Rattle.std.specs.Char.{digit_char}
 use Rattle.std.specs.List.{flat_map}
-use Rattle.nr_commands.specs.Hex.{two_digits}
+use Rattle.nr_commands.specs.Inside.{two_digits}
 use Rattle.nr_commands.specs.declared.hex.TheConstants.{CHARACTERS, IN_TURN}
 
 -- a character of the table

@@ -1,5 +1,5 @@
--- Believed, with internal helpers: bits and octets in hexadecimal digits.
-use Rattle.std.specs.Prelude.{ℕ, ◌/◌, ◌%◌, Bool, List, [], ◌∷◌}
+-- Believed: bits and octets in hexadecimal digits.
+use Rattle.std.specs.Prelude.{ℕ, Bool, List, [], ◌∷◌}
 use Rattle.std.specs.Char.{digit_char}
 use Rattle.nr_bitvec.specs.BitList.{number_of}
 
@@ -8,7 +8,3 @@ unfoldable pub hex : List Bool → List ℕ
 hex [] = []
 hex (a ∷ b ∷ c ∷ d ∷ bits) = digit_char (number_of 4 (a ∷ b ∷ c ∷ d ∷ [])) ∷ hex bits
 hex bits = digit_char (number_of 4 bits) ∷ []
-
--- the two digits of an octet, the high one first
-abbrev pub two_digits : ℕ → List ℕ
-two_digits octet = digit_char (octet / 16) ∷ digit_char (octet % 16) ∷ []

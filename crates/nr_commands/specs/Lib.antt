@@ -7,3 +7,4 @@ pub mod Faults
 pub mod Hex
 pub mod Tape
 pub mod Written
+pub mod Inside

@@ -3,7 +3,8 @@
 ghost use Rattle.std.specs.Prelude.{◌≡◌, ◌<◌, ◌*◌, ◌++◌, [], ◌∷◌, IfOk, OnOk, flat_map, length, map, string_bytes};
 ghost use Rattle.std.specs.Char.{digit_char};
 ghost use Rattle.std.specs.Simd.Lanes.{Each1};
-ghost use Rattle.nr_commands.specs.Hex.{hex, two_digits};
+ghost use Rattle.nr_commands.specs.Hex.{hex};
+ghost use Rattle.nr_commands.specs.Inside.{two_digits};
 
 use nr_bitvec::Bits;
 use std::alloc::{AllocError, Global};

@@ -1,13 +1,10 @@
--- Believed, with internal helpers: how the program ends: its status, its text, and the stream that the text goes to.
-use Rattle.std.specs.Prelude.{◌≡◌, ◌≢◌, ℕ, suc, List, [], ◌∷◌, ◌++◌, All, Option, Result, Ok, Err, codes}
+-- Believed: how the program ends: its status, its text, and the stream that the text goes to.
+use Rattle.std.specs.Prelude.{◌≡◌, ◌≢◌, ℕ, suc, List, [], ◌∷◌, ◌++◌, All, Option, codes}
 use Rattle.std.specs.String.{string_bytes}
 use Rattle.nr_commands.specs.Written.{with_text}
 use Rattle.nr_ends.specs.declared.ending.Ending.{Ending}
 use Rattle.nr_ends.specs.declared.ending.Ending.TheVariants.{Done, Help, Refused, Usage}
-use Rattle.nr_commands.specs.declared.fault.RunFault.{RunFault}
 use Rattle.nr_commands.specs.declared.fault.RunFault.TheVariants as faults
-use Rattle.nr_job.specs.declared.jobs.JobFault.{JobFault}
-use Rattle.nr_job.specs.declared.jobs.JobFault.TheVariants as job_faults
 
 -- 0 where the job is done or help was asked for, 1 where the job is refused, 2 where the words ask for no job
 abbrev pub status_of : Ending → ℕ
@@ -15,17 +12,6 @@ status_of Done = 0
 status_of (Help text) = 0
 status_of (Refused fault) = 1
 status_of (Usage text) = 2
-
--- how words that ask for no job end
-abbrev pub refused_by : JobFault → Ending
-refused_by (job_faults.Usage text) = Usage text
-refused_by (job_faults.Help text) = Help text
-refused_by job_faults.Memory = Refused faults.Memory
-
--- how a command's result ends the program
-abbrev pub ending_by : {T : Type 0} → Result T RunFault → Ending
-ending_by (Ok done) = Done
-ending_by (Err fault) = Refused fault
 
 -- how it ends where so many puts of its help failed: help that cannot be written is a refusal
 abbrev pub ended_at : Ending → ℕ → Ending

@@ -5,7 +5,7 @@ use Rattle.std.specs.Prelude.{nat_lt}
 use Rattle.rand_core.specs.Steps.{first_words}
 use Rattle.rand_pcg.specs.Lcg.{Lcg}
 use Rattle.rand_pcg.specs.Pcg.{pcg32}
-use Rattle.nr_files.specs.Erasures.{marks_drawn}
+use Rattle.nr_files.specs.Inside.{marks_drawn}
 
 marked-next : (threshold n count : ℕ) (g h : Lcg) (word : ℕ) → n ≡ suc count → (word, h) ≡ pcg32 g → nat_lt word threshold ∷ marks_drawn threshold count h ≡ marks_drawn threshold n g
 unfolding first_words

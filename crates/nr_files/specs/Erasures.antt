@@ -2,7 +2,7 @@
 use Rattle.std.specs.Prelude.{ℕ, Bool, true, false, ◌&&◌, nat_le, nat_lt, List, map}
 use Rattle.std.specs.List.{list_any, range_with_len}
 use Rattle.rand_core.specs.Steps.{first_words}
-use Rattle.rand_pcg.specs.Lcg.{Lcg, started, increment_of}
+use Rattle.rand_pcg.specs.Lcg.{started, increment_of}
 use Rattle.rand_pcg.specs.Pcg.{pcg32, multiplier_64}
 use Rattle.nr_files.specs.declared.erasure.PlaceRange.{PlaceRange}
 use Rattle.nr_files.specs.declared.erasure.Places.{Places}
@@ -19,10 +19,6 @@ abbrev pub is_named : Places → ℕ → Bool
 is_named places.Nothing m = false
 is_named places.All m = true
 is_named (places.Listed ranges) m = list_any (is_within m) ranges
-
--- for each of the next `count` words of a generator whether it is below the threshold
-abbrev pub marks_drawn : ℕ → ℕ → Lcg → List Bool
-marks_drawn threshold count generator = map (λ word. nat_lt word threshold) (first_words pcg32 count generator)
 
 -- the first words of PCG-XSH-RR 64/32 for a seed, on stream 54
 abbrev pub words_drawn : ℕ → ℕ → List ℕ

@@ -7,3 +7,4 @@ pub mod PlaceLists
 pub mod Rounds
 pub mod Schedule
 pub mod Settings
+pub mod Inside

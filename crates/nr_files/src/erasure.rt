@@ -3,7 +3,8 @@
 ghost use Rattle.std.specs.Prelude.{◌≡◌, ℕ, ◌+◌, ◌++◌, ◌^◌, ◌<◌, ◌≤◌, nat_lt, length, map, slice_index, IfOk};
 ghost use Rattle.std.specs.List.{list_any, range_with_len};
 ghost use Rattle.nr_bitvec.specs.BitList.{low_first};
-ghost use Rattle.nr_files.specs.Erasures.{erased_of, is_within, is_named, marks_drawn, words_drawn};
+ghost use Rattle.nr_files.specs.Erasures.{erased_of, is_within, is_named, words_drawn};
+ghost use Rattle.nr_files.specs.Inside.{marks_drawn};
 ghost use Rattle.nr_files.specs.Furthest.{begins_at, furthest};
 
 use crate::marks::{mark, ones, packed};

@@ -8,7 +8,8 @@ use Rattle.clap.specs.Words.{App, HasMatchesOf, Row, Text, fault_of, found_of, i
 use Rattle.clap.specs.declared.parser.matches.ArgMatches.{ArgMatches}
 use Rattle.clap.specs.declared.parser.matches.Found.{Found}
 use Rattle.nr_job.specs.Commands.{check_app, cut_app, files_app}
-use Rattle.nr_job.specs.Jobs.{BeginsWith, HasFiles, IsCheckBy, IsCutBy, IsJobOf, IsNumberAt, check_faults, check_rows, cut_faults, cut_rows, faults_at, files_faults, files_job, files_rows, name_of, is_taken_as_check, is_taken_as_cut, is_taken_as_files}
+use Rattle.nr_job.specs.Jobs.{BeginsWith, HasFiles, IsJobOf, IsNumberAt, check_faults, check_rows, cut_faults, cut_rows, faults_at, files_faults, files_rows, is_taken_as_check, is_taken_as_cut, is_taken_as_files}
+use Rattle.nr_job.specs.JobsInside.{IsCheckBy, IsCutBy, files_job, name_of}
 use Rattle.nr_job.specs.declared.command_line.apps.FilesCommand.{FilesCommand}
 use Rattle.nr_job.specs.declared.command_line.apps.FilesCommand.TheVariants as over
 use Rattle.nr_job.specs.declared.jobs.Files.{Files}

@@ -1,11 +1,9 @@
--- Believed, with internal helpers: the job that the program's words ask for, by what clap gives for the options of its command.
+-- Believed: the job that the program's words ask for, by what clap gives for the options of its command.
 use Rattle.std.specs.Prelude.{◌≡◌, ◌⊎◌, ℕ, ◌+◌, ◌≤◌, Bool, true, List, [], Some, codes, IsSomeAnd, slice_get, bytes_eq, if◌then◌else◌}
 use Rattle.std.specs.Str.Parse.{IsNumeral, digits_value, without_leading_plus}
 use Rattle.std.specs.String.{string_bytes}
 use Rattle.clap.specs.Words.{Kinds, Row, Text, fault_of, first_of, matches_of, one_of, takes}
 use Rattle.nr_job.specs.Commands.{check_app, cut_app, files_app}
-use Rattle.nr_job.specs.declared.command_line.apps.FilesCommand.{FilesCommand}
-use Rattle.nr_job.specs.declared.command_line.apps.FilesCommand.TheVariants as over
 use Rattle.nr_job.specs.declared.jobs.Files.{Files}
 use Rattle.nr_job.specs.declared.jobs.Job.{Job}
 use Rattle.nr_job.specs.declared.jobs.Job.TheVariants.{Audit, Check, Cut, Run, Send}
@@ -28,17 +26,6 @@ check_rows words = matches_of check_app words
 
 unfoldable pub files_rows : Text → List Text → List Row
 files_rows name words = matches_of (files_app name) words
-
--- the job is `cut` of a file of blocks at a rate of 1..2048, as these options give them
-abbrev pub IsCutBy : List Row → Job → Type 0
-IsCutBy rows (Cut rate path) = (1 ≤ rate) × (rate ≤ 2048) × IsNumberAt (codes "rate") rows rate
-    × IsTextAt (codes "blocks") rows (string_bytes path)
-IsCutBy rows job = ⊥
-
--- the job is `check` of a table, as these options give it
-abbrev pub IsCheckBy : List Row → Job → Type 0
-IsCheckBy rows (Check path) = IsTextAt (codes "table") rows (string_bytes path)
-IsCheckBy rows job = ⊥
 
 -- the first word is the command
 abbrev pub BeginsWith : Text → List Text → Type 0
@@ -65,24 +52,9 @@ abbrev pub dashes : Files → ℕ
 dashes files = dash (string_bytes files.table) + dash (string_bytes files.settings)
     + dash (string_bytes files.blocks) + dash (string_bytes files.schedule)
 
--- the paths of the four files are the values of their options, and at most one is standard input
-abbrev pub IsGivenOnce : List Row → Files → Type 0
-IsGivenOnce rows files = IsGiven rows files × (dashes files ≤ 1)
-
 -- the command of this name over these four files, of which at most one is standard input
 abbrev pub HasFiles : Text → List Text → Files → Type 0
 HasFiles name words files = IsGiven (files_rows name words) files × (dashes files ≤ 1)
-
--- the name of a command over four files, and its job
-abbrev pub name_of : FilesCommand → Text
-name_of over.Send = codes "send"
-name_of over.Run = codes "run"
-name_of over.Audit = codes "audit"
-
-abbrev pub files_job : FilesCommand → Files → Job
-files_job over.Send files = Send files
-files_job over.Run files = Run files
-files_job over.Audit files = Audit files
 
 -- the words ask for this job
 abbrev pub IsJobOf : List Text → Job → Type 0

@@ -4,7 +4,8 @@ ghost use Rattle.std.specs.Prelude.{◌≡◌, ◌≢◌, ◌≤◌, ◌↔◌, 
 ghost use Rattle.std.specs.String.{string_bytes};
 ghost use Rattle.clap.specs.Words.{HasMatchesOf, Text, app_of, fault_of as clap_faults, found_of, is_simple_and_free, kind_of, rows_of, takes, with_rule};
 ghost use Rattle.nr_job.specs.Commands.{check_app, cut_app, file_rule, files_app, rate_rule, with_files};
-ghost use Rattle.nr_job.specs.Jobs.{BeginsWith, HasCut, HasFiles, IsCheckBy, IsCutBy, IsDefaultJob, IsGiven, IsGivenOnce, IsJobOf, IsNumberAt, IsTextAt, check_rows, dash, dashes, faults_at, files_faults, IsTakenAs, IsTakenAsCheck, IsTakenAsCut, IsTakenAsFiles, name_of};
+ghost use Rattle.nr_job.specs.Jobs.{BeginsWith, HasCut, HasFiles, IsDefaultJob, IsGiven, IsJobOf, IsNumberAt, IsTextAt, check_rows, dash, dashes, faults_at, files_faults, IsTakenAs, IsTakenAsCheck, IsTakenAsCut, IsTakenAsFiles};
+ghost use Rattle.nr_job.specs.JobsInside.{IsCheckBy, IsCutBy, IsGivenOnce, name_of};
 ghost use Rattle.nr_job.specs.declared.jobs.Job.{Job as Asked};
 ghost use Rattle.nr_job.specs.declared.jobs.Files.{Files as AskedFiles};
 

@@ -17,7 +17,8 @@ use Rattle.nr_shifttable.specs.CoreRows.{CoreSum}
 use Rattle.nr_shifttable.specs.Tails.{HasShape}
 use Rattle.nr_ldpcenc.specs.Rows.{block_checks, checks_of}
 use Rattle.nr_ldpcenc.specs.Codeword.{IsWordOf, completed, HasOneWord, codeword, IsCodeword}
-use Rattle.nr_ldpcenc.specs.Solving.{word_of, IsSolvedTo, AgreeBelow}
+use Rattle.nr_ldpcenc.specs.Solving.{word_of}
+use Rattle.nr_ldpcenc.specs.Inside.{IsSolvedTo, AgreeBelow}
 use Rattle.nr_ldpcenc.proofs.Words.{word_of-is, word_of-only, solved-is}
 
 -- the set index of a lifting size is below 8

@@ -11,7 +11,8 @@ use Rattle.nr_shifttable.specs.CoreRows.{CoreSum}
 use Rattle.nr_shifttable.specs.Tails.{HasShape}
 use Rattle.nr_ldpcenc.specs.Parity.{parity}
 use Rattle.nr_ldpcenc.specs.Rows.{Meets, one_at, row_at, checks_of, unrotate}
-use Rattle.nr_ldpcenc.specs.Solving.{head_sum, core_sum, core_rotation, with_column, with_first, with_next, with_columns, row_ending, IsSolvedTo, AgreeBelow}
+use Rattle.nr_ldpcenc.specs.Solving.{head_sum, core_sum, core_rotation, with_column, with_first, with_next, with_columns, row_ending}
+use Rattle.nr_ldpcenc.specs.Inside.{IsSolvedTo, AgreeBelow}
 use Rattle.nr_ldpcenc.proofs.Sums.{heads-agree, row-splits}
 use Rattle.nr_ldpcenc.proofs.Core.{core_rows-add_up, row-ends}
 

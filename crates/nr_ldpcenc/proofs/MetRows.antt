@@ -11,7 +11,8 @@ use Rattle.nr_shifttable.specs.Accepted.{row_of, IsInRange}
 use Rattle.nr_shifttable.specs.Tails.{value_in}
 use Rattle.nr_ldpcenc.specs.Parity.{parity}
 use Rattle.nr_ldpcenc.specs.Rows.{one_at, positions, row_at}
-use Rattle.nr_ldpcenc.specs.Solving.{sum_before, AgreeBelow}
+use Rattle.nr_ldpcenc.specs.Solving.{sum_before}
+use Rattle.nr_ldpcenc.specs.Inside.{AgreeBelow}
 use Rattle.nr_ldpcenc.proofs.Adding.{lt_test}
 use Rattle.nr_ldpcenc.proofs.Sums.{heads-agree}
 

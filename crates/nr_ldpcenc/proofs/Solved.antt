@@ -4,7 +4,8 @@ use Rattle.std.proofs.Math.Nat.{add-mod-mod}
 use Rattle.std.proofs.lemmas.Nat.{mod_below}
 use Rattle.nr_shifttable.specs.declared.entry.Entry.{Entry}
 use Rattle.std.proofs.Common.{List}
-use Rattle.nr_ldpcenc.specs.Solving.{head_sum, core_sum, core_rotation, row_ending, IsSolvedTo, AgreeBelow}
+use Rattle.nr_ldpcenc.specs.Solving.{head_sum, core_sum, core_rotation, row_ending}
+use Rattle.nr_ldpcenc.specs.Inside.{IsSolvedTo, AgreeBelow}
 use Rattle.nr_ldpcenc.specs.Rows.{unrotate}
 use Rattle.nr_ldpcenc.proofs.Adding.{lt_test, le_test}
 use Rattle.nr_ldpcenc.proofs.Columns.{solved_first, solved_more}

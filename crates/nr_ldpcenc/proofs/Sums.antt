@@ -10,7 +10,8 @@ use Rattle.nr_shifttable.specs.Accepted.{row_of, tail}
 use Rattle.nr_shifttable.specs.Tails.{value_in, tail_of}
 use Rattle.nr_ldpcenc.specs.Parity.{parity}
 use Rattle.nr_ldpcenc.specs.Rows.{one_at, row_at}
-use Rattle.nr_ldpcenc.specs.Solving.{head_sum, AgreeBelow}
+use Rattle.nr_ldpcenc.specs.Solving.{head_sum}
+use Rattle.nr_ldpcenc.specs.Inside.{AgreeBelow}
 
 left_more : (x h t p : Bool) → p ≡ h ⊕ t → x ⊕ p ≡ (x ⊕ h) ⊕ t
 left_more x h t p e = grind arith

@@ -9,7 +9,7 @@ use Rattle.nr_bitvec.specs.Packed.{place}
 use Rattle.nr_lifting.proofs.LaneViews.{sum_bits}
 use Rattle.nr_lifting.proofs.Turns.{mod_small, mod_once}
 use Rattle.nr_ldpcenc.specs.Doubled.{col_bit, IsDoubled, KeepsOthers, AreTwice}
-use Rattle.nr_ldpcenc.specs.Solving.{AgreeBelow}
+use Rattle.nr_ldpcenc.specs.Inside.{AgreeBelow}
 use Rattle.nr_ldpcenc.proofs.Columns.{agree_more}
 
 -- place t of packed words is a digit

@@ -5,7 +5,7 @@ use Rattle.std.proofs.lemmas.Bool.Decides.{nat_tests}
 use Rattle.std.proofs.lemmas.List.{get_or-replicate, get_or_past, length-replicate}
 use Rattle.std.proofs.lemmas.Nat.Bits.{bit_at-zero}
 use Rattle.nr_bitvec.specs.Bit.{bit}
-use Rattle.nr_ldpcenc.specs.Solving.{IsClearedTo, Copies}
+use Rattle.nr_ldpcenc.specs.Inside.{IsClearedTo, Copies}
 
 below : (a b : ℕ) → nat_lt a b ≡ true → a < b
 below a b h = grind (arith, nat_tests)

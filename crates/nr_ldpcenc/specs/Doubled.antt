@@ -3,7 +3,7 @@
 use Rattle.std.specs.Prelude.{◌≡◌, ℕ, ◌+◌, ◌*◌, ◌/◌, ◌%◌, ◌<◌, ◌≤◌, ◌==◌, Bool, false, List, length}
 use Rattle.nr_bitvec.specs.Bit.{bit}
 use Rattle.nr_bitvec.specs.Packed.{place}
-use Rattle.nr_ldpcenc.specs.Solving.{AgreeBelow}
+use Rattle.nr_ldpcenc.specs.Inside.{AgreeBelow}
 
 -- from word `at` on, the z bits of a block stand twice in a row
 abbrev pub IsDoubled : ℕ → ℕ → List ℕ → List ℕ → Type 0

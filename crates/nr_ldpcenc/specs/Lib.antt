@@ -3,3 +3,4 @@ pub mod Rows
 pub mod Solving
 pub mod Doubled
 pub mod Codeword
+pub mod Inside

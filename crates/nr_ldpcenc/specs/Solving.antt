@@ -1,6 +1,6 @@
--- Believed, with internal helpers: the parity columns of a word, computed (TS 38.212, 5.3.2). Codeword.antt says what they promise: the word meets
+-- Believed: the parity columns of a word, computed (TS 38.212, 5.3.2). Codeword.antt says what they promise: the word meets
 -- every row, and no other does.
-use Rattle.std.specs.Prelude.{◌≡◌, ℕ, zero, suc, ◌+◌, ◌-◌, ◌*◌, ◌/◌, ◌%◌, ◌<◌, ◌≤◌, ◌==◌, nat_lt, Bool, false, if◌then◌else◌, List, map, filter, length, Option, Some, None, option_map, unwrap_or, slice_index}
+use Rattle.std.specs.Prelude.{ℕ, zero, suc, ◌+◌, ◌-◌, ◌*◌, ◌/◌, ◌%◌, ◌==◌, nat_lt, Bool, if◌then◌else◌, List, map, filter, Option, Some, None, option_map, unwrap_or, slice_index}
 use Rattle.std.specs.List.{range_with_len}
 use Rattle.nr_bitvec.specs.Bit.{◌⊕◌, bit}
 use Rattle.nr_shifttable.specs.declared.entry.Entry.{Entry}
@@ -59,24 +59,3 @@ with_columns es set n z w (suc k) = with_next es set n z (k + 1) (with_columns e
 -- the word that begins with the bits of the n information columns, for a base graph of `rows` rows
 unfoldable pub word_of : List Entry → ℕ → ℕ → ℕ → ℕ → List Bool → List Bool
 word_of es set n rows z info = map (with_columns es set n z (bit info) (rows - 1)) (range_with_len 0 ((n + rows) * z))
-
--- two words are the same below a position
-abbrev pub AgreeBelow : ℕ → (ℕ → Bool) → (ℕ → Bool) → Type 0
-AgreeBelow n v w = (p : ℕ) → p < n → v p ≡ w p
-
--- the parity columns from n on and below n + lim are solved
-pub record IsSolvedTo (es : List Entry) (set n z lim : ℕ) (w : ℕ → Bool) : Type 0 where
-  pub first : (t : ℕ) → t < z → w (one_at z t n (core_rotation es set n)) ≡ core_sum es set z w n t
-  pub later : (i t : ℕ) → 1 ≤ i → i < lim → t < z → w (one_at z t (n + i) 0) ≡ head_sum es set z w (n + i) (row_ending i) t
-
--- the bits from bit `from` on and below n are zeros, and no bit before them is another
-pub record IsClearedTo (n from : ℕ) (new old : List Bool) : Type 0 where
-  pub zeros : (t : ℕ) → from ≤ t → t < n → bit new t ≡ false
-  pub before : AgreeBelow from (bit old) (bit new)
-  pub long : length new ≡ length old
-
--- the first bits of a list, as far as m, are those of another, and its bits from n on are as they were
-pub record Copies (m n : ℕ) (src old new : List Bool) : Type 0 where
-  pub begins : (t : ℕ) → t < m → bit new t ≡ bit src t
-  pub after : (t : ℕ) → n ≤ t → bit new t ≡ bit old t
-  pub long : length new ≡ length old

@@ -5,7 +5,8 @@ ghost use Rattle.std.specs.Prelude.{◌≡◌, ℕ, ◌+◌, ◌*◌, ◌<◌, �
 ghost use Rattle.nr_bitvec.specs.Bit.{◌⊕◌, bit};
 ghost use Rattle.nr_bitvec.specs.Packed.{place, IsClear};
 ghost use Rattle.nr_ldpcenc.specs.Doubled.{col_bit, AreTwice, HasColumns};
-ghost use Rattle.nr_ldpcenc.specs.Solving.{sum_before, AgreeBelow};
+ghost use Rattle.nr_ldpcenc.specs.Solving.{sum_before};
+ghost use Rattle.nr_ldpcenc.specs.Inside.{AgreeBelow};
 
 use crate::lanes::{add_rotated, put_twice, read_lane};
 use nr_bitvec::Bits;

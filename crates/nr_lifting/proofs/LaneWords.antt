@@ -5,7 +5,8 @@ use Rattle.std.proofs.lemmas.Nat.Bits.{bit_at_and, bit_at_not, bit_at_or, bit_at
 use Rattle.std.specs.Int.{bit_at, bit_not, w64}
 use Rattle.std.specs.Int.RustNames.{bit_and, bit_or, bit_xor}
 use Rattle.nr_bitvec.specs.Packed.{place, IsClear}
-use Rattle.nr_lifting.specs.Lane.{IsLane, IsRotatedWord}
+use Rattle.nr_lifting.specs.Lane.{IsRotatedWord}
+use Rattle.nr_lifting.specs.LaneInside.{IsLane}
 use Rattle.nr_bitvec.proofs.BitFacts.{place_of, place_past}
 use Rattle.nr_bitvec.proofs.Places.{place-set_same, place-set_other}
 

@@ -12,8 +12,9 @@ use Rattle.std.proofs.lemmas.List.FromFn.{length-map-range_with_len, get_or-map-
 use Rattle.nr_bitvec.specs.Bit.{◌⊕◌, bit}
 use Rattle.nr_bitvec.specs.Packed.{place, IsClear}
 use Rattle.nr_bitvec.proofs.Places.{same_from_bits}
-use Rattle.nr_lifting.specs.Lane.{AddsPlaces}
-use Rattle.nr_lifting.specs.Rings.{AreRings, BlockBits, IsRing, GainsTwice, IsRotated, block_bits, is_set, lane_marks, ring_bit}
+use Rattle.nr_lifting.specs.LaneInside.{AddsPlaces}
+use Rattle.nr_lifting.specs.Rings.{BlockBits, IsRing, GainsTwice, IsRotated, block_bits, is_set, lane_marks, ring_bit}
+use Rattle.nr_lifting.specs.Inside.{AreRings}
 use Rattle.nr_lifting.proofs.LaneViews.{max_bits, place-lt, place-zeros, rest_bits, sum_bits}
 use Rattle.nr_lifting.proofs.Turns.{mod_small}
 

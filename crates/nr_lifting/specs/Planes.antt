@@ -1,6 +1,6 @@
--- Believed, with internal helpers: counts that are kept as bit planes. Word b of a group has bit b of each of 64
+-- Believed: counts that are kept as bit planes. Word b of a group has bit b of each of 64
 -- counts.
-use Rattle.std.specs.Prelude.{◌≡◌, ℕ, zero, suc, ◌+◌, ◌*◌, ◌/◌, ◌%◌, ◌^◌, ◌<◌, ◌≤◌, List, [], length, map, slice_index_or}
+use Rattle.std.specs.Prelude.{◌≡◌, ℕ, zero, suc, ◌+◌, ◌*◌, ◌/◌, ◌%◌, ◌^◌, ◌<◌, List, [], length, map, slice_index_or}
 use Rattle.std.specs.Int.{bit_at}
 use Rattle.std.specs.List.{range_with_len}
 use Rattle.nr_bitvec.specs.Packed.{place}
@@ -42,9 +42,3 @@ plane_count z blocks k = number_at (slice_index_or blocks (k / z) []) (k % z)
 -- the blocks of z counts that bit planes keep
 abbrev pub block_counts : ℕ → List (List (List ℕ)) → BlockCounts
 block_counts z blocks = record { items = map (plane_count z blocks) (range_with_len 0 (length blocks * z)); lanes = z }
-
--- so many counts a block, and so few blocks
-pub record ArePlanes (z : ℕ) (blocks : List (List (List ℕ))) : Type 0 where
-  pub some : 0 < z
-  pub short : z ≤ 384
-  pub few : length blocks < 2 ^ 16

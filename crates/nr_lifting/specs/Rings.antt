@@ -1,8 +1,8 @@
--- Believed, with internal helpers: rings, which are blocks of z bits that stand twice over, from place 0 and from place
+-- Believed: rings, which are blocks of z bits that stand twice over, from place 0 and from place
 -- z on. So every rotation of the block stands in one piece.
-use Rattle.std.specs.Prelude.{◌≡◌, ℕ, zero, suc, ◌+◌, ◌*◌, ◌/◌, ◌%◌, ◌^◌, ◌<◌, ◌≤◌, ◌==◌, ◌&&◌, max, Bool, if◌then◌else◌, List, [], length, map, slice_index_or}
+use Rattle.std.specs.Prelude.{◌≡◌, ℕ, zero, suc, ◌+◌, ◌*◌, ◌/◌, ◌%◌, ◌<◌, ◌==◌, ◌&&◌, max, Bool, if◌then◌else◌, List, [], length, map, slice_index_or}
 use Rattle.std.specs.List.{range_with_len}
-use Rattle.nr_bitvec.specs.Packed.{place, IsClear}
+use Rattle.nr_bitvec.specs.Packed.{place}
 
 -- the z places from place z on are those before it
 abbrev pub IsRing : ℕ → List ℕ → Type 0
@@ -38,14 +38,6 @@ ring_bit z rings p = is_set (slice_index_or rings (p / z) []) (p % z)
 -- the blocks of z bits that rings keep
 abbrev pub block_bits : ℕ → List (List ℕ) → BlockBits
 block_bits z rings = record { items = map (ring_bit z rings) (range_with_len 0 (length rings * z)); lanes = z }
-
--- each keeps a block of z bits twice over, and no place after them is set
-pub record AreRings (z : ℕ) (rings : List (List ℕ)) : Type 0 where
-  pub some : 0 < z
-  pub short : z ≤ 384
-  pub few : length rings < 2 ^ 16
-  pub ring : (j : ℕ) → IsRing z (slice_index_or rings j [])
-  pub clear : (j : ℕ) → IsClear (slice_index_or rings j []) (2 * z)
 
 -- how many of the first n numbers are marked
 abbrev pub marked : (ℕ → Bool) → ℕ → ℕ

@@ -92,7 +92,8 @@ pub struct BitSlicedCounts {
 }
 
 impl Model for BitSlicedCounts {
-    ghost use Rattle.nr_lifting.specs.Planes.{ArePlanes, BlockCounts, block_counts};
+    ghost use Rattle.nr_lifting.specs.Planes.{BlockCounts, block_counts};
+    ghost use Rattle.nr_lifting.specs.Inside.{ArePlanes};
 
     ghost Value = { BlockCounts };
 

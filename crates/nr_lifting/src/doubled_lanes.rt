@@ -5,7 +5,8 @@ ghost use Rattle.std.specs.Prelude.{◌≡◌, ℕ, ◌+◌, ◌-◌, ◌*◌, �
 ghost use Rattle.std.specs.Int.{bit_at};
 ghost use Rattle.nr_bitvec.specs.Bit.{◌⊕◌, bit};
 ghost use Rattle.nr_bitvec.specs.Packed.{place, IsClear};
-ghost use Rattle.nr_lifting.specs.Lane.{AddsPlaces, IsRotatedWord};
+ghost use Rattle.nr_lifting.specs.Lane.{IsRotatedWord};
+ghost use Rattle.nr_lifting.specs.LaneInside.{AddsPlaces};
 ghost use Rattle.nr_lifting.specs.Rings.{GainsTwice, IsRing, IsRotated, is_set, lane_marks};
 
 use crate::lane::{rotated_word, wrapped_word};
@@ -142,7 +143,8 @@ pub struct DoubledLanes {
 }
 
 impl Model for DoubledLanes {
-    ghost use Rattle.nr_lifting.specs.Rings.{AreRings, BlockBits, block_bits};
+    ghost use Rattle.nr_lifting.specs.Rings.{BlockBits, block_bits};
+    ghost use Rattle.nr_lifting.specs.Inside.{AreRings};
 
     ghost Value = { BlockBits };
 

@@ -4,7 +4,8 @@ ghost use Rattle.std.specs.Prelude.{◌≡◌, ℕ, ◌+◌, ◌*◌, ◌<◌, �
 ghost use Rattle.std.specs.Int.{bit_at};
 ghost use Rattle.nr_bitvec.specs.Bit.{bit};
 ghost use Rattle.nr_bitvec.specs.Packed.{IsClear};
-ghost use Rattle.nr_lifting.specs.Lane.{IsLane, AddsRotated, JoinsRotated, MeetsRotated, AddsPlaces, JoinsPlaces, MeetsPlaces, IsRotatedWord, IsMovedWord};
+ghost use Rattle.nr_lifting.specs.Lane.{AddsRotated, JoinsRotated, MeetsRotated, IsRotatedWord};
+ghost use Rattle.nr_lifting.specs.LaneInside.{IsLane, AddsPlaces, JoinsPlaces, MeetsPlaces, IsMovedWord};
 
 use nr_bitvec::Bits;
 use nr_bitvec::words::{low_bits, window};
@@ -20,7 +21,7 @@ pub struct Lane<const Z: usize, const W: usize> {
 impl<const Z: usize, const W: usize> Model for Lane<Z, W> {
     ghost use Rattle.std.specs.Prelude.{Bool, List};
     ghost use Rattle.nr_bitvec.specs.Packed.{unpacked};
-    ghost use Rattle.nr_lifting.specs.Lane.{IsLane};
+    ghost use Rattle.nr_lifting.specs.LaneInside.{IsLane};
 
     ghost Value = { List Bool };
 

@@ -23,8 +23,9 @@ use Rattle.nr_blockdesk.specs.Link.{IsLink, Link}
 use Rattle.nr_blockdesk.specs.Outcome.{fixed, given, left}
 use Rattle.nr_blockdesk.specs.Receiving.{ReceiverView}
 use Rattle.nr_blockdesk.specs.Sent.{SenderView}
-use Rattle.nr_linkcommands.specs.AuditText.{HasHeard, audit_lines, audit_of}
-use Rattle.nr_linkcommands.specs.AuditLines.{audit_block, audit_line, gained, order_line, position_word, steps_of, stuck_line, unfixed}
+use Rattle.nr_linkcommands.specs.AuditText.{audit_lines, audit_of}
+use Rattle.nr_linkcommands.specs.Inside.{HasHeard, gained}
+use Rattle.nr_linkcommands.specs.AuditLines.{audit_block, audit_line, order_line, position_word, steps_of, stuck_line, unfixed}
 use Rattle.nr_files.specs.Rounds.{IsOfBlock, of_process}
 use Rattle.nr_linkcommands.specs.RunText.{received, received_of}
 use Rattle.nr_files.specs.declared.schedule.Transmission.{Transmission}

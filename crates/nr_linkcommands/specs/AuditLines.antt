@@ -1,11 +1,9 @@
--- Believed, with internal helpers: the lines of `audit`, which say of a code block how many positions peeling fixed, or which ones it left unknown.
+-- Believed: the lines of `audit`, which say of a code block how many positions peeling fixed, or which ones it left unknown.
 use Rattle.std.specs.Prelude.{List, [], codes, count_by, filter, flat_map, if◌then◌else◌, length, not, ℕ, ◌&&◌, ◌++◌, ◌==◌, ◌∷◌}
 use Rattle.std.specs.Fmt.{decimal}
 use Rattle.std.specs.List.{range_with_len}
-use Rattle.nr_bitvec.specs.Bit.{bit}
 use Rattle.nr_harqbuf.specs.Record.{HeardBits}
 use Rattle.nr_segment.specs.Plan.{word_size}
-use Rattle.nr_peel.specs.Peeling.{Peeling}
 use Rattle.nr_blockdesk.specs.Heard.{heard_of}
 use Rattle.nr_blockdesk.specs.Link.{Link}
 use Rattle.nr_blockdesk.specs.Outcome.{fixed, given, left}
@@ -18,10 +16,6 @@ steps_of link s =
 -- the positions that are not fixed, ascending
 abbrev pub unfixed : Link → HeardBits → List ℕ
 unfixed link s = filter (λ p. not (fixed link s p)) (range_with_len 0 (word_size link.graph link.plan))
-
--- how many positions a peeler knows that it was not given
-abbrev pub gained : Peeling → ℕ
-gained p = count_by (λ k. bit p.known k && not (bit p.given k)) (range_with_len 0 (length p.given))
 
 -- the line of code block r of block n where it is fixed, in so many steps
 unfoldable pub order_line : ℕ → ℕ → ℕ → List ℕ

@@ -1,8 +1,6 @@
--- Believed, with internal helpers: the text of `audit` over the rounds of a schedule's processes, or over its blocks where it names no process.
-use Rattle.std.specs.Prelude.{Bool, List, Result, [], false, true, ℕ, ◌++◌, ◌+◌, ◌∷◌, ◌≡◌}
-use Rattle.nr_blockdesk.specs.Explains.{Reception}
-use Rattle.nr_blockdesk.specs.Heard.{IsRecordOf, heard_record}
-use Rattle.nr_blockdesk.specs.Receiving.{ReceiverView}
+-- Believed: the text of `audit` over the rounds of a schedule's processes, or over its blocks where it names no process.
+use Rattle.std.specs.Prelude.{Bool, List, Result, [], false, true, ℕ, ◌++◌, ◌+◌, ◌∷◌}
+use Rattle.nr_blockdesk.specs.Heard.{heard_record}
 use Rattle.nr_blockdesk.specs.Sent.{SenderView}
 use Rattle.nr_linkcommands.specs.RunText.{own, received}
 use Rattle.nr_files.specs.declared.schedule.Transmission.{Transmission}
@@ -21,11 +19,6 @@ audit_of schedule n sender = audit_block [] n sender.link (heard_record sender.l
 unfoldable pub audit_lines : List Transmission → ℕ → List SenderView → List ℕ
 audit_lines schedule n [] = []
 audit_lines schedule n (sender ∷ senders) = audit_of schedule n sender ++ audit_lines schedule (n + 1) senders
-
--- a receiver of a sender's transport block has received this list
-pub record HasHeard (sender : SenderView) (list : List Reception) (receiver : ReceiverView) : Type 0 where
-  pub link : receiver.link ≡ sender.link
-  pub heard : IsRecordOf sender.link list receiver.heard
 
 -- what `audit` says: of a transmission nothing, of a round a line for each code block
 abbrev pub audit_words : Words

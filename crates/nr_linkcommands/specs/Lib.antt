@@ -13,3 +13,4 @@ pub mod RunText
 pub mod SafeRuns
 pub mod SendLines
 pub mod SendText
+pub mod Inside

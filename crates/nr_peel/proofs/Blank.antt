@@ -8,9 +8,10 @@ use Rattle.nr_shifttable.specs.Accepted.{IsTable}
 use Rattle.nr_ldpcenc.specs.Rows.{Checks}
 use Rattle.nr_peel.specs.Due.{work_of}
 use Rattle.nr_peel.specs.Starts.{AreBlank, AreDegrees, IsBlankSweep}
-use Rattle.nr_peel.specs.State.{lifted_checks}
+use Rattle.nr_peel.specs.StateInside.{lifted_checks}
 use Rattle.nr_peel.specs.Sweeps.{counted_in}
-use Rattle.nr_peel.specs.Touches.{all_pairs, row_length, step_pairs, sum_below}
+use Rattle.nr_peel.specs.Touches.{step_pairs, sum_below}
+use Rattle.nr_peel.specs.TouchesInside.{all_pairs, row_length}
 use Rattle.nr_peel.specs.declared.lifted.Lifted.{Lifted}
 use Rattle.nr_peel.specs.declared.sweep.Sweep.{Sweep}
 use Rattle.nr_peel.proofs.Counting.{sum-below}

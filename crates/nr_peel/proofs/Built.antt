@@ -14,8 +14,9 @@ use Rattle.nr_peel.specs.Closure.{stands}
 use Rattle.nr_peel.specs.Certificates.{all_accepted}
 use Rattle.nr_peel.specs.Counters.{AreAtStart}
 use Rattle.nr_peel.specs.Peeling.{left_of}
-use Rattle.nr_peel.specs.State.{lifted_checks}
-use Rattle.nr_peel.specs.Touches.{all_pairs, row_length, step_pairs, sum_below}
+use Rattle.nr_peel.specs.StateInside.{lifted_checks}
+use Rattle.nr_peel.specs.Touches.{step_pairs, sum_below}
+use Rattle.nr_peel.specs.TouchesInside.{all_pairs, row_length}
 use Rattle.nr_peel.specs.declared.worklist_peeler.WorklistPeeler.{WorklistPeeler}
 use Rattle.nr_peel.specs.declared.counters.Counters.{Counters}
 use Rattle.nr_peel.specs.declared.lifted.Lifted.{Lifted}

@@ -3,7 +3,8 @@ use Rattle.std.proofs.Common.{◌≡◌, ℕ, ◌+◌, ◌<◌, ◌≤◌, ◌&&
 use Rattle.std.specs.Prelude.{◌⊎◌, zero, suc}
 use Rattle.std.proofs.lemmas.Bool.{and_parts, and_from, or_cases, or_left, or_right, false≢true, true≢false, cases_lt}
 use Rattle.nr_ldpcenc.specs.Rows.{Checks}
-use Rattle.nr_peel.specs.Closure.{Within, IsClosed, AreSound, any_below, closure, fixes, round, rounds, stands, union}
+use Rattle.nr_peel.specs.Closure.{Within, AreSound, any_below, closure, fixes, round, rounds, stands, union}
+use Rattle.nr_peel.specs.ClosureInside.{IsClosed}
 use Rattle.nr_peel.proofs.Standing.{fixes_more}
 
 pub cases_below : (k n : ℕ) → k < suc n → (k < n) ⊎ (k ≡ n)

@@ -8,7 +8,8 @@ use Rattle.std.proofs.lemmas.List.Sums.{sum_by_more}
 use Rattle.nr_bitvec.specs.Bit.{bit}
 use Rattle.nr_ldpcenc.specs.Rows.{Checks}
 use Rattle.nr_peel.specs.Sweeps.{CountsOf}
-use Rattle.nr_peel.specs.Touches.{all_pairs, row_length, pairs_in, spent_pairs, sum_below}
+use Rattle.nr_peel.specs.Touches.{pairs_in, sum_below}
+use Rattle.nr_peel.specs.TouchesInside.{all_pairs, row_length, spent_pairs}
 use Rattle.nr_peel.proofs.Standing.{count_by-cons}
 use Rattle.nr_peel.proofs.Pairs.{sum_below-le, sum_below-plus, sum_below-same}
 use Rattle.nr_peel.proofs.Places.{row_number}

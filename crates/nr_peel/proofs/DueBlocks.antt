@@ -16,7 +16,7 @@ use Rattle.nr_shifttable.specs.Accepted.{entries_in, row_of}
 use Rattle.nr_shifttable.specs.Tails.{value_in}
 use Rattle.nr_ldpcenc.specs.Rows.{one_at}
 use Rattle.nr_peel.specs.Due.{ArePendingMarks, AreKept, due_in}
-use Rattle.nr_peel.specs.State.{lifted_checks}
+use Rattle.nr_peel.specs.StateInside.{lifted_checks}
 use Rattle.nr_peel.specs.Sweeps.{CountsOf, has_count}
 use Rattle.nr_peel.specs.declared.lifted.Lifted.{Lifted}
 use Rattle.nr_peel.proofs.Marks.{marked_zero}

@@ -7,11 +7,13 @@ use Rattle.std.proofs.Math.Nat.{mul-le-mul_right}
 use Rattle.nr_bitvec.specs.Bit.{bit}
 use Rattle.nr_ldpcenc.specs.Parity.{parity}
 use Rattle.nr_ldpcenc.specs.Rows.{Checks}
-use Rattle.nr_peel.specs.Closure.{IsOnlyMissing, AreSound, Within, stands}
+use Rattle.nr_peel.specs.Closure.{AreSound, Within, stands}
+use Rattle.nr_peel.specs.ClosureInside.{IsOnlyMissing}
 use Rattle.nr_peel.specs.Certificates.{accepts, after_steps, is_fixed_by, with_position}
 use Rattle.nr_peel.specs.Counters.{Follows, IsLowered, AreTied}
 use Rattle.nr_peel.specs.Worklist.{Grows, IsWorklistSound}
-use Rattle.nr_peel.specs.Touches.{all_pairs, step_pairs}
+use Rattle.nr_peel.specs.Touches.{step_pairs}
+use Rattle.nr_peel.specs.TouchesInside.{all_pairs}
 use Rattle.nr_peel.specs.declared.counters.Counters.{Counters}
 use Rattle.nr_peel.specs.declared.fix.Fix.{Fix}
 use Rattle.nr_peel.specs.declared.worklist_peeler.WorklistPeeler.{WorklistPeeler}

@@ -8,10 +8,11 @@ use Rattle.nr_lifting.specs.Rings.{is_set}
 use Rattle.nr_shifttable.specs.declared.entry.Entry.{Entry}
 use Rattle.nr_shifttable.specs.Tails.{value_in}
 use Rattle.nr_ldpcenc.specs.Rows.{Checks, Meets, one_at, unrotate}
-use Rattle.nr_peel.specs.Closure.{IsOnlyMissing, Within, any_below, fixes, stands}
+use Rattle.nr_peel.specs.Closure.{Within, any_below, fixes, stands}
+use Rattle.nr_peel.specs.ClosureInside.{IsOnlyMissing}
 use Rattle.nr_peel.specs.Certificates.{accepts, is_fixed_by}
 use Rattle.nr_peel.specs.Lanes.{TakesLane, lacks, marks_of, steps_below, rotated_step}
-use Rattle.nr_peel.specs.State.{lifted_checks}
+use Rattle.nr_peel.specs.StateInside.{lifted_checks}
 use Rattle.nr_peel.specs.Peeling.{HasBits}
 use Rattle.nr_peel.specs.Sweeps.{AreLanes, Fixes}
 use Rattle.nr_peel.specs.declared.fix.Fix.{Fix}

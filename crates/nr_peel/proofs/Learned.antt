@@ -13,7 +13,7 @@ use Rattle.nr_peel.specs.Learning.{IsFilled, IsSweepPeeler, Learns, sweep_peeler
 use Rattle.nr_peel.specs.Peeling.{HasBits, IsPeeled, fillers, left_of}
 use Rattle.nr_peel.specs.Settled.{HasNonePending, IsHeld, Keeps, Reaches}
 use Rattle.nr_peel.specs.Starts.{IsBlankSweep}
-use Rattle.nr_peel.specs.State.{lifted_checks}
+use Rattle.nr_peel.specs.StateInside.{lifted_checks}
 use Rattle.nr_peel.specs.Sweeps.{AreLanes, counted_in, has_count}
 use Rattle.nr_peel.specs.declared.lanes.Lanes.{Lanes}
 use Rattle.nr_peel.specs.declared.sweep_peeler.SweepPeeler.{SweepPeeler}

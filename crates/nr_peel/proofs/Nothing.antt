@@ -14,7 +14,8 @@ use Rattle.nr_shifttable.specs.Accepted.{Entries, IsTable, entries_in, row_of, t
 use Rattle.nr_shifttable.specs.Tails.{AcceptedHasShape, HasShape, HasCore, tail_of, value_in}
 use Rattle.nr_ldpcenc.specs.Rows.{Checks, block_checks, one_at, row_at}
 use Rattle.nr_ldpcenc.specs.Codeword.{filler}
-use Rattle.nr_peel.specs.Closure.{IsClosed, Within, any_below, closure, fixes, stands}
+use Rattle.nr_peel.specs.Closure.{Within, any_below, closure, fixes, stands}
+use Rattle.nr_peel.specs.ClosureInside.{IsClosed}
 use Rattle.nr_peel.proofs.Closed.{any_below_passes, passes_any_below, closure_least}
 use Rattle.nr_peel.proofs.Grid.{place_below}
 

@@ -4,7 +4,8 @@ use Rattle.std.proofs.Math.Seq.{take-append_seam}
 use Rattle.std.proofs.lemmas.Bool.{and_parts, and_from, or_cases, or_left, or_right, ltb-true, lt-ltb, eqb-true}
 use Rattle.nr_ldpcenc.specs.Rows.{Checks}
 use Rattle.nr_peel.specs.Closure.{AreSound, Within, closure, fixes}
-use Rattle.nr_peel.specs.Certificates.{Extends, accepts, after_steps, all_accepted, is_fixed_by, with_position}
+use Rattle.nr_peel.specs.Certificates.{accepts, after_steps, all_accepted, is_fixed_by, with_position}
+use Rattle.nr_peel.specs.CertificatesInside.{Extends}
 use Rattle.nr_peel.specs.declared.fix.Fix.{Fix}
 use Rattle.nr_peel.proofs.Closed.{closure_closed, closure_keeps}
 use Rattle.nr_peel.proofs.Standing.{fixes_more}

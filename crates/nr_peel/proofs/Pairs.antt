@@ -4,7 +4,8 @@ use Rattle.std.specs.Prelude.{zero, suc, slice_index}
 use Rattle.std.proofs.lemmas.Bool.{eqb-true, eq-eqb}
 use Rattle.std.proofs.lemmas.Nat.{div-mul-add, mod-mul-add}
 use Rattle.nr_ldpcenc.specs.Rows.{Checks}
-use Rattle.nr_peel.specs.Touches.{all_pairs, row_length, spent_pairs, sum_below}
+use Rattle.nr_peel.specs.Touches.{sum_below}
+use Rattle.nr_peel.specs.TouchesInside.{all_pairs, row_length, spent_pairs}
 
 pub sum_below-le : (f g : ℕ → ℕ) (n : ℕ) → ((k : ℕ) → k < n → f k ≤ g k) → sum_below f n ≤ sum_below g n
 sum_below-le f g zero h = omega arith

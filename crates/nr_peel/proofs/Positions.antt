@@ -11,7 +11,7 @@ use Rattle.nr_peel.specs.Closure.{AreSound, Within, closure}
 use Rattle.nr_peel.specs.Certificates.{is_fixed_by}
 use Rattle.nr_peel.specs.Counters.{IsSettled}
 use Rattle.nr_peel.specs.Peeling.{HasBits, IsPeeled, fillers}
-use Rattle.nr_peel.specs.State.{lifted_checks}
+use Rattle.nr_peel.specs.StateInside.{lifted_checks}
 use Rattle.nr_peel.specs.Taken.{HasFillers, TakesUp}
 use Rattle.nr_peel.specs.declared.worklist_peeler.WorklistPeeler.{WorklistPeeler}
 use Rattle.nr_peel.specs.declared.lifted.Lifted.{Lifted}

@@ -9,9 +9,10 @@ use Rattle.nr_ldpcenc.specs.Rows.{Checks}
 use Rattle.nr_segment.specs.CodeBlock.{numbers}
 use Rattle.nr_shifttable.specs.declared.entry.Entry.{Entry}
 use Rattle.nr_shifttable.specs.Accepted.{IsTable, entries_in, row_of}
-use Rattle.nr_peel.specs.Closure.{IsDistinctRow, AreSound, LacksNoneOrSeveral, Within, any_below, closure, fixes, round, stands}
+use Rattle.nr_peel.specs.Closure.{IsDistinctRow, AreSound, Within, any_below, closure, fixes, round, stands}
+use Rattle.nr_peel.specs.ClosureInside.{LacksNoneOrSeveral}
 use Rattle.nr_peel.specs.Rounds.{CountsMarks, counts_one, is_counted_once, lacks_one, row_in, some_counts_one, some_lacks_one}
-use Rattle.nr_peel.specs.State.{lifted_checks}
+use Rattle.nr_peel.specs.StateInside.{lifted_checks}
 use Rattle.nr_peel.specs.declared.lifted.Lifted.{Lifted}
 use Rattle.nr_peel.specs.declared.rounds.Tally.{Tally}
 use Rattle.nr_peel.proofs.Closed.{any_below_passes, closure_closed, passes_any_below, round_adds, round_keeps, round_within, same_truth, size_below, size_grows}

@@ -6,7 +6,7 @@ use Rattle.nr_shifttable.specs.declared.entry.Entry.{Entry}
 use Rattle.nr_shifttable.specs.Accepted.{IsTable, entries_in, row_of}
 use Rattle.nr_shifttable.specs.Tails.{value_in}
 use Rattle.nr_ldpcenc.specs.Rows.{one_at}
-use Rattle.nr_peel.specs.State.{lifted_checks}
+use Rattle.nr_peel.specs.StateInside.{lifted_checks}
 use Rattle.nr_peel.specs.declared.lifted.Lifted.{Lifted}
 use Rattle.nr_peel.proofs.Places.{place_fits}
 use Rattle.nr_peel.proofs.Tied.{row_columns}

@@ -8,7 +8,8 @@ use Rattle.std.proofs.lemmas.List.{take_more, take_all}
 use Rattle.std.proofs.lemmas.List.Folds.{list_any-append}
 use Rattle.nr_bitvec.specs.Bit.{◌⊕◌}
 use Rattle.nr_ldpcenc.specs.Parity.{parity}
-use Rattle.nr_peel.specs.Closure.{IsOnlyMissing, stands}
+use Rattle.nr_peel.specs.Closure.{stands}
+use Rattle.nr_peel.specs.ClosureInside.{IsOnlyMissing}
 use Rattle.nr_peel.proofs.Standing.{count_more, only_from_count}
 use Rattle.nr_peel.proofs.Nothing.{other_in}
 use Rattle.nr_peel.proofs.Sums.{parity-push}

@@ -8,7 +8,8 @@ use Rattle.nr_lifting.specs.Rings.{marked}
 use Rattle.nr_ldpcenc.specs.Rows.{Checks}
 use Rattle.nr_peel.specs.Certificates.{is_fixed_by}
 use Rattle.nr_peel.specs.Sweeps.{has_count}
-use Rattle.nr_peel.specs.Touches.{spent_pairs, step_pairs}
+use Rattle.nr_peel.specs.Touches.{step_pairs}
+use Rattle.nr_peel.specs.TouchesInside.{spent_pairs}
 use Rattle.nr_peel.specs.Closure.{stands}
 use Rattle.nr_peel.specs.Counters.{Follows, IsListed, AreTied}
 use Rattle.nr_peel.specs.Worklist.{IsWorklistSound}

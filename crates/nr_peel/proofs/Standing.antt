@@ -4,7 +4,8 @@ use Rattle.std.specs.Prelude.{count_by}
 use Rattle.std.specs.List.{list_all}
 use Rattle.std.proofs.lemmas.Bool.{and_parts, and_from, or_cases, or_left, or_right, eqb-true, eq-eqb, false≢true}
 use Rattle.std.proofs.lemmas.List.Sums.{sum_by-cons, sum_by_more}
-use Rattle.nr_peel.specs.Closure.{stands, fixes, times_in, IsOnlyMissing}
+use Rattle.nr_peel.specs.Closure.{stands, fixes, times_in}
+use Rattle.nr_peel.specs.ClosureInside.{IsOnlyMissing}
 
 -- a count with one element more in front
 pub count_by-cons : {X : Type 0} (p : X → Bool) (x : X) (xs : List X) → count_by p (x ∷ xs) ≡ cond (p x) 1 0 + count_by p xs

@@ -10,8 +10,9 @@ use Rattle.nr_shifttable.specs.declared.entry.Entry.{Entry}
 use Rattle.nr_shifttable.specs.Accepted.{IsTable, entries_in, row_of}
 use Rattle.nr_shifttable.specs.Tails.{value_in}
 use Rattle.nr_ldpcenc.specs.Rows.{one_at}
-use Rattle.nr_peel.specs.State.{lifted_checks}
-use Rattle.nr_peel.specs.Touches.{all_pairs, row_length, sum_below}
+use Rattle.nr_peel.specs.StateInside.{lifted_checks}
+use Rattle.nr_peel.specs.Touches.{sum_below}
+use Rattle.nr_peel.specs.TouchesInside.{all_pairs, row_length}
 use Rattle.nr_peel.specs.declared.lifted.Lifted.{Lifted}
 use Rattle.nr_peel.proofs.Standing.{count_no}
 use Rattle.nr_peel.proofs.Counting.{count_both}

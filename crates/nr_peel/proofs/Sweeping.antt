@@ -14,9 +14,10 @@ use Rattle.nr_shifttable.specs.Tails.{value_in}
 use Rattle.nr_ldpcenc.specs.Rows.{Checks, one_at}
 use Rattle.nr_peel.specs.Closure.{Within}
 use Rattle.nr_peel.specs.Certificates.{accepts, all_accepted, is_fixed_by, with_position}
-use Rattle.nr_peel.specs.State.{lifted_checks}
+use Rattle.nr_peel.specs.StateInside.{lifted_checks}
 use Rattle.nr_peel.specs.Sweeps.{AreLanes, AreSought, CountsOf, Fixes, IsBlockSought, counted_in, has_count, searched_below, searched_pairs}
-use Rattle.nr_peel.specs.Touches.{row_length, step_pairs, sum_below}
+use Rattle.nr_peel.specs.Touches.{step_pairs, sum_below}
+use Rattle.nr_peel.specs.TouchesInside.{row_length}
 use Rattle.nr_peel.specs.declared.fix.Fix.{Fix}
 use Rattle.nr_peel.specs.declared.lanes.Lanes.{Lanes}
 use Rattle.nr_peel.specs.declared.lifted.Lifted.{Lifted}

@@ -16,10 +16,11 @@ use Rattle.nr_shifttable.specs.Accepted.{IsTable, entries_in, row_of}
 use Rattle.nr_shifttable.specs.Tails.{value_in}
 use Rattle.nr_ldpcenc.specs.Parity.{parity}
 use Rattle.nr_ldpcenc.specs.Rows.{Checks, Meets, one_at, positions}
-use Rattle.nr_peel.specs.Closure.{AreSound, IsOnlyMissing, Within, stands}
+use Rattle.nr_peel.specs.Closure.{AreSound, Within, stands}
+use Rattle.nr_peel.specs.ClosureInside.{IsOnlyMissing}
 use Rattle.nr_peel.specs.Certificates.{is_fixed_by}
 use Rattle.nr_peel.specs.Lanes.{TakesLane, lacks, rotated_step}
-use Rattle.nr_peel.specs.State.{lifted_checks}
+use Rattle.nr_peel.specs.StateInside.{lifted_checks}
 use Rattle.nr_peel.specs.Peeling.{HasBits}
 use Rattle.nr_peel.specs.Sweeps.{AreLanes, CountsOf, Fixes, IsBlockSought, counted_in, has_count}
 use Rattle.nr_peel.specs.Touches.{step_pairs, sum_below}

@@ -5,7 +5,8 @@ use Rattle.std.proofs.lemmas.Bool.{cases_eq, eq-eqb, ne_eqb}
 use Rattle.nr_lifting.specs.Rings.{marked}
 use Rattle.nr_ldpcenc.specs.Rows.{Checks}
 use Rattle.nr_peel.specs.Sweeps.{has_count, searched_pairs}
-use Rattle.nr_peel.specs.Touches.{all_pairs, row_length, spent_pairs, sum_below}
+use Rattle.nr_peel.specs.Touches.{sum_below}
+use Rattle.nr_peel.specs.TouchesInside.{all_pairs, row_length, spent_pairs}
 use Rattle.nr_peel.proofs.Pairs.{sum_below-le, sum_below-plus}
 
 -- ---- marks

@@ -9,7 +9,7 @@ use Rattle.nr_peel.specs.Closure.{AreSound, Within, closure}
 use Rattle.nr_peel.specs.Certificates.{is_fixed_by}
 use Rattle.nr_peel.specs.Peeling.{IsPeeled}
 use Rattle.nr_peel.specs.Settled.{HasNonePending, Reaches}
-use Rattle.nr_peel.specs.State.{lifted_checks}
+use Rattle.nr_peel.specs.StateInside.{lifted_checks}
 use Rattle.nr_peel.specs.Sweeps.{CountsOf, counted_in}
 use Rattle.nr_peel.specs.Swept.{IsSettledSweep, sweep_view}
 use Rattle.nr_peel.specs.declared.lanes.Lanes.{Lanes}

@@ -7,7 +7,8 @@ use Rattle.std.proofs.lemmas.Bool.{and_parts, and_from, or_cases, or_left, or_ri
 use Rattle.nr_bitvec.specs.Bit.{◌⊕◌}
 use Rattle.nr_ldpcenc.specs.Parity.{parity}
 use Rattle.nr_ldpcenc.specs.Rows.{Checks, Meets}
-use Rattle.nr_peel.specs.Closure.{AgreeOn, IsClosed, IsDistinctRow, IsOnlyMissing, AreSound, IsStopping, LacksNoneOrSeveral, Within, closure, fixes, stands, times_in}
+use Rattle.nr_peel.specs.Closure.{AgreeOn, IsDistinctRow, AreSound, IsStopping, Within, closure, fixes, stands, times_in}
+use Rattle.nr_peel.specs.ClosureInside.{IsClosed, IsOnlyMissing, LacksNoneOrSeveral}
 use Rattle.nr_peel.proofs.Standing.{count_alike, count_no, count_yes, fixed_counted, not_not, only_from_count, stands_counted}
 use Rattle.nr_peel.proofs.Closed.{closure_closed, closure_keeps, closure_least, same_truth}
 

@@ -3,7 +3,8 @@ use Rattle.std.proofs.Common.{◌≡◌, ◌≤◌, ℕ, false, length, arith}
 use Rattle.nr_bitvec.specs.Bit.{bit}
 use Rattle.nr_shifttable.specs.Accepted.{IsTable}
 use Rattle.nr_peel.specs.Peeling.{IsPeeled, left_of}
-use Rattle.nr_peel.specs.Engine.{IsEngine, bits_in, known_in, left_in, engine_view}
+use Rattle.nr_peel.specs.Engine.{bits_in, known_in, engine_view}
+use Rattle.nr_peel.specs.EngineInside.{IsEngine, left_in}
 use Rattle.nr_peel.specs.declared.lifted.Lifted.{Lifted}
 use Rattle.nr_peel.specs.declared.engine.Engine.{Engine}
 use Rattle.nr_peel.specs.declared.engine.Engine.TheVariants.{Positions, Words}

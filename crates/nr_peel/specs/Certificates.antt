@@ -1,5 +1,5 @@
 -- Believed: what shows that positions can be fixed, and what shows that they can't.
-use Rattle.std.specs.Prelude.{◌≡◌, ◌≢◌, ℕ, ◌<◌, ◌==◌, nat_lt, ◌&&◌, ◌||◌, Bool, true, false, if◌then◌else◌, List, [], ◌∷◌, ◌++◌, length, slice_index, count_by}
+use Rattle.std.specs.Prelude.{◌≡◌, ◌≢◌, ℕ, ◌<◌, ◌==◌, nat_lt, ◌&&◌, ◌||◌, Bool, true, false, if◌then◌else◌, List, [], ◌∷◌, length, slice_index, count_by}
 use Rattle.std.specs.List.{list_any}
 use Rattle.nr_ldpcenc.specs.Rows.{Checks}
 use Rattle.nr_peel.specs.Closure.{fixes, stands}
@@ -27,11 +27,6 @@ after_steps c S (s ∷ ss) = if accepts c S s then after_steps c (with_position 
 -- a position is one of the steps'
 abbrev pub is_fixed_by : List Fix → ℕ → Bool
 is_fixed_by steps p = list_any (λ s. s.pos == p) steps
-
--- steps after others: none of these is lost, and more may stand behind them
-pub record Extends (old new : List Fix) : Type 0 where
-  pub more : List Fix
-  pub is : new ≡ old ++ more
 
 -- a fix order from a set: each step accepted in turn, and then every position below K' in the set
 pub record IsFixOrder (c : Checks) (kdash : ℕ) (S : ℕ → Bool) (steps : List Fix) : Type 0 where

@@ -1,5 +1,5 @@
 -- Believed: what a set of known positions fixes by parity rows: a row with one unknown position fixes it.
-use Rattle.std.specs.Prelude.{◌≡◌, ◌≢◌, ℕ, zero, suc, ◌<◌, ◌≤◌, ◌==◌, ◌&&◌, ◌||◌, Bool, true, false, not, List, count_by}
+use Rattle.std.specs.Prelude.{◌≡◌, ◌≢◌, ℕ, zero, suc, ◌<◌, ◌≤◌, ◌==◌, ◌&&◌, ◌||◌, Bool, true, false, List, count_by}
 use Rattle.std.specs.List.{list_all, list_any}
 use Rattle.nr_ldpcenc.specs.Rows.{Checks}
 
@@ -37,14 +37,6 @@ Within S T = (p : ℕ) → S p ≡ true → T p ≡ true
 abbrev pub union : (ℕ → Bool) → (ℕ → Bool) → ℕ → Bool
 union S T p = S p || T p
 
--- no row fixes a position outside the set
-abbrev pub IsClosed : Checks → (ℕ → Bool) → Type 0
-IsClosed c T = (i t p : ℕ) → i < c.rows → t < c.lanes → fixes T (c.row i t) p ≡ true → T p ≡ true
-
--- no row has exactly one position outside the set
-abbrev pub LacksNoneOrSeveral : Checks → (ℕ → Bool) → Type 0
-LacksNoneOrSeveral c S = (i t : ℕ) → i < c.rows → t < c.lanes → count_by (λ p. not (S p)) (c.row i t) ≢ 1
-
 -- how often a position stands in a row
 abbrev pub times_in : ℕ → List ℕ → ℕ
 times_in p row = count_by (λ q. q == p) row
@@ -66,9 +58,3 @@ AgreeOn S v w = (p : ℕ) → S p ≡ true → v p ≡ w p
 pub record IsStopping (c : Checks) (S U : ℕ → Bool) : Type 0 where
   pub beside : (p : ℕ) → U p ≡ true → S p ≡ false
   pub never_one : (i t : ℕ) → i < c.rows → t < c.lanes → count_by U (c.row i t) ≢ 1
-
--- a position of a row is the only one outside a set
-pub record IsOnlyMissing (S : ℕ → Bool) (row : List ℕ) (p : ℕ) : Type 0 where
-  pub stands_there : stands p row ≡ true
-  pub missing : S p ≡ false
-  pub others : list_all (λ q. (q == p) || S q) row ≡ true

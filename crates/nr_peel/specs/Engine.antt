@@ -1,10 +1,7 @@
--- Believed, with internal helpers: what a peeler holds, whichever way it works.
+-- Believed: what a peeler holds, whichever way it works.
 use Rattle.std.specs.Prelude.{ℕ, Bool, List}
-use Rattle.nr_peel.specs.Worklist.{IsWorklistPeeler}
-use Rattle.nr_peel.specs.Learning.{IsSweepPeeler}
-use Rattle.nr_peel.specs.Peeling.{IsPeeled, Peeling}
+use Rattle.nr_peel.specs.Peeling.{Peeling}
 use Rattle.nr_peel.specs.State.{seen_of}
-use Rattle.nr_peel.specs.Taken.{HasFillers}
 use Rattle.nr_peel.specs.declared.fix.Fix.{Fix}
 use Rattle.nr_peel.specs.declared.lifted.Lifted.{Lifted}
 use Rattle.nr_peel.specs.declared.engine.Engine.{Engine}
@@ -39,22 +36,6 @@ abbrev pub lanes_in : Engine → ℕ
 lanes_in (Words s) = s.sweep.counts.operations
 lanes_in (Positions s) = 0
 
--- the count of what is left
-abbrev pub left_in : Engine → ℕ
-left_in (Words s) = s.left
-left_in (Positions s) = s.left
-
 -- what it is seen as
 abbrev pub engine_view : Lifted → Engine → Peeling
 engine_view l w = seen_of l (given_in w) (known_in w) (bits_in w) (order_in w) (touches_in w) (lanes_in w)
-
--- what is true between calls
-abbrev pub IsEngine : Lifted → Engine → Type 0
-IsEngine l (Words s) = IsSweepPeeler l s
-IsEngine l (Positions s) = IsWorklistPeeler l s
-
--- the same, where the fillers alone were given
-pub record IsBegun (l : Lifted) (w : Engine) : Type 0 where
-  pub engine : IsEngine l w
-  pub peeled : IsPeeled (engine_view l w)
-  pub filled : HasFillers l (engine_view l w)

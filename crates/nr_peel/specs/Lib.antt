@@ -1,9 +1,13 @@
 pub mod Closure
+pub mod ClosureInside
 pub mod Certificates
+pub mod CertificatesInside
 pub mod Touches
+pub mod TouchesInside
 pub mod Peeling
 pub mod Laws
 pub mod State
+pub mod StateInside
 pub mod Lanes
 pub mod Hearing
 pub mod Rounds
@@ -17,3 +21,4 @@ pub mod Counters
 pub mod Taken
 pub mod Worklist
 pub mod Engine
+pub mod EngineInside

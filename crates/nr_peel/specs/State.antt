@@ -1,14 +1,9 @@
--- Believed, with internal helpers: the parity checks of a lifted table, and what is seen of a peeler of its code.
+-- Believed: the parity checks of a lifted table, and what is seen of a peeler of its code.
 use Rattle.std.specs.Prelude.{ℕ, Bool, List}
 use Rattle.nr_segment.specs.CodeBlock.{numbers}
-use Rattle.nr_ldpcenc.specs.Rows.{plan_checks, Checks}
 use Rattle.nr_peel.specs.Peeling.{Peeling}
 use Rattle.nr_peel.specs.declared.fix.Fix.{Fix}
 use Rattle.nr_peel.specs.declared.lifted.Lifted.{Lifted}
-
--- the parity checks of a lifted table
-abbrev pub lifted_checks : Lifted → Checks
-lifted_checks l = plan_checks l.table.now l.plan
 
 -- what is seen: the positions that were given, those known and their bits, the steps, and the counts of visits and of lane
 -- operations

@@ -6,7 +6,8 @@ use Rattle.nr_ldpcenc.specs.Rows.{Checks, Meets}
 use Rattle.nr_peel.specs.Certificates.{all_accepted, is_fixed_by}
 use Rattle.nr_peel.specs.Closure.{Within}
 use Rattle.nr_peel.specs.Peeling.{HasBits}
-use Rattle.nr_peel.specs.Touches.{row_length, step_pairs, sum_below}
+use Rattle.nr_peel.specs.Touches.{step_pairs, sum_below}
+use Rattle.nr_peel.specs.TouchesInside.{row_length}
 use Rattle.nr_peel.specs.declared.fix.Fix.{Fix}
 use Rattle.nr_peel.specs.declared.lanes.Lanes.{Lanes}
 

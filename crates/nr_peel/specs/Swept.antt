@@ -4,7 +4,8 @@ use Rattle.nr_bitvec.specs.Bit.{bit}
 use Rattle.nr_shifttable.specs.Accepted.{IsTable}
 use Rattle.nr_peel.specs.Peeling.{Peeling}
 use Rattle.nr_peel.specs.Settled.{HasNonePending, IsHeld, Reaches}
-use Rattle.nr_peel.specs.State.{lifted_checks, seen_of}
+use Rattle.nr_peel.specs.State.{seen_of}
+use Rattle.nr_peel.specs.StateInside.{lifted_checks}
 use Rattle.nr_peel.specs.declared.lifted.Lifted.{Lifted}
 use Rattle.nr_peel.specs.declared.sweep.Sweep.{Sweep}
 

@@ -4,7 +4,7 @@ use Rattle.nr_segment.specs.CodeBlock.{numbers}
 use Rattle.nr_ldpcenc.specs.Codeword.{filler}
 use Rattle.nr_ldpcenc.specs.Rows.{Meets}
 use Rattle.nr_peel.specs.Peeling.{AgreesWith, GivesAll, KeepsAllWords, KeepsBits, KeepsKnown, Peeling, TakesAll, fillers}
-use Rattle.nr_peel.specs.State.{lifted_checks}
+use Rattle.nr_peel.specs.StateInside.{lifted_checks}
 use Rattle.nr_peel.specs.declared.lifted.Lifted.{Lifted}
 
 -- the positions of a set H are given, and those that weren't known take the bits V

@@ -1,5 +1,5 @@
--- Believed, with internal helpers: pairs of a row and a position of it, by which the peeler's visits are bounded.
-use Rattle.std.specs.Prelude.{ℕ, zero, suc, ◌+◌, ◌*◌, ◌/◌, ◌%◌, ◌==◌, Bool, if◌then◌else◌, List, length, count_by, slice_index, sum_by}
+-- Believed: pairs of a row and a position of it, by which the peeler's visits are bounded.
+use Rattle.std.specs.Prelude.{ℕ, zero, suc, ◌+◌, Bool, List, length, count_by, sum_by}
 use Rattle.nr_ldpcenc.specs.Rows.{Checks}
 use Rattle.nr_peel.specs.declared.fix.Fix.{Fix}
 
@@ -12,18 +12,6 @@ sum_below f (suc n) = sum_below f n + f n
 unfoldable pub pairs_in : Checks → (ℕ → Bool) → ℕ
 pairs_in c S = sum_below (λ i. sum_below (λ t. count_by S (c.row i t)) c.lanes) c.rows
 
--- how many positions row number k has; the rows are numbered through, block of rows by block of rows
-abbrev pub row_length : Checks → ℕ → ℕ
-row_length c k = length (c.row (k / c.lanes) (k % c.lanes))
-
--- how many pairs there are of a row and a position of it
-unfoldable pub all_pairs : Checks → ℕ
-all_pairs c = sum_below (row_length c) (c.rows * c.lanes)
-
 -- how many pairs there are of a step and a position of its row
 unfoldable pub step_pairs : Checks → List Fix → ℕ
 step_pairs c steps = sum_by (λ s. length (c.row s.row s.lane)) steps
-
--- how many pairs there are of a row that has no unknown position and a position of it
-unfoldable pub spent_pairs : Checks → List ℕ → ℕ
-spent_pairs c counts = sum_below (λ k. if slice_index counts k == 0 then row_length c k else 0) (c.rows * c.lanes)

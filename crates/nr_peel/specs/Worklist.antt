@@ -4,13 +4,16 @@ use Rattle.nr_bitvec.specs.Bit.{bit}
 use Rattle.nr_lifting.specs.Rings.{marked}
 use Rattle.nr_shifttable.specs.Accepted.{IsTable}
 use Rattle.nr_ldpcenc.specs.Rows.{Checks, Meets}
-use Rattle.nr_peel.specs.Certificates.{Extends, all_accepted, is_fixed_by}
+use Rattle.nr_peel.specs.Certificates.{all_accepted, is_fixed_by}
+use Rattle.nr_peel.specs.CertificatesInside.{Extends}
 use Rattle.nr_peel.specs.Counters.{AreTied, IsListed, IsSettled}
 use Rattle.nr_peel.specs.Peeling.{HasBits, Peeling, left_of}
-use Rattle.nr_peel.specs.State.{lifted_checks, seen_of}
+use Rattle.nr_peel.specs.State.{seen_of}
+use Rattle.nr_peel.specs.StateInside.{lifted_checks}
 use Rattle.nr_peel.specs.Sweeps.{has_count}
 use Rattle.nr_peel.specs.Taken.{HasFillers}
-use Rattle.nr_peel.specs.Touches.{all_pairs, spent_pairs, step_pairs}
+use Rattle.nr_peel.specs.Touches.{step_pairs}
+use Rattle.nr_peel.specs.TouchesInside.{all_pairs, spent_pairs}
 use Rattle.nr_peel.specs.declared.worklist_peeler.WorklistPeeler.{WorklistPeeler}
 use Rattle.nr_peel.specs.declared.lifted.Lifted.{Lifted}
 

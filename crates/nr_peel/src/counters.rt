@@ -3,7 +3,7 @@
 ghost use Rattle.std.specs.Prelude.{◌≡◌, ◌+◌, ◌*◌, ◌^◌, ◌<◌, ◌≤◌, ℕ, if◌then◌else◌, ◌==◌, All, IfOk, count_by, length, slice_index, sum};
 ghost use Rattle.nr_shifttable.specs.Accepted.{IsTable};
 ghost use Rattle.nr_peel.specs.Counters.{HasRoom, IsLowered, AreAtStart, holder};
-ghost use Rattle.nr_peel.specs.State.{lifted_checks};
+ghost use Rattle.nr_peel.specs.StateInside.{lifted_checks};
 
 use crate::lifted::Lifted;
 use nr_shifttable::Entry;

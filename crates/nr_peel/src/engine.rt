@@ -5,19 +5,17 @@ ghost use Rattle.std.specs.Int.{bit_at};
 ghost use Rattle.nr_bitvec.specs.Bit.{bit};
 ghost use Rattle.nr_shifttable.specs.Accepted.{IsTable};
 ghost use Rattle.nr_peel.specs.Peeling.{bit_where, unknown_in};
-ghost use Rattle.nr_peel.specs.State.{lifted_checks};
+ghost use Rattle.nr_peel.specs.StateInside.{lifted_checks};
 ghost use Rattle.nr_peel.specs.Taken.{TakesUp};
 ghost use Rattle.nr_peel.specs.Engine.{
-  IsBegun,
-  IsEngine,
   bits_in,
   given_in,
   known_in,
-  left_in,
   order_in,
   touches_in,
   engine_view,
 };
+ghost use Rattle.nr_peel.specs.EngineInside.{IsBegun, IsEngine, left_in};
 
 use crate::worklist_peeler::WorklistPeeler;
 use crate::fix::Fix;

@@ -12,7 +12,7 @@ ghost use Rattle.nr_ldpcenc.specs.Rows.{positions};
 ghost use Rattle.nr_peel.specs.Due.{due_in, work_of};
 ghost use Rattle.nr_peel.specs.Lanes.{TakesLane, hits, lacks, steps_below, rotated_step};
 ghost use Rattle.nr_peel.specs.Starts.{AreBlank};
-ghost use Rattle.nr_peel.specs.State.{lifted_checks};
+ghost use Rattle.nr_peel.specs.StateInside.{lifted_checks};
 ghost use Rattle.nr_peel.specs.Sweeps.{AreLanes, CountsOf, IsBlockSought, counted_in, has_count};
 
 use crate::fix::Fix;

@@ -45,7 +45,8 @@ pub struct Peeler<'t> {
 
 impl<'t> Model for Peeler<'t> {
     ghost use Rattle.nr_peel.specs.Peeling.{Peeling};
-    ghost use Rattle.nr_peel.specs.Engine.{IsEngine, engine_view};
+    ghost use Rattle.nr_peel.specs.Engine.{engine_view};
+    ghost use Rattle.nr_peel.specs.EngineInside.{IsEngine};
 
     ghost Value = { Peeling };
 

@@ -4,7 +4,7 @@ ghost use Rattle.std.specs.Prelude.{◌≡◌, ◌≢◌, ◌+◌, ◌*◌, ◌^
 ghost use Rattle.nr_shifttable.specs.Accepted.{IsTable};
 ghost use Rattle.nr_peel.specs.Due.{work_of};
 ghost use Rattle.nr_peel.specs.Settled.{CatchesUp, HasNonePending, IsHeld, Keeps};
-ghost use Rattle.nr_peel.specs.State.{lifted_checks};
+ghost use Rattle.nr_peel.specs.StateInside.{lifted_checks};
 ghost use Rattle.nr_peel.specs.Sweeps.{AreLanes, CountsOf, counted_in};
 
 use crate::lifted::Lifted;

@@ -5,7 +5,7 @@ ghost use Rattle.nr_lifting.specs.Rings.{marked};
 ghost use Rattle.nr_shifttable.specs.Accepted.{IsTable};
 ghost use Rattle.nr_peel.specs.Due.{work_of};
 ghost use Rattle.nr_peel.specs.Starts.{AreDegrees, IsBlankSweep};
-ghost use Rattle.nr_peel.specs.State.{lifted_checks};
+ghost use Rattle.nr_peel.specs.StateInside.{lifted_checks};
 ghost use Rattle.nr_peel.specs.Sweeps.{AreLanes, AreSought, CountsOf, counted_in, has_count, searched_pairs};
 
 use crate::lanes::Lanes;

@@ -8,7 +8,7 @@ ghost use Rattle.nr_shifttable.specs.Accepted.{IsTable};
 ghost use Rattle.nr_peel.specs.Learning.{IsFilled, IsSweepPeeler, Learns};
 ghost use Rattle.nr_peel.specs.Peeling.{bit_where, fillers, left_of};
 ghost use Rattle.nr_peel.specs.Settled.{HasNonePending, IsHeld, Keeps};
-ghost use Rattle.nr_peel.specs.State.{lifted_checks};
+ghost use Rattle.nr_peel.specs.StateInside.{lifted_checks};
 
 use crate::lifted::Lifted;
 use crate::sweep::Sweep;

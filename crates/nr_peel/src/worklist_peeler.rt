@@ -9,10 +9,10 @@ ghost use Rattle.nr_shifttable.specs.Tails.{value_in};
 ghost use Rattle.nr_ldpcenc.specs.Parity.{parity};
 ghost use Rattle.nr_ldpcenc.specs.Rows.{one_at};
 ghost use Rattle.nr_peel.specs.Worklist.{GivesMarks, Grows, IsBlank, IsBusy, IsWorklistPeeler, IsCounted, IsNew, IsVisited, IsWorklistSound, position_view};
-ghost use Rattle.nr_peel.specs.Closure.{IsOnlyMissing};
+ghost use Rattle.nr_peel.specs.ClosureInside.{IsOnlyMissing};
 ghost use Rattle.nr_peel.specs.Counters.{AreTied, Follows, IsListed, IsLowered, IsSettled, holder};
 ghost use Rattle.nr_peel.specs.Peeling.{bit_where, unknown_in};
-ghost use Rattle.nr_peel.specs.State.{lifted_checks};
+ghost use Rattle.nr_peel.specs.StateInside.{lifted_checks};
 ghost use Rattle.nr_peel.specs.Taken.{TakesUp};
 
 use crate::counters::Counters;

@@ -8,7 +8,7 @@ use Rattle.std.proofs.lemmas.Bool.{ltb-true}
 use Rattle.std.proofs.lemmas.Bool.Decides.{nat_tests}
 use Rattle.nr_shifttable.specs.declared.entry.Entry.{Entry}
 use Rattle.nr_shifttable.specs.Accepted.{row_of, column_of, Ascending}
-use Rattle.nr_shifttable.specs.Orders.{IsStart}
+use Rattle.nr_shifttable.specs.OrdersInside.{IsStart}
 use Rattle.nr_shifttable.proofs.Order.{ascending-narrow}
 use Rattle.nr_shifttable.proofs.Slices.{filter_none, partition_order, slice_of_key}
 

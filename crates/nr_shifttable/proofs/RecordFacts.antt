@@ -10,7 +10,8 @@ use Rattle.csv.specs.declared.parser.State.{State}
 use Rattle.csv.specs.declared.parser.State.TheVariants as st
 use Rattle.csv.specs.declared.reader.Reader.{Reader}
 use Rattle.csv.specs.declared.reader.Trim.TheVariants as trim
-use Rattle.nr_shifttable.specs.Records.{IsPlainReader, Record, records_left, rows_before_end, text_left}
+use Rattle.nr_shifttable.specs.Records.{Record, records_left, rows_before_end, text_left}
+use Rattle.nr_shifttable.specs.Inside.{IsPlainReader}
 
 -- what is in an option is determined
 pub some-same : {X : Type 0} {x y : X} → Some x ≡ Some y → x ≡ y

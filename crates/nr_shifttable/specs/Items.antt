@@ -1,4 +1,4 @@
--- Believed, with internal helpers: the items of a table file: what its records say, or the first fault.
+-- Believed: the items of a table file: what its records say, or the first fault.
 use Rattle.std.specs.Prelude.{◌≡◌, ℕ, ◌+◌, ◌<◌, ◌==◌, ◌&&◌, Bool, true, false, nat_lt, not, if◌then◌else◌, List, [], ◌∷◌, ◌++◌, length, codes, bytes_eq, All, AllPairs, Option, Some, None, option_and_then, option_map, Result, Ok, Err}
 use Rattle.std.specs.List.{list_all, list_any}
 use Rattle.nr_graphpick.specs.Graph.{cols_of, rows_of}
@@ -20,10 +20,6 @@ is_header (f ∷ fs) = bytes_eq (stripped f) (codes "graph")
 abbrev pub short_numbers : Record → Option (List ℕ)
 short_numbers [] = Some []
 short_numbers (f ∷ fs) = option_and_then (λ n. option_map (λ ns. n ∷ ns) (short_numbers fs)) (short_number (stripped f))
-
--- values that fit 16 bits each, or none
-abbrev pub short_values : List ℕ → Option (List ℕ)
-short_values values = if list_all (λ v. nat_lt v 65536) values then Some values else None
 
 -- the base graph of a number
 abbrev pub graph_of : ℕ → Option Graph

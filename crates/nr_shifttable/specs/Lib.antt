@@ -4,6 +4,7 @@ pub mod Fields
 pub mod Items
 pub mod Accepted
 pub mod Orders
+pub mod OrdersInside
 pub mod Tails
 pub use Rattle.nr_graphpick.specs.Graph
 pub use Rattle.nr_refusal.specs.Refusal
@@ -12,3 +13,4 @@ pub mod Written
 pub mod Faults
 pub mod RecordOrder
 pub mod Listed
+pub mod Inside

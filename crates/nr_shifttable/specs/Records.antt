@@ -1,12 +1,10 @@
--- Believed, with internal helpers: the records of a text, as the crate `csv` reads it. Commas separate fields, a field may stand in double quotes,
+-- Believed: the records of a text, as the crate `csv` reads it. Commas separate fields, a field may stand in double quotes,
 -- and each record is a line. A blank line is no record. No record is taken as a header here.
-use Rattle.std.specs.Prelude.{◌≡◌, ◌+◌, ℕ, Bool, true, false, if◌then◌else◌, List, [], ◌∷◌, length, MatchBool, Option, Some, None}
+use Rattle.std.specs.Prelude.{◌≡◌, ◌+◌, ℕ, Bool, if◌then◌else◌, List, [], ◌∷◌, length, MatchBool, Option, Some, None}
 use Rattle.std.specs.Borrow.{Bor}
-use Rattle.csv.specs.Machine.{ends_at_end}
-use Rattle.csv.specs.Reading.{Ready, default_config, has_failed, is_flexible, reader_config, reader_state, reader_trim, records, records_from, source_of, strip_bom}
+use Rattle.csv.specs.Reading.{default_config, reader_state, records, records_from, source_of, strip_bom}
 use Rattle.csv.specs.declared.parser.State.{State}
 use Rattle.csv.specs.declared.reader.Reader.{Reader}
-use Rattle.csv.specs.declared.reader.Trim.TheVariants as trim
 
 -- a record is the list of its fields, and a field its octets
 abbrev pub Record : Type 0
@@ -36,12 +34,3 @@ rows_before_end ended r = if ended then [] else records_known (reader_state r) (
 -- The next record is taken off those left, or there is none.
 abbrev pub TakesRow : List Record → List Record → Bool → Record → Type 0
 TakesRow old new found row = MatchBool found (old ≡ row ∷ new) ((old ≡ []) × (new ≡ []))
-
--- a reader that goes on, with no header, no trimming and records of any length, and stands between two records
-pub record IsPlainReader (r : Reader (Bor (List ℕ))) : Type 0 where
-  pub alive : has_failed r ≡ false
-  pub config : reader_config r ≡ default_config
-  pub trim : reader_trim r ≡ trim.None
-  pub flexible : is_flexible r ≡ true
-  pub ready : Ready r
-  pub between : ends_at_end (reader_state r) ≡ false

@@ -3,8 +3,10 @@
 ghost use Rattle.std.specs.Prelude.{◌≡◌, ◌^◌, ◌<◌, [], length, drop, nat_lt, if◌then◌else◌, Some, None, All, IfOk, OnErr, OnOk};
 ghost use Rattle.std.specs.List.{list_all};
 ghost use Rattle.csv.specs.Records.{fields_of};
-ghost use Rattle.nr_shifttable.specs.Items.{Apart, IsInside, has_place, is_header, item_of, item_of_numbers, items_said, short_numbers, short_values, same_place, with_item};
-ghost use Rattle.nr_shifttable.specs.Orders.{AreBefore, key_of};
+ghost use Rattle.nr_shifttable.specs.Items.{Apart, IsInside, has_place, is_header, item_of, item_of_numbers, items_said, short_numbers, same_place, with_item};
+ghost use Rattle.nr_shifttable.specs.Inside.{short_values};
+ghost use Rattle.nr_shifttable.specs.Orders.{key_of};
+ghost use Rattle.nr_shifttable.specs.OrdersInside.{AreBefore};
 ghost use Rattle.nr_shifttable.specs.Records.{records_of};
 ghost use Rattle.nr_refusal.specs.Refusal.{Gives};
 

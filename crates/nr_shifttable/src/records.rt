@@ -2,7 +2,8 @@
 
 ghost use Rattle.std.specs.Prelude.{◌≡◌, [], ◌∷◌, ◌≤◌, if◌then◌else◌, true, false, length, MatchBool, IfOk, OnErr};
 ghost use Rattle.csv.specs.Records.{fields_of};
-ghost use Rattle.nr_shifttable.specs.Records.{IsPlainReader, TakesRow, records_of, rows_before_end};
+ghost use Rattle.nr_shifttable.specs.Records.{TakesRow, records_of, rows_before_end};
+ghost use Rattle.nr_shifttable.specs.Inside.{IsPlainReader};
 
 use csv::{ByteRecord, Reader, ReaderBuilder};
 use std::alloc::{AllocError, Global};
@@ -18,7 +19,8 @@ pub struct Records<'a> {
 
 impl<'a> Model for Records<'a> {
     ghost use Rattle.std.specs.Prelude.{◌≡◌, ℕ, List, false};
-    ghost use Rattle.nr_shifttable.specs.Records.{IsPlainReader, rows_before_end};
+    ghost use Rattle.nr_shifttable.specs.Records.{rows_before_end};
+    ghost use Rattle.nr_shifttable.specs.Inside.{IsPlainReader};
 
     ghost Value = { List (List (List ℕ)) };
 

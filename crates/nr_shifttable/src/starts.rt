@@ -4,7 +4,7 @@
 ghost use Rattle.std.specs.Prelude.{◌≡◌, ◌+◌, ◌<◌, ◌≤◌, length};
 ghost use Rattle.std.specs.List.{AllWithin};
 ghost use Rattle.nr_shifttable.specs.Accepted.{row_of, column_of, Ascending};
-ghost use Rattle.nr_shifttable.specs.Orders.{IsStart, AreRowStarts, AreColumnStarts};
+ghost use Rattle.nr_shifttable.specs.OrdersInside.{IsStart, AreRowStarts, AreColumnStarts};
 
 use crate::entry::Entry;
 

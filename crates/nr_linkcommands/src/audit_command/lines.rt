@@ -2,7 +2,8 @@
 
 ghost use Rattle.std.specs.Prelude.{IfOk, length, not, ◌&&◌, ◌++◌, ◌+◌, ◌<◌, ◌≡◌};
 ghost use Rattle.std.specs.String.{string_bytes};
-ghost use Rattle.nr_linkcommands.specs.AuditLines.{audit_line, gained, order_line, stuck_line};
+ghost use Rattle.nr_linkcommands.specs.AuditLines.{audit_line, order_line, stuck_line};
+ghost use Rattle.nr_linkcommands.specs.Inside.{gained};
 ghost use Rattle.nr_bitvec.specs.Bit.{bit};
 
 use nr_blockdesk::Receiver;

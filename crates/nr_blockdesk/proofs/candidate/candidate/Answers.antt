@@ -4,7 +4,7 @@ use Rattle.std.proofs.lemmas.Nat.{mod_below}
 use Rattle.std.proofs.Math.Nat.{div-lt_iff_lt-mul}
 use Rattle.nr_peel.specs.Peeling.{Peeling}
 use Rattle.nr_segment.specs.CodeBlock.{numbers}
-use Rattle.nr_blockdesk.specs.Receiving.{known_bit}
+use Rattle.nr_blockdesk.specs.ReceivingInside.{known_bit}
 use Rattle.nr_blockdesk.proofs.Encoding.{read-more}
 use Rattle.nr_blockdesk.proofs.candidate.candidate.Goals as goal
 

@@ -1,7 +1,7 @@
 -- The bits so far are read.
 use Rattle.std.proofs.Common.{◌≡◌, ℕ, ◌-◌, ◌<◌, ◌≤◌, length}
 use Rattle.nr_segment.specs.CodeBlock.{numbers}
-use Rattle.nr_blockdesk.specs.Receiving.{IsRead}
+use Rattle.nr_blockdesk.specs.ReceivingInside.{IsRead}
 use Rattle.nr_blockdesk.proofs.candidate.candidate.Given as goal
 
 abbrev pub decreases-loop-i : goal.decreases-loop-i

@@ -5,7 +5,7 @@ use Rattle.nr_ldpcenc.specs.Codeword.{codeword}
 use Rattle.nr_segment.specs.Plan.{word_size}
 use Rattle.nr_segment.specs.CodeBlock.{code_bits, numbers}
 use Rattle.nr_blockdesk.specs.Heard.{heard_of}
-use Rattle.nr_blockdesk.specs.Receiving.{AreWords, Fits, word_at}
+use Rattle.nr_blockdesk.specs.ReceivingInside.{AreWords, Fits, word_at}
 use Rattle.nr_blockdesk.proofs.encoder.explains.Given as goal
 
 abbrev pub invariant-loop-r : goal.invariant-loop-r

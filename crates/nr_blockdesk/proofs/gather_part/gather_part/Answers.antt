@@ -4,7 +4,7 @@ use Rattle.std.specs.List.{list_any, range_with_len}
 use Rattle.nr_bitvec.specs.Bit.{bit}
 use Rattle.nr_graphpick.specs.Graph.{cols_of}
 use Rattle.nr_harqbuf.specs.Masks.{says}
-use Rattle.nr_blockdesk.specs.Marks.{bit_says}
+use Rattle.nr_blockdesk.specs.Inside.{bit_says}
 use Rattle.nr_blockdesk.proofs.Merging.{empty-bit}
 use Rattle.nr_blockdesk.proofs.Telling.{none-more, run-more}
 use Rattle.nr_blockdesk.proofs.gather_part.gather_part.Goals as goal

@@ -3,8 +3,9 @@ use Rattle.std.proofs.Common.{◌≡◌, ℕ, ◌*◌, ◌<◌, ◌≤◌, lengt
 use Rattle.nr_graphpick.specs.Graph.{cols_of}
 use Rattle.nr_peel.specs.Peeling.{Peeling}
 use Rattle.nr_blockdesk.specs.Heard.{heard_of}
-use Rattle.nr_blockdesk.specs.Marks.{HasRoomFor, heards}
-use Rattle.nr_blockdesk.specs.Receiving.{AllAgree, HearsPart, piece}
+use Rattle.nr_blockdesk.specs.Marks.{heards}
+use Rattle.nr_blockdesk.specs.Inside.{HasRoomFor}
+use Rattle.nr_blockdesk.specs.ReceivingInside.{AllAgree, HearsPart, piece}
 use Rattle.nr_blockdesk.specs.Telling.{AreEmpty}
 use Rattle.nr_blockdesk.proofs.hearing.hear.Given as goal
 

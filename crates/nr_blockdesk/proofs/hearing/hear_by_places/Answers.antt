@@ -7,8 +7,9 @@ use Rattle.nr_ratematch.specs.Selection.{place_of}
 use Rattle.nr_interleave.specs.Interleaving.{seat_of}
 use Rattle.nr_blockdesk.specs.Explains.{heard_at}
 use Rattle.nr_blockdesk.specs.Hearing.{heard_bit}
-use Rattle.nr_blockdesk.specs.Marks.{heards_of, place_heard}
-use Rattle.nr_blockdesk.specs.Receiving.{Fits, IsNews, Agrees, part_hearings}
+use Rattle.nr_blockdesk.specs.Marks.{place_heard}
+use Rattle.nr_blockdesk.specs.Inside.{heards_of}
+use Rattle.nr_blockdesk.specs.ReceivingInside.{Fits, IsNews, Agrees, part_hearings}
 use Rattle.nr_blockdesk.specs.declared.part_masks.PartMasks.{PartMasks}
 use Rattle.nr_blockdesk.proofs.Hears.{first-kept, first-set, fits-before, part-none, part-some, recorded-more, tells-more}
 use Rattle.nr_blockdesk.proofs.Marked.{heard-at, length-heards, some-marked}

@@ -4,8 +4,8 @@ use Rattle.std.proofs.Common.{◌≡◌, ℕ, ◌*◌, Bool, List, ◌++◌, len
 use Rattle.nr_bitvec.specs.Bit.{bit}
 use Rattle.nr_graphpick.specs.Graph.{cols_of}
 use Rattle.nr_harqbuf.specs.Record.{Observation, record_of}
-use Rattle.nr_blockdesk.specs.Marks.{heards_of}
-use Rattle.nr_blockdesk.specs.Receiving.{Fits, IsNews, Agrees, part_hearings}
+use Rattle.nr_blockdesk.specs.Inside.{heards_of}
+use Rattle.nr_blockdesk.specs.ReceivingInside.{Fits, IsNews, Agrees, part_hearings}
 use Rattle.nr_blockdesk.proofs.hearing.hear_by_places.Given as goal
 
 abbrev pub invariant-loop-m : goal.invariant-loop-m

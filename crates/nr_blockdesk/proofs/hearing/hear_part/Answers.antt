@@ -1,6 +1,6 @@
 use Rattle.std.proofs.Common.{length, sym, ◌∙◌}
-use Rattle.nr_blockdesk.specs.Marks.{heards_of}
-use Rattle.nr_blockdesk.specs.Receiving.{part_hearings}
+use Rattle.nr_blockdesk.specs.Inside.{heards_of}
+use Rattle.nr_blockdesk.specs.ReceivingInside.{part_hearings}
 use Rattle.nr_blockdesk.proofs.Telling.{says-part}
 use Rattle.nr_blockdesk.proofs.hearing.hear_part.Goals as goal
 

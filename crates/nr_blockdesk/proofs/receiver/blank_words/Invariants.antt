@@ -3,7 +3,7 @@ use Rattle.std.proofs.Common.{◌≤◌}
 use Rattle.std.specs.Prelude.{vec_capacity}
 use Rattle.nr_segment.specs.Plan.{word_size}
 use Rattle.nr_segment.specs.CodeBlock.{numbers}
-use Rattle.nr_blockdesk.specs.Receiving.{AreWords}
+use Rattle.nr_blockdesk.specs.ReceivingInside.{AreWords}
 use Rattle.nr_blockdesk.proofs.receiver.blank_words.Given as goal
 
 abbrev pub invariant-loop : goal.invariant-loop

@@ -1,5 +1,6 @@
 use Rattle.std.proofs.Common.{◌≡◌, ℕ, ◌<◌, get_or}
-use Rattle.nr_calls.specs.Coding.{coded_octet, coded_of}
+use Rattle.nr_calls.specs.Coding.{coded_octet}
+use Rattle.nr_calls.specs.Inside.{coded_of}
 use Rattle.nr_calls.proofs.coding.write_coded.Given as goal
 
 -- the octets so far

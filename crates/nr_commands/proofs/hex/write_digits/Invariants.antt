@@ -1,6 +1,6 @@
 use Rattle.std.proofs.Common.{◌≡◌, ◌*◌, take}
 use Rattle.std.specs.List.{flat_map}
-use Rattle.nr_commands.specs.Hex.{two_digits}
+use Rattle.nr_commands.specs.Inside.{two_digits}
 use Rattle.nr_commands.proofs.hex.write_digits.Given as goal
 
 -- the digits of the sixteens of octets so far

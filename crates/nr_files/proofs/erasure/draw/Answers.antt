@@ -1,6 +1,6 @@
 use Rattle.std.proofs.Common.{◌≡◌, ◌+◌, ◌-◌, ◌++◌, [], ◌∷◌, ap, refl, sym, ◌∙◌, arith}
 use Rattle.nr_bitvec.specs.BitList.{low_first}
-use Rattle.nr_files.specs.Erasures.{marks_drawn}
+use Rattle.nr_files.specs.Inside.{marks_drawn}
 use Rattle.nr_files.proofs.DrawnFacts.{marked-more}
 use Rattle.nr_files.proofs.MarkWords.{low-more, low-none, mark-none, none-zero, number-small, number-tested}
 use Rattle.nr_files.proofs.erasure.draw.Goals as goal

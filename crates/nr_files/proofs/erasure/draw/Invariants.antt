@@ -1,7 +1,7 @@
 -- The marks so far, and those of the words that are left, are all.
 use Rattle.std.proofs.Common.{◌≡◌, ℕ, ◌+◌, ◌-◌, ◌++◌}
 use Rattle.nr_bitvec.specs.BitList.{low_first}
-use Rattle.nr_files.specs.Erasures.{marks_drawn}
+use Rattle.nr_files.specs.Inside.{marks_drawn}
 use Rattle.nr_files.proofs.MarkWords.{HasNone}
 use Rattle.nr_files.proofs.erasure.draw.Given as goal
 

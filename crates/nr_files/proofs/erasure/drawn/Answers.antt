@@ -1,5 +1,5 @@
 use Rattle.std.proofs.Common.{◌≡◌, ◌+◌, ◌-◌, ◌*◌, ◌++◌, ◌∙◌, length, min, ap, sym, arith}
-use Rattle.nr_files.specs.Erasures.{marks_drawn}
+use Rattle.nr_files.specs.Inside.{marks_drawn}
 use Rattle.nr_files.proofs.DrawnFacts.{drawn-more, marked-none}
 use Rattle.nr_files.proofs.MarkWords.{pushed-long}
 use Rattle.nr_files.proofs.erasure.drawn.Goals as goal

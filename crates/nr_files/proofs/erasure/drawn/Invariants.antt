@@ -1,7 +1,8 @@
 -- The marks so far, and those of the words that are left, are all; and there is room for them.
 use Rattle.std.proofs.Common.{◌≡◌, ◌+◌, ◌-◌, ◌*◌, ◌≤◌, ◌++◌, length, map, min}
 use Rattle.std.specs.Prelude.{nat_lt}
-use Rattle.nr_files.specs.Erasures.{marks_drawn, words_drawn}
+use Rattle.nr_files.specs.Erasures.{words_drawn}
+use Rattle.nr_files.specs.Inside.{marks_drawn}
 use Rattle.nr_files.proofs.erasure.drawn.Given as goal
 
 abbrev pub invariant-loop-i : goal.invariant-loop-i

@@ -1,7 +1,8 @@
 use Rattle.std.proofs.Common.{sym, subst, codes, List, inl, inr}
 use Rattle.std.proofs.lemmas.Result.{IfOk-weaker, err_from_is_err_and}
 use Rattle.clap.specs.Words.{Row, found_of, rows_of}
-use Rattle.nr_job.specs.Jobs.{IsCheckBy, IsTextAt}
+use Rattle.nr_job.specs.Jobs.{IsTextAt}
+use Rattle.nr_job.specs.JobsInside.{IsCheckBy}
 use Rattle.nr_job.proofs.JobLemmas.{check-faultless, check-free, check-job, check-job-faults, check-takes, check_rows-matches}
 use Rattle.nr_job.proofs.command_line.check_of.Goals as goal
 

@@ -1,7 +1,8 @@
 use Rattle.std.proofs.Common.{sym, subst, codes, List, inl, inr}
 use Rattle.std.proofs.lemmas.Result.{IfOk-weaker, err_from_is_err_and}
 use Rattle.clap.specs.Words.{Row, found_of, rows_of}
-use Rattle.nr_job.specs.Jobs.{IsCutBy, IsNumberAt, IsTextAt}
+use Rattle.nr_job.specs.Jobs.{IsNumberAt, IsTextAt}
+use Rattle.nr_job.specs.JobsInside.{IsCutBy}
 use Rattle.nr_job.proofs.JobLemmas.{cut-faultless, cut-free, cut-job, cut-job-faults, cut-takes, cut_rows-matches}
 use Rattle.nr_job.proofs.command_line.cut_of.Goals as goal
 

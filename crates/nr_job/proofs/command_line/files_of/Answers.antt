@@ -1,7 +1,7 @@
 use Rattle.std.proofs.Common.{sym, subst, List, inl, inr}
 use Rattle.std.proofs.lemmas.Result.{err_from_is_err_and}
 use Rattle.clap.specs.Words.{Row}
-use Rattle.nr_job.specs.Jobs.{IsGivenOnce, name_of}
+use Rattle.nr_job.specs.JobsInside.{IsGivenOnce, name_of}
 use Rattle.nr_job.proofs.JobLemmas.{files-faultless, files-free, files-job, files-job-faults, files-takes, files_rows-matches}
 use Rattle.nr_job.proofs.command_line.files_of.Goals as goal
 

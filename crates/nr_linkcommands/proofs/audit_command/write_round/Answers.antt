@@ -1,6 +1,6 @@
 use Rattle.std.proofs.Common.{◌≡◌, ◌-◌, ◌<◌, List, length, take, drop, ap, sym, subst, ◌∙◌, arith, length-drop, take_all}
 use Rattle.std.proofs.lemmas.Result.{err_from_is_err_and}
-use Rattle.nr_linkcommands.specs.AuditText.{HasHeard}
+use Rattle.nr_linkcommands.specs.Inside.{HasHeard}
 use Rattle.nr_linkcommands.specs.RunLines.{process_words}
 use Rattle.nr_files.specs.Rounds.{of_process, round_of}
 use Rattle.nr_linkcommands.specs.RunText.{received}

@@ -1,6 +1,6 @@
 use Rattle.std.proofs.Common.{◌≡◌, ◌<◌, false, get_or, sym, ap, ◌∙◌, arith}
 use Rattle.nr_bitvec.specs.Bit.{bit}
-use Rattle.nr_peel.specs.State.{lifted_checks}
+use Rattle.nr_peel.specs.StateInside.{lifted_checks}
 use Rattle.nr_peel.proofs.Judged.{accepts_without, weighed_known, weighed_out, weighed_pos}
 use Rattle.nr_peel.proofs.RowEntries.{entry_at}
 use Rattle.nr_peel.proofs.check.accepts.Goals as goal

@@ -1,5 +1,5 @@
 use Rattle.nr_bitvec.specs.Bit.{bit}
-use Rattle.nr_peel.specs.State.{lifted_checks}
+use Rattle.nr_peel.specs.StateInside.{lifted_checks}
 use Rattle.nr_peel.proofs.Judged.{IsWeighed}
 use Rattle.nr_peel.proofs.check.accepts.Given as goal
 

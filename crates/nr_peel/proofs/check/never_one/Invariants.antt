@@ -1,7 +1,7 @@
 use Rattle.std.proofs.Common.{◌≢◌, ℕ, ◌<◌, ◌/◌, ◌%◌}
 use Rattle.std.specs.Prelude.{count_by}
 use Rattle.nr_peel.specs.Closure.{stands}
-use Rattle.nr_peel.specs.State.{lifted_checks}
+use Rattle.nr_peel.specs.StateInside.{lifted_checks}
 use Rattle.nr_peel.proofs.check.never_one.Given as goal
 
 -- no row so far has exactly one member

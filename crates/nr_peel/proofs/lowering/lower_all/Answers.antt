@@ -4,7 +4,7 @@ use Rattle.nr_bitvec.specs.Bit.{bit}
 use Rattle.nr_graphpick.specs.Graph.{cols_of, rows_of}
 use Rattle.nr_segment.specs.CodeBlock.{numbers}
 use Rattle.nr_shifttable.specs.Accepted.{column_of, entries_in}
-use Rattle.nr_peel.specs.State.{lifted_checks}
+use Rattle.nr_peel.specs.StateInside.{lifted_checks}
 use Rattle.nr_peel.proofs.Falling.{column_inside, fallen_all, fallen_clear, fallen_enough, fallen_next, fallen_none, fallen_skip}
 use Rattle.nr_peel.proofs.Tied.{column_rows}
 use Rattle.nr_peel.proofs.lowering.lower_all.Goals as goal

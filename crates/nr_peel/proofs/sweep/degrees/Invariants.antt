@@ -1,7 +1,7 @@
 use Rattle.std.proofs.Common.{◌≡◌, ◌<◌, ◌+◌, ◌*◌, ℕ, length}
 use Rattle.std.specs.Prelude.{slice_index}
 use Rattle.nr_shifttable.specs.Accepted.{entries_in, row_of}
-use Rattle.nr_peel.specs.State.{lifted_checks}
+use Rattle.nr_peel.specs.StateInside.{lifted_checks}
 use Rattle.nr_peel.proofs.sweep.degrees.Given as goal
 
 -- the rows so far have their counts

@@ -1,7 +1,7 @@
 use Rattle.std.proofs.Common.{◌≡◌, ◌*◌, ◌==◌, ◌||◌, false, true, length, sym, ap, ◌∙◌, arith}
 use Rattle.std.proofs.lemmas.List.{length-replicate, length-set}
 use Rattle.nr_bitvec.specs.Bit.{bit}
-use Rattle.nr_peel.specs.State.{lifted_checks}
+use Rattle.nr_peel.specs.StateInside.{lifted_checks}
 use Rattle.nr_peel.proofs.Filled.{bit-zeros, filler_more, filler_none, fillers_are, fillers_fit}
 use Rattle.nr_peel.proofs.Tied.{bit-mark}
 use Rattle.nr_peel.proofs.sweep_peeler.filler_marks.Goals as goal

@@ -1,6 +1,6 @@
 use Rattle.std.proofs.Common.{◌+◌, subst, sym, arith}
 use Rattle.nr_shifttable.specs.declared.entry.Entry.{Entry}
-use Rattle.nr_shifttable.specs.Orders.{IsStart}
+use Rattle.nr_shifttable.specs.OrdersInside.{IsStart}
 use Rattle.nr_shifttable.proofs.Between.{starts-order, starts-slice}
 use Rattle.nr_shifttable.proofs.starts.col_between.Goals as goal
 

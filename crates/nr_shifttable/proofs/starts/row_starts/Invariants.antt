@@ -1,6 +1,6 @@
 use Rattle.std.proofs.Common.{◌≡◌, ◌<◌, ◌≤◌, length}
 use Rattle.std.specs.List.{AllWithin}
-use Rattle.nr_shifttable.specs.Orders.{AreRowStarts}
+use Rattle.nr_shifttable.specs.OrdersInside.{AreRowStarts}
 use Rattle.nr_shifttable.proofs.starts.row_starts.Given as goal
 
 -- the starts so far

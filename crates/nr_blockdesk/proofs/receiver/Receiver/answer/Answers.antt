@@ -4,7 +4,8 @@ use Rattle.std.proofs.lemmas.List.{length-take-le}
 use Rattle.nr_peel.specs.Peeling.{Peeling, left_of}
 use Rattle.nr_blockdesk.specs.Link.{link_of}
 use Rattle.nr_blockdesk.specs.Outcome.{ExplainedBy, all_fixed}
-use Rattle.nr_blockdesk.specs.Receiving.{IsExplained, ReceiverView, Stands}
+use Rattle.nr_blockdesk.specs.Receiving.{ReceiverView}
+use Rattle.nr_blockdesk.specs.ReceivingInside.{IsExplained, Stands}
 use Rattle.nr_blockdesk.proofs.Decided.{all-known}
 use Rattle.nr_blockdesk.proofs.receiver.Receiver.answer.Goals as goal
 

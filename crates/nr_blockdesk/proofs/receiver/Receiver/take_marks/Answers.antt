@@ -15,7 +15,8 @@ use Rattle.nr_transmission.specs.declared.tx.Tx.{Tx}
 use Rattle.nr_blockdesk.proofs.Marked.{length-heards, room-less}
 use Rattle.nr_blockdesk.specs.Heard.{IsRecordOf, heard_of}
 use Rattle.nr_blockdesk.specs.Link.{link_of}
-use Rattle.nr_blockdesk.specs.Receiving.{AllAgree, IsDesk, IsSized, ReceiverView, RefusesAs, Stands, peeling_of}
+use Rattle.nr_blockdesk.specs.Receiving.{ReceiverView, RefusesAs, peeling_of}
+use Rattle.nr_blockdesk.specs.ReceivingInside.{AllAgree, IsDesk, IsSized, Stands}
 use Rattle.nr_blockdesk.specs.Telling.{AreEmpty}
 use Rattle.nr_blockdesk.proofs.Decided.{outcome-of_record, sized-of}
 use Rattle.nr_blockdesk.proofs.Kept.{stands-after, part_masks-of, written}

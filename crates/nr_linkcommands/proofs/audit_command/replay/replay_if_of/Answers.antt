@@ -2,7 +2,7 @@ use Rattle.std.proofs.Common.{◌≡◌, ◌==◌, ◌++◌, ◌∷◌, [], true
 use Rattle.std.specs.Prelude.{OnOk}
 use Rattle.std.proofs.lemmas.Bool.Decides.{nat_tests}
 use Rattle.nr_blockdesk.specs.Explains.{Reception}
-use Rattle.nr_linkcommands.specs.AuditText.{HasHeard}
+use Rattle.nr_linkcommands.specs.Inside.{HasHeard}
 use Rattle.nr_files.specs.Rounds.{of_process}
 use Rattle.nr_linkcommands.specs.RunText.{received}
 use Rattle.nr_linkcommands.proofs.AuditLemmas.{heard_same, received-other, received-own}

@@ -3,7 +3,7 @@ use Rattle.nr_blockdesk.specs.Explains.{IsAccepted, Reception, reception}
 use Rattle.nr_blockdesk.specs.Heard.{IsRecordOf}
 use Rattle.nr_blockdesk.specs.Link.{Link}
 use Rattle.nr_blockdesk.specs.declared.heard.Heard.{Heard}
-use Rattle.nr_linkcommands.specs.AuditText.{HasHeard}
+use Rattle.nr_linkcommands.specs.Inside.{HasHeard}
 use Rattle.nr_linkcommands.specs.Exchanges.{IsExchanged, reception_of}
 use Rattle.nr_linkcommands.specs.RunText.{received_of}
 use Rattle.nr_linkcommands.proofs.AuditLemmas.{heard_same}

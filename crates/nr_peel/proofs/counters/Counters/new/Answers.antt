@@ -5,8 +5,8 @@ use Rattle.nr_shifttable.specs.declared.entry.Entry.{Entry}
 use Rattle.nr_shifttable.specs.Accepted.{entries_in, row_of}
 use Rattle.nr_shifttable.specs.Tails.{value_in}
 use Rattle.nr_ldpcenc.specs.Rows.{one_at}
-use Rattle.nr_peel.specs.State.{lifted_checks}
-use Rattle.nr_peel.specs.Touches.{row_length}
+use Rattle.nr_peel.specs.StateInside.{lifted_checks}
+use Rattle.nr_peel.specs.TouchesInside.{row_length}
 use Rattle.nr_peel.proofs.Grid.{rows_short}
 use Rattle.nr_peel.proofs.Built.{IsBuilt, built_more, built_ready, built_start}
 use Rattle.nr_peel.proofs.counters.Counters.new.Goals as goal

@@ -1,5 +1,5 @@
 use Rattle.std.proofs.Common.{◌∙◌, refl, arith}
-use Rattle.nr_peel.specs.State.{lifted_checks}
+use Rattle.nr_peel.specs.StateInside.{lifted_checks}
 use Rattle.nr_peel.proofs.Held.{known_counted, enough_pending, falls_all}
 use Rattle.std.specs.Prelude.{count_by}
 use Rattle.nr_bitvec.specs.Bit.{bit}

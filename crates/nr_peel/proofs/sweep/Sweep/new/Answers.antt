@@ -1,6 +1,6 @@
 use Rattle.std.proofs.Common.{◌≤◌, ◌*◌, refl, sym, ap, ◌∙◌, arith}
 use Rattle.nr_peel.specs.Due.{work_of}
-use Rattle.nr_peel.specs.State.{lifted_checks}
+use Rattle.nr_peel.specs.StateInside.{lifted_checks}
 use Rattle.nr_peel.specs.declared.sweep.Sweep.{Sweep}
 use Rattle.nr_peel.proofs.Blank.{blank_sweep}
 use Rattle.nr_peel.proofs.Starting.{rows_most}

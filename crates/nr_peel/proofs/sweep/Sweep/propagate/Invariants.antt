@@ -1,7 +1,7 @@
 use Rattle.std.proofs.Common.{◌-◌, ◌*◌, ◌≤◌}
 use Rattle.nr_lifting.specs.Rings.{marked}
 use Rattle.nr_peel.specs.Settled.{HasNonePending, IsHeld, Keeps}
-use Rattle.nr_peel.specs.State.{lifted_checks}
+use Rattle.nr_peel.specs.StateInside.{lifted_checks}
 use Rattle.nr_peel.specs.Sweeps.{has_count}
 use Rattle.nr_peel.proofs.sweep.Sweep.propagate.Given as goal
 

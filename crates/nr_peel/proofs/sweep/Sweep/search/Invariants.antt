@@ -1,7 +1,7 @@
 use Rattle.std.proofs.Common.{◌≡◌, ◌≤◌, ◌+◌, ◌*◌, nat_lt}
 use Rattle.nr_lifting.specs.Rings.{marked}
 use Rattle.nr_peel.specs.Due.{work_of}
-use Rattle.nr_peel.specs.State.{lifted_checks}
+use Rattle.nr_peel.specs.StateInside.{lifted_checks}
 use Rattle.nr_peel.specs.Sweeps.{AreSought, has_count, searched_below}
 use Rattle.nr_peel.proofs.sweep.Sweep.search.Given as goal
 

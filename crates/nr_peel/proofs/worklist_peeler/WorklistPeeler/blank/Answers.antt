@@ -1,5 +1,5 @@
 use Rattle.std.proofs.Common.{◌≡◌, ◌*◌, false, replicate, refl, ap, ◌∙◌, arith}
-use Rattle.nr_peel.specs.State.{lifted_checks}
+use Rattle.nr_peel.specs.StateInside.{lifted_checks}
 use Rattle.nr_peel.specs.declared.worklist_peeler.WorklistPeeler.{WorklistPeeler}
 use Rattle.nr_peel.proofs.Built.{blank_state}
 use Rattle.nr_peel.proofs.Filled.{fillers_fit}

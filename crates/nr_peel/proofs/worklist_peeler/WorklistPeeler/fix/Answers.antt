@@ -11,8 +11,8 @@ use Rattle.nr_shifttable.specs.Accepted.{entries_in, row_of}
 use Rattle.nr_shifttable.specs.Tails.{value_in}
 use Rattle.nr_ldpcenc.specs.Rows.{one_at}
 use Rattle.nr_peel.specs.Peeling.{left_of}
-use Rattle.nr_peel.specs.State.{lifted_checks}
-use Rattle.nr_peel.specs.Touches.{row_length}
+use Rattle.nr_peel.specs.StateInside.{lifted_checks}
+use Rattle.nr_peel.specs.TouchesInside.{row_length}
 use Rattle.nr_peel.proofs.Fixing.{few_visits, fix_grows, fix_spends, fix_works, follows_lowered, IsFix}
 use Rattle.nr_peel.proofs.Grid.{checks_sound}
 use Rattle.nr_peel.proofs.Gains.{degree_le, zeros_few}

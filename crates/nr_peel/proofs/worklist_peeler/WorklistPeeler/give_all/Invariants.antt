@@ -1,7 +1,7 @@
 use Rattle.std.proofs.Common.{◌-◌}
 use Rattle.nr_bitvec.specs.Bit.{bit}
 use Rattle.nr_peel.specs.Worklist.{GivesMarks, IsBusy}
-use Rattle.nr_peel.specs.State.{lifted_checks}
+use Rattle.nr_peel.specs.StateInside.{lifted_checks}
 use Rattle.nr_peel.proofs.Giving.{first}
 use Rattle.nr_peel.proofs.worklist_peeler.WorklistPeeler.give_all.Given as goal
 

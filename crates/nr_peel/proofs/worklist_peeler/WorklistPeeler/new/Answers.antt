@@ -1,7 +1,7 @@
 use Rattle.std.proofs.Common.{◌*◌, length, ap, ◌∙◌}
 use Rattle.nr_bitvec.specs.Bit.{bit}
 use Rattle.nr_segment.specs.CodeBlock.{numbers}
-use Rattle.nr_peel.specs.State.{lifted_checks}
+use Rattle.nr_peel.specs.StateInside.{lifted_checks}
 use Rattle.nr_peel.proofs.Filled.{bit-zeros, fillers_long}
 use Rattle.nr_peel.proofs.Positions.{filled_up}
 use Rattle.nr_peel.proofs.worklist_peeler.WorklistPeeler.new.Goals as goal

@@ -2,7 +2,7 @@ use Rattle.std.proofs.Common.{◌≡◌, length, refl, sym, ap, ◌∙◌, arith
 use Rattle.std.specs.Prelude.{slice_index}
 use Rattle.std.proofs.lemmas.List.{get_or_read}
 use Rattle.nr_peel.specs.Worklist.{Grows}
-use Rattle.nr_peel.specs.State.{lifted_checks}
+use Rattle.nr_peel.specs.StateInside.{lifted_checks}
 use Rattle.nr_peel.specs.declared.counters.Counters.{Counters}
 use Rattle.nr_peel.specs.declared.worklist_peeler.WorklistPeeler.{WorklistPeeler}
 use Rattle.nr_peel.proofs.Fixing.{grows_none, grows_then}

@@ -2,7 +2,7 @@ use Rattle.std.proofs.Common.{◌+◌, length}
 use Rattle.std.specs.Prelude.{count_by, nat_lt}
 use Rattle.nr_peel.specs.Counters.{IsListed}
 use Rattle.nr_peel.specs.Worklist.{Grows, IsCounted, IsWorklistSound}
-use Rattle.nr_peel.specs.State.{lifted_checks}
+use Rattle.nr_peel.specs.StateInside.{lifted_checks}
 use Rattle.nr_peel.proofs.worklist_peeler.WorklistPeeler.propagate.Given as goal
 
 -- the state is in order, and each row with one unknown position is listed

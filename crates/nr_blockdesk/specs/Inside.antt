@@ -1,0 +1,39 @@
+-- Internal: what the proofs need beside what is believed.
+use Rattle.std.specs.Prelude.{Bool, false, Option, Some, None, List, map, ℕ, ◌+◌, ◌≤◌, ◌==◌, ◌&&◌, length, ◌≡◌}
+use Rattle.std.specs.Bool.{beq}
+use Rattle.std.specs.List.{range_with_len}
+use Rattle.nr_harqbuf.specs.Masks.{says}
+use Rattle.nr_ratematch.specs.Selection.{Circular, place_of}
+use Rattle.nr_blockdesk.specs.Link.{Link, word, IsLink}
+use Rattle.nr_blockdesk.specs.Marks.{heards_from}
+use Rattle.nr_blockdesk.specs.declared.heard.Heard.{Heard}
+use Rattle.nr_blockdesk.specs.declared.heard.Heard.TheVariants as heard
+use Rattle.nr_blockdesk.specs.declared.part.Part.{Part}
+use Rattle.nr_blockdesk.specs.declared.selected.Selected.{Selected}
+
+-- what is received is this bit
+abbrev pub tells : Option Bool → Bool → Bool
+tells None v = false
+tells (Some a) v = beq a v
+
+-- the codewords of a transport block
+abbrev pub words_of : Link → List Bool → List (List Bool)
+words_of link block = map (word link block) (range_with_len 0 link.plan.c)
+
+-- the places of a code block
+abbrev pub heards_of : Part → List Heard
+heards_of part = heards_from part.heard.now.items part.value.now.items part.from part.count
+
+-- selected bit k of a code block was received, has this bit, and stands at this position of its codeword
+abbrev pub bit_says : Circular → ℕ → List Bool → List Bool → ℕ → Bool → ℕ → Bool
+bit_says b rv marks bits p v k = (place_of b rv k == p) && says marks bits k v
+
+-- lists that have room for n bits
+pub record HasRoomFor (n : ℕ) (selected : Selected) : Type 0 where
+  pub marks : n ≤ length selected.heard.items + selected.heard.room
+  pub bits : n ≤ length selected.value.items + selected.value.room
+
+-- what a sender keeps: the codewords of its transport block
+pub record IsSender (link : Link) (block : List Bool) (words : List (List Bool)) : Type 0 where
+  pub is_link : IsLink link
+  pub encoded : words ≡ words_of link block

@@ -1,0 +1,59 @@
+-- Internal: what the proofs need beside what is believed.
+use Rattle.std.specs.Prelude.{ℕ, nat_le, if◌then◌else◌, ◌≡◌, ◌*◌, ◌==◌, ◌&&◌, Bool, true, List, length, ◌++◌, Result, Ok, [], ◌∷◌}
+use Rattle.nr_segment.specs.CodeBlock.{numbers}
+use Rattle.nr_graphpick.specs.declared.Graph.{Graph}
+use Rattle.nr_graphpick.specs.declared.Graph.TheVariants.{One, Two}
+use Rattle.nr_blockdesk.specs.Outcome.{Verdict, contradiction, delivered, left, open_still, outcome_of}
+use Rattle.nr_blockdesk.specs.Receiving.{verdict}
+use Rattle.nr_segment.specs.declared.numbers.Plan.{Plan}
+use Rattle.nr_refusal.specs.Refusal.{◌>>=◌, with_fault}
+use Rattle.nr_blockdesk.specs.Explains.{Reception, reception_said}
+use Rattle.nr_blockdesk.specs.Link.{Link}
+use Rattle.nr_calls.specs.Coding.{Codeword}
+use Rattle.nr_calls.specs.declared.coded.Coded.{Coded}
+use Rattle.nr_calls.specs.Encoding.{Encoded}
+use Rattle.nr_calls.specs.Findings.{Findings}
+use Rattle.nr_calls.specs.declared.findings.Found.{Found}
+use Rattle.nr_calls.specs.declared.findings.Room.{Room}
+use Rattle.nr_calls.specs.Numbers.{Planned}
+use Rattle.nr_calls.specs.declared.fault.Fault.{Fault}
+use Rattle.nr_calls.specs.declared.fault.Fault.TheVariants as fault
+
+-- what a call has encoded, as a codeword with the numbers of its plan
+abbrev pub coded_of : Coded → Codeword
+coded_of c = record { plan = numbers c.plan; word = c.word }
+
+-- what a call has encoded, with its base graph and Zc
+abbrev pub encoded_of : Coded → Encoded
+encoded_of c = record { graph = c.plan.graph; z = c.plan.z; word = c.word }
+
+-- so many columns Kb that a code block of Kb z bits has the lifting size z (5.2.2), where any has it
+abbrev pub held_columns : Graph → ℕ → ℕ
+held_columns One z = 22
+held_columns Two z = if nat_le z 32 then 6 else (if nat_le z 64 then 8 else 10)
+
+-- what a call has found, as findings
+abbrev pub findings_of : Found → Findings
+findings_of f = record { outcomes = f.outcomes.items; left = f.left.items; last = verdict f.last }
+
+-- a block that is delivered fills so many octets
+abbrev pub block_fits : ℕ → Verdict → Bool
+block_fits octets (delivered block) = length block == 8 * octets
+block_fits octets open_still = true
+block_fits octets contradiction = true
+
+-- a block that is delivered has a bits
+abbrev pub IsLastBlock : ℕ → Verdict → Type 0
+IsLastBlock a v = (block : List Bool) → v ≡ delivered block → length block ≡ a
+
+-- what is found fills the room
+abbrev pub has_room : Room → Findings → Bool
+has_room room f = (length f.outcomes == room.outcomes) && (length f.left == room.left) && block_fits room.block f.last
+
+-- those of a plan
+abbrev pub planned : Plan → Planned
+planned p = record { graph = p.graph; plan = numbers p }
+
+-- the outcome of a list of receptions and one more, or its fault
+abbrev pub one_more_said : Link → List Reception → Reception → Result Verdict Fault
+one_more_said link list x = with_fault fault.Desk (reception_said link x) >>= λ _. Ok (outcome_of link (list ++ x ∷ []))

@@ -1,0 +1,9 @@
+-- Internal: what the proofs need beside what is believed.
+use Rattle.std.specs.Prelude.{ℕ, Bool, nat_lt, List, map}
+use Rattle.rand_core.specs.Steps.{first_words}
+use Rattle.rand_pcg.specs.Lcg.{Lcg}
+use Rattle.rand_pcg.specs.Pcg.{pcg32}
+
+-- for each of the next `count` words of a generator whether it is below the threshold
+abbrev pub marks_drawn : ℕ → ℕ → Lcg → List Bool
+marks_drawn threshold count generator = map (λ word. nat_lt word threshold) (first_words pcg32 count generator)
