@@ -13,7 +13,7 @@ use Rattle.nr_peel.specs.Sweeps.{counted_in}
 use Rattle.nr_peel.specs.Touches.{step_pairs, sum_below}
 use Rattle.nr_peel.specs.TouchesInside.{all_pairs, row_length}
 use Rattle.nr_peel.specs.declared.lifted.Lifted.{Lifted}
-use Rattle.nr_peel.specs.declared.sweep.Sweep.{Sweep}
+use Rattle.nr_peel.specs.declared.bit_parallel.sweep.Sweep.{Sweep}
 use Rattle.nr_peel.proofs.Counting.{sum-below}
 use Rattle.nr_peel.proofs.StepPairs.{step_pairs-none}
 use Rattle.nr_peel.proofs.Pairs.{sum_below-same}

@@ -17,8 +17,8 @@ use Rattle.nr_peel.specs.Peeling.{left_of}
 use Rattle.nr_peel.specs.StateInside.{lifted_checks}
 use Rattle.nr_peel.specs.Touches.{step_pairs, sum_below}
 use Rattle.nr_peel.specs.TouchesInside.{all_pairs, row_length}
-use Rattle.nr_peel.specs.declared.worklist_peeler.WorklistPeeler.{WorklistPeeler}
-use Rattle.nr_peel.specs.declared.counters.Counters.{Counters}
+use Rattle.nr_peel.specs.declared.worklist.worklist_peeler.WorklistPeeler.{WorklistPeeler}
+use Rattle.nr_peel.specs.declared.worklist.counters.Counters.{Counters}
 use Rattle.nr_peel.specs.declared.lifted.Lifted.{Lifted}
 use Rattle.nr_peel.proofs.Closed.{cases_below}
 use Rattle.nr_peel.proofs.Counting.{sum-below}

@@ -14,7 +14,7 @@ use Rattle.nr_ldpcenc.specs.Rows.{Checks, block_checks}
 use Rattle.nr_peel.specs.Closure.{times_in}
 use Rattle.nr_peel.specs.Certificates.{with_position}
 use Rattle.nr_peel.specs.Counters.{AreTied, IsLowered, holder}
-use Rattle.nr_peel.specs.declared.counters.Counters.{Counters}
+use Rattle.nr_peel.specs.declared.worklist.counters.Counters.{Counters}
 use Rattle.nr_peel.proofs.Places.{row_number}
 use Rattle.nr_peel.proofs.Standing.{count_alike, count_no}
 use Rattle.nr_peel.proofs.Tied.{bit-mark, column_rows}

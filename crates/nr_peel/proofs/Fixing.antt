@@ -14,9 +14,9 @@ use Rattle.nr_peel.specs.Counters.{Follows, IsLowered, AreTied}
 use Rattle.nr_peel.specs.Worklist.{Grows, IsWorklistSound}
 use Rattle.nr_peel.specs.Touches.{step_pairs}
 use Rattle.nr_peel.specs.TouchesInside.{all_pairs}
-use Rattle.nr_peel.specs.declared.counters.Counters.{Counters}
+use Rattle.nr_peel.specs.declared.worklist.counters.Counters.{Counters}
 use Rattle.nr_peel.specs.declared.fix.Fix.{Fix}
-use Rattle.nr_peel.specs.declared.worklist_peeler.WorklistPeeler.{WorklistPeeler}
+use Rattle.nr_peel.specs.declared.worklist.worklist_peeler.WorklistPeeler.{WorklistPeeler}
 use Rattle.nr_peel.proofs.Standing.{count_alike, fixes_more, stands_counted}
 use Rattle.nr_peel.proofs.Words.{forced_bit, only_fixes}
 use Rattle.nr_peel.proofs.Ordered.{after_accepted, all_accepted-push, goes_none, goes_then, is_fixed_by-push, step_accepted}

@@ -10,8 +10,8 @@ use Rattle.nr_peel.specs.Closure.{Within}
 use Rattle.nr_peel.specs.Certificates.{is_fixed_by, with_position}
 use Rattle.nr_peel.specs.Counters.{AreTied, IsListed, IsLowered}
 use Rattle.nr_peel.specs.Touches.{step_pairs}
-use Rattle.nr_peel.specs.declared.worklist_peeler.WorklistPeeler.{WorklistPeeler}
-use Rattle.nr_peel.specs.declared.counters.Counters.{Counters}
+use Rattle.nr_peel.specs.declared.worklist.worklist_peeler.WorklistPeeler.{WorklistPeeler}
+use Rattle.nr_peel.specs.declared.worklist.counters.Counters.{Counters}
 use Rattle.nr_peel.proofs.Closed.{cases_below, same_truth}
 use Rattle.nr_peel.proofs.Ordered.{all_accepted_within}
 use Rattle.nr_peel.proofs.Pairs.{spent_more}

@@ -14,8 +14,8 @@ use Rattle.nr_peel.specs.Settled.{CatchesUp, HasNonePending, IsHeld, Keeps, Reac
 use Rattle.nr_peel.specs.Sweeps.{AreLanes, AreSought, CountsOf, Fixes, counted_in, has_count, searched_pairs}
 use Rattle.nr_peel.specs.Touches.{step_pairs}
 use Rattle.nr_peel.specs.declared.fix.Fix.{Fix}
-use Rattle.nr_peel.specs.declared.lanes.Lanes.{Lanes}
-use Rattle.nr_peel.specs.declared.sweep.Sweep.{Sweep}
+use Rattle.nr_peel.specs.declared.bit_parallel.lanes.Lanes.{Lanes}
+use Rattle.nr_peel.specs.declared.bit_parallel.sweep.Sweep.{Sweep}
 use Rattle.nr_peel.proofs.Columns.{count_plus}
 use Rattle.nr_peel.proofs.Marks.{marked_zero}
 use Rattle.nr_peel.proofs.Ordered.{after_accepted, goes_none, goes_then}

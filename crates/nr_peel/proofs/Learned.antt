@@ -15,10 +15,10 @@ use Rattle.nr_peel.specs.Settled.{HasNonePending, IsHeld, Keeps, Reaches}
 use Rattle.nr_peel.specs.Starts.{IsBlankSweep}
 use Rattle.nr_peel.specs.StateInside.{lifted_checks}
 use Rattle.nr_peel.specs.Sweeps.{AreLanes, counted_in, has_count}
-use Rattle.nr_peel.specs.declared.lanes.Lanes.{Lanes}
-use Rattle.nr_peel.specs.declared.sweep_peeler.SweepPeeler.{SweepPeeler}
+use Rattle.nr_peel.specs.declared.bit_parallel.lanes.Lanes.{Lanes}
+use Rattle.nr_peel.specs.declared.bit_parallel.sweep_peeler.SweepPeeler.{SweepPeeler}
 use Rattle.nr_peel.specs.declared.lifted.Lifted.{Lifted}
-use Rattle.nr_peel.specs.declared.sweep.Sweep.{Sweep}
+use Rattle.nr_peel.specs.declared.bit_parallel.sweep.Sweep.{Sweep}
 use Rattle.nr_peel.proofs.Filled.{fillers_fit, fillers_long, fillers_there, fillers_within}
 use Rattle.nr_peel.proofs.Held.{counts_same}
 use Rattle.nr_peel.proofs.Ordered.{all_accepted_within, goes_taken}

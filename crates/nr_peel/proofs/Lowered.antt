@@ -2,7 +2,7 @@
 use Rattle.std.proofs.Common.{◌≡◌, ℕ, ◌+◌, ◌<◌, sym, ◌∙◌, subst, ⊎_elim, inl, inr, arith}
 use Rattle.std.specs.Prelude.{All}
 use Rattle.nr_peel.specs.Counters.{IsLowered}
-use Rattle.nr_peel.specs.declared.counters.Counters.{Counters}
+use Rattle.nr_peel.specs.declared.worklist.counters.Counters.{Counters}
 
 pub lowered_then : (h g total : ℕ → ℕ) (a b c : Counters) → IsLowered h a b → IsLowered g b c → ((k : ℕ) → total k ≡ h k + g k) → IsLowered total a c
 lowered_then h g total a b c one two sum_is = record {

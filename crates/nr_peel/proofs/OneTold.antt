@@ -9,7 +9,7 @@ use Rattle.nr_lifting.proofs.LaneViews.{place-lt}
 use Rattle.nr_ldpcenc.specs.Rows.{Checks}
 use Rattle.nr_peel.specs.Hearing.{Hears, news}
 use Rattle.nr_peel.specs.Sweeps.{AreLanes}
-use Rattle.nr_peel.specs.declared.lanes.Lanes.{Lanes}
+use Rattle.nr_peel.specs.declared.bit_parallel.lanes.Lanes.{Lanes}
 use Rattle.nr_peel.proofs.Closed.{same_truth}
 use Rattle.nr_peel.proofs.Places.{row_number}
 use Rattle.nr_peel.proofs.Told.{digit_is, told_lanes}

@@ -13,7 +13,7 @@ use Rattle.nr_peel.specs.Counters.{IsSettled}
 use Rattle.nr_peel.specs.Peeling.{HasBits, IsPeeled, fillers}
 use Rattle.nr_peel.specs.StateInside.{lifted_checks}
 use Rattle.nr_peel.specs.Taken.{HasFillers, TakesUp}
-use Rattle.nr_peel.specs.declared.worklist_peeler.WorklistPeeler.{WorklistPeeler}
+use Rattle.nr_peel.specs.declared.worklist.worklist_peeler.WorklistPeeler.{WorklistPeeler}
 use Rattle.nr_peel.specs.declared.lifted.Lifted.{Lifted}
 use Rattle.nr_peel.proofs.Counting.{pairs_and_counts, spent_known}
 use Rattle.nr_peel.proofs.Filled.{fillers_long, fillers_within}

@@ -13,8 +13,8 @@ use Rattle.nr_peel.specs.TouchesInside.{spent_pairs}
 use Rattle.nr_peel.specs.Closure.{stands}
 use Rattle.nr_peel.specs.Counters.{Follows, IsListed, AreTied}
 use Rattle.nr_peel.specs.Worklist.{IsWorklistSound}
-use Rattle.nr_peel.specs.declared.counters.Counters.{Counters}
-use Rattle.nr_peel.specs.declared.worklist_peeler.WorklistPeeler.{WorklistPeeler}
+use Rattle.nr_peel.specs.declared.worklist.counters.Counters.{Counters}
+use Rattle.nr_peel.specs.declared.worklist.worklist_peeler.WorklistPeeler.{WorklistPeeler}
 use Rattle.nr_peel.proofs.Searched.{stands-push}
 
 -- a row was taken off the worklist

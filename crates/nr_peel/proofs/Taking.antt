@@ -25,7 +25,7 @@ use Rattle.nr_peel.specs.Peeling.{HasBits}
 use Rattle.nr_peel.specs.Sweeps.{AreLanes, CountsOf, Fixes, IsBlockSought, counted_in, has_count}
 use Rattle.nr_peel.specs.Touches.{step_pairs, sum_below}
 use Rattle.nr_peel.specs.declared.fix.Fix.{Fix}
-use Rattle.nr_peel.specs.declared.lanes.Lanes.{Lanes}
+use Rattle.nr_peel.specs.declared.bit_parallel.lanes.Lanes.{Lanes}
 use Rattle.nr_peel.specs.declared.lifted.Lifted.{Lifted}
 use Rattle.nr_peel.proofs.Grid.{checks_sound}
 use Rattle.nr_peel.proofs.LaneSteps.{neither, only_at, take_fixes, take_knows, unnot}

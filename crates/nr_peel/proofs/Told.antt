@@ -8,7 +8,7 @@ use Rattle.nr_lifting.specs.Rings.{is_set, lane_marks}
 use Rattle.nr_ldpcenc.specs.Rows.{Checks}
 use Rattle.nr_peel.specs.Hearing.{Hears, news}
 use Rattle.nr_peel.specs.Sweeps.{AreLanes}
-use Rattle.nr_peel.specs.declared.lanes.Lanes.{Lanes}
+use Rattle.nr_peel.specs.declared.bit_parallel.lanes.Lanes.{Lanes}
 use Rattle.nr_peel.proofs.Columns.{below_column, in_column}
 use Rattle.nr_peel.proofs.Places.{mod_low, row_number}
 

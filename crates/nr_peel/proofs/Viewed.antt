@@ -12,9 +12,9 @@ use Rattle.nr_peel.specs.Settled.{HasNonePending, Reaches}
 use Rattle.nr_peel.specs.StateInside.{lifted_checks}
 use Rattle.nr_peel.specs.Sweeps.{CountsOf, counted_in}
 use Rattle.nr_peel.specs.Swept.{IsSettledSweep, sweep_view}
-use Rattle.nr_peel.specs.declared.lanes.Lanes.{Lanes}
+use Rattle.nr_peel.specs.declared.bit_parallel.lanes.Lanes.{Lanes}
 use Rattle.nr_peel.specs.declared.lifted.Lifted.{Lifted}
-use Rattle.nr_peel.specs.declared.sweep.Sweep.{Sweep}
+use Rattle.nr_peel.specs.declared.bit_parallel.sweep.Sweep.{Sweep}
 use Rattle.nr_peel.proofs.Counting.{pairs_and_counts, spent_known}
 use Rattle.nr_peel.proofs.Grid.{checks_sound}
 use Rattle.nr_peel.proofs.Ordered.{after_accepted, steps_stay}

@@ -6,7 +6,7 @@ use Rattle.nr_shifttable.specs.Tails.{value_in}
 use Rattle.nr_ldpcenc.specs.Rows.{Checks, unrotate}
 use Rattle.nr_peel.specs.Closure.{stands}
 use Rattle.nr_peel.specs.TouchesInside.{all_pairs}
-use Rattle.nr_peel.specs.declared.counters.Counters.{Counters}
+use Rattle.nr_peel.specs.declared.worklist.counters.Counters.{Counters}
 
 -- the worklist has room for the rows that it has and for each row that may come to have one unknown position
 abbrev pub HasRoom : Counters → Type 0

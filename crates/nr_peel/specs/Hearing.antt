@@ -3,7 +3,7 @@ use Rattle.std.specs.Prelude.{◌≡◌, ℕ, ◌&&◌, ◌||◌, Bool, not}
 use Rattle.nr_bitvec.specs.Bit.{bit}
 use Rattle.nr_ldpcenc.specs.Rows.{Checks}
 use Rattle.nr_peel.specs.Sweeps.{AreLanes}
-use Rattle.nr_peel.specs.declared.lanes.Lanes.{Lanes}
+use Rattle.nr_peel.specs.declared.bit_parallel.lanes.Lanes.{Lanes}
 
 -- the positions of a set that aren't known
 abbrev pub news : (ℕ → Bool) → Lanes → ℕ → Bool

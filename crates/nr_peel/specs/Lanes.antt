@@ -6,7 +6,7 @@ use Rattle.nr_ldpcenc.specs.Rows.{one_at, unrotate}
 use Rattle.nr_shifttable.specs.declared.entry.Entry.{Entry}
 use Rattle.nr_shifttable.specs.Tails.{value_in}
 use Rattle.nr_peel.specs.declared.fix.Fix.{Fix}
-use Rattle.nr_peel.specs.declared.lanes.Lanes.{Lanes}
+use Rattle.nr_peel.specs.declared.bit_parallel.lanes.Lanes.{Lanes}
 use Rattle.nr_peel.specs.declared.lifted.Lifted.{Lifted}
 
 -- the step by which row t of row block i fixes its position in the block of column j, which is rotated by `rotation`

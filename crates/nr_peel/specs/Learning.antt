@@ -7,7 +7,7 @@ use Rattle.nr_ldpcenc.specs.Rows.{Meets}
 use Rattle.nr_peel.specs.Peeling.{GivesAll, HasBits, KeepsAllWords, KeepsBits, KeepsKnown, Peeling, TakesAll, fillers, left_of}
 use Rattle.nr_peel.specs.StateInside.{lifted_checks}
 use Rattle.nr_peel.specs.Swept.{IsSettledSweep, sweep_view}
-use Rattle.nr_peel.specs.declared.sweep_peeler.SweepPeeler.{SweepPeeler}
+use Rattle.nr_peel.specs.declared.bit_parallel.sweep_peeler.SweepPeeler.{SweepPeeler}
 use Rattle.nr_peel.specs.declared.lifted.Lifted.{Lifted}
 
 -- what it is seen as

@@ -10,8 +10,8 @@ use Rattle.nr_peel.specs.Peeling.{HasBits}
 use Rattle.nr_peel.specs.Sweeps.{AreLanes, CountsOf, counted_in, has_count}
 use Rattle.nr_peel.specs.Touches.{step_pairs}
 use Rattle.nr_peel.specs.TouchesInside.{all_pairs, spent_pairs}
-use Rattle.nr_peel.specs.declared.lanes.Lanes.{Lanes}
-use Rattle.nr_peel.specs.declared.sweep.Sweep.{Sweep}
+use Rattle.nr_peel.specs.declared.bit_parallel.lanes.Lanes.{Lanes}
+use Rattle.nr_peel.specs.declared.bit_parallel.sweep.Sweep.{Sweep}
 
 -- The counts are those of the positions that they know of. Each step is that of a row without an unknown position. Each
 -- pair of a row and a position that the counts know of was visited once, or twice if the row has no unknown one.

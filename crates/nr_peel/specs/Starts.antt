@@ -5,8 +5,8 @@ use Rattle.nr_lifting.specs.Planes.{BlockCounts}
 use Rattle.nr_ldpcenc.specs.Rows.{Checks}
 use Rattle.nr_peel.specs.Settled.{HasNonePending, IsHeld}
 use Rattle.nr_peel.specs.Sweeps.{AreLanes}
-use Rattle.nr_peel.specs.declared.lanes.Lanes.{Lanes}
-use Rattle.nr_peel.specs.declared.sweep.Sweep.{Sweep}
+use Rattle.nr_peel.specs.declared.bit_parallel.lanes.Lanes.{Lanes}
+use Rattle.nr_peel.specs.declared.bit_parallel.sweep.Sweep.{Sweep}
 
 -- each count is the number of its row's positions
 pub record AreDegrees (c : Checks) (counts : BlockCounts) : Type 0 where

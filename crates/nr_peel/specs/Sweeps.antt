@@ -9,7 +9,7 @@ use Rattle.nr_peel.specs.Peeling.{HasBits}
 use Rattle.nr_peel.specs.Touches.{step_pairs, sum_below}
 use Rattle.nr_peel.specs.TouchesInside.{row_length}
 use Rattle.nr_peel.specs.declared.fix.Fix.{Fix}
-use Rattle.nr_peel.specs.declared.lanes.Lanes.{Lanes}
+use Rattle.nr_peel.specs.declared.bit_parallel.lanes.Lanes.{Lanes}
 
 -- each count is the number of its row's positions that aren't in a set
 abbrev pub CountsOf : Checks → (ℕ → Bool) → List ℕ → Type 0

@@ -7,7 +7,7 @@ use Rattle.nr_peel.specs.Settled.{HasNonePending, IsHeld, Reaches}
 use Rattle.nr_peel.specs.State.{seen_of}
 use Rattle.nr_peel.specs.StateInside.{lifted_checks}
 use Rattle.nr_peel.specs.declared.lifted.Lifted.{Lifted}
-use Rattle.nr_peel.specs.declared.sweep.Sweep.{Sweep}
+use Rattle.nr_peel.specs.declared.bit_parallel.sweep.Sweep.{Sweep}
 
 -- a sweep of rows that has come to its end, with the positions that were given
 pub record IsSettledSweep (l : Lifted) (given : List Bool) (s : Sweep) : Type 0 where

@@ -14,7 +14,7 @@ use Rattle.nr_peel.specs.Sweeps.{has_count}
 use Rattle.nr_peel.specs.Taken.{HasFillers}
 use Rattle.nr_peel.specs.Touches.{step_pairs}
 use Rattle.nr_peel.specs.TouchesInside.{all_pairs, spent_pairs}
-use Rattle.nr_peel.specs.declared.worklist_peeler.WorklistPeeler.{WorklistPeeler}
+use Rattle.nr_peel.specs.declared.worklist.worklist_peeler.WorklistPeeler.{WorklistPeeler}
 use Rattle.nr_peel.specs.declared.lifted.Lifted.{Lifted}
 
 -- what is true at the head of the worklist's loop, and between calls

@@ -17,9 +17,9 @@ ghost use Rattle.nr_peel.specs.Engine.{
 };
 ghost use Rattle.nr_peel.specs.EngineInside.{IsBegun, IsEngine, left_in};
 
-use crate::worklist_peeler::WorklistPeeler;
+use crate::worklist::worklist_peeler::WorklistPeeler;
 use crate::fix::Fix;
-use crate::sweep_peeler::SweepPeeler;
+use crate::bit_parallel::sweep_peeler::SweepPeeler;
 use crate::lifted::Lifted;
 use nr_bitvec::Bits;
 use std::alloc::{AllocError, Global};

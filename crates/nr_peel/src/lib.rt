@@ -12,24 +12,16 @@
 //! Used by nr_blockdesk, nr_linkcommands and worked_examples.
 #![tactic(auto)]
 
-mod worklist_peeler;
+mod bit_parallel;
 mod check;
-mod counters;
+mod engine;
 mod fix;
-mod pending_marks;
-mod hearing;
-mod lanes;
 pub mod laws;
-mod sweep_peeler;
 mod lifted;
-mod lowering;
 mod peeler;
 mod rounds;
-mod row_counts;
-mod propagate;
-mod sweep;
 mod unknown;
-mod engine;
+mod worklist;
 
 pub use check::{check_order, check_stuck};
 pub use fix::Fix;

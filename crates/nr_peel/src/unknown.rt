@@ -6,7 +6,7 @@ ghost use Rattle.nr_peel.specs.Peeling.{left_of, unknown_in};
 ghost use Rattle.nr_peel.specs.StateInside.{lifted_checks};
 ghost use Rattle.nr_peel.specs.Sweeps.{AreLanes};
 
-use crate::lanes::Lanes;
+use crate::bit_parallel::lanes::Lanes;
 use crate::lifted::Lifted;
 use nr_lifting::lane_count;
 use std::alloc::AllocError;

@@ -1,0 +1,73 @@
+use Rattle.std.proofs.Common.{◌≡◌, ◌<◌, refl, sym, ◌∙◌, arith}
+use Rattle.std.proofs.Math.Nat.{mul-le-mul_right}
+use Rattle.nr_bitvec.specs.Bit.{bit}
+use Rattle.nr_graphpick.specs.Graph.{cols_of}
+use Rattle.nr_lifting.specs.Rings.{is_set, marked}
+use Rattle.nr_peel.specs.Hearing.{news}
+use Rattle.nr_peel.specs.StateInside.{lifted_checks}
+use Rattle.nr_peel.proofs.Marks.{none_marked}
+use Rattle.nr_peel.proofs.Told.{lane_new, told_all, told_next, told_none, told_skip}
+use Rattle.nr_peel.proofs.bit_parallel.lanes.Lanes.hear.Goals as goal
+use Rattle.nr_peel.proofs.bit_parallel.lanes.Lanes.hear.Goals.{else-lane_count-ne0, then-lane_count-ne0}
+
+pub loop-j-init : goal.loop-j-init
+loop-j-init c = told_none c.args.lifted.now.plan.z (news (bit c.args.heard.now.items) c.args.self.now) (bit c.args.values.now.items) c.args.self.now
+
+pub lacking-lane-requires-clause-block : goal.lacking-lane-requires-clause-block
+lacking-lane-requires-clause-block c =
+    let p = c.args.lifted.now.plan in
+    let below : c.loop-j.j < cols_of p.graph = omega arith in
+    rw (c.loop-j.invariant.known_lanes, c.loop-j.invariant.known_long, c.requires.lanes.known_lanes, c.requires.lanes.known_long) (mul-le-mul_right p.z (omega (arith, below)))
+
+pub lacking-lane-requires-clause-rotation : goal.lacking-lane-requires-clause-rotation
+lacking-lane-requires-clause-rotation c = rw (c.loop-j.invariant.known_lanes, c.requires.lanes.known_lanes) c.args.lifted.now.plan.sound.size_some
+
+pub lacking-lane-requires-clause-clear : goal.lacking-lane-requires-clause-clear
+lacking-lane-requires-clause-clear c = rw (c.loop-j.invariant.known_lanes, c.requires.lanes.known_lanes) c.read_lane-told.ensures.clear
+
+pub join-requires-then-lane_count-ne0-clause-clear : goal.join-requires-then-lane_count-ne0-clause-clear
+join-requires-then-lane_count-ne0-clause-clear c =
+    rw (c.loop-j.invariant.pending_lanes, c.requires.lanes.pending_lanes) (rw (c.loop-j.invariant.known_lanes, c.requires.lanes.known_lanes) at c.lacking-lane.ensures.clear)
+
+pub join-requires-then-lane_count-ne0-2-clause-clear : goal.join-requires-then-lane_count-ne0-2-clause-clear
+join-requires-then-lane_count-ne0-2-clause-clear c =
+    let z = c.args.lifted.now.plan.z in
+    rw (c.loop-j.invariant.bits_lanes, c.requires.lanes.bits_lanes) (c.common-bits.ensures.clear z (rw (c.loop-j.invariant.known_lanes, c.requires.lanes.known_lanes) at c.lacking-lane.ensures.clear))
+
+-- the next column is given
+pub loop-j-preserved : goal.loop-j-preserved
+loop-j-preserved c =
+    let z = c.args.lifted.now.plan.z in
+    let j = c.loop-j.j in
+    let some = c.args.lifted.now.plan.sound.size_some in
+    let old = c.args.self.now in
+    let now = c.loop-j.self in
+    let H = bit c.args.heard.now.items in
+    let V = bit c.args.values.now.items in
+    let inv = c.loop-j.invariant in
+    let known_lanes : now.known.lanes ≡ z = inv.known_lanes ∙ c.requires.lanes.known_lanes in
+    let bits_lanes : now.bits.lanes ≡ z = inv.bits_lanes ∙ c.requires.lanes.bits_lanes in
+    let pending_lanes : now.pending.lanes ≡ z = inv.pending_lanes ∙ c.requires.lanes.pending_lanes in
+    let lacks = rw known_lanes at c.lacking-lane.ensures.bits in
+    let clear = rw known_lanes at c.lacking-lane.ensures.clear in
+    let marks = lane_new z j some old now H V inv c.read_lane-told.result c.lacking-lane.result c.read_lane-told.ensures.bits lacks in
+    elim c.if-lane_count-ne0.branch [
+      | then-lane_count-ne0 w ↦
+          let known = rw known_lanes at w.join.ensures.joined in
+          let pending = rw pending_lanes at w.join-then-lane_count-ne0.ensures.joined in
+          let bits = rw bits_lanes at w.join-then-lane_count-ne0-2.ensures.joined in
+          rw w.self-is
+          (told_next z j some old now H V inv (record { known = w.join.new.self; bits = w.join-then-lane_count-ne0-2.new.self; pending = w.join-then-lane_count-ne0.new.self; order = now.order })
+          c.lacking-lane.result w.common-bits.result w.read_lane.result marks w.common-bits.ensures.bits w.read_lane.ensures.bits known pending bits refl
+          w.join.ensures.long w.join-then-lane_count-ne0-2.ensures.long w.join-then-lane_count-ne0.ensures.long w.join.ensures.lanes w.join-then-lane_count-ne0-2.ensures.lanes w.join-then-lane_count-ne0.ensures.lanes)
+      | else-lane_count-ne0 w ↦
+          let count : marked (is_set c.lacking-lane.result) z ≡ 0 = sym (c.lane_count.ensures.marked z clear) ∙ omega (arith, w.if-lane_count-ne0.false) in
+          rw w.self-is (told_skip z j some old now H V inv c.lacking-lane.result marks (none_marked c.lacking-lane.result z clear count))
+    ]
+
+pub returns : goal.returns
+returns c =
+    let l = c.args.lifted.now in
+    let last : c.loop-j.j ≡ cols_of l.plan.graph = omega (arith, c.loop-j-test.false, c.loop-j.auto.j-end, c.cols-j-end.ensures) in
+    let told = rw last at c.loop-j.invariant in
+    told_all (lifted_checks l) l.plan.z (cols_of l.plan.graph) c.args.heard.now.items (bit c.args.values.now.items) c.args.self.now c.loop-j.self l.plan.sound.size_some refl c.requires.long c.requires.lanes told

@@ -1,0 +1,8 @@
+use Rattle.nr_bitvec.specs.Bit.{bit}
+use Rattle.nr_peel.specs.Hearing.{news}
+use Rattle.nr_peel.proofs.Told.{AreTold}
+use Rattle.nr_peel.proofs.bit_parallel.lanes.Lanes.hear.Given as goal
+
+-- the columns before column j are given
+abbrev pub invariant-loop-j : goal.invariant-loop-j
+invariant-loop-j l = AreTold l.lifted.plan.z (news (bit l.heard.items) l.initial.self) (bit l.values.items) l.j l.initial.self l.self

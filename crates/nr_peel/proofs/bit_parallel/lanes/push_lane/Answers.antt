@@ -1,0 +1,30 @@
+use Rattle.std.proofs.Common.{◌*◌, ◌++◌, length, refl, ap, ◌∙◌, arith, length-append}
+use Rattle.nr_lifting.specs.Rings.{is_set}
+use Rattle.nr_peel.specs.Lanes.{steps_below, rotated_step}
+use Rattle.nr_peel.proofs.Steps.{join_steps, lane_room, lane_steps, row_inside, word_steps}
+use Rattle.nr_peel.proofs.bit_parallel.lanes.push_lane.Goals as goal
+
+-- a bit of the word is a row
+pub push_word-requires-clause-inside : goal.push_word-requires-clause-inside
+push_word-requires-clause-inside c =
+    λ b set. row_inside (rotated_step c.args.size c.args.entry.now.row c.args.entry.now.col c.args.rotation) c.args.lane.now c.args.size c.requires.clear c.loop-i.i b _ refl (omega arith) set
+
+pub push_word-requires-clause-room : goal.push_word-requires-clause-room
+push_word-requires-clause-room c =
+    let step = rotated_step c.args.size c.args.entry.now.row c.args.entry.now.col c.args.rotation in
+    let long = ap length c.loop-i.invariant.steps ∙ length-append c.args.order.now.items (steps_below step (is_set c.args.lane.now) (64 * c.loop-i.i)) in
+    omega (arith, long, c.loop-i.invariant.capacity, c.requires.room, lane_room step c.args.lane.now c.args.size c.requires.clear c.loop-i.i 6 _ refl (omega arith) (omega arith))
+
+-- the next word's steps are there
+pub loop-i-preserved : goal.loop-i-preserved
+loop-i-preserved c =
+    let step = rotated_step c.args.size c.args.entry.now.row c.args.entry.now.col c.args.rotation in
+    record {
+      steps = join_steps _ _ _ _ _ _ c.push_word.ensures.steps c.loop-i.invariant.steps (word_steps step c.args.lane.now c.args.size c.requires.clear c.loop-i.i _ refl);
+      capacity = c.push_word.ensures.capacity ∙ c.loop-i.invariant.capacity;
+    }
+
+pub returns-clause-steps : goal.returns-clause-steps
+returns-clause-steps c =
+    let step = rotated_step c.args.size c.args.entry.now.row c.args.entry.now.col c.args.rotation in
+    c.loop-i.invariant.steps ∙ ap (λ xs. c.args.order.now.items ++ xs) (lane_steps step c.args.lane.now c.args.size c.requires.clear (64 * c.loop-i.i) (omega (arith, c.requires.few)))

@@ -1,0 +1,12 @@
+use Rattle.std.proofs.Common.{◌≡◌, ℕ, ◌<◌, ◌≤◌, true, length}
+use Rattle.nr_bitvec.specs.Bit.{bit}
+use Rattle.nr_peel.specs.Due.{due_in}
+use Rattle.nr_peel.proofs.bit_parallel.row_counts.RowCounts.new.Given as goal
+
+-- the row blocks so far are due, and no more
+abbrev pub invariant-loop-i : goal.invariant-loop-i
+invariant-loop-i l = record {
+  all : (h : ℕ) → h < l.i → bit l.due h ≡ true;
+  count : due_in l.due ≤ l.i;
+  long : length l.due ≡ 46;
+}

@@ -1,0 +1,19 @@
+use Rattle.std.proofs.Common.{◌-◌, ◌*◌, ◌≤◌}
+use Rattle.nr_lifting.specs.Rings.{marked}
+use Rattle.nr_peel.specs.Settled.{HasNonePending, IsHeld, Keeps}
+use Rattle.nr_peel.specs.StateInside.{lifted_checks}
+use Rattle.nr_peel.specs.Sweeps.{has_count}
+use Rattle.nr_peel.proofs.bit_parallel.sweep.Sweep.propagate.Given as goal
+
+-- the state is in order, and the counts know of all that is known
+abbrev pub invariant-rounds : goal.invariant-rounds
+invariant-rounds l = record {
+  held : IsHeld (lifted_checks l.lifted) l.self;
+  none_pending : HasNonePending l.self.lanes;
+  visited : l.fn.self.touches ≤ l.self.touches;
+  keeps : Keeps (lifted_checks l.lifted) l.fn.self.lanes l.self.lanes;
+}
+
+-- the rows that have unknown positions
+abbrev pub decreases-rounds : goal.decreases-rounds
+decreases-rounds l = (lifted_checks l.lifted).rows * l.lifted.plan.z - marked (has_count 0 l.self.counts.items) ((lifted_checks l.lifted).rows * l.lifted.plan.z)

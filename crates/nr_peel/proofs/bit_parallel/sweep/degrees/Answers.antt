@@ -1,0 +1,72 @@
+use Rattle.std.proofs.Common.{◌≡◌, ◌+◌, ◌*◌, ◌<◌, ◌≤◌, if◌then◌else◌, length, sym, ap, ◌∙◌, ⊎_elim, arith}
+use Rattle.std.specs.Prelude.{slice_index}
+use Rattle.std.proofs.Math.Nat.{mul-le-mul_right}
+use Rattle.std.proofs.lemmas.Bool.{eq-eqb, ne_eqb}
+use Rattle.std.proofs.lemmas.List.{length-map, length-replicate}
+use Rattle.nr_shifttable.specs.declared.entry.Entry.{Entry}
+use Rattle.nr_shifttable.specs.Accepted.{entries_in, row_of}
+use Rattle.nr_shifttable.specs.Tails.{value_in}
+use Rattle.nr_ldpcenc.specs.Rows.{one_at}
+use Rattle.nr_peel.specs.StateInside.{lifted_checks}
+use Rattle.nr_peel.proofs.Closed.{cases_below}
+use Rattle.nr_peel.proofs.Grid.{rows_short}
+use Rattle.nr_peel.proofs.bit_parallel.sweep.degrees.Goals as goal
+
+pub loop-i-init : goal.loop-i-init
+loop-i-init c =
+    let z = c.args.lifted.now.plan.z in
+    let rows : c.rows-rows.result * z ≡ (lifted_checks c.args.lifted.now).rows * z = ap (λ n. n * z) c.rows-rows.ensures in
+    record {
+      filled = λ h t none. absurd (omega (arith, none));
+      long = ap length c.in_ok-counts.ensures.items ∙ length-replicate (c.rows-rows.result * z) 0 ∙ rows;
+      lanes = c.in_ok-counts.ensures.lanes;
+    }
+
+pub overflow_cast-row : goal.overflow_cast-row
+overflow_cast-row c =
+    let l = c.args.lifted.now in
+    omega (arith, rows_short l.table.now l.plan.graph c.loop-i.i c.requires, ap length c.row.ensures)
+
+pub fill-requires-clause-block : goal.fill-requires-clause-block
+fill-requires-clause-block c =
+    let z = c.args.lifted.now.plan.z in
+    let fits : (c.loop-i.i + 1) * z ≤ (lifted_checks c.args.lifted.now).rows * z = mul-le-mul_right z (omega (arith, c.loop-i-test.true, c.rows-rows.ensures)) in
+    rw c.loop-i.invariant.lanes (omega (arith, fits, c.loop-i.invariant.long))
+
+pub fill-requires-clause-small : goal.fill-requires-clause-small
+fill-requires-clause-small c =
+    let l = c.args.lifted.now in
+    omega (arith, rows_short l.table.now l.plan.graph c.loop-i.i c.requires, ap length c.row.ensures)
+
+-- the next row has its counts
+pub loop-i-preserved : goal.loop-i-preserved
+loop-i-preserved c =
+    let l = c.args.lifted.now in
+    let z = l.plan.z in
+    let i = c.loop-i.i in
+    let inv = c.loop-i.invariant in
+    let filled = rw inv.lanes at c.fill.ensures.filled in
+    record {
+      filled = λ h t below lane. ⊎_elim
+          (λ (earlier : h < i).
+          filled h t lane ∙ ap (λ b. if b then length c.row.result.now else slice_index c.loop-i.counts.items (h * z + t)) (ne_eqb i h (λ e. omega (arith, e, earlier)))
+          ∙ inv.filled h t earlier lane)
+          (λ (here : h ≡ i).
+          filled h t lane ∙ ap (λ b. if b then length c.row.result.now else slice_index c.loop-i.counts.items (h * z + t)) (eq-eqb i h (sym here))
+          ∙ ap length c.row.ensures ∙ ap (λ k. length (row_of (entries_in l.plan.graph l.table.now) k)) (sym here))
+          (cases_below h i (omega (arith, below)));
+      long = c.fill.ensures.long ∙ inv.long;
+      lanes = c.fill.ensures.lanes ∙ inv.lanes;
+    }
+
+pub returns : goal.returns
+returns c =
+    let l = c.args.lifted.now in
+    let inv = c.loop-i.invariant in
+    record {
+      counted = λ i t block lane.
+          inv.filled i t (omega (arith, block, c.loop-i-test.false, c.rows-rows.ensures)) lane
+          ∙ sym (length-map (row_of (entries_in l.plan.graph l.table.now) i) (λ (e : Entry). one_at l.plan.z t e.col (value_in l.plan.set e)));
+      long = inv.long;
+      lanes = inv.lanes;
+    }

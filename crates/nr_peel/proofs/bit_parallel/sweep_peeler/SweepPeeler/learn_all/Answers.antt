@@ -1,0 +1,25 @@
+use Rattle.std.proofs.Common.{length, refl, sym, ap, ◌∙◌}
+use Rattle.nr_bitvec.specs.Bit.{bit}
+use Rattle.nr_bitvec.specs.BitList.{BitList}
+use Rattle.nr_peel.specs.StateInside.{lifted_checks}
+use Rattle.nr_peel.proofs.Learned.{fillers_known, heard_held, heard_known, learned}
+use Rattle.nr_peel.proofs.bit_parallel.sweep_peeler.SweepPeeler.learn_all.Goals as goal
+
+pub join_marks-requires : goal.join_marks-requires
+join_marks-requires c = c.requires.long ∙ sym c.requires.sweep_peeler.sweep.given_long
+
+pub go_on-requires-clause-held : goal.go_on-requires-clause-held
+go_on-requires-clause-held c =
+    heard_held (lifted_checks c.args.lifted.now) (bit c.args.heard.now.items) (bit c.args.values.now.items) c.args.self.now.sweep _ c.requires.sweep_peeler.sweep.held c.hear.ensures refl refl
+
+pub go_on-requires-clause-fillers : goal.go_on-requires-clause-fillers
+go_on-requires-clause-fillers c = λ p low below.
+    let old = c.args.self.now in
+    heard_known (lifted_checks c.args.lifted.now) (bit c.args.heard.now.items) (bit c.args.values.now.items) old.sweep.lanes c.hear.new.self c.requires.sweep_peeler.sweep.held.lanes c.hear.ensures p
+    (fillers_known c.args.lifted.now old c.requires.sweep_peeler p low below)
+
+pub returns : goal.returns
+returns c =
+    let e = c.go_on.ensures in
+    learned c.args.lifted.now c.go_on.new.self e.held e.none_pending e.settled e.counted c.requires.sweep_peeler.sweep.table (bit c.args.heard.now.items) (bit c.args.values.now.items) c.args.self.now c.hear.new.self c.requires.sweep_peeler c.hear.ensures
+    (ap (λ (b : BitList). length b.items) e.given ∙ c.join_marks.ensures.long) (λ p. ap (λ (b : BitList). bit b.items p) e.given ∙ c.join_marks.ensures.joined p) e.keeps e.visited

@@ -1,5 +1,0 @@
-use Rattle.nr_peel.proofs.Marks.{one_marked}
-use Rattle.nr_peel.proofs.hearing.one_marked.Goals as goal
-
-pub returns : goal.returns
-returns c = one_marked c.args.row c.requires

@@ -1,0 +1,78 @@
+//! How positions are given: one, or many at a time, block by block of a list of them.
+
+ghost use Rattle.std.specs.Prelude.{◌≡◌, ◌+◌, ◌<◌, ◌≤◌, ◌==◌, ◌^◌, ℕ, length};
+ghost use Rattle.nr_bitvec.specs.Bit.{bit};
+ghost use Rattle.nr_bitvec.specs.Packed.{IsClear};
+ghost use Rattle.nr_lifting.specs.Rings.{is_set};
+ghost use Rattle.nr_peel.specs.Hearing.{Hears};
+ghost use Rattle.nr_peel.specs.StateInside.{lifted_checks};
+ghost use Rattle.nr_peel.specs.Sweeps.{AreLanes};
+
+use crate::bit_parallel::lanes::Lanes;
+use crate::lifted::Lifted;
+use nr_bitvec::Bits;
+use nr_bitvec::words::low_bits;
+use nr_lifting::{common, lane_count};
+
+// The block of `size` bits of a list from bit `from` on.
+fn read_lane(bits: &Bits, from: usize, size: usize) -> [u64; 6]
+    requires few { size ≤ 384 }
+    requires short { from < 2 ^ 32 }
+    ensures bits { (t : ℕ) → t < size → is_set result t ≡ bit bits.now.items (from + t) }
+    ensures clear { IsClear result size }
+{
+    let mut lane = [0; 6];
+    for i in 0..size.div_ceil(64) {
+        lane[i] = low_bits(bits.window(from + 64 * i), size - 64 * i);
+    }
+    lane
+}
+
+// The lane that marks one row.
+fn one_marked(row: usize) -> [u64; 6]
+    requires { row < 384 }
+    ensures { (t : ℕ) → is_set result t ≡ (row == t) }
+{
+    let mut lane = [0; 6];
+    lane[row / 64] |= 1 << (row % 64);
+    lane
+}
+
+impl Lanes {
+    // Positions are given: those that weren't known take their bits, and are fresh.
+    pub(crate) fn hear(&mut self, lifted: &Lifted<'_>, heard: &Bits, values: &Bits)
+        requires lanes { AreLanes (lifted_checks lifted.now) self.old }
+        requires long { length heard.now.items ≡ (lifted_checks lifted.now).size }
+        ensures { Hears (lifted_checks lifted.now) (bit heard.now.items) (bit values.now.items)
+            self.old self.new }
+    {
+        let size = lifted.plan.z as usize;
+        for j in 0..lifted.plan.graph.cols() as usize {
+            let told = read_lane(heard, j * size, size);
+            let lane = self.known.lacking(j, 0, &told);
+            if lane_count(&lane) != 0 {
+                let bits = common(&lane, &read_lane(values, j * size, size));
+                self.known.join(j, &lane);
+                self.pending.join(j, &lane);
+                self.bits.join(j, &bits);
+            }
+        }
+    }
+    // A position is given: if it wasn't known it takes its bit, and is fresh.
+    pub(crate) fn hear_one(&mut self, lifted: &Lifted<'_>, pos: u32, value: bool)
+        requires lanes { AreLanes (lifted_checks lifted.now) self.old }
+        requires inside { pos < (lifted_checks lifted.now).size }
+        ensures { Hears (lifted_checks lifted.now) (λ p. pos == p) (λ p. value)
+            self.old self.new }
+    {
+        if !self.known.get(pos as usize) {
+            let j = (pos / lifted.plan.z) as usize;
+            let lane = one_marked((pos % lifted.plan.z) as usize);
+            self.known.join(j, &lane);
+            self.pending.join(j, &lane);
+            if value {
+                self.bits.join(j, &lane);
+            }
+        }
+    }
+}

@@ -1,0 +1,141 @@
+//! What a peeler holds, and how positions are given to it: one or many at a time, and then all that follows is fixed.
+
+ghost use Rattle.std.specs.Prelude.{◌≡◌, ◌≢◌, ℕ, ◌+◌, ◌==◌, ◌||◌, ◌<◌, ◌≤◌, true, IfOk, length, slice_index, slice_set};
+ghost use Rattle.std.specs.Int.{bit_at};
+ghost use Rattle.nr_bitvec.specs.Bit.{bit};
+ghost use Rattle.nr_segment.specs.CodeBlock.{numbers};
+ghost use Rattle.nr_shifttable.specs.Accepted.{IsTable};
+ghost use Rattle.nr_peel.specs.Learning.{IsFilled, IsSweepPeeler, Learns};
+ghost use Rattle.nr_peel.specs.Peeling.{bit_where, fillers, left_of};
+ghost use Rattle.nr_peel.specs.Settled.{HasNonePending, IsHeld, Keeps};
+ghost use Rattle.nr_peel.specs.StateInside.{lifted_checks};
+
+use crate::lifted::Lifted;
+use crate::bit_parallel::sweep::Sweep;
+use nr_bitvec::Bits;
+use std::alloc::{AllocError, Global};
+
+// The fillers of a plan, marked.
+pub(crate) fn filler_marks(alloc: Global, lifted: &Lifted<'_>) -> Result<Bits, AllocError>
+    ensures { IfOk result (λ b. b.items ≡ fillers (lifted_checks lifted.now) (numbers lifted.now.plan)) }
+{
+    let mut marks = Bits::zeros(alloc, lifted.plan.graph.cols() * lifted.plan.z)?;
+    for pos in lifted.plan.kdash..lifted.plan.k {
+        marks.set(pos as usize, true);
+    }
+    Ok(marks)
+}
+
+// Marks what `more` marks, besides what is marked.
+fn join_marks(marks: &mut Bits, more: &Bits)
+    requires { length more.now.items ≡ length marks.old.items }
+    ensures joined { (p : ℕ) → bit marks.new.items p
+        ≡ (bit marks.old.items p || bit more.now.items p) }
+    ensures long { length marks.new.items ≡ length marks.old.items }
+{
+    let len = marks.len();
+    for i in 0..len.div_ceil(64) {
+        let at = 64 * i;
+        let word = marks.window(at) | more.window(at);
+        marks.put(at, (len - at).min(64), word);
+    }
+}
+
+// What is known of a code block, the positions that were given, and how many positions below K' aren't known.
+#[derive(Drop)]
+pub(crate) struct SweepPeeler {
+    pub(crate) sweep: Sweep,
+    pub(crate) given: Bits,
+    pub(crate) left: u32,
+}
+
+impl SweepPeeler {
+    // The fillers alone are given, as zeros.
+    pub(crate) fn new(alloc: Global, lifted: &Lifted<'_>) -> Result<SweepPeeler, AllocError>
+        requires { IsTable lifted.now.table.now }
+        ensures { IfOk result (IsFilled lifted.now) }
+    {
+        let mut sweep = Sweep::new(alloc, lifted)?;
+        let given = filler_marks(alloc, lifted)?;
+        // An empty list has zeros alone.
+        let zeros = Bits::new(alloc);
+        sweep.lanes.hear(lifted, &given, &zeros);
+        let mut sweep_peeler = SweepPeeler {
+            sweep,
+            given,
+            left: 0,
+        };
+        sweep_peeler.go_on(lifted);
+        Ok(sweep_peeler)
+    }
+
+    // All that follows becomes known, and what is left is counted.
+    fn go_on(&mut self, lifted: &Lifted<'_>)
+        requires table { IsTable lifted.now.table.now }
+        requires held { IsHeld (lifted_checks lifted.now) self.old.sweep }
+        requires fillers { (p : ℕ) → lifted.now.plan.kdash ≤ p → p < lifted.now.plan.k
+            → bit self.old.sweep.lanes.known.items p ≡ true }
+        ensures given { self.new.given ≡ self.old.given }
+        ensures held { IsHeld (lifted_checks lifted.now) self.new.sweep }
+        ensures none_pending { HasNonePending self.new.sweep.lanes }
+        ensures settled { (k : ℕ) → slice_index self.new.sweep.counts.items k ≢ 1 }
+        ensures visited { self.old.sweep.touches ≤ self.new.sweep.touches }
+        ensures keeps { Keeps (lifted_checks lifted.now) self.old.sweep.lanes self.new.sweep.lanes }
+        ensures counted { self.new.left
+            ≡ left_of lifted.now.plan.kdash self.new.sweep.lanes.known.items }
+    {
+        self.sweep.propagate(lifted);
+        self.left = self.sweep.lanes.left(lifted);
+    }
+
+    // Positions are given: those that weren't known take their bits.
+    pub(crate) fn learn_all(&mut self, lifted: &Lifted<'_>, heard: &Bits, values: &Bits)
+        requires sweep_peeler { IsSweepPeeler lifted.now self.old }
+        requires long { length heard.now.items ≡ (lifted_checks lifted.now).size }
+        ensures { Learns lifted.now (bit heard.now.items) (bit values.now.items)
+            self.old self.new }
+    {
+        join_marks(&mut self.given, heard);
+        self.sweep.lanes.hear(lifted, heard, values);
+        self.go_on(lifted);
+    }
+
+    // A position is given, and takes a bit if it was not known.
+    pub(crate) fn learn(&mut self, lifted: &Lifted<'_>, pos: u32, value: bool)
+        requires sweep_peeler { IsSweepPeeler lifted.now self.old }
+        requires inside { pos < (lifted_checks lifted.now).size }
+        ensures learns { Learns lifted.now (λ p. pos == p) (λ p. value) self.old self.new }
+        ensures given { self.new.given.items ≡ slice_set self.old.given.items pos true }
+    {
+        self.given.set(pos as usize, true);
+        self.sweep.lanes.hear_one(lifted, pos, value);
+        self.go_on(lifted);
+    }
+
+    // The bit of a position, if it is known.
+    pub(crate) fn known(&self, pos: usize) -> Option<bool>
+        requires known { pos < length self.now.sweep.lanes.known.items }
+        requires bits { pos < length self.now.sweep.lanes.bits.items }
+        ensures { result ≡ bit_where self.now.sweep.lanes.known.items
+            self.now.sweep.lanes.bits.items pos }
+    {
+        let lanes = &self.sweep.lanes;
+        if lanes.known.get(pos) {
+            Some(lanes.bits.get(pos))
+        } else {
+            None
+        }
+    }
+
+    // The bits from a position on, the first of them lowest, and how many these are.
+    pub(crate) fn bits_from(&self, pos: usize) -> (u64, u32)
+        requires { pos < length self.now.sweep.lanes.bits.items }
+        ensures bits { (j : ℕ) → j < result.1
+            → (bit_at result.0 j == 1) ≡ bit self.now.sweep.lanes.bits.items (pos + j) }
+        ensures some { 0 < result.1 }
+        ensures few { result.1 ≤ 64 }
+    {
+        let (word, count) = self.sweep.lanes.bits.word_from(pos);
+        (word, count as u32)
+    }
+}
