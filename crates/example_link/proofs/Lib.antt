@@ -1,2 +1,2 @@
-mod Burst
-mod Rounds
+mod BurstFacts
+mod RoundFacts

@@ -1,12 +1,12 @@
 pub mod BitFacts
-pub mod Places
-mod Flips
-pub mod Lists
-pub mod RangeWords
-mod Turns
-mod Loads
-mod Joins
-mod PutWords
-pub mod OctetLists
+pub mod PlaceFacts
+mod AddedBitFacts
+pub mod PackedListFacts
+pub mod RangeWordFacts
+mod OctetReversalFacts
+mod PushedWordFacts
+mod JoinedWordFacts
+mod PutWordFacts
+pub mod OctetListFacts
 mod RoundTrip
-mod SameBits
+mod SameBitsFacts

@@ -1,1 +1,1 @@
-mod Owners
+mod OwnerFacts

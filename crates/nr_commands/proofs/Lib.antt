@@ -1,7 +1,7 @@
 mod CheckLemmas
 mod CutLemmas
-mod HexDigits
-mod HexLanes
-pub mod BlockTexts
+mod HexDigitFacts
+mod HexLaneFacts
+pub mod BlockTextFacts
 pub mod CommandLemmas
 pub mod WrittenLemmas

@@ -1,8 +1,8 @@
-pub mod Check
-mod Generators
-mod NumberBits
-mod Octet
-mod OctetTables
-mod Register
-mod Residues
-mod Sums
+pub mod RemainderFacts
+mod GeneratorFacts
+mod NumberBitFacts
+mod OctetStepFacts
+mod OctetTableFacts
+mod RegisterFacts
+mod ResidueFacts
+mod PolynomialSumFacts

@@ -1,19 +1,19 @@
-mod BlockLines
-pub mod BlockRounds
-mod BlocksUnread
-mod ColumnNames
+mod BlockLineFacts
+pub mod BlockRoundFacts
+mod BlocksReadFacts
+mod ColumnNameFacts
 mod DrawnFacts
 mod FurthestFacts
-mod MarkWords
-mod MarkRanges
-mod MaskMarks
-mod OctetDigits
-mod PlaceItems
-mod Reading
-pub mod Refusals
-mod RoundBlocks
+mod MarkWordFacts
+mod MarkRangeFacts
+mod MaskMarkFacts
+mod OctetDigitFacts
+mod PlaceItemFacts
+mod ReadFailureFacts
+pub mod RefusalFacts
+mod RoundBlockFacts
 pub mod RoundFacts
-mod RoundStarts
-mod ScheduleProcesses
-mod ScheduleRecords
+mod RoundStartFacts
+mod ScheduleProcessFacts
+mod ScheduleRecordFacts
 mod SettingsFacts

@@ -1,8 +1,8 @@
-mod Keeping
-mod Records
-mod MaskWords
-mod MergedWords
-mod MaskAgreement
-mod MergedLists
-mod MergedStores
-mod MergedRecords
+mod KeptBitFacts
+mod RecordLaws
+mod MaskWordFacts
+mod MergedWordFacts
+mod MaskAgreementFacts
+mod MergedListFacts
+mod MergedStoreFacts
+mod MergedRecordFacts

@@ -1,4 +1,4 @@
-pub mod Seats
-mod Tested
-mod Spreads
-mod Unspread
+pub mod SeatFacts
+mod BoundedTestFacts
+mod SpreadTableFacts
+mod UnspreadFacts

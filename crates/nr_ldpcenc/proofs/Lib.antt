@@ -1,12 +1,12 @@
-mod Sums
-mod Core
-mod Columns
-mod Words
-pub mod Codes
-mod Adding
-mod Solved
-mod Written
-mod Shifts
-mod TwoCopies
-mod TurnedSums
-mod MetRows
+mod RowSumFacts
+mod CoreRowFacts
+mod SolvedColumnFacts
+mod InformationWordFacts
+pub mod CodewordFacts
+mod EntrySumFacts
+mod PutColumnFacts
+mod WrittenBitFacts
+mod BorderWordFacts
+mod TwoCopyFacts
+mod DoubledSumFacts
+mod MetRowFacts

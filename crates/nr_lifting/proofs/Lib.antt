@@ -1,10 +1,10 @@
-mod CountViews
-pub mod LaneBits
-pub mod LaneViews
-pub mod LaneWords
-pub mod Listed
-pub mod Moves
-mod Places
-mod PlaneCounts
-mod RingViews
-pub mod Turns
+mod CountViewFacts
+pub mod LaneBitFacts
+pub mod LaneViewFacts
+pub mod LaneWordFacts
+pub mod SetIndexFacts
+pub mod LaneMoveFacts
+mod BlockPlaceFacts
+mod PlaneCountFacts
+mod DoubledLaneFacts
+pub mod RotationFacts

@@ -29,8 +29,8 @@ use Rattle.nr_linkcommands.specs.AuditLines.{audit_block, audit_line, order_line
 use Rattle.nr_files.specs.Rounds.{IsOfBlock, of_process}
 use Rattle.nr_linkcommands.specs.RunText.{received, received_of}
 use Rattle.nr_files.specs.declared.schedule.Transmission.{Transmission}
-use Rattle.nr_files.proofs.BlockRounds.{own-block}
-use Rattle.nr_linkcommands.proofs.RunLines.{some-lines}
+use Rattle.nr_files.proofs.BlockRoundFacts.{own-block}
+use Rattle.nr_linkcommands.proofs.RunLineFacts.{some-lines}
 use Rattle.nr_commands.proofs.WrittenLemmas.{some_at_end}
 
 -- the line of a code block that is fixed, and of one that is not

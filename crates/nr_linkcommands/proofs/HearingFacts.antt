@@ -7,8 +7,8 @@ use Rattle.std.proofs.lemmas.Bool.{cases_lt}
 use Rattle.std.proofs.lemmas.List.{get_or-append_right, get_or_append_left, same_lists}
 use Rattle.std.proofs.lemmas.List.FromFn.{get_or-map-range_with_len, length-map-range_with_len}
 use Rattle.std.proofs.lemmas.Nat.Bits.{bit_at-lt, bit_at_not, bit_at_xor}
-use Rattle.nr_bitvec.proofs.Lists.{bit-low_first, length-low_first}
-use Rattle.nr_bitvec.proofs.Places.{same_from_bits}
+use Rattle.nr_bitvec.proofs.PackedListFacts.{bit-low_first, length-low_first}
+use Rattle.nr_bitvec.proofs.PlaceFacts.{same_from_bits}
 use Rattle.nr_bitvec.specs.Bit.{◌⊕◌, bit}
 use Rattle.nr_bitvec.specs.BitList.{low_first}
 use Rattle.nr_blockdesk.specs.Marks.{heards, heards_from, place_heard}

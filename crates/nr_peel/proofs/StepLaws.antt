@@ -8,7 +8,7 @@ use Rattle.nr_peel.specs.Closure.{Within, any_below}
 use Rattle.nr_peel.specs.Certificates.{accepts, after_steps, all_accepted, is_fixed_by}
 use Rattle.nr_peel.specs.Lanes.{steps_below}
 use Rattle.nr_peel.specs.declared.fix.Fix.{Fix}
-use Rattle.nr_peel.proofs.Ordered.{accepts_more, after_accepted, all_accepted-push}
+use Rattle.nr_peel.proofs.FixOrderFacts.{accepts_more, after_accepted, all_accepted-push}
 
 -- a position is fixed where some marked row's step has it
 pub steps_fix : (step : ℕ → Fix) (u : ℕ → Bool) (q n : ℕ) → is_fixed_by (steps_below step u n) q ≡ any_below (λ t. u t && ((step t).pos == q)) n

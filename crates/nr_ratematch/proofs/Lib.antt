@@ -1,6 +1,6 @@
-mod Buffers
+mod BufferFacts
 mod LengthLemmas
-mod MarkWords
-mod Ranges
-mod Rounding
-mod Runs
+mod MaskWordFacts
+mod RangeFacts
+mod CycleFacts
+mod RunFacts

@@ -9,7 +9,7 @@ use Rattle.std.proofs.Math.Seq.{take-suc, take-add}
 use Rattle.std.specs.List.{range_with_len}
 use Rattle.nr_bitvec.specs.Bit.{bit}
 use Rattle.nr_crcattach.specs.Crc.{high_first, crc_of}
-use Rattle.nr_crcattach.proofs.Check.{length-high_first}
+use Rattle.nr_crcattach.proofs.RemainderFacts.{length-high_first}
 use Rattle.nr_crcattach.specs.declared.Poly.TheVariants.{B24}
 use Rattle.nr_graphpick.specs.declared.Graph.{Graph}
 use Rattle.nr_segment.specs.Plan.{Numbers, IsSound, plan_of}

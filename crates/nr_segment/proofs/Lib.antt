@@ -1,3 +1,3 @@
 mod CodeBlockLemmas
 mod PlanLemmas
-mod SizeSearch
+mod SizeSearchFacts

@@ -10,7 +10,7 @@ use Rattle.nr_graphpick.specs.declared.Graph.TheVariants.{One, Two}
 use Rattle.nr_lifting.specs.Sizes.{sizes, is_in, least_size, set_index}
 use Rattle.nr_segment.specs.declared.numbers.SegFault.TheVariants.{Short, Long, Uneven}
 use Rattle.nr_segment.specs.Plan.{check_bits, block_count, total_bits, kdash_of, info_columns, lifting_size, numbers_of, plan_of, Numbers, IsSound}
-use Rattle.nr_segment.proofs.SizeSearch.{least_size-holds, least_size-half, least_size-listed, least_size-some, listed-most, set_index-some}
+use Rattle.nr_segment.proofs.SizeSearchFacts.{least_size-holds, least_size-half, least_size-listed, least_size-some, listed-most, set_index-some}
 
 -- an option that has a value has the one that it is unwrapped to
 some-unwrap_or : (o : Option ℕ) → IsSome o → o ≡ Some (unwrap_or o 0)

@@ -1,22 +1,22 @@
-mod Between
-mod Columns
-mod Feeds
+mod SliceBoundFacts
+mod AscendingEntryFacts
+mod FeedFacts
 mod FieldFacts
 mod ItemFacts
 mod ItemLaws
-mod Kept
-mod Judged
-pub mod Order
-mod Parity
-mod Placed
-mod Places
+mod KeptItemFacts
+mod JudgedFaultFacts
+pub mod EntryOrderFacts
+mod BoundedLoopFacts
+mod PlacedEntryFacts
+mod ItemPlaceFacts
 mod RecordFacts
-pub mod Shape
-mod Slices
-mod Lines
-mod CoreSums
-mod Converse
-mod Written
-mod Faults
-mod RecordOrder
-mod ColumnStarts
+pub mod ParityShapeFacts
+mod SliceFacts
+mod RowOrderFacts
+mod CoreSumFacts
+mod ShapeConverseFacts
+mod WrittenItemFacts
+mod ParityFaultFacts
+mod RecordOrderFacts
+mod ColumnStartFacts

@@ -1,5 +1,5 @@
 use Rattle.std.proofs.Common.{arith}
-use Rattle.nr_cbconcat.proofs.Owners.{owner-only}
+use Rattle.nr_cbconcat.proofs.OwnerFacts.{owner-only}
 use Rattle.nr_cbconcat.proofs.owner.Goals as goal
 
 pub returns-then-place-length-clause-value : goal.returns-then-place-length-clause-value

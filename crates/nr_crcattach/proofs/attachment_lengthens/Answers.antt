@@ -1,4 +1,4 @@
-use Rattle.nr_crcattach.proofs.Check.{length-attached, length-with_check, length-attached_long, length-attached_short}
+use Rattle.nr_crcattach.proofs.RemainderFacts.{length-attached, length-with_check, length-attached_long, length-attached_short}
 use Rattle.nr_crcattach.proofs.attachment_lengthens.Goals as goal
 
 pub returns-clause-check : goal.returns-clause-check

@@ -4,7 +4,7 @@ use Rattle.std.proofs.Math.Seq.{take-add, drop-drop}
 use Rattle.std.proofs.lemmas.Nat.{pow_pos}
 use Rattle.nr_crcattach.specs.Crc.{degree, residue}
 use Rattle.nr_bitvec.specs.BitList.{low_first}
-use Rattle.nr_crcattach.proofs.NumberBits.{low_first-window}
+use Rattle.nr_crcattach.proofs.NumberBitFacts.{low_first-window}
 use Rattle.nr_crcattach.proofs.crc_of_words.Goals as goal
 
 pub loop-i-init : goal.loop-i-init

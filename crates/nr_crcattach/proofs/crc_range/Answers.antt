@@ -4,8 +4,8 @@ use Rattle.std.proofs.lemmas.Nat.{one_shl, xor_lt}
 use Rattle.std.proofs.lemmas.List.{take_more, get_or-drop}
 use Rattle.nr_crcattach.specs.declared.Poly.{Poly}
 use Rattle.nr_crcattach.specs.Crc.{degree, residue, times_d}
-use Rattle.nr_crcattach.proofs.Generators.{degree-le, degree-positive}
-use Rattle.nr_crcattach.proofs.Register.{entering, entering-lt, residue-next}
+use Rattle.nr_crcattach.proofs.GeneratorFacts.{degree-le, degree-positive}
+use Rattle.nr_crcattach.proofs.RegisterFacts.{entering, entering-lt, residue-next}
 use Rattle.nr_crcattach.proofs.crc_range.Goals as goal
 use mir.Val.{bool_byte}
 

@@ -2,7 +2,7 @@
 use Rattle.std.proofs.Common.{sym, ◌∙◌, eq-eqb}
 use Rattle.std.proofs.lemmas.Bool.{eqb-true}
 use Rattle.nr_crcattach.specs.Crc.{degree}
-use Rattle.nr_crcattach.proofs.Check.{residue-zero, residue-zero_only}
+use Rattle.nr_crcattach.proofs.RemainderFacts.{residue-zero, residue-zero_only}
 use Rattle.nr_crcattach.proofs.divides.Goals as goal
 
 pub returns : goal.returns

@@ -1,5 +1,5 @@
 use Rattle.std.proofs.Common.{arith}
-use Rattle.nr_crcattach.proofs.Check.{length-with_check}
+use Rattle.nr_crcattach.proofs.RemainderFacts.{length-with_check}
 use Rattle.nr_crcattach.proofs.followed_by_check.Goals as goal
 
 pub put_with_check-requires : goal.put_with_check-requires

@@ -2,7 +2,7 @@ use Rattle.std.proofs.Common.{◌≡◌, ◌-◌, ◌/◌, ◌^◌, ◌==◌, su
 use Rattle.std.specs.Int.{bit_at}
 use Rattle.std.proofs.lemmas.Nat.Bits.{shr_and_one}
 use Rattle.nr_crcattach.specs.Crc.{high_first}
-use Rattle.nr_crcattach.proofs.Check.{high_first-next, length-high_first}
+use Rattle.nr_crcattach.proofs.RemainderFacts.{high_first-next, length-high_first}
 use Rattle.nr_crcattach.proofs.put_with_check.Goals as goal
 
 pub push_in_room-requires : goal.push_in_room-requires

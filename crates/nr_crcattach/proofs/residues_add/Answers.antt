@@ -1,4 +1,4 @@
-use Rattle.nr_crcattach.proofs.Residues.{times_d-xor, residue-suc, residue-append}
+use Rattle.nr_crcattach.proofs.ResidueFacts.{times_d-xor, residue-suc, residue-append}
 use Rattle.nr_crcattach.proofs.residues_add.Goals as goal
 
 pub returns-clause-sum : goal.returns-clause-sum

@@ -1,4 +1,4 @@
-use Rattle.nr_interleave.proofs.Seats.{seating}
+use Rattle.nr_interleave.proofs.SeatFacts.{seating}
 use Rattle.nr_interleave.proofs.seats_are_seating.Goals as goal
 
 pub returns : goal.returns

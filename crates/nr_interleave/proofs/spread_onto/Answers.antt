@@ -1,6 +1,6 @@
 use Rattle.std.proofs.Common.{◌≡◌, ◌++◌, ◌∙◌, take, drop, ap, arith}
 use Rattle.nr_interleave.specs.Interleaving.{interleaved}
-use Rattle.nr_interleave.proofs.Spreads.{by-2, by-4, by-6, by-8, one-row}
+use Rattle.nr_interleave.proofs.SpreadTableFacts.{by-2, by-4, by-6, by-8, one-row}
 use Rattle.nr_interleave.proofs.spread_onto.Goals as goal
 
 pub by_columns-requires-clause-spreads : goal.by_columns-requires-clause-spreads

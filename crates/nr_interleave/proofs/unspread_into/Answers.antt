@@ -2,8 +2,8 @@ use Rattle.std.proofs.Common.{◌≡◌, ℕ, ◌+◌, ◌%◌, ◌<◌, ◌≤�
 use Rattle.std.proofs.lemmas.List.{take_all}
 use Rattle.nr_interleave.specs.Interleaving.{interleaved}
 use Rattle.nr_interleave.specs.Unspreading.{row_by_row}
-use Rattle.nr_interleave.proofs.Unspread.{rows-many, of-2, of-4, of-6, of-8, rows-unspread}
-use Rattle.nr_interleave.proofs.Spreads.{one-row}
+use Rattle.nr_interleave.proofs.UnspreadFacts.{rows-many, of-2, of-4, of-6, of-8, rows-unspread}
+use Rattle.nr_interleave.proofs.SpreadTableFacts.{one-row}
 use Rattle.nr_interleave.proofs.unspread_into.Goals as goal
 
 pub by_rows-requires-clause-together : goal.by_rows-requires-clause-together

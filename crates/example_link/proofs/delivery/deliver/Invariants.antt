@@ -1,7 +1,7 @@
 use Rattle.std.proofs.Common.{◌≡◌, Ok, length, take}
 use Rattle.nr_blockdesk.specs.Link.{Link, link_said}
 use Rattle.example_link.specs.Delivery.{arrivals}
-use Rattle.example_link.proofs.Rounds.{HasHeard}
+use Rattle.example_link.proofs.RoundFacts.{HasHeard}
 use Rattle.example_link.proofs.delivery.deliver.Given as goal
 
 -- the process has received what arrived in the attempts so far

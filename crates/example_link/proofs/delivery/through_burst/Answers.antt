@@ -1,5 +1,5 @@
 use Rattle.std.proofs.Common.{arith}
-use Rattle.example_link.proofs.Burst.{heard-all, heard-more}
+use Rattle.example_link.proofs.BurstFacts.{heard-all, heard-more}
 use Rattle.example_link.proofs.delivery.through_burst.Goals as goal
 
 pub loop-place-preserved : goal.loop-place-preserved

@@ -1,4 +1,4 @@
-use Rattle.nr_bitvec.proofs.Turns.{reversed-place}
+use Rattle.nr_bitvec.proofs.OctetReversalFacts.{reversed-place}
 use Rattle.nr_bitvec.proofs.octets.reversed.Goals as goal
 
 pub returns : goal.returns

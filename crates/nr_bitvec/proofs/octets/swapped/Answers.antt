@@ -1,4 +1,4 @@
-use Rattle.nr_bitvec.proofs.Turns.{swapped-place}
+use Rattle.nr_bitvec.proofs.OctetReversalFacts.{swapped-place}
 use Rattle.nr_bitvec.proofs.octets.swapped.Goals as goal
 
 pub returns : goal.returns

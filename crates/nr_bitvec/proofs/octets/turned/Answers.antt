@@ -1,4 +1,4 @@
-use Rattle.nr_bitvec.proofs.Turns.{turned-place}
+use Rattle.nr_bitvec.proofs.OctetReversalFacts.{turned-place}
 use Rattle.nr_bitvec.proofs.octets.turned.Goals as goal
 
 pub returns : goal.returns

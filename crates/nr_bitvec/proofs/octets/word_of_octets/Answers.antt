@@ -1,5 +1,5 @@
 use Rattle.std.proofs.Common.{◌≡◌, refl, arith, length}
-use Rattle.nr_bitvec.proofs.Turns.{gathers_none, gathers_more, gathers_all, gathers_eight}
+use Rattle.nr_bitvec.proofs.OctetReversalFacts.{gathers_none, gathers_more, gathers_all, gathers_eight}
 use Rattle.nr_bitvec.proofs.octets.word_of_octets.Goals as goal
 
 -- eight octets at once

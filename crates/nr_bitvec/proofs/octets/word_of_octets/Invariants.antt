@@ -1,4 +1,4 @@
-use Rattle.nr_bitvec.proofs.Turns.{Gathers}
+use Rattle.nr_bitvec.proofs.OctetReversalFacts.{Gathers}
 use Rattle.nr_bitvec.proofs.octets.word_of_octets.Given as goal
 
 -- the octets so far stand in the word

@@ -1,4 +1,4 @@
-use Rattle.nr_bitvec.proofs.Lists.{changes-from}
+use Rattle.nr_bitvec.proofs.PackedListFacts.{changes-from}
 use Rattle.nr_bitvec.proofs.words.change.Goals as goal
 
 pub returns : goal.returns

@@ -1,6 +1,6 @@
 use Rattle.std.proofs.Common.{◌≡◌, ◌/◌, ◌+◌, ◌<◌, inl, inr, length, get_or, arith, length-set}
 use Rattle.std.proofs.lemmas.List.{get_or_read}
-use Rattle.nr_bitvec.proofs.Flips.{flip-one, flip-both}
+use Rattle.nr_bitvec.proofs.AddedBitFacts.{flip-one, flip-both}
 use Rattle.nr_bitvec.proofs.words.flip.Goals.{else-turn-ne0-via-then-turn-ne0+else-word-len-2, else-turn-ne0-via-else-turn-ne0}
 use Rattle.nr_bitvec.proofs.words.flip.Goals as goal
 

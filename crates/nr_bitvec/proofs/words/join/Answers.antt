@@ -1,5 +1,5 @@
 use Rattle.std.proofs.Common.{refl, arith, ◌∙◌}
-use Rattle.nr_bitvec.proofs.Joins.{joins_none, joins_more, joins-fit}
+use Rattle.nr_bitvec.proofs.JoinedWordFacts.{joins_none, joins_more, joins-fit}
 use Rattle.nr_bitvec.proofs.words.join.Goals as goal
 
 pub loop-i-init : goal.loop-i-init

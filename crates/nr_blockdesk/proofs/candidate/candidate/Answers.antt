@@ -5,7 +5,7 @@ use Rattle.std.proofs.Math.Nat.{div-lt_iff_lt-mul}
 use Rattle.nr_peel.specs.Peeling.{Peeling}
 use Rattle.nr_segment.specs.CodeBlock.{numbers}
 use Rattle.nr_blockdesk.specs.ReceivingInside.{known_bit}
-use Rattle.nr_blockdesk.proofs.Encoding.{read-more}
+use Rattle.nr_blockdesk.proofs.EncodingFacts.{read-more}
 use Rattle.nr_blockdesk.proofs.candidate.candidate.Goals as goal
 
 pub loop-i-preserved : goal.loop-i-preserved

@@ -1,5 +1,5 @@
 use Rattle.std.proofs.Common.{take, ap, ◌∙◌, arith}
-use Rattle.nr_blockdesk.proofs.Encoding.{copied-all, copied-more}
+use Rattle.nr_blockdesk.proofs.EncodingFacts.{copied-all, copied-more}
 use Rattle.nr_blockdesk.proofs.candidate.copy_bits.Goals as goal
 
 pub loop-i-preserved : goal.loop-i-preserved

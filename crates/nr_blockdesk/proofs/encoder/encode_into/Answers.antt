@@ -5,7 +5,7 @@ use Rattle.nr_crcattach.specs.Crc.{crc_of}
 use Rattle.nr_crcattach.specs.declared.Poly.TheVariants.{B24}
 use Rattle.nr_ldpcenc.specs.Codeword.{codeword, completed}
 use Rattle.nr_segment.specs.CodeBlock.{code_block, numbers, part_of, share}
-use Rattle.nr_blockdesk.proofs.Encoding.{begins-with, code-shared, copied-more, k-fits, part-inside, same-more}
+use Rattle.nr_blockdesk.proofs.EncodingFacts.{begins-with, code-shared, copied-more, k-fits, part-inside, same-more}
 use Rattle.nr_blockdesk.proofs.encoder.encode_into.Goals as goal
 
 pub loop-i-preserved : goal.loop-i-preserved

@@ -8,7 +8,7 @@ use Rattle.nr_segment.specs.Plan.{word_size}
 use Rattle.nr_segment.specs.CodeBlock.{code_bits, numbers}
 use Rattle.nr_blockdesk.specs.Heard.{heard_of}
 use Rattle.nr_blockdesk.specs.ReceivingInside.{Fits}
-use Rattle.nr_blockdesk.proofs.Kept.{words-more, words-set}
+use Rattle.nr_blockdesk.proofs.KeptCandidateFacts.{words-more, words-set}
 use Rattle.nr_blockdesk.proofs.encoder.explains.Goals as goal
 
 pub encode_into-requires-clause-long : goal.encode_into-requires-clause-long

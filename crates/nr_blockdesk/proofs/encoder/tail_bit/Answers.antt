@@ -2,7 +2,7 @@ use Rattle.std.proofs.Common.{◌≡◌, ℕ, ◌+◌, ◌-◌, ◌^◌, ◌/◌
 use Rattle.std.specs.Int.{bit_at}
 use Rattle.std.proofs.lemmas.Nat.Bits.{shr_and_one}
 use Rattle.nr_segment.specs.CodeBlock.{numbers, part_of, share}
-use Rattle.nr_blockdesk.proofs.Encoding.{code-checked, code-filled, part-inside}
+use Rattle.nr_blockdesk.proofs.EncodingFacts.{code-checked, code-filled, part-inside}
 use Rattle.nr_blockdesk.proofs.encoder.tail_bit.Goals as goal
 
 pub returns-then-k-plan : goal.returns-then-k-plan

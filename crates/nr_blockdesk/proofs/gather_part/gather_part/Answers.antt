@@ -5,8 +5,8 @@ use Rattle.nr_bitvec.specs.Bit.{bit}
 use Rattle.nr_graphpick.specs.Graph.{cols_of}
 use Rattle.nr_harqbuf.specs.Masks.{says}
 use Rattle.nr_blockdesk.specs.Inside.{bit_says}
-use Rattle.nr_blockdesk.proofs.Merging.{empty-bit}
-use Rattle.nr_blockdesk.proofs.Telling.{none-more, run-more}
+use Rattle.nr_blockdesk.proofs.MergingFacts.{empty-bit}
+use Rattle.nr_blockdesk.proofs.SelectedBitFacts.{none-more, run-more}
 use Rattle.nr_blockdesk.proofs.gather_part.gather_part.Goals as goal
 
 pub loop-k-init : goal.loop-k-init

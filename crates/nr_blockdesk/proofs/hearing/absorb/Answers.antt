@@ -2,7 +2,7 @@ use Rattle.std.proofs.Common.{◌≡◌, length, subst, sym}
 use Rattle.nr_bitvec.specs.Bit.{bit}
 use Rattle.nr_harqbuf.specs.Record.{HeardBits}
 use Rattle.nr_blockdesk.specs.ReceivingInside.{Fits, IsNews, Agrees}
-use Rattle.nr_blockdesk.proofs.Merging.{fewer-merged, news-merged, recorded-all, tells-merged}
+use Rattle.nr_blockdesk.proofs.MergingFacts.{fewer-merged, news-merged, recorded-all, tells-merged}
 use Rattle.nr_blockdesk.proofs.hearing.absorb.Goals as goal
 
 pub returns-clause-hears : goal.returns-clause-hears

@@ -4,8 +4,8 @@ use Rattle.std.proofs.lemmas.List.{get_or_read, length-set}
 use Rattle.std.proofs.lemmas.List.Sums.{sum_by_more, sum_by_more_le}
 use Rattle.nr_blockdesk.specs.Marks.{heards, heards_from}
 use Rattle.nr_blockdesk.specs.ReceivingInside.{HearsPart, piece}
-use Rattle.nr_blockdesk.proofs.Hears.{all-tell-more, done-more, hears-same, later-kept, peelers-kept}
-use Rattle.nr_blockdesk.proofs.Marked.{piece-heards}
+use Rattle.nr_blockdesk.proofs.HearingFacts.{all-tell-more, done-more, hears-same, later-kept, peelers-kept}
+use Rattle.nr_blockdesk.proofs.MarkFacts.{piece-heards}
 use Rattle.nr_blockdesk.proofs.hearing.hear.Goals as goal
 
 pub loop-r-preserved : goal.loop-r-preserved

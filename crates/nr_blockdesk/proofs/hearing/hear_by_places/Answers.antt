@@ -11,10 +11,10 @@ use Rattle.nr_blockdesk.specs.Marks.{place_heard}
 use Rattle.nr_blockdesk.specs.Inside.{heards_of}
 use Rattle.nr_blockdesk.specs.ReceivingInside.{Fits, IsNews, Agrees, part_hearings}
 use Rattle.nr_blockdesk.specs.declared.part_masks.PartMasks.{PartMasks}
-use Rattle.nr_blockdesk.proofs.Hears.{first-kept, first-set, fits-before, part-none, part-some, recorded-more, tells-more}
-use Rattle.nr_blockdesk.proofs.Marked.{heard-at, length-heards, some-marked}
-use Rattle.nr_blockdesk.proofs.News.{news-again, news-more}
-use Rattle.nr_blockdesk.proofs.Recorded.{heard-some}
+use Rattle.nr_blockdesk.proofs.HearingFacts.{first-kept, first-set, fits-before, part-none, part-some, recorded-more, tells-more}
+use Rattle.nr_blockdesk.proofs.MarkFacts.{heard-at, length-heards, some-marked}
+use Rattle.nr_blockdesk.proofs.NewPositionFacts.{news-again, news-more}
+use Rattle.nr_blockdesk.proofs.RecordFacts.{heard-some}
 use Rattle.nr_blockdesk.proofs.hearing.hear_by_places.Goals as goal
 use Rattle.nr_blockdesk.proofs.hearing.hear_by_places.Goals.{then-get, then-is_none, else-is_none, else-get}
 

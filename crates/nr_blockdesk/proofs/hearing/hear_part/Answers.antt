@@ -1,7 +1,7 @@
 use Rattle.std.proofs.Common.{length, sym, ◌∙◌}
 use Rattle.nr_blockdesk.specs.Inside.{heards_of}
 use Rattle.nr_blockdesk.specs.ReceivingInside.{part_hearings}
-use Rattle.nr_blockdesk.proofs.Telling.{says-part}
+use Rattle.nr_blockdesk.proofs.SelectedBitFacts.{says-part}
 use Rattle.nr_blockdesk.proofs.hearing.hear_part.Goals as goal
 
 pub returns-then-gather_part-clause-hears : goal.returns-then-gather_part-clause-hears

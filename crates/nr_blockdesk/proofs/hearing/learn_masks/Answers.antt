@@ -1,6 +1,6 @@
-use Rattle.nr_blockdesk.proofs.Merging.{empty-all}
+use Rattle.nr_blockdesk.proofs.MergingFacts.{empty-all}
 use Rattle.std.proofs.Common.{length, refl}
-use Rattle.nr_blockdesk.proofs.News.{tied-news, tied-still}
+use Rattle.nr_blockdesk.proofs.NewPositionFacts.{tied-news, tied-still}
 use Rattle.nr_blockdesk.proofs.hearing.learn_masks.Goals as goal
 
 pub returns-then-is_empty-clause-tied : goal.returns-then-is_empty-clause-tied

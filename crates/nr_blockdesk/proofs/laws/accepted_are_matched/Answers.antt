@@ -1,4 +1,4 @@
-use Rattle.nr_blockdesk.proofs.Sends.{accepted-matched}
+use Rattle.nr_blockdesk.proofs.SenderFacts.{accepted-matched}
 use Rattle.nr_blockdesk.proofs.laws.accepted_are_matched.Goals as goal
 
 pub returns : goal.returns

@@ -1,4 +1,4 @@
-use Rattle.nr_blockdesk.proofs.Sends.{accepted-all}
+use Rattle.nr_blockdesk.proofs.SenderFacts.{accepted-all}
 use Rattle.nr_blockdesk.proofs.laws.accepted_send_all.Goals as goal
 
 pub returns : goal.returns

@@ -1,4 +1,4 @@
-use Rattle.nr_blockdesk.proofs.Links.{words-plain}
+use Rattle.nr_blockdesk.proofs.LinkFacts.{words-plain}
 use Rattle.nr_blockdesk.proofs.laws.words_are_plain.Goals as goal
 
 pub returns : goal.returns

@@ -3,7 +3,7 @@ use Rattle.nr_graphpick.specs.declared.Graph.{Graph}
 use Rattle.nr_segment.specs.CodeBlock.{numbers}
 use Rattle.nr_segment.specs.Plan.{plan_of}
 use Rattle.nr_shifttable.specs.Accepted.{has_graph}
-use Rattle.nr_blockdesk.proofs.Links.{said-buffer, said-graph, said-link, said-pick, said-seg, said-size}
+use Rattle.nr_blockdesk.proofs.LinkFacts.{said-buffer, said-graph, said-link, said-pick, said-seg, said-size}
 use Rattle.nr_blockdesk.proofs.link.agree.Goals as goal
 
 pub returns-then-not-is_whole-clause-said : goal.returns-then-not-is_whole-clause-said

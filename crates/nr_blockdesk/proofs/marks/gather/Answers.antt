@@ -1,7 +1,7 @@
 use Rattle.std.proofs.Common.{◌+◌, refl, sym, ◌∙◌, arith}
 use Rattle.std.proofs.lemmas.List.{get_or_default}
 use Rattle.nr_blockdesk.specs.declared.heard.Heard.TheVariants as heard
-use Rattle.nr_blockdesk.proofs.Gathered.{gathered-more, gathered-none}
+use Rattle.nr_blockdesk.proofs.GatheredWordFacts.{gathered-more, gathered-none}
 use Rattle.nr_blockdesk.proofs.marks.gather.Goals as goal
 
 pub loop-j-init : goal.loop-j-init

@@ -1,9 +1,9 @@
 use Rattle.std.proofs.Common.{◌≡◌, ◌+◌, ◌*◌, ◌++◌, min, length, ap, ◌∙◌, arith, length-append}
-use Rattle.nr_bitvec.proofs.Lists.{length-low_first}
+use Rattle.nr_bitvec.proofs.PackedListFacts.{length-low_first}
 use Rattle.nr_bitvec.specs.Bit.{bit}
 use Rattle.nr_bitvec.specs.BitList.{low_first}
 use Rattle.nr_blockdesk.specs.Marks.{place_heard}
-use Rattle.nr_blockdesk.proofs.Marked.{heards-are, heards-more}
+use Rattle.nr_blockdesk.proofs.MarkFacts.{heards-are, heards-more}
 use Rattle.nr_blockdesk.proofs.marks.marks_of.Goals as goal
 
 pub loop-i-preserved : goal.loop-i-preserved

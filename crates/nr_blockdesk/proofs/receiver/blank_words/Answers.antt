@@ -2,7 +2,7 @@ use Rattle.std.proofs.Common.{◌≡◌, ◌+◌, [], ◌∷◌, false, length, 
 use Rattle.std.proofs.lemmas.List.{length-replicate}
 use Rattle.nr_segment.specs.Plan.{word_size}
 use Rattle.nr_segment.specs.CodeBlock.{numbers}
-use Rattle.nr_blockdesk.proofs.Decided.{all-push}
+use Rattle.nr_blockdesk.proofs.CandidateFacts.{all-push}
 use Rattle.nr_blockdesk.proofs.receiver.blank_words.Goals as goal
 
 pub loop-preserved : goal.loop-preserved

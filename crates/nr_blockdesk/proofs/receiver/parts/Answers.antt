@@ -2,7 +2,7 @@ use Rattle.std.proofs.Common.{◌≡◌, ◌+◌, [], ◌∷◌, length, All, le
 use Rattle.nr_segment.specs.CodeBlock.{positions_of, numbers}
 use Rattle.nr_harqbuf.specs.Record.{HeardBits, record_of}
 use Rattle.nr_peel.specs.Peeling.{IsStarted}
-use Rattle.nr_blockdesk.proofs.Decided.{all-push}
+use Rattle.nr_blockdesk.proofs.CandidateFacts.{all-push}
 use Rattle.nr_blockdesk.proofs.receiver.parts.Goals as goal
 
 pub loop-preserved : goal.loop-preserved

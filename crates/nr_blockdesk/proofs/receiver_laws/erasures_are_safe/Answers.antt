@@ -1,4 +1,4 @@
-use Rattle.nr_blockdesk.proofs.Outcomes.{erasures-safe}
+use Rattle.nr_blockdesk.proofs.OutcomeFacts.{erasures-safe}
 use Rattle.nr_blockdesk.proofs.receiver_laws.erasures_are_safe.Goals as goal
 
 pub returns : goal.returns

@@ -1,4 +1,4 @@
-use Rattle.nr_blockdesk.proofs.Outcomes.{explained-delivered}
+use Rattle.nr_blockdesk.proofs.OutcomeFacts.{explained-delivered}
 use Rattle.nr_blockdesk.proofs.receiver_laws.explained_is_delivered.Goals as goal
 
 pub returns : goal.returns

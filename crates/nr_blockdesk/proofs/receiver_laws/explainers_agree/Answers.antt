@@ -1,4 +1,4 @@
-use Rattle.nr_blockdesk.proofs.Deciding.{explainers-agree}
+use Rattle.nr_blockdesk.proofs.ClosureDecisionFacts.{explainers-agree}
 use Rattle.nr_blockdesk.proofs.receiver_laws.explainers_agree.Goals as goal
 
 pub returns : goal.returns

@@ -1,4 +1,4 @@
-use Rattle.nr_blockdesk.proofs.Recorded.{explains-by_record}
+use Rattle.nr_blockdesk.proofs.RecordFacts.{explains-by_record}
 use Rattle.nr_blockdesk.proofs.receiver_laws.explains_by_record.Goals as goal
 
 pub returns : goal.returns

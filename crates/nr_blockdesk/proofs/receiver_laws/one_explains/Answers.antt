@@ -1,4 +1,4 @@
-use Rattle.nr_blockdesk.proofs.Deciding.{one-explains}
+use Rattle.nr_blockdesk.proofs.ClosureDecisionFacts.{one-explains}
 use Rattle.nr_blockdesk.proofs.receiver_laws.one_explains.Goals as goal
 
 pub returns : goal.returns

@@ -1,4 +1,4 @@
-use Rattle.nr_blockdesk.proofs.Exact.{outcomes-exact}
+use Rattle.nr_blockdesk.proofs.OutcomeExactFacts.{outcomes-exact}
 use Rattle.nr_blockdesk.proofs.receiver_laws.outcomes_are_exact.Goals as goal
 
 pub returns : goal.returns

@@ -1,4 +1,4 @@
-use Rattle.nr_blockdesk.proofs.Exact.{outcomes-settle}
+use Rattle.nr_blockdesk.proofs.OutcomeExactFacts.{outcomes-settle}
 use Rattle.nr_blockdesk.proofs.receiver_laws.outcomes_settle.Goals as goal
 
 pub returns : goal.returns

@@ -1,5 +1,5 @@
 use Rattle.std.proofs.Common.{arith}
-use Rattle.nr_blockdesk.proofs.Sends.{said-fault, said-lengths, said-rv}
+use Rattle.nr_blockdesk.proofs.SenderFacts.{said-fault, said-lengths, said-rv}
 use Rattle.nr_blockdesk.proofs.sender.judge.Goals as goal
 
 pub returns-then-tx-gt3-clause-said : goal.returns-then-tx-gt3-clause-said

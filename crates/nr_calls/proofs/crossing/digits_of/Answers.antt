@@ -1,4 +1,4 @@
-use Rattle.nr_calls.proofs.Digits.{eight_lanes}
+use Rattle.nr_calls.proofs.LowDigitFacts.{eight_lanes}
 use Rattle.nr_calls.proofs.crossing.digits_of.Goals as goal
 
 pub returns : goal.returns

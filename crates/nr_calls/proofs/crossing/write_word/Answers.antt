@@ -2,7 +2,7 @@ use Rattle.std.proofs.Common.{◌≢◌, ◌+◌, ◌*◌, ◌/◌, ◌^◌, ◌
 use Rattle.std.proofs.lemmas.Nat.{shr-shr}
 use Rattle.std.proofs.lemmas.Nat.Bits.{shr_and_one}
 use Rattle.std.specs.Int.RustNames.{bit_and}
-use Rattle.nr_calls.proofs.Digits.{eight_more}
+use Rattle.nr_calls.proofs.LowDigitFacts.{eight_more}
 use Rattle.nr_calls.proofs.crossing.write_word.Goals as goal
 
 -- eight octets more are written

@@ -1,6 +1,6 @@
 use Rattle.std.proofs.Common.{◌*◌, ap, refl}
 use Rattle.nr_segment.specs.CodeBlock.{numbers}
-use Rattle.nr_calls.proofs.Liftings.{no_plan, other_size}
+use Rattle.nr_calls.proofs.LiftingSizeFacts.{no_plan, other_size}
 use Rattle.nr_calls.proofs.encoding.lifted.Goals as goal
 
 pub returns-in_default-clause-said : goal.returns-in_default-clause-said

@@ -3,7 +3,7 @@ use Rattle.std.proofs.Math.ListN.{length-set}
 use Rattle.nr_ldpcenc.specs.Codeword.{completed}
 use Rattle.nr_segment.specs.CodeBlock.{numbers}
 use Rattle.nr_calls.specs.Coding.{is_one}
-use Rattle.nr_calls.proofs.Encoded.{begins, info_most, info_within, word-for}
+use Rattle.nr_calls.proofs.EncodedWordFacts.{begins, info_most, info_within, word-for}
 use Rattle.nr_calls.proofs.encoding.word_on.Goals as goal
 
 pub set-requires : goal.set-requires

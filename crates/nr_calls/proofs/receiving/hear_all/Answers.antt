@@ -3,7 +3,7 @@ use Rattle.std.proofs.lemmas.List.FromFn.{length-map-range_with_len}
 use Rattle.std.proofs.lemmas.Result.{err_from_is_err_and}
 use Rattle.nr_blockdesk.specs.Link.{IsLink, Link}
 use Rattle.nr_blockdesk.specs.Outcome.{left}
-use Rattle.nr_calls.proofs.Hearings.{heard-all, heard-block, heard-err, heard-many, heard-more, heard-over, heard-short}
+use Rattle.nr_calls.proofs.ReceptionListFacts.{heard-all, heard-block, heard-err, heard-many, heard-more, heard-over, heard-short}
 use Rattle.nr_calls.proofs.receiving.hear_all.Goals as goal
 
 pub returns-then-places-g-clause-said : goal.returns-then-places-g-clause-said

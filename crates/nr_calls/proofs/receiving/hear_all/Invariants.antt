@@ -1,7 +1,7 @@
 use Rattle.std.proofs.Common.{◌≡◌, [], length}
 use Rattle.nr_blockdesk.specs.Receiving.{verdict}
 use Rattle.nr_calls.specs.Receiving.{heard_said}
-use Rattle.nr_calls.proofs.Hearings.{HasHeard}
+use Rattle.nr_calls.proofs.ReceptionListFacts.{HasHeard}
 use Rattle.nr_calls.proofs.receiving.hear_all.Given as goal
 
 -- what is said of all transmissions is said of those that are left, after the ones that were received

@@ -3,7 +3,7 @@ use Rattle.nr_blockdesk.specs.Explains.{reception}
 use Rattle.nr_blockdesk.specs.Receiving.{verdict}
 use Rattle.nr_blockdesk.specs.declared.outcome.Outcome.{Outcome}
 use Rattle.nr_calls.specs.Receiving.{heard_octet}
-use Rattle.nr_calls.proofs.Outcomes.{outcomes_after}
+use Rattle.nr_calls.proofs.OutcomeListFacts.{outcomes_after}
 use Rattle.nr_calls.proofs.receiving.hear_next.Goals as goal
 
 pub returns-clause-outcome : goal.returns-clause-outcome

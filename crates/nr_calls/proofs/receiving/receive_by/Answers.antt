@@ -1,7 +1,7 @@
 use Rattle.std.proofs.Common.{◌≡◌, true, rules, length}
 use Rattle.nr_calls.specs.Findings.{is_room}
 use Rattle.nr_calls.specs.Inside.{planned}
-use Rattle.nr_calls.proofs.Rooms.{filled, same-plan}
+use Rattle.nr_calls.proofs.RoomFacts.{filled, same-plan}
 use Rattle.nr_calls.proofs.receiving.receive_by.Goals as goal
 
 pub returns-clause-room : goal.returns-clause-room

@@ -1,6 +1,6 @@
 use Rattle.std.proofs.Common.{◌≡◌, ℕ, ◌<◌, get_or}
 use Rattle.nr_shifttable.specs.Listed.{kept_listed}
-use Rattle.nr_calls.proofs.Placed.{no_entry}
+use Rattle.nr_calls.proofs.PlacedEntryFacts.{no_entry}
 use Rattle.nr_calls.proofs.table.write_entries.Given as goal
 
 -- the entries so far

@@ -1,4 +1,4 @@
-use Rattle.nr_commands.proofs.HexLanes.{digits-in_turn, high-small, low-small}
+use Rattle.nr_commands.proofs.HexLaneFacts.{digits-in_turn, high-small, low-small}
 use Rattle.nr_commands.proofs.hex.digits_of_sixteen.Goals as goal
 
 pub sixteen_characters-high-requires : goal.sixteen_characters-high-requires

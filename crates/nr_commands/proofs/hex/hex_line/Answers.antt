@@ -1,5 +1,5 @@
 use Rattle.std.proofs.Common.{◌≡◌, ◌+◌, ◌/◌, ◌∷◌, [], ◌++◌, length, ap, ◌∙◌, arith, string_bytes}
-use Rattle.nr_commands.proofs.HexDigits.{hex_cut}
+use Rattle.nr_commands.proofs.HexDigitFacts.{hex_cut}
 use Rattle.nr_commands.proofs.hex.hex_line.Goals as goal
 
 pub returns : goal.returns

@@ -1,6 +1,6 @@
 use Rattle.std.proofs.Common.{◌≡◌, ◌+◌, ◌*◌, ◌≤◌, ◌++◌, length, ap, ◌∙◌, arith}
 use Rattle.std.specs.Vec.{vec_len}
-use Rattle.nr_commands.proofs.HexDigits.{room_made, room_filled}
+use Rattle.nr_commands.proofs.HexDigitFacts.{room_made, room_filled}
 use Rattle.nr_commands.proofs.hex.push_digits.Goals as goal
 
 pub returns : goal.returns

@@ -1,4 +1,4 @@
-use Rattle.nr_commands.proofs.HexLanes.{characters, characters-ok}
+use Rattle.nr_commands.proofs.HexLaneFacts.{characters, characters-ok}
 use Rattle.nr_commands.proofs.hex.sixteen_characters.Goals as goal
 
 pub swizzle : goal.swizzle

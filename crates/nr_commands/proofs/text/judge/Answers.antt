@@ -1,7 +1,7 @@
 use Rattle.std.proofs.Common.{◌<◌, ◌≤◌, length, map, arith}
 use Rattle.std.proofs.lemmas.List.{length-map}
 use Rattle.std.proofs.lemmas.Result.{err_from_is_err_and}
-use Rattle.nr_commands.proofs.BlockTexts.{octets_at, leads_first, leads_more, leads_refused, leads_last}
+use Rattle.nr_commands.proofs.BlockTextFacts.{octets_at, leads_first, leads_more, leads_refused, leads_last}
 use Rattle.nr_commands.proofs.text.judge.Goals as goal
 
 pub returns-in_err-judge_block-clause-said : goal.returns-in_err-judge_block-clause-said

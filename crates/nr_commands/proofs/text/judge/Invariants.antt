@@ -1,6 +1,6 @@
 use Rattle.std.proofs.Common.{◌+◌, map, drop}
 use Rattle.nr_commands.specs.CutText.{lines_from}
-use Rattle.nr_commands.proofs.BlockTexts.{Leads}
+use Rattle.nr_commands.proofs.BlockTextFacts.{Leads}
 use Rattle.nr_commands.proofs.text.judge.Given as goal
 
 -- what the blocks that are left say is the rest of what all blocks say

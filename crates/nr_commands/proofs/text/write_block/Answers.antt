@@ -3,7 +3,7 @@ use Rattle.std.proofs.lemmas.Result.{err_from_is_err_and}
 use Rattle.nr_bitvec.specs.BitList.{bits_of}
 use Rattle.nr_crcattach.specs.Attachment.{attached}
 use Rattle.nr_segment.specs.CodeBlock.{numbers}
-use Rattle.nr_commands.proofs.BlockTexts.{length-bits_of, block_lines-unpicked, block_lines-unplanned, block_lines-planned, block_none, judged-not}
+use Rattle.nr_commands.proofs.BlockTextFacts.{length-bits_of, block_lines-unpicked, block_lines-unplanned, block_lines-planned, block_none, judged-not}
 use Rattle.nr_commands.proofs.CommandLemmas.{writes_said}
 use Rattle.nr_commands.proofs.text.write_block.Goals as goal
 

@@ -1,7 +1,7 @@
 use Rattle.std.proofs.Common.{◌<◌, ◌≤◌, length, map, arith, refl, ◌∙◌}
 use Rattle.std.proofs.lemmas.List.{length-map}
 use Rattle.std.proofs.lemmas.Result.{err_from_is_err_and}
-use Rattle.nr_commands.proofs.BlockTexts.{octets_at, wrote_first, wrote_judged, wrote_more, wrote_stopped, wrote_last}
+use Rattle.nr_commands.proofs.BlockTextFacts.{octets_at, wrote_first, wrote_judged, wrote_more, wrote_stopped, wrote_last}
 use Rattle.nr_commands.proofs.text.write_blocks.Goals as goal
 
 pub write_block-requires-clause-judged : goal.write_block-requires-clause-judged

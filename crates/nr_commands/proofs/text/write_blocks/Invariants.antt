@@ -1,6 +1,6 @@
 use Rattle.std.proofs.Common.{◌≡◌, ◌+◌, map, drop}
 use Rattle.nr_commands.specs.CutText.{lines_from}
-use Rattle.nr_commands.proofs.BlockTexts.{Wrote}
+use Rattle.nr_commands.proofs.BlockTextFacts.{Wrote}
 use Rattle.nr_commands.proofs.text.write_blocks.Given as goal
 
 -- the lines of the blocks so far are written, and no put failed

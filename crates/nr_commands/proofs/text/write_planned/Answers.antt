@@ -6,7 +6,7 @@ use Rattle.nr_segment.specs.CodeBlock.{numbers, code_bits}
 use Rattle.nr_commands.specs.CutText.{planned_lines}
 use Rattle.nr_commands.specs.CutLines.{block_line, attached_line, code_line}
 use Rattle.nr_commands.specs.Written.{with_text}
-use Rattle.nr_commands.proofs.BlockTexts.{attached_line-some, block_line-some, code_line-some, flat_map-range_more, lines_parts}
+use Rattle.nr_commands.proofs.BlockTextFacts.{attached_line-some, block_line-some, code_line-some, flat_map-range_more, lines_parts}
 use Rattle.nr_commands.proofs.WrittenLemmas.{with_text-nil, with_text-append, writes_behind}
 use Rattle.nr_commands.proofs.text.write_planned.Goals as goal
 

@@ -3,8 +3,8 @@ use Rattle.std.proofs.Common.{◌≡◌, ℕ, ◌*◌, ◌%◌, ◌^◌, sym, �
 use Rattle.std.proofs.lemmas.Nat.{one_shl}
 use Rattle.nr_crcattach.specs.declared.Poly.{Poly}
 use Rattle.nr_crcattach.specs.Crc.{degree}
-use Rattle.nr_crcattach.proofs.Residues.{times_d-low, times_d-high, times_d-lt}
-use Rattle.nr_crcattach.proofs.Generators.{degree-le, remainders-le}
+use Rattle.nr_crcattach.proofs.ResidueFacts.{times_d-low, times_d-high, times_d-lt}
+use Rattle.nr_crcattach.proofs.GeneratorFacts.{degree-le, remainders-le}
 use Rattle.nr_crcattach.proofs.Poly.times_d.Goals as goal
 
 -- the code's 1 << degree

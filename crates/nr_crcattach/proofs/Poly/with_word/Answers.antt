@@ -1,7 +1,7 @@
 -- The word with the check added to its highest bits, whose octets' checks the tables have.
 use Rattle.std.proofs.Common.{◌-◌, ◌*◌, ◌%◌, ◌^◌, ap, arith, bit_xor}
 use Rattle.std.proofs.lemmas.Nat.{shr_below}
-use Rattle.nr_crcattach.proofs.Octet.{Continues-summed, joined-lt, moved_up, summed-lt}
+use Rattle.nr_crcattach.proofs.OctetStepFacts.{Continues-summed, joined-lt, moved_up, summed-lt}
 use Rattle.nr_crcattach.proofs.Poly.with_word.Goals as goal
 
 pub bounds-tables-joined : goal.bounds-tables-joined

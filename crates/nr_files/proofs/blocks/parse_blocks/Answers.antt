@@ -8,7 +8,7 @@ use Rattle.std.proofs.lemmas.Result.{err_from_is_err_and}
 use Rattle.std.proofs.lemmas.Iterator.Splits.{YieldsList-from_slice_split}
 use Rattle.std.proofs.lemmas.Iterator.Consumers.{YieldsList-turn, YieldsList-end}
 use Rattle.nr_files.specs.Blocks.{without_last, parts_of, IsBlockLength}
-use Rattle.nr_files.proofs.BlockLines.{blocks_of-too_long, blocks_of-empty, blocks_of_lines, turn_many, turn_ok, turn_end, refused_at}
+use Rattle.nr_files.proofs.BlockLineFacts.{blocks_of-too_long, blocks_of-empty, blocks_of_lines, turn_many, turn_ok, turn_end, refused_at}
 use Rattle.nr_files.proofs.blocks.parse_blocks.Goals as goal
 
 pub returns-then-text-gt-MOST_OCTETS-clause-said :

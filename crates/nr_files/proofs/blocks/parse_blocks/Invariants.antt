@@ -1,7 +1,7 @@
 use Rattle.std.proofs.Common.{◌≡◌, ◌+◌, ◌≤◌, length, map, drop}
 use Rattle.std.specs.List.{All}
 use Rattle.nr_files.specs.Blocks.{IsBlockLength, parts_of, blocks_from}
-use Rattle.nr_files.proofs.BlockLines.{with_front}
+use Rattle.nr_files.proofs.BlockLineFacts.{with_front}
 use Rattle.nr_files.proofs.blocks.parse_blocks.Given as goal
 
 -- the blocks so far, and what the lines that are left say, are what all lines say

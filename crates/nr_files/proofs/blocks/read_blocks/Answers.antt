@@ -1,8 +1,8 @@
 use Rattle.std.proofs.Common.{◌≡◌, inl, inr}
 use Rattle.std.proofs.lemmas.Option.{IfSome_then}
-use Rattle.nr_files.proofs.BlockLines.{blocks_of-too_long}
-use Rattle.nr_files.proofs.Reading.{fails_as-not}
-use Rattle.nr_files.proofs.BlocksUnread.{given-unread}
+use Rattle.nr_files.proofs.BlockLineFacts.{blocks_of-too_long}
+use Rattle.nr_files.proofs.ReadFailureFacts.{fails_as-not}
+use Rattle.nr_files.proofs.BlocksReadFacts.{given-unread}
 use Rattle.nr_files.proofs.blocks.read_blocks.Goals as goal
 
 pub returns-in-Err-TooLong-clause-said : goal.returns-in-Err-TooLong-clause-said

@@ -1,6 +1,6 @@
 use Rattle.std.proofs.Common.{sym, ◌∙◌, arith}
 use Rattle.std.proofs.lemmas.List.{take_all}
-use Rattle.nr_files.proofs.OctetDigits.{length-octets_of_digits, octets_more}
+use Rattle.nr_files.proofs.OctetDigitFacts.{length-octets_of_digits, octets_more}
 use Rattle.nr_files.proofs.blocks.read_digits.Goals as goal
 
 pub loop-i-preserved : goal.loop-i-preserved

@@ -2,7 +2,7 @@ use Rattle.std.proofs.Common.{◌≡◌, ◌+◌, ◌-◌, ◌++◌, [], ◌∷�
 use Rattle.nr_bitvec.specs.BitList.{low_first}
 use Rattle.nr_files.specs.Inside.{marks_drawn}
 use Rattle.nr_files.proofs.DrawnFacts.{marked-more}
-use Rattle.nr_files.proofs.MarkWords.{low-more, low-none, mark-none, none-zero, number-small, number-tested}
+use Rattle.nr_files.proofs.MarkWordFacts.{low-more, low-none, mark-none, none-zero, number-small, number-tested}
 use Rattle.nr_files.proofs.erasure.draw.Goals as goal
 
 pub loop-j-init : goal.loop-j-init

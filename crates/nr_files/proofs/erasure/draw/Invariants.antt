@@ -2,7 +2,7 @@
 use Rattle.std.proofs.Common.{◌≡◌, ℕ, ◌+◌, ◌-◌, ◌++◌}
 use Rattle.nr_bitvec.specs.BitList.{low_first}
 use Rattle.nr_files.specs.Inside.{marks_drawn}
-use Rattle.nr_files.proofs.MarkWords.{HasNone}
+use Rattle.nr_files.proofs.MarkWordFacts.{HasNone}
 use Rattle.nr_files.proofs.erasure.draw.Given as goal
 
 abbrev pub invariant-loop-j : goal.invariant-loop-j

@@ -1,7 +1,7 @@
 use Rattle.std.proofs.Common.{◌≡◌, ◌+◌, ◌-◌, ◌*◌, ◌++◌, ◌∙◌, length, min, ap, sym, arith}
 use Rattle.nr_files.specs.Inside.{marks_drawn}
 use Rattle.nr_files.proofs.DrawnFacts.{drawn-more, marked-none}
-use Rattle.nr_files.proofs.MarkWords.{pushed-long}
+use Rattle.nr_files.proofs.MarkWordFacts.{pushed-long}
 use Rattle.nr_files.proofs.erasure.drawn.Goals as goal
 
 pub loop-i-init : goal.loop-i-init

@@ -2,7 +2,7 @@ use Rattle.std.proofs.Common.{◌+◌, ◌<◌, ◌∙◌, false, length, get_or
 use Rattle.std.proofs.lemmas.List.{length-replicate, take_all}
 use Rattle.nr_bitvec.specs.Bit.{bit}
 use Rattle.nr_files.specs.declared.erasure.PlaceRange.{PlaceRange}
-use Rattle.nr_files.proofs.MarkRanges.{ranged-all, ranged-first, ranged-kept, ranged-more}
+use Rattle.nr_files.proofs.MarkRangeFacts.{ranged-all, ranged-first, ranged-kept, ranged-more}
 use Rattle.nr_files.proofs.erasure.ranged.Goals as goal
 use Rattle.nr_files.proofs.erasure.ranged.Goals.{then-range-from, else-range-from}
 

@@ -1,6 +1,6 @@
 use Rattle.std.proofs.Common.{◌==◌, ◌≡◌, drop, false, refl, arith}
 use Rattle.nr_bitvec.specs.BitList.{low_first}
-use Rattle.nr_files.proofs.MarkWords.{gathered-more, gathered-none, low-more, mark-none, none-zero, number-small, number-tested}
+use Rattle.nr_files.proofs.MarkWordFacts.{gathered-more, gathered-none, low-more, mark-none, none-zero, number-small, number-tested}
 use Rattle.nr_files.proofs.marks.gather.Goals as goal
 
 pub loop-j-init : goal.loop-j-init

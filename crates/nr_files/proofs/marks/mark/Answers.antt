@@ -1,5 +1,5 @@
 use Rattle.std.proofs.Common.{◌≡◌, ◌+◌, ◌*◌, ◌∙◌, min, refl, arith}
-use Rattle.nr_files.proofs.MarkRanges.{marked-all, marked-more, marked-none, same-end}
+use Rattle.nr_files.proofs.MarkRangeFacts.{marked-all, marked-more, marked-none, same-end}
 use Rattle.nr_files.proofs.marks.mark.Goals as goal
 
 pub loop-i-init : goal.loop-i-init

@@ -1,5 +1,5 @@
 use Rattle.std.proofs.Common.{◌≡◌, ◌+◌, ◌*◌, ◌∙◌, min, replicate, true, ap, sym, arith}
-use Rattle.nr_files.proofs.MarkWords.{ones-more}
+use Rattle.nr_files.proofs.MarkWordFacts.{ones-more}
 use Rattle.nr_files.proofs.marks.ones.Goals as goal
 
 pub loop-i-init : goal.loop-i-init

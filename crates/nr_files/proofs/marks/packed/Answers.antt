@@ -1,6 +1,6 @@
 use Rattle.std.proofs.Common.{◌≡◌, ◌+◌, ◌*◌, ◌∙◌, length, min, take, ap, sym, arith}
 use Rattle.std.proofs.lemmas.List.{take_all}
-use Rattle.nr_files.proofs.MarkWords.{packed-more, pushed-long}
+use Rattle.nr_files.proofs.MarkWordFacts.{packed-more, pushed-long}
 use Rattle.nr_files.proofs.marks.packed.Goals as goal
 
 pub loop-i-init : goal.loop-i-init

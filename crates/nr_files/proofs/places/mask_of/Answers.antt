@@ -1,6 +1,6 @@
 use Rattle.std.proofs.Common.{Some, ap, sym, ◌∙◌}
 use Rattle.nr_files.specs.Masks.{mask_of}
-use Rattle.nr_files.proofs.MaskMarks.{listed-mask, marks-schedule, read_places}
+use Rattle.nr_files.proofs.MaskMarkFacts.{listed-mask, marks-schedule, read_places}
 use Rattle.nr_files.proofs.places.mask_of.Goals as goal
 
 pub returns-in_ok-marks-in-Some-Listed-clause-said : goal.returns-in_ok-marks-in-Some-Listed-clause-said

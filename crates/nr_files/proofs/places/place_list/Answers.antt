@@ -5,7 +5,7 @@ use Rattle.std.proofs.lemmas.List.{length_push}
 use Rattle.std.proofs.lemmas.Iterator.Splits.{YieldsList-from_slice_split}
 use Rattle.std.proofs.lemmas.Iterator.Consumers.{YieldsList-turn, YieldsList-end}
 use Rattle.nr_files.specs.PlaceLists.{place_list}
-use Rattle.nr_files.proofs.PlaceItems.{items-all, items-more, items-none}
+use Rattle.nr_files.proofs.PlaceItemFacts.{items-all, items-more, items-none}
 use Rattle.nr_files.proofs.places.place_list.Goals as goal
 
 pub loop-item-preserved : goal.loop-item-preserved

@@ -1,7 +1,7 @@
 use Rattle.std.proofs.Common.{◌≡◌, ◌==◌, length, drop}
 use Rattle.std.specs.List.{slice_split}
 use Rattle.nr_files.specs.PlaceLists.{ranges_of}
-use Rattle.nr_files.proofs.PlaceItems.{with_ranges}
+use Rattle.nr_files.proofs.PlaceItemFacts.{with_ranges}
 use Rattle.nr_files.proofs.places.place_list.Given as goal
 
 -- the ranges so far, and those of the items that are left, are those of all items

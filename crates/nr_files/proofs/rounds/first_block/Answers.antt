@@ -1,7 +1,7 @@
 use Rattle.std.proofs.Common.{◌≡◌, ◌≤◌, ◌==◌, true, false, length, refl, arith}
 use Rattle.std.proofs.lemmas.Bool.Decides.{nat_tests}
 use Rattle.std.proofs.lemmas.List.{take_all}
-use Rattle.nr_files.proofs.RoundStarts.{first-turn, none-turn}
+use Rattle.nr_files.proofs.RoundStartFacts.{first-turn, none-turn}
 use Rattle.nr_files.proofs.rounds.first_block.Goals as goal
 
 pub returns-then-transmission-process : goal.returns-then-transmission-process

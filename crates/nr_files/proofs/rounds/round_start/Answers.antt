@@ -1,7 +1,7 @@
 use Rattle.std.proofs.Common.{◌+◌, ◌<◌, ◌≤◌, ◌==◌, ◌&&◌, length, refl, arith}
 use Rattle.std.proofs.lemmas.List.{take_all}
 use Rattle.nr_files.specs.Rounds.{since_fresh}
-use Rattle.nr_files.proofs.RoundStarts.{start-turn, start-within}
+use Rattle.nr_files.proofs.RoundStartFacts.{start-turn, start-within}
 use Rattle.nr_files.proofs.rounds.round_start.Goals as goal
 
 pub loop-index-init : goal.loop-index-init

@@ -2,9 +2,9 @@
 use Rattle.std.proofs.Common.{arith}
 use Rattle.std.proofs.lemmas.Result.{IfOk-weaker}
 use Rattle.nr_files.specs.Schedule.{Timetable, timetable_by}
-use Rattle.nr_files.proofs.Refusals.{holds_given}
-use Rattle.nr_files.proofs.ScheduleProcesses.{AreOfProcesses, schedule_said-processes}
-use Rattle.nr_files.proofs.ScheduleRecords.{AreRecords, schedule_said-records}
+use Rattle.nr_files.proofs.RefusalFacts.{holds_given}
+use Rattle.nr_files.proofs.ScheduleProcessFacts.{AreOfProcesses, schedule_said-processes}
+use Rattle.nr_files.proofs.ScheduleRecordFacts.{AreRecords, schedule_said-records}
 use Rattle.nr_files.proofs.schedule.parse_schedule.Goals as goal
 
 pub returns-clause-few : goal.returns-clause-few

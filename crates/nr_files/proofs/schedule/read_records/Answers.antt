@@ -3,7 +3,7 @@ use Rattle.std.proofs.Common.{inr, ap, sym, ◌+◌, ◌∙◌, arith, length}
 use Rattle.std.proofs.lemmas.Bool.Decides.{when_false, when_true}
 use Rattle.std.proofs.lemmas.Result.{err_from_is_err_and}
 use Rattle.csv.specs.Records.{fields_of}
-use Rattle.nr_files.proofs.ScheduleRecords.{schedule_of-header, schedule_of-missing, schedule_of-other, turn-end, turn-ok, turn-refused}
+use Rattle.nr_files.proofs.ScheduleRecordFacts.{schedule_of-header, schedule_of-missing, schedule_of-other, turn-end, turn-ok, turn-refused}
 use Rattle.nr_files.proofs.schedule.read_records.Goals as goal
 
 pub returns-then-not-branch : goal.returns-then-not-branch

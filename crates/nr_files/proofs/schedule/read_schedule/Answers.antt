@@ -1,9 +1,9 @@
 use Rattle.std.proofs.Common.{◌≡◌, inl, inr}
 use Rattle.std.proofs.lemmas.Option.{IfSome_then}
 use Rattle.nr_files.specs.declared.schedule.ScheduleFault.TheVariants as fault
-use Rattle.nr_files.proofs.Reading.{fails_as-not}
-use Rattle.nr_files.proofs.Refusals.{never_given}
-use Rattle.nr_files.proofs.ScheduleRecords.{schedule_said-too_long, schedule_said-unread}
+use Rattle.nr_files.proofs.ReadFailureFacts.{fails_as-not}
+use Rattle.nr_files.proofs.RefusalFacts.{never_given}
+use Rattle.nr_files.proofs.ScheduleRecordFacts.{schedule_said-too_long, schedule_said-unread}
 use Rattle.nr_files.proofs.schedule.read_schedule.Goals as goal
 
 pub returns-in-Err-TooLong-clause-said : goal.returns-in-Err-TooLong-clause-said

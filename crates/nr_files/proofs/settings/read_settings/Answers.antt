@@ -1,6 +1,6 @@
 use Rattle.std.proofs.Common.{◌≡◌, inl, inr}
 use Rattle.std.proofs.lemmas.Option.{IfSome_then}
-use Rattle.nr_files.proofs.Reading.{fails_as-not}
+use Rattle.nr_files.proofs.ReadFailureFacts.{fails_as-not}
 use Rattle.nr_files.proofs.SettingsFacts.{given-unread, said-too_long}
 use Rattle.nr_files.proofs.settings.read_settings.Goals as goal
 

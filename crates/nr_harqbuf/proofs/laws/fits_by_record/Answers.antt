@@ -1,4 +1,4 @@
-use Rattle.nr_harqbuf.proofs.Records.{fits-by_record}
+use Rattle.nr_harqbuf.proofs.RecordLaws.{fits-by_record}
 use Rattle.nr_harqbuf.proofs.laws.fits_by_record.Goals as goal
 
 pub returns : goal.returns

@@ -1,4 +1,4 @@
-use Rattle.nr_harqbuf.proofs.MergedRecords.{record-merges}
+use Rattle.nr_harqbuf.proofs.MergedRecordFacts.{record-merges}
 use Rattle.nr_harqbuf.proofs.laws.record_merges.Goals as goal
 
 pub returns : goal.returns

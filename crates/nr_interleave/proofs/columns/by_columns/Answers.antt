@@ -1,9 +1,9 @@
 use Rattle.std.proofs.Common.{◌≡◌, ◌+◌, ◌*◌, ◌/◌, ◌≤◌, ◌++◌, ◌∙◌, min, length, take, ap, sym, arith}
 use Rattle.std.proofs.Math.Nat.{mul-le-mul_left}
-use Rattle.nr_bitvec.proofs.RangeWords.{taken-more}
+use Rattle.nr_bitvec.proofs.RangeWordFacts.{taken-more}
 use Rattle.nr_bitvec.specs.BitList.{low_first}
 use Rattle.nr_interleave.specs.Interleaving.{interleaved}
-use Rattle.nr_interleave.proofs.Spreads.{columns-word, columns-all, columns-inside, rows-left}
+use Rattle.nr_interleave.proofs.SpreadTableFacts.{columns-word, columns-all, columns-inside, rows-left}
 use Rattle.nr_interleave.proofs.columns.by_columns.Goals as goal
 
 pub push_word-requires-clause-count : goal.push_word-requires-clause-count

@@ -1,7 +1,7 @@
 use Rattle.std.proofs.Common.{◌+◌, ◌*◌, ◌/◌, ◌^◌, ◌==◌, slice_index_or, ap, arith}
 use Rattle.std.specs.Int.{bit_at}
 use Rattle.nr_bitvec.proofs.BitFacts.{bit_at_shr}
-use Rattle.nr_interleave.proofs.Spreads.{row-more}
+use Rattle.nr_interleave.proofs.SpreadTableFacts.{row-more}
 use Rattle.nr_interleave.proofs.columns.join_rows.Goals as goal
 
 pub loop-row-preserved : goal.loop-row-preserved

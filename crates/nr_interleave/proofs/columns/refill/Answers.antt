@@ -1,6 +1,6 @@
 use Rattle.std.proofs.Common.{◌+◌, ◌*◌, ◌∙◌, arith, length-set}
 use Rattle.nr_bitvec.specs.Bit.{bit}
-use Rattle.nr_interleave.proofs.Spreads.{read-more}
+use Rattle.nr_interleave.proofs.SpreadTableFacts.{read-more}
 use Rattle.nr_interleave.proofs.columns.refill.Goals as goal
 
 pub loop-row-preserved : goal.loop-row-preserved

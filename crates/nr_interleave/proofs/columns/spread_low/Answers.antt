@@ -1,4 +1,4 @@
-use Rattle.nr_interleave.proofs.Spreads.{four-more, four-above, four-inside}
+use Rattle.nr_interleave.proofs.SpreadTableFacts.{four-more, four-above, four-inside}
 use Rattle.std.proofs.Common.{arith}
 use Rattle.nr_interleave.proofs.columns.spread_low.Goals as goal
 

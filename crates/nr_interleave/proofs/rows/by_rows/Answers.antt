@@ -4,8 +4,8 @@ use Rattle.std.proofs.Math.Nat.{mul-le-mul_right}
 use Rattle.std.proofs.lemmas.List.{append_assoc}
 use Rattle.nr_bitvec.specs.Bit.{bit}
 use Rattle.nr_interleave.specs.Unspreading.{apart, row_by_row}
-use Rattle.nr_interleave.proofs.Unspread.{row-then}
-use Rattle.nr_interleave.proofs.Seats.{whole-is}
+use Rattle.nr_interleave.proofs.UnspreadFacts.{row-then}
+use Rattle.nr_interleave.proofs.SeatFacts.{whole-is}
 use Rattle.nr_interleave.proofs.rows.by_rows.Goals as goal
 
 pub push_row-requires-clause-short : goal.push_row-requires-clause-short

@@ -1,7 +1,7 @@
 use Rattle.std.proofs.Common.{ℕ, ◌-◌, ◌*◌, ◌/◌, ◌^◌, slice_index_or}
 use Rattle.std.specs.Int.RustNames.{bit_and, bit_or}
 use Rattle.nr_interleave.specs.Unspreading.{come_joined, come_masked}
-use Rattle.nr_interleave.proofs.Unspread.{every-is, joined-comes, kept-comes, octet-high}
+use Rattle.nr_interleave.proofs.UnspreadFacts.{every-is, joined-comes, kept-comes, octet-high}
 use Rattle.nr_interleave.proofs.rows.every.Goals as goal
 
 pub returns-clause-low : goal.returns-clause-low

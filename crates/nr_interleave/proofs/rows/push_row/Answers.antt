@@ -4,7 +4,7 @@ use Rattle.std.proofs.lemmas.List.{append_assoc}
 use Rattle.nr_bitvec.specs.Bit.{bit}
 use Rattle.nr_bitvec.specs.BitList.{low_first}
 use Rattle.nr_interleave.specs.Unspreading.{apart}
-use Rattle.nr_interleave.proofs.Unspread.{word-then}
+use Rattle.nr_interleave.proofs.UnspreadFacts.{word-then}
 use Rattle.nr_interleave.proofs.rows.push_row.Goals as goal
 
 pub loop-column-preserved : goal.loop-column-preserved

@@ -1,5 +1,5 @@
 use Rattle.std.proofs.Common.{arith}
-use Rattle.nr_interleave.proofs.Unspread.{eight-more, eight-none}
+use Rattle.nr_interleave.proofs.UnspreadFacts.{eight-more, eight-none}
 use Rattle.nr_interleave.proofs.rows.row_word.Goals as goal
 
 pub loop-eight-preserved : goal.loop-eight-preserved

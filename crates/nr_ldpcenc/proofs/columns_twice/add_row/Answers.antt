@@ -5,8 +5,8 @@ use Rattle.nr_bitvec.specs.Packed.{place}
 use Rattle.nr_shifttable.specs.declared.entry.Entry.{Entry}
 use Rattle.nr_ldpcenc.specs.Doubled.{col_bit}
 use Rattle.nr_ldpcenc.specs.Solving.{sum_before}
-use Rattle.nr_ldpcenc.proofs.Adding.{sum-next, entry_bit, entry_bit-there, entry_bit-not, gained, not_gained}
-use Rattle.nr_ldpcenc.proofs.TurnedSums.{added_bit, rotated_bit}
+use Rattle.nr_ldpcenc.proofs.EntrySumFacts.{sum-next, entry_bit, entry_bit-there, entry_bit-not, gained, not_gained}
+use Rattle.nr_ldpcenc.proofs.DoubledSumFacts.{added_bit, rotated_bit}
 use Rattle.nr_ldpcenc.proofs.columns_twice.add_row.Goals as goal
 use Rattle.nr_ldpcenc.proofs.columns_twice.add_row.Goals.{then-col-before, else-col-before}
 

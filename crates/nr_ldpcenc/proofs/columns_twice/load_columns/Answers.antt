@@ -1,5 +1,5 @@
 use Rattle.std.proofs.Common.{sym}
-use Rattle.nr_ldpcenc.proofs.TurnedSums.{column_put}
+use Rattle.nr_ldpcenc.proofs.DoubledSumFacts.{column_put}
 use Rattle.nr_ldpcenc.proofs.columns_twice.load_columns.Goals as goal
 
 pub loop-j-preserved : goal.loop-j-preserved

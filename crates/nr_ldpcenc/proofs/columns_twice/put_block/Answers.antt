@@ -1,7 +1,7 @@
 use Rattle.std.proofs.Common.{◌≡◌, ◌+◌, ◌-◌, ◌*◌, ◌==◌, length, sym, ap, ◌∙◌, inl, inr, arith}
 use Rattle.std.proofs.lemmas.Bool.{cases_lt}
 use Rattle.nr_bitvec.specs.Bit.{bit}
-use Rattle.nr_ldpcenc.proofs.TurnedSums.{column_put}
+use Rattle.nr_ldpcenc.proofs.DoubledSumFacts.{column_put}
 use Rattle.nr_ldpcenc.proofs.columns_twice.put_block.Goals as goal
 
 pub returns-clause-columns : goal.returns-clause-columns

@@ -1,7 +1,7 @@
 use Rattle.std.proofs.Common.{◌≡◌, ◌+◌, ◌*◌, ap, ◌∙◌, arith}
 use Rattle.nr_bitvec.specs.Packed.{place}
-use Rattle.nr_lifting.proofs.Turns.{mod_small}
-use Rattle.nr_ldpcenc.proofs.TurnedSums.{twice_more}
+use Rattle.nr_lifting.proofs.RotationFacts.{mod_small}
+use Rattle.nr_ldpcenc.proofs.DoubledSumFacts.{twice_more}
 use Rattle.nr_ldpcenc.proofs.columns_twice.put_column.Goals as goal
 
 pub returns-clause-twice : goal.returns-clause-twice

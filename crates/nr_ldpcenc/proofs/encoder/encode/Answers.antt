@@ -5,8 +5,8 @@ use Rattle.nr_graphpick.specs.Graph.{cols_of}
 use Rattle.nr_segment.specs.CodeBlock.{numbers, with_fillers}
 use Rattle.nr_shifttable.specs.Accepted.{has_graph}
 use Rattle.nr_ldpcenc.specs.Codeword.{codeword, completed, IsCodeword}
-use Rattle.nr_ldpcenc.proofs.Codes.{begins_filled, kdash_inside}
-use Rattle.nr_ldpcenc.proofs.Written.{zero_bit}
+use Rattle.nr_ldpcenc.proofs.CodewordFacts.{begins_filled, kdash_inside}
+use Rattle.nr_ldpcenc.proofs.WrittenBitFacts.{zero_bit}
 use Rattle.nr_ldpcenc.proofs.encoder.encode.Goals as goal
 
 pub begin-requires : goal.begin-requires

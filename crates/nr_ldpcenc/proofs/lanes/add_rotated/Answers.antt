@@ -3,8 +3,8 @@ use Rattle.std.proofs.lemmas.Nat.Bits.{bit_at_xor}
 use Rattle.std.specs.Int.{bit_at}
 use Rattle.nr_bitvec.specs.Packed.{place}
 use Rattle.nr_bitvec.proofs.BitFacts.{place_of}
-use Rattle.nr_lifting.proofs.LaneWords.{written_more}
-use Rattle.nr_ldpcenc.proofs.Shifts.{window_two}
+use Rattle.nr_lifting.proofs.LaneWordFacts.{written_more}
+use Rattle.nr_ldpcenc.proofs.BorderWordFacts.{window_two}
 use Rattle.nr_ldpcenc.proofs.lanes.add_rotated.Goals as goal
 
 -- the next word is added

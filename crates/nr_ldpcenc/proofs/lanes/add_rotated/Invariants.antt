@@ -1,7 +1,7 @@
 -- The words before word k have been added.
 use Rattle.std.proofs.Common.{◌≡◌, ◌+◌, ◌*◌, ◌%◌, length}
 use Rattle.nr_bitvec.specs.Packed.{place}
-use Rattle.nr_lifting.proofs.LaneWords.{IsWritten}
+use Rattle.nr_lifting.proofs.LaneWordFacts.{IsWritten}
 use Rattle.nr_ldpcenc.proofs.lanes.add_rotated.Given as goal
 
 abbrev pub invariant-loop-k : goal.invariant-loop-k

@@ -2,8 +2,8 @@ use Rattle.std.proofs.Common.{◌≡◌, ◌+◌, ◌-◌, ◌*◌, length, refl
 use Rattle.std.specs.Int.{bit_at}
 use Rattle.nr_bitvec.specs.Packed.{place}
 use Rattle.nr_bitvec.proofs.BitFacts.{place_of}
-use Rattle.nr_ldpcenc.proofs.Shifts.{window_read, put_more}
-use Rattle.nr_ldpcenc.proofs.TwoCopies.{doubled, others}
+use Rattle.nr_ldpcenc.proofs.BorderWordFacts.{window_read, put_more}
+use Rattle.nr_ldpcenc.proofs.TwoCopyFacts.{doubled, others}
 use Rattle.nr_ldpcenc.proofs.lanes.put_twice.Goals as goal
 
 -- the next word of the first copy

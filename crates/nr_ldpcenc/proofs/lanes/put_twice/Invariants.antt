@@ -1,7 +1,7 @@
 -- The words of the first copy, and then of the second, as far as the loop has come.
 use Rattle.std.proofs.Common.{◌+◌}
 use Rattle.nr_bitvec.specs.Packed.{place}
-use Rattle.nr_ldpcenc.proofs.Shifts.{IsPut}
+use Rattle.nr_ldpcenc.proofs.BorderWordFacts.{IsPut}
 use Rattle.nr_ldpcenc.proofs.lanes.put_twice.Given as goal
 
 abbrev pub invariant-loop-k : goal.invariant-loop-k

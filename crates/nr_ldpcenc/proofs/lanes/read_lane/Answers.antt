@@ -1,6 +1,6 @@
 use Rattle.std.proofs.Common.{◌≡◌, ◌==◌, Bool, true, false, refl, ap, ◌∙◌, arith}
-use Rattle.nr_lifting.proofs.LaneWords.{written_lane}
-use Rattle.nr_lifting.proofs.Moves.{digit}
+use Rattle.nr_lifting.proofs.LaneWordFacts.{written_lane}
+use Rattle.nr_lifting.proofs.LaneMoveFacts.{digit}
 use Rattle.nr_ldpcenc.proofs.lanes.read_lane.Goals as goal
 
 digit_true : (b : Bool) → (digit b == 1) ≡ b

@@ -1,8 +1,8 @@
 -- The words before word i are read.
 use Rattle.std.proofs.Common.{◌≡◌, ◌+◌, length}
 use Rattle.nr_bitvec.specs.Bit.{bit}
-use Rattle.nr_lifting.proofs.LaneWords.{IsWritten}
-use Rattle.nr_lifting.proofs.Moves.{digit}
+use Rattle.nr_lifting.proofs.LaneWordFacts.{IsWritten}
+use Rattle.nr_lifting.proofs.LaneMoveFacts.{digit}
 use Rattle.nr_ldpcenc.proofs.lanes.read_lane.Given as goal
 
 abbrev pub invariant-loop-i : goal.invariant-loop-i

@@ -1,7 +1,7 @@
 use Rattle.std.proofs.Common.{◌≡◌, ◌+◌, ◌*◌, ◌/◌, ◌%◌, ◌<◌, get_or, ap, ◌∙◌, arith}
 use Rattle.std.proofs.lemmas.Nat.Bits.{bit_at-lt}
 use Rattle.nr_bitvec.specs.Packed.{place}
-use Rattle.nr_lifting.proofs.LaneViews.{place-zeros}
+use Rattle.nr_lifting.proofs.LaneViewFacts.{place-zeros}
 use Rattle.nr_ldpcenc.proofs.lanes.rotated.Goals as goal
 
 pub returns-clause-rotated : goal.returns-clause-rotated

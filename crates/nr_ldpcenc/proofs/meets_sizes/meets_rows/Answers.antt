@@ -1,6 +1,6 @@
 use Rattle.std.proofs.Common.{◌≡◌, ap, ◌∙◌, arith}
 use Rattle.std.specs.Prelude.{Some}
-use Rattle.nr_lifting.proofs.Listed.{member_at}
+use Rattle.nr_lifting.proofs.SetIndexFacts.{member_at}
 use Rattle.nr_ldpcenc.proofs.meets_sizes.meets_rows.Goals as goal
 
 pub meets_0-requires-clause-listed : goal.meets_0-requires-clause-listed

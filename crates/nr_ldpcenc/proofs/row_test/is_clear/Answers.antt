@@ -1,5 +1,5 @@
 use Rattle.std.proofs.lemmas.Bool.{false≢true}
-use Rattle.nr_ldpcenc.proofs.MetRows.{zero_word}
+use Rattle.nr_ldpcenc.proofs.MetRowFacts.{zero_word}
 use Rattle.nr_ldpcenc.proofs.row_test.is_clear.Goals as goal
 
 -- a word that is not zero has a place that is set

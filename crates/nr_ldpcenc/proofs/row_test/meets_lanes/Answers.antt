@@ -6,7 +6,7 @@ use Rattle.nr_shifttable.specs.Accepted.{entries_in}
 use Rattle.nr_ldpcenc.specs.Doubled.{col_bit}
 use Rattle.nr_ldpcenc.specs.Parity.{parity}
 use Rattle.nr_ldpcenc.specs.Rows.{row_at}
-use Rattle.nr_ldpcenc.proofs.MetRows.{row-sum, AreMet}
+use Rattle.nr_ldpcenc.proofs.MetRowFacts.{row-sum, AreMet}
 use Rattle.nr_ldpcenc.proofs.row_test.meets_lanes.Goals as goal
 
 pub loop-i-preserved : goal.loop-i-preserved

@@ -2,10 +2,10 @@ use Rattle.std.proofs.Common.{◌≡◌, ℕ, ◌<◌, ◌==◌, sym, ap, ◌∙
 use Rattle.std.proofs.lemmas.Bool.{cases_lt}
 use Rattle.nr_bitvec.specs.Bit.{◌⊕◌}
 use Rattle.nr_bitvec.specs.Packed.{place}
-use Rattle.nr_lifting.proofs.LaneViews.{place-zeros}
+use Rattle.nr_lifting.proofs.LaneViewFacts.{place-zeros}
 use Rattle.nr_ldpcenc.specs.Doubled.{col_bit}
 use Rattle.nr_ldpcenc.specs.Solving.{sum_before}
-use Rattle.nr_ldpcenc.proofs.TurnedSums.{none_set}
+use Rattle.nr_ldpcenc.proofs.DoubledSumFacts.{none_set}
 use Rattle.nr_ldpcenc.proofs.row_test.row_is_met.Goals as goal
 
 pub returns : goal.returns

@@ -1,4 +1,4 @@
-use Rattle.nr_ldpcenc.proofs.Codes.{set_below}
+use Rattle.nr_ldpcenc.proofs.CodewordFacts.{set_below}
 use Rattle.nr_ldpcenc.proofs.solver.set_in.Goals as goal
 
 pub returns-clause-below : goal.returns-clause-below

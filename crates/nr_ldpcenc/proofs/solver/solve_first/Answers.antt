@@ -5,9 +5,9 @@ use Rattle.nr_bitvec.specs.Packed.{place}
 use Rattle.nr_graphpick.specs.Graph.{info_cols_of, cols_of}
 use Rattle.nr_shifttable.specs.Accepted.{entries_in}
 use Rattle.nr_ldpcenc.specs.Doubled.{col_bit, HasColumns}
-use Rattle.nr_ldpcenc.proofs.Codes.{columns-are, columns_few, rows_four}
-use Rattle.nr_ldpcenc.proofs.Columns.{core_sums-agree}
-use Rattle.nr_ldpcenc.proofs.Solved.{first_put}
+use Rattle.nr_ldpcenc.proofs.CodewordFacts.{columns-are, columns_few, rows_four}
+use Rattle.nr_ldpcenc.proofs.SolvedColumnFacts.{core_sums-agree}
+use Rattle.nr_ldpcenc.proofs.PutColumnFacts.{first_put}
 use Rattle.nr_ldpcenc.proofs.solver.solve_first.Goals as goal
 
 pub put_block-requires : goal.put_block-requires

@@ -4,7 +4,7 @@ use Rattle.nr_graphpick.specs.Graph.{info_cols_of, rows_of}
 use Rattle.nr_segment.specs.CodeBlock.{numbers}
 use Rattle.nr_shifttable.specs.Accepted.{entries_in}
 use Rattle.nr_ldpcenc.specs.Inside.{AgreeBelow, IsSolvedTo}
-use Rattle.nr_ldpcenc.proofs.Codes.{set_below, has_some, rows_four, completed_word, completed_is_word}
+use Rattle.nr_ldpcenc.proofs.CodewordFacts.{set_below, has_some, rows_four, completed_word, completed_is_word}
 use Rattle.nr_ldpcenc.proofs.solver.solve_lanes.Goals as goal
 
 pub returns-clause-completed : goal.returns-clause-completed

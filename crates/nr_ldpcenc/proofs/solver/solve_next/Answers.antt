@@ -3,14 +3,14 @@ use Rattle.std.proofs.Math.Nat.{mul-le-mul_right}
 use Rattle.nr_bitvec.specs.Bit.{◌⊕◌, bit}
 use Rattle.nr_bitvec.specs.Packed.{place}
 use Rattle.nr_graphpick.specs.Graph.{info_cols_of, cols_of}
-use Rattle.nr_lifting.proofs.LaneViews.{place-zeros}
+use Rattle.nr_lifting.proofs.LaneViewFacts.{place-zeros}
 use Rattle.nr_shifttable.specs.Accepted.{entries_in, row_of}
 use Rattle.nr_shifttable.specs.declared.entry.Entry.{Entry}
 use Rattle.nr_ldpcenc.specs.Doubled.{col_bit, HasColumns}
 use Rattle.nr_ldpcenc.specs.Solving.{sum_before, head_sum, row_ending}
-use Rattle.nr_ldpcenc.proofs.Codes.{columns-are, columns_few}
-use Rattle.nr_ldpcenc.proofs.Solved.{next_put, row_ending-low, row_ending-high}
-use Rattle.nr_ldpcenc.proofs.Sums.{heads-agree}
+use Rattle.nr_ldpcenc.proofs.CodewordFacts.{columns-are, columns_few}
+use Rattle.nr_ldpcenc.proofs.PutColumnFacts.{next_put, row_ending-low, row_ending-high}
+use Rattle.nr_ldpcenc.proofs.RowSumFacts.{heads-agree}
 use Rattle.nr_ldpcenc.proofs.solver.solve_next.Goals as goal
 use Rattle.nr_ldpcenc.proofs.solver.solve_next.Goals.{then-i-lt3, else-i-lt3}
 

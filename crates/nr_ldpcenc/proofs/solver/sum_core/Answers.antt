@@ -4,12 +4,12 @@ use Rattle.nr_bitvec.specs.Packed.{place}
 use Rattle.nr_graphpick.specs.Graph.{info_cols_of}
 use Rattle.nr_graphpick.specs.declared.Graph.{Graph}
 use Rattle.nr_graphpick.specs.declared.Graph.TheVariants.{One, Two}
-use Rattle.nr_lifting.proofs.LaneViews.{place-zeros}
+use Rattle.nr_lifting.proofs.LaneViewFacts.{place-zeros}
 use Rattle.nr_shifttable.specs.Accepted.{entries_in, row_of}
 use Rattle.nr_shifttable.specs.declared.entry.Entry.{Entry}
 use Rattle.nr_ldpcenc.specs.Doubled.{AreTwice, col_bit}
 use Rattle.nr_ldpcenc.specs.Solving.{sum_before, head_sum}
-use Rattle.nr_ldpcenc.proofs.Adding.{four_sums}
+use Rattle.nr_ldpcenc.proofs.EntrySumFacts.{four_sums}
 use Rattle.nr_ldpcenc.proofs.solver.sum_core.Goals as goal
 
 -- there are at most 68 columns of information bits

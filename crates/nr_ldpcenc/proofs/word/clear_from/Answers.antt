@@ -1,5 +1,5 @@
 use Rattle.std.proofs.Common.{length, arith}
-use Rattle.nr_ldpcenc.proofs.Written.{cleared_more}
+use Rattle.nr_ldpcenc.proofs.WrittenBitFacts.{cleared_more}
 use Rattle.nr_ldpcenc.proofs.word.clear_from.Goals as goal
 
 pub loop-i-preserved : goal.loop-i-preserved

@@ -1,5 +1,5 @@
 use Rattle.std.proofs.Common.{arith}
-use Rattle.nr_ldpcenc.proofs.Written.{copied_more}
+use Rattle.nr_ldpcenc.proofs.WrittenBitFacts.{copied_more}
 use Rattle.nr_ldpcenc.proofs.word.copy_bits.Goals as goal
 
 pub loop-i-preserved : goal.loop-i-preserved

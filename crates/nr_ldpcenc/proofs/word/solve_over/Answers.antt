@@ -6,7 +6,7 @@ use Rattle.nr_graphpick.specs.Graph.{info_cols_of, cols_of}
 use Rattle.nr_segment.specs.CodeBlock.{numbers}
 use Rattle.nr_ldpcenc.specs.Codeword.{completed, IsWordOf}
 use Rattle.nr_ldpcenc.specs.Rows.{plan_checks}
-use Rattle.nr_ldpcenc.proofs.Codes.{columns-are, take_agree}
+use Rattle.nr_ldpcenc.proofs.CodewordFacts.{columns-are, take_agree}
 use Rattle.nr_ldpcenc.proofs.word.solve_over.Goals as goal
 
 pub clear_from-requires : goal.clear_from-requires

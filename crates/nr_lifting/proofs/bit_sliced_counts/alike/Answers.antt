@@ -1,7 +1,7 @@
 use Rattle.std.proofs.Common.{◌≡◌, ◌≢◌, ◌<◌, length, refl, sym, ap, ◌∙◌, arith, get_or-set_same, get_or-set_other, length-set}
 use Rattle.std.proofs.lemmas.Nat.Bits.{bit_at-lt, bit_at-zero, bit_at_ones, shr_and_one}
 use Rattle.std.specs.Int.{bit_at}
-use Rattle.nr_lifting.proofs.CountViews.{digits_more}
+use Rattle.nr_lifting.proofs.CountViewFacts.{digits_more}
 use Rattle.nr_lifting.proofs.bit_sliced_counts.alike.Goals as goal
 use Rattle.nr_lifting.proofs.bit_sliced_counts.alike.Goals.{then-n-b-eq1, else-n-b-eq1}
 

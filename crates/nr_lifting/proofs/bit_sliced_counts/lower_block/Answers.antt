@@ -1,5 +1,5 @@
 use Rattle.std.proofs.Common.{refl, arith}
-use Rattle.nr_lifting.proofs.PlaneCounts.{falls_more, group_enough}
+use Rattle.nr_lifting.proofs.PlaneCountFacts.{falls_more, group_enough}
 use Rattle.nr_lifting.proofs.bit_sliced_counts.lower_block.Goals as goal
 
 pub lower_word-requires : goal.lower_word-requires

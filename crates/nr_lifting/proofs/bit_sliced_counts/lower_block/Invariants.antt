@@ -1,6 +1,6 @@
 use Rattle.std.proofs.Common.{◌+◌, ◌%◌}
 use Rattle.nr_bitvec.specs.Packed.{place}
-use Rattle.nr_lifting.proofs.PlaneCounts.{FallsBefore}
+use Rattle.nr_lifting.proofs.PlaneCountFacts.{FallsBefore}
 use Rattle.nr_lifting.proofs.bit_sliced_counts.lower_block.Given as goal
 
 -- the groups before group i have fallen

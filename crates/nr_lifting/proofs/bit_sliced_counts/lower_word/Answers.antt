@@ -1,5 +1,5 @@
 use Rattle.std.proofs.Common.{refl, arith}
-use Rattle.nr_lifting.proofs.PlaneCounts.{borrows_more, borrows_all}
+use Rattle.nr_lifting.proofs.PlaneCountFacts.{borrows_more, borrows_all}
 use Rattle.nr_lifting.proofs.bit_sliced_counts.lower_word.Goals as goal
 
 -- the next plane falls

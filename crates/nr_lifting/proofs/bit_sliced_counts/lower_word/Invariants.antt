@@ -1,4 +1,4 @@
-use Rattle.nr_lifting.proofs.PlaneCounts.{Borrows}
+use Rattle.nr_lifting.proofs.PlaneCountFacts.{Borrows}
 use Rattle.nr_lifting.proofs.bit_sliced_counts.lower_word.Given as goal
 
 -- the planes before plane b have fallen

@@ -1,6 +1,6 @@
 use Rattle.std.proofs.Common.{◌==◌, if◌then◌else◌}
 use Rattle.nr_lifting.specs.Planes.{number_at}
-use Rattle.nr_lifting.proofs.LaneWords.{IsWritten}
+use Rattle.nr_lifting.proofs.LaneWordFacts.{IsWritten}
 use Rattle.nr_lifting.proofs.bit_sliced_counts.ones_lane.Given as goal
 
 -- the words before word i are marked

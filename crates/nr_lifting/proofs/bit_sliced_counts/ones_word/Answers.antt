@@ -1,5 +1,5 @@
 use Rattle.std.proofs.Common.{refl, arith}
-use Rattle.nr_lifting.proofs.PlaneCounts.{has_more-next, ones_are}
+use Rattle.nr_lifting.proofs.PlaneCountFacts.{has_more-next, ones_are}
 use Rattle.nr_lifting.proofs.bit_sliced_counts.ones_word.Goals as goal
 
 -- the next plane is joined

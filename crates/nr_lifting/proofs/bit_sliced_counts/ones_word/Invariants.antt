@@ -1,4 +1,4 @@
-use Rattle.nr_lifting.proofs.PlaneCounts.{HasMore}
+use Rattle.nr_lifting.proofs.PlaneCountFacts.{HasMore}
 use Rattle.nr_lifting.proofs.bit_sliced_counts.ones_word.Given as goal
 
 -- the planes from plane 1 to the one before plane b are joined

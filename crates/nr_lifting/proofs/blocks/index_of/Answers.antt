@@ -1,4 +1,4 @@
-use Rattle.nr_lifting.proofs.Listed.{member_some}
+use Rattle.nr_lifting.proofs.SetIndexFacts.{member_some}
 use Rattle.nr_lifting.proofs.blocks.index_of.Goals as goal
 
 pub unwrap-requires : goal.unwrap-requires

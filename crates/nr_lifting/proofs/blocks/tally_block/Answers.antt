@@ -1,5 +1,5 @@
 use Rattle.std.proofs.Common.{arith}
-use Rattle.nr_lifting.proofs.Listed.{member_at, member_past}
+use Rattle.nr_lifting.proofs.SetIndexFacts.{member_at, member_past}
 use Rattle.nr_lifting.proofs.blocks.tally_block.Goals as goal
 
 pub tally_0-requires-clause-size : goal.tally_0-requires-clause-size

@@ -1,6 +1,6 @@
 use Rattle.std.proofs.Common.{◌+◌, ◌%◌}
 use Rattle.nr_bitvec.specs.Packed.{place}
-use Rattle.nr_lifting.proofs.LaneWords.{IsWritten}
+use Rattle.nr_lifting.proofs.LaneWordFacts.{IsWritten}
 use Rattle.nr_lifting.proofs.doubled_lanes.add_ring.Given as goal
 
 -- the words before word i have gained theirs

@@ -1,6 +1,6 @@
 use Rattle.std.proofs.Common.{◌*◌, ◌%◌, max}
 use Rattle.nr_bitvec.specs.Packed.{place}
-use Rattle.nr_lifting.proofs.LaneWords.{IsWritten}
+use Rattle.nr_lifting.proofs.LaneWordFacts.{IsWritten}
 use Rattle.nr_lifting.proofs.doubled_lanes.join_ring.Given as goal
 
 -- the words before word k are joined

@@ -2,7 +2,7 @@ use Rattle.std.proofs.Common.{◌<◌, ◌+◌, ◌-◌, ◌*◌, ◌/◌, ◌%�
 use Rattle.std.proofs.lemmas.Bool.{cases_lt}
 use Rattle.std.specs.Int.{bit_at}
 use Rattle.nr_bitvec.specs.Packed.{place}
-use Rattle.nr_lifting.proofs.LaneWords.{written_more, less_low, less_high}
+use Rattle.nr_lifting.proofs.LaneWordFacts.{written_more, less_low, less_high}
 use Rattle.nr_lifting.proofs.doubled_lanes.lane_less_ring.Goals as goal
 
 -- one word

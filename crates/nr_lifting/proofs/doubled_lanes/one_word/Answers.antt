@@ -1,6 +1,6 @@
 use Rattle.std.proofs.Common.{replicate, ◌∙◌, arith}
-use Rattle.nr_bitvec.proofs.Places.{place-set_same, place-set_other}
-use Rattle.nr_lifting.proofs.LaneViews.{place-zeros}
+use Rattle.nr_bitvec.proofs.PlaceFacts.{place-set_same, place-set_other}
+use Rattle.nr_lifting.proofs.LaneViewFacts.{place-zeros}
 use Rattle.nr_lifting.proofs.doubled_lanes.one_word.Goals as goal
 
 pub returns-clause-first : goal.returns-clause-first

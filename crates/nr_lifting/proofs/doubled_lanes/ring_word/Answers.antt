@@ -1,6 +1,6 @@
 use Rattle.std.proofs.Common.{◌+◌, ◌*◌, ap, ◌∙◌, arith}
 use Rattle.nr_bitvec.specs.Packed.{place}
-use Rattle.nr_lifting.proofs.Turns.{ring-rotated}
+use Rattle.nr_lifting.proofs.RotationFacts.{ring-rotated}
 use Rattle.nr_lifting.proofs.doubled_lanes.ring_word.Goals as goal
 
 pub returns-clause-rotated : goal.returns-clause-rotated

@@ -2,8 +2,8 @@ use Rattle.std.proofs.Common.{◌<◌, ◌+◌, ◌*◌, ◌/◌, ◌%◌, refl,
 use Rattle.std.proofs.lemmas.Bool.{cases_lt}
 use Rattle.std.specs.Int.{bit_at}
 use Rattle.nr_bitvec.specs.Packed.{place}
-use Rattle.nr_lifting.proofs.LaneViews.{place-zeros}
-use Rattle.nr_lifting.proofs.LaneWords.{written_more}
+use Rattle.nr_lifting.proofs.LaneViewFacts.{place-zeros}
+use Rattle.nr_lifting.proofs.LaneWordFacts.{written_more}
 use Rattle.nr_lifting.proofs.doubled_lanes.rotate_lane.Goals as goal
 
 -- one word

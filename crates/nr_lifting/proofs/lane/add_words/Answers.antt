@@ -1,5 +1,5 @@
 use Rattle.std.proofs.Common.{refl, arith}
-use Rattle.nr_lifting.proofs.LaneWords.{written_more, written_lane, summed_low, summed_high}
+use Rattle.nr_lifting.proofs.LaneWordFacts.{written_more, written_lane, summed_low, summed_high}
 use Rattle.nr_lifting.proofs.lane.add_words.Goals as goal
 
 -- the next word is one that is kept so far

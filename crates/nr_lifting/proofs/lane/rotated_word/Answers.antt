@@ -2,7 +2,7 @@ use Rattle.std.proofs.Common.{◌≡◌, ◌+◌, ◌*◌, ap, ◌∙◌, arith}
 use Rattle.std.proofs.lemmas.Nat.Bits.{bit_at_or}
 use Rattle.std.specs.Int.{bit_at}
 use Rattle.nr_bitvec.specs.Packed.{place}
-use Rattle.nr_lifting.proofs.Turns.{rotated}
+use Rattle.nr_lifting.proofs.RotationFacts.{rotated}
 use Rattle.nr_lifting.proofs.lane.rotated_word.Goals as goal
 
 -- the low bits are those of the two words' union

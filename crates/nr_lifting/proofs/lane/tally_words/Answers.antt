@@ -1,5 +1,5 @@
 use Rattle.std.proofs.Common.{refl, arith}
-use Rattle.nr_lifting.proofs.LaneWords.{written_more, written_lane, joined_low, joined_high, twice_low, twice_high}
+use Rattle.nr_lifting.proofs.LaneWordFacts.{written_more, written_lane, joined_low, joined_high, twice_low, twice_high}
 use Rattle.nr_lifting.proofs.lane.tally_words.Goals as goal
 
 -- the next words are ones that are kept so far

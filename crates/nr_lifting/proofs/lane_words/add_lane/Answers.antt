@@ -1,5 +1,5 @@
 use Rattle.std.proofs.Common.{refl, arith}
-use Rattle.nr_lifting.proofs.LaneBits.{made_next, added_all, added_bit, added_clear}
+use Rattle.nr_lifting.proofs.LaneBitFacts.{made_next, added_all, added_bit, added_clear}
 use Rattle.nr_lifting.proofs.lane_words.add_lane.Goals as goal
 
 -- the next word is made

@@ -1,6 +1,6 @@
 use Rattle.std.proofs.Common.{◌+◌, ◌*◌, ◌∙◌, refl, arith}
 use Rattle.nr_lifting.specs.Rings.{is_set}
-use Rattle.nr_lifting.proofs.LaneBits.{counted_all, counted_more, counted_none, marked-le}
+use Rattle.nr_lifting.proofs.LaneBitFacts.{counted_all, counted_more, counted_none, marked-le}
 use Rattle.nr_lifting.proofs.lane_words.lane_count.Goals as goal
 use Rattle.nr_lifting.proofs.lane_words.lane_count.Goals.{then-lane-i-ne0, else-lane-i-ne0}
 

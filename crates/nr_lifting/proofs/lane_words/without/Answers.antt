@@ -1,5 +1,5 @@
 use Rattle.std.proofs.Common.{refl, arith}
-use Rattle.nr_lifting.proofs.LaneBits.{made_next, without_all, without_bit, without_clear}
+use Rattle.nr_lifting.proofs.LaneBitFacts.{made_next, without_all, without_bit, without_clear}
 use Rattle.nr_lifting.proofs.lane_words.without.Goals as goal
 
 -- the next word is made

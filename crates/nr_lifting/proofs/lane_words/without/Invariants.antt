@@ -1,6 +1,6 @@
 use Rattle.std.proofs.Common.{◌-◌, min}
 use Rattle.nr_bitvec.specs.Packed.{place}
-use Rattle.nr_lifting.proofs.LaneBits.{IsMade}
+use Rattle.nr_lifting.proofs.LaneBitFacts.{IsMade}
 use Rattle.nr_lifting.proofs.lane_words.without.Given as goal
 
 -- the words before word i are made

@@ -5,7 +5,7 @@ use Rattle.nr_segment.specs.Plan.{Numbers}
 use Rattle.nr_linkcommands.specs.AuditLines.{audit_line}
 use Rattle.nr_commands.specs.Written.{with_text}
 use Rattle.nr_linkcommands.proofs.AuditLemmas.{behind-some}
-use Rattle.nr_commands.proofs.BlockTexts.{flat_map-range_more, lines_parts}
+use Rattle.nr_commands.proofs.BlockTextFacts.{flat_map-range_more, lines_parts}
 use Rattle.nr_commands.proofs.WrittenLemmas.{with_text-append, writes_behind}
 use Rattle.nr_linkcommands.proofs.audit_command.write_codes.Goals as goal
 

@@ -6,7 +6,7 @@ use Rattle.nr_files.specs.Rounds.{of_process, round_of}
 use Rattle.nr_linkcommands.specs.RunText.{received}
 use Rattle.nr_files.specs.declared.schedule.Transmission.{Transmission}
 use Rattle.nr_linkcommands.proofs.AuditLemmas.{audit_block-heard}
-use Rattle.nr_linkcommands.proofs.AuditRounds.{lines-some, lines-there, round-named}
+use Rattle.nr_linkcommands.proofs.AuditRoundFacts.{lines-some, lines-there, round-named}
 use Rattle.nr_commands.proofs.WrittenLemmas.{writes_none}
 use Rattle.nr_linkcommands.proofs.audit_command.write_round.Goals as goal
 

@@ -6,7 +6,7 @@ use Rattle.nr_files.specs.Blocks.{blocks_said}
 use Rattle.nr_linkcommands.specs.Inputs.{files_said, given_by}
 use Rattle.nr_files.specs.Schedule.{timetable_by}
 use Rattle.nr_files.specs.Settings.{settings_said}
-use Rattle.nr_linkcommands.proofs.FoundFaults.{found_blocks, found_err, found_schedule, found_settings, found_table}
+use Rattle.nr_linkcommands.proofs.FoundFaultFacts.{found_blocks, found_err, found_schedule, found_settings, found_table}
 use Rattle.nr_linkcommands.proofs.InputLemmas.{first_blocks, first_schedule, first_settings, first_table, first_err, later_err, later_blocks, later_schedule, later_settings, later_table, sound, sound_table, given-all, given-blocks, given-schedule, given-settings, given-table, gives-refused, of_all, of_first, of_three, of_two, table_read}
 use Rattle.nr_linkcommands.proofs.inputs.read.Goals as goal
 

@@ -2,7 +2,7 @@ use Rattle.std.proofs.Common.{◌≡◌, ◌<◌, ◌≤◌, ◌++◌, ◌∷◌
 use Rattle.std.proofs.lemmas.Grind.{common_steps}
 use Rattle.std.proofs.lemmas.List.{length-map}
 use Rattle.std.proofs.lemmas.Result.{err_from_is_err_and}
-use Rattle.nr_commands.proofs.BlockTexts.{octets_at}
+use Rattle.nr_commands.proofs.BlockTextFacts.{octets_at}
 use Rattle.nr_linkcommands.proofs.InputLemmas.{gives-refused, senders_last, senders_turn-err, senders_turn-ok}
 use Rattle.nr_linkcommands.proofs.inputs.senders.Goals as goal
 

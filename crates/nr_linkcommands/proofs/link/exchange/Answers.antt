@@ -1,7 +1,7 @@
 use Rattle.std.proofs.Common.{List, subst, sym}
 use Rattle.nr_blockdesk.specs.Explains.{IsAccepted, reception}
 use Rattle.nr_blockdesk.specs.declared.heard.Heard.{Heard}
-use Rattle.nr_linkcommands.proofs.Receptions.{sent-accepted}
+use Rattle.nr_linkcommands.proofs.ReceptionFacts.{sent-accepted}
 use Rattle.nr_linkcommands.proofs.link.exchange.Goals as goal
 
 pub returns-in_ok-arrival-in-Ok-clause-made : goal.returns-in_ok-arrival-in-Ok-clause-made

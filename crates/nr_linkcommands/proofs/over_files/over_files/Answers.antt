@@ -5,8 +5,8 @@ use Rattle.nr_commands.proofs.CommandLemmas.{delivers-writes, writes_said}
 use Rattle.nr_commands.proofs.WrittenLemmas.{writes_refused}
 use Rattle.nr_linkcommands.specs.FourFiles.{said_over}
 use Rattle.nr_linkcommands.specs.Inputs.{given_by}
-use Rattle.nr_linkcommands.proofs.FoundFaults.{found_block, found_written, sound_ok}
-use Rattle.nr_linkcommands.proofs.FourFiles.{over-err, refused-text, said-ready, said-refused, said-unsent, unread-block, unread-written}
+use Rattle.nr_linkcommands.proofs.FoundFaultFacts.{found_block, found_written, sound_ok}
+use Rattle.nr_linkcommands.proofs.FourFileFacts.{over-err, refused-text, said-ready, said-refused, said-unsent, unread-block, unread-written}
 use Rattle.nr_linkcommands.proofs.InputLemmas.{first_block, first_written, later_block, later_written, of_block_or_memory, of_four_then}
 use Rattle.nr_linkcommands.proofs.over_files.over_files.Goals as goal
 

@@ -2,7 +2,7 @@ use Rattle.std.proofs.Common.{[], List, ℕ, codes, refl, sym}
 use Rattle.std.proofs.lemmas.Result.{err_from_is_err_and}
 use Rattle.nr_linkcommands.specs.RunLines.{last_line}
 use Rattle.nr_linkcommands.specs.RunText.{no_totals, outcome_lines, totals_from}
-use Rattle.nr_linkcommands.proofs.RunOutcomes.{last_line-some}
+use Rattle.nr_linkcommands.proofs.RunOutcomeFacts.{last_line-some}
 use Rattle.nr_commands.proofs.WrittenLemmas.{with_text-nil, writes_behind, writes_last}
 use Rattle.nr_linkcommands.proofs.run_command.write_blocks.Goals as goal
 

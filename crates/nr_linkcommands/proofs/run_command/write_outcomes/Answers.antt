@@ -6,9 +6,9 @@ use Rattle.nr_linkcommands.specs.Ends.{AllHold, HoldsSummary}
 use Rattle.nr_linkcommands.specs.RunText.{own, received, totals_from}
 use Rattle.nr_linkcommands.specs.declared.run_command.slot.Slot.{Slot}
 use Rattle.nr_linkcommands.specs.declared.run_command.totals.Totals.{Totals}
-use Rattle.nr_linkcommands.proofs.RunLines.{holds-at}
-use Rattle.nr_linkcommands.proofs.RunOutcomes.{outcome_line-some, outcome_lines-end, outcome_lines-turn, totals-end, totals-turn, within-more}
-use Rattle.nr_linkcommands.proofs.RunTexts.{left-first, left-last, left-more, left-stopped}
+use Rattle.nr_linkcommands.proofs.RunLineFacts.{holds-at}
+use Rattle.nr_linkcommands.proofs.RunOutcomeFacts.{outcome_line-some, outcome_lines-end, outcome_lines-turn, totals-end, totals-turn, within-more}
+use Rattle.nr_linkcommands.proofs.RunTextFacts.{left-first, left-last, left-more, left-stopped}
 use Rattle.nr_linkcommands.proofs.run_command.write_outcomes.Goals as goal
 
 -- what is kept of the block whose slot is read

@@ -2,7 +2,7 @@ use Rattle.std.proofs.Common.{◌≡◌, ◌+◌, List, drop}
 use Rattle.nr_linkcommands.specs.Ends.{AllHold, IsWithin}
 use Rattle.nr_linkcommands.specs.RunText.{no_totals, outcome_lines, totals_from}
 use Rattle.nr_files.specs.declared.schedule.Transmission.{Transmission}
-use Rattle.nr_linkcommands.proofs.RunTexts.{IsLeft}
+use Rattle.nr_linkcommands.proofs.RunTextFacts.{IsLeft}
 use Rattle.nr_linkcommands.proofs.run_command.write_outcomes.Given as goal
 
 -- the lines of the blocks so far are written, no put failed, and the totals with the blocks that are left are those of all

@@ -4,7 +4,7 @@ use Rattle.nr_files.specs.Rounds.{all_rounds}
 use Rattle.nr_linkcommands.specs.RoundTexts.{last_rounds, pieces_joined}
 use Rattle.nr_linkcommands.specs.RunLines.{last_line}
 use Rattle.nr_linkcommands.specs.RunText.{no_totals, rounds_counted, run_words}
-use Rattle.nr_linkcommands.proofs.RunOutcomes.{last_line-some}
+use Rattle.nr_linkcommands.proofs.RunOutcomeFacts.{last_line-some}
 use Rattle.nr_commands.proofs.WrittenLemmas.{with_text-nil, writes_behind, writes_last}
 use Rattle.nr_linkcommands.proofs.run_command.write_rounds.Goals as goal
 

@@ -7,10 +7,10 @@ use Rattle.nr_files.specs.Rounds.{ended_rounds, round_of}
 use Rattle.nr_files.specs.declared.schedule.Transmission.{Transmission}
 use Rattle.nr_linkcommands.specs.RoundTexts.{round_lines}
 use Rattle.nr_commands.specs.Written.{with_text}
-use Rattle.nr_commands.proofs.BlockTexts.{flat_map-range_more, lines_parts}
+use Rattle.nr_commands.proofs.BlockTextFacts.{flat_map-range_more, lines_parts}
 use Rattle.nr_commands.proofs.WrittenLemmas.{with_text-append, with_text-nil, writes_behind}
-use Rattle.nr_linkcommands.proofs.LastRounds.{last-lines, last-more}
-use Rattle.nr_linkcommands.proofs.RoundTurns.{ended-few}
+use Rattle.nr_linkcommands.proofs.LastRoundFacts.{last-lines, last-more}
+use Rattle.nr_linkcommands.proofs.RoundTextFacts.{ended-few}
 use Rattle.nr_linkcommands.proofs.schedule_walk.end_all.Goals as goal
 
 pub loop-process-init : goal.loop-process-init

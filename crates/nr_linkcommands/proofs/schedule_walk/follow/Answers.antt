@@ -5,11 +5,11 @@ use Rattle.std.proofs.lemmas.Result.{err_from_is_err_and}
 use Rattle.nr_files.specs.Rounds.{ended_by, ended_rounds}
 use Rattle.nr_files.specs.Schedule.{HasBlock}
 use Rattle.nr_files.specs.declared.schedule.Transmission.{Transmission}
-use Rattle.nr_linkcommands.proofs.RoundEnds.{of-continued, turn-parts}
-use Rattle.nr_linkcommands.proofs.RoundTurns.{all-behind, ended-few, ended-more, left-turn, taken-more, turns-end}
-use Rattle.nr_linkcommands.proofs.RunLines.{all-at}
-use Rattle.nr_linkcommands.proofs.RunTexts.{left-first, left-last, left-more, left-stopped}
-use Rattle.nr_linkcommands.proofs.Timetables.{timetable-of_rounds}
+use Rattle.nr_linkcommands.proofs.RoundEndFacts.{of-continued, turn-parts}
+use Rattle.nr_linkcommands.proofs.RoundTextFacts.{all-behind, ended-few, ended-more, left-turn, taken-more, turns-end}
+use Rattle.nr_linkcommands.proofs.RunLineFacts.{all-at}
+use Rattle.nr_linkcommands.proofs.RunTextFacts.{left-first, left-last, left-more, left-stopped}
+use Rattle.nr_linkcommands.proofs.TimetableFacts.{timetable-of_rounds}
 use Rattle.nr_linkcommands.proofs.schedule_walk.follow.Goals as goal
 
 pub loop-index-init : goal.loop-index-init

@@ -1,7 +1,7 @@
 use Rattle.std.proofs.Common.{◌≡◌, [], take, drop}
 use Rattle.nr_linkcommands.specs.RoundTexts.{pieces_joined, turns}
 use Rattle.nr_files.specs.Rounds.{ended_rounds}
-use Rattle.nr_linkcommands.proofs.RunTexts.{IsLeft}
+use Rattle.nr_linkcommands.proofs.RunTextFacts.{IsLeft}
 use Rattle.nr_linkcommands.proofs.schedule_walk.follow.Given as goal
 
 -- The lines of the transmissions so far are written, and no put failed. What is kept of these transmissions and of the

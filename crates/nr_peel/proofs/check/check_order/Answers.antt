@@ -6,11 +6,11 @@ use Rattle.nr_segment.specs.CodeBlock.{numbers}
 use Rattle.nr_ldpcenc.specs.Rows.{block_checks}
 use Rattle.nr_peel.specs.Certificates.{accepts, after_steps, all_accepted}
 use Rattle.nr_peel.specs.declared.fix.Fix.{Fix}
-use Rattle.nr_peel.proofs.Grid.{checks_sound}
-use Rattle.nr_peel.proofs.Judged.{accepts_alike, judged_more, refused_here}
-use Rattle.nr_peel.proofs.Ordered.{accepted_says, steps_stay}
-use Rattle.nr_peel.proofs.Sets.{in_sets}
-use Rattle.nr_peel.proofs.Words.{words_agree}
+use Rattle.nr_peel.proofs.TableGridFacts.{checks_sound}
+use Rattle.nr_peel.proofs.FixOrderCheckFacts.{accepts_alike, judged_more, refused_here}
+use Rattle.nr_peel.proofs.FixOrderFacts.{accepted_says, steps_stay}
+use Rattle.nr_peel.proofs.SetIndexFacts.{in_sets}
+use Rattle.nr_peel.proofs.CodewordFacts.{words_agree}
 use Rattle.nr_peel.proofs.check.check_order.Goals as goal
 
 pub invariant_of-lifted : goal.invariant_of-lifted

@@ -1,5 +1,5 @@
 use Rattle.nr_bitvec.specs.Bit.{bit}
-use Rattle.nr_peel.proofs.Found.{IsBesideSo}
+use Rattle.nr_peel.proofs.StoppingCheckFacts.{IsBesideSo}
 use Rattle.nr_peel.proofs.check.is_beside.Given as goal
 
 abbrev pub invariant-loop-pos : goal.invariant-loop-pos

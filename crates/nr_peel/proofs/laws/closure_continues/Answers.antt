@@ -1,4 +1,4 @@
-use Rattle.nr_peel.proofs.Closed.{closure_continues}
+use Rattle.nr_peel.proofs.ClosureFacts.{closure_continues}
 use Rattle.nr_peel.proofs.laws.closure_continues.Goals as goal
 
 pub returns : goal.returns

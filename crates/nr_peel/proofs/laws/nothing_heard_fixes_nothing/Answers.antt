@@ -1,5 +1,5 @@
-use Rattle.nr_peel.proofs.Nothing.{nothing_fixed}
-use Rattle.nr_peel.proofs.Sets.{sound_set}
+use Rattle.nr_peel.proofs.NothingHeardFacts.{nothing_fixed}
+use Rattle.nr_peel.proofs.SetIndexFacts.{sound_set}
 use Rattle.nr_peel.proofs.laws.nothing_heard_fixes_nothing.Goals as goal
 
 pub returns : goal.returns

@@ -1,4 +1,4 @@
-use Rattle.nr_peel.proofs.Ordered.{steps_stay}
+use Rattle.nr_peel.proofs.FixOrderFacts.{steps_stay}
 use Rattle.nr_peel.proofs.laws.steps_stay_in_closure.Goals as goal
 
 pub returns : goal.returns

@@ -1,4 +1,4 @@
-use Rattle.nr_peel.proofs.Words.{words_agree}
+use Rattle.nr_peel.proofs.CodewordFacts.{words_agree}
 use Rattle.nr_peel.proofs.laws.words_agree_on_closure.Goals as goal
 
 pub returns : goal.returns

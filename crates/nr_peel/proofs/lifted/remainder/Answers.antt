@@ -1,6 +1,6 @@
 use Rattle.std.proofs.Common.{◌≡◌, ◌+◌, ◌*◌, ◌/◌, ◌%◌, ap, ◌∙◌, arith}
 use Rattle.std.proofs.lemmas.Nat.{div-add-mod'}
-use Rattle.nr_peel.proofs.Quotients.{quotient}
+use Rattle.nr_peel.proofs.QuotientFacts.{quotient}
 use Rattle.nr_peel.proofs.lifted.remainder.Goals as goal
 
 pub overflow_sub-result : goal.overflow_sub-result

@@ -4,10 +4,10 @@ use Rattle.nr_bitvec.specs.Bit.{bit}
 use Rattle.nr_segment.specs.CodeBlock.{numbers}
 use Rattle.nr_ldpcenc.specs.Rows.{block_checks}
 use Rattle.nr_peel.specs.Closure.{closure}
-use Rattle.nr_peel.proofs.Closed.{closure_closed, closure_keeps, round_keeps, round_within, size_below, size_le}
-use Rattle.nr_peel.proofs.Grid.{checks_sound}
-use Rattle.nr_peel.proofs.Rounded.{round_grows, rounds_done}
-use Rattle.nr_peel.proofs.Sets.{in_sets}
+use Rattle.nr_peel.proofs.ClosureFacts.{closure_closed, closure_keeps, round_keeps, round_within, size_below, size_le}
+use Rattle.nr_peel.proofs.TableGridFacts.{checks_sound}
+use Rattle.nr_peel.proofs.RoundFacts.{round_grows, rounds_done}
+use Rattle.nr_peel.proofs.SetIndexFacts.{in_sets}
 use Rattle.nr_peel.proofs.rounds.close.Goals as goal
 
 pub invariant_of-lifted : goal.invariant_of-lifted

@@ -4,7 +4,7 @@ use Rattle.nr_segment.specs.CodeBlock.{numbers}
 use Rattle.nr_ldpcenc.specs.Rows.{block_checks}
 use Rattle.nr_peel.specs.Closure.{Within, closure}
 use Rattle.nr_peel.specs.Rounds.{HasLanes}
-use Rattle.nr_peel.proofs.Closed.{size_below}
+use Rattle.nr_peel.proofs.ClosureFacts.{size_below}
 use Rattle.nr_peel.proofs.rounds.close.Given as goal
 
 -- what was known is known, and all that is known is in the closure

@@ -5,8 +5,8 @@ use Rattle.nr_segment.specs.CodeBlock.{numbers}
 use Rattle.nr_peel.specs.Closure.{any_below}
 use Rattle.nr_peel.specs.Rounds.{lacks_one, some_lacks_one}
 use Rattle.nr_peel.specs.StateInside.{lifted_checks}
-use Rattle.nr_peel.proofs.Grid.{checks_sound}
-use Rattle.nr_peel.proofs.Rounded.{added_twice, any_below-more, any_more_no, any_more_yes, counted_marks, counted_some, is_completed, round_marks, row_fits}
+use Rattle.nr_peel.proofs.TableGridFacts.{checks_sound}
+use Rattle.nr_peel.proofs.RoundFacts.{added_twice, any_below-more, any_more_no, any_more_yes, counted_marks, counted_some, is_completed, round_marks, row_fits}
 use Rattle.nr_peel.proofs.rounds.go_round.Goals as goal
 use Rattle.nr_peel.proofs.rounds.go_round.Goals.{then-complete, else-complete}
 

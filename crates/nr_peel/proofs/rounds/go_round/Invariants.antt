@@ -3,7 +3,7 @@ use Rattle.nr_bitvec.specs.Bit.{bit}
 use Rattle.nr_peel.specs.Closure.{any_below}
 use Rattle.nr_peel.specs.Rounds.{HasLanes, lacks_one}
 use Rattle.nr_peel.specs.StateInside.{lifted_checks}
-use Rattle.nr_peel.proofs.Rounded.{is_completed}
+use Rattle.nr_peel.proofs.RoundFacts.{is_completed}
 use Rattle.nr_peel.proofs.rounds.go_round.Given as goal
 
 -- the rows of blocks so far are judged by the positions that were known before

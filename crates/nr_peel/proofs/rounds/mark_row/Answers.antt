@@ -5,8 +5,8 @@ use Rattle.nr_shifttable.specs.declared.entry.Entry.{Entry}
 use Rattle.nr_shifttable.specs.Tails.{value_in}
 use Rattle.nr_ldpcenc.specs.Rows.{one_at}
 use Rattle.nr_peel.specs.Rounds.{row_in}
-use Rattle.nr_peel.proofs.Places.{place_fits}
-use Rattle.nr_peel.proofs.Rounded.{marked_more}
+use Rattle.nr_peel.proofs.RowPlaceFacts.{place_fits}
+use Rattle.nr_peel.proofs.RoundFacts.{marked_more}
 use Rattle.nr_peel.proofs.rounds.mark_row.Goals as goal
 
 pub loop-entry-preserved : goal.loop-entry-preserved

@@ -1,4 +1,4 @@
-use Rattle.nr_ratematch.proofs.Buffers.{buffer-circular}
+use Rattle.nr_ratematch.proofs.BufferFacts.{buffer-circular}
 use Rattle.nr_ratematch.proofs.laws.buffers_are_circular.Goals as goal
 
 pub returns : goal.returns

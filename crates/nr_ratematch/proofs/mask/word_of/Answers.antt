@@ -1,6 +1,6 @@
 -- The bits are read from the last one to the first.
 use Rattle.std.proofs.Common.{◌<◌, ◌-◌, ◌^◌, false, get_or, arith}
-use Rattle.nr_ratematch.proofs.MarkWords.{low_bit, word_of-end, word_of-next, word_of-room}
+use Rattle.nr_ratematch.proofs.MaskWordFacts.{low_bit, word_of-end, word_of-next, word_of-room}
 use Rattle.nr_ratematch.proofs.mask.word_of.Goals as goal
 
 pub loop-at-init : goal.loop-at-init

@@ -1,6 +1,6 @@
 use Rattle.std.proofs.Common.{◌≡◌, ◌+◌, ◌-◌, ◌%◌, ◌<◌, ◌≤◌, length, ap, ◌∙◌, arith}
 use Rattle.std.proofs.Math.Nat.{mod-eq_of_lt, mod-lt}
-use Rattle.nr_ratematch.proofs.Runs.{IsRun, run-is, run_more, selected-none, turned-next}
+use Rattle.nr_ratematch.proofs.RunFacts.{IsRun, run-is, run_more, selected-none, turned-next}
 use Rattle.nr_ratematch.proofs.selection.select_onto.Goals as goal
 
 pub loop-k-init : goal.loop-k-init

@@ -1,6 +1,6 @@
 use Rattle.std.proofs.Common.{◌≡◌, true, false, slice_index, sym, subst, arith}
 use Rattle.nr_shifttable.specs.Accepted.{two_agree, each_below, three_agree}
-use Rattle.nr_shifttable.proofs.Parity.{each_below-not}
+use Rattle.nr_shifttable.proofs.BoundedLoopFacts.{each_below-not}
 use Rattle.nr_shifttable.proofs.accept.three_agree.Goals as goal
 
 pub returns-then-not-two_agree : goal.returns-then-not-two_agree

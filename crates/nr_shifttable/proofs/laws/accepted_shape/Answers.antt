@@ -1,4 +1,4 @@
-use Rattle.nr_shifttable.proofs.Shape.{accepted-has_shape}
+use Rattle.nr_shifttable.proofs.ParityShapeFacts.{accepted-has_shape}
 use Rattle.nr_shifttable.proofs.laws.accepted_shape.Goals as goal
 
 pub returns : goal.returns

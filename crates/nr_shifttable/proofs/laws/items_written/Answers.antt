@@ -1,4 +1,4 @@
-use Rattle.nr_shifttable.proofs.Written.{items-are_written}
+use Rattle.nr_shifttable.proofs.WrittenItemFacts.{items-are_written}
 use Rattle.nr_shifttable.proofs.laws.items_written.Goals as goal
 
 pub returns : goal.returns

@@ -1,4 +1,4 @@
-use Rattle.nr_shifttable.proofs.Kept.{listed-kept}
+use Rattle.nr_shifttable.proofs.KeptItemFacts.{listed-kept}
 use Rattle.nr_shifttable.proofs.laws.listed_are_kept.Goals as goal
 
 pub returns : goal.returns

@@ -1,4 +1,4 @@
-use Rattle.nr_shifttable.proofs.RecordOrder.{records-may_move}
+use Rattle.nr_shifttable.proofs.RecordOrderFacts.{records-may_move}
 use Rattle.nr_shifttable.proofs.laws.records_may_move.Goals as goal
 
 pub returns : goal.returns

@@ -1,4 +1,4 @@
-use Rattle.nr_shifttable.proofs.Converse.{shape-is_accepted}
+use Rattle.nr_shifttable.proofs.ShapeConverseFacts.{shape-is_accepted}
 use Rattle.nr_shifttable.proofs.laws.shape_accepted.Goals as goal
 
 pub returns : goal.returns

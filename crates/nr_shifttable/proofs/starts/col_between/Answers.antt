@@ -1,7 +1,7 @@
 use Rattle.std.proofs.Common.{◌+◌, subst, sym, arith}
 use Rattle.nr_shifttable.specs.declared.entry.Entry.{Entry}
 use Rattle.nr_shifttable.specs.OrdersInside.{IsStart}
-use Rattle.nr_shifttable.proofs.Between.{starts-order, starts-slice}
+use Rattle.nr_shifttable.proofs.SliceBoundFacts.{starts-order, starts-slice}
 use Rattle.nr_shifttable.proofs.starts.col_between.Goals as goal
 
 pub slice_bounds-result-count : goal.slice_bounds-result-count

@@ -1,7 +1,7 @@
 use Rattle.std.proofs.Common.{[], arith}
 use Rattle.nr_shifttable.specs.declared.entry.Entry.{Entry}
-use Rattle.nr_shifttable.proofs.Between.{start-from, within-more}
-use Rattle.nr_shifttable.proofs.Columns.{rows_rise}
+use Rattle.nr_shifttable.proofs.SliceBoundFacts.{start-from, within-more}
+use Rattle.nr_shifttable.proofs.AscendingEntryFacts.{rows_rise}
 use Rattle.nr_shifttable.proofs.starts.row_start.Goals as goal
 
 pub loop-start-preserved : goal.loop-start-preserved

@@ -2,8 +2,8 @@ use Rattle.std.proofs.Common.{◌≡◌, ℕ, ◌+◌, ◌≤◌, ◌∙◌, Lis
 use Rattle.std.proofs.Math.Facts.{Fits-of_lt}
 use Rattle.nr_bitvec.specs.BitList.{BitList}
 use Rattle.nr_bitvec.specs.Packed.{unpacked}
-use Rattle.nr_bitvec.proofs.Places.{length-unpacked}
-use Rattle.nr_bitvec.proofs.Loads.{copied, loads_more, copied-word, copied-packed, copied-items}
+use Rattle.nr_bitvec.proofs.PlaceFacts.{length-unpacked}
+use Rattle.nr_bitvec.proofs.PushedWordFacts.{copied, loads_more, copied-word, copied-packed, copied-items}
 use Rattle.nr_bitvec.proofs.packed.Bits.copy_range.Goals as goal
 
 -- the range stands within the list

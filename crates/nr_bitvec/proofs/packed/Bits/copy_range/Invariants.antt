@@ -1,6 +1,6 @@
 use Rattle.std.proofs.Common.{◌≡◌}
 use Rattle.std.specs.Vec.{vec_capacity}
-use Rattle.nr_bitvec.proofs.Loads.{Loads, copied}
+use Rattle.nr_bitvec.proofs.PushedWordFacts.{Loads, copied}
 use Rattle.nr_bitvec.proofs.packed.Bits.copy_range.Given as goal
 
 -- the words of the range so far, and room for the others

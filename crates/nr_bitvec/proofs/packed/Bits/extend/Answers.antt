@@ -1,8 +1,8 @@
 use Rattle.std.proofs.Common.{◌≡◌, ℕ, ◌+◌, ◌-◌, ◌*◌, ◌/◌, ◌%◌, ◌<◌, ◌≤◌, ◌^◌, ◌∙◌, List, ap, length, min, Result, Ok, Err, OnErr, arith}
 use Rattle.nr_bitvec.specs.BitList.{BitList}
 use Rattle.nr_bitvec.specs.Packed.{unpacked}
-use Rattle.nr_bitvec.proofs.Places.{length-unpacked}
-use Rattle.nr_bitvec.proofs.Joins.{resizes, joined-packed, joined-items}
+use Rattle.nr_bitvec.proofs.PlaceFacts.{length-unpacked}
+use Rattle.nr_bitvec.proofs.JoinedWordFacts.{resizes, joined-packed, joined-items}
 use Rattle.nr_bitvec.proofs.packed.Bits.extend.Goals as goal
 
 -- both lists together are short

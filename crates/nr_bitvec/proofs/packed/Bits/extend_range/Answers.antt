@@ -1,5 +1,5 @@
 use Rattle.std.proofs.Common.{◌≡◌, ◌+◌, ◌*◌, ◌<◌, ◌++◌, ◌∙◌, min, take, drop, ap, sym, arith}
-use Rattle.nr_bitvec.proofs.RangeWords.{range-more}
+use Rattle.nr_bitvec.proofs.RangeWordFacts.{range-more}
 use Rattle.nr_bitvec.proofs.packed.Bits.extend_range.Goals as goal
 
 pub loop-i-preserved : goal.loop-i-preserved

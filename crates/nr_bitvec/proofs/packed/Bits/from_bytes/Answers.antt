@@ -1,6 +1,6 @@
 use Rattle.std.proofs.Common.{◌∙◌, arith}
 use Rattle.nr_bitvec.specs.PackedInside.{octet_place}
-use Rattle.nr_bitvec.proofs.Loads.{loads_more, group-place, octets-items}
+use Rattle.nr_bitvec.proofs.PushedWordFacts.{loads_more, group-place, octets-items}
 use Rattle.nr_bitvec.proofs.packed.Bits.from_bytes.Goals as goal
 
 -- the next eight octets, or what is left

@@ -1,7 +1,7 @@
 use Rattle.std.proofs.Common.{◌≡◌}
 use Rattle.std.specs.Vec.{vec_capacity}
 use Rattle.nr_bitvec.specs.PackedInside.{octet_place}
-use Rattle.nr_bitvec.proofs.Loads.{Loads}
+use Rattle.nr_bitvec.proofs.PushedWordFacts.{Loads}
 use Rattle.nr_bitvec.proofs.packed.Bits.from_bytes.Given as goal
 
 -- the words of the octets so far, and room for the others

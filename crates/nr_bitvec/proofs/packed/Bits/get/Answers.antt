@@ -1,8 +1,8 @@
 use Rattle.std.proofs.Common.{◌≡◌, ◌<◌, ◌/◌, ap, length, get_or, arith}
 use Rattle.std.proofs.lemmas.List.{get_or_read}
 use Rattle.nr_bitvec.specs.BitList.{BitList}
-use Rattle.nr_bitvec.proofs.Places.{length-unpacked}
-use Rattle.nr_bitvec.proofs.Lists.{get-place}
+use Rattle.nr_bitvec.proofs.PlaceFacts.{length-unpacked}
+use Rattle.nr_bitvec.proofs.PackedListFacts.{get-place}
 use Rattle.nr_bitvec.proofs.packed.Bits.get.Goals as goal
 
 -- the bit has a word

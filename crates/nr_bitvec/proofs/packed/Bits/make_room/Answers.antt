@@ -1,6 +1,6 @@
 use Rattle.std.proofs.Common.{ap, length, arith}
 use Rattle.nr_bitvec.specs.BitList.{BitList}
-use Rattle.nr_bitvec.proofs.Places.{length-unpacked}
+use Rattle.nr_bitvec.proofs.PlaceFacts.{length-unpacked}
 use Rattle.nr_bitvec.proofs.packed.Bits.make_room.Goals as goal
 
 pub returns-in_ok-reserve-clause-room : goal.returns-in_ok-reserve-clause-room

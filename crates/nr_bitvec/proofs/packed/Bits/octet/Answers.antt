@@ -1,4 +1,4 @@
-use Rattle.nr_bitvec.proofs.OctetLists.{octet-window}
+use Rattle.nr_bitvec.proofs.OctetListFacts.{octet-window}
 use Rattle.nr_bitvec.proofs.packed.Bits.octet.Goals as goal
 
 pub returns : goal.returns

@@ -1,5 +1,5 @@
 use Rattle.std.proofs.Common.{◌++◌, ◌∙◌, ap}
-use Rattle.nr_bitvec.proofs.Lists.{low_first-bool}
+use Rattle.nr_bitvec.proofs.PackedListFacts.{low_first-bool}
 use Rattle.nr_bitvec.proofs.packed.Bits.push_in_room.Goals as goal
 
 pub returns-clause-items : goal.returns-clause-items

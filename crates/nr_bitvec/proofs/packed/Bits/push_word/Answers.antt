@@ -1,6 +1,6 @@
 use Rattle.std.proofs.Common.{ap, arith}
 use Rattle.nr_bitvec.specs.BitList.{BitList}
-use Rattle.nr_bitvec.proofs.Lists.{word-none, word-items, word-packed}
+use Rattle.nr_bitvec.proofs.PackedListFacts.{word-none, word-items, word-packed}
 use Rattle.nr_bitvec.proofs.packed.Bits.push_word.Goals as goal
 
 pub flip-requires : goal.flip-requires

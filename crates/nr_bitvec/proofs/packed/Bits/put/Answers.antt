@@ -1,8 +1,8 @@
 use Rattle.std.proofs.Common.{◌≡◌, ℕ, ◌+◌, ◌≤◌, List, ap, length, arith}
 use Rattle.nr_bitvec.specs.BitList.{BitList}
 use Rattle.nr_bitvec.specs.Packed.{unpacked}
-use Rattle.nr_bitvec.proofs.Places.{length-unpacked}
-use Rattle.nr_bitvec.proofs.Lists.{put-none, puts}
+use Rattle.nr_bitvec.proofs.PlaceFacts.{length-unpacked}
+use Rattle.nr_bitvec.proofs.PackedListFacts.{put-none, puts}
 use Rattle.nr_bitvec.proofs.packed.Bits.put.Goals as goal
 
 -- what is put stands within the list

@@ -1,4 +1,4 @@
-use Rattle.nr_bitvec.proofs.PutWords.{put_words-clear, put_words-short, put_words-fits, put_words-packed, put_words-before, put_words-within, put_words-after, put_words-long}
+use Rattle.nr_bitvec.proofs.PutWordFacts.{put_words-clear, put_words-short, put_words-fits, put_words-packed, put_words-before, put_words-within, put_words-after, put_words-long}
 use Rattle.nr_bitvec.proofs.packed.Bits.put_words.Goals as goal
 
 pub join-requires-clause-clear : goal.join-requires-clause-clear

@@ -1,4 +1,4 @@
-use Rattle.nr_bitvec.proofs.Lists.{set-items}
+use Rattle.nr_bitvec.proofs.PackedListFacts.{set-items}
 use Rattle.nr_bitvec.proofs.packed.Bits.set.Goals as goal
 
 pub returns-clause-items : goal.returns-clause-items

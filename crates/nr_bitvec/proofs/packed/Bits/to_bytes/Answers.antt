@@ -1,5 +1,5 @@
 use Rattle.std.proofs.Common.{◌++◌, ap, ◌∙◌, refl, arith}
-use Rattle.nr_bitvec.proofs.Loads.{writes_none, writes_more, writes_all}
+use Rattle.nr_bitvec.proofs.PushedWordFacts.{writes_none, writes_more, writes_all}
 use Rattle.nr_bitvec.proofs.packed.Bits.to_bytes.Goals as goal
 
 pub loop-word-init : goal.loop-word-init

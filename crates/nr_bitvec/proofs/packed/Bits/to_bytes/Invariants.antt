@@ -1,4 +1,4 @@
-use Rattle.nr_bitvec.proofs.Loads.{Writes}
+use Rattle.nr_bitvec.proofs.PushedWordFacts.{Writes}
 use Rattle.nr_bitvec.proofs.packed.Bits.to_bytes.Given as goal
 
 -- the octets of the words so far

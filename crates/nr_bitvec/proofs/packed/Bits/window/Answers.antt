@@ -1,6 +1,6 @@
 use Rattle.std.proofs.Common.{ap, ◌∙◌, ◌+◌, ◌*◌, ◌/◌, ◌%◌}
 use Rattle.nr_bitvec.specs.Packed.{place}
-use Rattle.nr_bitvec.proofs.Lists.{window-place}
+use Rattle.nr_bitvec.proofs.PackedListFacts.{window-place}
 use Rattle.nr_bitvec.proofs.packed.Bits.window.Goals as goal
 
 pub returns : goal.returns

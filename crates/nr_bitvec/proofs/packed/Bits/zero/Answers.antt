@@ -1,6 +1,6 @@
 use Rattle.std.proofs.Common.{rules, ◌≡◌, replicate, length}
-use Rattle.nr_bitvec.proofs.Places.{length-unpacked}
-use Rattle.nr_bitvec.proofs.Joins.{zeros-items}
+use Rattle.nr_bitvec.proofs.PlaceFacts.{length-unpacked}
+use Rattle.nr_bitvec.proofs.JoinedWordFacts.{zeros-items}
 use Rattle.nr_bitvec.proofs.packed.Bits.zero.Goals as goal
 
 pub returns-clause-items : goal.returns-clause-items

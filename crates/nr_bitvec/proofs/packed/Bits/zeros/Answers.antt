@@ -1,5 +1,5 @@
 use Rattle.std.proofs.Common.{rules, ◌≡◌, replicate}
-use Rattle.nr_bitvec.proofs.Joins.{zeros-packed, zeros-items}
+use Rattle.nr_bitvec.proofs.JoinedWordFacts.{zeros-packed, zeros-items}
 use Rattle.nr_bitvec.proofs.packed.Bits.zeros.Goals as goal
 
 pub invariant_of-result : goal.invariant_of-result

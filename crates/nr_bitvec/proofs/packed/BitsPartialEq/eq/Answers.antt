@@ -1,6 +1,6 @@
 use Rattle.std.proofs.Common.{ap}
 use Rattle.nr_bitvec.specs.BitList.{BitList}
-use Rattle.nr_bitvec.proofs.SameBits.{same-packed, other-lengths}
+use Rattle.nr_bitvec.proofs.SameBitsFacts.{same-packed, other-lengths}
 use Rattle.nr_bitvec.proofs.packed.BitsPartialEq.eq.Goals as goal
 
 pub returns-then-self-other : goal.returns-then-self-other

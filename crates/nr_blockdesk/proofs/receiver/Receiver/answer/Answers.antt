@@ -6,7 +6,7 @@ use Rattle.nr_blockdesk.specs.Link.{link_of}
 use Rattle.nr_blockdesk.specs.Outcome.{ExplainedBy, all_fixed}
 use Rattle.nr_blockdesk.specs.Receiving.{ReceiverView}
 use Rattle.nr_blockdesk.specs.ReceivingInside.{IsExplained, Stands}
-use Rattle.nr_blockdesk.proofs.Decided.{all-known}
+use Rattle.nr_blockdesk.proofs.CandidateFacts.{all-known}
 use Rattle.nr_blockdesk.proofs.receiver.Receiver.answer.Goals as goal
 
 pub returns-then-not-all_known-clause-decided : goal.returns-then-not-all_known-clause-decided

@@ -4,7 +4,7 @@ use Rattle.nr_blockdesk.specs.Heard.{heard_of}
 use Rattle.nr_blockdesk.specs.Link.{link_of}
 use Rattle.nr_blockdesk.specs.Outcome.{left}
 use Rattle.nr_blockdesk.specs.Receiving.{ReceiverView, peeling_of}
-use Rattle.nr_blockdesk.proofs.Decided.{left-known, peeler-at}
+use Rattle.nr_blockdesk.proofs.CandidateFacts.{left-known, peeler-at}
 use Rattle.nr_blockdesk.proofs.receiver.Receiver.left.Goals as goal
 
 pub returns : goal.returns

@@ -1,7 +1,7 @@
 use Rattle.std.proofs.Common.{Err, ap, ◌∙◌}
 use Rattle.std.proofs.lemmas.Result.{err_from_is_err_and}
 use Rattle.nr_blockdesk.specs.Link.{link_said}
-use Rattle.nr_blockdesk.proofs.Links.{link-never_memory, no-memory}
+use Rattle.nr_blockdesk.proofs.LinkFacts.{link-never_memory, no-memory}
 use Rattle.nr_blockdesk.proofs.receiver.Receiver.new.Goals as goal
 
 pub returns-in_err-plan-clause-judged : goal.returns-in_err-plan-clause-judged

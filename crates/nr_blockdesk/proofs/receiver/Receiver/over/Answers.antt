@@ -1,6 +1,6 @@
 use Rattle.std.proofs.Common.{arith}
 use Rattle.nr_blockdesk.specs.Link.{link_of}
-use Rattle.nr_blockdesk.proofs.Decided.{desk-new, record-new}
+use Rattle.nr_blockdesk.proofs.CandidateFacts.{desk-new, record-new}
 use Rattle.nr_blockdesk.proofs.receiver.Receiver.over.Goals as goal
 
 pub invariant_of-result : goal.invariant_of-result

@@ -3,7 +3,7 @@ use Rattle.nr_bitvec.specs.Bit.{bit}
 use Rattle.nr_peel.specs.Peeling.{AgreesWith, IsPeeled, Peeling}
 use Rattle.nr_blockdesk.specs.Link.{link_of, word}
 use Rattle.nr_blockdesk.specs.Receiving.{ReceiverView, peeling_of}
-use Rattle.nr_blockdesk.proofs.Decided.{known-bits, peeler-at}
+use Rattle.nr_blockdesk.proofs.CandidateFacts.{known-bits, peeler-at}
 use Rattle.nr_blockdesk.proofs.receiver.Receiver.peeler.Goals as goal
 
 pub returns-clause-table : goal.returns-clause-table

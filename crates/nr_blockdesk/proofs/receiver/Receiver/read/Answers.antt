@@ -7,8 +7,8 @@ use Rattle.nr_blockdesk.specs.Link.{IsBlock, link_of}
 use Rattle.nr_blockdesk.specs.Outcome.{ExplainedBy, all_fixed}
 use Rattle.nr_blockdesk.specs.Receiving.{ReceiverView}
 use Rattle.nr_blockdesk.specs.ReceivingInside.{AreWords, IsExplained, IsRead}
-use Rattle.nr_blockdesk.proofs.Decided.{candidate-only, explained-by, explained-to, wide-peelers}
-use Rattle.nr_blockdesk.proofs.Kept.{kept-read, written}
+use Rattle.nr_blockdesk.proofs.CandidateFacts.{candidate-only, explained-by, explained-to, wide-peelers}
+use Rattle.nr_blockdesk.proofs.KeptCandidateFacts.{kept-read, written}
 use Rattle.nr_blockdesk.proofs.receiver.Receiver.read.Goals as goal
 
 pub candidate-block-requires-clause-sized : goal.candidate-block-requires-clause-sized

@@ -1,8 +1,8 @@
 use Rattle.std.proofs.Common.{Err, ap, ◌∙◌}
 use Rattle.std.proofs.lemmas.Result.{err_from_is_err_and}
 use Rattle.nr_blockdesk.specs.Explains.{reception, reception_said_of}
-use Rattle.nr_blockdesk.proofs.Links.{no-memory}
-use Rattle.nr_blockdesk.proofs.Taking.{reception-never_memory}
+use Rattle.nr_blockdesk.proofs.LinkFacts.{no-memory}
+use Rattle.nr_blockdesk.proofs.ReceptionFacts.{reception-never_memory}
 use Rattle.nr_blockdesk.proofs.receiver.Receiver.take.Goals as goal
 
 pub returns-in_err-judge_heard-clause-judged : goal.returns-in_err-judge_heard-clause-judged

@@ -12,16 +12,16 @@ use Rattle.nr_blockdesk.specs.declared.outcome.Outcome.{Outcome}
 use Rattle.nr_transmission.specs.declared.fault.DeskFault.{DeskFault}
 use Rattle.nr_transmission.specs.declared.fault.DeskFault.TheVariants as fault
 use Rattle.nr_transmission.specs.declared.tx.Tx.{Tx}
-use Rattle.nr_blockdesk.proofs.Marked.{length-heards, room-less}
+use Rattle.nr_blockdesk.proofs.MarkFacts.{length-heards, room-less}
 use Rattle.nr_blockdesk.specs.Heard.{IsRecordOf, heard_of}
 use Rattle.nr_blockdesk.specs.Link.{link_of}
 use Rattle.nr_blockdesk.specs.Receiving.{ReceiverView, RefusesAs, peeling_of}
 use Rattle.nr_blockdesk.specs.ReceivingInside.{AllAgree, IsDesk, IsSized, Stands}
 use Rattle.nr_blockdesk.specs.Telling.{AreEmpty}
-use Rattle.nr_blockdesk.proofs.Decided.{outcome-of_record, sized-of}
-use Rattle.nr_blockdesk.proofs.Kept.{stands-after, part_masks-of, written}
-use Rattle.nr_blockdesk.proofs.Links.{no-memory}
-use Rattle.nr_blockdesk.proofs.Taking.{AreHeard, all-taken, desk-taken, none-of, parts-are, reception-never_memory}
+use Rattle.nr_blockdesk.proofs.CandidateFacts.{outcome-of_record, sized-of}
+use Rattle.nr_blockdesk.proofs.KeptCandidateFacts.{stands-after, part_masks-of, written}
+use Rattle.nr_blockdesk.proofs.LinkFacts.{no-memory}
+use Rattle.nr_blockdesk.proofs.ReceptionFacts.{AreHeard, all-taken, desk-taken, none-of, parts-are, reception-never_memory}
 use Rattle.nr_blockdesk.proofs.receiver.Receiver.take_marks.Goals as goal
 
 -- what was said of the lists, of the reception

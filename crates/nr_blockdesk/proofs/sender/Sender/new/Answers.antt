@@ -2,7 +2,7 @@ use Rattle.std.proofs.Common.{Err, length, subst, sym, ap, ◌∙◌}
 use Rattle.std.proofs.lemmas.Result.{err_from_is_err_and}
 use Rattle.nr_blockdesk.specs.Link.{IsLink, link_of, link_said}
 use Rattle.nr_blockdesk.specs.Inside.{words_of}
-use Rattle.nr_blockdesk.proofs.Links.{link-never_memory, no-memory}
+use Rattle.nr_blockdesk.proofs.LinkFacts.{link-never_memory, no-memory}
 use Rattle.nr_blockdesk.proofs.sender.Sender.new.Goals as goal
 
 pub returns-in_err-plan-clause-judged : goal.returns-in_err-plan-clause-judged

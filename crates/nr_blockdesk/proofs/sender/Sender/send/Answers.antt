@@ -4,8 +4,8 @@ use Rattle.nr_graphpick.specs.Graph.{cols_of}
 use Rattle.nr_ratematch.specs.Lengths.{IsShared}
 use Rattle.nr_blockdesk.specs.Link.{link_of}
 use Rattle.nr_blockdesk.specs.Sent.{tx_said, tx_said_of}
-use Rattle.nr_blockdesk.proofs.Links.{no-memory}
-use Rattle.nr_blockdesk.proofs.Sends.{length-words, sent-ok, tx-never_memory, words-long}
+use Rattle.nr_blockdesk.proofs.LinkFacts.{no-memory}
+use Rattle.nr_blockdesk.proofs.SenderFacts.{length-words, sent-ok, tx-never_memory, words-long}
 use Rattle.nr_blockdesk.proofs.sender.Sender.send.Goals as goal
 
 pub returns-in_err-lengths-clause-judged : goal.returns-in_err-lengths-clause-judged

@@ -3,7 +3,7 @@ use Rattle.std.proofs.lemmas.List.{get_or_default}
 use Rattle.nr_ldpcenc.specs.Codeword.{IsCodeword}
 use Rattle.nr_blockdesk.specs.Link.{code_bits_of, link_of, word}
 use Rattle.nr_blockdesk.specs.Sent.{SenderView}
-use Rattle.nr_blockdesk.proofs.Sends.{length-words, word-at}
+use Rattle.nr_blockdesk.proofs.SenderFacts.{length-words, word-at}
 use Rattle.nr_blockdesk.proofs.sender.Sender.word.Goals as goal
 
 pub index-requires : goal.index-requires

@@ -1,5 +1,5 @@
 use Rattle.nr_bitvec.specs.Bit.{bit}
-use Rattle.nr_harqbuf.proofs.Keeping.{firsts-by-masks, masks-by-firsts}
+use Rattle.nr_harqbuf.proofs.KeptBitFacts.{firsts-by-masks, masks-by-firsts}
 use Rattle.nr_harqbuf.proofs.store.Store.fits.Goals as goal
 
 pub returns : goal.returns

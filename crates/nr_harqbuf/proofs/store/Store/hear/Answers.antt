@@ -1,6 +1,6 @@
 use Rattle.std.proofs.Common.{◌<◌, sym, ap, ◌∙◌, length, arith}
 use Rattle.nr_harqbuf.specs.Record.{HeardBits}
-use Rattle.nr_harqbuf.proofs.Keeping.{length-kept, heard_again, heard_first}
+use Rattle.nr_harqbuf.proofs.KeptBitFacts.{length-kept, heard_again, heard_first}
 use Rattle.nr_harqbuf.proofs.store.Store.hear.Goals as goal
 
 pub get-requires : goal.get-requires

@@ -1,8 +1,8 @@
 use Rattle.std.proofs.Common.{◌≡◌, ◌<◌, ◌+◌, ◌*◌, min, length, ap, refl, arith}
 use Rattle.nr_harqbuf.specs.Record.{HeardBits}
-use Rattle.nr_harqbuf.proofs.Keeping.{length-kept}
-use Rattle.nr_harqbuf.proofs.MergedLists.{merged-none, merged-step}
-use Rattle.nr_harqbuf.proofs.MergedStores.{merged-done, news-done}
+use Rattle.nr_harqbuf.proofs.KeptBitFacts.{length-kept}
+use Rattle.nr_harqbuf.proofs.MergedListFacts.{merged-none, merged-step}
+use Rattle.nr_harqbuf.proofs.MergedStoreFacts.{merged-done, news-done}
 use Rattle.nr_harqbuf.proofs.store.Store.hear_all.Goals as goal
 
 pub loop-i-init : goal.loop-i-init

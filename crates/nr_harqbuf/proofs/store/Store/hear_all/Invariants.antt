@@ -1,6 +1,6 @@
 -- The positions so far are merged, and the others are as they were.
 use Rattle.std.proofs.Common.{◌*◌, min, length}
-use Rattle.nr_harqbuf.proofs.MergedLists.{IsMerged}
+use Rattle.nr_harqbuf.proofs.MergedListFacts.{IsMerged}
 use Rattle.nr_harqbuf.proofs.store.Store.hear_all.Given as goal
 
 abbrev pub invariant-loop-i : goal.invariant-loop-i

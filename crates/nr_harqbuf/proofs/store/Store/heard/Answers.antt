@@ -3,7 +3,7 @@ use Rattle.std.specs.Prelude.{Some, None}
 use Rattle.nr_harqbuf.specs.Positions.{kept_at}
 use Rattle.nr_bitvec.specs.Bit.{bit}
 use Rattle.nr_harqbuf.specs.Record.{HeardBits}
-use Rattle.nr_harqbuf.proofs.Keeping.{length-kept, kept-at}
+use Rattle.nr_harqbuf.proofs.KeptBitFacts.{length-kept, kept-at}
 use Rattle.nr_harqbuf.proofs.store.Store.heard.Goals as goal
 
 pub get-requires : goal.get-requires

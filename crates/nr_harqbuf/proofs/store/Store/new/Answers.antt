@@ -1,6 +1,6 @@
 use Rattle.std.proofs.Common.{◌≡◌, ◌*◌, ap}
 use Rattle.nr_segment.specs.CodeBlock.{positions_of}
-use Rattle.nr_harqbuf.proofs.Keeping.{record-none}
+use Rattle.nr_harqbuf.proofs.KeptBitFacts.{record-none}
 use Rattle.nr_harqbuf.proofs.store.Store.new.Goals as goal
 
 pub returns : goal.returns

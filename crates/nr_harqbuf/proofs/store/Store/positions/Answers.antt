@@ -1,6 +1,6 @@
 use Rattle.std.proofs.Common.{length, sym, ap, ◌∙◌}
 use Rattle.nr_harqbuf.specs.Record.{HeardBits}
-use Rattle.nr_harqbuf.proofs.Keeping.{length-kept}
+use Rattle.nr_harqbuf.proofs.KeptBitFacts.{length-kept}
 use Rattle.nr_harqbuf.proofs.store.Store.positions.Goals as goal
 
 pub returns : goal.returns

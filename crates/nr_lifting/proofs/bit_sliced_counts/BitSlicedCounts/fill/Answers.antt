@@ -1,7 +1,7 @@
 use Rattle.std.proofs.Common.{◌≡◌, ℕ, ◌/◌, ◌%◌, ◌<◌, [], replicate, ap, ◌∙◌, arith}
 use Rattle.std.proofs.lemmas.List.{get_or-replicate}
 use Rattle.nr_lifting.specs.Planes.{number, number_at}
-use Rattle.nr_lifting.proofs.CountViews.{counts_within, filled_counts}
+use Rattle.nr_lifting.proofs.CountViewFacts.{counts_within, filled_counts}
 use Rattle.nr_lifting.proofs.bit_sliced_counts.BitSlicedCounts.fill.Goals as goal
 
 pub index_mut-requires : goal.index_mut-requires

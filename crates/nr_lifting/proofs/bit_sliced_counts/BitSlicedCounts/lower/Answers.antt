@@ -2,7 +2,7 @@ use Rattle.std.proofs.Common.{◌+◌, ◌%◌, [], ap, subst, arith}
 use Rattle.std.proofs.lemmas.List.{get_or_read}
 use Rattle.std.proofs.lemmas.Nat.{mod_below}
 use Rattle.nr_lifting.specs.Planes.{FallsRotated, number_at}
-use Rattle.nr_lifting.proofs.CountViews.{count_in, counts_within, lowered_counts, ring_digit}
+use Rattle.nr_lifting.proofs.CountViewFacts.{count_in, counts_within, lowered_counts, ring_digit}
 use Rattle.nr_lifting.proofs.bit_sliced_counts.BitSlicedCounts.lower.Goals as goal
 
 pub index_mut-requires : goal.index_mut-requires

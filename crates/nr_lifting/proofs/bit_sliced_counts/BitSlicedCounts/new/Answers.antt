@@ -1,8 +1,8 @@
 use Rattle.std.proofs.Common.{ℕ, length, replicate, ap, ◌∙◌, arith}
 use Rattle.std.proofs.lemmas.List.{length-replicate}
 use Rattle.nr_lifting.specs.Planes.{block_counts}
-use Rattle.nr_lifting.proofs.CountViews.{zero_counts}
-use Rattle.nr_lifting.proofs.RingViews.{made_all, made_more}
+use Rattle.nr_lifting.proofs.CountViewFacts.{zero_counts}
+use Rattle.nr_lifting.proofs.DoubledLaneFacts.{made_all, made_more}
 use Rattle.nr_lifting.proofs.bit_sliced_counts.BitSlicedCounts.new.Goals as goal
 
 -- one block more

@@ -1,7 +1,7 @@
 use Rattle.std.proofs.Common.{[], ◌==◌, ap, sym, ◌∙◌, arith}
 use Rattle.std.proofs.lemmas.List.{get_or_read}
 use Rattle.nr_lifting.specs.Planes.{number_at}
-use Rattle.nr_lifting.proofs.CountViews.{count_in, counts_within, marks_one}
+use Rattle.nr_lifting.proofs.CountViewFacts.{count_in, counts_within, marks_one}
 use Rattle.nr_lifting.proofs.bit_sliced_counts.BitSlicedCounts.ones.Goals as goal
 
 pub index-requires : goal.index-requires

@@ -2,7 +2,7 @@ use Rattle.std.proofs.Common.{[], subst, sym, arith}
 use Rattle.std.proofs.lemmas.List.{get_or_read}
 use Rattle.nr_lifting.specs.LaneInside.{AddsPlaces}
 use Rattle.nr_lifting.specs.Rings.{IsRing}
-use Rattle.nr_lifting.proofs.RingViews.{block_within, lane_gains}
+use Rattle.nr_lifting.proofs.DoubledLaneFacts.{block_within, lane_gains}
 use Rattle.nr_lifting.proofs.doubled_lanes.DoubledLanes.add_rotated.Goals as goal
 
 pub index-requires : goal.index-requires

@@ -1,5 +1,5 @@
 use Rattle.std.proofs.Common.{replicate, arith}
-use Rattle.nr_lifting.proofs.RingViews.{block_within, cleared_bits, rings_set, zero_ring, zero_clear}
+use Rattle.nr_lifting.proofs.DoubledLaneFacts.{block_within, cleared_bits, rings_set, zero_ring, zero_clear}
 use Rattle.nr_lifting.proofs.doubled_lanes.DoubledLanes.clear.Goals as goal
 
 pub index_mut-requires : goal.index_mut-requires

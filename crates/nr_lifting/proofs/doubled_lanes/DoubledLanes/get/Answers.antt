@@ -2,7 +2,7 @@ use Rattle.std.proofs.Common.{◌≡◌, ◌+◌, ◌*◌, ◌/◌, ◌%◌, ◌
 use Rattle.std.proofs.lemmas.List.{get_or_read}
 use Rattle.nr_bitvec.specs.Packed.{place}
 use Rattle.nr_lifting.specs.Rings.{is_set}
-use Rattle.nr_lifting.proofs.RingViews.{bit_is, bit_within, low_bit}
+use Rattle.nr_lifting.proofs.DoubledLaneFacts.{bit_is, bit_within, low_bit}
 use Rattle.nr_lifting.proofs.doubled_lanes.DoubledLanes.get.Goals as goal
 
 pub index-requires : goal.index-requires

@@ -2,8 +2,8 @@ use Rattle.std.proofs.Common.{◌*◌, get_or, [], subst, sym, arith}
 use Rattle.std.proofs.lemmas.List.{get_or_read}
 use Rattle.nr_bitvec.specs.Packed.{IsClear}
 use Rattle.nr_lifting.specs.Rings.{GainsTwice}
-use Rattle.nr_lifting.proofs.Turns.{ring-gains}
-use Rattle.nr_lifting.proofs.RingViews.{block_within, joined_bits, rings_set}
+use Rattle.nr_lifting.proofs.RotationFacts.{ring-gains}
+use Rattle.nr_lifting.proofs.DoubledLaneFacts.{block_within, joined_bits, rings_set}
 use Rattle.nr_lifting.proofs.doubled_lanes.DoubledLanes.join.Goals as goal
 
 pub index_mut-requires : goal.index_mut-requires

@@ -2,7 +2,7 @@ use Rattle.std.proofs.Common.{◌≡◌, ℕ, ◌<◌, ◌+◌, ◌-◌, ◌%◌
 use Rattle.std.proofs.lemmas.List.{get_or_read}
 use Rattle.nr_bitvec.specs.Packed.{place}
 use Rattle.nr_lifting.specs.Rings.{IsRing}
-use Rattle.nr_lifting.proofs.RingViews.{block_within, lane_lacks}
+use Rattle.nr_lifting.proofs.DoubledLaneFacts.{block_within, lane_lacks}
 use Rattle.nr_lifting.proofs.doubled_lanes.DoubledLanes.lacking.Goals as goal
 
 pub index-requires : goal.index-requires

@@ -1,7 +1,7 @@
 use Rattle.std.proofs.Common.{[], subst, sym, arith}
 use Rattle.std.proofs.lemmas.List.{get_or_read}
 use Rattle.nr_lifting.specs.Rings.{IsRing, IsRotated}
-use Rattle.nr_lifting.proofs.RingViews.{block_within, lane_read}
+use Rattle.nr_lifting.proofs.DoubledLaneFacts.{block_within, lane_read}
 use Rattle.nr_lifting.proofs.doubled_lanes.DoubledLanes.lane.Goals as goal
 
 pub index-requires : goal.index-requires

@@ -1,7 +1,7 @@
 use Rattle.std.proofs.Common.{ℕ, replicate, subst, sym, ap, ◌∙◌, arith}
 use Rattle.nr_lifting.specs.Rings.{block_bits}
 use Rattle.nr_lifting.specs.Inside.{AreRings}
-use Rattle.nr_lifting.proofs.RingViews.{made_all, made_more, zero_rings, zero_bits}
+use Rattle.nr_lifting.proofs.DoubledLaneFacts.{made_all, made_more, zero_rings, zero_bits}
 use Rattle.nr_lifting.proofs.doubled_lanes.DoubledLanes.new.Goals as goal
 
 -- one ring more

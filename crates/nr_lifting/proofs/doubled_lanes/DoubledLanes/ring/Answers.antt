@@ -1,7 +1,7 @@
 use Rattle.std.proofs.Common.{[], ap, subst, sym, ◌∙◌, arith}
 use Rattle.std.proofs.lemmas.List.{get_or_read}
 use Rattle.nr_lifting.specs.Rings.{IsRing, is_set}
-use Rattle.nr_lifting.proofs.RingViews.{bit_in, block_within}
+use Rattle.nr_lifting.proofs.DoubledLaneFacts.{bit_in, block_within}
 use Rattle.nr_lifting.proofs.doubled_lanes.DoubledLanes.ring.Goals as goal
 
 pub index-requires : goal.index-requires

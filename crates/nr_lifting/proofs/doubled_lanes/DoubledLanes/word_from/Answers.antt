@@ -5,7 +5,7 @@ use Rattle.std.proofs.lemmas.Nat.{mod_below}
 use Rattle.nr_bitvec.specs.Bit.{bit}
 use Rattle.nr_bitvec.specs.Packed.{place}
 use Rattle.nr_lifting.specs.Rings.{BlockBits, block_bits, is_set}
-use Rattle.nr_lifting.proofs.RingViews.{bit_in, bit_within, long_is}
+use Rattle.nr_lifting.proofs.DoubledLaneFacts.{bit_in, bit_within, long_is}
 use Rattle.nr_lifting.proofs.doubled_lanes.DoubledLanes.word_from.Goals as goal
 
 pub index-requires : goal.index-requires

@@ -1,4 +1,4 @@
-use Rattle.nr_lifting.proofs.LaneViews.{view-sum}
+use Rattle.nr_lifting.proofs.LaneViewFacts.{view-sum}
 use Rattle.nr_lifting.proofs.lane.Lane.add_shifted.Goals as goal
 
 pub returns-clause-sum : goal.returns-clause-sum

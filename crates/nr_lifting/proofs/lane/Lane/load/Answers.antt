@@ -1,7 +1,7 @@
 use Rattle.std.proofs.Common.{arith}
-use Rattle.nr_bitvec.proofs.Places.{length-unpacked}
-use Rattle.nr_lifting.proofs.LaneWords.{written_lane}
-use Rattle.nr_lifting.proofs.Moves.{view-digit}
+use Rattle.nr_bitvec.proofs.PlaceFacts.{length-unpacked}
+use Rattle.nr_lifting.proofs.LaneWordFacts.{written_lane}
+use Rattle.nr_lifting.proofs.LaneMoveFacts.{view-digit}
 use Rattle.nr_lifting.proofs.lane.Lane.load.Goals as goal
 
 -- every word is read

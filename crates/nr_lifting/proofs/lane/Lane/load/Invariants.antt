@@ -1,7 +1,7 @@
 use Rattle.std.proofs.Common.{◌≡◌, ◌+◌, length}
 use Rattle.nr_bitvec.specs.Bit.{bit}
-use Rattle.nr_lifting.proofs.LaneWords.{IsWritten}
-use Rattle.nr_lifting.proofs.Moves.{digit}
+use Rattle.nr_lifting.proofs.LaneWordFacts.{IsWritten}
+use Rattle.nr_lifting.proofs.LaneMoveFacts.{digit}
 use Rattle.nr_lifting.proofs.lane.Lane.load.Given as goal
 
 -- the words before word i are read

@@ -1,5 +1,5 @@
 use Rattle.std.proofs.Common.{◌∙◌, arith}
-use Rattle.nr_lifting.proofs.Moves.{stored_more}
+use Rattle.nr_lifting.proofs.LaneMoveFacts.{stored_more}
 use Rattle.nr_lifting.proofs.lane.Lane.store.Goals as goal
 
 -- the next word is put

@@ -1,6 +1,6 @@
 use Rattle.std.proofs.Common.{◌≡◌}
 use Rattle.nr_bitvec.specs.Packed.{unpacked}
-use Rattle.nr_lifting.proofs.Moves.{IsStored}
+use Rattle.nr_lifting.proofs.LaneMoveFacts.{IsStored}
 use Rattle.nr_lifting.proofs.lane.Lane.store.Given as goal
 
 -- the words before word i are put

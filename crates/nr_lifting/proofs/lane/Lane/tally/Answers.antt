@@ -1,4 +1,4 @@
-use Rattle.nr_lifting.proofs.LaneViews.{view-once, view-twice}
+use Rattle.nr_lifting.proofs.LaneViewFacts.{view-once, view-twice}
 use Rattle.nr_lifting.proofs.lane.Lane.tally.Goals as goal
 
 pub returns-clause-ones : goal.returns-clause-ones

@@ -1,4 +1,4 @@
-use Rattle.nr_lifting.proofs.LaneViews.{unpacked-zeros}
+use Rattle.nr_lifting.proofs.LaneViewFacts.{unpacked-zeros}
 use Rattle.nr_lifting.proofs.lane.Lane.zero.Goals as goal
 
 pub returns : goal.returns

@@ -7,7 +7,7 @@ use Rattle.nr_linkcommands.specs.Inside.{HasHeard}
 use Rattle.nr_linkcommands.specs.Exchanges.{IsExchanged, reception_of}
 use Rattle.nr_linkcommands.specs.RunText.{received_of}
 use Rattle.nr_linkcommands.proofs.AuditLemmas.{heard_same}
-use Rattle.nr_linkcommands.proofs.RunLines.{received_of-refused, received_of-sent}
+use Rattle.nr_linkcommands.proofs.RunLineFacts.{received_of-refused, received_of-sent}
 use Rattle.nr_linkcommands.proofs.audit_command.replay.replay_one.Goals as goal
 
 pub receive-requires-clause-both : goal.receive-requires-clause-both

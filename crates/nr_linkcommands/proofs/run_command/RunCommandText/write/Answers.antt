@@ -7,9 +7,9 @@ use Rattle.nr_linkcommands.specs.RoundTexts.{pieces_joined, turns}
 use Rattle.nr_files.specs.Rounds.{IsOfBlock}
 use Rattle.nr_files.specs.Schedule.{timetable_by}
 use Rattle.nr_linkcommands.specs.declared.run_command.slot.Slot.{Slot}
-use Rattle.nr_linkcommands.proofs.RoundEnds.{rounds-first}
-use Rattle.nr_linkcommands.proofs.RunOutcomes.{none-within, text_of_run-some}
-use Rattle.nr_linkcommands.proofs.Timetables.{blocks-hold, placed-in}
+use Rattle.nr_linkcommands.proofs.RoundEndFacts.{rounds-first}
+use Rattle.nr_linkcommands.proofs.RunOutcomeFacts.{none-within, text_of_run-some}
+use Rattle.nr_linkcommands.proofs.TimetableFacts.{blocks-hold, placed-in}
 use Rattle.nr_commands.proofs.WrittenLemmas.{with_text-nil, writes_behind, writes_last, writes_none}
 use Rattle.nr_linkcommands.proofs.run_command.RunCommandText.write.Goals as goal
 

@@ -1,4 +1,4 @@
-use Rattle.nr_linkcommands.proofs.SafeRuns.{erasures_alone}
+use Rattle.nr_linkcommands.proofs.ErasureSafetyFacts.{erasures_alone}
 use Rattle.nr_linkcommands.proofs.run_command.laws.erasures_alone_are_safe.Goals as goal
 
 pub returns : goal.returns

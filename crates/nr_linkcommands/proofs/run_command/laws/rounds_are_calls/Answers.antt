@@ -1,4 +1,4 @@
-use Rattle.nr_linkcommands.proofs.RoundCalls.{rounds_calls}
+use Rattle.nr_linkcommands.proofs.RoundCallFacts.{rounds_calls}
 use Rattle.nr_linkcommands.proofs.run_command.laws.rounds_are_calls.Goals as goal
 
 pub returns : goal.returns

@@ -1,4 +1,4 @@
-use Rattle.nr_linkcommands.proofs.SafeRuns.{runs_safe}
+use Rattle.nr_linkcommands.proofs.ErasureSafetyFacts.{runs_safe}
 use Rattle.nr_linkcommands.proofs.run_command.laws.runs_are_safe.Goals as goal
 
 pub returns : goal.returns

@@ -1,6 +1,6 @@
 use Rattle.std.proofs.Common.{◌∙◌, ap}
 use Rattle.nr_segment.specs.Plan.{Numbers}
-use Rattle.nr_linkcommands.proofs.RunOutcomes.{line-none, ok_then}
+use Rattle.nr_linkcommands.proofs.RunOutcomeFacts.{line-none, ok_then}
 use Rattle.nr_linkcommands.proofs.run_command.lines.outcome_line.Goals as goal
 
 pub returns-in-None : goal.returns-in-None

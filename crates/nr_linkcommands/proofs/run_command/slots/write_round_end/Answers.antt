@@ -3,8 +3,8 @@ use Rattle.std.proofs.lemmas.List.{append-nil}
 use Rattle.std.proofs.lemmas.Result.{IfOk-weaker, err_from_is_err_and}
 use Rattle.nr_files.specs.Rounds.{round_of}
 use Rattle.nr_commands.specs.Written.{with_text}
-use Rattle.nr_linkcommands.proofs.RoundEnds.{round-held, round-named, round_counted-none, round_counted-some, round_lines-long, round_lines-none, round_lines-some}
-use Rattle.nr_linkcommands.proofs.RunOutcomes.{within-more}
+use Rattle.nr_linkcommands.proofs.RoundEndFacts.{round-held, round-named, round_counted-none, round_counted-some, round_lines-long, round_lines-none, round_lines-some}
+use Rattle.nr_linkcommands.proofs.RunOutcomeFacts.{within-more}
 use Rattle.nr_commands.proofs.WrittenLemmas.{with_text-nil, writes_behind}
 use Rattle.nr_linkcommands.proofs.run_command.slots.write_round_end.Goals as goal
 

@@ -1,6 +1,6 @@
 use Rattle.std.proofs.Common.{ap, ◌∙◌}
 use Rattle.nr_segment.specs.Plan.{Numbers}
-use Rattle.nr_linkcommands.proofs.RunOutcomes.{counted-none}
+use Rattle.nr_linkcommands.proofs.RunOutcomeFacts.{counted-none}
 use Rattle.nr_linkcommands.proofs.run_command.totals.counted.Goals as goal
 
 pub returns-in-None-clause-value : goal.returns-in-None-clause-value

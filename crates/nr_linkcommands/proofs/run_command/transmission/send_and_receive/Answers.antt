@@ -8,8 +8,8 @@ use Rattle.nr_linkcommands.specs.Hearing.{heard_through}
 use Rattle.nr_linkcommands.specs.RunLines.{left_lines}
 use Rattle.nr_linkcommands.specs.SendLines.{sent_line}
 use Rattle.nr_commands.specs.Written.{with_text}
-use Rattle.nr_linkcommands.proofs.RunLines.{left_lines-some, lines_of-refused, lines_of-sent, lines_of-some, on_ok-any, received_of-refused, received_of-sent}
-use Rattle.nr_linkcommands.proofs.RunTexts.{writes_so_far}
+use Rattle.nr_linkcommands.proofs.RunLineFacts.{left_lines-some, lines_of-refused, lines_of-sent, lines_of-some, on_ok-any, received_of-refused, received_of-sent}
+use Rattle.nr_linkcommands.proofs.RunTextFacts.{writes_so_far}
 use Rattle.nr_linkcommands.proofs.SendLemmas.{answer_line-some}
 use Rattle.nr_commands.proofs.WrittenLemmas.{with_text-append, with_text-nil, writes_behind, writes_none}
 use Rattle.nr_linkcommands.proofs.run_command.transmission.send_and_receive.Goals as goal

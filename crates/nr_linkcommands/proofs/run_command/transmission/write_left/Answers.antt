@@ -5,9 +5,9 @@ use Rattle.nr_blockdesk.specs.Outcome.{left}
 use Rattle.nr_segment.specs.Plan.{Numbers}
 use Rattle.nr_linkcommands.specs.RunLines.{left_line}
 use Rattle.nr_commands.specs.Written.{with_text}
-use Rattle.nr_commands.proofs.BlockTexts.{flat_map-range_more, lines_parts}
+use Rattle.nr_commands.proofs.BlockTextFacts.{flat_map-range_more, lines_parts}
 use Rattle.nr_commands.proofs.WrittenLemmas.{with_text-append, writes_behind}
-use Rattle.nr_linkcommands.proofs.RunOutcomes.{left_line-some}
+use Rattle.nr_linkcommands.proofs.RunOutcomeFacts.{left_line-some}
 use Rattle.nr_linkcommands.proofs.run_command.transmission.write_left.Goals as goal
 
 pub returns-in_err-put_line-clause-text : goal.returns-in_err-put_line-clause-text

@@ -1,4 +1,4 @@
-use Rattle.nr_peel.proofs.Marks.{one_marked}
+use Rattle.nr_peel.proofs.LaneMarkFacts.{one_marked}
 use Rattle.nr_peel.proofs.bit_parallel.hearing.one_marked.Goals as goal
 
 pub returns : goal.returns

@@ -3,9 +3,9 @@ use Rattle.std.proofs.lemmas.Bool.{cases_lt}
 use Rattle.std.proofs.lemmas.Nat.Bits.{bit_at-lt}
 use Rattle.std.specs.Int.{bit_at}
 use Rattle.nr_bitvec.specs.Bit.{bit}
-use Rattle.nr_lifting.proofs.LaneViews.{place-zeros}
-use Rattle.nr_lifting.proofs.LaneWords.{written_more}
-use Rattle.nr_peel.proofs.Told.{digit_is, digit_test}
+use Rattle.nr_lifting.proofs.LaneViewFacts.{place-zeros}
+use Rattle.nr_lifting.proofs.LaneWordFacts.{written_more}
+use Rattle.nr_peel.proofs.GivenLaneFacts.{digit_is, digit_test}
 use Rattle.nr_peel.proofs.bit_parallel.hearing.read_lane.Goals as goal
 
 -- the next word is read

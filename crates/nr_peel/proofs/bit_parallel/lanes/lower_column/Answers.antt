@@ -7,7 +7,7 @@ use Rattle.nr_shifttable.specs.declared.entry.Entry.{Entry}
 use Rattle.nr_shifttable.specs.Tails.{value_in}
 use Rattle.nr_ldpcenc.specs.Rows.{one_at}
 use Rattle.nr_peel.specs.Lanes.{hits}
-use Rattle.nr_peel.proofs.Standing.{count_more}
+use Rattle.nr_peel.proofs.RowPositionFacts.{count_more}
 use Rattle.nr_peel.proofs.bit_parallel.lanes.lower_column.Goals as goal
 
 pub lower-requires : goal.lower-requires

@@ -1,5 +1,5 @@
 use Rattle.std.proofs.Common.{◌+◌, ◌*◌, ap, arith}
-use Rattle.nr_peel.proofs.Places.{mod_high, mod_low}
+use Rattle.nr_peel.proofs.RowPlaceFacts.{mod_high, mod_low}
 use Rattle.nr_peel.proofs.bit_parallel.lanes.placed.Goals as goal
 use Rattle.nr_peel.proofs.bit_parallel.lanes.placed.Goals.{then-rotated-size, else-rotated-size}
 

@@ -1,7 +1,7 @@
 use Rattle.std.proofs.Common.{◌*◌, ◌++◌, length, refl, ap, ◌∙◌, arith, length-append}
 use Rattle.nr_lifting.specs.Rings.{is_set}
 use Rattle.nr_peel.specs.Lanes.{steps_below, rotated_step}
-use Rattle.nr_peel.proofs.Steps.{join_steps, lane_room, lane_steps, row_inside, word_steps}
+use Rattle.nr_peel.proofs.StepFacts.{join_steps, lane_room, lane_steps, row_inside, word_steps}
 use Rattle.nr_peel.proofs.bit_parallel.lanes.push_lane.Goals as goal
 
 -- a bit of the word is a row

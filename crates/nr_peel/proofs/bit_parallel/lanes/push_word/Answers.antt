@@ -1,7 +1,7 @@
 use Rattle.std.proofs.Common.{◌≡◌, ◌≢◌, ◌<◌, ◌≤◌, ◌+◌, ◌^◌, ◌==◌, ◌++◌, ℕ, [], ◌∷◌, length, sym, ap, ◌∙◌, arith, length-append}
 use Rattle.std.specs.Int.{bit_at, trailing_zeros, w64}
 use Rattle.nr_peel.specs.Lanes.{steps_below, rotated_step}
-use Rattle.nr_peel.proofs.Steps.{IsLowest, join_steps, lowest, lowest_room, lowest_steps, pushed, rest_left, steps_whole}
+use Rattle.nr_peel.proofs.StepFacts.{IsLowest, join_steps, lowest, lowest_room, lowest_steps, pushed, rest_left, steps_whole}
 use Rattle.nr_peel.proofs.bit_parallel.lanes.push_word.Goals as goal
 
 -- the next bit of the word

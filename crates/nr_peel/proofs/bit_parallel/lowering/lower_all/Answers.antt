@@ -5,8 +5,8 @@ use Rattle.nr_graphpick.specs.Graph.{cols_of, rows_of}
 use Rattle.nr_segment.specs.CodeBlock.{numbers}
 use Rattle.nr_shifttable.specs.Accepted.{column_of, entries_in}
 use Rattle.nr_peel.specs.StateInside.{lifted_checks}
-use Rattle.nr_peel.proofs.Falling.{column_inside, fallen_all, fallen_clear, fallen_enough, fallen_next, fallen_none, fallen_skip}
-use Rattle.nr_peel.proofs.Tied.{column_rows}
+use Rattle.nr_peel.proofs.FallingCountFacts.{column_inside, fallen_all, fallen_clear, fallen_enough, fallen_next, fallen_none, fallen_skip}
+use Rattle.nr_peel.proofs.TieFacts.{column_rows}
 use Rattle.nr_peel.proofs.bit_parallel.lowering.lower_all.Goals as goal
 use Rattle.nr_peel.proofs.bit_parallel.lowering.lower_all.Goals.{else-count-ne0, then-count-ne0}
 

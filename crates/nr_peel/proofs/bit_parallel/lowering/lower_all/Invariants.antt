@@ -2,7 +2,7 @@ use Rattle.std.proofs.Common.{◌≡◌, ◌≤◌, ◌+◌, ◌*◌, length}
 use Rattle.nr_bitvec.specs.Bit.{bit}
 use Rattle.nr_peel.specs.Due.{work_of}
 use Rattle.nr_peel.specs.StateInside.{lifted_checks}
-use Rattle.nr_peel.proofs.Falling.{HasFallen}
+use Rattle.nr_peel.proofs.FallingCountFacts.{HasFallen}
 use Rattle.nr_peel.proofs.bit_parallel.lowering.lower_all.Given as goal
 
 -- the columns before column j are taken

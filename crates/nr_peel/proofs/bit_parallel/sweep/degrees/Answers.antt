@@ -8,8 +8,8 @@ use Rattle.nr_shifttable.specs.Accepted.{entries_in, row_of}
 use Rattle.nr_shifttable.specs.Tails.{value_in}
 use Rattle.nr_ldpcenc.specs.Rows.{one_at}
 use Rattle.nr_peel.specs.StateInside.{lifted_checks}
-use Rattle.nr_peel.proofs.Closed.{cases_below}
-use Rattle.nr_peel.proofs.Grid.{rows_short}
+use Rattle.nr_peel.proofs.ClosureFacts.{cases_below}
+use Rattle.nr_peel.proofs.TableGridFacts.{rows_short}
 use Rattle.nr_peel.proofs.bit_parallel.sweep.degrees.Goals as goal
 
 pub loop-i-init : goal.loop-i-init

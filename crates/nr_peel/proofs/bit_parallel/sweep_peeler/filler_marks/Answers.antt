@@ -2,8 +2,8 @@ use Rattle.std.proofs.Common.{◌≡◌, ◌*◌, ◌==◌, ◌||◌, false, tru
 use Rattle.std.proofs.lemmas.List.{length-replicate, length-set}
 use Rattle.nr_bitvec.specs.Bit.{bit}
 use Rattle.nr_peel.specs.StateInside.{lifted_checks}
-use Rattle.nr_peel.proofs.Filled.{bit-zeros, filler_more, filler_none, fillers_are, fillers_fit}
-use Rattle.nr_peel.proofs.Tied.{bit-mark}
+use Rattle.nr_peel.proofs.FillerFacts.{bit-zeros, filler_more, filler_none, fillers_are, fillers_fit}
+use Rattle.nr_peel.proofs.TieFacts.{bit-mark}
 use Rattle.nr_peel.proofs.bit_parallel.sweep_peeler.filler_marks.Goals as goal
 
 pub loop-pos-init : goal.loop-pos-init

@@ -1,5 +1,5 @@
-use Rattle.nr_peel.proofs.Learned.{sweep_peeler_peeled}
-use Rattle.nr_peel.proofs.Positions.{position_peeled}
+use Rattle.nr_peel.proofs.LearningFacts.{sweep_peeler_peeled}
+use Rattle.nr_peel.proofs.WorklistFacts.{position_peeled}
 use Rattle.nr_peel.proofs.engine.Engine.new.Goals as goal
 
 pub returns-in_ok-new : goal.returns-in_ok-new

@@ -2,7 +2,7 @@ use Rattle.std.proofs.Common.{◌≡◌, ◌+◌, Bool, true, false, refl, ◌�
 use Rattle.std.specs.Prelude.{Some, None, unwrap_or}
 use Rattle.nr_bitvec.specs.Bit.{bit}
 use Rattle.nr_peel.specs.Engine.{bits_in, known_in}
-use Rattle.nr_peel.proofs.Working.{work_blank, work_peeled}
+use Rattle.nr_peel.proofs.EngineFacts.{work_blank, work_peeled}
 use Rattle.nr_peel.proofs.peeler.Peeler.bits_from.Goals as goal
 
 pub returns-clause-bits : goal.returns-clause-bits

@@ -1,4 +1,4 @@
-use Rattle.nr_peel.proofs.Working.{work_peeled}
+use Rattle.nr_peel.proofs.EngineFacts.{work_peeled}
 use Rattle.nr_peel.proofs.peeler.Peeler.given.Goals as goal
 
 pub returns-clause-peeled : goal.returns-clause-peeled

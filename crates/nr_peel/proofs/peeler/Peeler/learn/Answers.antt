@@ -1,6 +1,6 @@
 use Rattle.std.proofs.Common.{refl, sym, ap, ◌∙◌}
 use Rattle.std.proofs.lemmas.Bool.{eqb-true, eq-eqb}
-use Rattle.nr_peel.proofs.Working.{work_peeled}
+use Rattle.nr_peel.proofs.EngineFacts.{work_peeled}
 use Rattle.nr_peel.proofs.peeler.Peeler.learn.Goals as goal
 
 pub returns-clause-taken : goal.returns-clause-taken

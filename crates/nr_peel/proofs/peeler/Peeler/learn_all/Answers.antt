@@ -1,4 +1,4 @@
-use Rattle.nr_peel.proofs.Working.{work_peeled}
+use Rattle.nr_peel.proofs.EngineFacts.{work_peeled}
 use Rattle.nr_peel.proofs.peeler.Peeler.learn_all.Goals as goal
 
 pub returns-clause-words : goal.returns-clause-words

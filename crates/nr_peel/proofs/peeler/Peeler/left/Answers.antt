@@ -1,5 +1,5 @@
 use Rattle.std.proofs.Common.{◌∙◌}
-use Rattle.nr_peel.proofs.Working.{work_left, work_peeled}
+use Rattle.nr_peel.proofs.EngineFacts.{work_left, work_peeled}
 use Rattle.nr_peel.proofs.peeler.Peeler.left.Goals as goal
 
 pub returns-clause-peeled : goal.returns-clause-peeled

@@ -1,9 +1,9 @@
 use Rattle.std.proofs.Common.{refl, sym, ◌∙◌, arith}
 use Rattle.nr_peel.specs.Engine.{engine_view}
 use Rattle.nr_peel.specs.declared.lifted.Lifted.{Lifted}
-use Rattle.nr_peel.proofs.Filled.{fillers_fit}
-use Rattle.nr_peel.proofs.Fresh.{pending_left}
-use Rattle.nr_peel.proofs.Sets.{in_sets}
+use Rattle.nr_peel.proofs.FillerFacts.{fillers_fit}
+use Rattle.nr_peel.proofs.NewPeelerFacts.{pending_left}
+use Rattle.nr_peel.proofs.SetIndexFacts.{in_sets}
 use Rattle.nr_peel.proofs.peeler.Peeler.new.Goals as goal
 
 pub invariant_of-lifted : goal.invariant_of-lifted

@@ -1,6 +1,6 @@
-use Rattle.nr_peel.proofs.Left.{whole_order}
+use Rattle.nr_peel.proofs.LeftPositionFacts.{whole_order}
 use Rattle.nr_peel.specs.Engine.{engine_view}
-use Rattle.nr_peel.proofs.Working.{kdash_fits, work_peeled}
+use Rattle.nr_peel.proofs.EngineFacts.{kdash_fits, work_peeled}
 use Rattle.nr_peel.proofs.peeler.Peeler.order.Goals as goal
 
 pub returns-clause-peeled : goal.returns-clause-peeled

@@ -1,8 +1,8 @@
 use Rattle.nr_segment.specs.CodeBlock.{numbers}
-use Rattle.nr_peel.proofs.Grid.{checks_sound}
-use Rattle.nr_peel.proofs.Left.{stuck_has, stuck_stops}
+use Rattle.nr_peel.proofs.TableGridFacts.{checks_sound}
+use Rattle.nr_peel.proofs.LeftPositionFacts.{stuck_has, stuck_stops}
 use Rattle.nr_peel.specs.Engine.{engine_view}
-use Rattle.nr_peel.proofs.Working.{kdash_fits, work_peeled, work_table}
+use Rattle.nr_peel.proofs.EngineFacts.{kdash_fits, work_peeled, work_table}
 use Rattle.nr_peel.proofs.peeler.Peeler.stuck.Goals as goal
 
 pub returns-clause-peeled : goal.returns-clause-peeled

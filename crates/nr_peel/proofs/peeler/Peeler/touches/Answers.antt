@@ -1,6 +1,6 @@
-use Rattle.nr_peel.proofs.Bounded.{visits_few}
+use Rattle.nr_peel.proofs.PairBoundFacts.{visits_few}
 use Rattle.nr_peel.specs.Engine.{engine_view}
-use Rattle.nr_peel.proofs.Working.{work_peeled}
+use Rattle.nr_peel.proofs.EngineFacts.{work_peeled}
 use Rattle.nr_peel.proofs.peeler.Peeler.touches.Goals as goal
 
 pub returns-clause-few : goal.returns-clause-few

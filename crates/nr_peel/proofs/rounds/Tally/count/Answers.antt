@@ -6,8 +6,8 @@ use Rattle.nr_shifttable.specs.declared.entry.Entry.{Entry}
 use Rattle.nr_shifttable.specs.Tails.{value_in}
 use Rattle.nr_ldpcenc.specs.Rows.{one_at}
 use Rattle.nr_peel.specs.Rounds.{row_in}
-use Rattle.nr_peel.proofs.Standing.{count_more}
-use Rattle.nr_peel.proofs.Rounded.{tally_more, tally_ones}
+use Rattle.nr_peel.proofs.RowPositionFacts.{count_more}
+use Rattle.nr_peel.proofs.RoundFacts.{tally_more, tally_ones}
 use Rattle.nr_peel.proofs.rounds.Tally.count.Goals as goal
 
 pub loop-entry-preserved : goal.loop-entry-preserved

@@ -1,4 +1,4 @@
-use Rattle.nr_ratematch.proofs.Buffers.{round-place, place-sent}
+use Rattle.nr_ratematch.proofs.BufferFacts.{round-place, place-sent}
 use Rattle.nr_ratematch.proofs.buffer.Buffer.round.Goals as goal
 
 pub returns-clause-places : goal.returns-clause-places

@@ -1,6 +1,6 @@
 -- The round's run, of which all that is not asked for is left out.
 use Rattle.std.proofs.Common.{refl, arith}
-use Rattle.nr_ratematch.proofs.Runs.{run-places, run-inside}
+use Rattle.nr_ratematch.proofs.RunFacts.{run-places, run-inside}
 use Rattle.nr_ratematch.proofs.buffer.Buffer.run.Goals as goal
 
 pub returns-clause-places : goal.returns-clause-places

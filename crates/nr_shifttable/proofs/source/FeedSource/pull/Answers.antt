@@ -1,6 +1,6 @@
 -- Whether or not a failure is to come, the pull takes what the octets left, the buffer and the step allow.
 use Rattle.std.proofs.Common.{ap, sym, drop, ◌∙◌, ◌≡◌, ◌<◌, ◌≤◌, length, subst}
-use Rattle.nr_shifttable.proofs.Feeds.{feed-pulls}
+use Rattle.nr_shifttable.proofs.FeedFacts.{feed-pulls}
 use Rattle.nr_shifttable.specs.Source.{Feeding}
 use Rattle.nr_shifttable.specs.declared.source.Feed.TheInside.{Inside}
 use Rattle.nr_shifttable.proofs.source.FeedSource.pull.Goals as goal

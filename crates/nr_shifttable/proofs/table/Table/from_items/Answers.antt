@@ -2,7 +2,7 @@ use Rattle.std.proofs.Common.{sym, subst}
 use Rattle.std.specs.List.{All}
 use Rattle.nr_graphpick.specs.declared.Graph.TheVariants.{One, Two}
 use Rattle.nr_shifttable.specs.Accepted.{IsInRange}
-use Rattle.nr_shifttable.proofs.Order.{table-range}
+use Rattle.nr_shifttable.proofs.EntryOrderFacts.{table-range}
 use Rattle.nr_shifttable.proofs.table.Table.from_items.Goals as goal
 
 pub of_sorted-requires-clause-ones : goal.of_sorted-requires-clause-ones

@@ -7,8 +7,8 @@ use Rattle.nr_shifttable.specs.declared.fault.TableFault.TheVariants.{Memory}
 use Rattle.nr_shifttable.specs.Accepted.{entries_for, Ascending, IsInRange, accepted}
 use Rattle.nr_shifttable.specs.Items.{IsInside}
 use Rattle.nr_shifttable.specs.Listed.{item_kept}
-use Rattle.nr_shifttable.proofs.Kept.{said-ascend, ones-ascend, twos-ascend, parted-table}
-use Rattle.nr_shifttable.proofs.Order.{entries_for-range, in_range-short}
+use Rattle.nr_shifttable.proofs.KeptItemFacts.{said-ascend, ones-ascend, twos-ascend, parted-table}
+use Rattle.nr_shifttable.proofs.EntryOrderFacts.{entries_for-range, in_range-short}
 use Rattle.nr_shifttable.proofs.table.Table.of_ascending.Goals as goal
 
 pub of_ascending-requires-clause-ascending : goal.of_ascending-requires-clause-ascending

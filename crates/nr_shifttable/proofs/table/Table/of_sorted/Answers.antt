@@ -1,6 +1,6 @@
 use Rattle.std.proofs.Common.{◌==◌, length, sym}
 use Rattle.std.proofs.lemmas.Bool.{and_left, and_right}
-use Rattle.nr_shifttable.proofs.Order.{judged-table}
+use Rattle.nr_shifttable.proofs.EntryOrderFacts.{judged-table}
 use Rattle.nr_shifttable.proofs.table.Table.of_sorted.Goals as goal
 use Rattle.nr_shifttable.proofs.table.Table.of_sorted.Goals.{else-is_empty-via-then-is_empty+else-is_empty-2, else-is_empty-via-else-is_empty}
 

@@ -5,7 +5,7 @@ use Rattle.nr_shifttable.specs.Accepted.{Entries, table_of, accepted}
 use Rattle.nr_shifttable.specs.Items.{items_from}
 use Rattle.nr_shifttable.specs.Records.{records_of}
 use Rattle.nr_shifttable.specs.declared.fault.TableFault.TheVariants.{Read, TooLong}
-use Rattle.nr_shifttable.proofs.Judged.{items-judged, accepted-judged, fault-judged, gives-judged, judged-not}
+use Rattle.nr_shifttable.proofs.JudgedFaultFacts.{items-judged, accepted-judged, fault-judged, gives-judged, judged-not}
 use Rattle.nr_shifttable.proofs.table.Table.of_text.Goals as goal
 
 pub returns-in_err-items-clause-judged : goal.returns-in_err-items-clause-judged

@@ -1,7 +1,7 @@
 use Rattle.std.proofs.Common.{◌∙◌, ap, sym, subst}
 use Rattle.std.specs.List.{All}
 use Rattle.nr_shifttable.specs.Accepted.{entries_in, row_of, ColumnsAscend, IsInRange}
-use Rattle.nr_shifttable.proofs.Lines.{in_table-order, row-ascends, row-range}
+use Rattle.nr_shifttable.proofs.RowOrderFacts.{in_table-order, row-ascends, row-range}
 use Rattle.nr_shifttable.proofs.table.Table.row_entries.Goals as goal
 
 pub returns-clause-order : goal.returns-clause-order

@@ -1,4 +1,4 @@
-use Rattle.nr_files.proofs.RoundBlocks.{blocks-none}
+use Rattle.nr_files.proofs.RoundBlockFacts.{blocks-none}
 use Rattle.nr_files.proofs.schedule.earlier.Earlier.new.Goals as goal
 
 pub invariant_of-result : goal.invariant_of-result

@@ -1,5 +1,5 @@
 use Rattle.std.proofs.Common.{arith}
-use Rattle.nr_files.proofs.RoundBlocks.{blocks-begun, blocks-stay}
+use Rattle.nr_files.proofs.RoundBlockFacts.{blocks-begun, blocks-stay}
 use Rattle.nr_files.proofs.schedule.earlier.Earlier.push.Goals as goal
 
 pub invariant_of-self-then-process-lt-PROCESSES : goal.invariant_of-self-then-process-lt-PROCESSES

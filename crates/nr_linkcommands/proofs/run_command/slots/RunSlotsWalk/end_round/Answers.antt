@@ -3,9 +3,9 @@ use Rattle.nr_files.specs.Rounds.{round_of}
 use Rattle.nr_linkcommands.specs.Ends.{HoldsRound}
 use Rattle.nr_linkcommands.specs.RunText.{no_totals, round_counted}
 use Rattle.nr_linkcommands.specs.declared.run_command.totals.Totals.{Totals}
-use Rattle.nr_linkcommands.proofs.LastRounds.{holds-round}
-use Rattle.nr_linkcommands.proofs.RoundTurns.{counted-more}
-use Rattle.nr_linkcommands.proofs.RunOutcomes.{within-more}
+use Rattle.nr_linkcommands.proofs.LastRoundFacts.{holds-round}
+use Rattle.nr_linkcommands.proofs.RoundTextFacts.{counted-more}
+use Rattle.nr_linkcommands.proofs.RunOutcomeFacts.{within-more}
 use Rattle.nr_linkcommands.proofs.run_command.slots.RunSlotsWalk.end_round.Goals as goal
 
 pub write_round_end-requires-clause-few : goal.write_round_end-requires-clause-few

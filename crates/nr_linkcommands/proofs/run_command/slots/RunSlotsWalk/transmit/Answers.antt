@@ -5,7 +5,7 @@ use Rattle.nr_blockdesk.specs.Sent.{SenderView}
 use Rattle.nr_linkcommands.specs.RoundTexts.{said_if}
 use Rattle.nr_linkcommands.specs.RunText.{run_words}
 use Rattle.nr_files.specs.Rounds.{continued}
-use Rattle.nr_linkcommands.proofs.RoundEnds.{continued-room, held-over, made-held, rounds-more, sender-there}
+use Rattle.nr_linkcommands.proofs.RoundEndFacts.{continued-room, held-over, made-held, rounds-more, sender-there}
 use Rattle.nr_commands.proofs.WrittenLemmas.{with_text-nil, writes_behind}
 use Rattle.nr_linkcommands.proofs.run_command.slots.RunSlotsWalk.transmit.Goals as goal
 

@@ -5,8 +5,8 @@ use Rattle.nr_graphpick.specs.Graph.{cols_of}
 use Rattle.nr_lifting.specs.Rings.{is_set, marked}
 use Rattle.nr_peel.specs.Hearing.{news}
 use Rattle.nr_peel.specs.StateInside.{lifted_checks}
-use Rattle.nr_peel.proofs.Marks.{none_marked}
-use Rattle.nr_peel.proofs.Told.{lane_new, told_all, told_next, told_none, told_skip}
+use Rattle.nr_peel.proofs.LaneMarkFacts.{none_marked}
+use Rattle.nr_peel.proofs.GivenLaneFacts.{lane_new, told_all, told_next, told_none, told_skip}
 use Rattle.nr_peel.proofs.bit_parallel.lanes.Lanes.hear.Goals as goal
 use Rattle.nr_peel.proofs.bit_parallel.lanes.Lanes.hear.Goals.{else-lane_count-ne0, then-lane_count-ne0}
 

@@ -1,6 +1,6 @@
 use Rattle.nr_bitvec.specs.Bit.{bit}
 use Rattle.nr_peel.specs.Hearing.{news}
-use Rattle.nr_peel.proofs.Told.{AreTold}
+use Rattle.nr_peel.proofs.GivenLaneFacts.{AreTold}
 use Rattle.nr_peel.proofs.bit_parallel.lanes.Lanes.hear.Given as goal
 
 -- the columns before column j are given

@@ -2,11 +2,11 @@ use Rattle.std.proofs.Common.{◌≡◌, ◌+◌, ◌-◌, ◌*◌, ◌/◌, ◌
 use Rattle.std.proofs.Math.Nat.{mul-le-mul_right}
 use Rattle.nr_graphpick.specs.Graph.{cols_of, info_cols_of}
 use Rattle.nr_lifting.specs.Rings.{is_set}
-use Rattle.nr_lifting.proofs.LaneBits.{marked-le}
+use Rattle.nr_lifting.proofs.LaneBitFacts.{marked-le}
 use Rattle.nr_peel.specs.Peeling.{left_of}
 use Rattle.nr_peel.specs.declared.lifted.Lifted.{Lifted}
-use Rattle.nr_peel.proofs.Filled.{fillers_fit}
-use Rattle.nr_peel.proofs.Remaining.{info_rotations, left_column, left_end, left_most}
+use Rattle.nr_peel.proofs.FillerFacts.{fillers_fit}
+use Rattle.nr_peel.proofs.RemainingFacts.{info_rotations, left_column, left_end, left_most}
 use Rattle.nr_peel.proofs.bit_parallel.lanes.Lanes.left.Goals as goal
 
 -- an information column lies in the word

@@ -2,14 +2,14 @@ use Rattle.std.proofs.lemmas.Bool.{ne_eqb}
 use Rattle.std.proofs.Common.{◌≡◌, ℕ, ◌+◌, ◌*◌, ◌<◌, ◌≤◌, ◌==◌, cond, [], length, refl, sym, ap, ◌∙◌, arith}
 use Rattle.nr_bitvec.specs.Bit.{bit}
 use Rattle.nr_lifting.specs.Rings.{is_set, marked}
-use Rattle.nr_lifting.proofs.LaneBits.{marked-same}
+use Rattle.nr_lifting.proofs.LaneBitFacts.{marked-same}
 use Rattle.nr_shifttable.specs.declared.entry.Entry.{Entry}
 use Rattle.nr_shifttable.specs.Accepted.{entries_in, row_of}
 use Rattle.nr_peel.specs.Due.{due_in}
 use Rattle.nr_peel.specs.Sweeps.{counted_in, has_count}
-use Rattle.nr_peel.proofs.DueBlocks.{one_at_most, search_cost, some_entry}
-use Rattle.nr_peel.proofs.Rounded.{row_fits}
-use Rattle.nr_peel.proofs.Taking.{ones_counted, taking_done, taking_more, taking_none, taking_room, taking_start}
+use Rattle.nr_peel.proofs.DueBlockFacts.{one_at_most, search_cost, some_entry}
+use Rattle.nr_peel.proofs.RoundFacts.{row_fits}
+use Rattle.nr_peel.proofs.EntryTakeFacts.{ones_counted, taking_done, taking_more, taking_none, taking_room, taking_start}
 use Rattle.nr_peel.proofs.bit_parallel.lanes.Lanes.search_block.Goals as goal
 
 pub row_sum-sums-requires-clause-columns : goal.row_sum-sums-requires-clause-columns

@@ -1,5 +1,5 @@
 use Rattle.std.proofs.Common.{◌≡◌, ◌+◌}
-use Rattle.nr_peel.proofs.Taking.{IsTaking}
+use Rattle.nr_peel.proofs.EntryTakeFacts.{IsTaking}
 use Rattle.nr_peel.proofs.bit_parallel.lanes.Lanes.search_block.Given as goal
 
 -- the entries so far were taken, each by one lane operation

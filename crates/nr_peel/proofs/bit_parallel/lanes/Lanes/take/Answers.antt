@@ -1,11 +1,11 @@
 use Rattle.std.proofs.Common.{◌≡◌, ℕ, ◌-◌, ◌%◌, ◌<◌, ◌&&◌, ◌||◌, false, ◌++◌, refl, sym, ap, ◌∙◌, arith}
 use Rattle.nr_bitvec.specs.Bit.{bit}
 use Rattle.nr_lifting.specs.Rings.{IsRotated, is_set, marked}
-use Rattle.nr_lifting.proofs.LaneBits.{marked-same}
+use Rattle.nr_lifting.proofs.LaneBitFacts.{marked-same}
 use Rattle.nr_shifttable.specs.Tails.{value_in}
 use Rattle.nr_peel.specs.Lanes.{lacks, rotated_step}
-use Rattle.nr_peel.proofs.Marks.{lacking, marks_none, no_steps, none_marked, rotated_marks}
-use Rattle.nr_peel.proofs.Steps.{steps_same}
+use Rattle.nr_peel.proofs.LaneMarkFacts.{lacking, marks_none, no_steps, none_marked, rotated_marks}
+use Rattle.nr_peel.proofs.StepFacts.{steps_same}
 use Rattle.nr_peel.proofs.bit_parallel.lanes.Lanes.take.Goals as goal
 
 -- what the lane of missing positions is

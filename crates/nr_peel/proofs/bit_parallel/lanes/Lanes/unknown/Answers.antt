@@ -2,7 +2,7 @@ use Rattle.std.proofs.Common.{◌≡◌, ◌++◌, true, false, not, cond, [], �
 use Rattle.std.specs.List.{filter, range_with_len}
 use Rattle.std.proofs.lemmas.List.{append-nil}
 use Rattle.nr_bitvec.specs.Bit.{bit}
-use Rattle.nr_peel.proofs.Left.{kept_more}
+use Rattle.nr_peel.proofs.LeftPositionFacts.{kept_more}
 use Rattle.nr_peel.proofs.bit_parallel.lanes.Lanes.unknown.Goals as goal
 use Rattle.nr_peel.proofs.bit_parallel.lanes.Lanes.unknown.Goals.{then-not-get+in_ok-push, else-not-get}
 

@@ -1,5 +1,5 @@
 use Rattle.std.proofs.Common.{length, arith}
-use Rattle.nr_peel.proofs.DueBlocks.{block_low, marks_clear}
+use Rattle.nr_peel.proofs.DueBlockFacts.{block_low, marks_clear}
 use Rattle.nr_peel.proofs.bit_parallel.pending_marks.PendingMarks.clear.Goals as goal
 
 pub bounds-self-inside-j : goal.bounds-self-inside-j

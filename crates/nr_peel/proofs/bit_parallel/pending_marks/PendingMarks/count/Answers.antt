@@ -1,5 +1,5 @@
 use Rattle.std.proofs.Common.{length, arith}
-use Rattle.nr_peel.proofs.DueBlocks.{block_low}
+use Rattle.nr_peel.proofs.DueBlockFacts.{block_low}
 use Rattle.nr_peel.proofs.bit_parallel.pending_marks.PendingMarks.count.Goals as goal
 
 pub bounds-columns-j : goal.bounds-columns-j

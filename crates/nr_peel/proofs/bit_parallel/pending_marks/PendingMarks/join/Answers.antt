@@ -1,7 +1,7 @@
 use Rattle.std.proofs.Common.{◌∙◌, length, arith}
 use Rattle.nr_lifting.specs.Rings.{is_set}
-use Rattle.nr_peel.proofs.Remaining.{lane_marked}
-use Rattle.nr_peel.proofs.DueBlocks.{block_low, marks_join}
+use Rattle.nr_peel.proofs.RemainingFacts.{lane_marked}
+use Rattle.nr_peel.proofs.DueBlockFacts.{block_low, marks_join}
 use Rattle.nr_peel.proofs.bit_parallel.pending_marks.PendingMarks.join.Goals as goal
 
 pub bounds-self-inside-j : goal.bounds-self-inside-j

@@ -1,4 +1,4 @@
-use Rattle.nr_peel.proofs.DueBlocks.{marks_new}
+use Rattle.nr_peel.proofs.DueBlockFacts.{marks_new}
 use Rattle.nr_peel.proofs.bit_parallel.pending_marks.PendingMarks.new.Goals as goal
 
 pub invariant_of-result : goal.invariant_of-result

@@ -1,6 +1,6 @@
 use Rattle.std.proofs.Common.{◌+◌, ◌%◌, ◌*◌, length, arith}
 use Rattle.nr_bitvec.specs.Bit.{bit}
-use Rattle.nr_peel.proofs.DueBlocks.{block_low, due_more, kept_lower}
+use Rattle.nr_peel.proofs.DueBlockFacts.{block_low, due_more, kept_lower}
 use Rattle.nr_peel.proofs.bit_parallel.row_counts.RowCounts.lower.Goals as goal
 
 pub bounds-self-inside-i : goal.bounds-self-inside-i

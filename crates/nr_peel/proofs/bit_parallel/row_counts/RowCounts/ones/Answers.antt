@@ -1,7 +1,7 @@
 use Rattle.std.proofs.Common.{◌==◌, not, length, sym, ap, ◌∙◌, arith}
 use Rattle.std.proofs.lemmas.Bool.{eqb-true}
-use Rattle.nr_lifting.proofs.LaneViews.{place-zeros}
-use Rattle.nr_peel.proofs.DueBlocks.{block_low, kept_looked, kept_none, on_if}
+use Rattle.nr_lifting.proofs.LaneViewFacts.{place-zeros}
+use Rattle.nr_peel.proofs.DueBlockFacts.{block_low, kept_looked, kept_none, on_if}
 use Rattle.nr_peel.proofs.bit_parallel.row_counts.RowCounts.ones.Goals as goal
 
 pub bounds-self-inside-i : goal.bounds-self-inside-i

@@ -1,6 +1,6 @@
 use Rattle.std.proofs.Common.{◌∙◌, refl, arith}
 use Rattle.nr_peel.specs.StateInside.{lifted_checks}
-use Rattle.nr_peel.proofs.Held.{known_counted, enough_pending, falls_all}
+use Rattle.nr_peel.proofs.RoundInvariantFacts.{known_counted, enough_pending, falls_all}
 use Rattle.std.specs.Prelude.{count_by}
 use Rattle.nr_bitvec.specs.Bit.{bit}
 use Rattle.nr_peel.proofs.bit_parallel.sweep.Sweep.lower.Goals as goal

@@ -3,7 +3,7 @@ use Rattle.std.proofs.lemmas.Bool.{cases_lt, lt-ltb, ltb-true, true≢false}
 use Rattle.nr_lifting.specs.Rings.{marked}
 use Rattle.nr_peel.specs.StateInside.{lifted_checks}
 use Rattle.nr_peel.specs.Sweeps.{has_count}
-use Rattle.nr_peel.proofs.Held.{caught_held, caught_keeps, fixes_keep, held_few, held_room, held_roomy, held_searched, held_work, keeps_then, round_held, round_keeps, round_smaller, sought_counted, sought_few, sought_roomy, stop_held, stop_pending, stop_settled}
+use Rattle.nr_peel.proofs.RoundInvariantFacts.{caught_held, caught_keeps, fixes_keep, held_few, held_room, held_roomy, held_searched, held_work, keeps_then, round_held, round_keeps, round_smaller, sought_counted, sought_few, sought_roomy, stop_held, stop_pending, stop_settled}
 use Rattle.nr_peel.proofs.bit_parallel.sweep.Sweep.propagate.Goals as goal
 
 -- the counts have fallen by what was fresh

@@ -4,13 +4,13 @@ use Rattle.std.proofs.lemmas.Bool.{le-ltb}
 use Rattle.std.proofs.lemmas.Nat.{mul-le}
 use Rattle.std.proofs.Math.Nat.{mul-le-mul_right}
 use Rattle.nr_lifting.specs.Rings.{marked}
-use Rattle.nr_lifting.proofs.LaneBits.{marked-append}
+use Rattle.nr_lifting.proofs.LaneBitFacts.{marked-append}
 use Rattle.nr_shifttable.specs.declared.entry.Entry.{Entry}
 use Rattle.nr_shifttable.specs.Accepted.{entries_in, row_of}
 use Rattle.nr_peel.specs.StateInside.{lifted_checks}
 use Rattle.nr_peel.specs.Sweeps.{AreSought, CountsOf, IsBlockSought, counted_in, has_count, searched_below}
-use Rattle.nr_peel.proofs.Grid.{rows_short}
-use Rattle.nr_peel.proofs.Sweeping.{counts_still, next_block, pairs_all, some_more, sought_more, sought_room, sought_start, visits_more, visits_within}
+use Rattle.nr_peel.proofs.TableGridFacts.{rows_short}
+use Rattle.nr_peel.proofs.SweepStepFacts.{counts_still, next_block, pairs_all, some_more, sought_more, sought_room, sought_start, visits_more, visits_within}
 use Rattle.nr_peel.proofs.bit_parallel.sweep.Sweep.search.Goals as goal
 
 pub loop-i-init : goal.loop-i-init

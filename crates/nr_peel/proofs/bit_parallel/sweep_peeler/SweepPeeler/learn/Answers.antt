@@ -3,8 +3,8 @@ use Rattle.std.proofs.lemmas.List.{length-set}
 use Rattle.nr_bitvec.specs.Bit.{bit}
 use Rattle.nr_bitvec.specs.BitList.{BitList}
 use Rattle.nr_peel.specs.StateInside.{lifted_checks}
-use Rattle.nr_peel.proofs.Learned.{fillers_known, heard_held, heard_known, learned}
-use Rattle.nr_peel.proofs.Tied.{bit-mark}
+use Rattle.nr_peel.proofs.LearningFacts.{fillers_known, heard_held, heard_known, learned}
+use Rattle.nr_peel.proofs.TieFacts.{bit-mark}
 use Rattle.nr_peel.proofs.bit_parallel.sweep_peeler.SweepPeeler.learn.Goals as goal
 
 pub set-requires : goal.set-requires

@@ -3,8 +3,8 @@ use Rattle.std.proofs.lemmas.Bool.{or_right}
 use Rattle.nr_bitvec.specs.Bit.{bit}
 use Rattle.nr_segment.specs.CodeBlock.{numbers}
 use Rattle.nr_peel.specs.StateInside.{lifted_checks}
-use Rattle.nr_peel.proofs.Filled.{fillers_fit, fillers_long, fillers_there}
-use Rattle.nr_peel.proofs.Learned.{filled, heard_held}
+use Rattle.nr_peel.proofs.FillerFacts.{fillers_fit, fillers_long, fillers_there}
+use Rattle.nr_peel.proofs.LearningFacts.{filled, heard_held}
 use Rattle.nr_peel.proofs.bit_parallel.sweep_peeler.SweepPeeler.new.Goals as goal
 
 pub hear-requires-clause-long : goal.hear-requires-clause-long

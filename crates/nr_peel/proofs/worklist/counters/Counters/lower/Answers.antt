@@ -4,8 +4,8 @@ use Rattle.std.proofs.lemmas.Bool.{eq-eqb}
 use Rattle.std.proofs.lemmas.List.Sums.{sum_by-take-le}
 use Rattle.nr_shifttable.specs.declared.entry.Entry.{Entry}
 use Rattle.nr_peel.specs.Counters.{holder}
-use Rattle.nr_peel.proofs.Lowered.{lowered_then}
-use Rattle.nr_peel.proofs.Standing.{count_more}
+use Rattle.nr_peel.proofs.LoweredCounterFacts.{lowered_then}
+use Rattle.nr_peel.proofs.RowPositionFacts.{count_more}
 use Rattle.nr_peel.proofs.worklist.counters.Counters.lower.Goals as goal
 
 pub lower_row-requires-clause-some : goal.lower_row-requires-clause-some

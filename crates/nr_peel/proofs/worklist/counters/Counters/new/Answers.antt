@@ -7,8 +7,8 @@ use Rattle.nr_shifttable.specs.Tails.{value_in}
 use Rattle.nr_ldpcenc.specs.Rows.{one_at}
 use Rattle.nr_peel.specs.StateInside.{lifted_checks}
 use Rattle.nr_peel.specs.TouchesInside.{row_length}
-use Rattle.nr_peel.proofs.Grid.{rows_short}
-use Rattle.nr_peel.proofs.Built.{IsBuilt, built_more, built_ready, built_start}
+use Rattle.nr_peel.proofs.TableGridFacts.{rows_short}
+use Rattle.nr_peel.proofs.NewCounterFacts.{IsBuilt, built_more, built_ready, built_start}
 use Rattle.nr_peel.proofs.worklist.counters.Counters.new.Goals as goal
 use Rattle.nr_peel.proofs.worklist.counters.Counters.new.Goals.{then-count-eq1, else-count-eq1}
 

@@ -1,7 +1,7 @@
 use Rattle.std.proofs.Common.{◌≤◌}
 use Rattle.std.specs.Prelude.{vec_capacity}
 use Rattle.nr_peel.specs.StateInside.{lifted_checks}
-use Rattle.nr_peel.proofs.Built.{IsBuilt}
+use Rattle.nr_peel.proofs.NewCounterFacts.{IsBuilt}
 use Rattle.nr_peel.proofs.worklist.counters.Counters.new.Given as goal
 
 -- the counters of the rows so far, and room for the others

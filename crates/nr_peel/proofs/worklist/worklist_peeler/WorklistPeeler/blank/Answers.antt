@@ -1,8 +1,8 @@
 use Rattle.std.proofs.Common.{◌≡◌, ◌*◌, false, replicate, refl, ap, ◌∙◌, arith}
 use Rattle.nr_peel.specs.StateInside.{lifted_checks}
 use Rattle.nr_peel.specs.declared.worklist.worklist_peeler.WorklistPeeler.{WorklistPeeler}
-use Rattle.nr_peel.proofs.Built.{blank_state}
-use Rattle.nr_peel.proofs.Filled.{fillers_fit}
+use Rattle.nr_peel.proofs.NewCounterFacts.{blank_state}
+use Rattle.nr_peel.proofs.FillerFacts.{fillers_fit}
 use Rattle.nr_peel.proofs.worklist.worklist_peeler.WorklistPeeler.blank.Goals as goal
 
 pub returns : goal.returns

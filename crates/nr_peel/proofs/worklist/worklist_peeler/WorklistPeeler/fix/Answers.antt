@@ -13,12 +13,12 @@ use Rattle.nr_ldpcenc.specs.Rows.{one_at}
 use Rattle.nr_peel.specs.Peeling.{left_of}
 use Rattle.nr_peel.specs.StateInside.{lifted_checks}
 use Rattle.nr_peel.specs.TouchesInside.{row_length}
-use Rattle.nr_peel.proofs.Fixing.{few_visits, fix_grows, fix_spends, fix_works, follows_lowered, IsFix}
-use Rattle.nr_peel.proofs.Grid.{checks_sound}
-use Rattle.nr_peel.proofs.Gains.{degree_le, zeros_few}
-use Rattle.nr_peel.proofs.Places.{row_number}
-use Rattle.nr_peel.proofs.CounterTies.{tied_same}
-use Rattle.nr_peel.proofs.Tied.{row_columns}
+use Rattle.nr_peel.proofs.FixFacts.{few_visits, fix_grows, fix_spends, fix_works, follows_lowered, IsFix}
+use Rattle.nr_peel.proofs.TableGridFacts.{checks_sound}
+use Rattle.nr_peel.proofs.RowGainFacts.{degree_le, zeros_few}
+use Rattle.nr_peel.proofs.RowPlaceFacts.{row_number}
+use Rattle.nr_peel.proofs.CounterTieFacts.{tied_same}
+use Rattle.nr_peel.proofs.TieFacts.{row_columns}
 use Rattle.nr_peel.proofs.worklist.worklist_peeler.WorklistPeeler.fix.Goals as goal
 
 -- the row's counter, by its block and lane

@@ -2,8 +2,8 @@ use Rattle.std.proofs.Common.{refl, sym, ap, ◌∙◌, arith}
 use Rattle.nr_bitvec.specs.BitList.{BitList}
 use Rattle.nr_peel.specs.StateInside.{lifted_checks}
 use Rattle.nr_peel.specs.declared.worklist.worklist_peeler.WorklistPeeler.{WorklistPeeler}
-use Rattle.nr_peel.proofs.Fixing.{few_visits}
-use Rattle.nr_peel.proofs.Giving.{IsTaken, given_gives, given_works, listed_after, take_gives, take_works}
+use Rattle.nr_peel.proofs.FixFacts.{few_visits}
+use Rattle.nr_peel.proofs.GivenPositionFacts.{IsTaken, given_gives, given_works, listed_after, take_gives, take_works}
 use Rattle.nr_peel.proofs.worklist.worklist_peeler.WorklistPeeler.give.Goals as goal
 
 pub mark-requires-clause-few : goal.mark-requires-clause-few

@@ -3,8 +3,8 @@ use Rattle.std.specs.Int.{bit_not, trailing_zeros, w64}
 use Rattle.std.specs.Int.Bits.{bit_and}
 use Rattle.nr_bitvec.specs.Bit.{bit}
 use Rattle.nr_peel.specs.StateInside.{lifted_checks}
-use Rattle.nr_peel.proofs.Giving.{given_known, gives_all, gives_jump, gives_more}
-use Rattle.nr_peel.proofs.Wanted.{bit_inside, next_wanted, none_wanted}
+use Rattle.nr_peel.proofs.GivenPositionFacts.{given_known, gives_all, gives_jump, gives_more}
+use Rattle.nr_peel.proofs.NextUnknownFacts.{bit_inside, next_wanted, none_wanted}
 use Rattle.nr_peel.proofs.worklist.worklist_peeler.WorklistPeeler.give_all.Goals as goal
 
 pub positions-preserved-then-word-eq0 : goal.positions-preserved-then-word-eq0

@@ -2,7 +2,7 @@ use Rattle.std.proofs.Common.{◌-◌}
 use Rattle.nr_bitvec.specs.Bit.{bit}
 use Rattle.nr_peel.specs.Worklist.{GivesMarks, IsBusy}
 use Rattle.nr_peel.specs.StateInside.{lifted_checks}
-use Rattle.nr_peel.proofs.Giving.{first}
+use Rattle.nr_peel.proofs.GivenPositionFacts.{first}
 use Rattle.nr_peel.proofs.worklist.worklist_peeler.WorklistPeeler.give_all.Given as goal
 
 -- the list's positions so far are given

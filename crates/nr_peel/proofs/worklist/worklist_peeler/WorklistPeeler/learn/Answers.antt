@@ -1,5 +1,5 @@
 use Rattle.std.proofs.Common.{◌==◌}
-use Rattle.nr_peel.proofs.Positions.{taken_up}
+use Rattle.nr_peel.proofs.WorklistFacts.{taken_up}
 use Rattle.nr_peel.proofs.worklist.worklist_peeler.WorklistPeeler.learn.Goals as goal
 
 pub returns-clause-takes : goal.returns-clause-takes

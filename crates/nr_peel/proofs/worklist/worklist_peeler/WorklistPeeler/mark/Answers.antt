@@ -2,9 +2,9 @@ use Rattle.std.proofs.Common.{◌≡◌, ◌+◌, ◌/◌, ◌<◌, nat_lt, leng
 use mir.Val.{bool_byte}
 use Rattle.nr_segment.specs.CodeBlock.{numbers}
 use Rattle.nr_peel.specs.Peeling.{left_of}
-use Rattle.nr_peel.proofs.LeftCount.{left_marked}
-use Rattle.nr_peel.proofs.CounterTies.{covered, tied_more}
-use Rattle.nr_peel.proofs.Tied.{column_rows}
+use Rattle.nr_peel.proofs.LeftCountFacts.{left_marked}
+use Rattle.nr_peel.proofs.CounterTieFacts.{covered, tied_more}
+use Rattle.nr_peel.proofs.TieFacts.{column_rows}
 use Rattle.nr_peel.proofs.worklist.worklist_peeler.WorklistPeeler.mark.Goals as goal
 
 pub lower-requires-clause-rows : goal.lower-requires-clause-rows

@@ -2,8 +2,8 @@ use Rattle.std.proofs.Common.{◌*◌, length, ap, ◌∙◌}
 use Rattle.nr_bitvec.specs.Bit.{bit}
 use Rattle.nr_segment.specs.CodeBlock.{numbers}
 use Rattle.nr_peel.specs.StateInside.{lifted_checks}
-use Rattle.nr_peel.proofs.Filled.{bit-zeros, fillers_long}
-use Rattle.nr_peel.proofs.Positions.{filled_up}
+use Rattle.nr_peel.proofs.FillerFacts.{bit-zeros, fillers_long}
+use Rattle.nr_peel.proofs.WorklistFacts.{filled_up}
 use Rattle.nr_peel.proofs.worklist.worklist_peeler.WorklistPeeler.new.Goals as goal
 
 pub give_all-requires-clause-heard : goal.give_all-requires-clause-heard

@@ -5,8 +5,8 @@ use Rattle.nr_peel.specs.Worklist.{Grows}
 use Rattle.nr_peel.specs.StateInside.{lifted_checks}
 use Rattle.nr_peel.specs.declared.worklist.counters.Counters.{Counters}
 use Rattle.nr_peel.specs.declared.worklist.worklist_peeler.WorklistPeeler.{WorklistPeeler}
-use Rattle.nr_peel.proofs.Fixing.{grows_none, grows_then}
-use Rattle.nr_peel.proofs.Settling.{IsPopped, listed_rest, listed_skip, popped_inside, popped_works}
+use Rattle.nr_peel.proofs.FixFacts.{grows_none, grows_then}
+use Rattle.nr_peel.proofs.WorklistLoopFacts.{IsPopped, listed_rest, listed_skip, popped_inside, popped_works}
 use Rattle.nr_peel.proofs.worklist.worklist_peeler.WorklistPeeler.propagate.Goals as goal
 
 pub rows-init : goal.rows-init

@@ -4,9 +4,9 @@ use Rattle.nr_bitvec.specs.Bit.{bit}
 use Rattle.nr_shifttable.specs.declared.entry.Entry.{Entry}
 use Rattle.nr_shifttable.specs.Tails.{value_in}
 use Rattle.nr_ldpcenc.specs.Rows.{one_at}
-use Rattle.nr_peel.proofs.Searched.{searched_found, searched_known, searched_unknown}
+use Rattle.nr_peel.proofs.RowSearchFacts.{searched_found, searched_known, searched_unknown}
 use Rattle.nr_bitvec.specs.BitList.{BitList}
-use Rattle.nr_peel.proofs.Places.{place_fits}
+use Rattle.nr_peel.proofs.RowPlaceFacts.{place_fits}
 use Rattle.nr_peel.proofs.worklist.worklist_peeler.WorklistPeeler.search.Goals as goal
 use Rattle.nr_peel.proofs.worklist.worklist_peeler.WorklistPeeler.search.Goals.{then-not-get, else-not-get}
 

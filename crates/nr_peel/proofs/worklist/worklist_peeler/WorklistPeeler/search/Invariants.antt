@@ -3,7 +3,7 @@ use Rattle.nr_bitvec.specs.Bit.{bit}
 use Rattle.nr_shifttable.specs.Tails.{value_in}
 use Rattle.nr_ldpcenc.specs.Rows.{one_at}
 use Rattle.nr_peel.specs.Worklist.{IsVisited}
-use Rattle.nr_peel.proofs.Searched.{IsSearched}
+use Rattle.nr_peel.proofs.RowSearchFacts.{IsSearched}
 use Rattle.nr_peel.proofs.worklist.worklist_peeler.WorklistPeeler.search.Given as goal
 
 -- what the entries so far show, each visited once

@@ -1,0 +1,135 @@
+-- Words that are added after the places of others.
+use Rattle.std.proofs.Common.{◌≡◌, ℕ, ◌+◌, ◌-◌, ◌*◌, ◌/◌, ◌%◌, ◌^◌, ◌<◌, ◌≤◌, ◌==◌, inl, inr, min, false, List, ◌++◌, length, get_or, take, replicate, refl, ap, sym, ◌∙◌, arith, length-append, length-take}
+use Rattle.std.proofs.lemmas.Bool.{cases_lt}
+use Rattle.std.proofs.lemmas.List.{get_or_past, get_or_append_left, get_or-append_right, get_or-replicate, length-replicate, take_all}
+use Rattle.std.proofs.lemmas.Nat.Bits.{bit_at-zero, bit_at_above}
+use Rattle.std.specs.Int.{bit_at}
+use Rattle.nr_bitvec.specs.Packed.{place, IsClear, unpacked}
+use Rattle.nr_bitvec.specs.PackedInside.{moved, IsPacked, Joins}
+use Rattle.nr_bitvec.proofs.BitFacts.{place_of, place_past}
+use Rattle.nr_bitvec.proofs.PlaceFacts.{length-unpacked}
+use Rattle.nr_bitvec.proofs.AddedBitFacts.{moved_below, moved_from, kept}
+use Rattle.nr_bitvec.proofs.PackedListFacts.{unpacked-is, bit-within}
+
+-- ---- word by word
+
+pub joins_none : (n : ℕ) (old vs : List ℕ) → IsClear old n → Joins n old vs old 0
+joins_none n old vs clear = record {
+  before = λ t h. refl;
+  within = λ t h. absurd (omega (arith, h));
+  after = λ t h. clear (n + t) (omega arith);
+  long = refl;
+}
+
+-- the bits that are added, which are those of word i
+added : (n : ℕ) (vs : List ℕ) (i w t : ℕ) → w ≡ get_or vs i 0 → 64 * i ≤ t → t < 64 * i + 64 → moved (n + 64 * i) w (n + t) ≡ place vs t
+added n vs i w t read low high =
+    let k : n + t - (n + 64 * i) ≡ t - 64 * i = omega (arith, low) in
+    moved_from (n + 64 * i) w (n + t) (omega (arith, low)) ∙ ap (bit_at w) k ∙ ap (λ m. bit_at m (t - 64 * i)) read ∙ sym (place_of vs t i (t - 64 * i) (omega (arith, low)) (omega (arith, low, high)))
+
+pub joins_more : (n : ℕ) (old vs new next : List ℕ) (i w : ℕ) → Joins n old vs new i → w ≡ get_or vs i 0 → w < 2 ^ 64 → length next ≡ length new
+    → ((t : ℕ) → place next t ≡ (place new t + moved (n + 64 * i) w t) % 2) → Joins n old vs next (i + 1)
+joins_more n old vs new next i w joins read fits long flips =
+    let still : (t : ℕ) → moved (n + 64 * i) w t ≡ 0 → place next t ≡ place new t = λ t e. flips t ∙ sym (kept new (n + 64 * i) w t e) in
+    record {
+      before = λ t h. still t (moved_below (n + 64 * i) w t (omega (arith, h))) ∙ joins.before t h;
+      within = λ t h. elim (cases_lt t (64 * i)) [
+        | inl low ↦ still (n + t) (moved_below (n + 64 * i) w (n + t) (omega (arith, low))) ∙ joins.within t low
+        | inr high ↦
+            flips (n + t) ∙ ap (λ k. (k + moved (n + 64 * i) w (n + t)) % 2) (joins.after t high) ∙ ap (λ k. (0 + k) % 2) (added n vs i w t read high (omega (arith, h)))
+            ∙ omega arith
+      ];
+      after = λ t h. still (n + t) (moved_from (n + 64 * i) w (n + t) (omega (arith, h)) ∙ bit_at_above w 64 (n + t - (n + 64 * i)) fits (omega (arith, h))) ∙ joins.after t (omega (arith, h));
+      long = long ∙ joins.long;
+    }
+
+-- no bit of word i goes past the end
+pub joins-fit : (n : ℕ) (old vs new : List ℕ) (i w j : ℕ) → Joins n old vs new i → w ≡ get_or vs i 0 → w < 2 ^ 64 → ((t : ℕ) → 64 * length old ≤ n + t → place vs t ≡ 0) → 64 * length new ≤ n + 64 * i + j → bit_at w j ≡ 0
+joins-fit n old vs new i w j joins read fits none h =
+    elim (cases_lt j 64) [
+      | inl low ↦ ap (λ k. bit_at k j) read ∙ sym (place_of vs (64 * i + j) i j refl low) ∙ none (64 * i + j) (omega (arith, h, joins.long))
+      | inr high ↦ bit_at_above w 64 j fits high
+    ]
+
+-- ---- lists of bits, one after another
+
+-- an element of a list of zeros, past the end too
+zeros : (n i : ℕ) → get_or {A = ℕ} (replicate n 0) i 0 ≡ 0
+zeros n i =
+    elim (cases_lt i n) [
+      | inl within ↦ get_or-replicate {A = ℕ} n i 0 0 within
+      | inr past ↦ get_or_past {X = ℕ} (replicate n 0) i 0 (omega (arith, past, length-replicate {A = ℕ} n 0))
+    ]
+
+-- words of zeros, as many as n places need, and the list of n zero bits in them
+place-zeros : (count t : ℕ) → place (replicate count 0) t ≡ 0
+place-zeros count t = ap (λ k. bit_at k (t % 64)) (zeros count (t / 64)) ∙ bit_at-zero (t % 64)
+
+pub zeros-packed : (n count : ℕ) (ws : List ℕ) → n ≤ 2 ^ 24 → count ≡ n / 64 + min 1 (n % 64) → ws ≡ replicate count 0 → IsPacked n ws
+zeros-packed n count ws short e made =
+    let long : length ws ≡ count = ap length made ∙ length-replicate {A = ℕ} count 0 in
+    record {
+      short = short;
+      above = omega (arith, e, long);
+      below = omega (arith, e, long);
+      clear = λ t h. ap (λ vs. place vs t) made ∙ place-zeros count t;
+    }
+
+pub zeros-items : (n count : ℕ) (ws : List ℕ) → ws ≡ replicate count 0 → unpacked n ws ≡ replicate n false
+zeros-items n count ws made =
+    unpacked-is n ws (replicate n false) (length-replicate n false)
+    (λ t h. ap (λ vs. place vs t == 1) made ∙ ap (λ k. k == 1) (place-zeros count t) ∙ sym (get_or-replicate n t false false h))
+
+-- more words, which are zero, have the same places
+place-resized : (ws : List ℕ) (count t : ℕ) → length ws ≤ count → place (take count ws ++ replicate (count - length ws) 0) t ≡ place ws t
+place-resized ws count t h =
+    let whole : take count ws ≡ ws = take_all count ws h in
+    ap (λ (vs : List ℕ). place (vs ++ replicate (count - length ws) 0) t) whole ∙ elim (cases_lt (t / 64) (length ws)) [
+      | inl old ↦ ap (λ k. bit_at k (t % 64)) (get_or_append_left ws (replicate (count - length ws) 0) 0 (t / 64) old)
+      | inr new ↦
+          ap (λ k. bit_at k (t % 64)) (get_or-append_right ws (replicate (count - length ws) 0) (length ws) (t / 64) 0 refl new ∙ zeros (count - length ws) (t / 64 - length ws))
+          ∙ bit_at-zero (t % 64) ∙ sym (place_past ws t (omega (arith, new)))
+    ]
+
+length-resized : (ws : List ℕ) (count : ℕ) → length ws ≤ count → length (take count ws ++ replicate {A = ℕ} (count - length ws) 0) ≡ count
+length-resized ws count h =
+    length-append (take count ws) (replicate (count - length ws) 0) ∙ omega (arith, length-take count ws, length-replicate {A = ℕ} (count - length ws) 0, h)
+
+-- words of n bits with as many words as n + m places need
+pub record Resizes (ws mid : List ℕ) (count : ℕ) : Type 0 where
+  pub same : (t : ℕ) → place mid t ≡ place ws t
+  pub long : length mid ≡ count
+
+pub resizes : (n m count len : ℕ) (ws mid : List ℕ) → IsPacked n ws → len ≡ length ws → count ≡ (n + m) / 64 + min 1 ((n + m) % 64) → mid ≡ ws ++ replicate (count - len) 0 → Resizes ws mid count
+resizes n m count len ws mid packed e f g =
+    let enough : length ws ≤ count = omega (arith, packed.above, f) in
+    let h : mid ≡ take count ws ++ replicate (count - length ws) 0 =
+    g ∙ ap (λ k. ws ++ replicate (count - k) 0) e ∙ ap (λ (l : List ℕ). l ++ replicate (count - length ws) 0) (sym (take_all count ws enough)) in
+    record {
+      same = λ t. ap (λ (vs : List ℕ). place vs t) h ∙ place-resized ws count t enough;
+      long = ap length h ∙ length-resized ws count enough;
+    }
+
+-- the words' new list of bits, and that they are packed
+pub joined-packed : (n m count : ℕ) (ws vs mid new : List ℕ) → IsPacked n ws → IsPacked m vs → n + m ≤ 2 ^ 24 → count ≡ (n + m) / 64 + min 1 ((n + m) % 64) → length mid ≡ count → Joins n mid vs new (length vs) → IsPacked (n + m) new
+joined-packed n m count ws vs mid new old more short e long joins = record {
+  short = short;
+  above = omega (arith, e, long, joins.long);
+  below = omega (arith, e, long, joins.long);
+  clear = λ t h.
+      let k : n + (t - n) ≡ t = omega (arith, h) in
+      sym (ap (place new) k) ∙ elim (cases_lt (t - n) (64 * length vs)) [
+        | inl within ↦ joins.within (t - n) within ∙ more.clear (t - n) (omega (arith, h))
+        | inr past ↦ joins.after (t - n) past
+      ];
+}
+
+pub joined-items : (n m : ℕ) (ws vs mid new : List ℕ) → IsPacked m vs → ((t : ℕ) → place mid t ≡ place ws t) → Joins n mid vs new (length vs) → unpacked (n + m) new ≡ unpacked n ws ++ unpacked m vs
+joined-items n m ws vs mid new more same joins =
+    unpacked-is (n + m) new (unpacked n ws ++ unpacked m vs) (length-append (unpacked n ws) (unpacked m vs) ∙ omega (arith, length-unpacked n ws, length-unpacked m vs))
+    (λ t h. elim (cases_lt t n) [
+      | inl low ↦ ap (λ k. k == 1) (joins.before t low ∙ same t) ∙ sym (bit-within n ws t low) ∙ sym (get_or_append_left (unpacked n ws) (unpacked m vs) false t (omega (arith, low, length-unpacked n ws)))
+      | inr high ↦
+          let k : n + (t - n) ≡ t = omega (arith, high) in
+          ap (λ p. p == 1) (sym (ap (place new) k) ∙ joins.within (t - n) (omega (arith, h, high, more.below))) ∙ sym (bit-within m vs (t - n) (omega (arith, h, high))) ∙ sym (get_or-append_right (unpacked n ws) (unpacked m vs) n t false (length-unpacked n ws) high)
+    ])

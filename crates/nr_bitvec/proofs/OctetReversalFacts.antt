@@ -1,0 +1,154 @@
+-- Words whose octets are turned over, and words of octets.
+use Rattle.std.proofs.Common.{◌≡◌, ℕ, ◌+◌, ◌-◌, ◌*◌, ◌/◌, ◌%◌, ◌^◌, ◌<◌, ◌≤◌, ◌==◌, inl, inr, if◌then◌else◌, Bool, true, false, ◌&&◌, ◌||◌, nat_lt, nat_le, min, max, List, length, get_or, refl, ap, sym, ◌∙◌, arith}
+use Rattle.std.proofs.lemmas.Bool.{cases_lt, and_parts, or_cases, ltb-true, leb-true, eqb-true, agree_below, agree_below_at}
+use Rattle.std.proofs.lemmas.List.{get_or_past}
+use Rattle.std.proofs.lemmas.Nat.Bits.{bit_at-lt, bit_at-zero, bit_at_above, bit_at_and, bit_at_or}
+use Rattle.std.proofs.lemmas.Nat.{be_bytes_8, le_bytes_8}
+use Rattle.std.specs.Int.{bit_at, from_le_bytes, swap_bytes, to_le_bytes, w64}
+use Rattle.std.specs.Int.RustNames.{bit_and, bit_or}
+use Rattle.nr_bitvec.specs.PackedInside.{moved, octet_place}
+use Rattle.nr_bitvec.proofs.BitFacts.{bit_at_shr, bit_at_shl_low, bit_at_shl_high, bit_at_mod, bit_at_mod_above}
+use Rattle.nr_bitvec.proofs.AddedBitFacts.{moved_below, moved_from, moved_up}
+use Rattle.nr_bitvec.proofs.PushedWordFacts.{be-octet, le-octet, octet-bit, small-octet}
+
+-- ---- runs of places, swapped
+
+-- a word whose masked places and those `by` above them are swapped
+pub swapped-place : (w m by j : ℕ) → by < 64 → j < 64
+    → bit_at (bit_or (bit_and (w / 2 ^ by) m) (bit_and w m * 2 ^ by % 2 ^ 64)) j ≡ max (min (bit_at w (by + j)) (bit_at m j)) (moved by (bit_and w m) j)
+swapped-place w m by j h b =
+    let down : bit_at (bit_and (w / 2 ^ by) m) j ≡ min (bit_at w (by + j)) (bit_at m j) = bit_at_and (w / 2 ^ by) m j ∙ ap (λ k. min k (bit_at m j)) (bit_at_shr w by j) in
+    let up : bit_at (bit_and w m * 2 ^ by % 2 ^ 64) j ≡ moved by (bit_and w m) j = moved_up (bit_and w m) by 0 by j j (omega arith) h (omega arith) b in
+    bit_at_or (bit_and (w / 2 ^ by) m) (bit_and w m * 2 ^ by % 2 ^ 64) j ∙ ap (λ k. max k (bit_at (bit_and w m * 2 ^ by % 2 ^ 64) j)) down ∙ ap (λ k. max (min (bit_at w (by + j)) (bit_at m j)) k) up
+
+-- the place that place j is swapped with, in runs of `by` places
+abbrev pub partner : ℕ → ℕ → ℕ
+partner by j = if j / by % 2 == 0 then by + j else j - by
+
+-- what a mask has to have at place j, where the place is swapped with one above it or with one below it
+abbrev upper : ℕ → ℕ → ℕ → Bool
+upper by m j = bit_at m j == 1 && (nat_lt j by || bit_at m (j - by) == 0)
+
+abbrev lower : ℕ → ℕ → ℕ → Bool
+lower by m j = bit_at m j == 0 && (nat_le by j && bit_at m (j - by) == 1)
+
+abbrev masks : ℕ → ℕ → ℕ → Bool
+masks by m j = if j / by % 2 == 0 then upper by m j else lower by m j
+
+-- nothing is moved up to a place above one that the mask does not have
+moved-masked : (w m by j : ℕ) → bit_at m (j - by) ≡ 0 → moved by (bit_and w m) j ≡ 0
+moved-masked w m by j e =
+    elim (cases_lt j by) [
+      | inl low ↦ moved_below by (bit_and w m) j low
+      | inr high ↦ omega (arith, e, moved_from by (bit_and w m) j high, bit_at_and w m (j - by), bit_at-lt w (j - by))
+    ]
+
+swapped-partner_at : (b : Bool) (by m w r j : ℕ) → (if b then upper by m j else lower by m j) ≡ true
+    → bit_at r j ≡ max (min (bit_at w (by + j)) (bit_at m j)) (moved by (bit_and w m) j) → bit_at r j ≡ bit_at w (if b then by + j else j - by)
+swapped-partner_at true by m w r j g h =
+    let parts : (bit_at m j == 1) ≡ true × (nat_lt j by || bit_at m (j - by) == 0) ≡ true = and_parts (bit_at m j == 1) (nat_lt j by || bit_at m (j - by) == 0) g in
+    let one : bit_at m j ≡ 1 = eqb-true (bit_at m j) 1 parts.0 in
+    let none : moved by (bit_and w m) j ≡ 0 =
+    elim (or_cases (nat_lt j by) (bit_at m (j - by) == 0) parts.1) [
+      | inl low ↦ moved_below by (bit_and w m) j (ltb-true j by low)
+      | inr zero ↦ moved-masked w m by j (eqb-true (bit_at m (j - by)) 0 zero)
+    ] in
+    omega (arith, h, one, none, bit_at-lt w (by + j))
+swapped-partner_at false by m w r j g h =
+    let parts : (bit_at m j == 0) ≡ true × (nat_le by j && bit_at m (j - by) == 1) ≡ true = and_parts (bit_at m j == 0) (nat_le by j && bit_at m (j - by) == 1) g in
+    let more : (nat_le by j) ≡ true × (bit_at m (j - by) == 1) ≡ true = and_parts (nat_le by j) (bit_at m (j - by) == 1) parts.1 in
+    let zero : bit_at m j ≡ 0 = eqb-true (bit_at m j) 0 parts.0 in
+    let one : bit_at m (j - by) ≡ 1 = eqb-true (bit_at m (j - by)) 1 more.1 in
+    omega (arith, h, zero, one, moved_from by (bit_and w m) j (leb-true by j more.0), bit_at_and w m (j - by), bit_at-lt w (j - by))
+
+swapped-partner : (by m w r : ℕ) → agree_below (masks by m) (λ _. true) 64 ≡ true
+    → ((j : ℕ) → j < 64 → bit_at r j ≡ max (min (bit_at w (by + j)) (bit_at m j)) (moved by (bit_and w m) j)) → (j : ℕ) → j < 64 → bit_at r j ≡ bit_at w (partner by j)
+swapped-partner by m w r all swaps j h =
+    swapped-partner_at (j / by % 2 == 0) by m w r j (agree_below_at (masks by m) (λ _. true) 64 j all h) (swaps j h)
+
+-- three swaps turn an octet over
+abbrev whole : ℕ → Bool
+whole j = nat_lt (partner 4 j) 64 && (nat_lt (partner 2 (partner 4 j)) 64 && partner 1 (partner 2 (partner 4 j)) == 8 * (j / 8) + (7 - j % 8))
+
+pub turned-place : (w p f r : ℕ)
+    → ((j : ℕ) → j < 64 → bit_at p j ≡ max (min (bit_at w (1 + j)) (bit_at 0x5555555555555555 j)) (moved 1 (bit_and w 0x5555555555555555) j))
+    → ((j : ℕ) → j < 64 → bit_at f j ≡ max (min (bit_at p (2 + j)) (bit_at 0x3333333333333333 j)) (moved 2 (bit_and p 0x3333333333333333) j))
+    → ((j : ℕ) → j < 64 → bit_at r j ≡ max (min (bit_at f (4 + j)) (bit_at 0x0f0f0f0f0f0f0f0f j)) (moved 4 (bit_and f 0x0f0f0f0f0f0f0f0f) j))
+    → (j : ℕ) → j < 64 → bit_at r j ≡ bit_at w (8 * (j / 8) + (7 - j % 8))
+turned-place w p f r pairs fours eights j h =
+    let all : whole j ≡ true = agree_below_at whole (λ _. true) 64 j refl h in
+    let first : (nat_lt (partner 4 j) 64) ≡ true × (nat_lt (partner 2 (partner 4 j)) 64 && partner 1 (partner 2 (partner 4 j)) == 8 * (j / 8) + (7 - j % 8)) ≡ true = and_parts (nat_lt (partner 4 j) 64) (nat_lt (partner 2 (partner 4 j)) 64 && partner 1 (partner 2 (partner 4 j)) == 8 * (j / 8) + (7 - j % 8)) all in
+    let rest : (nat_lt (partner 2 (partner 4 j)) 64) ≡ true × (partner 1 (partner 2 (partner 4 j)) == 8 * (j / 8) + (7 - j % 8)) ≡ true = and_parts (nat_lt (partner 2 (partner 4 j)) 64) (partner 1 (partner 2 (partner 4 j)) == 8 * (j / 8) + (7 - j % 8)) first.1 in
+    swapped-partner 4 0x0f0f0f0f0f0f0f0f f r refl eights j h
+    ∙ swapped-partner 2 0x3333333333333333 p f refl fours (partner 4 j) (ltb-true (partner 4 j) 64 first.0)
+    ∙ swapped-partner 1 0x5555555555555555 w p refl pairs (partner 2 (partner 4 j)) (ltb-true (partner 2 (partner 4 j)) 64 rest.0)
+    ∙ ap (bit_at w) (eqb-true (partner 1 (partner 2 (partner 4 j))) (8 * (j / 8) + (7 - j % 8)) rest.1)
+
+-- ---- octets in the other order, each of them turned over
+
+pub reversed-place : (w o r : ℕ) → o ≡ swap_bytes w64 w → ((j : ℕ) → j < 64 → bit_at r j ≡ bit_at o (8 * (j / 8) + (7 - j % 8))) → (j : ℕ) → j < 64 → bit_at r j ≡ bit_at w (63 - j)
+reversed-place w o r swaps turns j h =
+    let k = 7 - j / 8 in
+    let low : 7 - j % 8 < 8 = omega arith in
+    let small : (i : ℕ) → get_or (to_le_bytes w64 w) i 0 < 256 = small-octet w in
+    let octet : o / 2 ^ (8 * (7 - k)) % 2 ^ 8 ≡ w / 2 ^ (8 * k) % 2 ^ 8 =
+    sym (be-octet o k (omega arith)) ∙ ap (λ os. get_or os k 0) (be_bytes_8 (to_le_bytes w64 w) o refl small swaps) ∙ le-octet w k (omega arith) in
+    let here : 8 * (j / 8) + (7 - j % 8) ≡ 8 * (7 - k) + (7 - j % 8) = omega (arith, h) in
+    let there : 8 * k + (7 - j % 8) ≡ 63 - j = omega (arith, h) in
+    turns j h ∙ ap (bit_at o) here ∙ sym (octet-bit o (7 - k) (7 - j % 8) low) ∙ ap (λ b. bit_at b (7 - j % 8)) octet ∙ octet-bit w k (7 - j % 8) low ∙ ap (bit_at w) there
+
+-- ---- one octet after another makes a word
+
+-- the first i octets stand in the word, each with its lowest bit lowest, and nothing above them
+pub record Gathers (group : List ℕ) (word i : ℕ) : Type 0 where
+  pub below : (j : ℕ) → j < 8 * i → bit_at word j ≡ bit_at (get_or group (j / 8) 0) (j % 8)
+  pub above : (j : ℕ) → 8 * i ≤ j → bit_at word j ≡ 0
+
+pub gathers_none : (group : List ℕ) → Gathers group 0 0
+gathers_none group = record { below = λ j h. absurd (omega (arith, h)); above = λ j h. bit_at-zero j }
+
+-- the bits of the octet that is added
+added-above : (o i j : ℕ) → o < 2 ^ 8 → 8 * i + 8 ≤ j → bit_at (o * 2 ^ (8 * i) % 2 ^ 64) j ≡ 0
+added-above o i j fits h =
+    elim (cases_lt j 64) [
+      | inl low ↦ bit_at_mod (o * 2 ^ (8 * i)) 64 j low ∙ bit_at_shl_high o (8 * i) j (omega (arith, h)) ∙ bit_at_above o 8 (j - 8 * i) fits (omega (arith, h))
+      | inr high ↦ bit_at_mod_above (o * 2 ^ (8 * i)) 64 j high
+    ]
+
+pub gathers_more : (group : List ℕ) (word next o i : ℕ) → i < 8 → o ≡ get_or group i 0 → o < 2 ^ 8 → next ≡ bit_or word (o * 2 ^ (8 * i) % 2 ^ 64) → Gathers group word i → Gathers group next (i + 1)
+gathers_more group word next o i few read fits e gathers =
+    let split : (j : ℕ) → bit_at next j ≡ max (bit_at word j) (bit_at (o * 2 ^ (8 * i) % 2 ^ 64) j) = λ j. ap (λ k. bit_at k j) e ∙ bit_at_or word (o * 2 ^ (8 * i) % 2 ^ 64) j in
+    record {
+      below = λ j h. elim (cases_lt j (8 * i)) [
+        | inl old ↦
+            let zero : bit_at (o * 2 ^ (8 * i) % 2 ^ 64) j ≡ 0 = bit_at_mod (o * 2 ^ (8 * i)) 64 j (omega (arith, old, few)) ∙ bit_at_shl_low o (8 * i) j old in
+            omega (arith, split j, zero, gathers.below j old)
+        | inr new ↦
+            let m : bit_at (o * 2 ^ (8 * i) % 2 ^ 64) j ≡ bit_at o (j - 8 * i) = bit_at_mod (o * 2 ^ (8 * i)) 64 j (omega (arith, h, few)) ∙ bit_at_shl_high o (8 * i) j new in
+            let q : i ≡ j / 8 = omega (arith, h, new) in
+            let r : j - 8 * i ≡ j % 8 = omega (arith, h, new) in
+            let here : bit_at o (j - 8 * i) ≡ bit_at (get_or group (j / 8) 0) (j % 8) = ap (bit_at o) r ∙ ap (λ k. bit_at k (j % 8)) (read ∙ ap (λ k. get_or group k 0) q) in
+            omega (arith, split j, m, here, gathers.above j new)
+      ];
+      above = λ j h. omega (arith, split j, added-above o i j fits (omega (arith, h)), gathers.above j (omega (arith, h)));
+    }
+
+-- eight octets are gathered by one load
+pub gathers_eight : (group : List ℕ) (word : ℕ) → length group ≡ 8 → ((i : ℕ) → get_or group i 0 < 256) → word < 2 ^ 64 → word ≡ from_le_bytes w64 group → Gathers group word 8
+gathers_eight group word eight small fits read = record {
+  below = λ j h.
+      let k : 8 * (j / 8) + j % 8 ≡ j = omega arith in
+      ap (bit_at word) (sym k) ∙ sym (bit_at_shr word (8 * (j / 8)) (j % 8)) ∙ sym (bit_at_mod (word / 2 ^ (8 * (j / 8))) 8 (j % 8) (omega arith))
+      ∙ ap (λ o. bit_at o (j % 8)) (sym (le-octet word (j / 8) (omega (arith, h)))) ∙ ap (λ os. bit_at (get_or os (j / 8) 0) (j % 8)) (le_bytes_8 group word eight small read);
+  above = λ j h. bit_at_above word 64 j fits (omega (arith, h));
+}
+
+-- the gathered octets, turned over, have the places of the octets
+pub gathers_all : (group : List ℕ) (word r i : ℕ) → length group ≤ i → Gathers group word i → ((j : ℕ) → j < 64 → bit_at r j ≡ bit_at word (8 * (j / 8) + (7 - j % 8))) → (j : ℕ) → j < 64 → bit_at r j ≡ octet_place group j
+gathers_all group word r i all gathers turns j h =
+    let q : (8 * (j / 8) + (7 - j % 8)) / 8 ≡ j / 8 = omega arith in
+    let m : (8 * (j / 8) + (7 - j % 8)) % 8 ≡ 7 - j % 8 = omega arith in
+    turns j h ∙ elim (cases_lt (8 * (j / 8) + (7 - j % 8)) (8 * i)) [
+      | inl within ↦ gathers.below (8 * (j / 8) + (7 - j % 8)) within ∙ ap (λ k. bit_at (get_or group k 0) ((8 * (j / 8) + (7 - j % 8)) % 8)) q ∙ ap (bit_at (get_or group (j / 8) 0)) m
+      | inr past ↦ gathers.above (8 * (j / 8) + (7 - j % 8)) past ∙ sym (bit_at-zero (7 - j % 8)) ∙ sym (ap (λ k. bit_at k (7 - j % 8)) (get_or_past group (j / 8) 0 (omega (arith, past, all))))
+    ]

@@ -1,0 +1,176 @@
+-- Lists of bits over packed words: what each change of the words makes of the list, and that the words stay packed.
+use Rattle.std.proofs.Common.{◌≡◌, ℕ, ◌+◌, ◌-◌, ◌*◌, ◌/◌, ◌%◌, ◌^◌, ◌<◌, ◌≤◌, ◌==◌, inl, inr, Bool, true, false, List, [], ◌∷◌, ◌++◌, length, get_or, set, refl, ap, sym, ◌∙◌, arith, length-append, length-set, get_or-set_same, get_or-set_other}
+use Rattle.std.proofs.lemmas.Bool.{cases_lt, cases_eq}
+use Rattle.std.proofs.lemmas.List.{get_or_append_left, get_or-append_right}
+use Rattle.std.proofs.lemmas.List.FromFn.{length-map-range_with_len, get_or-map-range_with_len}
+use Rattle.std.proofs.lemmas.Nat.Bits.{bit_at-lt, bit_at_xor, shr_and_one}
+use Rattle.std.specs.Int.{bit_at, from_bool}
+use Rattle.std.specs.Int.RustNames.{bit_and, bit_xor}
+use Rattle.nr_bitvec.specs.Bit.{bit}
+use Rattle.nr_bitvec.specs.BitList.{low_first}
+use Rattle.nr_bitvec.specs.Packed.{place, IsClear, unpacked}
+use Rattle.nr_bitvec.specs.PackedInside.{moved, IsPacked, HasPlaces, Changes}
+use Rattle.nr_bitvec.proofs.PlaceFacts.{length-unpacked, bit-place, same_from_bits}
+use Rattle.nr_bitvec.proofs.AddedBitFacts.{moved_below, moved_from, kept}
+
+-- a list that has n bits, each of them the place of the words, is their view
+pub unpacked-is : (n : ℕ) (ws : List ℕ) (items : List Bool) → length items ≡ n → ((t : ℕ) → t < n → (place ws t == 1) ≡ bit items t) → unpacked n ws ≡ items
+unpacked-is n ws items e same =
+    same_from_bits (unpacked n ws) items (length-unpacked n ws ∙ sym e)
+    (λ t h. let b : t < n = omega (arith, h, length-unpacked n ws) in get_or-map-range_with_len (λ u. place ws u == 1) 0 n t t false b (omega arith) ∙ same t b)
+
+-- the first bits of a word
+pub length-low_first : (n word : ℕ) → length (low_first n word) ≡ n
+unfolding low_first
+length-low_first n word = length-map-range_with_len (λ j. bit_at word j == 1) 0 n
+
+pub bit-low_first : (n word j : ℕ) → j < n → bit (low_first n word) j ≡ (bit_at word j == 1)
+unfolding low_first
+bit-low_first n word j h = get_or-map-range_with_len (λ k. bit_at word k == 1) 0 n j j false h (omega arith)
+
+-- one bit is the first of its number
+pub low_first-bool : (b : Bool) → low_first 1 (from_bool b) ≡ b ∷ []
+unfolding low_first
+low_first-bool true = refl
+low_first-bool false = refl
+
+-- a bit below the length
+pub bit-within : (n : ℕ) (ws : List ℕ) (t : ℕ) → t < n → bit (unpacked n ws) t ≡ (place ws t == 1)
+bit-within n ws t h = get_or-map-range_with_len (λ u. place ws u == 1) 0 n t t false h (omega arith)
+
+-- a test of one bit of a word
+pub get-place : (n : ℕ) (ws : List ℕ) (t m : ℕ) → t < n → m ≡ get_or ws (t / 64) 0 → (bit_and (m / 2 ^ (t % 64)) 1 == 1) ≡ bit (unpacked n ws) t
+get-place n ws t m h e =
+    ap (λ k. k == 1) (shr_and_one m (t % 64)) ∙ ap (λ k. bit_at k (t % 64) == 1) e ∙ sym (bit-within n ws t h)
+
+-- what is read at a window
+pub window-place : (n : ℕ) (ws : List ℕ) (at r j : ℕ) → IsPacked n ws → bit_at r j ≡ place ws (64 * (at / 64) + at % 64 + j) → (bit_at r j == 1) ≡ bit (unpacked n ws) (at + j)
+window-place n ws at r j packed e =
+    let i : 64 * (at / 64) + at % 64 + j ≡ at + j = omega arith in
+    ap (λ k. k == 1) (e ∙ ap (place ws) i) ∙ sym (bit-place n ws (at + j) packed.clear)
+
+-- ---- a word's bits more
+
+-- `low` has the first bits of a word and none after them: no bit goes past the end
+pub word-none : (n count : ℕ) (mid ws : List ℕ) (low j : ℕ) → HasPlaces n count mid ws → ((k : ℕ) → count ≤ k → bit_at low k ≡ 0) → 64 * length mid ≤ n + j → bit_at low j ≡ 0
+word-none n count mid ws low j has high h = high j (omega (arith, has.below, h))
+
+-- the places of the new words, below place n and from it on
+word-below : (n count : ℕ) (mid ws new : List ℕ) (low t : ℕ) → HasPlaces n count mid ws → place new t ≡ (place mid t + moved n low t) % 2 → t < n → place new t ≡ place ws t
+word-below n count mid ws new low t has e h = e ∙ sym (kept mid n low t (moved_below n low t h)) ∙ has.same t
+
+word-from : (n count : ℕ) (mid ws new : List ℕ) (low t : ℕ) → IsClear ws n → HasPlaces n count mid ws → place new t ≡ (place mid t + moved n low t) % 2 → n ≤ t → place new t ≡ bit_at low (t - n)
+word-from n count mid ws new low t clear has e h =
+    let added : place new t ≡ (0 + bit_at low (t - n)) % 2 = e ∙ ap (λ k. (k + moved n low t) % 2) (has.same t ∙ clear t h) ∙ ap (λ k. (0 + k) % 2) (moved_from n low t h) in
+    omega (arith, added, bit_at-lt low (t - n))
+
+pub word-items : (n count : ℕ) (mid ws new : List ℕ) (word low : ℕ) → IsPacked n ws → HasPlaces n count mid ws → ((j : ℕ) → j < count → bit_at low j ≡ bit_at word j)
+    → ((t : ℕ) → place new t ≡ (place mid t + moved n low t) % 2) → unpacked (n + count) new ≡ unpacked n ws ++ low_first count word
+word-items n count mid ws new word low packed has same flips =
+    unpacked-is (n + count) new (unpacked n ws ++ low_first count word) (length-append (unpacked n ws) (low_first count word) ∙ omega (arith, length-unpacked n ws, length-low_first count word))
+    (λ t h. elim (cases_lt t n) [
+      | inl old ↦ ap (λ k. k == 1) (word-below n count mid ws new low t has (flips t) old) ∙ sym (bit-within n ws t old) ∙ sym (get_or_append_left (unpacked n ws) (low_first count word) false t (omega (arith, old, length-unpacked n ws)))
+      | inr here ↦
+          let within : t - n < count = omega (arith, h, here) in
+          ap (λ k. k == 1) (word-from n count mid ws new low t packed.clear has (flips t) here ∙ same (t - n) within) ∙ sym (bit-low_first count word (t - n) within)
+          ∙ sym (get_or-append_right (unpacked n ws) (low_first count word) n t false (length-unpacked n ws) here)
+    ])
+
+pub word-packed : (n count : ℕ) (mid ws new : List ℕ) (low : ℕ) → n + count ≤ 2 ^ 24 → IsPacked n ws → HasPlaces n count mid ws → ((j : ℕ) → count ≤ j → bit_at low j ≡ 0) → length new ≡ length mid
+    → ((t : ℕ) → place new t ≡ (place mid t + moved n low t) % 2) → IsPacked (n + count) new
+word-packed n count mid ws new low short packed has high long flips = record {
+  short = short;
+  above = omega (arith, has.above, long);
+  below = omega (arith, has.below, long);
+  clear = λ t h. word-from n count mid ws new low t packed.clear has (flips t) (omega (arith, h)) ∙ high (t - n) (omega (arith, h));
+}
+
+-- ---- bits put in their places
+
+-- by what was there
+pub changes-from : (ws : List ℕ) (at count n window change : ℕ) → count ≤ 64 → ((j : ℕ) → j < 64 → bit_at window j ≡ place ws (64 * (at / 64) + at % 64 + j))
+    → ((j : ℕ) → j < count → bit_at change j ≡ bit_at (bit_xor window n) j) → ((j : ℕ) → count ≤ j → bit_at change j ≡ 0) → Changes ws at count n change
+changes-from ws at count n window change few read low high = record {
+  low = λ j h.
+      let i : 64 * (at / 64) + at % 64 + j ≡ at + j = omega arith in
+      low j h ∙ bit_at_xor window n j ∙ ap (λ k. (k + bit_at n j) % 2) (read j (omega (arith, h, few)) ∙ ap (place ws) i);
+  high = high;
+}
+
+pub put-none : (n : ℕ) (ws : List ℕ) (at count word change j : ℕ) → IsPacked n ws → at + count ≤ n → Changes ws at count word change → 64 * length ws ≤ at + j → bit_at change j ≡ 0
+put-none n ws at count word change j packed inside changes h = changes.high j (omega (arith, packed.below, inside, h))
+
+put-kept : (ws new : List ℕ) (at change t : ℕ) → place new t ≡ (place ws t + moved at change t) % 2 → moved at change t ≡ 0 → place new t ≡ place ws t
+put-kept ws new at change t e none = e ∙ sym (kept ws at change t none)
+
+put-after_place : (ws new : List ℕ) (at count word change t : ℕ) → Changes ws at count word change → place new t ≡ (place ws t + moved at change t) % 2 → at + count ≤ t → place new t ≡ place ws t
+put-after_place ws new at count word change t changes e h =
+    put-kept ws new at change t e (moved_from at change t (omega (arith, h)) ∙ changes.high (t - at) (omega (arith, h)))
+
+put-packed : (n : ℕ) (ws new : List ℕ) (at count word change : ℕ) → IsPacked n ws → at + count ≤ n → Changes ws at count word change → length new ≡ length ws
+    → ((t : ℕ) → place new t ≡ (place ws t + moved at change t) % 2) → IsPacked n new
+put-packed n ws new at count word change packed inside changes long flips = record {
+  short = packed.short;
+  above = omega (arith, packed.above, long);
+  below = omega (arith, packed.below, long);
+  clear = λ t h. put-after_place ws new at count word change t changes (flips t) (omega (arith, inside, h)) ∙ packed.clear t h;
+}
+
+-- a bit that is added twice
+twice : (p b : ℕ) → p < 2 → b < 2 → (p + (p + b) % 2) % 2 ≡ b
+twice p b h g = omega arith
+
+put-within : (n : ℕ) (ws new : List ℕ) (at count word change t : ℕ) → at + count ≤ n → Changes ws at count word change
+    → ((t : ℕ) → place new t ≡ (place ws t + moved at change t) % 2) → t < count → bit (unpacked n new) (at + t) ≡ (bit_at word t == 1)
+put-within n ws new at count word change t inside changes flips h =
+    let i : at + t - at ≡ t = omega arith in
+    let m : moved at change (at + t) ≡ (place ws (at + t) + bit_at word t) % 2 = moved_from at change (at + t) (omega arith) ∙ ap (bit_at change) i ∙ changes.low t h in
+    bit-within n new (at + t) (omega (arith, inside, h)) ∙ ap (λ k. k == 1) (flips (at + t) ∙ ap (λ k. (place ws (at + t) + k) % 2) m ∙ twice (place ws (at + t)) (bit_at word t) (bit_at-lt (get_or ws ((at + t) / 64) 0) ((at + t) % 64)) (bit_at-lt word t))
+
+put-before : (n : ℕ) (ws new : List ℕ) (at count word change t : ℕ) → IsPacked n ws → IsPacked n new
+    → ((t : ℕ) → place new t ≡ (place ws t + moved at change t) % 2) → t < at → bit (unpacked n new) t ≡ bit (unpacked n ws) t
+put-before n ws new at count word change t old packed flips h =
+    bit-place n new t packed.clear ∙ ap (λ k. k == 1) (put-kept ws new at change t (flips t) (moved_below at change t h)) ∙ sym (bit-place n ws t old.clear)
+
+put-after : (n : ℕ) (ws new : List ℕ) (at count word change t : ℕ) → IsPacked n ws → IsPacked n new → Changes ws at count word change
+    → ((t : ℕ) → place new t ≡ (place ws t + moved at change t) % 2) → at + count ≤ t → bit (unpacked n new) t ≡ bit (unpacked n ws) t
+put-after n ws new at count word change t old packed changes flips h =
+    bit-place n new t packed.clear ∙ ap (λ k. k == 1) (put-after_place ws new at count word change t changes (flips t) h) ∙ sym (bit-place n ws t old.clear)
+
+-- all that a write by `Changes` makes of the list
+pub record Puts (n at count word : ℕ) (ws new : List ℕ) : Type 0 where
+  pub packed : IsPacked n new
+  pub within : (t : ℕ) → t < count → bit (unpacked n new) (at + t) ≡ (bit_at word t == 1)
+  pub before : (t : ℕ) → t < at → bit (unpacked n new) t ≡ bit (unpacked n ws) t
+  pub after : (t : ℕ) → at + count ≤ t → bit (unpacked n new) t ≡ bit (unpacked n ws) t
+
+pub puts : (n : ℕ) (ws new : List ℕ) (at count word change : ℕ) → IsPacked n ws → at + count ≤ n → Changes ws at count word change → length new ≡ length ws
+    → ((t : ℕ) → place new t ≡ (place ws t + moved at change t) % 2) → Puts n at count word ws new
+puts n ws new at count word change old inside changes long flips =
+    let packed : IsPacked n new = put-packed n ws new at count word change old inside changes long flips in
+    record {
+      packed = packed;
+      within = λ t. put-within n ws new at count word change t inside changes flips;
+      before = λ t. put-before n ws new at count word change t old packed flips;
+      after = λ t. put-after n ws new at count word change t old packed changes flips;
+    }
+
+-- the lowest bit of a truth value
+lowest : (b : Bool) → (bit_at (from_bool b) 0 == 1) ≡ b
+lowest true = refl
+lowest false = refl
+
+-- one bit put, as a write of the list
+pub set-items : (old new : List Bool) (i : ℕ) (b : Bool) → i < length old → length new ≡ length old → ((t : ℕ) → t < 1 → bit new (i + t) ≡ (bit_at (from_bool b) t == 1))
+    → ((t : ℕ) → t < i → bit new t ≡ bit old t) → ((t : ℕ) → i + 1 ≤ t → bit new t ≡ bit old t) → new ≡ set old i b
+set-items old new i b h long within before after =
+    same_from_bits new (set old i b) (long ∙ sym (length-set old i b))
+    (λ t k. elim (cases_eq t i) [
+      | inl here ↦
+          let e : i + 0 ≡ i = omega arith in
+          ap (bit new) here ∙ ap (bit new) (sym e) ∙ within 0 (omega arith) ∙ lowest b ∙ sym (get_or-set_same old i b false h) ∙ ap (bit (set old i b)) (sym here)
+      | inr other ↦ elim (cases_lt t i) [
+        | inl low ↦ before t low ∙ sym (get_or-set_other old i t b false other)
+        | inr high ↦ after t (omega (arith, other, high)) ∙ sym (get_or-set_other old i t b false other)
+      ]
+    ])

@@ -1,0 +1,130 @@
+-- What the closures decide: which transport blocks can explain a list of receptions.
+use Rattle.std.proofs.Common.{◌≡◌, ℕ, zero, suc, ◌+◌, ◌<◌, ◌≤◌, ◌==◌, ◌||◌, Bool, true, false, not, cond, List, ◌∷◌, length, map, get_or, take, refl, sym, ap, subst, ◌∙◌, ⊎_elim, arith}
+use Rattle.std.specs.Prelude.{Option, Some, None, count_by}
+use Rattle.std.specs.List.{range_with_len}
+use Rattle.std.proofs.lemmas.Bool.{cases_eq, eqb-true}
+use Rattle.std.proofs.lemmas.List.{get_or_default, same_lists}
+use Rattle.std.proofs.lemmas.List.Sums.{sum_by-cons}
+use Rattle.std.proofs.Math.Seq.{take-append_seam}
+use Rattle.nr_bitvec.specs.Bit.{bit}
+use Rattle.nr_crcattach.specs.Attachment.{BlocksLengthen, attached, block_poly, attached_length}
+use Rattle.nr_crcattach.specs.Crc.{crc_of, degree, high_first}
+use Rattle.nr_harqbuf.specs.Record.{HeardBits, HasFirsts, first_at, is_heard}
+use Rattle.nr_ldpcenc.specs.Codeword.{IsPlain, filler}
+use Rattle.nr_ldpcenc.specs.Rows.{block_checks}
+use Rattle.nr_peel.specs.Closure.{AgreeOn}
+use Rattle.nr_peel.specs.Laws.{ChecksAreSound, WordsAgreeOnClosure}
+use Rattle.nr_segment.specs.CodeBlock.{CodeBlocksAreLong, JoinUndoesCut, all_code_bits, code_bits, joined}
+use Rattle.nr_blockdesk.specs.Heard.{heard_of, heard_record}
+use Rattle.nr_blockdesk.specs.Link.{IsBlock, IsLink, Link, WordsArePlain, code_bits_of, word}
+use Rattle.nr_blockdesk.specs.Outcome.{all_fixed, fixed, given, left}
+use Rattle.nr_blockdesk.specs.ReceiverLaws.{ExplainersAgree, ExplainsByRecord, OneExplains}
+use Rattle.nr_blockdesk.proofs.RangeTestFacts.{range_each}
+
+-- two words with the first bits of a record, and with zeros for the fillers, agree where something is given
+pub given_agree : (link : Link) (s : HeardBits) (v w : ℕ → Bool) → HasFirsts s v → HasFirsts s w
+    → IsPlain link.table link.graph link.plan v → IsPlain link.table link.graph link.plan w → AgreeOn (given link s) v w
+given_agree link s v w has-v has-w plain-v plain-w p is = go (first_at s p) refl
+  where
+    go : (o : Option Bool) → first_at s p ≡ o → v p ≡ w p
+    go (Some b) e = has-v p b e ∙ sym (has-w p b e)
+    go None e =
+        let filled : filler link.plan.kdash link.plan.k p ≡ true =
+        ap (λ o. is_heard o || filler link.plan.kdash link.plan.k p) (sym e) ∙ is in
+        plain-v.zero p filled ∙ sym (plain-w.zero p filled)
+
+pub explainers-agree : ChecksAreSound → WordsAgreeOnClosure → WordsArePlain → ExplainsByRecord → ExplainersAgree
+explainers-agree sound agree plain by_record link list x y r is accepted whole-x whole-y ex ey inside =
+    let s : HeardBits = heard_of (heard_record link list) r in
+    let by-x = (by_record link list x is accepted whole-x).0 ex r inside in
+    let by-y = (by_record link list y is accepted whole-y).0 ey r inside in
+    let plain-x : IsPlain link.table link.graph link.plan (bit (word link x r)) = (plain link x r is whole-x inside).plain in
+    let plain-y : IsPlain link.table link.graph link.plan (bit (word link y r)) = (plain link y r is whole-y inside).plain in
+    let some : 0 < link.plan.z = subst (λ b. 0 < b.z) is.buffered is.circular.size_some in
+    agree (block_checks link.table link.graph link.plan) (given link s) (bit (word link x r)) (bit (word link y r))
+    (sound link.table link.graph link.plan is.table some) plain-x.meets plain-y.meets
+    (given_agree link s (bit (word link x r)) (bit (word link y r)) by-x.1 by-y.1 plain-x plain-y)
+
+first-none : (b : Bool) (k : ℕ) → cond b 1 0 + k ≡ 0 → b ≡ false
+first-none true k e = absurd (omega (arith, e))
+first-none false k e = refl
+
+rest-none : (b : Bool) (k : ℕ) → cond b 1 0 + k ≡ 0 → k ≡ 0
+rest-none true k e = absurd (omega (arith, e))
+rest-none false k e = omega (arith, e)
+
+count_none : (t : ℕ → Bool) (a n : ℕ) → count_by t (range_with_len a n) ≡ 0 → (m : ℕ) → a ≤ m → m < a + n → t m ≡ false
+count_none t a zero none m low high = absurd (omega arith)
+count_none t a (suc n) none m low high =
+    let sum : cond (t a) 1 0 + count_by t (range_with_len (a + 1) n) ≡ 0 =
+    sym (sum_by-cons (λ x. cond (t x) 1 0) a (range_with_len (a + 1) n)) ∙ none in
+    ⊎_elim (λ here. ap t here ∙ first-none (t a) _ sum)
+    (λ there. count_none t (a + 1) n (rest-none (t a) _ sum) m (omega arith) (omega arith)) (cases_eq m a)
+
+not-false : (b : Bool) → not b ≡ false → b ≡ true
+not-false true e = refl
+not-false false e = cc e
+
+-- where all are fixed, each position below K' is
+pub every_fixed : (link : Link) (records : List HeardBits) → all_fixed link records ≡ true → (r : ℕ) → r < link.plan.c
+    → (p : ℕ) → p < link.plan.kdash → fixed link (heard_of records r) p ≡ true
+every_fixed link records all r inside p low =
+    let zero-left : left link records r ≡ 0 =
+    eqb-true (left link records r) 0 (range_each (λ k. left link records k == 0) 0 link.plan.c all r (omega arith) (omega arith)) in
+    not-false (fixed link (heard_of records r) p)
+    (count_none (λ k. not (fixed link (heard_of records r) k)) 0 link.plan.kdash zero-left p (omega arith) (omega arith))
+
+map-same : {X : Type 0} (f g : ℕ → X) (a n : ℕ) → ((m : ℕ) → a ≤ m → m < a + n → f m ≡ g m) → map f (range_with_len a n) ≡ map g (range_with_len a n)
+map-same f g a zero each = refl
+map-same f g a (suc n) each =
+    let first : f a ≡ g a = each a (omega arith) (omega arith) in
+    let rest = map-same f g (a + 1) n (λ m low high. each m (omega arith) (omega arith)) in
+    ap (λ x. x ∷ map f (range_with_len (a + 1) n)) first ∙ ap (λ xs. g a ∷ xs) rest
+
+-- transport blocks whose code blocks are the same are the same
+pub blocks_make : BlocksLengthen → JoinUndoesCut → (link : Link) (x y : List Bool) → IsLink link
+    → IsBlock link x → IsBlock link y → ((r : ℕ) → r < link.plan.c → code_bits_of link x r ≡ code_bits_of link y r) → x ≡ y
+blocks_make blocks joins link x y is whole-x whole-y each =
+    let long-x : length (attached x) ≡ attached_length link.a = blocks x ∙ ap attached_length whole-x in
+    let long-y : length (attached y) ≡ attached_length link.a = blocks y ∙ ap attached_length whole-y in
+    let blocks : all_code_bits link.plan (attached x) ≡ all_code_bits link.plan (attached y) =
+    map-same (code_bits link.plan (attached x)) (code_bits link.plan (attached y)) 0 link.plan.c (λ r low high. each r (omega arith)) in
+    let all : attached x ≡ attached y =
+    sym (joins link.graph (attached_length link.a) link.plan (attached x) is.planned long-x)
+    ∙ ap (joined link.plan) blocks
+    ∙ joins link.graph (attached_length link.a) link.plan (attached y) is.planned long-y in
+    sym (begins x) ∙ ap (λ n. take n (attached x)) (whole-x ∙ sym whole-y) ∙ ap (take (length y)) all ∙ begins y
+  where
+    begins : (block : List Bool) → take (length block) (attached block) ≡ block
+    begins block = take-append_seam block (high_first (degree (block_poly block)) (crc_of (block_poly block) block))
+
+-- transport blocks whose words agree below K' are the same
+pub words_make : BlocksLengthen → JoinUndoesCut → CodeBlocksAreLong → WordsArePlain → (link : Link)
+    (x y : List Bool) → IsLink link → IsBlock link x → IsBlock link y
+    → ((r p : ℕ) → r < link.plan.c → p < link.plan.kdash → bit (word link x r) p ≡ bit (word link y r) p) → x ≡ y
+words_make blocks joins codes plain link x y is whole-x whole-y same = blocks_make blocks joins link x y is whole-x whole-y each
+  where
+    kept : (block : List Bool) (r : ℕ) → IsBlock link block → r < link.plan.c → length (code_bits_of link block r) ≡ link.plan.kdash
+    kept block r whole inside =
+        codes link.graph (attached_length link.a) link.plan (attached block) r is.planned
+        (blocks block ∙ ap attached_length whole) inside
+
+    each : (r : ℕ) → r < link.plan.c → code_bits_of link x r ≡ code_bits_of link y r
+    each r inside = same_lists (code_bits_of link x r) (code_bits_of link y r) (kept x r whole-x inside ∙ sym (kept y r whole-y inside)) at
+      where
+        at : (k : ℕ) (d : Bool) → k < length (code_bits_of link x r) → get_or (code_bits_of link x r) k d ≡ get_or (code_bits_of link y r) k d
+        at k d low =
+            let below : k < link.plan.kdash = subst (λ n. k < n) (kept x r whole-x inside) low in
+            let low-y : k < length (code_bits_of link y r) = subst (λ n. k < n) (sym (kept y r whole-y inside)) below in
+            get_or_default (code_bits_of link x r) k d false low
+            ∙ sym ((plain link x r is whole-x inside).begins k below)
+            ∙ same r k inside below
+            ∙ (plain link y r is whole-y inside).begins k below
+            ∙ get_or_default (code_bits_of link y r) k false d low-y
+
+pub one-explains : BlocksLengthen → JoinUndoesCut → CodeBlocksAreLong → WordsArePlain
+    → ExplainersAgree → OneExplains
+one-explains blocks joins codes plain agree link list x y is accepted whole-x whole-y ex ey all =
+    words_make blocks joins codes plain link x y is whole-x whole-y
+    (λ r p inside low. agree link list x y r is accepted whole-x whole-y ex ey inside p
+    (every_fixed link (heard_record link list) all r inside p low))

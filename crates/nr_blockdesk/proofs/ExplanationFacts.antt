@@ -1,0 +1,121 @@
+-- Which transport blocks explain a list of receptions, seen code block by code block.
+use Rattle.std.proofs.Common.{◌≡◌, ℕ, suc, ◌+◌, ◌<◌, ◌≤◌, ◌==◌, Bool, true, false, cond, List, [], ◌∷◌, length, All, refl, sym, ap, ◌∙◌, arith}
+use Rattle.std.specs.Prelude.{Option, Some, None, option_map}
+use Rattle.std.specs.Bool.{beq}
+use Rattle.std.specs.List.{filter_map, list_all, range_with_len}
+use Rattle.std.proofs.lemmas.Bool.{and_from, and_parts, eqb-true, eq-eqb}
+use Rattle.nr_bitvec.specs.Bit.{bit}
+use Rattle.nr_harqbuf.specs.Record.{Observation}
+use Rattle.nr_blockdesk.specs.Explains.{Explains, Reception, agrees, all_agree, explains, heard_at}
+use Rattle.nr_blockdesk.specs.Heard.{hearing_at, hearings, hearings_in}
+use Rattle.nr_blockdesk.specs.Hearing.{heard_bit}
+use Rattle.nr_blockdesk.specs.Link.{Link}
+use Rattle.nr_blockdesk.specs.Sent.{RateMatching, block_at, matching, position_at, sent}
+use Rattle.nr_blockdesk.specs.declared.heard.Heard.{Heard}
+use Rattle.nr_blockdesk.specs.declared.heard.Heard.TheVariants as heard
+use Rattle.nr_blockdesk.proofs.RangeTestFacts.{flat_all, given_all, holds_if, range_all, range_each}
+
+-- a word's bits are those of a hearing
+abbrev pub fits : (ℕ → Bool) → Observation → Bool
+fits w h = beq (w h.0) h.1
+
+agrees-is : (h : Heard) (v : Bool) → agrees h v ≡ holds_if (λ b. beq v b) (heard_bit h)
+agrees-is heard.Zero true = refl
+agrees-is heard.Zero false = refl
+agrees-is heard.One true = refl
+agrees-is heard.One false = refl
+agrees-is heard.Erased v = refl
+
+own : (w : ℕ → Bool) (p : ℕ) (o : Option Bool) → holds_if (fits w) (option_map (λ b. (p, b)) o) ≡ holds_if (λ b. beq (w p) b) o
+own w p None = refl
+own w p (Some b) = refl
+
+-- what a place tells of code block r fits its word, where the place agrees with the word of its own code block q
+place-tells : (w : ℕ → ℕ → Bool) (q r p : ℕ) (h : Heard) → agrees h (w q p) ≡ true
+    → holds_if (fits (w r)) (cond (q == r) (option_map (λ b. (p, b)) (heard_bit h)) None) ≡ true
+place-tells w q r p h true-there = go (q == r) refl
+  where
+    go : (b : Bool) → (q == r) ≡ b → holds_if (fits (w r)) (cond b (option_map (λ v. (p, v)) (heard_bit h)) None) ≡ true
+    go false e = refl
+    go true e =
+        let same : q ≡ r = eqb-true q r e in
+        own (w r) p (heard_bit h) ∙ sym (agrees-is h (w r p)) ∙ ap (λ k. agrees h (w k p)) (sym same) ∙ true-there
+
+place-part_masks : (w : ℕ → ℕ → Bool) (q p : ℕ) (h : Heard)
+    → holds_if (fits (w q)) (cond (q == q) (option_map (λ b. (p, b)) (heard_bit h)) None) ≡ true → agrees h (w q p) ≡ true
+place-part_masks w q p h fit =
+    let same : (q == q) ≡ true = eq-eqb q q refl in
+    agrees-is h (w q p) ∙ sym (own (w q) p (heard_bit h))
+    ∙ ap (λ b. holds_if (fits (w q)) (cond b (option_map (λ v. (p, v)) (heard_bit h)) None)) (sym same) ∙ fit
+
+-- the bits sent are those of the words
+abbrev pub AreOf : RateMatching → (ℕ → ℕ → Bool) → List Bool → ℕ → Type 0
+AreOf t w bits n = (m : ℕ) → m < n → bit bits m ≡ w (block_at t m) (position_at t m)
+
+-- what a reception tells of each code block
+abbrev pub told_of : RateMatching → List Heard → ℕ → List Observation
+told_of t places r = filter_map (hearing_at t places r) (range_with_len 0 (length places))
+
+pub agree-fits : (t : RateMatching) (places : List Heard) (w : ℕ → ℕ → Bool) (bits : List Bool) → AreOf t w bits (length places)
+    → all_agree places bits ≡ true → (r : ℕ) → list_all (fits (w r)) (told_of t places r) ≡ true
+agree-fits t places w bits are agree r =
+    given_all (hearing_at t places r) (fits (w r)) (range_with_len 0 (length places))
+    ∙ range_all (λ m. holds_if (fits (w r)) (hearing_at t places r m)) 0 (length places) each
+  where
+    each : (m : ℕ) → 0 ≤ m → m < 0 + length places → holds_if (fits (w r)) (hearing_at t places r m) ≡ true
+    each m low high =
+        let inside : m < length places = omega arith in
+        let agreed = range_each (λ k. agrees (heard_at places k) (bit bits k)) 0 (length places) agree m low high in
+        place-tells w (block_at t m) r (position_at t m) (heard_at places m)
+        (ap (agrees (heard_at places m)) (sym (are m inside)) ∙ agreed)
+
+pub fits-agree : (c : ℕ) (t : RateMatching) (places : List Heard) (w : ℕ → ℕ → Bool) (bits : List Bool) → AreOf t w bits (length places)
+    → ((m : ℕ) → m < length places → block_at t m < c)
+    → ((r : ℕ) → r < c → list_all (fits (w r)) (told_of t places r) ≡ true) → all_agree places bits ≡ true
+fits-agree c t places w bits are owned fit =
+    range_all (λ m. agrees (heard_at places m) (bit bits m)) 0 (length places) each
+  where
+    each : (m : ℕ) → 0 ≤ m → m < 0 + length places → agrees (heard_at places m) (bit bits m) ≡ true
+    each m low high =
+        let inside : m < length places = omega arith in
+        let q : ℕ = block_at t m in
+        let all = sym (given_all (hearing_at t places q) (fits (w q)) (range_with_len 0 (length places))) ∙ fit q (owned m inside) in
+        let one = range_each (λ k. holds_if (fits (w q)) (hearing_at t places q k)) 0 (length places) all m low high in
+        ap (agrees (heard_at places m)) (are m inside) ∙ place-part_masks w q (position_at t m) (heard_at places m) one
+
+-- what is true of all is true of the first, and of the others
+pub all-first : {X : Type 0} (P : X → Type 0) (x : X) (xs : List X) → All P (x ∷ xs) → P x
+all-first P x xs all = all 0 x (omega arith)
+
+pub all-others : {X : Type 0} (P : X → Type 0) (x : X) (xs : List X) → All P (x ∷ xs) → All P xs
+all-others P x xs all = λ k d inside. all (suc k) d (omega arith)
+
+-- a list of receptions
+abbrev pub IsOf : Link → (ℕ → ℕ → Bool) → List Bool → Reception → Type 0
+IsOf link w block x = AreOf (matching link x.tx) w (sent link x.tx block) (length x.heard)
+
+abbrev pub IsOwned : Link → Reception → Type 0
+IsOwned link x = (m : ℕ) → m < length x.heard → block_at (matching link x.tx) m < link.plan.c
+
+pub explained-fits : (link : Link) (w : ℕ → ℕ → Bool) (block : List Bool) (list : List Reception) → All (IsOf link w block) list
+    → Explains link list block → (r : ℕ) → list_all (fits (w r)) (hearings link list r) ≡ true
+unfolding hearings hearings_in explains
+explained-fits link w block [] are explained r = refl
+explained-fits link w block (x ∷ xs) are explained r =
+    let both = and_parts (all_agree x.heard (sent link x.tx block)) (explains link xs block) explained in
+    flat_all (hearings_in link r) (fits (w r)) (x ∷ xs)
+    ∙ and_from _ _ (agree-fits (matching link x.tx) x.heard w (sent link x.tx block) (all-first (IsOf link w block) x xs are) both.0 r)
+    (sym (flat_all (hearings_in link r) (fits (w r)) xs) ∙ explained-fits link w block xs (all-others (IsOf link w block) x xs are) both.1 r)
+
+pub fits-explained : (link : Link) (w : ℕ → ℕ → Bool) (block : List Bool) (list : List Reception) → All (IsOf link w block) list
+    → All (IsOwned link) list → ((r : ℕ) → r < link.plan.c → list_all (fits (w r)) (hearings link list r) ≡ true)
+    → Explains link list block
+unfolding hearings hearings_in explains
+fits-explained link w block [] are owned fit = refl
+fits-explained link w block (x ∷ xs) are owned fit =
+    let both = λ (r : ℕ) (inside : r < link.plan.c). and_parts _ _ (sym (flat_all (hearings_in link r) (fits (w r)) (x ∷ xs)) ∙ fit r inside) in
+    and_from _ _
+    (fits-agree link.plan.c (matching link x.tx) x.heard w (sent link x.tx block)
+    (all-first (IsOf link w block) x xs are) (all-first (IsOwned link) x xs owned) (λ r inside. (both r inside).0))
+    (fits-explained link w block xs (all-others (IsOf link w block) x xs are) (all-others (IsOwned link) x xs owned)
+    (λ r inside. flat_all (hearings_in link r) (fits (w r)) xs ∙ (both r inside).1))

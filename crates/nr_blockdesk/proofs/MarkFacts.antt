@@ -1,0 +1,100 @@
+-- What two lists of bits say was received, place by place and piece by piece.
+use Rattle.std.proofs.Common.{◌≡◌, ℕ, ◌+◌, ◌-◌, ◌<◌, ◌≤◌, ◌==◌, ◌&&◌, ◌++◌, inl, inr, Bool, true, false, List, length, get_or, take, drop, refl, sym, ap, ◌∙◌, arith}
+use Rattle.std.specs.Prelude.{Some, sum, slice_index}
+use Rattle.std.specs.Bool.{beq}
+use Rattle.std.specs.Int.{bit_at}
+use Rattle.std.proofs.lemmas.Bool.{cases_lt}
+use Rattle.std.proofs.lemmas.List.{get_or-append_right, get_or-drop, get_or-take, get_or_append_left, get_or_default, length-drop, length-take-le, same_lists}
+use Rattle.std.proofs.lemmas.List.FromFn.{get_or-map-range_with_len, length-map-range_with_len}
+use Rattle.std.proofs.lemmas.List.Sums.{sum_by_more_le}
+use Rattle.nr_bitvec.proofs.PackedListFacts.{bit-low_first}
+use Rattle.nr_bitvec.specs.Bit.{bit}
+use Rattle.nr_bitvec.specs.BitList.{low_first}
+use Rattle.nr_blockdesk.specs.Explains.{heard_at}
+use Rattle.nr_blockdesk.specs.Hearing.{heard_bit}
+use Rattle.nr_blockdesk.specs.Inside.{tells, HasRoomFor}
+use Rattle.nr_blockdesk.specs.Marks.{heards, heards_from, place_heard}
+use Rattle.nr_blockdesk.specs.ReceivingInside.{piece}
+use Rattle.nr_blockdesk.specs.declared.heard.Heard.{Heard}
+use Rattle.nr_blockdesk.specs.declared.heard.Heard.TheVariants as heard
+use Rattle.nr_blockdesk.specs.declared.selected.Selected.{Selected}
+
+pub length-heards : (marks bits : List Bool) (from n : ℕ) → length (heards_from marks bits from n) ≡ n
+unfolding heards_from
+length-heards marks bits from n = length-map-range_with_len (λ m. place_heard (bit marks m) (bit bits m)) from n
+
+place-heard : (marks bits : List Bool) (from n m : ℕ) (d : Heard) → m < n
+    → get_or (heards_from marks bits from n) m d ≡ place_heard (bit marks (from + m)) (bit bits (from + m))
+unfolding heards_from
+place-heard marks bits from n m d inside = get_or-map-range_with_len (λ m. place_heard (bit marks m) (bit bits m)) from n m (from + m) d inside refl
+
+pub heard-at : (marks bits : List Bool) (from n m : ℕ) → m < n
+    → heard_at (heards_from marks bits from n) m ≡ place_heard (bit marks (from + m)) (bit bits (from + m))
+heard-at marks bits from n m inside = place-heard marks bits from n m heard.Erased inside
+
+-- what a mark and a bit say
+pub tells-marked : (mark b v : Bool) → tells (heard_bit (place_heard mark b)) v ≡ (mark && beq b v)
+tells-marked false b v = refl
+tells-marked true false v = refl
+tells-marked true true v = refl
+
+pub some-marked : (b : Bool) → heard_bit (place_heard true b) ≡ Some b
+some-marked false = refl
+some-marked true = refl
+
+-- the places of code block r among all
+pub piece-heards : (marks bits : List Bool) (lengths : List ℕ) (r : ℕ) → sum lengths ≡ length marks → r < length lengths
+    → heards_from marks bits (sum (take r lengths)) (slice_index lengths r) ≡ piece lengths (heards marks bits) r
+piece-heards marks bits lengths r together inside =
+    let all : List Heard = heards marks bits in
+    let start : ℕ = sum (take r lengths) in
+    let e : ℕ = slice_index lengths r in
+    let most : start + e ≤ sum lengths = sum_by_more_le (λ (x : ℕ). x) lengths r 0 inside in
+    let long : length all ≡ length marks = length-heards marks bits 0 (length marks) in
+    let one : length (heards_from marks bits start e) ≡ e = length-heards marks bits start e in
+    let cut : length (take e (drop start all)) ≡ e = length-take-le e (drop start all) (omega (arith, length-drop start all, most, together, long)) in
+    same_lists (heards_from marks bits start e) (take e (drop start all)) (one ∙ sym cut)
+    (λ k d below.
+    let low : k < e = omega (arith, below, one) in
+    let none : 0 + (start + k) ≡ start + k = omega arith in
+    place-heard marks bits start e k d low
+    ∙ ap (λ m. place_heard (bit marks m) (bit bits m)) (sym none)
+    ∙ sym (get_or-take e (drop start all) k d low ∙ get_or-drop start all k d
+    ∙ place-heard marks bits 0 (length marks) (start + k) d (omega (arith, low, most, together))))
+
+-- lists whose marks and bits are these places
+pub heards-are : (marks bits : List Bool) (places : List Heard) → length marks ≡ length places
+    → ((m : ℕ) → m < length places → place_heard (bit marks m) (bit bits m) ≡ heard_at places m) → heards marks bits ≡ places
+heards-are marks bits places long are =
+    let all : length (heards marks bits) ≡ length marks = length-heards marks bits 0 (length marks) in
+    same_lists (heards marks bits) places (all ∙ long)
+    (λ k d below.
+    let low : k < length marks = omega (arith, below, all) in
+    let none : 0 + k ≡ k = omega arith in
+    place-heard marks bits 0 (length marks) k d low
+    ∙ ap (λ m. place_heard (bit marks m) (bit bits m)) none
+    ∙ are k (omega (arith, low, long))
+    ∙ get_or_default places k heard.Erased d (omega (arith, low, long)))
+
+-- words of marks and bits at the end of two lists
+pub heards-more : (places : List Heard) (marks bits : List Bool) (n wide now word : ℕ) → length marks ≡ n → length bits ≡ n
+    → ((m : ℕ) → m < n → place_heard (bit marks m) (bit bits m) ≡ heard_at places m)
+    → ((j : ℕ) → j < wide → place_heard (bit_at now j == 1) (bit_at word j == 1) ≡ heard_at places (n + j))
+    → (m : ℕ) → m < n + wide → place_heard (bit (marks ++ low_first wide now) m) (bit (bits ++ low_first wide word) m) ≡ heard_at places m
+heards-more places marks bits n wide now word long long-too before here m below = elim (cases_lt m n) [
+  | inl first ↦
+      ap (λ b. place_heard b (bit (bits ++ low_first wide word) m)) (get_or_append_left marks (low_first wide now) false m (omega (arith, first, long)))
+      ∙ ap (λ b. place_heard (bit marks m) b) (get_or_append_left bits (low_first wide word) false m (omega (arith, first, long-too)))
+      ∙ before m first
+  | inr later ↦
+      let there : n + (m - n) ≡ m = omega (arith, later) in
+      let low : m - n < wide = omega (arith, below, later) in
+      ap (λ b. place_heard b (bit (bits ++ low_first wide word) m)) (get_or-append_right marks (low_first wide now) n m false long later ∙ bit-low_first wide now (m - n) low)
+      ∙ ap (λ b. place_heard (bit_at now (m - n) == 1) b) (get_or-append_right bits (low_first wide word) n m false long-too later ∙ bit-low_first wide word (m - n) low)
+      ∙ here (m - n) low
+      ∙ ap (heard_at places) there
+]
+
+-- lists with room for more bits have room for fewer
+pub room-less : (most n : ℕ) (selected : Selected) → n ≤ most → HasRoomFor most selected → HasRoomFor n selected
+room-less most n selected few has = record { marks = omega (arith, has.marks); bits = omega (arith, has.bits) }

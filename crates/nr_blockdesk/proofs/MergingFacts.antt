@@ -1,0 +1,179 @@
+-- What it does to a code block's store and its peeler to receive at once all that is told.
+use Rattle.std.proofs.Common.{◌≡◌, ℕ, ◌<◌, ◌≤◌, ◌==◌, ◌||◌, ◌&&◌, inl, inr, Bool, true, false, not, cond, List, ◌++◌, length, get_or, replicate, All, refl, sym, ap, subst, ◌∙◌, arith}
+use Rattle.std.specs.Prelude.{◌↔◌, IsTrue, Option, Some, None}
+use Rattle.std.specs.Bool.{beq}
+use Rattle.std.specs.List.{list_any, range_with_len}
+use Rattle.std.proofs.lemmas.Bool.{and_from, and_parts, cases_lt, eq-eqb, false_from_ne_true, false≢true, or_from, or_parts, true≢false}
+use Rattle.std.proofs.lemmas.List.{get_or-replicate, get_or_past, length-replicate}
+use Rattle.std.proofs.lemmas.List.FromFn.{get_or-map-range_with_len, length-map-range_with_len}
+use Rattle.std.proofs.lemmas.List.Folds.{list_any_at}
+use Rattle.nr_bitvec.specs.Bit.{bit}
+use Rattle.nr_bitvec.proofs.PlaceFacts.{same_from_bits}
+use Rattle.nr_harqbuf.specs.Masks.{AreMasks, RecordMerges, differs_at, first_merged, merged}
+use Rattle.nr_harqbuf.specs.Record.{HasFirsts, HeardBits, Observation, differs, first_at, heard_as, is_heard, record_of}
+use Rattle.nr_blockdesk.specs.ReceivingInside.{Fits, IsNews, Agrees}
+use Rattle.nr_blockdesk.proofs.HearingFacts.{beq-self, same-bit}
+use Rattle.nr_blockdesk.proofs.SelectedBitFacts.{find_it, found}
+
+-- what is told stands at positions of the lists
+inside-long : (xs : List Bool) (p : ℕ) → bit xs p ≡ true → p < length xs
+inside-long xs p is = elim (cases_lt p (length xs)) [
+  | inl low ↦ low
+  | inr past ↦ absurd (true≢false (sym is ∙ get_or_past xs p false past))
+]
+
+all-inside : (more : List Observation) (heard value : List Bool) → AreMasks more heard value → All (λ (h : Observation). h.0 < length heard) more
+unfolding heard_as
+all-inside more heard value masks k d inside =
+    let h : Observation = get_or more k d in
+    let part_masks : heard_as more h.0 h.1 ≡ true =
+    list_any_at (λ (x : Observation). (x.0 == h.0) && beq x.1 h.1) more k d inside
+    (and_from (h.0 == h.0) (beq h.1 h.1) (eq-eqb h.0 h.0 refl) (beq-self h.1)) in
+    inside-long heard h.0 (and_parts (bit heard h.0) (beq (bit value h.0) h.1) (sym (masks h.0 h.1) ∙ part_masks)).0
+
+-- the record of the longer list
+pub recorded-all : RecordMerges → (s t : HeardBits) (heard value : List Bool) (more : List Observation) → length heard ≡ length s.first
+    → t ≡ merged s heard value → AreMasks more heard value
+    → (hs : List Observation) → s ≡ record_of (length s.first) hs → t ≡ record_of (length s.first) (hs ++ more)
+recorded-all merges s t heard value more long is masks hs of =
+    is ∙ ap (λ r. merged r heard value) of
+    ∙ merges (length s.first) hs more heard value
+    (subst (λ n. All (λ (h : Observation). h.0 < n) more) long (all-inside more heard value masks)) masks
+
+-- lists without marks
+pub empty-all : (xs : List Bool) (n : ℕ) → length xs ≡ n → ((p : ℕ) → bit xs p ≡ false) → xs ≡ replicate n false
+empty-all xs n long none =
+    same_from_bits xs (replicate n false) (long ∙ sym (length-replicate n false))
+    (λ p below. none p ∙ sym (get_or-replicate n p false false (omega (arith, below, long))))
+
+pub empty-bit : (xs : List Bool) (n p : ℕ) → xs ≡ replicate n false → bit xs p ≡ false
+empty-bit xs n p is = ap (λ l. bit l p) is ∙ elim (cases_lt p n) [
+  | inl low ↦ get_or-replicate n p false false low
+  | inr past ↦ get_or_past (replicate n false) p false (omega (arith, length-replicate n false, past))
+]
+
+-- the bit of a position that was received with `old` before, and is told `part_masks` where `h` holds
+abbrev joined : Option Bool → Bool → Bool → Option Bool
+joined old h part_masks = cond (is_heard old) old (cond h (Some part_masks) None)
+
+some-is : (a b : Bool) → Some a ≡ Some b → a ≡ b
+some-is a b e = cc e
+
+none-is : (b : Bool) → None ≡ Some b → ⊥
+none-is b e = cc e
+
+-- words against a record before and after all that is told was received
+module _ (s : HeardBits) (heard value : List Bool) (long : length heard ≡ length s.first) where
+  first-is : (p : ℕ) → first_at (merged s heard value) p ≡ joined (first_at s p) (bit heard p) (bit value p)
+  unfolding merged
+  first-is p = elim (cases_lt p (length s.first)) [
+    | inl low ↦ get_or-map-range_with_len (first_merged s heard value) 0 (length s.first) p p None low (omega arith)
+    | inr past ↦
+        let few : length (merged s heard value).first ≤ p = omega (arith, length-map-range_with_len (first_merged s heard value) 0 (length s.first), past) in
+        let none : first_at s p ≡ None = get_or_past s.first p None past in
+        let silent : bit heard p ≡ false = get_or_past heard p false (omega (arith, long, past)) in
+        get_or_past (merged s heard value).first p None few
+        ∙ sym (ap (λ o. joined o (bit heard p) (bit value p)) none ∙ ap (λ h. joined None h (bit value p)) silent)
+  ]
+
+  clash-is : (merged s heard value).clash ≡ (s.clash || list_any (differs_at s heard value) (range_with_len 0 (length s.first)))
+  unfolding merged
+  clash-is = refl
+
+  long-is : length (merged s heard value).first ≡ length s.first
+  unfolding merged
+  long-is = length-map-range_with_len (first_merged s heard value) 0 (length s.first)
+
+  first-old : (p : ℕ) (b : Bool) → first_at s p ≡ Some b → first_at (merged s heard value) p ≡ Some b
+  first-old p b is = first-is p ∙ ap (λ o. joined o (bit heard p) (bit value p)) is
+
+  first-new : (p : ℕ) → is_heard (first_at s p) ≡ false → bit heard p ≡ true → first_at (merged s heard value) p ≡ Some (bit value p)
+  first-new p unheard part_masks =
+      first-is p
+      ∙ ap (λ t. cond t (first_at s p) (cond (bit heard p) (Some (bit value p)) None)) unheard
+      ∙ ap (λ h. cond h (Some (bit value p)) None) part_masks
+
+  quiet : (merged s heard value).clash ≡ false → (p : ℕ) → bit heard p ≡ true → differs (first_at s p) (bit value p) ≡ false
+  quiet calm p part_masks =
+      let parts = or_parts s.clash (list_any (differs_at s heard value) (range_with_len 0 (length s.first))) (sym clash-is ∙ calm) in
+      false_from_ne_true (differs (first_at s p) (bit value p)) (λ other. true≢false
+      (sym (found (differs_at s heard value) 0 (length s.first) p (omega arith) (omega (arith, inside-long heard p part_masks, long))
+      (and_from (bit heard p) (differs (first_at s p) (bit value p)) part_masks other))
+      ∙ parts.1))
+
+  silent : s.clash ≡ false → ((p : ℕ) → bit heard p ≡ true → differs (first_at s p) (bit value p) ≡ false) → (merged s heard value).clash ≡ false
+  silent calm each =
+      clash-is ∙ or_from s.clash (list_any (differs_at s heard value) (range_with_len 0 (length s.first))) calm
+      (false_from_ne_true (list_any (differs_at s heard value) (range_with_len 0 (length s.first))) (λ any.
+      let it = find_it (differs_at s heard value) 0 (length s.first) any in
+      let parts = and_parts (bit heard it.at) (differs (first_at s it.at) (bit value it.at)) it.is in
+      true≢false (sym parts.1 ∙ each it.at parts.0)))
+
+  firsts-before : (w : ℕ → Bool) → HasFirsts (merged s heard value) w → HasFirsts s w
+  firsts-before w has p b is = has p b (first-old p b is)
+
+  pub fewer-merged : (w : ℕ → Bool) → Fits (merged s heard value) w → Fits s w
+  fewer-merged w fits = (
+    (or_parts s.clash (list_any (differs_at s heard value) (range_with_len 0 (length s.first))) (sym clash-is ∙ fits.0)).0,
+    firsts-before w fits.1,
+  )
+
+  fits-bits : (w : ℕ → Bool) → Fits (merged s heard value) w → (p : ℕ) → bit heard p ≡ true → w p ≡ bit value p
+  fits-bits w fits p part_masks = go (first_at s p) refl
+    where
+      go : (o : Option Bool) → first_at s p ≡ o → w p ≡ bit value p
+      go None e = fits.1 p (bit value p) (first-new p (ap is_heard e) part_masks)
+      go (Some a) e =
+          let same : not (beq a (bit value p)) ≡ false = ap (λ o. differs o (bit value p)) (sym e) ∙ quiet fits.0 p part_masks in
+          fits.1 p a (first-old p a e) ∙ same-bit a (bit value p) same
+
+  fits-all : (w : ℕ → Bool) → Fits s w → ((p : ℕ) → bit heard p ≡ true → w p ≡ bit value p) → Fits (merged s heard value) w
+  fits-all w fits has = (silent fits.0 (λ p part_masks. agree p part_masks (first_at s p) refl), λ p b is. firsts p b is (first_at s p) (bit heard p) refl refl)
+    where
+      agree : (p : ℕ) → bit heard p ≡ true → (o : Option Bool) → first_at s p ≡ o → differs (first_at s p) (bit value p) ≡ false
+      agree p part_masks None e = ap (λ o. differs o (bit value p)) e
+      agree p part_masks (Some a) e =
+          ap (λ o. differs o (bit value p)) e
+          ∙ ap (λ b. not (beq b (bit value p))) (sym (fits.1 p a e) ∙ has p part_masks)
+          ∙ ap not (beq-self (bit value p))
+
+      firsts : (p : ℕ) (b : Bool) → first_at (merged s heard value) p ≡ Some b → (o : Option Bool) (h : Bool) → first_at s p ≡ o → bit heard p ≡ h → w p ≡ b
+      firsts p b is (Some a) h e f = fits.1 p a e ∙ some-is a b (sym (first-old p a e) ∙ is)
+      firsts p b is None true e f = has p f ∙ some-is (bit value p) b (sym (first-new p (ap is_heard e) f) ∙ is)
+      firsts p b is None false e f =
+          absurd (none-is b (sym (first-is p ∙ ap (λ o. joined o (bit heard p) (bit value p)) e ∙ ap (λ h. joined None h (bit value p)) f) ∙ is))
+
+  pub tells-merged : (agreed : Bool) (word : List Bool) → IsTrue agreed ↔ ((p : ℕ) → bit heard p ≡ true → bit word p ≡ bit value p)
+      → Agrees agreed (bit word) s (merged s heard value)
+  tells-merged true word iff = λ fits. fits-all (bit word) fits (iff.0 refl)
+  tells-merged false word iff = λ fits. false≢true (iff.1 (λ p part_masks. fits-bits (bit word) fits p part_masks))
+
+  -- the marks of positions told for the first time
+  marks : (p : ℕ) → is_heard (first_at (merged s heard value) p) ≡ (is_heard (first_at s p) || bit heard p)
+  marks p = ap is_heard (first-is p) ∙ go (first_at s p) (bit heard p)
+    where
+      go : (o : Option Bool) (h : Bool) → is_heard (joined o h (bit value p)) ≡ (is_heard o || h)
+      go (Some a) h = refl
+      go None true = refl
+      go None false = refl
+
+  -- what is told for the first time is what the record has after it and lacked
+  pub news-merged : (fresh : List Bool) → ((p : ℕ) → bit fresh p ≡ (bit heard p && not (is_heard (first_at s p)))) → IsNews s (merged s heard value) fresh value
+  news-merged fresh are = record {
+    marks = λ p. are p ∙ same (is_heard (first_at s p)) (bit heard p) ∙ ap (λ b. b && not (is_heard (first_at s p))) (sym (marks p));
+    bits = λ p is.
+        let parts = and_parts (bit heard p) (not (is_heard (first_at s p))) (sym (are p) ∙ is) in
+        first-new p (unheard (is_heard (first_at s p)) parts.1) parts.0;
+    kept = first-old;
+    long = long-is;
+  }
+    where
+      same : (a h : Bool) → (h && not a) ≡ ((a || h) && not a)
+      same true true = refl
+      same true false = refl
+      same false true = refl
+      same false false = refl
+
+      unheard : (a : Bool) → not a ≡ true → a ≡ false
+      unheard true e = absurd (false≢true e)
+      unheard false e = refl

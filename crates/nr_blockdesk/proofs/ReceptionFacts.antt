@@ -1,0 +1,263 @@
+-- What a reception tells of each code block, and the record of one reception more.
+use Rattle.std.proofs.Common.{◌≡◌, ℕ, zero, suc, ◌+◌, ◌-◌, ◌<◌, ◌≤◌, ◌==◌, Bool, true, false, cond, List, [], ◌∷◌, ◌++◌, length, get_or, take, drop, flat_map, All, refl, sym, ap, subst, ◌∙◌, arith}
+use Rattle.std.specs.Prelude.{Option, None, Ok, Err, option_map, sum, slice_index}
+use Rattle.std.specs.List.{cons_option, filter_map, range_with_len}
+use Rattle.std.proofs.lemmas.Bool.{eqb-true, eq-eqb}
+use Rattle.std.proofs.lemmas.Grind.{flat_map-append}
+use Rattle.std.proofs.lemmas.List.{get_or-drop, get_or-take, get_or_default, length-drop, length-take-le, same_lists}
+use Rattle.std.proofs.lemmas.List.Elements.{All-append, filter_map-append}
+use Rattle.std.proofs.lemmas.List.FromFn.{length-map-range_with_len}
+use Rattle.std.proofs.lemmas.List.Sums.{sum_by_more_le}
+use Rattle.nr_cbconcat.specs.Concatenation.{IsOwner, PlacesHaveOneOwner, owner_of}
+use Rattle.nr_harqbuf.specs.Record.{HeardBits, Observation, record_of}
+use Rattle.nr_interleave.specs.Interleaving.{seat_of}
+use Rattle.nr_segment.specs.Plan.{word_size}
+use Rattle.nr_peel.specs.Peeling.{Peeling}
+use Rattle.nr_ratematch.specs.Selection.{place_of}
+use Rattle.nr_blockdesk.specs.Explains.{IsAccepted, Reception, heard_at, reception, reception_said, reception_said_of}
+use Rattle.nr_blockdesk.specs.Heard.{IsRecordOf, hearing_at, heard_of, heard_record, hearings, hearings_in}
+use Rattle.nr_blockdesk.specs.Hearing.{heard_bit}
+use Rattle.nr_blockdesk.specs.Link.{IsLink, Link, demanded}
+use Rattle.nr_blockdesk.specs.Receiving.{peeling_of}
+use Rattle.nr_blockdesk.specs.ReceivingInside.{HearsPart, IsDesk, IsTied, part_hearing, part_hearings, piece}
+use Rattle.nr_blockdesk.specs.Sent.{AcceptedAreMatched, IsMatched, RateMatching, PartsAreAt, block_at, matching, position_at, tx_said, tx_said_of}
+use Rattle.nr_transmission.specs.declared.fault.DeskFault.TheVariants as fault
+use Rattle.nr_blockdesk.specs.declared.heard.Heard.{Heard}
+use Rattle.nr_blockdesk.specs.declared.heard.Heard.TheVariants as kind
+use Rattle.nr_transmission.specs.declared.tx.Tx.{Tx}
+use Rattle.nr_blockdesk.proofs.HearingFacts.{range-split}
+use Rattle.nr_blockdesk.proofs.LinkFacts.{bind-ok, never-bind, never-demanded}
+use Rattle.nr_blockdesk.proofs.SenderFacts.{tx-never_memory}
+use Rattle.nr_blockdesk.proofs.RecordFacts.{record-at}
+
+none-part_masks : (f : ℕ → Option Observation) (a n : ℕ) → ((m : ℕ) → a ≤ m → m < a + n → f m ≡ None) → filter_map f (range_with_len a n) ≡ []
+none-part_masks f a zero each = refl
+none-part_masks f a (suc n) each =
+    ap (λ o. cons_option o (filter_map f (range_with_len (a + 1) n))) (each a (omega arith) (omega arith))
+    ∙ none-part_masks f (a + 1) n (λ m low high. each m (omega arith) (omega arith))
+
+same-part_masks : (f g : ℕ → Option Observation) (a b n : ℕ) → ((k : ℕ) → k < n → f (a + k) ≡ g (b + k))
+    → filter_map f (range_with_len a n) ≡ filter_map g (range_with_len b n)
+same-part_masks f g a b zero each = refl
+same-part_masks f g a b (suc n) each =
+    let left : a ≡ a + 0 = omega arith in
+    let right : b + 0 ≡ b = omega arith in
+    let first : f a ≡ g b = ap f left ∙ each 0 (omega arith) ∙ ap g right in
+    ap (λ o. cons_option o (filter_map f (range_with_len (a + 1) n))) first
+    ∙ ap (λ hs. cons_option (g b) hs) (same-part_masks f g (a + 1) (b + 1) n next)
+  where
+    next : (k : ℕ) → k < n → f (a + 1 + k) ≡ g (b + 1 + k)
+    next k inside =
+        let left : a + 1 + k ≡ a + suc k = omega arith in
+        let right : b + suc k ≡ b + 1 + k = omega arith in
+        ap f left ∙ each (suc k) (omega arith) ∙ ap g right
+
+nothing-before : (xs ys : List Observation) → xs ≡ [] → ys ≡ [] → (zs : List Observation) → xs ++ (zs ++ ys) ≡ zs
+nothing-before xs ys front back zs = ap (λ l. l ++ (zs ++ ys)) front ∙ ap (λ l. zs ++ l) back ∙ go zs
+  where
+    go : (zs : List Observation) → zs ++ [] ≡ zs
+    go [] = refl
+    go (z ∷ zs) = ap (λ l. z ∷ l) (go zs)
+
+-- what the places of one code block tell
+pub piece-part_masks : PartsAreAt → PlacesHaveOneOwner → (t : RateMatching) (tx : Tx) (heard : List Heard) (r : ℕ) → t.rv ≡ tx.rv → t.qm ≡ tx.qm
+    → sum t.lengths ≡ length heard → r < length t.lengths
+    → filter_map (hearing_at t heard r) (range_with_len 0 (length heard))
+    ≡ part_hearings t.buffer tx (piece t.lengths heard r) (length (piece t.lengths heard r))
+piece-part_masks parts owners t tx heard r rv qm together block =
+    ap (λ n. filter_map f (range_with_len 0 n)) all
+    ∙ ap (filter_map f) (range-split 0 start (e + rest))
+    ∙ filter_map-append f (range_with_len 0 start) (range_with_len (0 + start) (e + rest))
+    ∙ ap (λ ms. filter_map f (range_with_len 0 start) ++ filter_map f ms) (range-split (0 + start) e rest)
+    ∙ ap (λ hs. filter_map f (range_with_len 0 start) ++ hs) (filter_map-append f (range_with_len (0 + start) e) (range_with_len (0 + start + e) rest))
+    ∙ nothing-before (filter_map f (range_with_len 0 start)) (filter_map f (range_with_len (0 + start + e) rest))
+    (none-part_masks f 0 start (λ m low high. outside m (omega (arith, high, all)) (λ from. omega (arith, high, from.0))))
+    (none-part_masks f (0 + start + e) rest (λ m low high. outside m (omega (arith, high, all)) (λ from. omega (arith, low, from.1))))
+    (filter_map f (range_with_len (0 + start) e))
+    ∙ same-part_masks f g (0 + start) 0 e inside
+    ∙ ap (λ n. filter_map g (range_with_len 0 n)) (sym long)
+  where
+    f : ℕ → Option Observation
+    f = hearing_at t heard r
+
+    start : ℕ
+    start = sum (take r t.lengths)
+
+    e : ℕ
+    e = slice_index t.lengths r
+
+    pc : List Heard
+    pc = piece t.lengths heard r
+
+    g : ℕ → Option Observation
+    g = part_hearing t.buffer tx pc
+
+    most : start + e ≤ sum t.lengths
+    most = sum_by_more_le (λ (x : ℕ). x) t.lengths r 0 block
+
+    rest : ℕ
+    rest = length heard - (start + e)
+
+    all : length heard ≡ start + (e + rest)
+    all = omega (arith, most, together)
+
+    long : length pc ≡ e
+    long = length-take-le e (drop start heard) (omega (arith, length-drop start heard, most, together))
+
+    outside : (m : ℕ) → m < length heard → ((start ≤ m) × (m < start + e) → ⊥) → f m ≡ None
+    outside m within out = go (block_at t m == r) refl
+      where
+        go : (b : Bool) → (block_at t m == r) ≡ b → f m ≡ None
+        go false own = ap (λ b. cond b (option_map (λ v. (position_at t m, v)) (heard_bit (heard_at heard m))) None) own
+        go true own =
+            let one = (owners t.lengths m (omega (arith, within, together))).owner in
+            let is : block_at t m ≡ r = eqb-true (block_at t m) r own in
+            let p : ℕ = (owner_of t.lengths m).1 in
+            let at : m ≡ start + p = one.joined ∙ ap (λ k. sum (take k t.lengths) + p) is in
+            let below : p < e = subst (λ k. p < slice_index t.lengths k) is one.inside in
+            absurd (out (omega (arith, at), omega (arith, at, below)))
+
+    inside : (k : ℕ) → k < e → f (0 + start + k) ≡ g (0 + k)
+    inside k below =
+        let zeros : 0 + start + k ≡ start + k = omega arith in
+        let none : k ≡ 0 + k = omega arith in
+        let owner : IsOwner t.lengths (start + k) r k = record { block = block; inside = below; joined = refl } in
+        let both = parts t (start + k) r k owner in
+        let there : position_at t (start + k) ≡ place_of t.buffer tx.rv (seat_of tx.qm (length pc) k) =
+        both.1 ∙ ap (λ v. place_of t.buffer v (seat_of t.qm e k)) rv ∙ ap (λ q. place_of t.buffer tx.rv (seat_of q e k)) qm
+        ∙ ap (λ n. place_of t.buffer tx.rv (seat_of tx.qm n k)) (sym long) in
+        let heard-there : heard_at heard (start + k) ≡ heard_at pc k =
+        sym (get_or-take e (drop start heard) k kind.Erased below ∙ get_or-drop start heard k kind.Erased) in
+        ap f zeros
+        ∙ ap (λ b. cond b (option_map (λ v. (position_at t (start + k), v)) (heard_bit (heard_at heard (start + k)))) None)
+        (eq-eqb (block_at t (start + k)) r both.0)
+        ∙ ap (λ p. option_map (λ v. (p, v)) (heard_bit (heard_at heard (start + k)))) there
+        ∙ ap (λ h. option_map (λ v. (place_of t.buffer tx.rv (seat_of tx.qm (length pc) k), v)) (heard_bit h)) heard-there
+        ∙ ap g none
+
+-- the peeler that stands for none
+abbrev pub none-of : Link → Peeling
+none-of link = record { table = link.table; graph = link.graph; numbers = link.plan; given = []; known = []; bits = []; order = []; touches = 0; lanes = 0 }
+
+-- each code block's part of an accepted reception was received
+abbrev pub AreHeard : Link → Tx → List ℕ → List Heard → List HeardBits → List Peeling → List HeardBits → List Peeling → Type 0
+AreHeard link tx lengths heard S P S' P' =
+    (r : ℕ) (d : Peeling) → r < link.plan.c → HearsPart link.buffer tx (piece lengths heard r) (heard_of S r) (get_or P r d) (heard_of S' r) (get_or P' r d)
+
+pub hearings-part_masks : PartsAreAt → PlacesHaveOneOwner → AcceptedAreMatched → (link : Link) (tx : Tx) (lengths : List ℕ) (heard : List Heard) (r : ℕ)
+    → IsLink link → tx_said link tx ≡ Ok lengths → length heard ≡ tx.g → r < link.plan.c
+    → hearings_in link r (reception tx heard) ≡ part_hearings link.buffer tx (piece lengths heard r) (length (piece lengths heard r))
+unfolding hearings_in
+hearings-part_masks parts owners matched link tx lengths heard r is said whole block =
+    let are : IsMatched link tx lengths = matched link tx lengths is said in
+    let t : RateMatching = matching link tx in
+    let together : sum t.lengths ≡ length heard = ap sum are.same ∙ are.shared.together ∙ sym whole in
+    let many : length t.lengths ≡ link.plan.c = ap length are.same ∙ are.shared.counted in
+    piece-part_masks parts owners t tx heard r refl refl together (subst (λ n. r < n) (sym many) block)
+    ∙ ap (λ (es : List ℕ). part_hearings link.buffer tx (piece es heard r) (length (piece es heard r))) are.same
+
+hearings-more : (link : Link) (list : List Reception) (x : Reception) (r : ℕ) → hearings link (list ++ x ∷ []) r ≡ hearings link list r ++ hearings_in link r x
+unfolding hearings
+hearings-more link list x r =
+    flat_map-append (hearings_in link r) list (x ∷ []) ∙ ap (λ hs. flat_map (hearings_in link r) list ++ hs) (go (hearings_in link r x))
+  where
+    go : (zs : List Observation) → zs ++ [] ≡ zs
+    go [] = refl
+    go (z ∷ zs) = ap (λ l. z ∷ l) (go zs)
+
+pub one-all : {X : Type 0} (P : X → Type 0) (x : X) → P x → All P (x ∷ [])
+one-all P x is zero d inside = is
+one-all P x is (suc k) d inside = absurd (omega (arith, inside))
+
+length-record : (link : Link) (list : List Reception) → length (heard_record link list) ≡ link.plan.c
+unfolding heard_record
+length-record link list = length-map-range_with_len (λ r. record_of (word_size link.graph link.plan) (hearings link list r)) 0 link.plan.c
+
+-- so the record is that of the longer list
+pub record-taken : PartsAreAt → PlacesHaveOneOwner → AcceptedAreMatched → (link : Link) (tx : Tx) (lengths : List ℕ) (heard : List Heard)
+    (S S' : List HeardBits) (P P' : List Peeling) → IsLink link → IsDesk link S P → IsAccepted link (reception tx heard)
+    → tx_said link tx ≡ Ok lengths → length heard ≡ tx.g → length S' ≡ link.plan.c → AreHeard link tx lengths heard S P S' P'
+    → (list : List Reception) → IsRecordOf link list S → IsRecordOf link (list ++ reception tx heard ∷ []) S'
+record-taken parts owners matched link tx lengths heard S S' P P' is desk accepted said whole many hears list of = record {
+  accepted = All-append (IsAccepted link) list (x ∷ []) of.accepted (one-all (IsAccepted link) x accepted);
+  same = same_lists S' (heard_record link longer) (many ∙ sym (length-record link longer)) at;
+}
+  where
+    x : Reception
+    x = reception tx heard
+
+    longer : List Reception
+    longer = list ++ x ∷ []
+
+    N : ℕ
+    N = word_size link.graph link.plan
+
+    nothing : HeardBits
+    nothing = record { first = []; clash = false }
+
+    here : (r : ℕ) → r < link.plan.c → heard_of S' r ≡ heard_of (heard_record link longer) r
+    here r block =
+        let tied = desk.tied r block in
+        let hs : List Observation = hearings link list r in
+        let before : heard_of S r ≡ record_of (length (heard_of S r).first) hs =
+        ap (λ (l : List HeardBits). heard_of l r) of.same ∙ record-at link list r block ∙ ap (λ n. record_of n hs) (sym tied.long) in
+        (hears r (none-of link) block).recorded hs before
+        ∙ ap (λ n. record_of n (hs ++ part_hearings link.buffer tx (piece lengths heard r) (length (piece lengths heard r)))) tied.long
+        ∙ ap (λ l. record_of N (hs ++ l)) (sym (hearings-part_masks parts owners matched link tx lengths heard r is said whole block))
+        ∙ ap (λ l. record_of N l) (sym (hearings-more link list x r))
+        ∙ sym (record-at link longer r block)
+
+    at : (k : ℕ) (d : HeardBits) → k < length S' → get_or S' k d ≡ get_or (heard_record link longer) k d
+    at k d inside =
+        let block : k < link.plan.c = subst (λ n. k < n) many inside in
+        get_or_default S' k d nothing inside
+        ∙ here k block
+        ∙ get_or_default (heard_record link longer) k nothing d (subst (λ n. k < n) (sym (length-record link longer)) block)
+
+-- and stores and peelers belong together again
+pub desk-taken : (link : Link) (tx : Tx) (lengths : List ℕ) (heard : List Heard) (S S' : List HeardBits) (P P' : List Peeling)
+    → IsDesk link S P → length S' ≡ link.plan.c → length P' ≡ link.plan.c → AreHeard link tx lengths heard S P S' P' → IsDesk link S' P'
+desk-taken link tx lengths heard S S' P P' desk stores peelers hears = record {
+  stores = stores;
+  peelings = peelers;
+  tied = tied;
+}
+  where
+    tied : (r : ℕ) → r < link.plan.c → IsTied link (heard_of S' r) (peeling_of link P' r)
+    tied r block =
+        (hears r (none-of link) block).tied link (desk.tied r block)
+
+-- what was said of a reception was said of its transmission
+pub tx-from : (link : Link) (x : Reception) (es : List ℕ) → reception_said link x ≡ Ok es → tx_said link x.tx ≡ Ok es
+tx-from link x es said =
+    let first = bind-ok (tx_said link x.tx) _ es said in
+    let second = bind-ok (demanded fault.Length (length x.heard == x.tx.g)) _ es first.2 in
+    first.1 ∙ second.2
+
+-- nothing that is said of a reception is `Memory`
+pub reception-never_memory : (c : ℕ) (x : Reception) → reception_said_of c x ≡ Err fault.Memory → ⊥
+reception-never_memory c x =
+    never-bind (tx_said_of c x.tx) _ (tx-never_memory c x.tx)
+    (λ lengths. never-bind (demanded fault.Length (length x.heard == x.tx.g)) _
+    (never-demanded fault.Length (length x.heard == x.tx.g) (λ e. cc e)) (λ u e. cc e))
+
+-- the parts, of the receiver's own lists
+pub parts-are : (link : Link) (tx : Tx) (es es' : List ℕ) (heard : List Heard) (S S₁ S' : List HeardBits) (P P₁ P' : List Peeling)
+    → es' ≡ es → S₁ ≡ S → P₁ ≡ P → length S ≡ link.plan.c
+    → ((r : ℕ) (d : Peeling) → r < length S₁
+    → HearsPart link.buffer tx (piece es' heard r) (heard_of S₁ r) (get_or P₁ r d) (heard_of S' r) (get_or P' r d))
+    → AreHeard link tx es heard S P S' P'
+parts-are link tx es es' heard S S₁ S' P P₁ P' es-is S-is P-is many parts r d block =
+    subst (λ (l : List ℕ). HearsPart link.buffer tx (piece l heard r) (heard_of S r) (get_or P r d) (heard_of S' r) (get_or P' r d)) es-is
+    (subst (λ (l : List HeardBits). HearsPart link.buffer tx (piece es' heard r) (heard_of l r) (get_or P r d) (heard_of S' r) (get_or P' r d)) S-is
+    (subst (λ (l : List Peeling). HearsPart link.buffer tx (piece es' heard r) (heard_of S₁ r) (get_or l r d) (heard_of S' r) (get_or P' r d)) P-is
+    (parts r d (subst (λ (l : List HeardBits). r < length l) (sym S-is) (subst (λ n. r < n) (sym many) block)))))
+
+-- the record after a reception that was taken
+pub all-taken : PartsAreAt → PlacesHaveOneOwner → AcceptedAreMatched → (link : Link) (tx : Tx) (es : List ℕ) (heard : List Heard)
+    (S S' : List HeardBits) (P P' : List Peeling) → IsLink link → IsDesk link S P → reception_said link (reception tx heard) ≡ Ok es
+    → length heard ≡ tx.g → length S' ≡ length S → AreHeard link tx es heard S P S' P'
+    → (list : List Reception) → IsRecordOf link list S → IsRecordOf link (list ++ reception tx heard ∷ []) S'
+all-taken parts owners matched link tx es heard S S' P P' is desk said whole many hears list of =
+    record-taken parts owners matched link tx es heard S S' P P' is desk (es, said)
+    (tx-from link (reception tx heard) es said) whole (many ∙ desk.stores) hears list of

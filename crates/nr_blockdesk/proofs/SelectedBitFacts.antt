@@ -1,0 +1,219 @@
+-- What words tell of selected bits is what their places tell one by one.
+use Rattle.std.proofs.Common.{◌≡◌, ℕ, zero, suc, ◌+◌, ◌-◌, ◌%◌, ◌<◌, ◌≤◌, ◌==◌, ◌||◌, ◌&&◌, Bool, true, false, nat_le, nat_lt, List, [], ◌∷◌, length, take, drop, refl, sym, ap, ◌∙◌, ⊎_elim, arith}
+use Rattle.std.specs.Prelude.{Option, Some, None, option_map}
+use Rattle.std.specs.Bool.{beq}
+use Rattle.std.specs.Int.{bit_at}
+use Rattle.std.specs.List.{cons_option, filter_map, list_any, range_with_len}
+use Rattle.std.proofs.lemmas.Bool.{and_from, and_parts, cases_eq, eq-eqb, eqb-true, false≢true, le-leb, lt-ltb, leb-true, ltb-true, or_left, or_right}
+use Rattle.std.proofs.lemmas.List.{get_or-drop, get_or-take, length-drop, length-take-le}
+use Rattle.std.proofs.lemmas.List.Folds.{list_any-append}
+use Rattle.std.proofs.Math.Bool.{or_assoc}
+use Rattle.nr_bitvec.specs.Bit.{bit}
+use Rattle.nr_harqbuf.specs.Masks.{says, word_says}
+use Rattle.nr_harqbuf.specs.Record.{Observation, heard_as}
+use Rattle.nr_interleave.proofs.SeatFacts.{seat-given, seat-inside}
+use Rattle.nr_interleave.specs.Interleaving.{interleaved, seat_of}
+use Rattle.nr_ratematch.specs.Selection.{Circular, place_of}
+use Rattle.nr_blockdesk.specs.Explains.{heard_at}
+use Rattle.nr_blockdesk.specs.Hearing.{heard_bit}
+use Rattle.nr_blockdesk.specs.Inside.{tells, bit_says}
+use Rattle.nr_blockdesk.specs.Marks.{heards_from}
+use Rattle.nr_blockdesk.specs.ReceivingInside.{part_hearing, part_hearings}
+use Rattle.nr_blockdesk.specs.declared.heard.Heard.{Heard}
+use Rattle.nr_transmission.specs.declared.tx.Tx.{Tx}
+use Rattle.nr_blockdesk.proofs.HearingFacts.{range-split}
+use Rattle.nr_blockdesk.proofs.MarkFacts.{heard-at, length-heards, tells-marked}
+use Rattle.nr_blockdesk.proofs.SentPlaceFacts.{bit-interleaved, length-interleaved}
+
+-- two tests are one where each follows from the other
+same_test : (a b : Bool) → (a ≡ true → b ≡ true) → (b ≡ true → a ≡ true) → a ≡ b
+same_test true b f g = sym (f refl)
+same_test false true f g = g refl
+same_test false false f g = refl
+
+-- a number of a range passes a test
+pub found : (f : ℕ → Bool) (a n k : ℕ) → a ≤ k → k < a + n → f k ≡ true → list_any f (range_with_len a n) ≡ true
+found f a zero k low high is = absurd (omega (arith, low, high))
+found f a (suc n) k low high is = ⊎_elim
+    (λ (here : k ≡ a). or_left (f a) (list_any f (range_with_len (a + 1) n)) (sym (ap f here) ∙ is))
+    (λ there. or_right (f a) (list_any f (range_with_len (a + 1) n)) (found f (a + 1) n k (omega (arith, low, there)) (omega (arith, high)) is))
+    (cases_eq k a)
+
+pub record IsFound (f : ℕ → Bool) (a n : ℕ) : Type 0 where
+  pub at : ℕ
+  pub low : a ≤ at
+  pub high : at < a + n
+  pub is : f at ≡ true
+
+pub find_it : (f : ℕ → Bool) (a n : ℕ) → list_any f (range_with_len a n) ≡ true → IsFound f a n
+find_it f a zero any = absurd (false≢true any)
+find_it f a (suc n) any = go (f a) refl any (λ later. find_it f (a + 1) n later)
+  where
+    go : (b : Bool) → f a ≡ b → (b || list_any f (range_with_len (a + 1) n)) ≡ true
+        → (list_any f (range_with_len (a + 1) n) ≡ true → IsFound f (a + 1) n) → IsFound f a (suc n)
+    go true e any later = record { at = a; low = omega arith; high = omega arith; is = e }
+    go false e any later =
+        let r = later any in
+        record { at = r.at; low = omega (arith, r.low); high = omega (arith, r.high); is = r.is }
+
+-- a range in two parts
+any-more : (f : ℕ → Bool) (n k : ℕ) → list_any f (range_with_len 0 (n + k)) ≡ (list_any f (range_with_len 0 n) || list_any f (range_with_len n k))
+any-more f n k =
+    let start : 0 + n ≡ n = omega arith in
+    ap (list_any f) (range-split 0 n k)
+    ∙ list_any-append f (range_with_len 0 n) (range_with_len (0 + n) k)
+    ∙ ap (λ a. list_any f (range_with_len 0 n) || list_any f (range_with_len a k)) start
+
+-- place j of a word of marks and a word of bits tells this bit
+abbrev bit_tells : ℕ → ℕ → ℕ → Bool → Bool
+bit_tells now bits j v = (bit_at now j == 1) && beq (bit_at bits j == 1) v
+
+-- a run of selected bits, whose places stand one after another in the codeword
+module _ (b : Circular) (rv : ℕ) (marks bits : List Bool) (k position count now word : ℕ) (few : count ≤ 64)
+    (run : (j : ℕ) → j < count → place_of b rv (k + j) ≡ position + j)
+    (reads : (j : ℕ) → j < 64 → (bit_at now j == 1) ≡ bit marks (k + j))
+    (reads-too : (j : ℕ) → j < 64 → (bit_at word j == 1) ≡ bit bits (k + j)) where
+  -- selected bit k + j
+  one-says : (p : ℕ) (v : Bool) (j : ℕ) → j < count
+      → bit_says b rv marks bits p v (k + j) ≡ ((position + j == p) && bit_tells now word j v)
+  one-says p v j inside =
+      ap (λ q. (q == p) && says marks bits (k + j) v) (run j inside)
+      ∙ ap (λ m. (position + j == p) && (m && beq (bit bits (k + j)) v)) (sym (reads j (omega (arith, inside, few))))
+      ∙ ap (λ m. (position + j == p) && ((bit_at now j == 1) && beq m v)) (sym (reads-too j (omega (arith, inside, few))))
+
+  word-tells : (p : ℕ) (v : Bool)
+      → word_says position count now word p v ≡ list_any (bit_says b rv marks bits p v) (range_with_len k count)
+  word-tells p v = same_test (word_says position count now word p v) (list_any (bit_says b rv marks bits p v) (range_with_len k count)) forth back
+    where
+      forth : word_says position count now word p v ≡ true → list_any (bit_says b rv marks bits p v) (range_with_len k count) ≡ true
+      forth said =
+          let one = and_parts (nat_le position p && nat_lt p (position + count) && (bit_at now (p - position) == 1)) (beq (bit_at word (p - position) == 1) v) said in
+          let two = and_parts (nat_le position p && nat_lt p (position + count)) (bit_at now (p - position) == 1) one.0 in
+          let three = and_parts (nat_le position p) (nat_lt p (position + count)) two.0 in
+          let low : position ≤ p = leb-true position p three.0 in
+          let high : p < position + count = ltb-true p (position + count) three.1 in
+          let inside : p - position < count = omega (arith, low, high) in
+          let there : position + (p - position) ≡ p = omega (arith, low) in
+          found (bit_says b rv marks bits p v) k count (k + (p - position)) (omega arith) (omega (arith, inside))
+          (one-says p v (p - position) inside
+          ∙ and_from (position + (p - position) == p) (bit_tells now word (p - position) v) (eq-eqb (position + (p - position)) p there)
+          (and_from (bit_at now (p - position) == 1) (beq (bit_at word (p - position) == 1) v) two.1 one.1))
+
+      back : list_any (bit_says b rv marks bits p v) (range_with_len k count) ≡ true → word_says position count now word p v ≡ true
+      back any =
+          let it = find_it (bit_says b rv marks bits p v) k count any in
+          let j : ℕ = it.at - k in
+          let inside : j < count = omega (arith, it.low, it.high) in
+          let at : k + j ≡ it.at = omega (arith, it.low) in
+          let both = and_parts (position + j == p) (bit_tells now word j v)
+          (sym (one-says p v j inside) ∙ ap (bit_says b rv marks bits p v) at ∙ it.is) in
+          let here : position + j ≡ p = eqb-true (position + j) p both.0 in
+          let back : j ≡ p - position = omega (arith, here) in
+          let part_masks = and_parts (bit_at now j == 1) (beq (bit_at word j == 1) v) both.1 in
+          and_from (nat_le position p && nat_lt p (position + count) && (bit_at now (p - position) == 1)) (beq (bit_at word (p - position) == 1) v)
+          (and_from (nat_le position p && nat_lt p (position + count)) (bit_at now (p - position) == 1)
+          (and_from (nat_le position p) (nat_lt p (position + count)) (le-leb position p (omega (arith, here))) (lt-ltb p (position + count) (omega (arith, here, inside))))
+          (sym (ap (λ i. bit_at now i == 1) back) ∙ part_masks.0))
+          (sym (ap (λ i. beq (bit_at word i == 1) v) back) ∙ part_masks.1)
+
+  -- a run more
+  pub run-more : (first old new : ℕ → Bool → Bool) (one more : Bool)
+      → (one ≡ true → (p : ℕ) (v : Bool) → old p v ≡ (first p v || list_any (bit_says b rv marks bits p v) (range_with_len 0 k)))
+      → (more ≡ true → (p : ℕ) (v : Bool) → new p v ≡ (old p v || word_says position count now word p v))
+      → (one && more) ≡ true → (p : ℕ) (v : Bool) → new p v ≡ (first p v || list_any (bit_says b rv marks bits p v) (range_with_len 0 (k + count)))
+  run-more first old new one more before said both p v =
+      let clean = and_parts one more both in
+      let f : ℕ → Bool = bit_says b rv marks bits p v in
+      said clean.1 p v
+      ∙ ap (λ t. t || word_says position count now word p v) (before clean.0 p v)
+      ∙ or_assoc (first p v) (list_any f (range_with_len 0 k)) (word_says position count now word p v)
+      ∙ ap (λ t. first p v || (list_any f (range_with_len 0 k) || t)) (word-tells p v)
+      ∙ ap (λ t. first p v || t) (sym (any-more f k count))
+
+-- what is received at a place, as a hearing, and whether it tells this bit of this position
+told_by : ℕ → Bool → Option Observation → Bool
+told_by p v None = false
+told_by p v (Some h) = (h.0 == p) && beq h.1 v
+
+cons_any : (p : ℕ) (v : Bool) (o : Option Observation) (hs : List Observation) (b : Bool) → list_any (λ (h : Observation). (h.0 == p) && beq h.1 v) hs ≡ b
+    → list_any (λ (h : Observation). (h.0 == p) && beq h.1 v) (cons_option o hs) ≡ (told_by p v o || b)
+unfolding told_by
+cons_any p v None hs b rest = rest
+cons_any p v (Some h) hs b rest = ap (λ t. ((h.0 == p) && beq h.1 v) || t) rest
+
+any-part_masks : (f : ℕ → Option Observation) (p : ℕ) (v : Bool) (ns : List ℕ)
+    → list_any (λ (h : Observation). (h.0 == p) && beq h.1 v) (filter_map f ns) ≡ list_any (λ m. told_by p v (f m)) ns
+any-part_masks f p v [] = refl
+any-part_masks f p v (n ∷ ns) = cons_any p v (f n) (filter_map f ns) (list_any (λ m. told_by p v (f m)) ns) (any-part_masks f p v ns)
+
+part_masks-at : (p q : ℕ) (v : Bool) (o : Option Bool) → told_by p v (option_map (λ b. (q, b)) o) ≡ ((q == p) && tells o v)
+unfolding told_by
+part_masks-at p q v None = go (q == p)
+  where
+    go : (b : Bool) → false ≡ (b && false)
+    go true = refl
+    go false = refl
+part_masks-at p q v (Some b) = refl
+
+-- bits that interleave to the marks and bits of a part say what its places tell
+module _ (b : Circular) (tx : Tx) (marks bits chosen chosen-too : List Bool) (from n : ℕ) (some : 0 < tx.qm) (whole : n % tx.qm ≡ 0)
+    (inside : from + n ≤ length marks) (long : length bits ≡ length marks)
+    (is : interleaved tx.qm chosen ≡ take n (drop from marks)) (is-too : interleaved tx.qm chosen-too ≡ take n (drop from bits)) where
+  abbrev places : List Heard
+  places = heards_from marks bits from n
+
+  many : (xs ys : List Bool) → from + n ≤ length ys → interleaved tx.qm xs ≡ take n (drop from ys) → length xs ≡ n
+  many xs ys within e =
+      sym (length-interleaved tx.qm xs) ∙ ap length e ∙ length-take-le n (drop from ys) (omega (arith, length-drop from ys, within))
+
+  seated : (xs ys : List Bool) → from + n ≤ length ys → interleaved tx.qm xs ≡ take n (drop from ys)
+      → (m : ℕ) → m < n → bit xs (seat_of tx.qm n m) ≡ bit ys (from + m)
+  seated xs ys within e m below =
+      let all : length xs ≡ n = many xs ys within e in
+      ap (λ k. bit xs (seat_of tx.qm k m)) (sym all)
+      ∙ sym (bit-interleaved tx.qm xs m (omega (arith, below, all)))
+      ∙ ap (λ l. bit l m) e
+      ∙ get_or-take n (drop from ys) m false below
+      ∙ get_or-drop from ys m false
+
+  abbrev by_place : ℕ → Bool → ℕ → Bool
+  by_place p v m = told_by p v (part_hearing b tx places m)
+
+  -- a place tells what the bit says that is seated there
+  place-says : (p : ℕ) (v : Bool) (m : ℕ) → m < n → by_place p v m ≡ bit_says b tx.rv chosen chosen-too p v (seat_of tx.qm n m)
+  place-says p v m below =
+      let at : ℕ = place_of b tx.rv (seat_of tx.qm n m) in
+      part_masks-at p (place_of b tx.rv (seat_of tx.qm (length places) m)) v (heard_bit (heard_at places m))
+      ∙ ap (λ k. (place_of b tx.rv (seat_of tx.qm k m) == p) && tells (heard_bit (heard_at places m)) v) (length-heards marks bits from n)
+      ∙ ap (λ h. (at == p) && tells (heard_bit h) v) (heard-at marks bits from n m below)
+      ∙ ap (λ t. (at == p) && t) (tells-marked (bit marks (from + m)) (bit bits (from + m)) v)
+      ∙ ap (λ a. (at == p) && (a && beq (bit bits (from + m)) v)) (sym (seated chosen marks inside is m below))
+      ∙ ap (λ a. (at == p) && (bit chosen (seat_of tx.qm n m) && beq a v)) (sym (seated chosen-too bits (omega (arith, inside, long)) is-too m below))
+
+  forth : (p : ℕ) (v : Bool) → list_any (bit_says b tx.rv chosen chosen-too p v) (range_with_len 0 (length chosen)) ≡ true
+      → list_any (by_place p v) (range_with_len 0 (length places)) ≡ true
+  forth p v any =
+      let it = find_it (bit_says b tx.rv chosen chosen-too p v) 0 (length chosen) any in
+      let seat = seat-given tx.qm n it.at whole (omega (arith, it.high, many chosen marks inside is)) in
+      found (by_place p v) 0 (length places) seat.at (omega arith) (omega (arith, seat.inside, length-heards marks bits from n))
+      (place-says p v seat.at seat.inside ∙ ap (bit_says b tx.rv chosen chosen-too p v) seat.is ∙ it.is)
+
+  back : (p : ℕ) (v : Bool) → list_any (by_place p v) (range_with_len 0 (length places)) ≡ true
+      → list_any (bit_says b tx.rv chosen chosen-too p v) (range_with_len 0 (length chosen)) ≡ true
+  back p v any =
+      let it = find_it (by_place p v) 0 (length places) any in
+      let below : it.at < n = omega (arith, it.high, length-heards marks bits from n) in
+      found (bit_says b tx.rv chosen chosen-too p v) 0 (length chosen) (seat_of tx.qm n it.at) (omega arith)
+      (omega (arith, seat-inside tx.qm n it.at some whole below, many chosen marks inside is))
+      (sym (place-says p v it.at below) ∙ it.is)
+
+  pub says-part : (p : ℕ) (v : Bool) → list_any (bit_says b tx.rv chosen chosen-too p v) (range_with_len 0 (length chosen))
+      ≡ heard_as (part_hearings b tx (heards_from marks bits from n) (length (heards_from marks bits from n))) p v
+  unfolding heard_as
+  says-part p v =
+      same_test (list_any (bit_says b tx.rv chosen chosen-too p v) (range_with_len 0 (length chosen))) (list_any (by_place p v) (range_with_len 0 (length places))) (forth p v) (back p v)
+      ∙ sym (any-part_masks (part_hearing b tx places) p v (range_with_len 0 (length places)))
+
+pub none-more : (a : Bool) → a ≡ (a || false)
+none-more true = refl
+none-more false = refl

@@ -1,0 +1,205 @@
+-- 64 bits more at a turn, octet by octet.
+use Rattle.std.proofs.Common.{◌≡◌, ℕ, ◌+◌, ◌-◌, ◌*◌, ◌/◌, ◌%◌, ◌^◌, ◌<◌, ◌==◌, if◌then◌else◌, zero, suc, Bool, List, [], ◌++◌, length, get_or, refl, sym, ◌∙◌, ap, arith, bit_and, bit_xor}
+use Rattle.std.specs.Int.{bit_at}
+use Rattle.std.proofs.lemmas.List.FromFn.{get_or-map-range_with_len}
+use Rattle.std.proofs.lemmas.Nat.{and_mask, mod_below, pow_pos, shl-shr, shl_whole, shr-shr, shr_below, shr_split, xor_lt}
+use Rattle.std.proofs.lemmas.Nat.Bits.{bit_at-lt, bit_at_xor}
+use lib.Bits.{xor_self, xor_zero_l, xor_zero_r}
+use Rattle.nr_bitvec.specs.BitList.{low_first}
+use Rattle.nr_crcattach.specs.declared.Poly.{Poly}
+use Rattle.nr_crcattach.specs.Crc.{degree, times_d, rho, residue, high_first}
+use Rattle.nr_crcattach.specs.Octets.{Continues, octet_residues, octet_tables}
+use Rattle.nr_crcattach.proofs.RemainderFacts.{length-high_first, residue-own}
+use Rattle.nr_crcattach.proofs.GeneratorFacts.{degree-le}
+use Rattle.nr_crcattach.proofs.NumberBitFacts.{high_first-low, high_first-reversed, high_first-split}
+use Rattle.nr_crcattach.proofs.ResidueFacts.{residue-append, residue-lt, residue-suc}
+use Rattle.nr_crcattach.proofs.PolynomialSumFacts.{xor_pairs}
+
+-- both parts of a sum
+both : {a b a' b' : ℕ} → a ≡ a' → b ≡ b' → bit_xor a b ≡ bit_xor a' b'
+both {a} {b} {a'} {b'} first second = ap (λ n. bit_xor n b) first ∙ ap (bit_xor a') second
+
+-- ---- the remainder of a sum
+
+-- a term for the sum of two binary digits is the sum of the terms for each
+digits : (x y r : ℕ) → x < 2 → y < 2 → (if (x + y) % 2 == 1 then r else 0) ≡ bit_xor (if x == 1 then r else 0) (if y == 1 then r else 0)
+digits zero zero r is_digit is_digit' = refl
+digits zero (suc zero) r is_digit is_digit' = sym (xor_zero_l r)
+digits (suc zero) zero r is_digit is_digit' = sym (xor_zero_r r)
+digits (suc zero) (suc zero) r is_digit is_digit' = sym (xor_self r)
+digits x (suc (suc y)) r is_digit is_digit' = absurd (omega arith)
+digits (suc (suc x)) y r is_digit is_digit' = absurd (omega arith)
+
+-- the bits of a sum leave the sum of both remainders
+pub residue-xor : (p : Poly) (s n a b : ℕ) → residue p s (high_first n (bit_xor a b)) ≡ bit_xor (residue p s (high_first n a)) (residue p s (high_first n b))
+unfolding residue high_first
+residue-xor p s zero a b = refl
+residue-xor p s (suc n) a b =
+    let power : (v : ℕ) → rho p (length (high_first n v) + s) ≡ rho p (n + s) = λ v. ap (λ m. rho p (m + s)) (length-high_first n v) in
+    let top : ℕ → ℕ = λ x. if x == 1 then rho p (n + s) else 0 in
+    let head : (v : ℕ) → residue p s (high_first (suc n) v) ≡ bit_xor (top (bit_at v n)) (residue p s (high_first n v)) =
+    λ v. ap (λ r. bit_xor (if bit_at v n == 1 then r else 0) (residue p s (high_first n v))) (power v) in
+    let sum : top (bit_at (bit_xor a b) n) ≡ bit_xor (top (bit_at a n)) (top (bit_at b n)) =
+    ap top (bit_at_xor a b n) ∙ digits (bit_at a n) (bit_at b n) (rho p (n + s)) (bit_at-lt a n) (bit_at-lt b n) in
+    head (bit_xor a b)
+    ∙ ap (λ r. bit_xor r (residue p s (high_first n (bit_xor a b)))) sum
+    ∙ ap (bit_xor (bit_xor (top (bit_at a n)) (top (bit_at b n)))) (residue-xor p s n a b)
+    ∙ xor_pairs (top (bit_at a n)) (top (bit_at b n)) (residue p s (high_first n a)) (residue p s (high_first n b))
+    ∙ sym (ap (λ r. bit_xor r (residue p s (high_first (suc n) b))) (head a) ∙ ap (bit_xor (bit_xor (top (bit_at a n)) (residue p s (high_first n a)))) (head b))
+
+-- ---- more powers of D
+
+-- a remainder times D^n
+raised : Poly → ℕ → ℕ → ℕ
+raised p zero r = r
+raised p (suc n) r = times_d p (raised p n r)
+
+-- n more powers of D are the remainder times D^n
+residue-raised : (p : Poly) (n s : ℕ) (bits : List Bool) → residue p (n + s) bits ≡ raised p n (residue p s bits)
+unfolding raised
+residue-raised p zero s bits = ap (λ m. residue p m bits) (omega arith)
+residue-raised p (suc n) s bits =
+    let next : suc n + s ≡ suc (n + s) = omega arith in
+    ap (λ m. residue p m bits) next ∙ residue-suc p (n + s) bits ∙ ap (times_d p) (residue-raised p n s bits)
+
+-- two lists, the second of them a number's bits, have one remainder with more powers of D where they have it without
+residue-same : (p : Poly) (n : ℕ) (bits : List Bool) → residue p (n + degree p) bits ≡ residue p n (high_first (degree p) (residue p (degree p) bits))
+residue-same p n bits =
+    let r = residue p (degree p) bits in
+    let plain : n + 0 ≡ n = omega arith in
+    residue-raised p n (degree p) bits
+    ∙ ap (raised p n) (sym (residue-own p r (residue-lt p (degree p) bits)))
+    ∙ sym (residue-raised p n 0 (high_first (degree p) r))
+    ∙ ap (λ m. residue p m (high_first (degree p) r)) plain
+
+-- zeros behind bits raise their powers
+residue-zeros : (p : Poly) (s n k v : ℕ) → residue p (k + s) (high_first n v) ≡ residue p s (high_first (n + k) (v * 2 ^ k))
+residue-zeros p s n k v =
+    let moved = v * 2 ^ k in
+    let zeros = residue p s (high_first k 0) in
+    let none : zeros ≡ 0 = residue-xor p s k 0 0 ∙ xor_self zeros in
+    let end : moved + 0 ≡ moved = omega arith in
+    let lower : high_first k moved ≡ high_first k 0 = ap (high_first k) (sym end) ∙ high_first-low k k v 0 (omega arith) in
+    sym (ap (residue p s) (high_first-split n k moved)
+    ∙ residue-append p s (high_first n (moved / 2 ^ k)) (high_first k moved)
+    ∙ ap (λ m. bit_xor (residue p (m + s) (high_first n (moved / 2 ^ k))) (residue p s (high_first k moved))) (length-high_first k moved)
+    ∙ ap (λ w. bit_xor (residue p (k + s) (high_first n w)) (residue p s (high_first k moved))) (shl-shr v k)
+    ∙ ap (λ bits. bit_xor (residue p (k + s) (high_first n v)) (residue p s bits)) lower
+    ∙ ap (bit_xor (residue p (k + s) (high_first n v))) none
+    ∙ xor_zero_r (residue p (k + s) (high_first n v)))
+
+-- at least L bits enter: the check is added to the highest of them, and the check of the sum is that of all
+pub residue-entered : (p : Poly) (k v : ℕ) (bits : List Bool)
+    → residue p (degree p) (bits ++ high_first (degree p + k) v) ≡ residue p (degree p) (high_first (degree p + k) (bit_xor (residue p (degree p) bits * 2 ^ k) v))
+residue-entered p k v bits =
+    let l = degree p in
+    let r = residue p l bits in
+    let entering = residue p l (high_first (l + k) v) in
+    let turn : l + k ≡ k + l = omega arith in
+    let before : residue p (l + k + l) bits ≡ residue p l (high_first (l + k) (r * 2 ^ k)) =
+    ap (λ n. residue p (n + l) bits) turn
+    ∙ (let again : k + l + l ≡ (k + l) + l = omega arith in ap (λ n. residue p n bits) again)
+    ∙ residue-same p (k + l) bits
+    ∙ residue-zeros p l l k r in
+    residue-append p l bits (high_first (l + k) v)
+    ∙ ap (λ n. bit_xor (residue p (n + l) bits) entering) (length-high_first (l + k) v)
+    ∙ ap (λ n. bit_xor n entering) before
+    ∙ sym (residue-xor p l (l + k) (r * 2 ^ k) v)
+
+-- ---- eight octets
+
+-- the check of an octet that has k zero octets behind it
+checked : Poly → ℕ → ℕ → ℕ
+checked p k octet = residue p (8 * k + degree p) (high_first 8 octet)
+
+-- the sum of those of n octets more than one, of which octet k is the last
+sum_of_octets : Poly → ℕ → ℕ → ℕ → ℕ
+sum_of_octets p v zero k = checked p k (v / 2 ^ (8 * k))
+sum_of_octets p v (suc n) k = bit_xor (sum_of_octets p v n (k + 1)) (checked p k (v / 2 ^ (8 * k) % 2 ^ 8))
+
+-- it is the check of their bits
+residue-octets : (p : Poly) (v n k : ℕ) → residue p (8 * k + degree p) (high_first (8 * n + 8) (v / 2 ^ (8 * k))) ≡ sum_of_octets p v n k
+unfolding sum_of_octets checked
+residue-octets p v zero k = refl
+residue-octets p v (suc n) k =
+    let s = 8 * k + degree p in
+    let w = v / 2 ^ (8 * k) in
+    let above = high_first (8 * n + 8) (w / 2 ^ 8) in
+    let more : 8 * suc n + 8 ≡ 8 * n + 8 + 8 = omega arith in
+    let next : 8 * k + 8 ≡ 8 * (k + 1) = omega arith in
+    let power : 8 + s ≡ 8 * (k + 1) + degree p = omega arith in
+    let up : w / 2 ^ 8 ≡ v / 2 ^ (8 * (k + 1)) = shr-shr v (8 * k) 8 ∙ ap (λ m. v / 2 ^ m) next in
+    let lower : high_first 8 w ≡ high_first 8 (w % 2 ^ 8) = ap (high_first 8) (sym (shr_split w 8)) ∙ high_first-low 8 8 (w / 2 ^ 8) (w % 2 ^ 8) (omega arith) in
+    ap (λ m. residue p s (high_first m w)) more
+    ∙ ap (residue p s) (high_first-split (8 * n + 8) 8 w)
+    ∙ residue-append p s above (high_first 8 w)
+    ∙ ap (λ m. bit_xor (residue p (m + s) above) (residue p s (high_first 8 w))) (length-high_first 8 w)
+    ∙ both (ap (λ m. residue p m above) power ∙ ap (λ u. residue p (8 * (k + 1) + degree p) (high_first (8 * n + 8) u)) up ∙ residue-octets p v n (k + 1)) (ap (residue p s) lower)
+
+-- ---- the code's numbers
+
+-- a table's remainder of an octet
+looked-up : (p : Poly) (k octet : ℕ) → k < 8 → octet < 256 → get_or (get_or (octet_tables p) k []) octet 0 ≡ checked p k octet
+unfolding octet_tables octet_residues checked
+looked-up p k octet is_table is_octet =
+    ap (λ t. get_or t octet 0) (get_or-map-range_with_len (λ m. octet_residues p (8 * m)) 0 8 k k [] is_table (omega arith))
+    ∙ get_or-map-range_with_len (λ o. residue p (8 * k + degree p) (high_first 8 o)) 0 256 octet octet 0 is_octet (omega arith)
+
+-- octet k of a word, looked up
+looked-up_within : (p : Poly) (v k : ℕ) → k < 8 → get_or (get_or (octet_tables p) k []) (bit_and (v / 2 ^ (8 * k)) 255) 0 ≡ checked p k (v / 2 ^ (8 * k) % 2 ^ 8)
+looked-up_within p v k is_table =
+    let w = v / 2 ^ (8 * k) in
+    ap (λ o. get_or (get_or (octet_tables p) k []) o 0) (and_mask w 8) ∙ looked-up p k (w % 2 ^ 8) is_table (mod_below w (2 ^ 8) (pow_pos 8))
+
+-- what the code computes from the tables and a word, to which the check is added
+abbrev pub summed : List (List ℕ) → ℕ → ℕ
+summed tables v =
+    let at : ℕ → ℕ → ℕ = λ k octet. get_or (get_or tables k []) octet 0 in
+    bit_xor (bit_xor (bit_xor (bit_xor (bit_xor (bit_xor (bit_xor (at 7 (v / 2 ^ 56)) (at 6 (bit_and (v / 2 ^ 48) 255))) (at 5 (bit_and (v / 2 ^ 40) 255))) (at 4 (bit_and (v / 2 ^ 32) 255))) (at 3 (bit_and (v / 2 ^ 24) 255))) (at 2 (bit_and (v / 2 ^ 16) 255))) (at 1 (bit_and (v / 2 ^ 8) 255))) (at 0 (bit_and v 255))
+
+-- it is the check of the word's bits
+summed-is : (p : Poly) (v : ℕ) → v < 2 ^ 64 → summed (octet_tables p) v ≡ residue p (degree p) (high_first 64 v)
+unfolding sum_of_octets
+summed-is p v is_word =
+    let inner : (k : ℕ) → k < 8 → get_or (get_or (octet_tables p) k []) (bit_and (v / 2 ^ (8 * k)) 255) 0 ≡ checked p k (v / 2 ^ (8 * k) % 2 ^ 8) = looked-up_within p v in
+    let top : get_or (get_or (octet_tables p) 7 []) (v / 2 ^ 56) 0 ≡ checked p 7 (v / 2 ^ 56) = looked-up p 7 (v / 2 ^ 56) (omega arith) (shr_below v 8 56 is_word) in
+    let whole : v / 2 ^ 0 ≡ v = omega arith in
+    let last : get_or (get_or (octet_tables p) 0 []) (bit_and v 255) 0 ≡ checked p 0 (v / 2 ^ 0 % 2 ^ 8) = ap (λ w. get_or (get_or (octet_tables p) 0 []) (bit_and w 255) 0) (sym whole) ∙ inner 0 (omega arith) in
+    let sum : summed (octet_tables p) v ≡ sum_of_octets p v 7 0 =
+    both (both (both (both (both (both (both top (inner 6 (omega arith))) (inner 5 (omega arith))) (inner 4 (omega arith))) (inner 3 (omega arith))) (inner 2 (omega arith))) (inner 1 (omega arith))) last in
+    let plain : 8 * 0 + degree p ≡ degree p = omega arith in
+    sum ∙ sym (residue-octets p v 7 0) ∙ ap (λ w. residue p (8 * 0 + degree p) (high_first 64 w)) whole ∙ ap (λ s. residue p s (high_first 64 v)) plain
+
+-- it is a remainder
+pub summed-lt : (p : Poly) (tables : List (List ℕ)) (v : ℕ) → tables ≡ octet_tables p → v < 2 ^ 64 → summed tables v < 2 ^ degree p
+summed-lt p tables v are_tables is_word =
+    rw (are_tables, summed-is p v is_word) (residue-lt p (degree p) (high_first 64 v))
+
+-- the check, moved to the top of a word
+pub moved_up : (p : Poly) (r moved by : ℕ) → r < 2 ^ degree p → moved ≡ r → by ≡ degree p → moved * 2 ^ (64 - by) % 2 ^ 64 ≡ r * 2 ^ (64 - degree p)
+moved_up p r moved by small is_moved is_degree =
+    ap (λ n. n * 2 ^ (64 - by) % 2 ^ 64) is_moved
+    ∙ ap (λ n. r * 2 ^ (64 - n) % 2 ^ 64) is_degree
+    ∙ shl_whole r (degree p) (64 - degree p) 64 small (omega (arith, degree-le p))
+
+-- the word with the check added to its highest bits is a word
+pub joined-lt : (r by reversed : ℕ) → reversed < 2 ^ 64 → bit_xor (r * 2 ^ by % 2 ^ 64) reversed < 2 ^ 64
+joined-lt r by reversed is_word =
+    xor_lt 64 (r * 2 ^ by % 2 ^ 64) reversed (mod_below (r * 2 ^ by) (2 ^ 64) (pow_pos 64)) is_word
+
+-- it is the check of the bits with those of the word behind them
+pub Continues-summed : (p : Poly) (tables : List (List ℕ)) (r word reversed joined : ℕ) → tables ≡ octet_tables p → ((j : ℕ) → j < 64 → bit_at reversed j ≡ bit_at word (63 - j)) → joined ≡ bit_xor (r * 2 ^ (64 - degree p)) reversed → joined < 2 ^ 64
+    → Continues p r (low_first 64 word) (summed tables joined)
+unfolding high_first low_first
+Continues-summed p tables r word reversed joined are_tables turns is_joined is_word = λ bits same.
+    let l = degree p in
+    let k = 64 - l in
+    let long : l + k ≡ 64 = omega (arith, degree-le p) in
+    let turned_round : high_first 64 reversed ≡ low_first 64 word = high_first-reversed word reversed 0 64 turns refl in
+    let entered = residue-entered p k reversed bits in
+    let enters : residue p l (bits ++ high_first 64 reversed) ≡ residue p l (high_first 64 (bit_xor (residue p l bits * 2 ^ k) reversed)) = rw long at entered in
+    ap (λ t. summed t joined) are_tables
+    ∙ summed-is p joined is_word
+    ∙ ap (λ v. residue p l (high_first 64 v)) (is_joined ∙ ap (λ v. bit_xor (v * 2 ^ k) reversed) same)
+    ∙ sym enters
+    ∙ ap (λ w. residue p l (bits ++ w)) turned_round

@@ -1,0 +1,136 @@
+-- The lists of a store while all that masks say is merged into them, 64 positions at a time.
+use Rattle.std.proofs.Common.{◌≡◌, ℕ, ◌+◌, ◌-◌, ◌^◌, ◌<◌, ◌≤◌, ◌==◌, ◌&&◌, ◌||◌, inl, inr, Bool, true, false, not, List, length, refl, ap, sym, ◌∙◌, arith}
+use Rattle.std.specs.Int.{bit_not, w64}
+use Rattle.std.specs.Int.Bits.{bit_and, bit_or, bit_xor, and_lt, xor_lt}
+use Rattle.std.proofs.lemmas.Bool.{cases_lt, true≢false, or_from, or_parts, eqb-true, eq-eqb}
+use Rattle.std.proofs.lemmas.List.{get_or_past}
+use Rattle.nr_bitvec.specs.Bit.{◌⊕◌, bit}
+use Rattle.nr_harqbuf.proofs.MaskWordFacts.{on, on-or, IsPut, put-in, read-at, merged_bit, clashing, news-word, value-word, clash-word, word-zero, zero-none}
+
+-- a store's lists and its clash, and the marks of a mask
+pub record Lists : Type 0 where
+  pub heard : List Bool
+  pub value : List Bool
+  pub marks : List Bool
+  pub clash : Bool
+
+-- what they have at a position
+abbrev pub at_position : Lists → ℕ → Bool × Bool × Bool
+at_position s p = (bit s.heard p, bit s.value p, bit s.marks p)
+
+-- what they have there after bit b was received where the mask is set: of the marks the fresh ones stay
+abbrev pub after_hearing : Bool × Bool × Bool → Bool → Bool × Bool × Bool
+after_hearing s b = (s.0 || s.2, merged_bit s.0 s.1 s.2 b, s.2 && not s.0)
+
+abbrev pub clashes_at : Bool × Bool × Bool → Bool → Bool
+clashes_at s b = clashing s.0 s.1 s.2 b
+
+-- the positions below k are merged, and the others are as they were
+pub record IsMerged (k : ℕ) (old : Lists) (bits : List Bool) (new : Lists) : Type 0 where
+  pub below : (p : ℕ) → p < k → at_position new p ≡ after_hearing (at_position old p) (bit bits p)
+  pub beyond : (p : ℕ) → k ≤ p → at_position new p ≡ at_position old p
+  pub quiet : new.clash ≡ false → (old.clash ≡ false) × ((p : ℕ) → p < k → clashes_at (at_position old p) (bit bits p) ≡ false)
+  pub silent : old.clash ≡ false → ((p : ℕ) → p < k → clashes_at (at_position old p) (bit bits p) ≡ false) → new.clash ≡ false
+  pub heard_long : length new.heard ≡ length old.heard
+  pub value_long : length new.value ≡ length old.value
+  pub marks_long : length new.marks ≡ length old.marks
+
+pub merged-none : (k : ℕ) (old : Lists) (bits : List Bool) → k ≡ 0 → IsMerged k old bits old
+merged-none k old bits none = record {
+  below = λ p h. absurd (omega (arith, h, none));
+  beyond = λ p h. refl;
+  quiet = λ e. (e, λ p h. absurd (omega (arith, h, none)));
+  silent = λ e f. e;
+  heard_long = refl;
+  value_long = refl;
+  marks_long = refl;
+}
+
+triple : (a b c d e f : Bool) → a ≡ d → b ≡ e → c ≡ f → ◌≡◌ {A = Bool × Bool × Bool} (a, b, c) (d, e, f)
+triple a b c d e f h i j = cc
+
+-- the words that a step reads and puts
+pub record IsStep (at count before old now bits : ℕ) (s : Lists) (word : List Bool) (new : Lists) : Type 0 where
+  pub few : count ≤ 64
+  pub whole : (j : ℕ) → j < 64 → count ≤ j → length s.marks ≤ at + j
+  pub before_fits : before < 2 ^ 64
+  pub old_fits : old < 2 ^ 64
+  pub now_fits : now < 2 ^ 64
+  pub bits_fits : bits < 2 ^ 64
+  pub reads_before : (j : ℕ) → j < 64 → on before j ≡ bit s.heard (at + j)
+  pub reads_old : (j : ℕ) → j < 64 → on old j ≡ bit s.value (at + j)
+  pub reads_now : (j : ℕ) → j < 64 → on now j ≡ bit s.marks (at + j)
+  pub reads_bits : (j : ℕ) → j < 64 → on bits j ≡ bit word (at + j)
+  pub put_heard : IsPut s.heard new.heard at count (bit_or before now)
+  pub put_value : IsPut s.value new.value at count (bit_xor old (bit_and (bit_and now (bit_not w64 before)) (bit_xor old bits)))
+  pub put_marks : IsPut s.marks new.marks at count (bit_and now (bit_not w64 before))
+  pub clash : new.clash ≡ (s.clash || not (bit_and (bit_and now before) (bit_xor old bits) == 0))
+  pub heard_long : length new.heard ≡ length s.heard
+  pub value_long : length new.value ≡ length s.value
+  pub marks_long : length new.marks ≡ length s.marks
+
+-- a position of the word
+step-in : (at count before old now bits : ℕ) (s : Lists) (word : List Bool) (new : Lists) → IsStep at count before old now bits s word new
+    → (p : ℕ) → at ≤ p → p < at + count → at_position new p ≡ after_hearing (at_position s p) (bit word p)
+step-in at count before old now bits s word new step p from below =
+    let here : p < at + 64 = omega (arith, below, step.few) in
+    let j : p - at < 64 = omega (arith, from, here) in
+    let h : on before (p - at) ≡ bit s.heard p = read-at s.heard at before p step.reads_before from here in
+    let v : on old (p - at) ≡ bit s.value p = read-at s.value at old p step.reads_old from here in
+    let n : on now (p - at) ≡ bit s.marks p = read-at s.marks at now p step.reads_now from here in
+    let b : on bits (p - at) ≡ bit word p = read-at word at bits p step.reads_bits from here in
+    triple _ _ _ _ _ _
+    (put-in s.heard new.heard at count (bit_or before now) p step.put_heard from below ∙ on-or before now (p - at) ∙ rw (h, n) refl)
+    (put-in s.value new.value at count (bit_xor old (bit_and (bit_and now (bit_not w64 before)) (bit_xor old bits))) p step.put_value from below ∙ value-word before old now bits (p - at) step.before_fits j ∙ rw (h, v, n, b) refl)
+    (put-in s.marks new.marks at count (bit_and now (bit_not w64 before)) p step.put_marks from below ∙ news-word before now (p - at) step.before_fits j ∙ rw (h, n) refl)
+
+-- a clash at a position of the word
+step-clash : (at count before old now bits : ℕ) (s : Lists) (word : List Bool) (new : Lists) → IsStep at count before old now bits s word new
+    → (j : ℕ) → j < 64 → on (bit_and (bit_and now before) (bit_xor old bits)) j ≡ clashes_at (at_position s (at + j)) (bit word (at + j))
+step-clash at count before old now bits s word new step j lt =
+    clash-word before old now bits j ∙ rw (step.reads_before j lt, step.reads_old j lt, step.reads_now j lt, step.reads_bits j lt) refl
+
+unequal : (b : Bool) → not b ≡ false → b ≡ true
+unequal true e = refl
+unequal false e = absurd (true≢false e)
+
+equal : (b : Bool) → b ≡ true → not b ≡ false
+equal true e = refl
+equal false e = sym e
+
+pub merged-step : (at count before old now bits : ℕ) (start : Lists) (s : Lists) (word : List Bool) (new : Lists) → IsMerged at start word s → IsStep at count before old now bits s word new
+    → IsMerged (at + count) start word new
+merged-step at count before old now bits start s word new merged step = record {
+  below = λ p h. elim (cases_lt p at) [
+    | inl low ↦ triple _ _ _ _ _ _ (step.put_heard.before p low) (step.put_value.before p low) (step.put_marks.before p low) ∙ merged.below p low
+    | inr from ↦ step-in at count before old now bits s word new step p from h ∙ ap (λ (t : Bool × Bool × Bool). after_hearing t (bit word p)) (merged.beyond p from)
+  ];
+  beyond = λ p h. triple _ _ _ _ _ _ (step.put_heard.after p h) (step.put_value.after p h) (step.put_marks.after p h) ∙ merged.beyond p (omega (arith, h));
+  quiet = λ e.
+      let parts = or_parts s.clash (not (bit_and (bit_and now before) (bit_xor old bits) == 0)) (sym step.clash ∙ e) in
+      let zero : bit_and (bit_and now before) (bit_xor old bits) ≡ 0 = eqb-true _ 0 (unequal (bit_and (bit_and now before) (bit_xor old bits) == 0) parts.1) in
+      let first = merged.quiet parts.0 in
+      (first.0, λ p h. elim (cases_lt p at) [ inl low ↦ first.1 p low | inr from ↦ none zero p from h ]);
+  silent = λ e f.
+      step.clash ∙ or_from s.clash (not (bit_and (bit_and now before) (bit_xor old bits) == 0)) (merged.silent e (λ p h. f p (omega (arith, h))))
+      (equal (bit_and (bit_and now before) (bit_xor old bits) == 0) (eq-eqb (bit_and (bit_and now before) (bit_xor old bits)) 0
+      (word-zero (bit_and (bit_and now before) (bit_xor old bits)) (and_lt 64 (bit_and now before) (bit_xor old bits) (and_lt 64 now before step.now_fits step.before_fits) (xor_lt 64 old bits step.old_fits step.bits_fits)) (clear f))));
+  heard_long = step.heard_long ∙ merged.heard_long;
+  value_long = step.value_long ∙ merged.value_long;
+  marks_long = step.marks_long ∙ merged.marks_long;
+}
+  where
+    none : bit_and (bit_and now before) (bit_xor old bits) ≡ 0 → (p : ℕ) → at ≤ p → p < at + count → clashes_at (at_position start p) (bit word p) ≡ false
+    none zero p from below =
+        let e : at + (p - at) ≡ p = omega (arith, from) in
+        ap (λ (t : Bool × Bool × Bool). clashes_at t (bit word p)) (sym (merged.beyond p from))
+        ∙ ap (λ q. clashes_at (at_position s q) (bit word q)) (sym e)
+        ∙ sym (step-clash at count before old now bits s word new step (p - at) (omega (arith, from, below, step.few)))
+        ∙ zero-none (bit_and (bit_and now before) (bit_xor old bits)) (p - at) zero
+
+    clear : ((p : ℕ) → p < at + count → clashes_at (at_position start p) (bit word p) ≡ false) → (j : ℕ) → j < 64 → on (bit_and (bit_and now before) (bit_xor old bits)) j ≡ false
+    clear f j lt =
+        step-clash at count before old now bits s word new step j lt ∙ elim (cases_lt j count) [
+          | inl low ↦ ap (λ (t : Bool × Bool × Bool). clashes_at t (bit word (at + j))) (merged.beyond (at + j) (omega arith)) ∙ f (at + j) (omega (arith, low))
+          | inr high ↦ ap (λ m. (m && bit s.heard (at + j)) && (bit s.value (at + j) ⊕ bit word (at + j))) (get_or_past s.marks (at + j) false (step.whole j lt high))
+        ]

@@ -1,0 +1,42 @@
+-- Rows that a word meets, by the words of their sums.
+use Rattle.std.proofs.Common.{◌≡◌, ℕ, suc, ◌+◌, ◌*◌, ◌^◌, ◌<◌, Bool, false, List, [], ◌∷◌, get_or, All, refl, sym, ap, subst, ◌∙◌, arith}
+use Rattle.std.proofs.lemmas.Nat.Bits.{bit_at-zero, same_from_bits_below}
+use Rattle.nr_bitvec.specs.Bit.{◌⊕◌, bit}
+use Rattle.nr_bitvec.specs.Packed.{place}
+use Rattle.nr_bitvec.proofs.BitFacts.{place_of}
+use Rattle.nr_graphpick.specs.declared.Graph.{Graph}
+use Rattle.nr_graphpick.specs.Graph.{cols_of}
+use Rattle.nr_shifttable.specs.declared.entry.Entry.{Entry}
+use Rattle.nr_shifttable.specs.Accepted.{row_of, IsInRange}
+use Rattle.nr_shifttable.specs.Tails.{value_in}
+use Rattle.nr_ldpcenc.specs.Parity.{parity}
+use Rattle.nr_ldpcenc.specs.Rows.{one_at, positions, row_at}
+use Rattle.nr_ldpcenc.specs.Solving.{sum_before}
+use Rattle.nr_ldpcenc.specs.Inside.{AgreeBelow}
+use Rattle.nr_ldpcenc.proofs.EntrySumFacts.{lt_test}
+use Rattle.nr_ldpcenc.proofs.RowSumFacts.{heads-agree}
+
+-- a word is zero where no place is set
+pub zero_word : (ws : List ℕ) (k : ℕ) → get_or ws k 0 < 2 ^ 64 → ((t : ℕ) → place ws t ≡ 0) → get_or ws k 0 ≡ 0
+zero_word ws k fits none =
+    same_from_bits_below 64 (get_or ws k 0) 0 fits (omega arith)
+    (λ j short. sym (place_of ws (64 * k + j) k j refl short) ∙ none (64 * k + j) ∙ sym (bit_at-zero j))
+
+-- a sum before a column past all of a row is the whole row's
+sum-whole : (set z : ℕ) (w : ℕ → Bool) (n t : ℕ) (row : List Entry) → All (λ e. e.col < n) row → sum_before set z w n t row ≡ parity w (positions set z t row)
+sum-whole set z w n t [] all = refl
+sum-whole set z w n t (x ∷ xs) all = rw (lt_test x.col n (all 0 x (omega arith))) (ap (λ b. w (one_at z t x.col (value_in set x)) ⊕ b) (sum-whole set z w n t xs (λ k d lt. all (suc k) d (omega (arith, lt)))))
+
+-- a row's sum over a word, by other bits that are the word's
+pub row-sum : (g : Graph) (es : List Entry) (set z n i t : ℕ) (word : List Bool) (w : ℕ → Bool) (s : ℕ) (row : List Entry)
+    → 0 < z → n ≡ cols_of g → s ≡ set → row ≡ row_of es i → All (IsInRange g) row → AgreeBelow (n * z) (bit word) w
+    → parity (bit word) (row_at es set z i t) ≡ sum_before s z w n t row
+row-sum g es set z n i t word w s row pos columns is_set is all same =
+    let inside : All (λ e. e.col < n) row = λ k d lt. omega (arith, (all k d lt).col, columns) in
+    sym (sum-whole set z (bit word) n t (row_of es i) (subst (λ r. All (λ e. e.col < n) r) is inside))
+    ∙ heads-agree es set z (bit word) w n i t pos same
+    ∙ sym (λ k. sum_before (is_set k) z w n t (is k))
+
+-- every row is met where each row of blocks is
+abbrev pub AreMet : List Entry → ℕ → ℕ → ℕ → (ℕ → Bool) → Type 0
+AreMet es set rows z w = (i t : ℕ) → i < rows → t < z → parity w (row_at es set z i t) ≡ false

@@ -1,0 +1,187 @@
+-- Lanes in words, word by word, and how many bits they have.
+use Rattle.std.proofs.Common.{◌≡◌, ℕ, zero, suc, ◌+◌, ◌-◌, ◌*◌, ◌/◌, ◌%◌, ◌^◌, ◌<◌, ◌≤◌, ◌==◌, ◌&&◌, min, Bool, true, false, not, if◌then◌else◌, List, length, get_or, set, refl, sym, ap, ◌∙◌, subst, inl, inr, arith, length-set, get_or-set_same, get_or-set_other}
+use Rattle.std.proofs.Math.Nat.{pow-suc}
+use Rattle.std.proofs.lemmas.Bool.{cases_lt, cases_eq}
+use Rattle.std.proofs.lemmas.Nat.{div-add-mod', div_below, mod_below, ones_cat, pow_pos}
+use Rattle.std.proofs.lemmas.Nat.Bits.{bit_at_and, bit_at_not, bit_at_xor, bit_at_cat_low}
+use Rattle.std.specs.Int.{bit_at, bit_not, w64}
+use Rattle.std.specs.Int.RustNames.{bit_and, bit_xor, count_ones}
+use Rattle.nr_bitvec.specs.Bit.{◌⊕◌}
+use Rattle.nr_bitvec.specs.Packed.{place, IsClear}
+use Rattle.nr_bitvec.proofs.BitFacts.{place_of, place_past}
+use Rattle.nr_lifting.specs.Rings.{is_set, marked}
+use Rattle.nr_lifting.proofs.LaneViewFacts.{min_bits, place-lt, rest_bits, sum_bits}
+
+-- The places of the first n words are those that G gives them, and the others are the old ones.
+pub record IsMade (n : ℕ) (G : ℕ → ℕ) (now old : List ℕ) : Type 0 where
+  pub done : (t : ℕ) → t < 64 * n → place now t ≡ G t
+  pub kept : (w : ℕ) → n ≤ w → get_or now w 0 ≡ get_or old w 0
+  pub long : length now ≡ length old
+
+pub made_next : (n : ℕ) (G : ℕ → ℕ) (next now old : List ℕ) (word : ℕ) → IsMade n G now old → n < length now → next ≡ set now n word
+    → ((j : ℕ) → j < 64 → bit_at word j ≡ G (64 * n + j)) → IsMade (n + 1) G next old
+made_next n G next now old word h within put are = record {
+  done = λ t below. elim (cases_eq (t / 64) n) [
+    | inl e ↦
+        let split : 64 * n + t % 64 ≡ t = omega (arith, e) in
+        ap (λ ws. place ws t) put ∙ place_of (set now n word) t n (t % 64) (sym split) (omega arith)
+        ∙ ap (λ w. bit_at w (t % 64)) (get_or-set_same now n word 0 within) ∙ are (t % 64) (omega arith) ∙ ap G split
+    | inr apart ↦
+        ap (λ ws. place ws t) put ∙ ap (λ w. bit_at w (t % 64)) (get_or-set_other now n (t / 64) word 0 apart) ∙ h.done t (omega (arith, below, apart))
+  ];
+  kept = λ w above. ap (λ ws. get_or ws w 0) put ∙ get_or-set_other now n w word 0 (λ e. omega (arith, e, above)) ∙ h.kept w (omega (arith, above));
+  long = ap length put ∙ length-set now n word ∙ h.long;
+}
+
+-- the place of a word that is still the old one
+pub word_bit : (n j word : ℕ) (ws : List ℕ) → word ≡ get_or ws n 0 → j < 64 → bit_at word j ≡ place ws (64 * n + j)
+word_bit n j word ws is short = ap (λ w. bit_at w j) is ∙ sym (place_of ws (64 * n + j) n j refl short)
+
+-- when all words are made
+whole : (n : ℕ) (G : ℕ → ℕ) (now old : List ℕ) → IsMade n G now old → length old ≤ n → ((t : ℕ) → 64 * n ≤ t → G t ≡ 0) → (t : ℕ) → place now t ≡ G t
+whole n G now old h all none t = elim (cases_lt t (64 * n)) [
+  | inl inside ↦ h.done t inside
+  | inr out ↦ place_past now t (omega (arith, h.long, all, out)) ∙ sym (none t out)
+]
+
+-- a lane's words and another's, word by word
+module _ (old lane : List ℕ) where
+  pub added_bit : (i j w v : ℕ) → w ≡ get_or old i 0 → v ≡ get_or lane i 0 → j < 64 → bit_at (bit_xor w v) j ≡ (place old (64 * i + j) + place lane (64 * i + j)) % 2
+  added_bit i j w v is with short =
+      bit_at_xor w v j ∙ ap (λ m. (m + bit_at v j) % 2) (word_bit i j w old is short) ∙ ap (λ m. (place old (64 * i + j) + m) % 2) (word_bit i j v lane with short)
+
+  pub common_bit : (i j w v : ℕ) → w ≡ get_or old i 0 → v ≡ get_or lane i 0 → j < 64 → bit_at (bit_and w v) j ≡ min (place old (64 * i + j)) (place lane (64 * i + j))
+  common_bit i j w v is with short =
+      bit_at_and w v j ∙ ap (λ m. min m (bit_at v j)) (word_bit i j w old is short) ∙ ap (min (place old (64 * i + j))) (word_bit i j v lane with short)
+
+  pub without_bit : (i j w v : ℕ) → w ≡ get_or old i 0 → v ≡ get_or lane i 0 → v < 2 ^ 64 → j < 64
+      → bit_at (bit_and w (bit_not w64 v)) j ≡ min (place old (64 * i + j)) (1 - place lane (64 * i + j))
+  without_bit i j w v is with fits short =
+      bit_at_and w (bit_not w64 v) j ∙ ap (min (bit_at w j)) (bit_at_not w64 v j fits short) ∙ ap (λ m. min m (1 - bit_at v j)) (word_bit i j w old is short)
+      ∙ ap (λ m. min (place old (64 * i + j)) (1 - m)) (word_bit i j v lane with short)
+
+-- and when all of them are made
+module _ (n : ℕ) (now old lane : List ℕ) (few : length old ≤ n) where
+  none_old : (t : ℕ) → 64 * n ≤ t → place old t ≡ 0
+  none_old t out = place_past old t (omega (arith, few, out))
+
+  module _ (more : length lane ≤ n) where
+    none_lane : (t : ℕ) → 64 * n ≤ t → place lane t ≡ 0
+    none_lane t out = place_past lane t (omega (arith, more, out))
+
+    added : IsMade n (λ t. (place old t + place lane t) % 2) now old → (t : ℕ) → place now t ≡ (place old t + place lane t) % 2
+    added h = whole n (λ t. (place old t + place lane t) % 2) now old h few (λ t out. omega (arith, none_old t out, none_lane t out))
+
+    pub added_all : IsMade n (λ t. (place old t + place lane t) % 2) now old → (t : ℕ) → is_set now t ≡ is_set old t ⊕ is_set lane t
+    added_all h t = ap (λ m. m == 1) (added h t) ∙ sum_bits (place old t) (place lane t) (place-lt old t) (place-lt lane t)
+
+    pub added_clear : IsMade n (λ t. (place old t + place lane t) % 2) now old → (z : ℕ) → IsClear old z → IsClear lane z → IsClear now z
+    added_clear h z one other t past = omega (arith, added h t, one t past, other t past)
+
+    pub common_all : IsMade n (λ t. min (place old t) (place lane t)) now old → (t : ℕ) → is_set now t ≡ (is_set old t && is_set lane t)
+    common_all h t =
+        ap (λ m. m == 1) (whole n (λ t. min (place old t) (place lane t)) now old h few (λ t out. omega (arith, none_old t out)) t)
+        ∙ min_bits (place old t) (place lane t) (place-lt old t) (place-lt lane t)
+
+  pub common_clear : IsMade n (λ t. min (place old t) (place lane t)) now old → (z : ℕ) → IsClear old z → IsClear now z
+  common_clear h z one t past =
+      whole n (λ t. min (place old t) (place lane t)) now old h few (λ t out. omega (arith, none_old t out)) t ∙ omega (arith, one t past)
+
+  less : IsMade n (λ t. min (place old t) (1 - place lane t)) now old → (t : ℕ) → place now t ≡ min (place old t) (1 - place lane t)
+  less h = whole n (λ t. min (place old t) (1 - place lane t)) now old h few (λ t out. omega (arith, none_old t out))
+
+  pub without_all : IsMade n (λ t. min (place old t) (1 - place lane t)) now old → (t : ℕ) → is_set now t ≡ (is_set old t && not (is_set lane t))
+  without_all h t = ap (λ m. m == 1) (less h t) ∙ rest_bits (place old t) (place lane t) (place-lt old t) (place-lt lane t)
+
+  pub without_clear : IsMade n (λ t. min (place old t) (1 - place lane t)) now old → (z : ℕ) → IsClear old z → IsClear now z
+  without_clear h z one t past = less h t ∙ omega (arith, one t past)
+
+-- ---- counts
+
+ones_below : (n : ℕ) → n < 2 → count_ones n ≡ (if n == 1 then 1 else 0)
+unfolding count_ones
+ones_below zero h = refl
+ones_below (suc zero) h = refl
+ones_below (suc (suc n)) h = absurd (omega (arith, h))
+
+pub marked-same : (u v : ℕ → Bool) (n : ℕ) → ((t : ℕ) → t < n → u t ≡ v t) → marked u n ≡ marked v n
+marked-same u v zero same = refl
+marked-same u v (suc n) same =
+    ap (λ m. m + (if u n then 1 else 0)) (marked-same u v n (λ t h. same t (omega (arith, h)))) ∙ ap (λ b. marked v n + (if b then 1 else 0)) (same n (omega arith))
+
+pub marked-append : (u : ℕ → Bool) (a b : ℕ) → marked u (a + b) ≡ marked u a + marked (λ j. u (a + j)) b
+marked-append u a zero = ap (marked u) (none a) ∙ omega arith
+  where
+    none : (a : ℕ) → a + 0 ≡ a
+    none a = omega arith
+marked-append u a (suc b) = ap (marked u) (next a b) ∙ omega (arith, marked-append u a b)
+  where
+    next : (a b : ℕ) → a + suc b ≡ suc (a + b)
+    next a b = omega arith
+
+pub marked-none : (u : ℕ → Bool) (a b : ℕ) → ((t : ℕ) → a ≤ t → u t ≡ false) → a ≤ b → marked u b ≡ marked u a
+marked-none u a b none le =
+    ap (marked u) (split a b le) ∙ marked-append u a (b - a)
+    ∙ ap (λ m. marked u a + m) (marked-same (λ j. u (a + j)) (λ _. false) (b - a) (λ t h. none (a + t) (omega arith)) ∙ zeros (b - a)) ∙ omega arith
+  where
+    split : (a b : ℕ) → a ≤ b → b ≡ a + (b - a)
+    split a b le = omega (arith, le)
+
+    zeros : (n : ℕ) → marked (λ _. false) n ≡ 0
+    zeros zero = refl
+    zeros (suc n) = omega (arith, zeros n)
+
+pub marked-le : (u : ℕ → Bool) (n : ℕ) → marked u n ≤ n
+marked-le u zero = omega arith
+marked-le u (suc n) = omega (arith, marked-le u n, one (u n))
+  where
+    one : (b : Bool) → (if b then 1 else 0) ≤ 1
+    one true = omega arith
+    one false = omega arith
+
+-- the ones of a number are its digits that are set
+pub ones_marked : (k n : ℕ) → n < 2 ^ k → count_ones n ≡ marked (λ j. bit_at n j == 1) k
+ones_marked zero n h = ap count_ones {y = 0} (omega (arith, h)) ∙ ones_below 0 (omega arith)
+ones_marked (suc k) n h =
+    let p = 2 ^ k in
+    let a = n / p in
+    let r = n % p in
+    let whole_is : n ≡ a * p + r = sym (div-add-mod' n p) in
+    let small : r < p = mod_below n p (pow_pos k) in
+    let twice : n < p * 2 = subst (λ m. n < m) (pow-suc 2 k) h in
+    let top : a < 2 = div_below n p 2 (pow_pos k) (omega (arith, twice)) in
+    let digit : bit_at n k ≡ a = omega (arith, top) in
+    ap count_ones whole_is ∙ ones_cat k a r small ∙ ap (λ m. m + count_ones r) (ones_below a top) ∙ ap (λ m. (if a == 1 then 1 else 0) + m) (ones_marked k r small)
+    ∙ ap (λ m. (if a == 1 then 1 else 0) + m) (marked-same (λ j. bit_at r j == 1) (λ j. bit_at n j == 1) k (λ j below. ap (λ m. m == 1) (sym (bit_at_cat_low a k r j below) ∙ ap (λ m. bit_at m j) (sym whole_is))))
+    ∙ swap (if a == 1 then 1 else 0) (marked (λ j. bit_at n j == 1) k)
+    ∙ ap (λ m. marked (λ j. bit_at n j == 1) k + (if m == 1 then 1 else 0)) (sym digit)
+  where
+    swap : (a b : ℕ) → a + b ≡ b + a
+    swap a b = omega arith
+
+-- the bits of one word more are counted
+pub counted_more : (i count word : ℕ) (lane : List ℕ) → word ≡ get_or lane i 0 → word < 2 ^ 64 → count ≡ marked (is_set lane) (64 * i)
+    → count + count_ones word ≡ marked (is_set lane) (64 * (i + 1))
+counted_more i count word lane is fits before =
+    ap (λ m. m + count_ones word) before
+    ∙ ap (λ m. marked (is_set lane) (64 * i) + m) (ones_marked 64 word fits ∙ marked-same (λ j. bit_at word j == 1) (λ j. is_set lane (64 * i + j)) 64 (λ j short. ap (λ m. m == 1) (word_bit i j word lane is short)))
+    ∙ sym (marked-append (is_set lane) (64 * i) 64) ∙ ap (marked (is_set lane)) (next i)
+  where
+    next : (i : ℕ) → 64 * i + 64 ≡ 64 * (i + 1)
+    next i = omega arith
+
+-- a word of zeros has no bit
+pub counted_none : (i count : ℕ) (lane : List ℕ) → get_or lane i 0 ≡ 0 → count ≡ marked (is_set lane) (64 * i) → count ≡ marked (is_set lane) (64 * (i + 1))
+counted_none i count lane none before = none_more count ∙ counted_more i count 0 lane (sym none) (omega arith) before
+  where
+    none_more : (n : ℕ) → n ≡ n + count_ones 0
+    none_more n =
+        let zero_ones : count_ones 0 ≡ 0 = ones_below 0 (omega arith) in
+        omega (arith, zero_ones)
+
+-- the bits of a lane that is clear from place n on are below it
+pub counted_all : (k n : ℕ) (lane : List ℕ) → length lane ≤ k → IsClear lane n → marked (is_set lane) (64 * k) ≡ marked (is_set lane) n
+counted_all k n lane few clear = elim (cases_lt n (64 * k)) [
+  | inl below ↦ marked-none (is_set lane) n (64 * k) (λ t past. ap (λ m. m == 1) (clear t past)) (omega (arith, below))
+  | inr above ↦ sym (marked-none (is_set lane) (64 * k) n (λ t past. ap (λ m. m == 1) (place_past lane t (omega (arith, few, past)))) above)
+]

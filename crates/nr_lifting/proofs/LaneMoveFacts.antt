@@ -1,0 +1,60 @@
+-- A lane that is read from a list of bits, and one that is put into one.
+use Rattle.std.proofs.Common.{◌≡◌, ℕ, ◌+◌, ◌-◌, ◌*◌, ◌<◌, ◌≤◌, ◌==◌, zero, suc, min, Bool, true, false, if◌then◌else◌, List, length, get_or, refl, sym, ap, ◌∙◌, inl, inr, arith}
+use Rattle.std.proofs.lemmas.Bool.{cases_lt}
+use Rattle.std.specs.Int.{bit_at}
+use Rattle.nr_bitvec.specs.Bit.{bit}
+use Rattle.nr_bitvec.specs.Packed.{place, IsClear, unpacked}
+use Rattle.nr_bitvec.proofs.BitFacts.{place_of}
+use Rattle.nr_bitvec.proofs.PlaceFacts.{bit-place}
+
+-- ---- reading
+
+-- the digit of a bit
+abbrev pub digit : Bool → ℕ
+digit b = if b then 1 else 0
+
+digit-true : (b : Bool) → (digit b == 1) ≡ b
+digit-true true = refl
+digit-true false = refl
+
+digit_is : (n : ℕ) (b : Bool) → n < 2 → (n == 1) ≡ b → n ≡ digit b
+digit_is zero b h e = ap digit e
+digit_is (suc zero) b h e = ap digit e
+digit_is (suc (suc n)) b h e = absurd (omega (arith, h))
+
+-- words that have the digits of bits are seen as those bits
+pub view-digit : (z : ℕ) (ws : List ℕ) (t : ℕ) (b : Bool) → IsClear ws z → place ws t ≡ digit b → bit (unpacked z ws) t ≡ b
+view-digit z ws t b clear e = bit-place z ws t clear ∙ ap (λ n. n == 1) e ∙ digit-true b
+
+-- ---- writing
+
+-- the bits of the first i words of a lane of z bits stand from bit `at` on, and no other bit has changed
+pub record IsStored (z i at : ℕ) (lane new old : List Bool) : Type 0 where
+  pub within : (t : ℕ) → t < 64 * i → t < z → bit new (at + t) ≡ bit lane t
+  pub before : (t : ℕ) → t < at → bit new t ≡ bit old t
+  pub after : (t : ℕ) → at + z ≤ t → bit new t ≡ bit old t
+  pub long : length new ≡ length old
+
+-- one word more is put
+pub stored_more : (z i at count : ℕ) (ws : List ℕ) (new old next : List Bool)
+    → IsStored z i at (unpacked z ws) new old → IsClear ws z → count ≡ min (z - 64 * i) 64 → 64 * i < z
+    → ((j : ℕ) → j < count → bit next (at + 64 * i + j) ≡ (bit_at (get_or ws i 0) j == 1))
+    → ((t : ℕ) → t < at + 64 * i → bit next t ≡ bit new t)
+    → ((t : ℕ) → at + 64 * i + count ≤ t → bit next t ≡ bit new t)
+    → length next ≡ length new
+    → IsStored z (i + 1) at (unpacked z ws) next old
+stored_more z i at count ws new old next h clear e some within before after long = record {
+  within = λ t below inside. elim (cases_lt t (64 * i)) [
+    | inl early ↦ before (at + t) (omega (arith, early)) ∙ h.within t early inside
+    | inr late ↦
+        let j = t - 64 * i in
+        let there : at + 64 * i + j ≡ at + t = omega (arith, late) in
+        let split : t ≡ 64 * i + j = omega (arith, late) in
+        ap (bit next) (sym there)
+        ∙ within j (omega (arith, e, late, below, inside))
+        ∙ sym (bit-place z ws t clear ∙ ap (λ n. n == 1) (place_of ws t i j split (omega (arith, late, below))))
+  ];
+  before = λ t below. before t (omega (arith, below)) ∙ h.before t below;
+  after = λ t above. after t (omega (arith, e, above, some)) ∙ h.after t above;
+  long = long ∙ h.long;
+}

@@ -1,0 +1,117 @@
+-- Loops that write the words of a lane one by one.
+use Rattle.std.proofs.Common.{◌≡◌, ℕ, ◌+◌, ◌*◌, ◌/◌, ◌%◌, ◌-◌, ◌^◌, ◌<◌, ◌≤◌, min, max, List, length, get_or, set, refl, sym, ap, ◌∙◌, inl, inr, arith, length-set, get_or-set_other}
+use Rattle.std.proofs.lemmas.Bool.{cases_lt, cases_eq}
+use Rattle.std.proofs.lemmas.Nat.Bits.{bit_at_and, bit_at_not, bit_at_or, bit_at_xor}
+use Rattle.std.specs.Int.{bit_at, bit_not, w64}
+use Rattle.std.specs.Int.RustNames.{bit_and, bit_or, bit_xor}
+use Rattle.nr_bitvec.specs.Packed.{place, IsClear}
+use Rattle.nr_lifting.specs.Lane.{IsRotatedWord}
+use Rattle.nr_lifting.specs.LaneInside.{IsLane}
+use Rattle.nr_bitvec.proofs.BitFacts.{place_of, place_past}
+use Rattle.nr_bitvec.proofs.PlaceFacts.{place-set_same, place-set_other}
+
+-- The first i words have the places that G gives them, below place z, and zeros past it; the other words are the old
+-- ones.
+pub record IsWritten (z i : ℕ) (G : ℕ → ℕ) (ws old : List ℕ) : Type 0 where
+  pub done : (t : ℕ) → t < 64 * i → t < z → place ws t ≡ G t
+  pub clear : (t : ℕ) → t < 64 * i → z ≤ t → place ws t ≡ 0
+  pub kept : (w : ℕ) → i ≤ w → get_or ws w 0 ≡ get_or old w 0
+  pub long : length ws ≡ length old
+
+-- one word more is written
+pub written_more : (z i : ℕ) (G : ℕ → ℕ) (next ws old : List ℕ) (word : ℕ)
+    → IsWritten z i G ws old → i < length ws → next ≡ set ws i word
+    → ((j : ℕ) → j < 64 → 64 * i + j < z → bit_at word j ≡ G (64 * i + j))
+    → ((j : ℕ) → j < 64 → z ≤ 64 * i + j → bit_at word j ≡ 0)
+    → IsWritten z (i + 1) G next old
+written_more z i G next ws old word h within is low high = record {
+  done = λ t below inside. elim (cases_eq (t / 64) i) [
+    | inl e ↦
+        let split : 64 * i + t % 64 ≡ t = omega (arith, e) in
+        ap (λ w. place w t) is ∙ place-set_same ws i word t (t % 64) within (sym split) (omega arith) ∙ low (t % 64) (omega arith) (omega (arith, split, inside)) ∙ ap G split
+    | inr apart ↦ ap (λ w. place w t) is ∙ place-set_other ws i word t apart ∙ h.done t (omega (arith, below, apart)) inside
+  ];
+  clear = λ t below past. elim (cases_eq (t / 64) i) [
+    | inl e ↦
+        let split : 64 * i + t % 64 ≡ t = omega (arith, e) in
+        ap (λ w. place w t) is ∙ place-set_same ws i word t (t % 64) within (sym split) (omega arith) ∙ high (t % 64) (omega arith) (omega (arith, split, past))
+    | inr apart ↦ ap (λ w. place w t) is ∙ place-set_other ws i word t apart ∙ h.clear t (omega (arith, below, apart)) past
+  ];
+  kept = λ w above. ap (λ v. get_or v w 0) is ∙ get_or-set_other ws i w word 0 (λ e. omega (arith, e, above)) ∙ h.kept w (omega (arith, above));
+  long = ap length is ∙ length-set ws i word ∙ h.long;
+}
+
+-- when every word is written, the words are a lane's
+pub written_lane : (z i : ℕ) (G : ℕ → ℕ) (ws old : List ℕ) → IsWritten z i G ws old → length old ≤ i
+    → 64 * length old < z + 64 → z ≤ 64 * length old → IsLane z (length ws) ws
+written_lane z i G ws old h all above below = record {
+  above = omega (arith, h.long, above);
+  below = omega (arith, h.long, below);
+  clear = λ t past. elim (cases_lt t (64 * i)) [
+    | inl inside ↦ h.clear t inside past
+    | inr out ↦ place_past ws t (omega (arith, h.long, all, out))
+  ];
+}
+
+-- ---- one word of a sum, and of a count
+
+-- A word of a lane, and the word of a rotated block that meets it. Below place z each has the places of its list, and
+-- past it zeros.
+module _ (z i p now rotated : ℕ) (ws src : List ℕ) (kept : now ≡ get_or ws i 0) (clear : IsClear ws z)
+    (is : IsRotatedWord z src i p rotated) (none : (j : ℕ) → z ≤ 64 * i + j → bit_at rotated j ≡ 0) (j : ℕ) (short : j < 64) where
+  pub word_at : bit_at now j ≡ place ws (64 * i + j)
+  word_at = ap (λ n. bit_at n j) kept ∙ sym (place_of ws (64 * i + j) i j refl short)
+
+  word_past : z ≤ 64 * i + j → bit_at now j ≡ 0
+  word_past past = word_at ∙ clear (64 * i + j) past
+
+  pub summed_low : 64 * i + j < z → bit_at (bit_xor now rotated) j ≡ (place ws (64 * i + j) + place src ((64 * i + j + p) % z)) % 2
+  summed_low below =
+      bit_at_xor now rotated j ∙ ap (λ n. (n + bit_at rotated j) % 2) word_at ∙ ap (λ n. (place ws (64 * i + j) + n) % 2) (is j short below)
+
+  pub summed_high : z ≤ 64 * i + j → bit_at (bit_xor now rotated) j ≡ 0
+  summed_high past = omega (arith, bit_at_xor now rotated j, word_past past, none j past)
+
+  pub joined_low : 64 * i + j < z → bit_at (bit_or now rotated) j ≡ max (place ws (64 * i + j)) (place src ((64 * i + j + p) % z))
+  joined_low below = bit_at_or now rotated j ∙ ap (λ n. max n (bit_at rotated j)) word_at ∙ ap (max (place ws (64 * i + j))) (is j short below)
+
+  pub joined_high : z ≤ 64 * i + j → bit_at (bit_or now rotated) j ≡ 0
+  joined_high past = omega (arith, bit_at_or now rotated j, word_past past, none j past)
+
+  pub less_low : rotated < 2 ^ 64 → 64 * i + j < z → bit_at (bit_and now (bit_not w64 rotated)) j ≡ min (place ws (64 * i + j)) (1 - place src ((64 * i + j + p) % z))
+  less_low fits below =
+      bit_at_and now (bit_not w64 rotated) j ∙ ap (min (bit_at now j)) (bit_at_not w64 rotated j fits short)
+      ∙ ap (λ n. min n (1 - bit_at rotated j)) word_at ∙ ap (λ n. min (place ws (64 * i + j)) (1 - n)) (is j short below)
+
+  pub less_high : z ≤ 64 * i + j → bit_at (bit_and now (bit_not w64 rotated)) j ≡ 0
+  less_high past = omega (arith, bit_at_and now (bit_not w64 rotated) j, word_past past)
+
+  -- with a second lane, whose word gains the places that both have
+  module _ (word : ℕ) (more : List ℕ) (other : word ≡ get_or more i 0) (free : IsClear more z) where
+    at_more : bit_at word j ≡ place more (64 * i + j)
+    at_more = ap (λ n. bit_at n j) other ∙ sym (place_of more (64 * i + j) i j refl short)
+
+    bits : bit_at (bit_or word (bit_and now rotated)) j ≡ max (bit_at word j) (min (bit_at now j) (bit_at rotated j))
+    bits = bit_at_or word (bit_and now rotated) j ∙ ap (max (bit_at word j)) (bit_at_and now rotated j)
+
+    pub twice_low : 64 * i + j < z → bit_at (bit_or word (bit_and now rotated)) j ≡ max (place more (64 * i + j)) (min (place ws (64 * i + j)) (place src ((64 * i + j + p) % z)))
+    twice_low below =
+        bits ∙ ap (λ n. max n (min (bit_at now j) (bit_at rotated j))) at_more
+        ∙ ap (λ n. max (place more (64 * i + j)) (min n (bit_at rotated j))) word_at
+        ∙ ap (λ n. max (place more (64 * i + j)) (min (place ws (64 * i + j)) n)) (is j short below)
+
+    pub twice_high : z ≤ 64 * i + j → bit_at (bit_or word (bit_and now rotated)) j ≡ 0
+    twice_high past = omega (arith, bits, at_more, free (64 * i + j) past, none j past)
+
+-- ---- one word of a ring
+
+-- a word of a list, of which the places below place z gain those of another word
+module _ (z k now : ℕ) (old : List ℕ) (more j : ℕ) (short : j < 64) (kept : now ≡ get_or old k 0) where
+  ring_at : bit_at now j ≡ place old (64 * k + j)
+  ring_at = ap (λ n. bit_at n j) kept ∙ sym (place_of old (64 * k + j) k j refl short)
+
+  pub ring_low : {gained : ℕ} → bit_at more j ≡ gained → bit_at (bit_or now more) j ≡ max (place old (64 * k + j)) gained
+  ring_low is = bit_at_or now more j ∙ ap (λ n. max n (bit_at more j)) ring_at ∙ ap (max (place old (64 * k + j))) is
+
+  pub ring_high : IsClear old z → z ≤ 64 * k + j → bit_at more j ≡ 0 → bit_at (bit_or now more) j ≡ 0
+  ring_high clear past none = omega (arith, bit_at_or now more j, ring_at, clear (64 * k + j) past, none)

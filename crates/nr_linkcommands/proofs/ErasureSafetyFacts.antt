@@ -1,0 +1,110 @@
+-- Over erasures alone a transport block that is handed up is the one sent, of each block and of each round.
+use Rattle.std.proofs.Common.{◌≡◌, ℕ, ◌+◌, Bool, true, false, cond, Result, Ok, Err, IfOk, List, [], ◌∷◌, ◌++◌, All, length, map, ap, sym, subst, refl}
+use Rattle.std.specs.Prelude.{◌==◌}
+use Rattle.std.specs.List.{list_any, range_with_len}
+use Rattle.std.proofs.lemmas.List.Elements.{All-append, All-cons, All-filter, All-head, All-map, All-nil, All-push, All-tail, All-weaker}
+use Rattle.nr_bitvec.specs.BitList.{bits_of}
+use Rattle.nr_refusal.specs.Refusal.{◌>>=◌, with_fault}
+use Rattle.nr_shifttable.specs.Accepted.{Entries}
+use Rattle.nr_blockdesk.specs.Link.{IsBlock, IsLink, Link, LinksAreSound, link_said}
+use Rattle.nr_blockdesk.specs.ReceiverLaws.{DeliveredIsOnly, ExplainedIsDelivered, ExplainedNeverContradicts}
+use Rattle.nr_blockdesk.specs.Sent.{AcceptedSendAll, SenderView, sending_said}
+use Rattle.nr_transmission.specs.declared.fault.DeskFault.{DeskFault}
+use Rattle.nr_transmission.specs.declared.settings.Settings.{Settings}
+use Rattle.nr_linkcommands.specs.Inputs.{sender_said, senders_from}
+use Rattle.nr_files.specs.Rounds.{all_rounds, ended_by, ended_rounds, of_process, round_of, since_fresh}
+use Rattle.nr_linkcommands.specs.SafeRuns.{ErasuresAloneAreSafe, IsSafeRun, IsSafelyReceived, OnlyErases, RunsAreSafe}
+use Rattle.nr_commands.specs.declared.fault.RunFault.TheVariants.{Desk}
+use Rattle.nr_files.specs.declared.schedule.Transmission.{Transmission}
+use Rattle.nr_linkcommands.proofs.ReceptionFacts.{received-accepted, received-explained}
+use Rattle.nr_files.proofs.RefusalFacts.{holds_then, of_ok}
+use Rattle.nr_linkcommands.proofs.RunInputFacts.{link-sized}
+
+-- the link that a sender was said for
+link-of : (sender : SenderView) (block : List Bool) (r : Result Link DeskFault) → (r >>= λ link. Ok (record { link = link; block = block })) ≡ Ok sender → (r ≡ Ok sender.link) × (sender.block ≡ block)
+link-of sender block (Ok link) is =
+    let same : record { link = link; block = block } ≡ sender = cc in
+    (ap (λ (s : SenderView). Ok s.link) same, ap (λ (s : SenderView). s.block) (sym same))
+link-of sender block (Err e) is = absurd (cc)
+
+pub sender-linked : (table : Entries) (settings : Settings) (sender : SenderView) → sending_said table settings sender.block ≡ Ok sender → link_said table settings (length sender.block) ≡ Ok sender.link
+sender-linked table settings sender said = (link-of sender sender.block (link_said table settings (length sender.block)) said).0
+
+pub erasures_alone : LinksAreSound → AcceptedSendAll → DeliveredIsOnly → ExplainedIsDelivered → ExplainedNeverContradicts → ErasuresAloneAreSafe
+erasures_alone sound all only is_delivered never table settings sender xs is_table said steady =
+    let linked : link_said table settings (length sender.block) ≡ Ok sender.link = sender-linked table settings sender said in
+    let is_link : IsLink sender.link = sound table settings (length sender.block) sender.link is_table linked in
+    let is_block : IsBlock sender.link sender.block = sym (link-sized table settings (length sender.block) sender.link linked) in
+    let accepted = received-accepted all sender xs in
+    let explained = received-explained all sender xs steady in
+    record {
+      explained = explained;
+      no_contradiction = never sender.link _ sender.block is_block explained;
+      sent_one = λ block is. sym ((only sender.link _ block is_link accepted is).only sender.block is_block explained);
+      found = λ fixed. is_delivered sender.link _ sender.block is_link accepted is_block explained fixed;
+    }
+
+-- the transmissions of a round, and those of each round, are some of the schedule's
+since-some : (P : Transmission → Type 0) (xs : List Transmission) → All P xs → All P (since_fresh xs)
+unfolding since_fresh
+since-some P [] all = all
+since-some P (x ∷ xs) all = go (list_any (λ y. y.fresh) xs) (since-some P xs (All-tail P x xs all))
+  where
+    go : (b : Bool) → All P (since_fresh xs) → All P (cond b (since_fresh xs) (x ∷ xs))
+    go true more = more
+    go false more = all
+
+round-some : (P : Transmission → Type 0) (p : ℕ) (xs : List Transmission) → All P xs → All P (round_of p xs)
+round-some P p xs all = since-some P (of_process p xs) (All-filter (λ x. x.process == p) P xs all)
+
+ended-some : (P : Transmission → Type 0) (before xs : List Transmission) → All P before → All P xs → All (All P) (ended_rounds before xs)
+unfolding ended_rounds
+ended-some P before [] old all = All-nil (All P)
+ended-some P before (x ∷ xs) old all =
+    All-append (All P) (ended_by before x) (ended_rounds (before ++ x ∷ []) xs) (go x.fresh)
+    (ended-some P (before ++ x ∷ []) xs (All-push P before x old (All-head P x xs all)) (All-tail P x xs all))
+  where
+    go : (b : Bool) → All (All P) (cond b (round_of x.process before ∷ []) [])
+    go true = All-cons (All P) (round_of x.process before) [] (round-some P x.process before old) (All-nil (All P))
+    go false = All-nil (All P)
+
+each-of : {X : Type 0} (P : X → Type 0) (xs : List X) → ((x : X) → P x) → All P xs
+each-of P [] each = All-nil P
+each-of P (x ∷ xs) each = All-cons P x xs (each x) (each-of P xs each)
+
+rounds-some : (P : Transmission → Type 0) (schedule : List Transmission) → All P schedule → All (All P) (all_rounds schedule)
+rounds-some P schedule all =
+    All-append (All P) (ended_rounds [] schedule) (map (λ p. round_of p schedule) (range_with_len 0 16))
+    (ended-some P [] schedule (All-nil P) all)
+    (All-map (All P) (λ p. round_of p schedule) (range_with_len 0 16)
+    (each-of (λ p. All P (round_of p schedule)) (range_with_len 0 16) (λ p. round-some P p schedule all)))
+
+-- each sender is what is said of its block
+sender-own : (table : Entries) (settings : Settings) (n : ℕ) (octets : List ℕ) (sender : SenderView) (r : Result Link DeskFault) → link_said table settings (length (bits_of octets)) ≡ r → with_fault (Desk n) (r >>= λ link. Ok (record { link = link; block = bits_of octets })) ≡ Ok sender → sending_said table settings sender.block ≡ Ok sender
+sender-own table settings n octets sender (Ok link) said is =
+    let same : record { link = link; block = bits_of octets } ≡ sender = cc in
+    subst (λ (s : SenderView). sending_said table settings s.block ≡ Ok s) same
+    (ap (λ (r : Result Link DeskFault). r >>= λ l. Ok (record { link = l; block = bits_of octets })) said)
+sender-own table settings n octets sender (Err e) said is = absurd (cc)
+
+pub senders-own : (table : Entries) (settings : Settings) (n : ℕ) (blocks : List (List ℕ)) → IfOk (senders_from table settings n blocks) (All (λ (sender : SenderView). sending_said table settings sender.block ≡ Ok sender))
+unfolding senders_from
+senders-own table settings n [] = All-nil (λ (sender : SenderView). sending_said table settings sender.block ≡ Ok sender)
+senders-own table settings n (octets ∷ blocks) =
+    let own : SenderView → Type 0 = λ (sender : SenderView). sending_said table settings sender.block ≡ Ok sender in
+    holds_then (All own) (sender_said table settings n octets) _
+    (λ sender is. holds_then (All own) (senders_from table settings (n + 1) blocks) _
+    (λ more are. All-cons own sender more (sender-own table settings n octets sender (link_said table settings (length (bits_of octets))) refl is)
+    (of_ok (All own) (senders_from table settings (n + 1) blocks) more are (senders-own table settings (n + 1) blocks))))
+
+pub runs_safe : ErasuresAloneAreSafe → RunsAreSafe
+runs_safe safe table settings blocks senders schedule is_table said steady =
+    All-weaker (λ (sender : SenderView). sending_said table settings sender.block ≡ Ok sender) (IsSafeRun schedule) run senders
+    (of_ok (All (λ (sender : SenderView). sending_said table settings sender.block ≡ Ok sender)) (senders_from table settings 1 blocks) senders said (senders-own table settings 1 blocks))
+  where
+    run : (sender : SenderView) → sending_said table settings sender.block ≡ Ok sender → IsSafeRun schedule sender
+    run sender is = record {
+      blocks = λ n. safe table settings sender _ is_table is (All-filter (λ x. x.block == n) OnlyErases schedule steady);
+      rounds = All-weaker (All OnlyErases) (IsSafelyReceived sender)
+          (λ round steady_round. safe table settings sender round is_table is steady_round) (all_rounds schedule) (rounds-some OnlyErases schedule steady);
+    }

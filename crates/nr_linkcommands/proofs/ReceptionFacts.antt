@@ -1,0 +1,116 @@
+-- What is received of a sender's transmissions: each reception is accepted, and without flips the sender's block
+-- explains it.
+use Rattle.std.proofs.Common.{◌≡◌, ℕ, ◌<◌, Bool, true, false, Result, Ok, Err, IsOk, List, [], ◌∷◌, All, length, ap, sym, subst, refl, ◌∙◌, arith}
+use Rattle.std.specs.Prelude.{◌==◌, ◌&&◌}
+use Rattle.std.specs.List.{list_all}
+use Rattle.std.proofs.lemmas.Bool.Decides.{nat_tests}
+use Rattle.std.proofs.lemmas.List.Elements.{All-append, All-cons, All-head, All-nil, All-tail}
+use Rattle.std.proofs.lemmas.List.Folds.{list_all-append}
+use Rattle.std.proofs.lemmas.List.FromFn.{get_or-map-range_with_len, length-map-range_with_len}
+use Rattle.nr_bitvec.specs.Bit.{◌⊕◌, bit}
+use Rattle.nr_refusal.specs.Refusal.{◌>>=◌}
+use Rattle.nr_blockdesk.specs.Explains.{IsAccepted, Reception, agrees, all_agree, explains, heard_at, reception, reception_said}
+use Rattle.nr_blockdesk.specs.Link.{Link, demanded}
+use Rattle.nr_blockdesk.specs.ReceiverLaws.{arrived_bit}
+use Rattle.nr_blockdesk.specs.Sent.{AcceptedSendAll, SenderView, sent, sent_said, tx_said}
+use Rattle.nr_transmission.specs.declared.fault.DeskFault.{DeskFault}
+use Rattle.nr_transmission.specs.declared.fault.DeskFault.TheVariants as fault
+use Rattle.nr_blockdesk.specs.declared.heard.Heard.{Heard}
+use Rattle.nr_blockdesk.specs.declared.heard.Heard.TheVariants as heard
+use Rattle.nr_transmission.specs.declared.tx.Tx.{Tx}
+use Rattle.nr_files.specs.Erasures.{erased_of, is_named}
+use Rattle.nr_linkcommands.specs.Hearing.{arrives_at, heard_through}
+use Rattle.nr_linkcommands.specs.RunText.{received, received_if, received_of}
+use Rattle.nr_linkcommands.specs.SafeRuns.{OnlyErases}
+use Rattle.nr_files.specs.declared.schedule.Transmission.{Transmission}
+use Rattle.nr_linkcommands.proofs.RunLineFacts.{received_of-sent}
+use Rattle.nr_linkcommands.proofs.RunOutcomeFacts.{all-all}
+
+-- as many places are received as bits are sent
+heard-long : (x : Transmission) (bits : List Bool) → length (heard_through x bits) ≡ length bits
+unfolding heard_through
+heard-long x bits = length-map-range_with_len (arrives_at x (erased_of x.erasure (length bits)) bits) 0 (length bits)
+
+-- a reception of G places of an accepted transmission is accepted
+said-whole : (link : Link) (tx : Tx) (places : List Heard) (lengths : List ℕ) → tx_said link tx ≡ Ok lengths → length places ≡ tx.g → reception_said link (reception tx places) ≡ Ok lengths
+said-whole link tx places lengths said whole =
+    let tested : (length places == tx.g) ≡ true = grind (arith, nat_tests) in
+    ap (λ (r : Result (List ℕ) DeskFault). r >>= λ es. demanded fault.Length (length places == tx.g) >>= λ all. Ok es) said
+    ∙ ap (λ b. demanded fault.Length b >>= λ all. Ok lengths) tested
+
+-- what is received of one transmission, by what is said of it
+of_said : (sender : SenderView) (x : Transmission) (said : Result (List ℕ) DeskFault) → tx_said sender.link x.tx ≡ said → received_of sender x ≡ received_if x (said >>= λ lengths. Ok (sent sender.link x.tx sender.block))
+of_said sender x said is = ap (λ (r : Result (List ℕ) DeskFault). received_if x (r >>= λ lengths. Ok (sent sender.link x.tx sender.block))) is
+
+sent-long : AcceptedSendAll → (sender : SenderView) (x : Transmission) (lengths : List ℕ) → tx_said sender.link x.tx ≡ Ok lengths → length (sent sender.link x.tx sender.block) ≡ x.tx.g
+sent-long all sender x lengths is = all sender.link x.tx sender.block (subst IsOk (sym is) refl)
+
+one-accepted : AcceptedSendAll → (sender : SenderView) (x : Transmission) → All (IsAccepted sender.link) (received_of sender x)
+one-accepted all sender x = go (tx_said sender.link x.tx) refl
+  where
+    go : (said : Result (List ℕ) DeskFault) → tx_said sender.link x.tx ≡ said → All (IsAccepted sender.link) (received_of sender x)
+    go (Ok lengths) is =
+        let bits = sent sender.link x.tx sender.block in
+        subst (All (IsAccepted sender.link)) (sym (of_said sender x (Ok lengths) is))
+        (All-cons (IsAccepted sender.link) (reception x.tx (heard_through x bits)) []
+        (lengths, said-whole sender.link x.tx (heard_through x bits) lengths is (heard-long x bits ∙ sent-long all sender x lengths is))
+        (All-nil (IsAccepted sender.link)))
+    go (Err e) is = subst (All (IsAccepted sender.link)) (sym (of_said sender x (Err e) is)) (All-nil (IsAccepted sender.link))
+
+pub received-accepted : AcceptedSendAll → (sender : SenderView) (xs : List Transmission) → All (IsAccepted sender.link) (received sender xs)
+received-accepted all sender [] = All-nil (IsAccepted sender.link)
+received-accepted all sender (x ∷ xs) =
+    All-append (IsAccepted sender.link) (received_of sender x) (received sender xs) (one-accepted all sender x) (received-accepted all sender xs)
+
+pub one_received-accepted : AcceptedSendAll → (sender : SenderView) (x : Transmission) → All (IsAccepted sender.link) (received_of sender x)
+one_received-accepted = one-accepted
+
+-- so is what arrives of the bits that a sender sends
+pub sent-accepted : AcceptedSendAll → (sender : SenderView) (x : Transmission) (bits : List Bool) → sent_said sender.link x.tx sender.block ≡ Ok bits → IsAccepted sender.link (reception x.tx (heard_through x bits))
+sent-accepted all sender x bits said =
+    All-head (IsAccepted sender.link) (reception x.tx (heard_through x bits)) []
+    (subst (All (IsAccepted sender.link)) (received_of-sent sender x bits said) (one-accepted all sender x))
+
+-- what arrives of a bit that is not flipped agrees with it
+arrived-agrees : (e b : Bool) → agrees (arrived_bit e (false ⊕ b)) b ≡ true
+arrived-agrees true b = refl
+arrived-agrees false true = refl
+arrived-agrees false false = refl
+
+place-agrees : (x : Transmission) (bits : List Bool) (m : ℕ) → m < length bits → is_named x.flip m ≡ false → agrees (heard_at (heard_through x bits) m) (bit bits m) ≡ true
+unfolding heard_through
+place-agrees x bits m within steady =
+    let erased = erased_of x.erasure (length bits) in
+    ap (λ (h : Heard). agrees h (bit bits m)) (get_or-map-range_with_len (arrives_at x erased bits) 0 (length bits) m m heard.Erased within (omega arith))
+    ∙ ap (λ f. agrees (arrived_bit (bit erased m) (f ⊕ bit bits m)) (bit bits m)) steady
+    ∙ arrived-agrees (bit erased m) (bit bits m)
+
+all-agree : (x : Transmission) (bits : List Bool) → length bits ≡ x.tx.g → OnlyErases x → all_agree (heard_through x bits) bits ≡ true
+all-agree x bits long steady =
+    all-all (λ m. agrees (heard_at (heard_through x bits) m) (bit bits m)) 0 (length (heard_through x bits))
+    (λ m low high. place-agrees x bits m (omega (arith, high, heard-long x bits)) (steady m (omega (arith, high, heard-long x bits, long))))
+
+-- so the sender's block explains it
+abbrev explained : SenderView → List Reception → Bool
+explained sender list = list_all (λ (x : Reception). all_agree x.heard (sent sender.link x.tx sender.block)) list
+
+one-explained : AcceptedSendAll → (sender : SenderView) (x : Transmission) → OnlyErases x → explained sender (received_of sender x) ≡ true
+one-explained all sender x steady = go (tx_said sender.link x.tx) refl
+  where
+    go : (said : Result (List ℕ) DeskFault) → tx_said sender.link x.tx ≡ said → explained sender (received_of sender x) ≡ true
+    go (Ok lengths) is =
+        let bits = sent sender.link x.tx sender.block in
+        ap (explained sender) (of_said sender x (Ok lengths) is)
+        ∙ ap (λ b. b && true) (all-agree x bits (sent-long all sender x lengths is) steady)
+    go (Err e) is = ap (explained sender) (of_said sender x (Err e) is)
+
+all-explained : AcceptedSendAll → (sender : SenderView) (xs : List Transmission) → All OnlyErases xs → explained sender (received sender xs) ≡ true
+all-explained all sender [] steady = refl
+all-explained all sender (x ∷ xs) steady =
+    list_all-append (λ (y : Reception). all_agree y.heard (sent sender.link y.tx sender.block)) (received_of sender x) (received sender xs)
+    ∙ ap (λ b. b && explained sender (received sender xs)) (one-explained all sender x (All-head OnlyErases x xs steady))
+    ∙ all-explained all sender xs (All-tail OnlyErases x xs steady)
+
+pub received-explained : AcceptedSendAll → (sender : SenderView) (xs : List Transmission) → All OnlyErases xs → explains sender.link (received sender xs) sender.block ≡ true
+unfolding explains
+received-explained all sender xs steady = all-explained all sender xs steady

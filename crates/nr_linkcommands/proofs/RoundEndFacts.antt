@@ -1,0 +1,213 @@
+-- What each slot has received of the round that its process is in, one transmission after the other.
+use Rattle.std.proofs.Common.{◌≡◌, ℕ, suc, ◌+◌, ◌-◌, ◌<◌, ◌≤◌, ◌==◌, All, Bool, true, false, not, cond, Option, None, Some, List, [], ◌∷◌, ◌++◌, length, take, drop, set, replicate, slice_get, get_or, ap, sym, subst, refl, ◌∙◌, ⊎_elim, arith, append_assoc, length-append}
+use Rattle.std.specs.List.{list_any}
+use Rattle.std.specs.Option.{option_map}
+use Rattle.std.proofs.Math.ListN.{length-set}
+use Rattle.std.proofs.lemmas.Bool.{cases_eq}
+use Rattle.std.proofs.lemmas.Bool.Decides.{nat_tests}
+use Rattle.std.proofs.lemmas.Grind.{get_or-set_at}
+use Rattle.std.proofs.lemmas.List.{get_or-replicate, get_or-set_other, length-replicate}
+use Rattle.std.proofs.lemmas.List.Elements.{All-filter, All-head, All-tail}
+use Rattle.std.proofs.lemmas.Option.{slice_get-get_or}
+use Rattle.nr_blockdesk.specs.Explains.{Reception}
+use Rattle.nr_blockdesk.specs.Link.{Link}
+use Rattle.nr_blockdesk.specs.Sent.{SenderView}
+use Rattle.nr_linkcommands.specs.Ends.{HasReceived, HoldRounds, HoldsState, HoldsIf, HoldsSummary, HoldsSlot, HoldsRound, IsOfRound, IsOver, KeepsRounds, goes_on, empty_slot}
+use Rattle.nr_linkcommands.specs.RunText.{counted, counted_if, received, received_of, round_counted, run_words}
+use Rattle.nr_linkcommands.specs.RunLines.{outcome_line, process_words}
+use Rattle.nr_linkcommands.specs.RoundTexts.{Words, ended_if, pieces_joined, round_lines, said_if, sender_of, turns}
+use Rattle.nr_files.specs.Rounds.{continued, of_process, round_of, since_fresh}
+use Rattle.nr_files.specs.Schedule.{HasBlock}
+use Rattle.nr_linkcommands.specs.declared.run_command.slot.RxState.{RxState}
+use Rattle.nr_linkcommands.specs.declared.run_command.slot.Slot.{Slot}
+use Rattle.nr_linkcommands.specs.declared.run_command.totals.Totals.{Totals}
+use Rattle.nr_files.specs.declared.schedule.Transmission.{Transmission}
+use Rattle.nr_linkcommands.proofs.LastRoundFacts.{holds-round}
+use Rattle.nr_linkcommands.proofs.RoundTextFacts.{continued-more, other-more, received-more, turns-turn}
+use Rattle.nr_linkcommands.proofs.RunLineFacts.{has_received, received-few}
+use Rattle.nr_linkcommands.proofs.RunOutcomeFacts.{outcome_line-some}
+
+-- the sender of a block that there is
+pub sender-there : (senders : List SenderView) (x : Transmission) (number : ℕ) (sender : SenderView) → x.block ≡ number → number - 1 < length senders → sender ≡ get_or senders (number - 1) sender → sender_of senders x ≡ Some sender
+sender-there senders x number sender is within at =
+    ap (λ n. slice_get senders (n - 1)) is ∙ slice_get-get_or senders (number - 1) sender within ∙ ap Some (sym at)
+
+-- what is so of all transmissions is so of those of a round
+since_fresh-all : (P : Transmission → Type 0) (xs : List Transmission) → All P xs → All P (since_fresh xs)
+unfolding since_fresh
+since_fresh-all P [] all = all
+since_fresh-all P (x ∷ xs) all = go (list_any (λ y. y.fresh) xs) (since_fresh-all P xs (All-tail P x xs all))
+  where
+    go : (b : Bool) → All P (since_fresh xs) → All P (cond b (since_fresh xs) (x ∷ xs))
+    go true later = later
+    go false later = all
+
+round-all : (P : Transmission → Type 0) (p : ℕ) (before : List Transmission) → All P before → All P (round_of p before)
+round-all P p before all = since_fresh-all P (of_process p before) (All-filter (λ x. x.process == p) P before all)
+
+-- a round is no longer than the transmissions
+since_fresh-few : (xs : List Transmission) → length (since_fresh xs) ≤ length xs
+unfolding since_fresh
+since_fresh-few [] = omega arith
+since_fresh-few (x ∷ xs) = go (list_any (λ y. y.fresh) xs) (since_fresh-few xs)
+  where
+    go : (b : Bool) → length (since_fresh xs) ≤ length xs → length (cond b (since_fresh xs) (x ∷ xs)) ≤ suc (length xs)
+    go true few = omega (arith, few)
+    go false few = omega arith
+
+of_process-few : (p : ℕ) (xs : List Transmission) → length (of_process p xs) ≤ length xs
+of_process-few p [] = omega arith
+of_process-few p (x ∷ xs) = go (x.process == p) (of_process-few p xs)
+  where
+    go : (b : Bool) → length (of_process p xs) ≤ length xs → length (cond b (x ∷ of_process p xs) (of_process p xs)) ≤ suc (length xs)
+    go true few = omega (arith, few)
+    go false few = omega (arith, few)
+
+continued-few : (before : List Transmission) (x : Transmission) → length (continued before x) ≤ length before
+continued-few before x = go x.fresh
+  where
+    go : (b : Bool) → length (cond b [] (round_of x.process before)) ≤ length before
+    go true = omega arith
+    go false = omega (arith, since_fresh-few (of_process x.process before), of_process-few x.process before)
+
+-- a round that has a block: its lines, and what counts it
+block-named : (n number : ℕ) (round : List Transmission) → Some number ≡ option_map (λ x. x.block) (slice_get round 0) → All (HasBlock n) round → (1 ≤ number) × (number ≤ n)
+block-named n number [] is all = absurd (cc)
+block-named n number (x ∷ more) is all =
+    let named = All-head (HasBlock n) x more all in
+    let block : x.block ≡ number = cc in
+    (omega (arith, named.0, block), omega (arith, named.1, block))
+
+pub round-named : (n number p : ℕ) (before : List Transmission) → Some number ≡ option_map (λ x. x.block) (slice_get (round_of p before) 0) → All (HasBlock n) before → (1 ≤ number) × (number - 1 < n)
+round-named n number p before is all =
+    let named = block-named n number (round_of p before) is (round-all (HasBlock n) p before all) in
+    (named.0, omega (arith, named.0, named.1))
+
+pub round-held : (senders : List SenderView) (number : ℕ) (sender : SenderView) (round : List Transmission) (slot : Slot) → Some number ≡ option_map (λ x. x.block) (slice_get round 0) → number - 1 < length senders → sender ≡ get_or senders (number - 1) sender → HoldsRound false senders round slot → HoldsSummary sender.link (received sender round) slot.summary
+round-held senders number sender [] slot is within at held = absurd (cc)
+round-held senders number sender (x ∷ more) slot is within at held =
+    let block : x.block ≡ number = cc in
+    let holds : HoldsSlot false sender.link (received sender (x ∷ more)) slot =
+    subst (λ (s : Option SenderView). HoldsIf false s (x ∷ more) slot) (sender-there senders x number sender block within at) held in
+    holds.1
+
+pub round_lines-some : (senders : List SenderView) (p number : ℕ) (sender : SenderView) (round : List Transmission) → Some number ≡ option_map (λ x. x.block) (slice_get round 0) → number - 1 < length senders → sender ≡ get_or senders (number - 1) sender → round_lines run_words senders p round ≡ process_words p ++ outcome_line number sender.link (received sender round)
+round_lines-some senders p number sender [] is within at = absurd (cc)
+round_lines-some senders p number sender (x ∷ more) is within at =
+    let block : x.block ≡ number = cc in
+    ap (λ (s : Option SenderView). ended_if run_words p x.block s (x ∷ more)) (sender-there senders x number sender block within at)
+    ∙ ap (λ n. process_words p ++ outcome_line n sender.link (received sender (x ∷ more))) block
+
+pub round_lines-long : (senders : List SenderView) (p number : ℕ) (sender : SenderView) (round : List Transmission) → Some number ≡ option_map (λ x. x.block) (slice_get round 0) → number - 1 < length senders → sender ≡ get_or senders (number - 1) sender → 0 < length (round_lines run_words senders p round)
+round_lines-long senders p number sender round is within at =
+    let line : List ℕ = outcome_line number sender.link (received sender round) in
+    omega (arith, ap length (round_lines-some senders p number sender round is within at), length-append (process_words p) line, outcome_line-some number sender.link (received sender round))
+
+pub round_counted-some : (t : Totals) (senders : List SenderView) (number : ℕ) (sender : SenderView) (round : List Transmission) → Some number ≡ option_map (λ x. x.block) (slice_get round 0) → number - 1 < length senders → sender ≡ get_or senders (number - 1) sender → round_counted t senders round ≡ counted t sender.link (received sender round)
+round_counted-some t senders number sender [] is within at = absurd (cc)
+round_counted-some t senders number sender (x ∷ more) is within at =
+    let block : x.block ≡ number = cc in
+    ap (λ (s : Option SenderView). counted_if t s (x ∷ more)) (sender-there senders x number sender block within at)
+
+-- one that has none is empty
+round-none : (round : List Transmission) → None ≡ option_map (λ x. x.block) (slice_get round 0) → round ≡ []
+round-none [] is = refl
+round-none (x ∷ more) is = absurd (cc)
+
+pub round_lines-none : (senders : List SenderView) (p : ℕ) (round : List Transmission) → None ≡ option_map (λ x. x.block) (slice_get round 0) → round_lines run_words senders p round ≡ []
+round_lines-none senders p round is = ap (round_lines run_words senders p) (round-none round is)
+
+pub round_counted-none : (t : Totals) (senders : List SenderView) (round : List Transmission) → None ≡ option_map (λ x. x.block) (slice_get round 0) → round_counted t senders round ≡ t
+round_counted-none t senders round is = ap (round_counted t senders) (round-none round is)
+
+-- a transmission is of the block of the round that it goes on with
+pub of-continued : (before : List Transmission) (x : Transmission) → (x.fresh ≡ false → IsOfRound (round_of x.process before) x) → IsOfRound (continued before x) x
+of-continued before x goes = go x.fresh refl
+  where
+    go : (b : Bool) → x.fresh ≡ b → IsOfRound (cond b [] (round_of x.process before)) x
+    go true is = tt
+    go false is = goes is
+
+-- whether a round goes on, by the next transmission: it is fresh or not where it is of the round's process
+pub goes_on-turn : (x : Transmission) (later : List Transmission) → goes_on x.process (x ∷ later) ≡ not x.fresh
+goes_on-turn x later =
+    let own_process : (x.process == x.process) ≡ true = grind (arith, nat_tests) in
+    ap (λ b. cond b (not x.fresh) (goes_on x.process later)) own_process
+
+pub goes_on-other : (p : ℕ) (x : Transmission) (later : List Transmission) → (x.process == p) ≡ false → goes_on p (x ∷ later) ≡ goes_on p later
+goes_on-other p x later other = ap (λ b. cond b (not x.fresh) (goes_on p later)) other
+
+-- what is received of the round that a transmission goes on with, by the sender of its block
+holds-by : (senders : List SenderView) (round : List Transmission) (x : Transmission) (sender : SenderView) (slot : Slot) → sender_of senders x ≡ Some sender → IsOfRound round x → HoldsRound true senders round slot → HoldsSlot true sender.link (received sender round) slot
+holds-by senders [] x sender slot there of held = subst (HoldsSlot true sender.link []) (sym held) (refl, refl)
+holds-by senders (y ∷ more) x sender slot there of held =
+    subst (λ (s : Option SenderView). HoldsIf true s (y ∷ more) slot) (ap (λ n. slice_get senders (n - 1)) of ∙ there) held
+
+-- where a fresh one forgets what was received
+begun-holds : (senders : List SenderView) (before later : List Transmission) (x : Transmission) (old new : Slot) → new ≡ cond x.fresh empty_slot old → HoldsRound (goes_on x.process (x ∷ later)) senders (round_of x.process before) old → HoldsRound true senders (continued before x) new
+begun-holds senders before later x old new is held =
+    go x.fresh is (subst (λ b. HoldsRound b senders (round_of x.process before) old) (goes_on-turn x later) held)
+  where
+    go : (b : Bool) → new ≡ cond b empty_slot old → HoldsRound (not b) senders (round_of x.process before) old → HoldsRound true senders (cond b [] (round_of x.process before)) new
+    go true none holds = none
+    go false same holds = subst (HoldsRound true senders (round_of x.process before)) (sym same) holds
+
+pub made-held : (senders : List SenderView) (before later : List Transmission) (ended : List (List Transmission)) (x : Transmission) (sender : SenderView) (slots : List Slot) (totals : Totals) (old new : Slot)
+    → KeepsRounds senders before (x ∷ later) ended slots totals → IsOfRound (continued before x) x → x.process < length slots → old ≡ get_or slots x.process old → new ≡ cond x.fresh empty_slot old → sender_of senders x ≡ Some sender → HoldsSlot true sender.link (received sender (continued before x)) new
+made-held senders before later ended x sender slots totals old new keeps of inside at is there =
+    holds-by senders (continued before x) x sender new there of (begun-holds senders before later x old new is (holds-round senders before (x ∷ later) slots x.process old inside at keeps.held))
+
+-- it is no more than the transmissions before
+pub continued-room : (sender : SenderView) (before : List Transmission) (n : ℕ) (x : Transmission) (state : Option RxState) → length before ≤ n → HoldsState sender.link (received sender (continued before x)) state → HasReceived n state
+continued-room sender before n x state few held =
+    has_received sender.link (received sender (continued before x)) n state held
+    (omega (arith, few, received-few sender (continued before x), continued-few before x))
+
+-- and its receiver has the sender's link
+pub held-over : (link : Link) (list : List Reception) (state : Option RxState) → HoldsState link list state → IsOver link state
+held-over link list None held = tt
+held-over link list (Some state) held = held.same_link
+
+-- and with the transmission
+holds-more : (goes : Bool) (senders : List SenderView) (round : List Transmission) (x : Transmission) (sender : SenderView) (slot : Slot) → sender_of senders x ≡ Some sender → IsOfRound round x → HoldsSlot goes sender.link (received sender round ++ received_of sender x) slot → HoldsRound goes senders (round ++ x ∷ []) slot
+holds-more goes senders [] x sender slot there of holds =
+    subst (λ (s : Option SenderView). HoldsIf goes s (x ∷ []) slot) (sym there)
+    (subst (λ list. HoldsSlot goes sender.link list slot) (sym (received-more sender [] x)) holds)
+holds-more goes senders (y ∷ more) x sender slot there of holds =
+    subst (λ (s : Option SenderView). HoldsIf goes s (y ∷ more ++ x ∷ []) slot) (sym (ap (λ n. slice_get senders (n - 1)) of ∙ there))
+    (subst (λ list. HoldsSlot goes sender.link list slot) (sym (received-more sender (y ∷ more) x)) holds)
+
+-- before any transmission no slot has received anything
+pub rounds-first : (senders : List SenderView) (later : List Transmission) (n : ℕ) → HoldRounds senders [] later (replicate n empty_slot)
+unfolding since_fresh
+rounds-first senders later n = λ p within. get_or-replicate n p empty_slot empty_slot (omega (arith, within, length-replicate {A = Slot} n empty_slot))
+
+-- after a transmission more
+pub rounds-more : (senders : List SenderView) (before later : List Transmission) (x : Transmission) (sender : SenderView) (slots : List Slot) (after : Slot) → IsOfRound (continued before x) x → sender_of senders x ≡ Some sender → x.process < length slots → HoldRounds senders before (x ∷ later) slots
+    → HoldsSlot (goes_on x.process later) sender.link (received sender (continued before x) ++ received_of sender x) after → HoldRounds senders (before ++ x ∷ []) later (set slots x.process after)
+rounds-more senders before later x sender slots after of there inside held holds = λ p low.
+    ⊎_elim (same p) (other p low) (cases_eq p x.process)
+  where
+    more : HoldsRound (goes_on x.process later) senders (continued before x ++ x ∷ []) after
+    more = holds-more (goes_on x.process later) senders (continued before x) x sender after there of holds
+
+    same : (p : ℕ) → p ≡ x.process → HoldsRound (goes_on p later) senders (round_of p (before ++ x ∷ [])) (get_or (set slots x.process after) p empty_slot)
+    same p equal =
+        subst (λ q. HoldsRound (goes_on q later) senders (round_of q (before ++ x ∷ [])) (get_or (set slots x.process after) q empty_slot)) (sym equal)
+        (subst (λ round. HoldsRound (goes_on x.process later) senders round (get_or (set slots x.process after) x.process empty_slot)) (sym (continued-more before x))
+        (subst (HoldsRound (goes_on x.process later) senders (continued before x ++ x ∷ [])) (sym (get_or-set_at slots x.process x.process after empty_slot refl inside)) more))
+
+    other : (p : ℕ) → p < length (set slots x.process after) → (p ≡ x.process → ⊥) → HoldsRound (goes_on p later) senders (round_of p (before ++ x ∷ [])) (get_or (set slots x.process after) p empty_slot)
+    other p low differ =
+        let apart : (x.process == p) ≡ false = grind (arith, nat_tests) in
+        let there_too : p < length slots = omega (arith, low, length-set slots x.process after) in
+        subst (λ round. HoldsRound (goes_on p later) senders round (get_or (set slots x.process after) p empty_slot)) (sym (other-more p before x apart))
+        (subst (λ b. HoldsRound b senders (round_of p before) (get_or (set slots x.process after) p empty_slot)) (goes_on-other p x later apart)
+        (subst (HoldsRound (goes_on p (x ∷ later)) senders (round_of p before)) (sym (get_or-set_other slots x.process p after empty_slot differ)) (held p there_too)))
+
+-- the lines of the transmission at index i: those of the round that it ends, its own, and those behind them
+pub turn-parts : (words : Words) (senders : List SenderView) (xs : List Transmission) (i : ℕ) (x : Transmission) → i < length xs → x ≡ get_or xs i x
+    → pieces_joined (turns words senders (take i xs) (drop i xs)) ≡ cond x.fresh (round_lines words senders x.process (round_of x.process (take i xs))) [] ++ (said_if words (sender_of senders x) (continued (take i xs) x) x ++ pieces_joined (turns words senders (take (i + 1) xs) (drop (i + 1) xs)))
+turn-parts words senders xs i x within is =
+    turns-turn words senders xs i x within is
+    ∙ append_assoc (cond x.fresh (round_lines words senders x.process (round_of x.process (take i xs))) []) (said_if words (sender_of senders x) (continued (take i xs) x) x) (pieces_joined (turns words senders (take (i + 1) xs) (drop (i + 1) xs)))

@@ -1,0 +1,90 @@
+-- What is received of transmissions, and the lines of each.
+use Rattle.std.proofs.Common.{◌≡◌, ℕ, zero, suc, ◌+◌, ◌<◌, ◌≤◌, All, Bool, Option, None, Some, Result, Ok, Err, OnOk, List, [], ◌∷◌, ◌++◌, length, flat_map, get_or, ap, sym, subst, arith, length-append}
+use Rattle.std.specs.List.{range_with_len}
+use Rattle.std.proofs.lemmas.List.{get_or_default}
+use Rattle.std.proofs.lemmas.List.Elements.{All-get_or}
+use Rattle.nr_harqbuf.specs.Record.{HeardBits}
+use Rattle.nr_blockdesk.specs.Explains.{Reception, reception}
+use Rattle.nr_blockdesk.specs.Heard.{heard_record}
+use Rattle.nr_blockdesk.specs.Link.{Link}
+use Rattle.nr_blockdesk.specs.Outcome.{left}
+use Rattle.nr_blockdesk.specs.Sent.{SenderView, sent_said}
+use Rattle.nr_transmission.specs.declared.fault.DeskFault.{DeskFault}
+use Rattle.nr_linkcommands.specs.Ends.{AllHold, HasReceived, HoldsState, HoldsSummary, empty_slot}
+use Rattle.nr_linkcommands.specs.Hearing.{heard_through}
+use Rattle.nr_linkcommands.specs.RunLines.{left_line, left_lines}
+use Rattle.nr_linkcommands.specs.RunText.{lines_if, lines_of, own, received, received_if, received_of}
+use Rattle.nr_linkcommands.specs.SendLines.{refused_line, sent_line}
+use Rattle.nr_linkcommands.specs.declared.run_command.slot.RxState.{RxState}
+use Rattle.nr_linkcommands.specs.declared.run_command.slot.Slot.{Slot}
+use Rattle.nr_files.specs.declared.schedule.Transmission.{Transmission}
+use Rattle.nr_linkcommands.proofs.RunOutcomeFacts.{left_line-some}
+use Rattle.nr_linkcommands.proofs.SendLemmas.{answer_line-some}
+
+-- of each transmission no more than one reception
+received_if-few : (x : Transmission) (said : Result (List Bool) DeskFault) → length (received_if x said) ≤ 1
+received_if-few x (Ok bits) = omega arith
+received_if-few x (Err e) = omega arith
+
+pub received-few : (sender : SenderView) (xs : List Transmission) → length (received sender xs) ≤ length xs
+received-few sender [] = omega arith
+received-few sender (x ∷ xs) =
+    let one : length (received_of sender x) ≤ 1 = received_if-few x (sent_said sender.link x.tx sender.block) in
+    omega (arith, one, received-few sender xs, length-append (received_of sender x) (received sender xs))
+
+-- a state's count, by what it has received
+pub has_received : (link : Link) (list : List Reception) (n : ℕ) (state : Option RxState) → HoldsState link list state → length list ≤ n → HasReceived n state
+has_received link list n None holds few = tt
+has_received link list n (Some state) holds few = omega (arith, holds.count, few)
+
+-- the lines of a transmission, by what its sender says
+pub lines_of-said : (sender : SenderView) (list : List Reception) (x : Transmission) (said : Result (List Bool) DeskFault) → sent_said sender.link x.tx sender.block ≡ said → lines_of sender list x ≡ lines_if x sender.link (list ++ received_if x said) said
+unfolding lines_of
+lines_of-said sender list x said is = ap (λ r. lines_if x sender.link (list ++ received_if x r) r) is
+
+-- the lines of one that is sent, and of one that is refused
+pub lines_of-sent : (sender : SenderView) (list : List Reception) (x : Transmission) (bits : List Bool) → sent_said sender.link x.tx sender.block ≡ Ok bits → lines_of sender list x ≡ sent_line x.number x.block bits ++ left_lines x.number x.block sender.link (heard_record sender.link (list ++ reception x.tx (heard_through x bits) ∷ []))
+lines_of-sent sender list x bits is = lines_of-said sender list x (Ok bits) is
+
+pub lines_of-refused : (sender : SenderView) (list : List Reception) (x : Transmission) (e : DeskFault) → sent_said sender.link x.tx sender.block ≡ Err e → lines_of sender list x ≡ refused_line x.number x.block e
+lines_of-refused sender list x e is = lines_of-said sender list x (Err e) is
+
+-- what is received of it
+pub received_of-sent : (sender : SenderView) (x : Transmission) (bits : List Bool) → sent_said sender.link x.tx sender.block ≡ Ok bits → received_of sender x ≡ reception x.tx (heard_through x bits) ∷ []
+received_of-sent sender x bits is = ap (received_if x) is
+
+pub received_of-refused : (sender : SenderView) (x : Transmission) (e : DeskFault) → sent_said sender.link x.tx sender.block ≡ Err e → received_of sender x ≡ []
+received_of-refused sender x e is = ap (received_if x) is
+
+-- the lines are not empty
+lines_if-some : (x : Transmission) (link : Link) (list : List Reception) (said : Result (List Bool) DeskFault) → 0 < length (lines_if x link list said)
+lines_if-some x link list (Ok bits) =
+    let some : 0 < length (sent_line x.number x.block bits) = answer_line-some x.number x.block (Ok bits) in
+    omega (arith, some, length-append (sent_line x.number x.block bits) (left_lines x.number x.block link (heard_record link list)))
+lines_if-some x link list (Err e) = answer_line-some x.number x.block (Err e)
+
+pub lines_of-some : (sender : SenderView) (list : List Reception) (x : Transmission) → 0 < length (lines_of sender list x)
+unfolding lines_of
+lines_of-some sender list x = lines_if-some x sender.link (list ++ received_of sender x) (sent_said sender.link x.tx sender.block)
+
+pub some-lines : (f : ℕ → List ℕ) (c : ℕ) → ((r : ℕ) → 0 < length (f r)) → 0 < c → 0 < length (flat_map f (range_with_len 0 c))
+some-lines f zero each some = absurd (omega (arith, some))
+some-lines f (suc c) each some = omega (arith, each 0, length-append (f 0) (flat_map f (range_with_len 1 c)))
+
+pub left_lines-some : (t n : ℕ) (link : Link) (records : List HeardBits) → 0 < link.plan.c → 0 < length (left_lines t n link records)
+left_lines-some t n link records some =
+    some-lines (λ r. left_line t n r (left link records r)) link.plan.c (λ r. left_line-some t n r (left link records r)) some
+
+-- an element of a list of which all keep to this
+pub all-at : {X : Type 0} (P : X → Type 0) (xs : List X) (i : ℕ) (x : X) → All P xs → i < length xs → x ≡ get_or xs i x → P x
+all-at P xs i x all within is = subst P (sym is) (All-get_or P xs i x within all)
+
+-- what holds where a result is Ok
+pub on_ok-any : {X E : Type 0} {P : Type 0} (r : Result X E) → P → OnOk r P
+on_ok-any (Ok x) p = p
+on_ok-any (Err e) p = tt
+
+-- what is kept of a block
+pub holds-at : (senders : List SenderView) (schedule : List Transmission) (slots : List Slot) (i : ℕ) (sender : SenderView) (any : Slot) → i < length senders → sender ≡ get_or senders i sender → i < length slots → AllHold senders schedule slots → HoldsSummary sender.link (received sender (own (i + 1) schedule)) (get_or slots i any).summary
+holds-at senders schedule slots i sender any within at inside held =
+    subst (λ (p : Slot). HoldsSummary sender.link (received sender (own (i + 1) schedule)) p.summary) (sym (get_or_default slots i any empty_slot inside)) (held i sender within at).1

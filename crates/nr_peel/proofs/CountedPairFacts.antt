@@ -1,0 +1,102 @@
+-- Pairs of a row and a known position of it, by the rows' counters.
+use Rattle.std.proofs.Common.{◌≡◌, ℕ, ◌+◌, ◌*◌, ◌/◌, ◌%◌, ◌<◌, ◌≤◌, ◌==◌, Bool, true, false, not, cond, List, [], ◌∷◌, length, take, refl, sym, ap, ◌∙◌, arith}
+use Rattle.std.specs.Prelude.{zero, suc, count_by, slice_index, sum}
+use Rattle.std.proofs.lemmas.Bool.{eqb-true}
+use Rattle.std.proofs.lemmas.Nat.{div-mul-add, mod-mul-add, mod_below, div_below}
+use Rattle.std.proofs.lemmas.List.{take_all}
+use Rattle.std.proofs.lemmas.List.Sums.{sum_by_more}
+use Rattle.nr_bitvec.specs.Bit.{bit}
+use Rattle.nr_ldpcenc.specs.Rows.{Checks}
+use Rattle.nr_peel.specs.Sweeps.{CountsOf}
+use Rattle.nr_peel.specs.Touches.{pairs_in, sum_below}
+use Rattle.nr_peel.specs.TouchesInside.{all_pairs, row_length, spent_pairs}
+use Rattle.nr_peel.proofs.RowPositionFacts.{count_by-cons}
+use Rattle.nr_peel.proofs.PairSumFacts.{sum_below-le, sum_below-plus, sum_below-same}
+use Rattle.nr_peel.proofs.RowPlaceFacts.{row_number}
+
+-- what passes and what doesn't are all
+pub count_both : (p : ℕ → Bool) (xs : List ℕ) → count_by (λ x. not (p x)) xs + count_by p xs ≡ length xs
+count_both p [] = refl
+count_both p (x ∷ xs) = omega (arith, count_by-cons (λ x. not (p x)) x xs, count_by-cons p x xs, one (p x), count_both p xs)
+  where
+    one : (b : Bool) → cond (not b) 1 0 + cond b 1 0 ≡ 1
+    one true = refl
+    one false = refl
+
+pub sum_below-append : (g : ℕ → ℕ) (a b : ℕ) → sum_below g (a + b) ≡ sum_below g a + sum_below (λ j. g (a + j)) b
+sum_below-append g a zero = ap (sum_below g) (add_none a) ∙ omega arith
+  where
+    add_none : (a : ℕ) → a + 0 ≡ a
+    add_none a = omega arith
+sum_below-append g a (suc b) = ap (sum_below g) (add_next a b) ∙ omega (arith, sum_below-append g a b)
+  where
+    add_next : (a b : ℕ) → a + suc b ≡ suc (a + b)
+    add_next a b = omega arith
+
+-- rows and lanes, numbered through
+pub sum_flat : (f : ℕ → ℕ → ℕ) (rows lanes : ℕ) → sum_below (λ i. sum_below (f i) lanes) rows ≡ sum_below (λ k. f (k / lanes) (k % lanes)) (rows * lanes)
+sum_flat f zero lanes = ap (sum_below (λ k. f (k / lanes) (k % lanes))) (none lanes)
+  where
+    none : (n : ℕ) → 0 ≡ 0 * n
+    none n = omega arith
+sum_flat f (suc rows) lanes =
+    let g = λ (k : ℕ). f (k / lanes) (k % lanes) in
+    let tail = sum_below-same (f rows) (λ j. f ((rows * lanes + j) / lanes) ((rows * lanes + j) % lanes)) lanes (λ j lt. same j lt) in
+    let whole = sum_below-append (λ k. f (k / lanes) (k % lanes)) (rows * lanes) lanes in
+    let size = ap (sum_below (λ k. f (k / lanes) (k % lanes))) (next rows lanes) in
+    omega (arith, sum_flat f rows lanes, tail, whole, size)
+  where
+    next : (r l : ℕ) → suc r * l ≡ r * l + l
+    next r l = omega arith
+
+    same : (j : ℕ) → j < lanes → f rows j ≡ f ((rows * lanes + j) / lanes) ((rows * lanes + j) % lanes)
+    same j lt = sym (ap (λ i. f i ((rows * lanes + j) % lanes)) (div-mul-add rows lanes j lt) ∙ ap (f rows) (mod-mul-add rows lanes j lt))
+
+-- a list's sum, by its places
+pub sum-below : (xs : List ℕ) → sum xs ≡ sum_below (slice_index xs) (length xs)
+sum-below xs = sym (ap sum (take_all (length xs) xs (omega arith))) ∙ so_far (length xs) (omega arith)
+  where
+    so_far : (n : ℕ) → n ≤ length xs → sum (take n xs) ≡ sum_below (slice_index xs) n
+    so_far zero le = refl
+    so_far (suc n) le = ap (λ m. sum (take m xs)) (next n) ∙ sum_by_more (λ x. x) xs n 0 (omega arith) ∙ ap (λ s. s + slice_index xs n) (so_far n (omega arith))
+      where
+        next : (n : ℕ) → suc n ≡ n + 1
+        next n = omega arith
+
+module _ (c : Checks) (known : List Bool) (counts : List ℕ) (pos : 0 < c.lanes) (counted : CountsOf c (bit known) counts) (long : length counts ≡ c.rows * c.lanes) where
+  known_in : ℕ → ℕ
+  known_in k = count_by (bit known) (c.row (k / c.lanes) (k % c.lanes))
+
+  counted_at : (k : ℕ) → k < c.rows * c.lanes → slice_index counts k + count_by (bit known) (c.row (k / c.lanes) (k % c.lanes)) ≡ row_length c k
+  counted_at k lt =
+      let i = k / c.lanes in
+      let t = k % c.lanes in
+      let at : slice_index counts k ≡ count_by (λ p. not (bit known p)) (c.row i t) =
+      sym (ap (slice_index counts) (row_number k c.lanes)) ∙ counted i t (div_below k c.lanes c.rows pos lt) (mod_below k c.lanes pos) in
+      omega (arith, at, count_both (bit known) (c.row i t))
+
+  pairs_flat : pairs_in c (bit known) ≡ sum_below (λ k. count_by (bit known) (c.row (k / c.lanes) (k % c.lanes))) (c.rows * c.lanes)
+  unfolding pairs_in
+  pairs_flat = sum_flat (λ i t. count_by (bit known) (c.row i t)) c.rows c.lanes
+
+  pub pairs_and_counts : pairs_in c (bit known) + sum counts ≡ all_pairs c
+  unfolding all_pairs
+  pairs_and_counts =
+      let flat = pairs_flat in
+      let all : sum counts ≡ sum_below (slice_index counts) (c.rows * c.lanes) = sum-below counts ∙ ap (sum_below (slice_index counts)) long in
+      let plus = sum_below-plus (slice_index counts) (λ k. count_by (bit known) (c.row (k / c.lanes) (k % c.lanes))) (row_length c) (c.rows * c.lanes) counted_at in
+      omega (arith, flat, all, plus)
+
+  pub spent_known : spent_pairs c counts ≤ pairs_in c (bit known)
+  unfolding spent_pairs
+  spent_known =
+      let flat = pairs_flat in
+      let le = sum_below-le (λ k. cond (slice_index counts k == 0) (row_length c k) 0) (λ k. count_by (bit known) (c.row (k / c.lanes) (k % c.lanes))) (c.rows * c.lanes) each in
+      omega (arith, flat, le)
+    where
+      each : (k : ℕ) → k < c.rows * c.lanes → cond (slice_index counts k == 0) (row_length c k) 0 ≤ count_by (bit known) (c.row (k / c.lanes) (k % c.lanes))
+      each k lt = go (slice_index counts k == 0) refl
+        where
+          go : (b : Bool) → (slice_index counts k == 0) ≡ b → cond b (row_length c k) 0 ≤ count_by (bit known) (c.row (k / c.lanes) (k % c.lanes))
+          go true e = omega (arith, counted_at k lt, eqb-true (slice_index counts k) 0 e)
+          go false e = omega arith

@@ -1,0 +1,210 @@
+-- Which row blocks are due, and which columns have gained something.
+use Rattle.std.proofs.Common.{◌≡◌, ◌≢◌, ℕ, zero, suc, ◌+◌, ◌*◌, ◌/◌, ◌%◌, ◌<◌, ◌≤◌, ◌==◌, ◌&&◌, ◌||◌, Bool, true, false, not, cond, if◌then◌else◌, List, length, set, replicate, refl, sym, ap, ◌∙◌, inl, inr, arith}
+use Rattle.std.specs.Prelude.{slice_index}
+use Rattle.std.proofs.Math.Nat.{mul-le-mul_right}
+use Rattle.std.proofs.lemmas.Bool.{cases_eq, cases_lt, eq-eqb, ne_eqb, true≢false}
+use Rattle.std.proofs.lemmas.List.{get_or_past, get_or-set_other, get_or-set_same, get_or-replicate, length-map, length-replicate}
+use Rattle.std.proofs.lemmas.List.Folds.{sum_by-replicate}
+use Rattle.std.proofs.lemmas.List.Sums.{count_by-le-length, sum_by-set}
+use Rattle.std.proofs.lemmas.Nat.{div_below, div-mul-add, mod_below}
+use Rattle.nr_bitvec.specs.Bit.{bit}
+use Rattle.nr_lifting.specs.Planes.{BlockCounts}
+use Rattle.nr_lifting.specs.Rings.{BlockBits, is_set, lane_marks, marked}
+use Rattle.nr_lifting.proofs.LaneBitFacts.{marked-same}
+use Rattle.nr_shifttable.specs.declared.entry.Entry.{Entry}
+use Rattle.nr_shifttable.specs.Accepted.{entries_in, row_of}
+use Rattle.nr_shifttable.specs.Tails.{value_in}
+use Rattle.nr_ldpcenc.specs.Rows.{one_at}
+use Rattle.nr_peel.specs.Due.{ArePendingMarks, AreKept, due_in}
+use Rattle.nr_peel.specs.StateInside.{lifted_checks}
+use Rattle.nr_peel.specs.Sweeps.{CountsOf, has_count}
+use Rattle.nr_peel.specs.declared.lifted.Lifted.{Lifted}
+use Rattle.nr_peel.proofs.LaneMarkFacts.{marked_zero}
+use Rattle.nr_peel.proofs.RowPlaceFacts.{row_number}
+
+-- ---- how many are due
+
+pub due_none : (n : ℕ) → due_in (replicate n false) ≡ 0
+due_none n = omega (arith, sum_by-replicate (λ (b : Bool). cond {A = ℕ} b 1 0) n false)
+
+pub due_more : (due : List Bool) (i : ℕ) → i < length due → due_in (set due i true) ≤ due_in due + 1
+due_more due i below = omega (arith, sum_by-set (λ (b : Bool). cond {A = ℕ} b 1 0) due i true false below)
+
+-- ---- places of blocks
+
+-- a block that lies among m blocks is one of them
+pub block_low : (i n m z : ℕ) → (i + 1) * z ≤ n → n ≤ m * z → 0 < z → i < m
+block_low i n m z fits few some = elim (cases_lt i m) [
+  | inl below ↦ below
+  | inr past ↦
+      let wide : (m + 1) * z ≤ (i + 1) * z = mul-le-mul_right z (omega (arith, past)) in
+      absurd (omega (arith, wide, fits, few, some))
+]
+
+pub block_at : (i t z : ℕ) → t < z → (i * z + t) / z ≡ i
+block_at i t z below = div-mul-add i z t below
+
+-- ---- counts of rows
+
+-- at first all are due
+pub kept_new : (p : BlockCounts) (due : List Bool) (rows : ℕ) → 0 < p.lanes → rows ≤ 46 → length p.items ≡ rows * p.lanes → ((h : ℕ) → h < rows → bit due h ≡ true) → AreKept p due
+kept_new p due rows some few long all = record {
+  some = some;
+  few = omega (arith, long, mul-le-mul_right p.lanes few);
+  settled = λ k clear one. elim (cases_lt k (rows * p.lanes)) [
+    | inl below ↦ true≢false (sym (all (k / p.lanes) (div_below k p.lanes rows some below)) ∙ clear)
+    | inr past ↦ absurd (omega (arith, one, get_or_past p.items k 0 (omega (arith, long, past))))
+  ];
+}
+
+-- a block whose counts fell is due
+pub kept_lower : (a d : BlockCounts) (due : List Bool) (i : ℕ) (M : ℕ → Bool) → AreKept a due → i < length due → d.lanes ≡ a.lanes → length d.items ≡ length a.items
+    → ((h t : ℕ) → t < a.lanes → slice_index d.items (h * a.lanes + t) + cond ((i == h) && M t) 1 0 ≡ slice_index a.items (h * a.lanes + t)) → AreKept d (set due i true)
+kept_lower a d due i M kept within lanes long falls = record {
+  some = omega (arith, kept.some, lanes);
+  few = rw lanes (omega (arith, kept.few, long));
+  settled = λ k clear one. rest k (sym (ap (λ z. bit (set due i true) (k / z)) lanes) ∙ clear) one;
+}
+  where
+    rest : (k : ℕ) → bit (set due i true) (k / a.lanes) ≡ false → slice_index d.items k ≡ 1 → ⊥
+    rest k clear one = elim (cases_eq i (k / a.lanes)) [
+      | inl here ↦ true≢false (sym (get_or-set_same due i true false within) ∙ ap (bit (set due i true)) here ∙ clear)
+      | inr other ↦
+          let h = k / a.lanes in
+          let at : h * a.lanes + k % a.lanes ≡ k = row_number k a.lanes in
+          let fell = falls h (k % a.lanes) (mod_below k a.lanes kept.some) in
+          let none : cond {A = ℕ} ((i == h) && M (k % a.lanes)) 1 0 ≡ 0 = ap {B = ℕ} (λ b. cond (b && M (k % a.lanes)) 1 0) (ne_eqb i h other) in
+          let same : slice_index d.items k ≡ slice_index a.items k = omega (arith, rw at at fell, none) in
+          kept.settled k (sym (get_or-set_other due i h true false (λ e. other (sym e))) ∙ clear) (sym same ∙ one)
+    ]
+
+-- a block is due as long as it has a count of one
+pub kept_looked : (p : BlockCounts) (due : List Bool) (i : ℕ) (b : Bool) (ones : List ℕ) → AreKept p due → i < length due
+    → (b ≡ false → marked (is_set ones) p.lanes ≡ 0) → ((t : ℕ) → t < p.lanes → is_set ones t ≡ (slice_index p.items (i * p.lanes + t) == 1)) → AreKept p (set due i b)
+kept_looked p due i b ones kept within none are = record {
+  some = kept.some;
+  few = kept.few;
+  settled = λ k clear one. elim (cases_eq i (k / p.lanes)) [
+    | inl here ↦
+        let off : b ≡ false = sym (get_or-set_same due i b false within) ∙ ap (bit (set due i b)) here ∙ clear in
+        let t = k % p.lanes in
+        let below : t < p.lanes = mod_below k p.lanes kept.some in
+        let at : i * p.lanes + t ≡ k = ap (λ h. h * p.lanes + t) here ∙ row_number k p.lanes in
+        true≢false (sym (ap (λ n. slice_index p.items n == 1) at ∙ eq-eqb (slice_index p.items k) 1 one) ∙ sym (are t below) ∙ marked_zero (is_set ones) p.lanes (none off) t below)
+    | inr other ↦ kept.settled k (sym (get_or-set_other due i (k / p.lanes) b false (λ e. other (sym e))) ∙ clear) one
+  ];
+}
+
+-- a block that isn't due has no count of one
+pub kept_none : (p : BlockCounts) (due : List Bool) (i t : ℕ) → AreKept p due → bit due i ≡ false → t < p.lanes → (slice_index p.items (i * p.lanes + t) == 1) ≡ false
+kept_none p due i t kept clear below = ne_eqb (slice_index p.items (i * p.lanes + t)) 1 (kept.settled (i * p.lanes + t) (ap (bit due) (block_at i t p.lanes below) ∙ clear))
+
+pub on_if : (b : Bool) → not b ≡ false → b ≡ true
+on_if true e = refl
+on_if false e = sym e
+
+-- ---- marks of fresh positions
+
+no_marks : (u : ℕ → Bool) (n : ℕ) → ((t : ℕ) → t < n → u t ≡ false) → marked u n ≡ 0
+no_marks u zero none = refl
+no_marks u (suc n) none = omega (arith, no_marks u n (λ t below. none t (omega (arith, below))), ap {B = ℕ} (λ b. if b then 1 else 0) (none n (omega arith)))
+
+none_set : (n p : ℕ) → bit (replicate n false) p ≡ false
+none_set n p = elim (cases_lt p n) [
+  | inl below ↦ get_or-replicate n p false false below
+  | inr past ↦ get_or_past (replicate n false) p false (omega (arith, length-replicate n false, past))
+]
+
+no_count : (n j : ℕ) → slice_index (replicate n 0) j ≡ 0
+no_count n j = elim (cases_lt j n) [
+  | inl below ↦ get_or-replicate n j 0 0 below
+  | inr past ↦ get_or_past (replicate n 0) j 0 (omega (arith, length-replicate {A = ℕ} n 0, past))
+]
+
+pub marks_new : (r : BlockBits) (count size : ℕ) → 0 < size → count ≤ 68 → r.lanes ≡ size → r.items ≡ replicate (count * size) false → ArePendingMarks r (replicate 68 0)
+marks_new r count size some few lanes items = record {
+  some = omega (arith, lanes, some);
+  few =
+      let long : length r.items ≡ count * size = ap length items ∙ length-replicate (count * size) false in
+      rw lanes (omega (arith, long, mul-le-mul_right size few));
+  counted = λ j. no_count 68 j ∙ sym (no_marks (λ t. bit r.items (j * r.lanes + t)) r.lanes (λ t below. ap (λ xs. bit xs (j * r.lanes + t)) items ∙ none_set (count * size) (j * r.lanes + t)));
+}
+
+-- a column's number is made anew, and the others' marks are as they were
+marks_set : (a d : BlockBits) (columns : List ℕ) (j n : ℕ) → ArePendingMarks a columns → j < length columns → d.lanes ≡ a.lanes → length d.items ≡ length a.items
+    → ((i t : ℕ) → i ≢ j → t < a.lanes → bit d.items (i * a.lanes + t) ≡ bit a.items (i * a.lanes + t)) → n ≡ marked (λ t. bit d.items (j * a.lanes + t)) a.lanes → ArePendingMarks d (set columns j n)
+marks_set a d columns j n old within lanes long same count = record {
+  some = omega (arith, old.some, lanes);
+  few = rw lanes (omega (arith, old.few, long));
+  counted = λ i. counted i ∙ sym (ap (λ z. marked (λ t. bit d.items (i * z + t)) z) lanes);
+}
+  where
+    counted : (i : ℕ) → slice_index (set columns j n) i ≡ marked (λ t. bit d.items (i * a.lanes + t)) a.lanes
+    counted i = elim (cases_eq i j) [
+      | inl here ↦ ap (slice_index (set columns j n)) here ∙ get_or-set_same columns j n 0 within ∙ count ∙ ap (λ h. marked (λ t. bit d.items (h * a.lanes + t)) a.lanes) (sym here)
+      | inr other ↦
+          get_or-set_other columns j i n 0 other ∙ old.counted i
+          ∙ marked-same (λ t. bit a.items (i * a.lanes + t)) (λ t. bit d.items (i * a.lanes + t)) a.lanes (λ t below. sym (same i t other below))
+    ]
+
+pub marks_join : (a d : BlockBits) (columns : List ℕ) (j n : ℕ) (M : ℕ → Bool) → ArePendingMarks a columns → j < length columns → d.lanes ≡ a.lanes → length d.items ≡ length a.items
+    → ((p : ℕ) → bit d.items p ≡ (bit a.items p || lane_marks a.lanes j M p)) → n ≡ marked (λ t. bit d.items (j * a.lanes + t)) a.lanes → ArePendingMarks d (set columns j n)
+marks_join a d columns j n M old within lanes long joined count = marks_set a d columns j n old within lanes long same count
+  where
+    plain : (b : Bool) → (b || false) ≡ b
+    plain true = refl
+    plain false = refl
+
+    same : (i t : ℕ) → i ≢ j → t < a.lanes → bit d.items (i * a.lanes + t) ≡ bit a.items (i * a.lanes + t)
+    same i t other below =
+        let p = i * a.lanes + t in
+        joined p ∙ ap (λ b. bit a.items p || (b && M (p % a.lanes))) (ap (λ h. h == j) (block_at i t a.lanes below) ∙ ne_eqb i j other) ∙ plain (bit a.items p)
+
+pub marks_clear : (a d : BlockBits) (columns : List ℕ) (j : ℕ) → ArePendingMarks a columns → j < length columns → d.lanes ≡ a.lanes → length d.items ≡ length a.items
+    → ((p : ℕ) → bit d.items p ≡ (bit a.items p && not (p / a.lanes == j))) → ArePendingMarks d (set columns j 0)
+marks_clear a d columns j old within lanes long cleared = marks_set a d columns j 0 old within lanes long same (sym (no_marks (λ t. bit d.items (j * a.lanes + t)) a.lanes none))
+  where
+    plain : (b : Bool) → (b && true) ≡ b
+    plain true = refl
+    plain false = refl
+
+    nothing : (b : Bool) → (b && false) ≡ false
+    nothing true = refl
+    nothing false = refl
+
+    same : (i t : ℕ) → i ≢ j → t < a.lanes → bit d.items (i * a.lanes + t) ≡ bit a.items (i * a.lanes + t)
+    same i t other below =
+        let p = i * a.lanes + t in
+        cleared p ∙ ap (λ b. bit a.items p && not b) (ap (λ h. h == j) (block_at i t a.lanes below) ∙ ne_eqb i j other) ∙ plain (bit a.items p)
+
+    none : (t : ℕ) → t < a.lanes → bit d.items (j * a.lanes + t) ≡ false
+    none t below =
+        let p = j * a.lanes + t in
+        cleared p ∙ ap (λ b. bit a.items p && not b) (ap (λ h. h == j) (block_at j t a.lanes below) ∙ eq-eqb j j refl) ∙ nothing (bit a.items p)
+
+-- ---- what a search costs
+
+-- a row of blocks that has a row with one unknown position has an entry
+pub some_entry : (l : Lifted) (K : ℕ → Bool) (counts : List ℕ) (i : ℕ) → i < (lifted_checks l).rows → CountsOf (lifted_checks l) K counts → 0 < marked (λ t. has_count 1 counts (i * l.plan.z + t)) l.plan.z
+    → 0 < length (row_of (entries_in l.plan.graph l.table.now) i)
+some_entry l K counts i block counted some = elim (cases_lt 0 (length es)) [
+  | inl lt ↦ lt
+  | inr le ↦ absurd (omega (arith, some, no_marks (λ t. has_count 1 counts (i * l.plan.z + t)) l.plan.z (λ t below. ne_eqb (slice_index counts (i * l.plan.z + t)) 1 (λ one. absurd (omega (arith, one, few t below, le))))))
+]
+  where
+    es : List Entry
+    es = row_of (entries_in l.plan.graph l.table.now) i
+
+    few : (t : ℕ) → t < l.plan.z → slice_index counts (i * l.plan.z + t) ≤ length es
+    few t below =
+        omega (arith, counted i t block below, count_by-le-length (λ p. not (K p)) ((lifted_checks l).row i t), length-map es (λ (e : Entry). one_at l.plan.z t e.col (value_in l.plan.set e)))
+
+-- two operations an entry, and one for the look, are at most three a visit
+pub search_cost : (rows d : ℕ) → 0 < rows → 0 < d → 1 + 2 * d ≤ 3 * (rows * d)
+search_cost rows d some long =
+    let more : 1 * d ≤ rows * d = mul-le-mul_right d some in
+    omega (arith, more, long)
+
+pub one_at_most : (b : Bool) → cond {A = ℕ} b 1 0 ≤ 1
+one_at_most true = omega arith
+one_at_most false = omega arith

@@ -1,0 +1,117 @@
+-- Steps that are accepted in turn: where they lead, from a larger set, and one step more.
+use Rattle.std.proofs.Common.{◌≡◌, ℕ, ◌<◌, ◌==◌, nat_lt, ◌||◌, ◌&&◌, Bool, true, false, cond, List, [], ◌∷◌, ◌++◌, length, take, refl, sym, ap, ◌∙◌, ⊎_elim, append_assoc, append-nil}
+use Rattle.std.proofs.Math.Seq.{take-append_seam}
+use Rattle.std.proofs.lemmas.Bool.{and_parts, and_from, or_cases, or_left, or_right, ltb-true, lt-ltb, eqb-true}
+use Rattle.nr_ldpcenc.specs.Rows.{Checks}
+use Rattle.nr_peel.specs.Closure.{AreSound, Within, closure, fixes}
+use Rattle.nr_peel.specs.Certificates.{accepts, after_steps, all_accepted, is_fixed_by, with_position}
+use Rattle.nr_peel.specs.CertificatesInside.{Extends}
+use Rattle.nr_peel.specs.declared.fix.Fix.{Fix}
+use Rattle.nr_peel.proofs.ClosureFacts.{closure_closed, closure_keeps}
+use Rattle.nr_peel.proofs.RowPositionFacts.{fixes_more}
+
+-- what an accepted step says
+pub record IsAcceptedStep (c : Checks) (S : ℕ → Bool) (s : Fix) : Type 0 where
+  pub row : s.row < c.rows
+  pub lane : s.lane < c.lanes
+  pub pos : s.pos < c.size
+  pub fixed : fixes S (c.row s.row s.lane) s.pos ≡ true
+
+pub accepted_says : (c : Checks) (S : ℕ → Bool) (s : Fix) → accepts c S s ≡ true → IsAcceptedStep c S s
+accepted_says c S s h =
+    let f = fixes S (c.row s.row s.lane) s.pos in
+    let one = and_parts (nat_lt s.row c.rows) (nat_lt s.lane c.lanes && (nat_lt s.pos c.size && f)) h in
+    let two = and_parts (nat_lt s.lane c.lanes) (nat_lt s.pos c.size && f) one.1 in
+    let three = and_parts (nat_lt s.pos c.size) f two.1 in
+    record { row = ltb-true s.row c.rows one.0; lane = ltb-true s.lane c.lanes two.0; pos = ltb-true s.pos c.size three.0; fixed = three.1 }
+
+pub step_accepted : (c : Checks) (S : ℕ → Bool) (s : Fix) → s.row < c.rows → s.lane < c.lanes → s.pos < c.size → fixes S (c.row s.row s.lane) s.pos ≡ true → accepts c S s ≡ true
+step_accepted c S s r l p f =
+    and_from (nat_lt s.row c.rows) (nat_lt s.lane c.lanes && (nat_lt s.pos c.size && fixes S (c.row s.row s.lane) s.pos)) (lt-ltb s.row c.rows r)
+    (and_from (nat_lt s.lane c.lanes) (nat_lt s.pos c.size && fixes S (c.row s.row s.lane) s.pos) (lt-ltb s.lane c.lanes l)
+    (and_from (nat_lt s.pos c.size) (fixes S (c.row s.row s.lane) s.pos) (lt-ltb s.pos c.size p) f))
+
+pub with_within : (S T : ℕ → Bool) (p : ℕ) → Within S T → Within (with_position S p) (with_position T p)
+with_within S T p within q h = ⊎_elim (λ s. or_left (T q) (p == q) (within q s)) (λ e. or_right (T q) (p == q) e) (or_cases (S q) (p == q) h)
+
+-- a larger set accepts as well
+pub accepts_more : (c : Checks) (S T : ℕ → Bool) (s : Fix) → Within S T → accepts c S s ≡ true → accepts c T s ≡ true
+accepts_more c S T s within h =
+    let a = accepted_says c S s h in
+    step_accepted c T s a.row a.lane a.pos (fixes_more S T (c.row s.row s.lane) s.pos within a.fixed)
+
+pub all_accepted_within : (c : Checks) (S T : ℕ → Bool) (ss : List Fix) → Within S T → all_accepted c S ss ≡ true → all_accepted c T ss ≡ true
+all_accepted_within c S T [] within h = refl
+all_accepted_within c S T (s ∷ ss) within h =
+    let parts = and_parts (accepts c S s) (all_accepted c (with_position S s.pos) ss) h in
+    and_from (accepts c T s) (all_accepted c (with_position T s.pos) ss) (accepts_more c S T s within parts.0)
+    (all_accepted_within c (with_position S s.pos) (with_position T s.pos) ss (with_within S T s.pos within) parts.1)
+
+-- accepted steps stay in the closure
+pub steps_within : (c : Checks) (S T : ℕ → Bool) (ss : List Fix) → AreSound c → Within S (closure c T) → Within (after_steps c S ss) (closure c T)
+steps_within c S T [] sound within p h = within p h
+steps_within c S T (s ∷ ss) sound within p h = go (accepts c S s) refl h (λ w. steps_within c (with_position S s.pos) T ss sound w p)
+  where
+    go : (b : Bool) → accepts c S s ≡ b → cond b (after_steps c (with_position S s.pos) ss) S p ≡ true → (Within (with_position S s.pos) (closure c T) → after_steps c (with_position S s.pos) ss p ≡ true → closure c T p ≡ true) → closure c T p ≡ true
+    go false e k ih = within p k
+    go true e k ih = ih added k
+      where
+        added : Within (with_position S s.pos) (closure c T)
+        added q g =
+            let a = accepted_says c S s e in
+            ⊎_elim (within q)
+            (λ m. ap (closure c T) (sym (eqb-true s.pos q m)) ∙ closure_closed c T sound s.row s.lane s.pos a.row a.lane (fixes_more S (closure c T) (c.row s.row s.lane) s.pos within a.fixed))
+            (or_cases (S q) (s.pos == q) g)
+
+pub steps_stay : (c : Checks) (S : ℕ → Bool) (ss : List Fix) → AreSound c → Within (after_steps c S ss) (closure c S)
+steps_stay c S ss sound = steps_within c S S ss sound (closure_keeps c S)
+
+-- after steps that were all accepted, their positions are added
+pub after_accepted : (c : Checks) (S : ℕ → Bool) (ss : List Fix) (p : ℕ) → all_accepted c S ss ≡ true → after_steps c S ss p ≡ (S p || is_fixed_by ss p)
+after_accepted c S [] p h = or_none (S p)
+  where
+    or_none : (b : Bool) → b ≡ (b || false)
+    or_none true = refl
+    or_none false = refl
+after_accepted c S (s ∷ ss) p h =
+    let parts = and_parts (accepts c S s) (all_accepted c (with_position S s.pos) ss) h in
+    step (accepts c S s) parts.0 ∙ after_accepted c (with_position S s.pos) ss p parts.1 ∙ regroup (S p) (s.pos == p) (is_fixed_by ss p)
+  where
+    step : (b : Bool) → b ≡ true → cond b (after_steps c (with_position S s.pos) ss) S p ≡ after_steps c (with_position S s.pos) ss p
+    step b e = ap (λ b. cond b (after_steps c (with_position S s.pos) ss) S p) e
+
+    regroup : (a b d : Bool) → ((a || b) || d) ≡ (a || (b || d))
+    regroup true b d = refl
+    regroup false b d = refl
+
+-- one step more
+pub all_accepted-push : (c : Checks) (S : ℕ → Bool) (ss : List Fix) (s : Fix) → all_accepted c S ss ≡ true → accepts c (after_steps c S ss) s ≡ true → all_accepted c S (ss ++ s ∷ []) ≡ true
+all_accepted-push c S [] s h k = and_from (accepts c S s) true k refl
+all_accepted-push c S (x ∷ ss) s h k =
+    let parts = and_parts (accepts c S x) (all_accepted c (with_position S x.pos) ss) h in
+    let same : cond (accepts c S x) (after_steps c (with_position S x.pos) ss) S ≡ after_steps c (with_position S x.pos) ss = ap (λ b. cond b (after_steps c (with_position S x.pos) ss) S) parts.0 in
+    and_from (accepts c S x) (all_accepted c (with_position S x.pos) (ss ++ s ∷ [])) parts.0
+    (all_accepted-push c (with_position S x.pos) ss s parts.1 (sym (ap (λ T. accepts c T s) same) ∙ k))
+
+pub is_fixed_by-push : (ss : List Fix) (s : Fix) (p : ℕ) → is_fixed_by (ss ++ s ∷ []) p ≡ (is_fixed_by ss p || (s.pos == p))
+is_fixed_by-push [] s p = or_false (s.pos == p)
+  where
+    or_false : (b : Bool) → (b || false) ≡ b
+    or_false true = refl
+    or_false false = refl
+is_fixed_by-push (x ∷ ss) s p = ap (λ b. (x.pos == p) || b) (is_fixed_by-push ss s p) ∙ regroup (x.pos == p) (is_fixed_by ss p) (s.pos == p)
+  where
+    regroup : (a b d : Bool) → (a || (b || d)) ≡ ((a || b) || d)
+    regroup true b d = refl
+    regroup false b d = refl
+
+-- ---- steps that go on
+
+pub goes_none : (ss : List Fix) → Extends ss ss
+goes_none ss = record { more = []; is = sym (append-nil ss) }
+
+pub goes_then : (a b d : List Fix) → Extends a b → Extends b d → Extends a d
+goes_then a b d one two = record { more = one.more ++ two.more; is = two.is ∙ ap (λ v. v ++ two.more) one.is ∙ append_assoc a one.more two.more }
+
+pub goes_taken : (a b : List Fix) → Extends a b → take (length a) b ≡ a
+goes_taken a b on = ap (take (length a)) on.is ∙ take-append_seam a on.more

@@ -1,0 +1,101 @@
+-- Lanes of rows, and the positions that they mark in a block.
+use Rattle.std.proofs.Common.{◌≡◌, ℕ, zero, suc, ◌+◌, ◌-◌, ◌*◌, ◌/◌, ◌%◌, ◌^◌, ◌<◌, ◌≤◌, ◌==◌, ◌&&◌, ◌||◌, Bool, true, false, not, if◌then◌else◌, List, ◌++◌, get_or, set, replicate, refl, sym, ap, ◌∙◌, inl, inr, arith}
+use Rattle.std.specs.Int.{bit_at, w64}
+use Rattle.std.specs.Int.RustNames.{bit_or}
+use Rattle.std.proofs.lemmas.Nat.Bits.{bit_at_set_other, bit_at_set_same}
+use Rattle.std.proofs.Math.Nat.{add-mod-mod}
+use Rattle.std.proofs.lemmas.Bool.{cases_eq, cases_lt, eq-eqb, ne_eqb}
+use Rattle.std.proofs.lemmas.List.{append-nil, get_or-set_same, get_or-set_other}
+use Rattle.std.proofs.lemmas.Nat.{div_below, mod_below}
+use Rattle.nr_bitvec.specs.Packed.{IsClear}
+use Rattle.nr_lifting.specs.Rings.{IsRotated, is_set, lane_marks, marked}
+use Rattle.nr_lifting.proofs.LaneViewFacts.{place-zeros}
+use Rattle.nr_ldpcenc.specs.Rows.{one_at, unrotate}
+use Rattle.nr_peel.specs.Lanes.{lacks, marks_of, steps_below}
+use Rattle.nr_peel.specs.declared.fix.Fix.{Fix}
+use Rattle.nr_peel.proofs.StepFacts.{steps_none}
+
+-- nothing is marked where nothing is counted
+pub marked_zero : (u : ℕ → Bool) (n : ℕ) → marked u n ≡ 0 → (t : ℕ) → t < n → u t ≡ false
+marked_zero u zero none t below = absurd (omega (arith, below))
+marked_zero u (suc n) none t below = go (u n) refl (λ e. marked_zero u n e t)
+  where
+    go : (b : Bool) → u n ≡ b → (marked u n ≡ 0 → t < n → u t ≡ false) → u t ≡ false
+    go true e ih = absurd (omega (arith, none, ap {B = ℕ} (λ b. if b then 1 else 0) e))
+    go false e ih = elim (cases_lt t n) [
+      | inl h ↦ ih (omega (arith, none)) h
+      | inr h ↦
+          let last : t ≡ n = omega (arith, below, h) in
+          ap u last ∙ e
+    ]
+
+-- no place is set past the end
+pub past_clear : (lane : List ℕ) (z t : ℕ) → IsClear lane z → z ≤ t → is_set lane t ≡ false
+past_clear lane z t clear past = ap (λ n. n == 1) (clear t past)
+
+pub none_marked : (lane : List ℕ) (z : ℕ) → IsClear lane z → marked (is_set lane) z ≡ 0 → (t : ℕ) → is_set lane t ≡ false
+none_marked lane z clear none t = elim (cases_lt t z) [
+  | inl below ↦ marked_zero (is_set lane) z none t below
+  | inr past ↦ past_clear lane z t clear past
+]
+
+-- no step without a mark
+pub no_steps : (step : ℕ → Fix) (u : ℕ → Bool) (n : ℕ) (order : List Fix) → ((t : ℕ) → u t ≡ false) → order ≡ order ++ steps_below step u n
+no_steps step u n order none =
+    let from : 0 + n ≡ n = omega arith in
+    sym (ap (λ xs. order ++ xs) (sym (ap (steps_below step u) from) ∙ steps_none step u 0 n (λ t _ _. none t)) ∙ append-nil order)
+
+module _ (z j v : ℕ) (some : 0 < z) where
+  -- the rows of a lane whose positions the block lacks
+  pub lacking : (ones lane : List ℕ) (K : ℕ → Bool) → IsClear ones z → IsClear lane z
+      → ((t : ℕ) → t < z → is_set lane t ≡ (is_set ones t && not (K (j * z + (t + v % z) % z)))) → (t : ℕ) → is_set lane t ≡ lacks z j v ones K t
+  lacking ones lane K clear lane_clear is t = elim (cases_lt t z) [
+    | inl below ↦ is t below
+    | inr past ↦ past_clear lane z t lane_clear past ∙ sym (ap (λ b. b && not (K (one_at z t j v))) (past_clear ones z t clear past))
+  ]
+
+  -- a lane that is turned back marks its rows' positions
+  pub rotated_marks : (marks lane : List ℕ) (u : ℕ → Bool) → IsRotated z marks lane ((z - v % z) % z) → ((t : ℕ) → is_set lane t ≡ u t)
+      → (p : ℕ) → lane_marks z j (is_set marks) p ≡ marks_of z j v u p
+  rotated_marks marks lane u rotated is p =
+      let small : p % z < z = mod_below p z some in
+      let back : (p % z + (z - v % z) % z) % z ≡ unrotate z v (p % z) = add-mod-mod (p % z) (z - v % z) z in
+      ap (λ n. (p / z == j) && (n == 1)) (rotated (p % z) small)
+      ∙ ap (λ t. (p / z == j) && is_set lane t) back
+      ∙ ap (λ b. (p / z == j) && b) (is (unrotate z v (p % z)))
+
+  pub marks_none : (u : ℕ → Bool) (a : Bool) (p : ℕ) → ((t : ℕ) → u t ≡ false) → a ≡ (a || marks_of z j v u p)
+  marks_none u a p none = sym (ap (λ b. a || ((p / z == j) && b)) (none (unrotate z v (p % z))) ∙ plain a (p / z == j))
+    where
+      plain : (a b : Bool) → (a || (b && false)) ≡ a
+      plain true b = refl
+      plain false true = refl
+      plain false false = refl
+
+  pub marks_same : (u w : ℕ → Bool) (a : Bool) (p : ℕ) → ((t : ℕ) → u t ≡ w t) → (a || marks_of z j v u p) ≡ (a || marks_of z j v w p)
+  marks_same u w a p same = ap (λ b. a || ((p / z == j) && b)) (same (unrotate z v (p % z)))
+
+-- the lane that marks one row
+pub one_marked : (row : ℕ) → row < 384 → (t : ℕ) → is_set (set (replicate 6 0) (row / 64) (bit_or (get_or (replicate 6 0) (row / 64) 0) (1 * 2 ^ (row % 64) % 2 ^ 64))) t ≡ (row == t)
+one_marked row small t = elim (cases_eq (t / 64) (row / 64)) [
+  | inl here ↦
+      let within : row / 64 < 6 = div_below row 64 6 (omega arith) small in
+      let read : get_or (set (replicate 6 0) (row / 64) word) (t / 64) 0 ≡ word = ap (λ k. get_or (set (replicate 6 0) (row / 64) word) k 0) here ∙ get_or-set_same (replicate 6 0) (row / 64) word 0 within in
+      elim (cases_eq (t % 64) (row % 64)) [
+        | inl same ↦
+            ap (λ w. bit_at w (t % 64) == 1) read ∙ ap (λ j. bit_at word j == 1) same ∙ ap (λ n. n == 1) (bit_at_set_same w64 blank (row % 64) (mod_below row 64 (omega arith)))
+            ∙ sym (eq-eqb row t (omega (arith, here, same)))
+        | inr other ↦
+            ap (λ w. bit_at w (t % 64) == 1) read ∙ ap (λ n. n == 1) (bit_at_set_other w64 blank (row % 64) (mod_below row 64 (omega arith)) (t % 64) other ∙ ap (λ k. bit_at (get_or (replicate 6 0) k 0) (t % 64)) (sym here) ∙ place-zeros 6 t)
+            ∙ sym (ne_eqb row t (λ e. other (ap (λ m. m % 64) (sym e))))
+      ]
+  | inr other ↦
+      ap (λ w. bit_at w (t % 64) == 1) (get_or-set_other (replicate 6 0) (row / 64) (t / 64) word 0 other) ∙ ap (λ n. n == 1) (place-zeros 6 t)
+      ∙ sym (ne_eqb row t (λ e. other (ap (λ m. m / 64) (sym e))))
+]
+  where
+    blank : ℕ
+    blank = get_or (replicate 6 0) (row / 64) 0
+
+    word : ℕ
+    word = bit_or (get_or (replicate 6 0) (row / 64) 0) (1 * 2 ^ (row % 64) % 2 ^ 64)

@@ -1,0 +1,209 @@
+-- What a row of blocks fixes in the block of one entry.
+use Rattle.std.proofs.Common.{◌≡◌, ℕ, ◌+◌, ◌-◌, ◌*◌, ◌/◌, ◌%◌, ◌<◌, ◌≤◌, ◌==◌, ◌&&◌, ◌||◌, Bool, true, false, not, List, refl, sym, ap, ◌∙◌, ⊎_elim, arith}
+use Rattle.std.specs.Prelude.{count_by}
+use Rattle.std.proofs.lemmas.Bool.{and_parts, and_from, or_cases, or_left, or_right, eqb-true, eq-eqb, true≢false, false_from_ne_true}
+use Rattle.std.proofs.lemmas.Nat.{mod_below}
+use Rattle.nr_bitvec.specs.Bit.{bit}
+use Rattle.nr_lifting.specs.Rings.{is_set}
+use Rattle.nr_shifttable.specs.declared.entry.Entry.{Entry}
+use Rattle.nr_shifttable.specs.Tails.{value_in}
+use Rattle.nr_ldpcenc.specs.Rows.{Checks, Meets, one_at, unrotate}
+use Rattle.nr_peel.specs.Closure.{Within, any_below, fixes, stands}
+use Rattle.nr_peel.specs.ClosureInside.{IsOnlyMissing}
+use Rattle.nr_peel.specs.Certificates.{accepts, is_fixed_by}
+use Rattle.nr_peel.specs.Lanes.{TakesLane, lacks, marks_of, steps_below, rotated_step}
+use Rattle.nr_peel.specs.StateInside.{lifted_checks}
+use Rattle.nr_peel.specs.Peeling.{HasBits}
+use Rattle.nr_peel.specs.Sweeps.{AreLanes, Fixes}
+use Rattle.nr_peel.specs.declared.fix.Fix.{Fix}
+use Rattle.nr_peel.specs.declared.bit_parallel.lanes.Lanes.{Lanes}
+use Rattle.nr_peel.specs.declared.lifted.Lifted.{Lifted}
+use Rattle.nr_peel.proofs.ClosureFacts.{any_below_passes, passes_any_below, same_truth}
+use Rattle.nr_peel.proofs.NothingHeardFacts.{other_in}
+use Rattle.nr_peel.proofs.FixOrderFacts.{step_accepted}
+use Rattle.nr_peel.proofs.RowPlaceFacts.{place-eqb, place_fits}
+use Rattle.nr_peel.proofs.RowPositionFacts.{only_from_count}
+use Rattle.nr_peel.proofs.StepLaws.{steps_accepted, steps_fix}
+use Rattle.nr_peel.proofs.CodewordFacts.{only_fixes}
+use Rattle.std.proofs.lemmas.Bool.{cases_eq}
+
+-- ---- bits
+
+pub neither : (a b : Bool) → (a || b) ≡ false → (a ≡ false) × (b ≡ false)
+neither false b h = (refl, h)
+neither true b h = absurd (true≢false h)
+
+pub unnot : (b : Bool) → not b ≡ true → b ≡ false
+unnot true h = absurd (true≢false (sym h))
+unnot false h = refl
+
+and_less : (x y s : Bool) → (x && y) ≡ false → (x && (y && s)) ≡ false
+and_less true true s h = absurd (true≢false h)
+and_less true false s h = refl
+and_less false y s h = refl
+
+pub or_none : (a b : Bool) → b ≡ false → (a || b) ≡ a
+or_none true b h = refl
+or_none false b h = h
+
+or_only : (a b : Bool) → a ≡ false → (a || b) ≡ b
+or_only true b h = absurd (true≢false h)
+or_only false b h = refl
+
+-- the only position of a row outside a set is that which stands there and is outside
+pub only_here : (K : ℕ → Bool) (row : List ℕ) (p : ℕ) → count_by (λ q. not (K q)) row ≡ 1 → stands p row ≡ true → K p ≡ false → IsOnlyMissing K row p
+only_here K row p one there out =
+    let r = only_from_count K row one in
+    let same : p ≡ r.pos = ⊎_elim (λ e. e) (λ ne. absurd (true≢false (sym (other_in K row r.pos p r.only.others there ne) ∙ out))) (cases_eq p r.pos) in
+    rw same r.only
+
+-- ---- the positions that rows mark
+
+module _ (z j v : ℕ) (some : 0 < z) (u : ℕ → Bool) where
+  -- the row of a marked position
+  pub place_of_mark : (p : ℕ) → (p / z == j) ≡ true → one_at z (unrotate z v (p % z)) j v ≡ p
+  place_of_mark p h =
+      let t = unrotate z v (p % z) in
+      let below : t < z = mod_below (p % z + (z - v % z)) z some in
+      eqb-true (one_at z t j v) p (place-eqb z t j v p below ∙ and_from (j == p / z) (t == t) (eq-eqb j (p / z) (sym (eqb-true (p / z) j h))) (eq-eqb t t refl))
+
+  pub marked_at : (t : ℕ) → t < z → u t ≡ true → marks_of z j v u (one_at z t j v) ≡ true
+  marked_at t below set =
+      let p = one_at z t j v in
+      let parts = and_parts (j == p / z) (unrotate z v (p % z) == t) (sym (place-eqb z t j v p below) ∙ eq-eqb p p refl) in
+      and_from (p / z == j) (u (unrotate z v (p % z))) (eq-eqb (p / z) j (sym (eqb-true j (p / z) parts.0))) (ap u (eqb-true (unrotate z v (p % z)) t parts.1) ∙ set)
+
+  -- the steps of the marked rows fix the positions that these mark
+  pub marks_fixed : (i p : ℕ) → is_fixed_by (steps_below (rotated_step z i j (v % z)) u z) p ≡ marks_of z j v u p
+  marks_fixed i p = same_truth (is_fixed_by (steps_below step u z) p) (marks_of z j v u p) there back
+    where
+      step : ℕ → Fix
+      step = rotated_step z i j (v % z)
+
+      fixed : is_fixed_by (steps_below step u z) p ≡ any_below (λ t. u t && (one_at z t j v == p)) z
+      fixed = steps_fix (rotated_step z i j (v % z)) u p z
+
+      there : is_fixed_by (steps_below step u z) p ≡ true → marks_of z j v u p ≡ true
+      there h =
+          let r = any_below_passes (λ t. u t && (one_at z t j v == p)) z (sym fixed ∙ h) in
+          let parts = and_parts (u r.number) (one_at z r.number j v == p) r.passes in
+          ap (marks_of z j v u) (sym (eqb-true (one_at z r.number j v) p parts.1)) ∙ marked_at r.number r.below parts.0
+
+      back : marks_of z j v u p ≡ true → is_fixed_by (steps_below step u z) p ≡ true
+      back h =
+          let t = unrotate z v (p % z) in
+          let parts = and_parts (p / z == j) (u t) h in
+          fixed ∙ passes_any_below (λ t. u t && (one_at z t j v == p)) z t (mod_below (p % z + (z - v % z)) z some)
+          (and_from (u t) (one_at z t j v == p) parts.1 (eq-eqb (one_at z t j v) p (place_of_mark p parts.0)))
+
+-- ---- an entry is taken
+
+module _ (l : Lifted) (i : ℕ) (e : Entry) (ones sums : List ℕ) (K : ℕ → Bool) (a d : Lanes) (took : TakesLane l e ones sums a d) (lanes : AreLanes (lifted_checks l) a) where
+  abbrev c : Checks
+  c = lifted_checks l
+
+  abbrev z : ℕ
+  z = l.plan.z
+
+  abbrev v : ℕ
+  v = value_in l.plan.set e
+
+  abbrev u : ℕ → Bool
+  u = lacks z e.col v ones (bit a.known.items)
+
+  abbrev at : ℕ → ℕ
+  at t = one_at z t e.col v
+
+  abbrev step : ℕ → Fix
+  step = rotated_step z e.row e.col (v % z)
+
+  unknown_at : (t : ℕ) → u t ≡ true → bit a.known.items (at t) ≡ false
+  unknown_at t h = unnot (bit a.known.items (at t)) (and_parts (is_set ones t) (not (bit a.known.items (at t))) h).1
+
+  missing_of : 0 < z → (p : ℕ) → marks_of z e.col v u p ≡ true → bit a.known.items p ≡ false
+  missing_of some p h =
+      let parts = and_parts (p / z == e.col) (u (unrotate z v (p % z))) h in
+      sym (ap (bit a.known.items) (place_of_mark z e.col v some u p parts.0)) ∙ unknown_at (unrotate z v (p % z)) parts.1
+
+  bits_kept : 0 < z → (p : ℕ) → bit a.known.items p ≡ true → bit d.bits.items p ≡ bit a.bits.items p
+  bits_kept some p known =
+      let out : marks_of z e.col v u p ≡ false = false_from_ne_true (marks_of z e.col v u p) (λ h. true≢false (sym known ∙ missing_of some p h)) in
+      took.bits p ∙ or_none (bit a.bits.items p) (marks_of z e.col v (λ t. u t && is_set sums t) p) (and_less (p / z == e.col) (u (unrotate z v (p % z))) (is_set sums (unrotate z v (p % z))) out)
+
+  blank_still : (p : ℕ) → bit d.known.items p ≡ false → bit d.bits.items p ≡ false
+  blank_still p h =
+      let parts = neither (bit a.known.items p) (marks_of z e.col v u p) (sym (took.known p) ∙ h) in
+      took.bits p ∙ or_none (bit a.bits.items p) (marks_of z e.col v (λ t. u t && is_set sums t) p) (and_less (p / z == e.col) (u (unrotate z v (p % z))) (is_set sums (unrotate z v (p % z))) parts.1)
+      ∙ lanes.blank p parts.0
+
+  pending_within : Within (bit d.pending.items) (bit d.known.items)
+  pending_within p h = ⊎_elim
+      (λ f. took.known p ∙ or_left (bit a.known.items p) (marks_of z e.col v u p) (lanes.within p f))
+      (λ m. took.known p ∙ or_right (bit a.known.items p) (marks_of z e.col v u p) m)
+      (or_cases (bit a.pending.items p) (marks_of z e.col v u p) (sym (took.pending p) ∙ h))
+
+  module _ (some : 0 < z) (block : i < c.rows) (row_is : e.row ≡ i) (column : (e.col + 1) * z ≤ c.size) (within : Within K (bit a.known.items))
+      (there : (t : ℕ) → t < z → stands (at t) (c.row i t) ≡ true) (one : (t : ℕ) → t < z → is_set ones t ≡ true → count_by (λ p. not (K p)) (c.row i t) ≡ 1) where
+    -- the position of a marked row is its only one outside K
+    pub only_at : (t : ℕ) → t < z → u t ≡ true → IsOnlyMissing K (c.row i t) (at t)
+    only_at t below h =
+        only_here K (c.row i t) (at t) (one t below (and_parts (is_set ones t) (not (bit a.known.items (at t))) h).0) (there t below)
+        (false_from_ne_true (K (at t)) (λ k. true≢false (sym (within (at t) k) ∙ unknown_at t h)))
+
+    each_accepted : (t : ℕ) → t < z → u t ≡ true → accepts c K (step t) ≡ true
+    each_accepted t below h =
+        step_accepted c K (step t) (omega (arith, row_is, block)) below (place_fits z t e v c.size below column)
+        (ap (λ r. fixes K (c.row r t) (at t)) row_is ∙ only_fixes K (c.row i t) (at t) (only_at t below h))
+
+    fixed_is : (p : ℕ) → marks_of z e.col v u p ≡ is_fixed_by (steps_below (rotated_step z e.row e.col (v % z)) u z) p
+    fixed_is p = sym (marks_fixed z e.col v some u e.row p)
+
+    new_bit : (right : (w : ℕ → Bool) → Meets c w → HasBits a.known.items a.bits.items w → (t : ℕ) → t < z → u t ≡ true → w (at t) ≡ is_set sums t) (p : ℕ) → marks_of z e.col v u p ≡ true → (w : ℕ → Bool) → Meets c w → HasBits a.known.items a.bits.items w → w p ≡ bit d.bits.items p
+    new_bit right p h w meets has =
+        let t = unrotate z v (p % z) in
+        let below : t < z = mod_below (p % z + (z - v % z)) z some in
+        let parts = and_parts (p / z == e.col) (u t) h in
+        let place = place_of_mark z e.col v some u p parts.0 in
+        let zero = lanes.blank p (missing_of some p h) in
+        let sum : marks_of z e.col v (λ t. u t && is_set sums t) p ≡ is_set sums t = ap (λ b. b && (u t && is_set sums t)) parts.0 ∙ ap (λ b. b && is_set sums t) parts.1 in
+        sym (ap w place) ∙ right w meets has t below parts.1 ∙ sym (took.bits p ∙ or_only (bit a.bits.items p) (marks_of z e.col v (λ t. u t && is_set sums t) p) zero ∙ sum)
+
+    -- what an entry's block fixes, with as many steps as rows marked it
+    pub take_fixes : ((w : ℕ → Bool) → Meets c w → HasBits a.known.items a.bits.items w → (t : ℕ) → t < z → u t ≡ true → w (at t) ≡ is_set sums t) → (f : Fixes c K a d) × (f.steps ≡ steps_below (rotated_step z e.row e.col (v % z)) u z)
+    take_fixes right = (
+      record {
+        steps = steps_below (rotated_step z e.row e.col (v % z)) u z;
+        known = λ p. took.known p ∙ ap (λ b. bit a.known.items p || b) (fixed_is p);
+        pending = λ p. took.pending p ∙ ap (λ b. bit a.pending.items p || b) (fixed_is p);
+        order = took.order;
+        missing = λ p h. missing_of some p (fixed_is p ∙ h);
+        accepted = λ S more. steps_accepted c K S (rotated_step z e.row e.col (v % z)) u z more each_accepted;
+        kept = bits_kept some;
+        words = λ w meets has p h. ⊎_elim
+            (λ k. has p k ∙ sym (bits_kept some p k))
+            (λ m. new_bit right p m w meets has)
+            (or_cases (bit a.known.items p) (marks_of z e.col v u p) (sym (took.known p) ∙ h));
+        lanes = record {
+          known_long = took.known_long ∙ lanes.known_long;
+          bits_long = took.bits_long ∙ lanes.bits_long;
+          pending_long = took.pending_long ∙ lanes.pending_long;
+          known_lanes = took.known_lanes ∙ lanes.known_lanes;
+          bits_lanes = took.bits_lanes ∙ lanes.bits_lanes;
+          pending_lanes = took.pending_lanes ∙ lanes.pending_lanes;
+          blank = blank_still;
+          within = pending_within;
+        };
+        capacity = took.capacity;
+      },
+      refl,
+    )
+
+    -- a row that has one position outside K, and an entry of its own, knows that entry's position
+    pub take_knows : (t : ℕ) → t < z → is_set ones t ≡ true → bit d.known.items (at t) ≡ true
+    take_knows t below set = go (bit a.known.items (at t)) refl
+      where
+        go : (b : Bool) → bit a.known.items (at t) ≡ b → bit d.known.items (at t) ≡ true
+        go true h = took.known (at t) ∙ or_left (bit a.known.items (at t)) (marks_of z e.col v u (at t)) h
+        go false h =
+            let lacking : u t ≡ true = and_from (is_set ones t) (not (bit a.known.items (at t))) set (ap not h) in
+            took.known (at t) ∙ or_right (bit a.known.items (at t)) (marks_of z e.col v u (at t)) (marked_at z e.col v some u t below lacking)

@@ -1,0 +1,171 @@
+-- Positions that are given where what is known is in order, and what a peeler then is.
+use Rattle.std.proofs.Common.{◌≡◌, ◌≢◌, ℕ, ◌*◌, ◌<◌, ◌≤◌, ◌&&◌, ◌||◌, Bool, true, false, not, length, refl, sym, ap, ◌∙◌, arith, []}
+use Rattle.std.specs.Prelude.{slice_index, vec_capacity}
+use Rattle.std.proofs.lemmas.Bool.{or_left, or_right, false≢true, true≢false}
+use Rattle.nr_bitvec.specs.Bit.{bit}
+use Rattle.nr_lifting.specs.Rings.{marked}
+use Rattle.nr_segment.specs.CodeBlock.{numbers}
+use Rattle.nr_shifttable.specs.Accepted.{IsTable}
+use Rattle.nr_ldpcenc.specs.Rows.{Checks}
+use Rattle.nr_peel.specs.Certificates.{all_accepted, is_fixed_by}
+use Rattle.nr_peel.specs.Hearing.{Hears}
+use Rattle.nr_peel.specs.Learning.{IsFilled, IsSweepPeeler, Learns, sweep_peeler_view}
+use Rattle.nr_peel.specs.Peeling.{HasBits, IsPeeled, fillers, left_of}
+use Rattle.nr_peel.specs.Settled.{HasNonePending, IsHeld, Keeps, Reaches}
+use Rattle.nr_peel.specs.Starts.{IsBlankSweep}
+use Rattle.nr_peel.specs.StateInside.{lifted_checks}
+use Rattle.nr_peel.specs.Sweeps.{AreLanes, counted_in, has_count}
+use Rattle.nr_peel.specs.declared.bit_parallel.lanes.Lanes.{Lanes}
+use Rattle.nr_peel.specs.declared.bit_parallel.sweep_peeler.SweepPeeler.{SweepPeeler}
+use Rattle.nr_peel.specs.declared.lifted.Lifted.{Lifted}
+use Rattle.nr_peel.specs.declared.bit_parallel.sweep.Sweep.{Sweep}
+use Rattle.nr_peel.proofs.FillerFacts.{fillers_fit, fillers_long, fillers_there, fillers_within}
+use Rattle.nr_peel.proofs.RoundInvariantFacts.{counts_same}
+use Rattle.nr_peel.proofs.FixOrderFacts.{all_accepted_within, goes_taken}
+use Rattle.nr_peel.proofs.SweepViewFacts.{sweep_peeled}
+
+module _ (c : Checks) (H V : ℕ → Bool) (a d : Lanes) (lanes : AreLanes c a) (h : Hears c H V a d) where
+  pub heard_known : (p : ℕ) → bit a.known.items p ≡ true → bit d.known.items p ≡ true
+  heard_known p e = h.known p ∙ or_left (bit a.known.items p) (H p) e
+
+  heard_bits : (p : ℕ) → bit a.known.items p ≡ true → bit d.bits.items p ≡ bit a.bits.items p
+  heard_bits p e = h.bits p ∙ old (bit a.bits.items p) (H p) (bit a.known.items p) (V p) e
+    where
+      old : (b m k v : Bool) → k ≡ true → (b || ((m && not k) && v)) ≡ b
+      old true m k v e = refl
+      old false false k v e = refl
+      old false true true v e = refl
+      old false true false v e = absurd (false≢true e)
+
+  heard_taken : (p : ℕ) → H p ≡ true → bit a.known.items p ≡ false → bit d.bits.items p ≡ V p
+  heard_taken p heard out = h.bits p ∙ new (bit a.bits.items p) (H p) (bit a.known.items p) (V p) heard out (lanes.blank p out)
+    where
+      new : (b m k v : Bool) → m ≡ true → k ≡ false → b ≡ false → (b || ((m && not k) && v)) ≡ v
+      new true m k v x y z = absurd (true≢false z)
+      new false false k v x y z = absurd (false≢true x)
+      new false true true v x y z = absurd (true≢false y)
+      new false true false v x y z = refl
+
+  heard_words : (w : ℕ → Bool) → HasBits a.known.items a.bits.items w → ((p : ℕ) → H p ≡ true → w p ≡ V p) → HasBits d.known.items d.bits.items w
+  heard_words w has are p e = go (bit a.known.items p) refl
+    where
+      go : (b : Bool) → bit a.known.items p ≡ b → w p ≡ bit d.bits.items p
+      go true k = has p k ∙ sym (heard_bits p k)
+      go false k =
+          let heard : H p ≡ true = ap (λ b. b || H p) (sym k) ∙ sym (h.known p) ∙ e in
+          are p heard ∙ sym (heard_taken p heard k)
+
+  -- the counts know of the same positions
+  heard_counted : (p : ℕ) → counted_in a p ≡ counted_in d p
+  heard_counted p =
+      same (bit a.known.items p) (bit a.pending.items p) (H p) (lanes.within p)
+      ∙ ap (λ b. b && not (bit a.pending.items p || (H p && not (bit a.known.items p)))) (sym (h.known p)) ∙ ap (λ b. bit d.known.items p && not b) (sym (h.pending p))
+    where
+      same : (k f m : Bool) → (f ≡ true → k ≡ true) → (k && not f) ≡ ((k || m) && not (f || (m && not k)))
+      same true true m w = refl
+      same true false true w = refl
+      same true false false w = refl
+      same false true m w = absurd (false≢true (w refl))
+      same false false true w = refl
+      same false false false w = refl
+
+  -- what is known is reached from the positions that were given and those that are
+  heard_reaches : (G F : ℕ → Bool) → ((p : ℕ) → F p ≡ (G p || H p)) → Reaches c G a → Reaches c F d
+  heard_reaches G F more r = record {
+    accepted = ap (λ v. all_accepted c F v.items) h.order ∙ all_accepted_within c G F a.order.items (λ p e. more p ∙ or_left (G p) (H p) e) r.accepted;
+    reached = λ p.
+        h.known p ∙ ap (λ b. b || H p) (r.reached p) ∙ regroup (G p) (is_fixed_by a.order.items p) (H p)
+        ∙ ap (λ b. b || is_fixed_by a.order.items p) (sym (more p)) ∙ ap (λ v. F p || is_fixed_by v.items p) (sym h.order);
+  }
+    where
+      regroup : (g s m : Bool) → ((g || s) || m) ≡ ((g || m) || s)
+      regroup true s m = refl
+      regroup false true true = refl
+      regroup false true false = refl
+      regroup false false true = refl
+      regroup false false false = refl
+
+-- the counts are in order before they follow
+pub heard_held : (c : Checks) (H V : ℕ → Bool) (a d : Sweep) → IsHeld c a → Hears c H V a.lanes d.lanes → d.counts ≡ a.counts → d.touches ≡ a.touches → IsHeld c d
+heard_held c H V a d held h counts touches = record {
+  lanes = h.lanes;
+  counts_lanes = ap (λ v. v.lanes) counts ∙ held.counts_lanes;
+  counts_long = ap (λ v. length v.items) counts ∙ held.counts_long;
+  counted = rw counts (counts_same c (counted_in a.lanes) (counted_in d.lanes) a.counts.items held.counted (heard_counted c H V a.lanes d.lanes held.lanes h));
+  order_few = omega (arith, held.order_few, ap (λ v. length v.items) h.order, ap (λ v. marked (has_count 0 v.items) (c.rows * c.lanes)) counts);
+  order_room = omega (arith, held.order_room, ap (λ v. vec_capacity v) h.order);
+  least = rw (h.order, counts, touches) held.least;
+  most = rw (counts, touches) held.most;
+  worked = rw (counts, touches) held.worked;
+  small = held.small;
+}
+
+module _ (l : Lifted) (new : SweepPeeler) (held : IsHeld (lifted_checks l) new.sweep) (none_pending : HasNonePending new.sweep.lanes) (settled : (k : ℕ) → slice_index new.sweep.counts.items k ≢ 1)
+    (counted : new.left ≡ left_of l.plan.kdash new.sweep.lanes.known.items) (table : IsTable l.table.now) where
+  -- what follows from positions that were given
+  pub learned : (H V : ℕ → Bool) (old : SweepPeeler) (mid : Lanes) → IsSweepPeeler l old → Hears (lifted_checks l) H V old.sweep.lanes mid → length new.given.items ≡ length old.given.items
+      → ((p : ℕ) → bit new.given.items p ≡ (bit old.given.items p || H p)) → Keeps (lifted_checks l) mid new.sweep.lanes → old.sweep.touches ≤ new.sweep.touches → Learns l H V old new
+  learned H V old mid was h long given keeps visited =
+      let c = lifted_checks l in
+      let a = old.sweep.lanes in
+      let lanes = was.sweep.held.lanes in
+      record {
+        sweep_peeler = record {
+          sweep = record {
+            table = table;
+            given_long = long ∙ was.sweep.given_long;
+            held = held;
+            none_pending = none_pending;
+            settled = settled;
+            reaches = keeps.reaches (bit new.given.items) (heard_reaches c H V a mid lanes h (bit old.given.items) (bit new.given.items) given was.sweep.reaches);
+          };
+          fillers = λ p low below. given p ∙ or_left (bit old.given.items p) (H p) (was.fillers p low below);
+          counted = counted;
+        };
+        given = given;
+        known = λ p e. keeps.known p (heard_known c H V a mid lanes h p e);
+        bits = λ p e. keeps.bits p (heard_known c H V a mid lanes h p e) ∙ heard_bits c H V a mid lanes h p e;
+        taken = λ p heard out. keeps.bits p (h.known p ∙ or_right (bit a.known.items p) (H p) heard) ∙ heard_taken c H V a mid lanes h p heard out;
+        words = λ w meets has are. keeps.words w meets (heard_words c H V a mid lanes h w has are);
+        steps = goes_taken a.order.items new.sweep.lanes.order.items (rw h.order at keeps.order);
+        visited = visited;
+      }
+
+  -- what follows from the fillers alone
+  pub filled : (blank : Sweep) (mid : Lanes) → IsBlankSweep (lifted_checks l) blank → Hears (lifted_checks l) (bit new.given.items) (bit []) blank.lanes mid
+      → new.given.items ≡ fillers (lifted_checks l) (numbers l.plan) → Keeps (lifted_checks l) mid new.sweep.lanes → IsFilled l new
+  filled blank mid start h given keeps =
+      let c = lifted_checks l in
+      let a = blank.lanes in
+      let lanes = start.held.lanes in
+      let none : Reaches c (λ p. false) a = record {
+        accepted = ap (all_accepted c (λ p. false)) start.blank.order;
+        reached = λ p. start.blank.unknown p ∙ sym (ap (λ v. is_fixed_by v p) start.blank.order);
+      } in
+      record {
+        sweep_peeler = record {
+          sweep = record {
+            table = table;
+            given_long = ap length given ∙ fillers_long c (numbers l.plan);
+            held = held;
+            none_pending = none_pending;
+            settled = settled;
+            reaches = keeps.reaches (bit new.given.items) (heard_reaches c (bit new.given.items) (bit []) a mid lanes h (λ p. false) (bit new.given.items) (λ p. refl) none);
+          };
+          fillers = λ p low below. ap (λ v. bit v p) given ∙ fillers_there c (numbers l.plan) p low below (fillers_fit l);
+          counted = counted;
+        };
+        given = given;
+        words = λ w meets zero. keeps.words w meets (heard_words c (bit new.given.items) (bit []) a mid lanes h w (λ p e. absurd (true≢false (sym e ∙ start.blank.unknown p)))
+            (λ p e. zero p (fillers_within c (numbers l.plan) p (ap (λ v. bit v p) (sym given) ∙ e))));
+      }
+
+-- the fillers are known
+pub fillers_known : (l : Lifted) (s : SweepPeeler) → IsSweepPeeler l s → (p : ℕ) → l.plan.kdash ≤ p → p < l.plan.k → bit s.sweep.lanes.known.items p ≡ true
+fillers_known l s h p low below = h.sweep.reaches.reached p ∙ or_left (bit s.given.items p) (is_fixed_by s.sweep.lanes.order.items p) (h.fillers p low below)
+
+pub sweep_peeler_peeled : (l : Lifted) (s : SweepPeeler) → IsSweepPeeler l s → IsPeeled (sweep_peeler_view l s)
+sweep_peeler_peeled l s h = sweep_peeled l s.given.items s.sweep h.sweep
+
+pub kdash_fits : (l : Lifted) (s : SweepPeeler) → IsSweepPeeler l s → l.plan.kdash ≤ length s.sweep.lanes.known.items
+kdash_fits l s h = omega (arith, h.sweep.held.lanes.known_long, l.plan.sound.held, fillers_fit l)

@@ -1,0 +1,206 @@
+-- What is left: the positions that aren't known, and what shows that all or not all are.
+use Rattle.std.proofs.Common.{◌≡◌, ◌≢◌, ℕ, ◌+◌, ◌<◌, ◌≤◌, ◌==◌, nat_lt, Bool, true, false, not, cond, List, [], ◌∷◌, ◌++◌, length, get_or, refl, sym, ap, ◌∙◌, ⊎_elim, arith}
+use Rattle.std.specs.Prelude.{zero, suc, count_by, slice_index}
+use Rattle.std.specs.List.{filter, range_with_len}
+use Rattle.std.proofs.lemmas.Bool.{cases_lt, eq-eqb, eqb-true, or_left, or_right, or_cases, lt-ltb, true≢false, false≢true, false_from_ne_true}
+use Rattle.std.proofs.lemmas.List.{map-id}
+use Rattle.std.proofs.lemmas.List.Elements.{filter-append}
+use Rattle.std.proofs.lemmas.List.FromFn.{map-range_with_len_more}
+use Rattle.nr_bitvec.specs.Bit.{bit}
+use Rattle.nr_peel.specs.Closure.{AreSound, IsStopping, closure, stands}
+use Rattle.nr_peel.specs.Certificates.{IsFixOrder, IsStoppingSet}
+use Rattle.nr_peel.specs.Peeling.{IsPeeled, Peeling, checks_for, left_of, unknown_in}
+use Rattle.nr_peel.proofs.FixOrderFacts.{after_accepted}
+use Rattle.nr_peel.proofs.RowPositionFacts.{count_by-cons, count_more, count_yes}
+use Rattle.nr_peel.proofs.CodewordFacts.{left_over_stops, stopping_stays_out}
+
+pub left_more : (n : ℕ) (known : List Bool) → n < length known → left_of (suc n) known ≡ left_of n known + cond (not (get_or known n false)) 1 0
+left_more n known lt = ap (λ m. left_of m known) (next n) ∙ count_more (λ (b : Bool). not b) known n false lt
+  where
+    next : (n : ℕ) → suc n ≡ n + 1
+    next n = omega arith
+
+-- where none of the first positions is left, each is known
+pub none_left : (n : ℕ) (known : List Bool) → n ≤ length known → left_of n known ≡ 0 → (p : ℕ) → p < n → bit known p ≡ true
+none_left zero known le h p lt = absurd (omega arith)
+none_left (suc n) known le h p lt = ⊎_elim
+    (λ l. none_left n known (omega arith) (omega (arith, more)) p l)
+    (λ (ge : n ≤ p). let at : p ≡ n = omega arith in ap (bit known) at ∙ last (bit known n) refl)
+    (cases_lt p n)
+  where
+    more : left_of (suc n) known ≡ left_of n known + cond (not (get_or known n false)) 1 0
+    more = left_more n known (omega arith)
+
+    last : (b : Bool) → bit known n ≡ b → bit known n ≡ true
+    last true e = e
+    last false e = absurd (omega (arith, more, one e, h))
+      where
+        one : bit known n ≡ false → ◌≡◌ {A = ℕ} (cond (not (get_or known n false)) 1 0) 1
+        one e = ap (λ b. cond (not b) 1 0) e
+
+-- where some are left, one is
+pub record IsLeft (n : ℕ) (known : List Bool) : Type 0 where
+  pub pos : ℕ
+  pub below : pos < n
+  pub missing : bit known pos ≡ false
+
+pub some_left : (n : ℕ) (known : List Bool) → n ≤ length known → left_of n known ≢ 0 → IsLeft n known
+some_left zero known le h = absurd (h refl)
+some_left (suc n) known le h = go (bit known n) refl (some_left n known (omega arith))
+  where
+    go : (b : Bool) → bit known n ≡ b → (left_of n known ≢ 0 → IsLeft n known) → IsLeft (suc n) known
+    go false e ih = record { pos = n; below = omega arith; missing = e }
+    go true e ih =
+        let r = ih (λ z. h (left_more n known (omega arith) ∙ omega (arith, none e, z))) in
+        record { pos = r.pos; below = omega (arith, r.below); missing = r.missing }
+      where
+        none : bit known n ≡ true → ◌≡◌ {A = ℕ} (cond (not (get_or known n false)) 1 0) 0
+        none e = ap (λ b. cond (not b) 1 0) e
+
+-- where none of the first positions is known, all of them are left
+pub all_left : (n : ℕ) (known : List Bool) → n ≤ length known → ((p : ℕ) → p < n → bit known p ≡ false) → left_of n known ≡ n
+all_left zero known le out = refl
+all_left (suc n) known le out = omega (arith, left_more n known (omega arith), one (out n (omega arith)), all_left n known (omega arith) (λ p lt. out p (omega arith)))
+  where
+    one : bit known n ≡ false → ◌≡◌ {A = ℕ} (cond (not (get_or known n false)) 1 0) 1
+    one e = ap (λ b. cond (not b) 1 0) e
+
+pub whole_order : (s : Peeling) → IsPeeled s → s.numbers.kdash ≤ length s.known → left_of s.numbers.kdash s.known ≡ 0 → IsFixOrder (checks_for s) s.numbers.kdash (bit s.given) s.order
+whole_order s h le none = record {
+  accepted = h.accepted;
+  complete = λ p lt. after_accepted (checks_for s) (bit s.given) s.order p h.accepted ∙ sym (h.reached p) ∙ none_left s.numbers.kdash s.known le none p lt;
+}
+
+-- a filter of numbers that follow one another
+module _ (keeps : ℕ → Bool) where
+  abbrev kept_from : ℕ → ℕ → List ℕ
+  kept_from a n = filter keeps (range_with_len a n)
+
+  kept_stands : (a n p : ℕ) → stands p (kept_from a n) ≡ true → (a ≤ p) × (p < a + n) × (keeps p ≡ true)
+  kept_stands a zero p h = absurd (false≢true h)
+  kept_stands a (suc n) p h = go (keeps a) refl h (kept_stands (a + 1) n p)
+    where
+      later : (a + 1 ≤ p) × (p < a + 1 + n) × (keeps p ≡ true) → (a ≤ p) × (p < a + suc n) × (keeps p ≡ true)
+      later r = (omega (arith, r.0), omega (arith, r.1), r.2)
+
+      go : (b : Bool) → keeps a ≡ b → stands p (cond b (a ∷ kept_from (a + 1) n) (kept_from (a + 1) n)) ≡ true → (stands p (kept_from (a + 1) n) ≡ true → (a + 1 ≤ p) × (p < a + 1 + n) × (keeps p ≡ true)) → (a ≤ p) × (p < a + suc n) × (keeps p ≡ true)
+      go false e k ih = later (ih k)
+      go true e k ih = ⊎_elim
+          (λ q. let at : a ≡ p = eqb-true a p q in (omega arith, omega arith, ap keeps (sym at) ∙ e))
+          (λ r. later (ih r))
+          (or_cases (a == p) (stands p (kept_from (a + 1) n)) k)
+
+  stands_kept : (a n p : ℕ) → a ≤ p → p < a + n → keeps p ≡ true → stands p (kept_from a n) ≡ true
+  stands_kept a zero p low high k = absurd (omega arith)
+  stands_kept a (suc n) p low high k = go (keeps a) refl (λ l. stands_kept (a + 1) n p l (omega arith) k)
+    where
+      go : (b : Bool) → keeps a ≡ b → (a + 1 ≤ p → stands p (kept_from (a + 1) n) ≡ true) → stands p (cond b (a ∷ kept_from (a + 1) n) (kept_from (a + 1) n)) ≡ true
+      go false e ih = ih (⊎_elim (λ l. omega arith) (λ (ge : p ≤ a). let at : a ≡ p = omega arith in absurd (true≢false (sym k ∙ ap keeps (sym at) ∙ e))) (cases_lt a p))
+      go true e ih = ⊎_elim (λ l. or_right (a == p) (stands p (kept_from (a + 1) n)) (ih (omega arith))) (λ (ge : p ≤ a). or_left (a == p) (stands p (kept_from (a + 1) n)) (eq-eqb a p (omega arith))) (cases_lt a p)
+
+  -- each is at or above the first number, and they ascend
+  kept_low : (a n i : ℕ) → i < length (kept_from a n) → a ≤ slice_index (kept_from a n) i
+  kept_low a zero i lt = absurd (omega arith)
+  kept_low a (suc n) i lt = go (keeps a) i lt (kept_low (a + 1) n)
+    where
+      go : (b : Bool) (i : ℕ) → i < length (cond b (a ∷ kept_from (a + 1) n) (kept_from (a + 1) n)) → ((i : ℕ) → i < length (kept_from (a + 1) n) → a + 1 ≤ slice_index (kept_from (a + 1) n) i) → a ≤ slice_index (cond b (a ∷ kept_from (a + 1) n) (kept_from (a + 1) n)) i
+      go false i l ih = omega (arith, ih i l)
+      go true zero l ih = omega arith
+      go true (suc i) l ih = omega (arith, ih i (omega arith))
+
+  kept_rises : (a n i j : ℕ) → i < j → j < length (kept_from a n) → slice_index (kept_from a n) i < slice_index (kept_from a n) j
+  kept_rises a zero i j lt l = absurd (omega arith)
+  kept_rises a (suc n) i j lt l = go (keeps a) i j lt l (kept_rises (a + 1) n)
+    where
+      go : (b : Bool) (i j : ℕ) → i < j → j < length (cond b (a ∷ kept_from (a + 1) n) (kept_from (a + 1) n)) → ((i j : ℕ) → i < j → j < length (kept_from (a + 1) n) → slice_index (kept_from (a + 1) n) i < slice_index (kept_from (a + 1) n) j)
+          → slice_index (cond b (a ∷ kept_from (a + 1) n) (kept_from (a + 1) n)) i < slice_index (cond b (a ∷ kept_from (a + 1) n) (kept_from (a + 1) n)) j
+      go false i j lt l ih = ih i j lt l
+      go true i zero lt l ih = absurd (omega arith)
+      go true zero (suc j) lt l ih = omega (arith, kept_low (a + 1) n j (omega arith))
+      go true (suc i) (suc j) lt l ih = ih i j (omega arith) (omega arith)
+
+-- a member of a list, by its place
+pub stands_at : (xs : List ℕ) (i : ℕ) → i < length xs → stands (slice_index xs i) xs ≡ true
+stands_at [] i lt = absurd (omega arith)
+stands_at (x ∷ xs) zero lt = or_left (x == x) (stands x xs) (eq-eqb x x refl)
+stands_at (x ∷ xs) (suc i) lt = or_right (x == slice_index xs i) (stands (slice_index xs i) xs) (stands_at xs i (omega arith))
+
+-- the place of a member
+pub record IsPlaced (xs : List ℕ) (q : ℕ) : Type 0 where
+  pub index : ℕ
+  pub below : index < length xs
+  pub is : slice_index xs index ≡ q
+
+pub place_of : (xs : List ℕ) (q : ℕ) → stands q xs ≡ true → IsPlaced xs q
+place_of [] q h = absurd (false≢true h)
+place_of (x ∷ xs) q h = ⊎_elim
+    (λ e. record { index = 0; below = omega arith; is = eqb-true x q e })
+    (λ r. let w = place_of xs q r in record { index = suc w.index; below = omega (arith, w.below); is = w.is })
+    (or_cases (x == q) (stands q xs) h)
+
+counted_low : (xs : List ℕ) (p k : ℕ) → stands p xs ≡ true → p < k → 0 < count_by (λ q. nat_lt q k) xs
+counted_low [] p k h lt = absurd (false≢true h)
+counted_low (x ∷ xs) p k h lt = ⊎_elim
+    (λ e. let at : x ≡ p = eqb-true x p e in omega (arith, count_yes (λ q. nat_lt q k) x xs (lt-ltb x k (omega arith))))
+    (λ r. omega (arith, count_by-cons (λ q. nat_lt q k) x xs, counted_low xs p k r lt))
+    (or_cases (x == p) (stands p xs) h)
+
+module _ (s : Peeling) (h : IsPeeled s) (sound : AreSound (checks_for s)) where
+  abbrev out : ℕ → Bool
+  out p = not (bit s.known p)
+
+  pub unknown_member : (p : ℕ) → stands p (unknown_in s.known) ≡ true → (p < length s.known) × (bit s.known p ≡ false)
+  unknown_member p m = let r = kept_stands out 0 (length s.known) p m in (omega (arith, r.1), unnot (bit s.known p) r.2)
+    where
+      unnot : (b : Bool) → not b ≡ true → b ≡ false
+      unnot true e = absurd (false≢true e)
+      unnot false e = refl
+
+  pub unknown_stands : (p : ℕ) → p < length s.known → bit s.known p ≡ false → stands p (unknown_in s.known) ≡ true
+  unknown_stands p lt e = stands_kept out 0 (length s.known) p (omega arith) (omega arith) (ap not e)
+
+  -- a position of a row is a member where it is not in the closure
+  same_member : (i t : ℕ) → i < (checks_for s).rows → t < (checks_for s).lanes → (row : List ℕ) → ((p : ℕ) → stands p row ≡ true → p < (checks_for s).size)
+      → count_by (λ p. stands p (unknown_in s.known)) row ≡ count_by (λ p. not (closure (checks_for s) (bit s.given) p)) row
+  same_member i t li lt [] inside = refl
+  same_member i t li lt (x ∷ row) inside =
+      count_by-cons (λ p. stands p (unknown_in s.known)) x row
+      ∙ both (stands x (unknown_in s.known)) (not (closure (checks_for s) (bit s.given) x)) _ _ (alike (bit s.known x) refl) (same_member i t li lt row (λ p m. inside p (or_right (x == p) (stands p row) m)))
+      ∙ sym (count_by-cons (λ p. not (closure (checks_for s) (bit s.given) p)) x row)
+    where
+      both : (a b : Bool) (m n : ℕ) → a ≡ b → m ≡ n → cond a 1 0 + m ≡ cond b 1 0 + n
+      both a b m n e f = cc
+
+      alike : (b : Bool) → bit s.known x ≡ b → stands x (unknown_in s.known) ≡ not (closure (checks_for s) (bit s.given) x)
+      alike false e = unknown_stands x (omega (arith, inside x (or_left (x == x) (stands x row) (eq-eqb x x refl)), h.known_long)) e ∙ sym (ap not (sym (h.closed x) ∙ e))
+      alike true e = false_from_ne_true (stands x (unknown_in s.known)) (λ m. true≢false (sym e ∙ (unknown_member x m).1)) ∙ sym (ap not (sym (h.closed x) ∙ e))
+
+  pub stuck_stops : s.numbers.kdash ≤ length s.known → left_of s.numbers.kdash s.known ≢ 0 → IsStoppingSet (checks_for s) s.numbers.kdash (bit s.given) (unknown_in s.known)
+  stuck_stops le some =
+      let c = checks_for s in
+      let stop = left_over_stops c (bit s.given) sound in
+      let l = some_left s.numbers.kdash s.known le some in
+      record {
+        is_beside = record {
+          rising = λ i j lt m. kept_rises out 0 (length s.known) i j lt m;
+          in_range = λ i lt. omega (arith, (unknown_member (slice_index (unknown_in s.known) i) (stands_at (unknown_in s.known) i lt)).0, h.known_long);
+          beside = λ i lt. let p = slice_index (unknown_in s.known) i in stop.beside p (ap not (sym (h.closed p) ∙ (unknown_member p (stands_at (unknown_in s.known) i lt)).1));
+        };
+        low = counted_low (unknown_in s.known) l.pos s.numbers.kdash (unknown_stands l.pos (omega (arith, l.below)) l.missing) l.below;
+        never_one = λ i t li lt one. stop.never_one i t li lt (sym (same_member i t li lt (c.row i t) (λ p m. sound.in_range i t p li lt m)) ∙ one);
+      }
+
+  -- every stopping set's members are among them
+  pub stuck_has : (kdash : ℕ) (set : List ℕ) (p : ℕ) → IsStoppingSet (checks_for s) kdash (bit s.given) set → stands p set ≡ true → stands p (unknown_in s.known) ≡ true
+  stuck_has kdash set p stop member =
+      let c = checks_for s in
+      let r = place_of set p member in
+      let as_set : IsStopping c (bit s.given) (λ q. stands q set) = record { beside = λ q m. (let w = place_of set q m in ap (bit s.given) (sym w.is) ∙ stop.is_beside.beside w.index w.below); never_one = stop.never_one } in
+      let missing = stopping_stays_out c (bit s.given) (λ q. stands q set) p sound as_set member in
+      unknown_stands p (omega (arith, r.is, stop.is_beside.in_range r.index r.below, h.known_long)) (h.closed p ∙ missing)
+
+-- one number more
+pub kept_more : (keeps : ℕ → Bool) (n : ℕ) → filter keeps (range_with_len 0 (n + 1)) ≡ filter keeps (range_with_len 0 n) ++ cond (keeps n) (n ∷ []) []
+kept_more keeps n =
+    ap (filter keeps) (sym (map-id (range_with_len 0 (n + 1))) ∙ map-range_with_len_more (λ (x : ℕ). x) 0 n n (omega arith) ∙ ap (λ l. l ++ n ∷ []) (map-id (range_with_len 0 n)))
+    ∙ filter-append keeps (range_with_len 0 n) (n ∷ [])

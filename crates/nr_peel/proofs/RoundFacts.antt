@@ -1,0 +1,187 @@
+-- Peeling by rounds: what a tally counts, what a round marks, and where rounds end.
+use Rattle.std.proofs.Common.{◌≡◌, ℕ, ◌+◌, ◌*◌, ◌<◌, ◌≤◌, ◌==◌, ◌||◌, ◌&&◌, nat_lt, Bool, true, false, not, cond, List, [], ◌∷◌, length, get_or, set, take, refl, sym, ap, ◌∙◌, subst, ⊎_elim, arith}
+use Rattle.std.specs.Prelude.{zero, suc, All, count_by}
+use Rattle.std.specs.List.{list_all}
+use Rattle.std.proofs.lemmas.Bool.{and_parts, and_from, or_left, or_right, true≢false, eqb-true, eq-eqb, lt-ltb, cases_eq}
+use Rattle.std.proofs.lemmas.List.Folds.{list_any_more}
+use Rattle.nr_bitvec.specs.Bit.{bit}
+use Rattle.nr_ldpcenc.specs.Rows.{Checks}
+use Rattle.nr_segment.specs.CodeBlock.{numbers}
+use Rattle.nr_shifttable.specs.declared.entry.Entry.{Entry}
+use Rattle.nr_shifttable.specs.Accepted.{IsTable, entries_in, row_of}
+use Rattle.nr_peel.specs.Closure.{IsDistinctRow, AreSound, Within, any_below, closure, fixes, round, stands}
+use Rattle.nr_peel.specs.ClosureInside.{LacksNoneOrSeveral}
+use Rattle.nr_peel.specs.Rounds.{CountsMarks, counts_one, is_counted_once, lacks_one, row_in, some_counts_one, some_lacks_one}
+use Rattle.nr_peel.specs.StateInside.{lifted_checks}
+use Rattle.nr_peel.specs.declared.lifted.Lifted.{Lifted}
+use Rattle.nr_peel.specs.declared.rounds.Tally.{Tally}
+use Rattle.nr_peel.proofs.ClosureFacts.{any_below_passes, closure_closed, passes_any_below, round_adds, round_keeps, round_within, same_truth, size_below, size_grows}
+use Rattle.nr_peel.proofs.TableGridFacts.{checks_sound}
+use Rattle.nr_peel.proofs.NothingHeardFacts.{other_in}
+use Rattle.nr_peel.proofs.RowPositionFacts.{count_by-cons, fixed_counted, only_from_count}
+use Rattle.nr_peel.proofs.TieFacts.{bit-mark, row_columns}
+use Rattle.nr_peel.proofs.CodewordFacts.{done_is_closure, only_fixes, stands_once}
+
+-- a test of the numbers below n, and one number more
+pub any_below-same : (f g : ℕ → Bool) (n : ℕ) → ((k : ℕ) → k < n → f k ≡ g k) → any_below f n ≡ any_below g n
+any_below-same f g zero h = refl
+any_below-same f g (suc n) h = both (any_below f n) (any_below g n) (f n) (g n) (any_below-same f g n (λ k lt. h k (omega arith))) (h n (omega arith))
+  where
+    both : (a b d e : Bool) → a ≡ b → d ≡ e → (a || d) ≡ (b || e)
+    both a b d e p q = cc
+
+pub any_below-more : (f : ℕ → Bool) (n : ℕ) → any_below f (n + 1) ≡ (any_below f n || f n)
+any_below-more f n = ap (any_below f) (next n)
+  where
+    next : (n : ℕ) → n + 1 ≡ suc n
+    next n = omega arith
+
+or_false : (a b : Bool) → b ≡ false → (a || b) ≡ a
+or_false true b h = refl
+or_false false b h = h
+
+pub any_more_yes : (f : ℕ → Bool) (n : ℕ) → f n ≡ true → any_below f (n + 1) ≡ true
+any_more_yes f n h = any_below-more f n ∙ or_right (any_below f n) (f n) h
+
+pub any_more_no : (f : ℕ → Bool) (n : ℕ) → f n ≡ false → any_below f (n + 1) ≡ any_below f n
+any_more_no f n h = any_below-more f n ∙ or_false (any_below f n) (f n) h
+
+-- one position more: whether any is counted, and whether several are
+pub tally_ones : (u a : Bool) (m : ℕ) → a ≡ nat_lt 0 m → (a || u) ≡ nat_lt 0 (m + cond u 1 0)
+tally_ones true a m e = or_right a true refl ∙ sym (lt-ltb 0 (m + 1) (omega arith))
+tally_ones false a m e = or_false a false refl ∙ e ∙ ap (nat_lt 0) (same m)
+  where
+    same : (m : ℕ) → m ≡ m + 0
+    same m = omega arith
+
+pub tally_more : (u a d : Bool) (m : ℕ) → a ≡ nat_lt 0 m → d ≡ nat_lt 1 m → (d || (a && u)) ≡ nat_lt 1 (m + cond u 1 0)
+tally_more true a d zero e f = ap (λ x. x || (a && true)) f ∙ ap (λ x. x && true) e
+tally_more true a d (suc m) e f =
+    or_right d (a && true) (and_from a true (e ∙ lt-ltb 0 (suc m) (omega arith)) refl) ∙ sym (lt-ltb 1 (suc m + 1) (omega arith))
+tally_more false a d m e f = or_false d (a && false) (none a) ∙ f ∙ ap (nat_lt 1) (same m)
+  where
+    none : (a : Bool) → (a && false) ≡ false
+    none true = refl
+    none false = refl
+
+    same : (m : ℕ) → m ≡ m + 0
+    same m = omega arith
+
+-- one position more of a row that is marked
+pub marked_more : (old marks : List Bool) (ps : List ℕ) (n q : ℕ) → n < length ps → get_or ps n 0 ≡ q → q < length marks
+    → ((p : ℕ) → bit marks p ≡ (bit old p || stands p (take n ps))) → (p : ℕ) → bit (set marks q true) p ≡ (bit old p || stands p (take (n + 1) ps))
+marked_more old marks ps n q lt is inside so p =
+    bit-mark marks q inside p
+    ∙ ap (λ b. b || (q == p)) (so p)
+    ∙ regroup (bit old p) (stands p (take n ps)) (q == p)
+    ∙ ap (λ b. bit old p || b) (sym (list_any_more (λ r. r == p) ps n 0 lt ∙ ap (λ r. stands p (take n ps) || (r == p)) is))
+  where
+    regroup : (a b d : Bool) → ((a || b) || d) ≡ (a || (b || d))
+    regroup true b d = refl
+    regroup false b d = refl
+
+-- marks that were added to twice
+pub added_twice : (a b d m k : Bool) → m ≡ (a || b) → k ≡ (m || d) → k ≡ (a || (b || d))
+added_twice true b d m k e f = f ∙ ap (λ x. x || d) e
+added_twice false b d m k e f = f ∙ ap (λ x. x || d) e
+
+-- tests that agree at the positions of a row count alike there
+pub count_where : (p q : ℕ → Bool) (xs : List ℕ) → ((x : ℕ) → stands x xs ≡ true → p x ≡ q x) → count_by p xs ≡ count_by q xs
+count_where p q [] h = refl
+count_where p q (x ∷ xs) h =
+    count_by-cons p x xs
+    ∙ both (p x) (q x) (count_by p xs) (count_by q xs) (h x (or_left (x == x) (stands x xs) (eq-eqb x x refl))) (count_where p q xs (λ y s. h y (or_right (x == y) (stands y xs) s)))
+    ∙ sym (count_by-cons q x xs)
+  where
+    both : (a b : Bool) (m n : ℕ) → a ≡ b → m ≡ n → cond a 1 0 + m ≡ cond b 1 0 + n
+    both a b m n e f = cc
+
+-- each entry of a row of blocks stands within the word
+pub row_fits : (l : Lifted) (es : List Entry) (i n : ℕ) → IsTable l.table.now → es ≡ row_of (entries_in l.plan.graph l.table.now) i → n ≡ (lifted_checks l).size → All (λ e. (e.col + 1) * l.plan.z ≤ n) es
+row_fits l es i n table is long =
+    subst (λ (x : List Entry). All (λ e. (e.col + 1) * l.plan.z ≤ n) x) (sym is)
+    (subst (λ m. All (λ e. (e.col + 1) * l.plan.z ≤ m) (row_of (entries_in l.plan.graph l.table.now) i)) (sym long) (row_columns l.table.now l.plan.graph (numbers l.plan) table l.plan.sound.size_some i))
+
+-- a row with one position outside a set fixes it
+one_fixes : (S : ℕ → Bool) (row : List ℕ) (p : ℕ) → count_by (λ q. not (S q)) row ≡ 1 → stands p row ≡ true → S p ≡ false → fixes S row p ≡ true
+one_fixes S row p one there out =
+    let r = only_from_count S row one in
+    ⊎_elim
+    (λ (e : p ≡ r.pos). subst (λ q. fixes S row q ≡ true) (sym e) (only_fixes S row r.pos r.only))
+    (λ ne. absurd (true≢false (sym (other_in S row r.pos p r.only.others there ne) ∙ out)))
+    (cases_eq p r.pos)
+
+one_is_fixed : (S : ℕ → Bool) (row : List ℕ) (p : ℕ) → IsDistinctRow row → S p ≡ false → (lacks_one S row && stands p row) ≡ fixes S row p
+one_is_fixed S row p distinct out = same_truth (lacks_one S row && stands p row) (fixes S row p) there back
+  where
+    there : (lacks_one S row && stands p row) ≡ true → fixes S row p ≡ true
+    there h =
+        let parts = and_parts (lacks_one S row) (stands p row) h in
+        one_fixes S row p (eqb-true (count_by (λ q. not (S q)) row) 1 parts.0) parts.1 out
+
+    back : fixes S row p ≡ true → (lacks_one S row && stands p row) ≡ true
+    back f =
+        let parts = and_parts (stands p row) (list_all (λ q. (q == p) || S q) row) f in
+        and_from (lacks_one S row) (stands p row) (eq-eqb (count_by (λ q. not (S q)) row) 1 (fixed_counted S p row out f ∙ stands_once p row distinct parts.0)) parts.0
+
+-- a position stands in a row of a row of blocks that has one position outside a set
+abbrev pub is_completed : Checks → (ℕ → Bool) → ℕ → ℕ → Bool
+is_completed c S p i = any_below (λ t. lacks_one S (c.row i t) && stands p (c.row i t)) c.lanes
+
+-- what a tally of the unknown positions says of a row of blocks
+module _
+    (l : Lifted) (i : ℕ) (es : List Entry) (known unknown : List Bool) (tally : Tally) (table : IsTable l.table.now) (li : i < (lifted_checks l).rows)
+    (es_is : es ≡ row_of (entries_in l.plan.graph l.table.now) i) (long : length known ≡ (lifted_checks l).size)
+    (others : (p : ℕ) → p < length known → bit unknown p ≡ not (bit known p)) (counted : CountsMarks l es (bit unknown) tally) where
+  counted_row : (t : ℕ) → t < l.plan.z → counts_one tally t ≡ lacks_one (bit known) ((lifted_checks l).row i t)
+  counted_row t lt =
+      let c = lifted_checks l in
+      let sound = checks_sound l.table.now l.plan.graph (numbers l.plan) table l.plan.sound.size_some in
+      let alike = count_where (bit unknown) (λ p. not (bit known p)) (c.row i t) (λ x s. others x (omega (arith, long, sound.in_range i t x li lt s))) in
+      counted t lt ∙ ap (λ (r : List Entry). count_by (bit unknown) (row_in l r t) == 1) es_is ∙ ap (λ m. m == 1) alike
+
+  pub counted_some : some_counts_one l.plan.z tally ≡ any_below (λ t. lacks_one (bit known) ((lifted_checks l).row i t)) l.plan.z
+  counted_some = any_below-same (counts_one tally) (λ t. lacks_one (bit known) ((lifted_checks l).row i t)) l.plan.z counted_row
+
+  pub counted_marks : (p : ℕ) → is_counted_once l es tally p ≡ is_completed (lifted_checks l) (bit known) p i
+  counted_marks p = any_below-same (λ t. counts_one tally t && stands p (row_in l es t)) (λ t. lacks_one (bit known) ((lifted_checks l).row i t) && stands p ((lifted_checks l).row i t)) l.plan.z
+      (λ t lt. ap (λ b. b && stands p (row_in l es t)) (counted_row t lt) ∙ ap (λ (r : List Entry). lacks_one (bit known) ((lifted_checks l).row i t) && stands p (row_in l r t)) es_is)
+
+-- marking each row with one unknown position is a round
+-- at a position outside the set
+out_marks : (c : Checks) (S : ℕ → Bool) (p : ℕ) → AreSound c → S p ≡ false → (S p || any_below (is_completed c S p) c.rows) ≡ round c S p
+unfolding round
+out_marks c S p sound out = ap (λ b. S p || b) (any_below-same (is_completed c S p) (λ i. any_below (λ t. fixes S (c.row i t) p) c.lanes) c.rows
+    (λ i li. any_below-same (λ t. lacks_one S (c.row i t) && stands p (c.row i t)) (λ t. fixes S (c.row i t) p) c.lanes
+    (λ t lt. one_is_fixed S (c.row i t) p (sound.distinct i t li lt) out)))
+
+pub round_marks : (c : Checks) (S : ℕ → Bool) (p : ℕ) → AreSound c → (S p || any_below (is_completed c S p) c.rows) ≡ round c S p
+round_marks c S p sound = by_mark (S p) refl
+  where
+    by_mark : (b : Bool) → S p ≡ b → (S p || any_below (is_completed c S p) c.rows) ≡ round c S p
+    by_mark true e = or_left (S p) (any_below (is_completed c S p) c.rows) e ∙ sym (round_keeps c S p e)
+    by_mark false e = out_marks c S p sound e
+
+-- a round with such a row marks a new position
+pub round_grows : (c : Checks) (S T : ℕ → Bool) → AreSound c → some_lacks_one c S ≡ true → ((p : ℕ) → T p ≡ round c S p) → size_below S c.size < size_below T c.size
+unfolding some_lacks_one
+round_grows c S T sound some is =
+    let r = any_below_passes (λ i. any_below (λ t. lacks_one S (c.row i t)) c.lanes) c.rows some in
+    let q = any_below_passes (λ t. lacks_one S (c.row r.number t)) c.lanes r.passes in
+    let row = c.row r.number q.number in
+    let only = only_from_count S row (eqb-true (count_by (λ p. not (S p)) row) 1 q.passes) in
+    let inside = sound.in_range r.number q.number only.pos r.below q.below only.only.stands_there in
+    size_grows S T (λ p h. is p ∙ round_keeps c S p h) c.size only.pos inside only.only.missing
+    (is only.pos ∙ round_adds c S r.number q.number only.pos r.below q.below (only_fixes S row only.pos only.only))
+
+none_lacks : (c : Checks) (S : ℕ → Bool) → some_lacks_one c S ≡ false → LacksNoneOrSeveral c S
+unfolding some_lacks_one
+none_lacks c S none i t li lt one =
+    let here = passes_any_below (λ t. lacks_one S (c.row i t)) c.lanes t lt (eq-eqb (count_by (λ p. not (S p)) (c.row i t)) 1 one) in
+    true≢false (sym (passes_any_below (λ i. any_below (λ t. lacks_one S (c.row i t)) c.lanes) c.rows i li here) ∙ none)
+
+-- a round without such a row ends at the closure
+pub rounds_done : (c : Checks) (S K : ℕ → Bool) → AreSound c → Within S K → Within K (closure c S) → some_lacks_one c K ≡ false → (p : ℕ) → round c K p ≡ closure c S p
+rounds_done c S K sound up inside none p = same_truth (round c K p) (closure c S p)
+    (round_within c K (closure c S) inside (closure_closed c S sound) p)
+    (λ h. round_keeps c K p (done_is_closure c S K sound up inside (none_lacks c K none) p ∙ h))

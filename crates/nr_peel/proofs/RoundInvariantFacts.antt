@@ -1,0 +1,266 @@
+-- What is kept from round to round: rows fix positions, and then the counts follow.
+use Rattle.std.proofs.Common.{◌≡◌, ◌≢◌, ℕ, ◌+◌, ◌-◌, ◌*◌, ◌/◌, ◌%◌, ◌^◌, ◌<◌, ◌≤◌, ◌||◌, ◌&&◌, Bool, true, false, not, cond, List, [], ◌∷◌, ◌++◌, length, refl, sym, ap, ◌∙◌, inl, inr, arith, length-append}
+use Rattle.std.specs.Prelude.{count_by, slice_index, sum, vec_capacity}
+use Rattle.std.proofs.lemmas.Bool.{and_from, and_parts, cases_lt, eq-eqb, false≢true, true≢false}
+use Rattle.std.proofs.lemmas.List.{get_or_past}
+use Rattle.std.proofs.lemmas.Nat.{mod_below, div_below}
+use Rattle.nr_bitvec.specs.Bit.{bit}
+use Rattle.nr_lifting.specs.Rings.{marked}
+use Rattle.nr_ldpcenc.specs.Rows.{Checks}
+use Rattle.nr_peel.specs.Due.{work_of}
+use Rattle.nr_peel.specs.Certificates.{accepts, after_steps, all_accepted, is_fixed_by, with_position}
+use Rattle.nr_peel.specs.Closure.{Within}
+use Rattle.nr_peel.specs.Settled.{CatchesUp, HasNonePending, IsHeld, Keeps, Reaches}
+use Rattle.nr_peel.specs.Sweeps.{AreLanes, AreSought, CountsOf, Fixes, counted_in, has_count, searched_pairs}
+use Rattle.nr_peel.specs.Touches.{step_pairs}
+use Rattle.nr_peel.specs.declared.fix.Fix.{Fix}
+use Rattle.nr_peel.specs.declared.bit_parallel.lanes.Lanes.{Lanes}
+use Rattle.nr_peel.specs.declared.bit_parallel.sweep.Sweep.{Sweep}
+use Rattle.nr_peel.proofs.ColumnFacts.{count_plus}
+use Rattle.nr_peel.proofs.LaneMarkFacts.{marked_zero}
+use Rattle.nr_peel.proofs.FixOrderFacts.{after_accepted, goes_none, goes_then}
+use Rattle.nr_peel.proofs.PairSumFacts.{spent_le, spent_more}
+use Rattle.nr_peel.proofs.RowPlaceFacts.{row_number}
+use Rattle.nr_peel.proofs.RowPositionFacts.{count_alike}
+use Rattle.nr_peel.proofs.StepPairFacts.{step_pairs-append}
+use Rattle.nr_peel.proofs.SweepStepFacts.{counted_known, counts_still, fixed_append, known_more, pairs_all}
+use Rattle.nr_peel.proofs.TallyFacts.{marked_most, none_and_one, searched_most, searched_none, spent_searched, zeros_gain, zeros_more}
+
+-- ---- the column half
+
+module _ (c : Checks) (s : Lanes) (counts : List ℕ) (within : Within (bit s.pending.items) (bit s.known.items)) (counted : CountsOf c (counted_in s) counts) where
+  -- the positions of a row that the counts don't know of are the unknown ones and the fresh ones
+  split : (i t : ℕ) → count_by (λ p. not (bit s.known.items p)) (c.row i t) + count_by (bit s.pending.items) (c.row i t) ≡ count_by (λ p. not (counted_in s p)) (c.row i t)
+  split i t = count_plus (λ p. not (bit s.known.items p)) (bit s.pending.items) (λ p. not (counted_in s p)) (λ p. one (bit s.known.items p) (bit s.pending.items p) (within p)) (c.row i t)
+    where
+      one : (a b : Bool) → (b ≡ true → a ≡ true) → cond (not a) 1 0 + cond b 1 0 ≡ cond (not (a && not b)) 1 0
+      one true true k = refl
+      one true false k = refl
+      one false true k = absurd (false≢true (k refl))
+      one false false k = refl
+
+  pub enough_pending : (i t : ℕ) → i < c.rows → t < c.lanes → count_by (bit s.pending.items) (c.row i t) ≤ slice_index counts (i * c.lanes + t)
+  enough_pending i t li lt = omega (arith, split i t, counted i t li lt)
+
+  pub known_counted : (new : List ℕ) → ((i t : ℕ) → i < c.rows → t < c.lanes → slice_index new (i * c.lanes + t) + count_by (bit s.pending.items) (c.row i t) ≡ slice_index counts (i * c.lanes + t))
+      → CountsOf c (bit s.known.items) new
+  known_counted new falls i t li lt = omega (arith, split i t, counted i t li lt, falls i t li lt)
+
+-- no count rises
+pub falls_all : (rows lanes : ℕ) (old new : List ℕ) (h : ℕ → ℕ → ℕ) → 0 < lanes → length new ≡ rows * lanes
+    → ((i t : ℕ) → i < rows → t < lanes → slice_index new (i * lanes + t) + h i t ≡ slice_index old (i * lanes + t)) → (k : ℕ) → slice_index new k ≤ slice_index old k
+falls_all rows lanes old new h some long falls k = elim (cases_lt k (rows * lanes)) [
+  | inl below ↦
+      let at : k / lanes * lanes + k % lanes ≡ k = row_number k lanes in
+      let here = falls (k / lanes) (k % lanes) (div_below k lanes rows some below) (mod_below k lanes some) in
+      omega (arith, rw at at here)
+  | inr past ↦ omega (arith, get_or_past new k 0 (omega (arith, long, past)))
+]
+
+-- counts of the same positions
+pub counts_same : (c : Checks) (K L : ℕ → Bool) (counts : List ℕ) → CountsOf c K counts → ((p : ℕ) → K p ≡ L p) → CountsOf c L counts
+counts_same c K L counts h same i t li lt = h i t li lt ∙ count_alike (λ p. not (K p)) (λ p. not (L p)) (λ p. ap not (same p)) (c.row i t)
+
+module _ (c : Checks) (b d : Sweep) (lanes : AreLanes c b.lanes) (caught : CatchesUp c b d) where
+  known_same : (p : ℕ) → bit d.lanes.known.items p ≡ bit b.lanes.known.items p
+  known_same p = ap (λ r. bit r.items p) caught.known
+
+  bits_same : (p : ℕ) → bit d.lanes.bits.items p ≡ bit b.lanes.bits.items p
+  bits_same p = ap (λ r. bit r.items p) caught.bits
+
+  pub caught_lanes : AreLanes c d.lanes
+  caught_lanes = record {
+    known_long = ap (λ r. length r.items) caught.known ∙ lanes.known_long;
+    bits_long = ap (λ r. length r.items) caught.bits ∙ lanes.bits_long;
+    pending_long = caught.pending_long ∙ lanes.pending_long;
+    known_lanes = ap (λ r. r.lanes) caught.known ∙ lanes.known_lanes;
+    bits_lanes = ap (λ r. r.lanes) caught.bits ∙ lanes.bits_lanes;
+    pending_lanes = caught.pending_lanes ∙ lanes.pending_lanes;
+    blank = λ p e. bits_same p ∙ lanes.blank p (sym (known_same p) ∙ e);
+    within = λ p e. absurd (true≢false (sym e ∙ caught.none_pending p));
+  }
+
+  pub caught_counted : CountsOf c (counted_in d.lanes) d.counts.items
+  caught_counted = counts_same c (bit d.lanes.known.items) (counted_in d.lanes) d.counts.items caught.counted (λ p. all (bit d.lanes.known.items p) (bit d.lanes.pending.items p) (caught.none_pending p))
+    where
+      all : (a b : Bool) → b ≡ false → a ≡ (a && not b)
+      all true b e = sym (ap not e)
+      all false b e = refl
+
+  pub caught_keeps : Keeps c b.lanes d.lanes
+  caught_keeps = record {
+    known = λ p e. known_same p ∙ e;
+    bits = λ p e. bits_same p;
+    words = λ w meets has p e. has p (sym (known_same p) ∙ e) ∙ sym (bits_same p);
+    reaches = λ G r. record {
+      accepted = ap (λ v. all_accepted c G v.items) caught.order ∙ r.accepted;
+      reached = λ p. known_same p ∙ r.reached p ∙ ap (λ v. G p || is_fixed_by v.items p) (sym caught.order);
+    };
+    order = rw caught.order (goes_none b.lanes.order.items);
+  }
+
+pub keeps_then : (c : Checks) (a b d : Lanes) → Keeps c a b → Keeps c b d → Keeps c a d
+keeps_then c a b d one two = record {
+  known = λ p e. two.known p (one.known p e);
+  bits = λ p e. two.bits p (one.known p e) ∙ one.bits p e;
+  words = λ w meets has. two.words w meets (one.words w meets has);
+  reaches = λ G r. two.reaches G (one.reaches G r);
+  order = goes_then a.order.items b.order.items d.order.items one.order two.order;
+}
+
+-- the counts catch up where the state is in order
+pub caught_held : (c : Checks) (a d : Sweep) → IsHeld c a → CatchesUp c a d → IsHeld c d
+caught_held c a d h caught = record {
+  lanes = caught_lanes c a d h.lanes caught;
+  counts_lanes = caught.counts_lanes ∙ h.counts_lanes;
+  counts_long = caught.counts_long ∙ h.counts_long;
+  counted = caught_counted c a d h.lanes caught;
+  order_few = omega (arith, ap (λ v. length v.items) caught.order, h.order_few, zeros_more a.counts.items d.counts.items (c.rows * c.lanes) caught.falls);
+  order_room = omega (arith, ap (λ v. vec_capacity v) caught.order, h.order_room);
+  least = omega (arith, caught.visits, h.least, ap (λ v. step_pairs c v.items) caught.order);
+  most = omega (arith, caught.visits, h.most, spent_more c a.counts.items d.counts.items caught.falls);
+  worked = omega (arith, caught.worked, caught.visited, h.worked);
+  small = h.small;
+}
+
+-- ---- the row half
+
+accepted_after : (c : Checks) (S : ℕ → Bool) (ss ts : List Fix) → all_accepted c S ss ≡ true → all_accepted c (after_steps c S ss) ts ≡ true → all_accepted c S (ss ++ ts) ≡ true
+accepted_after c S [] ts h k = k
+accepted_after c S (x ∷ ss) ts h k =
+    let parts = and_parts (accepts c S x) (all_accepted c (with_position S x.pos) ss) h in
+    let same : cond (accepts c S x) (after_steps c (with_position S x.pos) ss) S ≡ after_steps c (with_position S x.pos) ss = ap (λ b. cond b (after_steps c (with_position S x.pos) ss) S) parts.0 in
+    and_from (accepts c S x) (all_accepted c (with_position S x.pos) (ss ++ ts)) parts.0
+    (accepted_after c (with_position S x.pos) ss ts parts.1 (sym (ap (λ T. all_accepted c T ts) same) ∙ k))
+
+pub fixes_keep : (c : Checks) (old new : Lanes) → Fixes c (counted_in old) old new → Keeps c old new
+fixes_keep c old new f = record {
+  known = known_more c (counted_in old) old new f;
+  bits = f.kept;
+  words = f.words;
+  reaches = λ G r. record {
+    accepted = ap (all_accepted c G) f.order ∙ accepted_after c G old.order.items f.steps r.accepted (f.accepted (after_steps c G old.order.items) (known_after G r));
+    reached = λ p.
+        f.known p ∙ ap (λ b. b || is_fixed_by f.steps p) (r.reached p) ∙ regroup (G p) (is_fixed_by old.order.items p) (is_fixed_by f.steps p)
+        ∙ ap (λ b. G p || b) (sym (fixed_append old.order.items f.steps p)) ∙ ap (λ v. G p || is_fixed_by v p) (sym f.order);
+  };
+  order = record { more = f.steps; is = f.order };
+}
+  where
+    regroup : (a b d : Bool) → ((a || b) || d) ≡ (a || (b || d))
+    regroup true b d = refl
+    regroup false b d = refl
+
+    known_after : (G : ℕ → Bool) → Reaches c G old → Within (counted_in old) (after_steps c G old.order.items)
+    known_after G r p e = after_accepted c G old.order.items p r.accepted ∙ sym (r.reached p) ∙ counted_known old p e
+
+-- ---- a round
+
+module _ (c : Checks) (some : 0 < c.lanes) (a b : Sweep) (h : IsHeld c a) (sought : AreSought c a.counts.items c.rows a.lanes b.lanes) (counts : b.counts.items ≡ a.counts.items)
+    (lanes : b.counts.lanes ≡ a.counts.lanes) (touches : b.touches ≡ a.touches + searched_pairs c a.counts.items) (worked : work_of b.counts ≤ work_of a.counts + 3 * searched_pairs c a.counts.items) where
+  n : ℕ
+  n = c.rows * c.lanes
+
+  pub sought_counted : CountsOf c (counted_in b.lanes) b.counts.items
+  sought_counted = rw counts (counts_still c (counted_in a.lanes) a.counts.items a.lanes b.lanes sought.fixes h.counted)
+
+  pub sought_few : b.touches + sum b.counts.items < 2 ^ 64
+  sought_few = omega (arith, touches, ap sum counts, h.most, h.small, spent_le c a.counts.items, searched_most c a.counts.items)
+
+  pub sought_roomy : work_of b.counts + 2 * sum b.counts.items < 2 ^ 63
+  sought_roomy = omega (arith, worked, ap sum counts, h.worked, h.most, h.small, spent_le c a.counts.items, searched_most c a.counts.items)
+
+  steps_long : length b.lanes.order.items ≡ length a.lanes.order.items + length sought.fixes.steps
+  steps_long = ap length sought.fixes.order ∙ length-append a.lanes.order.items sought.fixes.steps
+
+  -- the steps' rows were searched
+  steps_searched : step_pairs c b.lanes.order.items ≤ step_pairs c a.lanes.order.items + searched_pairs c a.counts.items
+  steps_searched = omega (arith, ap (step_pairs c) sought.fixes.order, step_pairs-append c a.lanes.order.items sought.fixes.steps, sought.searched, pairs_all c a.counts.items)
+
+  module _ (d : Sweep) (caught : CatchesUp c b d) where
+    falls : (k : ℕ) → slice_index d.counts.items k ≤ slice_index a.counts.items k
+    falls k = omega (arith, caught.falls k, ap (λ v. slice_index v k) counts)
+
+    down : (k : ℕ) → k < c.rows * c.lanes → slice_index a.counts.items k ≡ 1 → slice_index d.counts.items k ≡ 0
+    down k below one =
+        let i = k / c.lanes in
+        let t = k % c.lanes in
+        let row : i < c.rows = div_below k c.lanes c.rows some below in
+        let lane : t < c.lanes = mod_below k c.lanes some in
+        let at : i * c.lanes + t ≡ k = row_number k c.lanes in
+        let has : has_count 1 a.counts.items (i * c.lanes + t) ≡ true = ap (has_count 1 a.counts.items) at ∙ eq-eqb (slice_index a.counts.items k) 1 one in
+        sym (ap (slice_index d.counts.items) at) ∙ caught.counted i t row lane
+        ∙ count_alike (λ p. not (bit d.lanes.known.items p)) (λ p. not (bit b.lanes.known.items p)) (λ p. ap (λ r. not (bit r.items p)) caught.known) (c.row i t)
+        ∙ sought.whole i t row lane has
+
+    pub zeros_rise : marked (has_count 0 a.counts.items) (c.rows * c.lanes) + marked (has_count 1 a.counts.items) (c.rows * c.lanes) ≤ marked (has_count 0 d.counts.items) (c.rows * c.lanes)
+    zeros_rise = zeros_gain c a.counts.items d.counts.items falls down
+
+    pub round_held : IsHeld c d
+    round_held = record {
+      lanes = caught_lanes c b d sought.fixes.lanes caught;
+      counts_lanes = caught.counts_lanes ∙ lanes ∙ h.counts_lanes;
+      counts_long = caught.counts_long ∙ ap length counts ∙ h.counts_long;
+      counted = caught_counted c b d sought.fixes.lanes caught;
+      order_few = omega (arith, ap (λ v. length v.items) caught.order, steps_long, sought.few, h.order_few, zeros_rise);
+      order_room = omega (arith, ap (λ v. vec_capacity v) caught.order, sought.fixes.capacity, h.order_room);
+      least = omega (arith, caught.visits, touches, ap sum counts, h.least, ap (λ v. step_pairs c v.items) caught.order, steps_searched);
+      most = omega (arith, caught.visits, touches, ap sum counts, h.most, spent_searched c a.counts.items d.counts.items falls down);
+      worked = omega (arith, caught.worked, caught.visited, touches, worked, h.worked);
+      small = h.small;
+    }
+
+    pub round_keeps : Keeps c a.lanes d.lanes
+    round_keeps = keeps_then c a.lanes b.lanes d.lanes (fixes_keep c a.lanes b.lanes sought.fixes) (caught_keeps c b d sought.fixes.lanes caught)
+
+    pub round_smaller : 0 < marked (has_count 1 a.counts.items) (c.rows * c.lanes)
+        → c.rows * c.lanes - marked (has_count 0 d.counts.items) (c.rows * c.lanes) < c.rows * c.lanes - marked (has_count 0 a.counts.items) (c.rows * c.lanes)
+    round_smaller one = omega (arith, one, zeros_rise, marked_most (has_count 0 d.counts.items) (c.rows * c.lanes))
+
+  -- where no row has one unknown position
+  module _ (none : marked (has_count 1 a.counts.items) (c.rows * c.lanes) ≡ 0) where
+    no_steps : sought.fixes.steps ≡ []
+    no_steps = empty sought.fixes.steps (omega (arith, sought.few, none))
+      where
+        empty : (xs : List Fix) → length xs ≡ 0 → xs ≡ []
+        empty [] e = refl
+        empty (x ∷ xs) e = absurd (omega (arith, e))
+
+    pub stop_held : IsHeld c b
+    stop_held = record {
+      lanes = sought.fixes.lanes;
+      counts_lanes = lanes ∙ h.counts_lanes;
+      counts_long = ap length counts ∙ h.counts_long;
+      counted = sought_counted;
+      order_few = rw counts (omega (arith, steps_long, sought.few, none, h.order_few));
+      order_room = omega (arith, sought.fixes.capacity, h.order_room);
+      least = rw counts (omega (arith, touches, h.least, steps_searched));
+      most = rw counts (omega (arith, touches, searched_none c a.counts.items none, h.most));
+      worked = omega (arith, touches, worked, h.worked);
+      small = h.small;
+    }
+
+    pub stop_pending : HasNonePending a.lanes → HasNonePending b.lanes
+    stop_pending pending p = sought.fixes.pending p ∙ ap (λ x. x || is_fixed_by sought.fixes.steps p) (pending p) ∙ ap (λ ss. is_fixed_by ss p) no_steps
+
+    pub stop_settled : (k : ℕ) → slice_index b.counts.items k ≢ 1
+    stop_settled k one = elim (cases_lt k (c.rows * c.lanes)) [
+      | inl below ↦ true≢false (sym (eq-eqb (slice_index a.counts.items k) 1 (sym (ap (λ v. slice_index v k) counts) ∙ one)) ∙ marked_zero (has_count 1 a.counts.items) (c.rows * c.lanes) none k below)
+      | inr past ↦ absurd (omega (arith, one, ap (λ v. slice_index v k) counts, get_or_past a.counts.items k 0 (omega (arith, h.counts_long, past))))
+    ]
+
+-- the room for the steps of a round
+pub held_room : (c : Checks) (a : Sweep) → IsHeld c a → length a.lanes.order.items + marked (has_count 1 a.counts.items) (c.rows * c.lanes) ≤ vec_capacity a.lanes.order
+held_room c a h = omega (arith, h.order_few, h.order_room, none_and_one a.counts.items (c.rows * c.lanes))
+
+pub held_few : (c : Checks) (a : Sweep) → IsHeld c a → a.touches + sum a.counts.items < 2 ^ 64
+held_few c a h = omega (arith, h.most, h.small, spent_le c a.counts.items)
+
+pub held_searched : (c : Checks) (a : Sweep) → IsHeld c a → a.touches + searched_pairs c a.counts.items < 2 ^ 64
+held_searched c a h = omega (arith, h.most, h.small, spent_le c a.counts.items, searched_most c a.counts.items)
+
+pub held_roomy : (c : Checks) (a : Sweep) → IsHeld c a → work_of a.counts + 2 * sum a.counts.items < 2 ^ 63
+held_roomy c a h = omega (arith, h.worked, h.most, h.small, spent_le c a.counts.items)
+
+pub held_work : (c : Checks) (a : Sweep) → IsHeld c a → work_of a.counts + 3 * searched_pairs c a.counts.items < 2 ^ 63
+held_work c a h = omega (arith, h.worked, h.most, h.small, spent_le c a.counts.items, searched_most c a.counts.items)

@@ -1,0 +1,58 @@
+-- How many positions a code block has, and how many pairs there are of a row and a position of it.
+use Rattle.std.proofs.Common.{◌≡◌, ℕ, ◌+◌, ◌*◌, ◌/◌, ◌%◌, ◌<◌, ◌≤◌, Bool, false, not, List, [], ◌∷◌, length, refl, ◌∙◌, arith}
+use Rattle.std.specs.Prelude.{◌^◌, zero, suc, count_by}
+use Rattle.std.proofs.lemmas.List.{length-map}
+use Rattle.std.proofs.lemmas.Nat.{mul-le}
+use Rattle.nr_graphpick.specs.declared.Graph.{Graph}
+use Rattle.nr_graphpick.specs.declared.Graph.TheVariants.{One, Two}
+use Rattle.nr_graphpick.specs.Graph.{cols_of, rows_of}
+use Rattle.nr_shifttable.specs.declared.entry.Entry.{Entry}
+use Rattle.nr_shifttable.specs.Accepted.{IsTable, entries_in, row_of}
+use Rattle.nr_shifttable.specs.Tails.{value_in}
+use Rattle.nr_ldpcenc.specs.Rows.{one_at}
+use Rattle.nr_peel.specs.StateInside.{lifted_checks}
+use Rattle.nr_peel.specs.Touches.{sum_below}
+use Rattle.nr_peel.specs.TouchesInside.{all_pairs, row_length}
+use Rattle.nr_peel.specs.declared.lifted.Lifted.{Lifted}
+use Rattle.nr_peel.proofs.RowPositionFacts.{count_no}
+use Rattle.nr_peel.proofs.CountedPairFacts.{count_both}
+use Rattle.nr_peel.proofs.TableGridFacts.{rows_short}
+
+sum_below-most : (f : ℕ → ℕ) (m n : ℕ) → ((k : ℕ) → k < n → f k ≤ m) → sum_below f n ≤ n * m
+sum_below-most f m zero h = omega arith
+sum_below-most f m (suc n) h = omega (arith, sum_below-most f m n (λ k lt. h k (omega arith)), h n (omega arith))
+
+cols_most : (g : Graph) → cols_of g ≤ 68
+cols_most One = omega arith
+cols_most Two = omega arith
+
+pub size_most : (l : Lifted) → (lifted_checks l).size ≤ 68 * 384
+size_most l = mul-le (cols_of l.plan.graph) l.plan.z 68 384 (cols_most l.plan.graph) l.plan.sound.size_most
+
+pub rows_most : (g : Graph) → rows_of g ≤ 46
+rows_most One = omega arith
+rows_most Two = omega arith
+
+pub degree_short : (l : Lifted) (k : ℕ) → IsTable l.table.now → row_length (lifted_checks l) k ≤ 68
+degree_short l k table = omega (arith, rows_short l.table.now l.plan.graph (k / l.plan.z) table, length-map (row_of (entries_in l.plan.graph l.table.now) (k / l.plan.z)) (λ (e : Entry). one_at l.plan.z (k % l.plan.z) e.col (value_in l.plan.set e)))
+
+pub few_pairs : (l : Lifted) → IsTable l.table.now → 4 * all_pairs (lifted_checks l) + 4 < 2 ^ 64
+unfolding all_pairs
+few_pairs l table =
+    let most = sum_below-most (row_length (lifted_checks l)) 68 (rows_of l.plan.graph * l.plan.z) (λ k lt. degree_short l k table) in
+    let size : rows_of l.plan.graph * l.plan.z ≤ 46 * 384 = mul-le (rows_of l.plan.graph) l.plan.z 46 384 (rows_most l.plan.graph) l.plan.sound.size_most in
+    omega arith
+
+pub few_operations : (l : Lifted) → IsTable l.table.now → 16 * all_pairs (lifted_checks l) + (lifted_checks l).rows + 4 < 2 ^ 62
+unfolding all_pairs
+few_operations l table =
+    let most = sum_below-most (row_length (lifted_checks l)) 68 (rows_of l.plan.graph * l.plan.z) (λ k lt. degree_short l k table) in
+    let size : rows_of l.plan.graph * l.plan.z ≤ 46 * 384 = mul-le (rows_of l.plan.graph) l.plan.z 46 384 (rows_most l.plan.graph) l.plan.sound.size_most in
+    omega (arith, rows_most l.plan.graph)
+
+pub count_all : (p : ℕ → Bool) (xs : List ℕ) → ((x : ℕ) → p x ≡ false) → count_by (λ x. not (p x)) xs ≡ length xs
+count_all p xs none = omega (arith, count_both p xs, no_one xs)
+  where
+    no_one : (xs : List ℕ) → count_by p xs ≡ 0
+    no_one [] = refl
+    no_one (x ∷ xs) = count_no p x xs (none x) ∙ no_one xs

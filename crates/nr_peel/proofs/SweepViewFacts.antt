@@ -1,0 +1,64 @@
+-- What is true of every peeler that peels by lanes.
+use Rattle.std.proofs.Common.{◌≡◌, ◌≢◌, ℕ, ◌+◌, ◌*◌, ◌<◌, ◌&&◌, Bool, true, false, not, List, refl, sym, ap, ◌∙◌, arith}
+use Rattle.std.specs.Prelude.{count_by, slice_index}
+use Rattle.std.proofs.lemmas.Bool.{or_left}
+use Rattle.nr_bitvec.specs.Bit.{bit}
+use Rattle.nr_segment.specs.CodeBlock.{numbers}
+use Rattle.nr_ldpcenc.specs.Rows.{Checks}
+use Rattle.nr_peel.specs.Closure.{AreSound, Within, closure}
+use Rattle.nr_peel.specs.Certificates.{is_fixed_by}
+use Rattle.nr_peel.specs.Peeling.{IsPeeled}
+use Rattle.nr_peel.specs.Settled.{HasNonePending, Reaches}
+use Rattle.nr_peel.specs.StateInside.{lifted_checks}
+use Rattle.nr_peel.specs.Sweeps.{CountsOf, counted_in}
+use Rattle.nr_peel.specs.Swept.{IsSettledSweep, sweep_view}
+use Rattle.nr_peel.specs.declared.bit_parallel.lanes.Lanes.{Lanes}
+use Rattle.nr_peel.specs.declared.lifted.Lifted.{Lifted}
+use Rattle.nr_peel.specs.declared.bit_parallel.sweep.Sweep.{Sweep}
+use Rattle.nr_peel.proofs.CountedPairFacts.{pairs_and_counts, spent_known}
+use Rattle.nr_peel.proofs.TableGridFacts.{checks_sound}
+use Rattle.nr_peel.proofs.FixOrderFacts.{after_accepted, steps_stay}
+use Rattle.nr_peel.proofs.RowPositionFacts.{count_alike}
+use Rattle.nr_peel.proofs.CodewordFacts.{done_is_closure}
+
+-- where no position is fresh, the counts know of all that is known
+pub all_counted : (c : Checks) (s : Lanes) (counts : List ℕ) → HasNonePending s → CountsOf c (counted_in s) counts → CountsOf c (bit s.known.items) counts
+all_counted c s counts none counted i t block lane =
+    counted i t block lane ∙ count_alike (λ p. not (counted_in s p)) (λ p. not (bit s.known.items p)) (λ p. ap not (ap (λ b. bit s.known.items p && not b) (none p) ∙ plain (bit s.known.items p))) (c.row i t)
+  where
+    plain : (b : Bool) → (b && true) ≡ b
+    plain true = refl
+    plain false = refl
+
+-- what is known is the closure of what was given
+reached_closed : (c : Checks) (given : List Bool) (s : Sweep) → AreSound c → Reaches c (bit given) s.lanes → CountsOf c (bit s.lanes.known.items) s.counts.items
+    → ((k : ℕ) → slice_index s.counts.items k ≢ 1) → (p : ℕ) → bit s.lanes.known.items p ≡ closure c (bit given) p
+reached_closed c given s sound r counted settled = done_is_closure c (bit given) (bit s.lanes.known.items) sound up inside lacks
+  where
+    up : Within (bit given) (bit s.lanes.known.items)
+    up p h = r.reached p ∙ or_left (bit given p) (is_fixed_by s.lanes.order.items p) h
+
+    inside : Within (bit s.lanes.known.items) (closure c (bit given))
+    inside p h = steps_stay c (bit given) s.lanes.order.items sound p (after_accepted c (bit given) s.lanes.order.items p r.accepted ∙ sym (r.reached p) ∙ h)
+
+    lacks : (i t : ℕ) → i < c.rows → t < c.lanes → count_by (λ p. not (bit s.lanes.known.items p)) (c.row i t) ≢ 1
+    lacks i t block lane one = settled (i * c.lanes + t) (counted i t block lane ∙ one)
+
+pub sweep_peeled : (l : Lifted) (given : List Bool) (s : Sweep) → IsSettledSweep l given s → IsPeeled (sweep_view l given s)
+sweep_peeled l given s h =
+    let c = lifted_checks l in
+    let pos : 0 < l.plan.z = l.plan.sound.size_some in
+    let counted = all_counted c s.lanes s.counts.items h.none_pending h.held.counted in
+    let pairs = pairs_and_counts c s.lanes.known.items s.counts.items pos counted h.held.counts_long in
+    let spent = spent_known c s.lanes.known.items s.counts.items pos counted h.held.counts_long in
+    record {
+      given_long = h.given_long;
+      known_long = h.held.lanes.known_long;
+      bits_long = h.held.lanes.bits_long;
+      closed = reached_closed c given s (checks_sound l.table.now l.plan.graph (numbers l.plan) h.table pos) h.reaches counted h.settled;
+      accepted = h.reaches.accepted;
+      reached = h.reaches.reached;
+      visited = omega (arith, pairs, h.held.least);
+      seldom = omega (arith, pairs, spent, h.held.most);
+      worked = omega (arith, h.held.worked);
+    }

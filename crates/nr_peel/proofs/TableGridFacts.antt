@@ -1,0 +1,138 @@
+-- The entries of an accepted table: in range, and no column twice in a row; so the parity checks are sound.
+use Rattle.std.proofs.Common.{◌≡◌, ℕ, ◌+◌, ◌*◌, ◌/◌, ◌%◌, ◌<◌, ◌≤◌, ◌==◌, Bool, true, false, cond, List, [], ◌∷◌, length, map, refl, sym, ap, ◌∙◌, ⊎_elim, inl, inr, arith}
+use Rattle.std.specs.Prelude.{◌⊎◌, count_by, All}
+use Rattle.std.proofs.lemmas.Bool.{or_cases, eqb-true, eq-eqb, ne_eqb, false≢true}
+use Rattle.std.proofs.lemmas.List.Elements.{All-head, All-tail, All-filter, All-weaker}
+use Rattle.std.proofs.lemmas.Nat.{mod_below, div-mul-add, mod-mul-add}
+use Rattle.std.proofs.Math.Nat.{mul-le-mul_right}
+use Rattle.nr_graphpick.specs.declared.Graph.{Graph}
+use Rattle.nr_graphpick.specs.declared.Graph.TheVariants.{One, Two}
+use Rattle.nr_graphpick.specs.Graph.{rows_of, cols_of}
+use Rattle.nr_segment.specs.Plan.{Numbers}
+use Rattle.nr_shifttable.specs.declared.entry.Entry.{Entry}
+use Rattle.nr_shifttable.specs.Accepted.{Ascending, Entries, IsInRange, IsTable, entries_in, row_of}
+use Rattle.nr_shifttable.specs.Accepted as accepted
+use Rattle.nr_shifttable.specs.Tails.{value_in}
+use Rattle.nr_ldpcenc.specs.Rows.{block_checks, one_at}
+use Rattle.nr_peel.specs.Closure.{AreSound, stands, times_in}
+use Rattle.nr_peel.proofs.RowPositionFacts.{count_no, count_yes}
+
+-- entries of rows below `rows` and columns below `cols`, no column twice in a row
+pub record IsGrid (es : List Entry) (rows cols : ℕ) : Type 0 where
+  pub in_rows : All (λ e. e.row < rows) es
+  pub in_cols : All (λ e. e.col < cols) es
+  pub ascending : Ascending 0 es
+
+pub table_grid : (t : Entries) (g : Graph) → IsTable t → IsGrid (entries_in g t) (rows_of g) (cols_of g)
+table_grid t One table = record {
+  in_rows = All-weaker (IsInRange One) (λ e. e.row < 46) (λ e h. h.row) t.one table.one_in_range;
+  in_cols = All-weaker (IsInRange One) (λ e. e.col < 68) (λ e h. h.col) t.one table.one_in_range;
+  ascending = table.one;
+}
+table_grid t Two table = record {
+  in_rows = All-weaker (IsInRange Two) (λ e. e.row < 42) (λ e h. h.row) t.two table.two_in_range;
+  in_cols = All-weaker (IsInRange Two) (λ e. e.col < 52) (λ e h. h.col) t.two table.two_in_range;
+  ascending = table.two;
+}
+
+-- how often a column stands in a row
+abbrev pub columns_at : List Entry → ℕ → ℕ → ℕ
+columns_at es i j = count_by (λ e. e.col == j) (row_of es i)
+
+-- no entry of ascending entries stands below the least place
+none_below : (es : List Entry) (low i j : ℕ) → Ascending low es → 68 * i + j < low → columns_at es i j ≡ 0
+none_below [] low i j up lt = refl
+none_below (e ∷ es) low i j up lt = go (e.row == i) refl (none_below es (accepted.entry_place e + 1) i j up.2 (omega arith))
+  where
+    go : (b : Bool) → (e.row == i) ≡ b → columns_at es i j ≡ 0 → count_by (λ x. x.col == j) (cond b (e ∷ row_of es i) (row_of es i)) ≡ 0
+    go false f ih = ih
+    go true f ih = count_no (λ (x : Entry). x.col == j) e (row_of es i) (ne_eqb e.col j (λ same. absurd (omega (arith, eqb-true e.row i f)))) ∙ ih
+
+pub column_once : (es : List Entry) (low i j : ℕ) → Ascending low es → columns_at es i j ≤ 1
+column_once [] low i j up = omega arith
+column_once (e ∷ es) low i j up = go (e.row == i) refl (column_once es (accepted.entry_place e + 1) i j up.2)
+  where
+    go : (b : Bool) → (e.row == i) ≡ b → columns_at es i j ≤ 1 → count_by (λ x. x.col == j) (cond b (e ∷ row_of es i) (row_of es i)) ≤ 1
+    go false f ih = ih
+    go true f ih = here (e.col == j) refl
+      where
+        here : (b : Bool) → (e.col == j) ≡ b → count_by (λ x. x.col == j) (e ∷ row_of es i) ≤ 1
+        here false g = omega (arith, count_no (λ (x : Entry). x.col == j) e (row_of es i) g, ih)
+        here true g =
+            let none = none_below es (accepted.entry_place e + 1) i j up.2 (omega (arith, eqb-true e.row i f, eqb-true e.col j g)) in
+            omega (arith, count_yes (λ (x : Entry). x.col == j) e (row_of es i) g, none)
+
+-- A row has at most 68 entries: from place `low` on, as many as there are columns left.
+rows_short_from : (es : List Entry) (low i : ℕ) → Ascending low es → (length (row_of es i) ≡ 0) ⊎ (length (row_of es i) + low ≤ 68 * i + 68)
+rows_short_from [] low i up = inl refl
+rows_short_from (e ∷ es) low i up = go (e.row == i) refl (rows_short_from es (accepted.entry_place e + 1) i up.2)
+  where
+    go : (b : Bool) → (e.row == i) ≡ b → (length (row_of es i) ≡ 0) ⊎ (length (row_of es i) + (accepted.entry_place e + 1) ≤ 68 * i + 68)
+        → (length (cond b (e ∷ row_of es i) (row_of es i)) ≡ 0) ⊎ (length (cond b (e ∷ row_of es i) (row_of es i)) + low ≤ 68 * i + 68)
+    go true f (inl none) = inr (omega (arith, eqb-true e.row i f))
+    go true f (inr some) = inr (omega arith)
+    go false f (inl none) = inl none
+    go false f (inr some) = inr (omega arith)
+
+-- what a row has from its own first place on
+rows_short_at : (es : List Entry) (low i : ℕ) → Ascending low es → length (row_of es i) ≤ 68
+rows_short_at [] low i up = omega arith
+rows_short_at (e ∷ es) low i up = go (e.row == i) refl (rows_short_at es (accepted.entry_place e + 1) i up.2) (rows_short_from es (accepted.entry_place e + 1) i up.2)
+  where
+    go : (b : Bool) → (e.row == i) ≡ b → length (row_of es i) ≤ 68 → (length (row_of es i) ≡ 0) ⊎ (length (row_of es i) + (accepted.entry_place e + 1) ≤ 68 * i + 68) → length (cond b (e ∷ row_of es i) (row_of es i)) ≤ 68
+    go true f le (inl none) = omega arith
+    go true f le (inr some) = omega (arith, eqb-true e.row i f)
+    go false f le rest = le
+
+pub rows_short : (t : Entries) (g : Graph) (i : ℕ) → IsTable t → length (row_of (entries_in g t) i) ≤ 68
+rows_short t g i table = rows_short_at (entries_in g t) 0 i (table_grid t g table).ascending
+
+-- the column and the lane of a place
+pub place_below : (z t col v cols : ℕ) → 0 < z → col < cols → one_at z t col v < cols * z
+place_below z t col v cols pos lt =
+    let near = mod_below (t + v % z) z pos in
+    let fits : (col + 1) * z ≤ cols * z = mul-le-mul_right z (omega arith) in
+    omega arith
+
+pub place_column : (z t col v : ℕ) → 0 < z → one_at z t col v / z ≡ col
+place_column z t col v pos = div-mul-add col z ((t + v % z) % z) (mod_below (t + v % z) z pos)
+
+pub place_lane : (z t col v : ℕ) → 0 < z → one_at z t col v % z ≡ (t + v % z) % z
+place_lane z t col v pos = mod-mul-add col z ((t + v % z) % z) (mod_below (t + v % z) z pos)
+
+-- a position stands in a row at most as often as its column
+times_le_columns : (set z t p : ℕ) → 0 < z → (es : List Entry) → times_in p (map (λ e. one_at z t e.col (value_in set e)) es) ≤ count_by (λ e. e.col == p / z) es
+times_le_columns set z t p pos [] = omega arith
+times_le_columns set z t p pos (e ∷ es) = go (one_at z t e.col (value_in set e) == p) refl (times_le_columns set z t p pos es)
+  where
+    ps : List ℕ
+    ps = map (λ e. one_at z t e.col (value_in set e)) es
+
+    at : ℕ
+    at = one_at z t e.col (value_in set e)
+
+    go : (b : Bool) → (at == p) ≡ b → times_in p ps ≤ count_by (λ e. e.col == p / z) es → times_in p (at ∷ ps) ≤ count_by (λ e. e.col == p / z) (e ∷ es)
+    go true h ih =
+        let same : e.col ≡ p / z = sym (place_column z t e.col (value_in set e) pos) ∙ ap (λ q. q / z) (eqb-true at p h) in
+        omega (arith, count_yes (λ q. q == p) at ps h, count_yes (λ (x : Entry). x.col == p / z) e es (eq-eqb e.col (p / z) same), ih)
+    go false h ih = other (e.col == p / z) refl
+      where
+        other : (b : Bool) → (e.col == p / z) ≡ b → times_in p (at ∷ ps) ≤ count_by (λ e. e.col == p / z) (e ∷ es)
+        other true k = omega (arith, count_no (λ q. q == p) at ps h, count_yes (λ (x : Entry). x.col == p / z) e es k, ih)
+        other false k = omega (arith, count_no (λ q. q == p) at ps h, count_no (λ (x : Entry). x.col == p / z) e es k, ih)
+
+stands_below : (set z t cols p : ℕ) → 0 < z → (es : List Entry) → All (λ e. e.col < cols) es → stands p (map (λ e. one_at z t e.col (value_in set e)) es) ≡ true → p < cols * z
+stands_below set z t cols p pos [] all h = absurd (false≢true h)
+stands_below set z t cols p pos (e ∷ es) all h = ⊎_elim
+    (λ q. let at = place_below z t e.col (value_in set e) cols pos (All-head (λ e. e.col < cols) e es all) in omega (arith, eqb-true (one_at z t e.col (value_in set e)) p q))
+    (λ q. stands_below set z t cols p pos es (All-tail (λ e. e.col < cols) e es all) q)
+    (or_cases (one_at z t e.col (value_in set e) == p) (stands p (map (λ e. one_at z t e.col (value_in set e)) es)) h)
+
+pub checks_sound : (t : Entries) (g : Graph) (p : Numbers) → IsTable t → 0 < p.z → AreSound (block_checks t g p)
+checks_sound t g p table pos =
+    let grid = table_grid t g table in
+    let es = entries_in g t in
+    record {
+      in_range = λ i l q li ll h. stands_below p.set p.z l (cols_of g) q pos (row_of es i) (All-filter (λ e. e.row == i) (λ e. e.col < cols_of g) es grid.in_cols) h;
+      distinct = λ i l li ll q. omega (arith, times_le_columns p.set p.z l q pos (row_of es i), column_once es 0 i (q / p.z) grid.ascending);
+    }

@@ -1,0 +1,89 @@
+-- Runs of a buffer's places: which positions they are, and that the bits there are those selected.
+use Rattle.std.proofs.Common.{◌≡◌, ℕ, ◌+◌, ◌-◌, ◌*◌, ◌%◌, ◌<◌, ◌≤◌, inl, inr, Bool, false, List, ◌++◌, length, map, take, drop, sym, ap, ◌∙◌, arith, length-append, length-take, length-drop, get_or-take, get_or-drop}
+use Rattle.std.specs.List.{range_with_len}
+use Rattle.std.proofs.Math.Nat.{add-mod-mod, mod-add-mod, mod-eq_of_lt}
+use Rattle.std.proofs.lemmas.Bool.{cases_lt}
+use Rattle.std.proofs.lemmas.List.{append-nil, append_assoc, get_or_append_left, get_or-append_right}
+use Rattle.std.proofs.lemmas.List.FromFn.{length-map-range_with_len, get_or-map-range_with_len}
+use Rattle.nr_bitvec.specs.Bit.{bit}
+use Rattle.nr_bitvec.proofs.PlaceFacts.{same_from_bits}
+use Rattle.nr_graphpick.specs.Graph.{cols_of}
+use Rattle.nr_ratematch.specs.Places.{GivesPlaces}
+use Rattle.nr_ratematch.specs.Rounds.{index_of}
+use Rattle.nr_ratematch.specs.Selection.{Circular, IsSent, place_of, selected}
+use Rattle.nr_ratematch.specs.declared.round.BufferCycle.{BufferCycle}
+
+-- n places further round
+pub turned-more : (first k n count : ℕ) → (first + (k + n) % count) % count ≡ ((first + k % count) % count + n) % count
+turned-more first k n count =
+    let split : first + (k + n) ≡ first + n + k = omega arith in
+    let joined : first + n + k % count ≡ first + k % count + n = omega arith in
+    add-mod-mod first (k + n) count ∙ ap (λ m. m % count) split ∙ sym (add-mod-mod (first + n) k count) ∙ ap (λ m. m % count) joined ∙ sym (mod-add-mod (first + k % count) count n)
+
+-- the place after a run
+pub turned-next : (first k n count at next : ℕ) → at ≡ (first + k % count) % count → next ≡ (at + n) % count → next ≡ (first + (k + n) % count) % count
+turned-next first k n count at next here after =
+    after ∙ ap (λ m. (m + n) % count) here ∙ sym (turned-more first k n count)
+
+-- no bit is selected yet
+pub selected-none : (b : Circular) (word old : List Bool) (rv : ℕ) → old ≡ old ++ selected b word rv 0
+unfolding selected
+selected-none b word old rv = sym (append-nil old)
+
+-- n bits from bit k on are selected from positions of a word that stand one after another
+pub record IsRun (b : Circular) (word : List Bool) (rv k n position : ℕ) : Type 0 where
+  pub places : (j : ℕ) → j < n → place_of b rv (k + j) ≡ position + j
+  pub inside : position + n ≤ length word
+
+-- the positions of a round's places
+pub run-places : (round : BufferCycle) (b : Circular) (rv at k n position : ℕ) → GivesPlaces round b rv → at ≡ (round.first + k % round.count) % round.count → at + n ≤ round.count
+    → ((j : ℕ) → j < n → index_of round.front round.skip (at + j) + round.punctured ≡ position + j) → (j : ℕ) → j < n → place_of b rv (k + j) ≡ position + j
+run-places round b rv at k n position gives here inside places j below =
+    let turned : (round.first + (k + j) % round.count) % round.count ≡ at + j =
+    turned-more round.first k j round.count ∙ ap (λ m. (m + j) % round.count) (sym here) ∙ mod-eq_of_lt (omega (arith, inside, below)) in
+    sym (gives (k + j)) ∙ ap (λ i. index_of round.front round.skip i + round.punctured) turned ∙ places j below
+
+-- they are positions of the codeword
+pub run-inside : (b : Circular) (rv k n position long : ℕ) → 0 < n → ((m : ℕ) → IsSent b (place_of b rv m)) → long ≡ cols_of b.graph * b.z
+    → ((j : ℕ) → j < n → place_of b rv (k + j) ≡ position + j) → position + n ≤ long
+run-inside b rv k n position long some sent e places =
+    let coded : place_of b rv (k + (n - 1)) < cols_of b.graph * b.z = (sent (k + (n - 1))).coded in
+    let last : place_of b rv (k + (n - 1)) ≡ position + (n - 1) = places (n - 1) (omega (arith, some)) in
+    omega (arith, some, coded, last, e)
+
+-- a round's run, or the first part of one
+pub run-is : (round : BufferCycle) (b : Circular) (word : List Bool) (rv at k most n position : ℕ) → 0 < n → n ≤ most → GivesPlaces round b rv → ((m : ℕ) → IsSent b (place_of b rv m))
+    → length word ≡ cols_of b.graph * b.z → at ≡ (round.first + k % round.count) % round.count → at + most ≤ round.count
+    → ((j : ℕ) → j < most → index_of round.front round.skip (at + j) + round.punctured ≡ position + j) → IsRun b word rv k n position
+run-is round b word rv at k most n position some few gives sent long here inside places =
+    let same : (j : ℕ) → j < n → place_of b rv (k + j) ≡ position + j = run-places round b rv at k n position gives here (omega (arith, few, inside)) (λ j below. places j (omega (arith, few, below))) in
+    record { places = same; inside = run-inside b rv k n position (length word) some sent long same }
+
+-- the bits of a run are those at its positions
+selected-run : (b : Circular) (word : List Bool) (rv k n position : ℕ) → IsRun b word rv k n position
+    → selected b word rv (k + n) ≡ selected b word rv k ++ take n (drop position word)
+unfolding selected
+selected-run b word rv k n position run =
+    let inside = run.inside in
+    let at : ℕ → Bool = λ i. bit word (place_of b rv i) in
+    let before : List Bool = map at (range_with_len 0 k) in
+    let part : List Bool = take n (drop position word) in
+    let long : length (map at (range_with_len 0 (k + n))) ≡ k + n = length-map-range_with_len at 0 (k + n) in
+    let before_long : length (map at (range_with_len 0 k)) ≡ k = length-map-range_with_len at 0 k in
+    same_from_bits (map at (range_with_len 0 (k + n))) (before ++ part)
+    (omega (arith, long, before_long, length-append before part, length-take n (drop position word), length-drop position word, inside))
+    (λ i h.
+    let below : i < k + n = omega (arith, h, long) in
+    get_or-map-range_with_len at 0 (k + n) i i false below (omega arith) ∙ elim (cases_lt i k) [
+      | inl low ↦ sym (get_or_append_left before part false i (omega (arith, low, before_long)) ∙ get_or-map-range_with_len at 0 k i i false low (omega arith))
+      | inr high ↦
+          let e : k + (i - k) ≡ i = omega (arith, high) in
+          ap at (sym e) ∙ ap (bit word) (run.places (i - k) (omega (arith, high, below)))
+          ∙ sym (get_or-append_right before part k i false before_long high ∙ get_or-take n (drop position word) (i - k) false (omega (arith, high, below)) ∙ get_or-drop position word (i - k) false)
+    ])
+
+-- a run more
+pub run_more : (b : Circular) (word old items new : List Bool) (rv k n position : ℕ) → items ≡ old ++ selected b word rv k → new ≡ items ++ take n (drop position word)
+    → IsRun b word rv k n position → new ≡ old ++ selected b word rv (k + n)
+run_more b word old items new rv k n position taken put run =
+    put ∙ ap (λ l. l ++ take n (drop position word)) taken ∙ append_assoc old (selected b word rv k) (take n (drop position word)) ∙ ap (λ l. old ++ l) (sym (selected-run b word rv k n position run))

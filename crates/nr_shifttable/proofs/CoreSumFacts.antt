@@ -1,0 +1,65 @@
+-- Equal shifts cancel: the four core rows add up to one rotated first parity column.
+use Rattle.std.proofs.Common.{◌≡◌, ℕ, ◌+◌, ◌==◌, ◌%◌, Bool, true, false, ◌⊎◌, inl, inr, List, ap, refl, ◌∙◌, arith}
+use Rattle.std.proofs.lemmas.Bool.{eqb-true}
+use Rattle.std.proofs.lemmas.Bool.Decides.{nat_tests}
+use Rattle.nr_graphpick.specs.Graph.{info_cols_of}
+use Rattle.nr_shifttable.specs.declared.entry.Entry.{Entry}
+use Rattle.nr_shifttable.specs.Accepted.{entries_in}
+use Rattle.nr_shifttable.specs.Tails.{HasCore, HasMiddle}
+use Rattle.nr_shifttable.specs.CoreRows.{plus, cells_sum, core_cells, third_of, CoreRowsAddUp}
+use Rattle.nr_shifttable.proofs.ParityShapeFacts.{accepted-has_shape}
+
+-- of three bits two of which are equal, the third is the sum
+third-sum : (f : ℕ → Bool) (a b c : ℕ) → (a ≡ b) ⊎ ((b ≡ c) ⊎ (a ≡ c)) → plus (f a) (plus (f b) (f c)) ≡ f (third_of a b c)
+third-sum f a b c two = by_tests (a == b) (a == c) refl refl
+  where
+    cancel_first : (x y z : Bool) → x ≡ y → plus x (plus y z) ≡ z
+    cancel_first x y z e = grind arith
+
+    cancel_outer : (x y z : Bool) → x ≡ z → plus x (plus y z) ≡ y
+    cancel_outer x y z e = grind arith
+
+    cancel_last : (x y z : Bool) → y ≡ z → plus x (plus y z) ≡ x
+    cancel_last x y z e = grind arith
+
+    differ : (x y : ℕ) → x ≡ y → (x == y) ≡ false → ⊥
+    differ x y e h = grind (arith, nat_tests)
+
+    last_agree : (a ≡ b) ⊎ ((b ≡ c) ⊎ (a ≡ c)) → (a == b) ≡ false → (a == c) ≡ false → b ≡ c
+    last_agree (inl e) h k = absurd (differ a b e h)
+    last_agree (inr (inl e)) h k = e
+    last_agree (inr (inr e)) h k = absurd (differ a c e k)
+
+    by_tests : (x y : Bool) → (a == b) ≡ x → (a == c) ≡ y → plus (f a) (plus (f b) (f c)) ≡ f (third_of a b c)
+    by_tests true y h k = rw h (cancel_first (f a) (f b) (f c) (ap f (eqb-true a b h)))
+    by_tests false true h k = rw (h, k) (cancel_outer (f a) (f b) (f c) (ap f (eqb-true a c k)))
+    by_tests false false h k = rw (h, k) (cancel_last (f a) (f b) (f c) (ap f (last_agree two h k)))
+
+-- the diagonal's zeros cancel, with the first parity column in row 1 or in row 2
+diagonal : (a b c p q r : Bool) → plus a (plus p (plus b (plus p (plus q (plus q (plus r (plus c (plus r false)))))))) ≡ plus a (plus b c)
+diagonal a b c p q r = grind arith
+
+diagonal_after : (a b c p q r : Bool) → plus a (plus p (plus p (plus q (plus b (plus q (plus r (plus c (plus r false)))))))) ≡ plus a (plus b c)
+diagonal_after a b c p q r = grind arith
+
+core-sum : (es : List Entry) (set n a b c : ℕ) → HasCore es set n a b c → (z : ℕ) (bit : ℕ → ℕ → Bool) → cells_sum z bit (core_cells es set n) ≡ bit n (third_of a b c % z)
+core-sum es set n a b c core z bit = by_middle core.middle ∙ third-sum (λ v. bit n (v % z)) a b c core.two_agree
+  where
+    by_middle : HasMiddle es set n b → cells_sum z bit (core_cells es set n) ≡ plus (bit n (a % z)) (plus (bit n (b % z)) (bit n (c % z)))
+    by_middle (inl rows) =
+        rw (core.first, rows.0, rows.1, core.last)
+        (diagonal (bit n (a % z)) (bit n (b % z)) (bit n (c % z)) (bit (n + 1) (0 % z)) (bit (n + 2) (0 % z)) (bit (n + 3) (0 % z)))
+    by_middle (inr rows) =
+        rw (core.first, rows.0, rows.1, core.last)
+        (diagonal_after (bit n (a % z)) (bit n (b % z)) (bit n (c % z)) (bit (n + 1) (0 % z)) (bit (n + 2) (0 % z)) (bit (n + 3) (0 % z)))
+
+pub core_rows-add_up : CoreRowsAddUp
+core_rows-add_up t graph set table some small =
+    let shape = accepted-has_shape t graph set table some small in
+    record {
+      first = shape.first;
+      middle = shape.middle;
+      last = shape.last;
+      core = shape.core;
+      sum = core-sum (entries_in graph t) set (info_cols_of graph) shape.first shape.middle shape.last shape.core;
+    }

@@ -1,0 +1,339 @@
+-- Items in ascending order are the items of their table, and entries that a caller kept say what their items say.
+use Rattle.std.proofs.Common.{◌≡◌, ℕ, zero, suc, ◌+◌, ◌-◌, ◌*◌, ◌<◌, ◌≤◌, ◌==◌, nat_lt, Bool, true, false, cond, not, ◌&&◌, ◌||◌, List, [], ◌∷◌, ◌++◌, length, get_or, take, drop, map, refl, sym, ap, subst, ◌∙◌, append_assoc, arith}
+use Rattle.std.specs.Prelude.{Result, Ok, Err}
+use Rattle.std.specs.List.{All, filter, fold}
+use Rattle.std.specs.List.Sorted.{IsPartitionedBy, IsPartitionPoint}
+use Rattle.std.proofs.lemmas.Bool.{eqb-true, ltb-true, ltb-false, lt-ltb, le-ltb}
+use Rattle.std.proofs.lemmas.List.{append-nil, get_or-map, length-map}
+use Rattle.std.proofs.lemmas.List.Elements.{All-nil, All-cons, All-head, All-tail, All-push, All-weaker}
+use Rattle.nr_graphpick.specs.declared.Graph.{Graph}
+use Rattle.nr_graphpick.specs.declared.Graph.TheVariants.{One, Two}
+use Rattle.nr_graphpick.specs.Graph.{rows_of, cols_of}
+use Rattle.nr_shifttable.specs.declared.entry.Entry.{Entry}
+use Rattle.nr_shifttable.specs.declared.entry.Item.{Item}
+use Rattle.nr_shifttable.specs.declared.entry.KeptEntry.{KeptEntry}
+use Rattle.nr_shifttable.specs.declared.fault.TableFault.{TableFault}
+use Rattle.nr_shifttable.specs.declared.fault.TableFault.TheVariants.{Empty}
+use Rattle.nr_shifttable.specs.declared.fault.EntriesFault.TheVariants as fault
+use Rattle.nr_shifttable.specs.Accepted.{Entries, entry_place, with_entry, entries_for, table_of, Ascending, IsInRange, graph_checked, accepted, IsTable}
+use Rattle.nr_shifttable.specs.Items.{graph_eq}
+use Rattle.nr_shifttable.specs.Listed.{item_key, is_of_graph, graph_number, kept_of, names_graph, item_kept, is_placed, places_from, places_said, entries_said, item_in_graph, items_listed, kept_listed}
+use Rattle.nr_shifttable.specs.Orders.{key_of}
+use Rattle.nr_refusal.specs.Refusal.{◌>>=◌}
+use Rattle.nr_shifttable.proofs.ItemLaws.{both-true}
+use Rattle.nr_shifttable.proofs.SliceFacts.{filter_within}
+
+-- each item is within its base graph and past those before it, and the first is not below `past`
+abbrev pub Ascend : ℕ → List Item → Type 0
+Ascend past [] = Unit {0}
+Ascend past (x ∷ xs) = (is_of_graph x ≡ true) × (past ≤ item_key x) × Ascend (item_key x + 1) xs
+
+-- so it is where nothing is said against the places of entries, and only there
+pub said-ascend : (k past : ℕ) (es : List KeptEntry) → places_from k past es ≡ Ok tt → Ascend past (map item_kept es)
+unfolding places_from
+said-ascend k past [] said = tt
+said-ascend k past (e ∷ es) said = by (is_placed e) (nat_lt (item_key (item_kept e)) past) refl refl said (said-ascend (k + 1) (item_key (item_kept e) + 1) es)
+  where
+    by : (within below : Bool) → is_placed e ≡ within → nat_lt (item_key (item_kept e)) past ≡ below
+        → cond (not within) (Err (fault.Range k)) (cond below (Err (fault.Order k)) (places_from (k + 1) (item_key (item_kept e) + 1) es)) ≡ Ok tt
+        → (places_from (k + 1) (item_key (item_kept e) + 1) es ≡ Ok tt → Ascend (item_key (item_kept e) + 1) (map item_kept es)) → Ascend past (item_kept e ∷ map item_kept es)
+    by false below a b said next = cc said
+    by true true a b said next = cc said
+    by true false a b said next = ((both-true (names_graph e) (is_of_graph (item_kept e)) a).1, ltb-false (item_key (item_kept e)) past b, next said)
+
+pub ascend-said : (k past : ℕ) (items : List Item) → Ascend past items → places_from k past (map kept_of items) ≡ Ok tt
+unfolding places_from
+ascend-said k past [] up = refl
+ascend-said k past (x ∷ xs) up = by x.graph x.entry up (ascend-said (k + 1) (item_key x + 1) xs up.2)
+  where
+    by : (g : Graph) (e : Entry) → Ascend past (record { graph = g; entry = e } ∷ xs) → places_from (k + 1) (key_of g e.row e.col + 1) (map kept_of xs) ≡ Ok tt
+        → places_from k past (kept_of (record { graph = g; entry = e }) ∷ map kept_of xs) ≡ Ok tt
+    by One e up rest = let above = le-ltb (key_of One e.row e.col) past up.1 in rw (up.0, above) rest
+    by Two e up rest = let above = le-ltb (key_of Two e.row e.col) past up.1 in rw (up.0, above) rest
+
+-- An item is that of what is kept of it. What is kept is that of its item, where its base graph is 1 or 2.
+item-back : (g : Graph) (e : Entry) → item_kept (kept_of (record { graph = g; entry = e })) ≡ record { graph = g; entry = e }
+item-back One e = refl
+item-back Two e = refl
+
+pub items-back : (xs : List Item) → map item_kept (map kept_of xs) ≡ xs
+items-back [] = refl
+items-back (x ∷ xs) =
+    let first : item_kept (kept_of x) ≡ x = item-back x.graph x.entry in
+    let rest : map item_kept (map kept_of xs) ≡ xs = items-back xs in
+    cc
+
+kept-back : (e : KeptEntry) → names_graph e ≡ true → kept_of (item_kept e) ≡ e
+kept-back e has = ap numbered (number (e.graph == 1) (e.graph == 2) refl refl has)
+  where
+    numbered : ℕ → KeptEntry
+    numbered = λ g. record { graph = g; entry = e.entry }
+
+    number : (one two : Bool) → (e.graph == 1) ≡ one → (e.graph == 2) ≡ two → (one || two) ≡ true → graph_number (cond one One Two) ≡ e.graph
+    number true two a b has = sym (eqb-true e.graph 1 a)
+    number false true a b has = sym (eqb-true e.graph 2 b)
+    number false false a b has = cc has
+
+all-back : (k past : ℕ) (es : List KeptEntry) → places_from k past es ≡ Ok tt → map kept_of (map item_kept es) ≡ es
+unfolding places_from
+all-back k past [] said = refl
+all-back k past (e ∷ es) said = by (is_placed e) (nat_lt (item_key (item_kept e)) past) refl said (all-back (k + 1) (item_key (item_kept e) + 1) es)
+  where
+    by : (within below : Bool) → is_placed e ≡ within
+        → cond (not within) (Err (fault.Range k)) (cond below (Err (fault.Order k)) (places_from (k + 1) (item_key (item_kept e) + 1) es)) ≡ Ok tt
+        → (places_from (k + 1) (item_key (item_kept e) + 1) es ≡ Ok tt → map kept_of (map item_kept es) ≡ es) → kept_of (item_kept e) ∷ map kept_of (map item_kept es) ≡ e ∷ es
+    by false below a said next = cc said
+    by true true a said next = cc said
+    by true false a said next =
+        let first : kept_of (item_kept e) ≡ e = kept-back e (both-true (names_graph e) (is_of_graph (item_kept e)) a).0 in
+        let rest : map kept_of (map item_kept es) ≡ es = next said in
+        cc
+
+-- an insertion past all entries goes behind them
+with_entry-last : (acc : List Entry) (e : Entry) → All (λ x. entry_place x < entry_place e) acc → with_entry acc e ≡ acc ++ e ∷ []
+unfolding with_entry
+with_entry-last [] e before = refl
+with_entry-last (x ∷ xs) e before =
+    let first = lt-ltb (entry_place x) (entry_place e) (All-head (λ y. entry_place y < entry_place e) x xs before) in
+    rw first (ap (λ l. x ∷ l) (with_entry-last xs e (All-tail (λ y. entry_place y < entry_place e) x xs before)))
+
+fold-last : (low : ℕ) (acc es : List Entry) → All (λ x. entry_place x < low) acc → Ascending low es → fold with_entry acc es ≡ acc ++ es
+fold-last low acc [] before up = sym (append-nil acc)
+fold-last low acc (e ∷ es) before up =
+    let least = up.0 in
+    let Next : Entry → Type 0 = λ x. entry_place x < entry_place e + 1 in
+    let more : All Next (acc ++ e ∷ []) = All-push Next acc e (All-weaker (λ x. entry_place x < low) Next (λ x lt. omega arith) acc before) (omega arith) in
+    ap (λ l. fold with_entry l es) (with_entry-last acc e (All-weaker (λ x. entry_place x < low) (λ x. entry_place x < entry_place e) (λ x lt. omega arith) acc before))
+    ∙ fold-last (entry_place e + 1) (acc ++ e ∷ []) es more up.2 ∙ append_assoc acc (e ∷ []) es
+
+-- so ascending entries are what is made of them
+pub fold-same : (low : ℕ) (es : List Entry) → Ascending low es → fold with_entry [] es ≡ es
+fold-same low es up = fold-last low [] es (All-nil (λ x. entry_place x < low)) up
+
+-- the keys of base graph 1 are below those of base graph 2
+low-key : (r c : ℕ) → (nat_lt r 46 && nat_lt c 68) ≡ true → 68 * r + c < 4096
+low-key r c room =
+    let both = both-true (nat_lt r 46) (nat_lt c 68) room in
+    let a = ltb-true r 46 both.0 in
+    let b = ltb-true c 68 both.1 in
+    omega arith
+
+-- past them no item is one of it
+no-ones : (past : ℕ) (items : List Item) → Ascend past items → 4096 ≤ past → entries_for One items ≡ []
+no-ones past [] up far = refl
+no-ones past (x ∷ xs) up far = by x.graph x.entry up (let le = up.1 in no-ones (item_key x + 1) xs up.2 (omega arith))
+  where
+    by : (g : Graph) (e : Entry) → Ascend past (record { graph = g; entry = e } ∷ xs) → entries_for One xs ≡ [] → entries_for One (record { graph = g; entry = e } ∷ xs) ≡ []
+    by One e up next = let short = low-key e.row e.col up.0 in let le = up.1 in absurd (omega arith)
+    by Two e up next = next
+
+-- past them all items are of base graph 2, so no item of base graph 1 stands behind one of base graph 2
+all-twos : (past : ℕ) (items : List Item) → Ascend past items → 4096 ≤ past → All (λ x. graph_eq x.graph One ≡ false) items
+all-twos past [] up far = All-nil (λ x. graph_eq x.graph One ≡ false)
+all-twos past (x ∷ xs) up far = by x.graph x.entry up (let le = up.1 in all-twos (item_key x + 1) xs up.2 (omega arith))
+  where
+    IsTwo : Item → Type 0
+    IsTwo = λ x. graph_eq x.graph One ≡ false
+
+    by : (g : Graph) (e : Entry) → Ascend past (record { graph = g; entry = e } ∷ xs) → All IsTwo xs → All IsTwo (record { graph = g; entry = e } ∷ xs)
+    by One e up next = let short = low-key e.row e.col up.0 in let le = up.1 in absurd (omega arith)
+    by Two e up next = All-cons IsTwo (record { graph = Two; entry = e }) xs refl next
+
+pub ones-first : (past : ℕ) (items : List Item) → Ascend past items → IsPartitionedBy (λ x. graph_eq x.graph One) items
+ones-first past [] up = λ i j d le lt is. absurd (omega arith)
+ones-first past (x ∷ xs) up = by x.graph x.entry up (ones-first (item_key x + 1) xs up.2) (all-twos (item_key x + 1) xs up.2)
+  where
+    p : Item → Bool
+    p = λ x. graph_eq x.graph One
+
+    apart : true ≡ false → ⊥
+    apart e = cc
+
+    by : (g : Graph) (e : Entry) → Ascend past (record { graph = g; entry = e } ∷ xs) → IsPartitionedBy p xs → (4096 ≤ key_of g e.row e.col + 1 → All (λ x. p x ≡ false) xs)
+        → IsPartitionedBy p (record { graph = g; entry = e } ∷ xs)
+    by g e up rest twos zero zero d le lt is = is
+    by g e up rest twos (suc i) zero d le lt is = absurd (omega arith)
+    by g e up rest twos (suc i) (suc j) d le lt is = rest i j d (omega arith) (omega arith) is
+    by One e up rest twos zero (suc j) d le lt is = refl
+    by Two e up rest twos zero (suc j) d le lt is = let other = twos (omega arith) j d (omega arith) in absurd (apart (sym is ∙ other))
+
+-- entries that were kept are of base graph 1 by their number
+one-is : (e : KeptEntry) → graph_eq (item_kept e).graph One ≡ (e.graph == 1)
+one-is e = by (e.graph == 1)
+  where
+    by : (one : Bool) → graph_eq (cond one One Two) One ≡ one
+    by true = refl
+    by false = refl
+
+pub kept-ones-first : (es : List KeptEntry) → Ascend 0 (map item_kept es) → IsPartitionedBy (λ e. e.graph == 1) es
+kept-ones-first es up i j d le lt is =
+    let long = length-map es item_kept in
+    let here : i < length es = omega (arith, le, lt) in
+    sym (one-is (get_or es i d))
+    ∙ ap (λ x. graph_eq x.graph One) (sym (get_or-map item_kept es i d (item_kept d) here))
+    ∙ ones-first 0 (map item_kept es) up i j (item_kept d) le (omega (arith, lt, long))
+    (ap (λ x. graph_eq x.graph One) (get_or-map item_kept es j d (item_kept d) lt) ∙ one-is (get_or es j d) ∙ is)
+
+ones-of : (es : List KeptEntry) → entries_for One (map item_kept es) ≡ map (λ (e : KeptEntry). e.entry) (filter (λ e. e.graph == 1) es)
+ones-of [] = refl
+ones-of (e ∷ es) = by (e.graph == 1) (ones-of es)
+  where
+    by : (one : Bool) → entries_for One (map item_kept es) ≡ map (λ (e : KeptEntry). e.entry) (filter (λ x. x.graph == 1) es)
+        → map (λ i. i.entry) (cond (graph_eq (cond one One Two) One) (item_in_graph (cond one One Two) e.entry ∷ filter (λ x. graph_eq x.graph One) (map item_kept es)) (filter (λ x. graph_eq x.graph One) (map item_kept es)))
+        ≡ map (λ (e : KeptEntry). e.entry) (cond one (e ∷ filter (λ x. x.graph == 1) es) (filter (λ x. x.graph == 1) es))
+    by true rest = ap (λ l. e.entry ∷ l) rest
+    by false rest = rest
+
+twos-of : (es : List KeptEntry) → entries_for Two (map item_kept es) ≡ map (λ (e : KeptEntry). e.entry) (filter (λ e. not (e.graph == 1)) es)
+twos-of [] = refl
+twos-of (e ∷ es) = by (e.graph == 1) (twos-of es)
+  where
+    by : (one : Bool) → entries_for Two (map item_kept es) ≡ map (λ (e : KeptEntry). e.entry) (filter (λ x. not (x.graph == 1)) es)
+        → map (λ i. i.entry) (cond (graph_eq (cond one One Two) Two) (item_in_graph (cond one One Two) e.entry ∷ filter (λ x. graph_eq x.graph Two) (map item_kept es)) (filter (λ x. graph_eq x.graph Two) (map item_kept es)))
+        ≡ map (λ (e : KeptEntry). e.entry) (cond (not one) (e ∷ filter (λ x. not (x.graph == 1)) es) (filter (λ x. not (x.graph == 1)) es))
+    by true rest = rest
+    by false rest = ap (λ l. e.entry ∷ l) rest
+
+module _ (es : List KeptEntry) (k : ℕ) (within : k ≤ length es) (point : IsPartitionPoint (λ e. (e.graph == 1) ≡ true) (λ e. (e.graph == 1) ≡ false) es k) where
+  -- where those of base graph 1 end, the entries of both are parted
+  pub ones-are : map (λ (e : KeptEntry). e.entry) (take k es) ≡ entries_for One (map item_kept es)
+  ones-are =
+      let all : k ≡ k - 0 = omega arith in
+      ap (map (λ (e : KeptEntry). e.entry))
+      (ap (λ n. take n es) all ∙ filter_within (λ e. e.graph == 1) es 0 k (omega arith) within (λ i d a b. absurd (omega arith)) point.0 point.1)
+      ∙ sym (ones-of es)
+
+  pub twos-are : map (λ (e : KeptEntry). e.entry) (take (length es - k) (drop k es)) ≡ entries_for Two (map item_kept es)
+  twos-are = ap (map (λ (e : KeptEntry). e.entry))
+      (filter_within (λ e. not (e.graph == 1)) es k (length es) within (omega arith)
+      (λ i d a b. ap not (point.0 i d a b)) (λ i d a b. ap not (point.1 i d a b)) (λ i d a b. absurd (omega arith)))
+      ∙ sym (twos-of es)
+
+-- the entries of both base graphs, with their base graphs, are the items
+pub items-are : (past : ℕ) (items : List Item) → Ascend past items → map (item_in_graph One) (entries_for One items) ++ map (item_in_graph Two) (entries_for Two items) ≡ items
+items-are past [] up = refl
+items-are past (x ∷ xs) up = by x.graph x.entry up (items-are (item_key x + 1) xs up.2)
+  where
+    by : (g : Graph) (e : Entry) → Ascend past (record { graph = g; entry = e } ∷ xs) → map (item_in_graph One) (entries_for One xs) ++ map (item_in_graph Two) (entries_for Two xs) ≡ xs
+        → map (item_in_graph One) (entries_for One (record { graph = g; entry = e } ∷ xs)) ++ map (item_in_graph Two) (entries_for Two (record { graph = g; entry = e } ∷ xs)) ≡ record { graph = g; entry = e } ∷ xs
+    by One e up next = ap (λ l. item_in_graph One e ∷ l) next
+    by Two e up next =
+        let none = no-ones (4096 + 68 * e.row + e.col + 1) xs up.2 (omega arith) in
+        let twos : List Item = map (item_in_graph Two) (entries_for Two xs) in
+        ap (λ l. map (item_in_graph One) l ++ (item_in_graph Two e ∷ twos)) none
+        ∙ ap (λ l. item_in_graph Two e ∷ l) (ap (λ l. map (item_in_graph One) l ++ twos) (sym none) ∙ next)
+
+-- the entries that they give to each base graph ascend
+pub ones-ascend : (low past : ℕ) (items : List Item) → Ascend past items → low ≤ past → Ascending low (entries_for One items)
+ones-ascend low past [] up le = tt
+ones-ascend low past (x ∷ xs) up le = by x.graph x.entry up (λ l h. ones-ascend l (item_key x + 1) xs up.2 h) (no-ones (item_key x + 1) xs up.2)
+  where
+    by : (g : Graph) (e : Entry) → Ascend past (record { graph = g; entry = e } ∷ xs) → ((l : ℕ) → l ≤ key_of g e.row e.col + 1 → Ascending l (entries_for One xs))
+        → (4096 ≤ key_of g e.row e.col + 1 → entries_for One xs ≡ []) → Ascending low (entries_for One (record { graph = g; entry = e } ∷ xs))
+    by One e up next none = let first = up.1 in (omega arith, ltb-true e.col 68 (both-true (nat_lt e.row 46) (nat_lt e.col 68) up.0).1, next (entry_place e + 1) (omega arith))
+    by Two e up next none = subst (Ascending low) (sym (none (omega arith))) tt
+
+pub twos-ascend : (low past : ℕ) (items : List Item) → Ascend past items → low ≤ past - 4096 → Ascending low (entries_for Two items)
+twos-ascend low past [] up le = tt
+twos-ascend low past (x ∷ xs) up le =
+    let first = up.1 in
+    by x.graph x.entry up (twos-ascend low (item_key x + 1) xs up.2 (omega arith)) (λ h. twos-ascend (entry_place x.entry + 1) (item_key x + 1) xs up.2 h)
+  where
+    by : (g : Graph) (e : Entry) → Ascend past (record { graph = g; entry = e } ∷ xs) → Ascending low (entries_for Two xs)
+        → (entry_place e + 1 ≤ (key_of g e.row e.col + 1) - 4096 → Ascending (entry_place e + 1) (entries_for Two xs)) → Ascending low (entries_for Two (record { graph = g; entry = e } ∷ xs))
+    by One e up same next = same
+    by Two e up same next =
+        let first = up.1 in
+        let short = ltb-true e.col 52 (both-true (nat_lt e.row 42) (nat_lt e.col 52) up.0).1 in
+        (omega arith, omega arith, next (omega arith))
+
+-- so their table is these entries
+pub parted-table : (items : List Item) (one two : List Entry) → Ascend 0 items → one ≡ entries_for One items → two ≡ entries_for Two items → table_of items ≡ record { one = one; two = two }
+parted-table items one two up ones twos =
+    let ones' : fold with_entry [] (entries_for One items) ≡ one = fold-same 0 (entries_for One items) (ones-ascend 0 0 items up (omega arith)) ∙ sym ones in
+    let twos' : fold with_entry [] (entries_for Two items) ≡ two = fold-same 0 (entries_for Two items) (twos-ascend 0 0 items up (omega arith)) ∙ sym twos in
+    λ i. record { one = ones' i; two = twos' i }
+
+-- a table of items that ascend lists them
+pub ascend-listed : (items : List Item) → Ascend 0 items → items_listed (table_of items) ≡ items
+ascend-listed items up =
+    let ones = fold-same 0 (entries_for One items) (ones-ascend 0 0 items up (omega arith)) in
+    let twos = fold-same 0 (entries_for Two items) (twos-ascend 0 0 items up (omega arith)) in
+    ap (λ l. map (item_in_graph One) l ++ map (item_in_graph Two) (fold with_entry [] (entries_for Two items))) ones
+    ∙ ap (λ l. map (item_in_graph One) (entries_for One items) ++ map (item_in_graph Two) l) twos
+    ∙ items-are 0 items up
+
+-- what is accepted is what was judged
+accepted-same : (t u : Entries) → accepted t ≡ Ok u → t ≡ u
+unfolding accepted
+accepted-same t u e = by ((length t.one == 0) && (length t.two == 0)) (graph_checked One t.one) (graph_checked Two t.two) e
+  where
+    by : (none : Bool) (one two : Result (Unit {0}) TableFault) → cond none (Err Empty) (one >>= λ _. two >>= λ _. Ok t) ≡ Ok u → t ≡ u
+    by true one two e = cc e
+    by false (Err d) two e = cc e
+    by false (Ok x) (Err d) e = cc e
+    by false (Ok x) (Ok y) e = cc e
+
+pub kept-listed : (es : List KeptEntry) (t : Entries) → places_said es ≡ Ok tt → accepted (table_of (map item_kept es)) ≡ Ok t → kept_listed t ≡ es
+kept-listed es t said judged =
+    ap (map kept_of) (ap items_listed (sym (accepted-same (table_of (map item_kept es)) t judged)) ∙ ascend-listed (map item_kept es) (said-ascend 1 0 es said))
+    ∙ all-back 1 0 es said
+
+-- and back: the entries of a base graph in ascending order, with their base graph, ascend as items
+ascend-from : (low past : ℕ) (items : List Item) → low ≤ past → Ascend past items → Ascend low items
+ascend-from low past [] le up = tt
+ascend-from low past (x ∷ xs) le up = let first = up.1 in (up.0, omega arith, up.2)
+
+in-room : (g : Graph) (e : Entry) → IsInRange g e → is_of_graph (item_in_graph g e) ≡ true
+in-room g e inside = rw (lt-ltb e.row (rows_of g) inside.row, lt-ltb e.col (cols_of g) inside.col) refl
+
+twos-placed : (past low : ℕ) (es : List Entry) → past ≤ low + 4096 → Ascending low es → All (IsInRange Two) es → Ascend past (map (item_in_graph Two) es)
+twos-placed past low [] le up inside = tt
+twos-placed past low (e ∷ es) le up inside =
+    let first = up.0 in (
+      in-room Two e (All-head (IsInRange Two) e es inside),
+      omega arith,
+      twos-placed (item_key (item_in_graph Two e) + 1) (entry_place e + 1) es (omega arith) up.2 (All-tail (IsInRange Two) e es inside),
+    )
+
+ones-placed : (past low : ℕ) (es : List Entry) (rest : List Item) → past ≤ low → low ≤ 4096 → Ascending low es → All (IsInRange One) es → Ascend 4096 rest → Ascend past (map (item_in_graph One) es ++ rest)
+ones-placed past low [] rest le short up inside after = ascend-from past 4096 rest (omega arith) after
+ones-placed past low (e ∷ es) rest le short up inside after =
+    let first = up.0 in
+    let room = in-room One e (All-head (IsInRange One) e es inside) in
+    let below = low-key e.row e.col room in (
+      room,
+      omega arith,
+      ones-placed (item_key (item_in_graph One e) + 1) (entry_place e + 1) es rest (omega arith) (omega arith) up.2 (All-tail (IsInRange One) e es inside) after,
+    )
+
+listed-ascend : (t : Entries) → IsTable t → Ascend 0 (items_listed t)
+listed-ascend t table = ones-placed 0 0 t.one (map (item_in_graph Two) t.two) (omega arith) (omega arith) table.one table.one_in_range (twos-placed 4096 0 t.two (omega arith) table.two table.two_in_range)
+
+-- and give the entries to it again
+ones-of_twos : (es : List Entry) → entries_for One (map (item_in_graph Two) es) ≡ []
+ones-of_twos [] = refl
+ones-of_twos (e ∷ es) = ones-of_twos es
+
+twos-of_twos : (es : List Entry) → entries_for Two (map (item_in_graph Two) es) ≡ es
+twos-of_twos [] = refl
+twos-of_twos (e ∷ es) = ap (λ l. e ∷ l) (twos-of_twos es)
+
+ones-listed : (es fs : List Entry) → entries_for One (map (item_in_graph One) es ++ map (item_in_graph Two) fs) ≡ es
+ones-listed [] fs = ones-of_twos fs
+ones-listed (e ∷ es) fs = ap (λ l. e ∷ l) (ones-listed es fs)
+
+twos-listed : (es fs : List Entry) → entries_for Two (map (item_in_graph One) es ++ map (item_in_graph Two) fs) ≡ fs
+twos-listed [] fs = twos-of_twos fs
+twos-listed (e ∷ es) fs = twos-listed es fs
+
+-- so what a table lists is that table
+listed-table : (t : Entries) → IsTable t → table_of (items_listed t) ≡ t
+listed-table t table =
+    let ones = ap (fold with_entry []) (ones-listed t.one t.two) ∙ fold-same 0 t.one table.one in
+    let twos = ap (fold with_entry []) (twos-listed t.one t.two) ∙ fold-same 0 t.two table.two in
+    λ i. record { one = ones i; two = twos i }
+
+pub listed-kept : (t : Entries) → IsTable t → entries_said (kept_listed t) ≡ Ok t
+unfolding entries_said
+listed-kept t table = rw (ascend-said 1 0 (items_listed t) (listed-ascend t table), items-back (items_listed t), listed-table t table, table.accepted) refl
