@@ -8,14 +8,19 @@ ghost use Rattle.nr_harqbuf.specs.Masks.{says};
 ghost use Rattle.nr_blockdesk.specs.Inside.{bit_says};
 ghost use Rattle.nr_blockdesk.specs.Telling.{AreEmpty};
 
-use crate::selected::Selected;
 use crate::part_masks::PartMasks;
+use crate::selected::Selected;
 use nr_harqbuf::merge_word;
 use nr_ratematch::Buffer;
 
 // Puts together what the selected bits of a code block tell. Returns whether they tell no position both bits; where
 // they do, nothing is told.
-pub(crate) fn gather_part(buffer: &Buffer, rv: u32, selected: &Selected, part_masks: &mut PartMasks) -> bool
+pub(crate) fn gather_part(
+    buffer: &Buffer,
+    rv: u32,
+    selected: &Selected,
+    part_masks: &mut PartMasks,
+) -> bool
     requires version { rv < 4 }
     requires empty { AreEmpty (cols_of buffer.now.graph * buffer.now.z) part_masks.old }
     ensures part_masks { IsTrue result → (p : ℕ) (v : Bool) → says part_masks.new.heard.items part_masks.new.value.items p v
@@ -33,7 +38,14 @@ pub(crate) fn gather_part(buffer: &Buffer, rv: u32, selected: &Selected, part_ma
         let (at, wide) = (position as usize, run as usize);
         let now = selected.heard.window(k as usize);
         let bits = selected.value.window(k as usize);
-        one_bit &= merge_word(&mut part_masks.heard, &mut part_masks.value, at, wide, now, bits);
+        one_bit &= merge_word(
+            &mut part_masks.heard,
+            &mut part_masks.value,
+            at,
+            wide,
+            now,
+            bits,
+        );
         k += run;
     }
     if one_bit {

@@ -18,9 +18,9 @@ ghost use Rattle.nr_blockdesk.specs.Telling.{AreEmpty};
 
 use crate::gather_part::gather_part;
 use crate::part::Part;
+use crate::part_masks::PartMasks;
 use crate::selected::Selected;
 use crate::sender::judge;
-use crate::part_masks::PartMasks;
 use arrayvec::ArrayVec;
 use nr_bitvec::Bits;
 use nr_harqbuf::{Store, agrees, record_continues, record_merges};
@@ -93,7 +93,12 @@ fn hear_part(
 
 // Receives all that is told: what is told for the first time is learned at once. Returns whether each bit told is that
 // of `word`. Nothing is told then.
-fn absorb(part_masks: &mut PartMasks, store: &mut Store, peeler: &mut Peeler<'_>, word: &Word) -> bool
+fn absorb(
+    part_masks: &mut PartMasks,
+    store: &mut Store,
+    peeler: &mut Peeler<'_>,
+    word: &Word,
+) -> bool
     requires sized { IsSized (length part_masks.old.heard.items) store.old peeler.old }
     requires bits { length part_masks.old.value.items ≡ length part_masks.old.heard.items }
     ensures hears { (more : List Observation)
@@ -212,7 +217,9 @@ pub(crate) fn hear(
         };
         let store = &mut stores[r];
         let peeler = &mut peelers[r];
-        agreed &= hear_part(buffer, tx, &part, store, peeler, &words[r], part_masks, selected);
+        agreed &= hear_part(
+            buffer, tx, &part, store, peeler, &words[r], part_masks, selected,
+        );
         from += count;
     }
     agreed

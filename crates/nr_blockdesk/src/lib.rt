@@ -11,8 +11,8 @@
 #![tactic(auto)]
 
 mod candidate;
-mod gather_part;
 mod encoder;
+mod gather_part;
 mod heard;
 mod hearing;
 mod laws;
@@ -20,12 +20,12 @@ mod link;
 mod marks;
 mod outcome;
 mod part;
+mod part_masks;
 mod processes;
 mod receiver;
 mod receiver_laws;
 mod selected;
 mod sender;
-mod part_masks;
 
 pub use heard::Heard;
 pub use laws::{

@@ -54,7 +54,7 @@ fn write_coded(coded: &Coded, out: &mut [u8])
 }
 
 // The octet of a bit that the code block is encoded to.
-#[tactic(auto, using(crate::proofs::Columns::within))]
+#[tactic(auto, using(crate::proofs::ColumnFacts::within))]
 fn octet_at(coded: &Coded, n: usize) -> u8
     requires { n < coded.now.plan.n }
     ensures { result ≡ coded_octet (coded_of coded.now) n }

@@ -35,7 +35,7 @@ pub fn nr_cut(alloc: Global, rate2048: u32, block: &[u8], r: u32, out: &mut [u8]
 }
 
 // The plan by which code block `r` of so many octets is cut, or the first cause against it.
-#[tactic(auto, using(crate::proofs::Octets::too_long), unfolding(crate::specs::Cutting::cut_planned))]
+#[tactic(auto, using(crate::proofs::OctetCountFacts::too_long), unfolding(crate::specs::Cutting::cut_planned))]
 fn cut_plan(rate2048: u32, octets: usize, r: u32, room: usize) -> Result<Plan, Fault>
     ensures said { MatchResult result
         (λ plan. cut_planned rate2048 (8 * octets) r room ≡ Ok (planned plan))

@@ -60,7 +60,7 @@ fn write_encoded(coded: &Coded, octets: &[u8], out: &mut [u8])
 }
 
 // The octet of a bit of d.
-#[tactic(auto, using(crate::proofs::Columns::within))]
+#[tactic(auto, using(crate::proofs::ColumnFacts::within))]
 fn octet_at(coded: &Coded, octets: &[u8], n: usize) -> u8
     requires { n < coded.now.plan.n }
     ensures { result ≡ encoded_octet (encoded_of coded.now) octets.now n }

@@ -59,7 +59,7 @@ pub fn nr_receive(
 }
 
 // What is found, for so much room.
-#[tactic(auto, unfolding(crate::specs::ReceiverView::receive_into_said))]
+#[tactic(auto, unfolding(crate::specs::Receiving::receive_into_said))]
 fn receive(
     alloc: Global,
     table: &[NrEntry],
@@ -79,7 +79,7 @@ fn receive(
 }
 
 // What is found by a shift table. The room is judged before the receiver takes memory.
-#[tactic(auto, unfolding(crate::specs::ReceiverView::receive_by))]
+#[tactic(auto, unfolding(crate::specs::Receiving::receive_by))]
 fn receive_by(
     alloc: Global,
     table: &Table,

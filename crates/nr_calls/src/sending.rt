@@ -73,7 +73,7 @@ fn send_into(
 }
 
 // The bits of a transmission.
-#[tactic(auto, unfolding(crate::specs::SenderView::send_call_said))]
+#[tactic(auto, unfolding(crate::specs::Sending::send_call_said))]
 fn send(
     alloc: Global,
     table: &[NrEntry],
@@ -90,7 +90,7 @@ fn send(
 }
 
 // The bits of a transmission, by a shift table.
-#[tactic(auto, unfolding(crate::specs::SenderView::send_by))]
+#[tactic(auto, unfolding(crate::specs::Sending::send_by))]
 fn send_by(
     alloc: Global,
     table: &Table,

@@ -111,7 +111,11 @@ pub fn named(alloc: Global, places: &Places, count: u32) -> Result<Bits, AllocEr
     match places {
         Places::Nothing => Bits::zeros(alloc, count),
         Places::All => ones(alloc, count),
-        Places::Listed(list) if list.ranges().len() <= RANGES_BY_WORDS => ranged(alloc, list.ranges(), count),
+        Places::Listed(list) if list.ranges().len() <= RANGES_BY_WORDS => ranged(
+            alloc,
+            list.ranges(),
+            count,
+        ),
         Places::Listed(list) => {
             let marks = listed(alloc, list.ranges(), count)?;
             packed(alloc, &marks)

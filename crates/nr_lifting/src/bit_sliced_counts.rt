@@ -164,6 +164,12 @@ impl BitSlicedCounts {
         ensures lanes { self.new.lanes ≡ self.old.lanes }
     {
         let count = self.size.div_ceil(64);
-        lower_block(&mut self.blocks[i], count, marks.ring(j), self.size, rotation);
+        lower_block(
+            &mut self.blocks[i],
+            count,
+            marks.ring(j),
+            self.size,
+            rotation,
+        );
     }
 }

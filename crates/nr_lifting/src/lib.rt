@@ -10,18 +10,18 @@
 #![tactic(auto)]
 
 mod add;
+mod bit_sliced_counts;
 mod blocks;
+mod doubled_lanes;
 mod lane;
 mod lane_words;
-mod bit_sliced_counts;
-mod doubled_lanes;
 mod sizes;
 mod tally;
 mod with_size;
 
+pub use bit_sliced_counts::{BitSlicedCounts, lower_block, lower_word, ones_word};
 pub use blocks::{add_block, tally_block};
+pub use doubled_lanes::{DoubledLanes, join_ring, ring_word, rotate_lane};
 pub use lane::Lane;
 pub use lane_words::{add_lane, common, lane_count, without};
-pub use bit_sliced_counts::{BitSlicedCounts, lower_block, lower_word, ones_word};
-pub use doubled_lanes::{DoubledLanes, join_ring, ring_word, rotate_lane};
 pub use sizes::{SIZES, set_of, size_table, smallest};

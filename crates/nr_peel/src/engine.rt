@@ -17,10 +17,10 @@ ghost use Rattle.nr_peel.specs.Engine.{
 };
 ghost use Rattle.nr_peel.specs.EngineInside.{IsBegun, IsEngine, left_in};
 
-use crate::worklist::worklist_peeler::WorklistPeeler;
-use crate::fix::Fix;
 use crate::bit_parallel::sweep_peeler::SweepPeeler;
+use crate::fix::Fix;
 use crate::lifted::Lifted;
+use crate::worklist::worklist_peeler::WorklistPeeler;
 use nr_bitvec::Bits;
 use std::alloc::{AllocError, Global};
 

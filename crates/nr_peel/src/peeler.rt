@@ -25,9 +25,9 @@ ghost use Rattle.nr_peel.specs.Peeling.{
   unknown_in,
 };
 
+use crate::engine::Engine;
 use crate::fix::Fix;
 use crate::lifted::{Lifted, reciprocal};
-use crate::engine::Engine;
 use nr_bitvec::Bits;
 use nr_ldpcenc::EncFault;
 use nr_segment::Plan;

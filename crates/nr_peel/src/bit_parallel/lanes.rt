@@ -15,10 +15,10 @@ ghost use Rattle.nr_peel.specs.Starts.{AreBlank};
 ghost use Rattle.nr_peel.specs.StateInside.{lifted_checks};
 ghost use Rattle.nr_peel.specs.Sweeps.{AreLanes, CountsOf, IsBlockSought, counted_in, has_count};
 
-use crate::fix::Fix;
 use crate::bit_parallel::pending_marks::PendingMarks;
-use crate::lifted::Lifted;
 use crate::bit_parallel::row_counts::RowCounts;
+use crate::fix::Fix;
+use crate::lifted::Lifted;
 use nr_lifting::{DoubledLanes, common, lane_count, rotate_lane};
 use nr_shifttable::Entry;
 use std::alloc::{AllocError, Global};
@@ -79,7 +79,11 @@ fn placed(size: u32, col: u16, rotation: u32, lane: u32) -> u32
     ensures { result ≡ col * size + (lane + rotation) % size }
 {
     let rotated = lane + rotation;
-    let rotated = if rotated < size { rotated } else { rotated - size };
+    let rotated = if rotated < size {
+        rotated
+    } else {
+        rotated - size
+    };
     u32::from(col) * size + rotated
 }
 

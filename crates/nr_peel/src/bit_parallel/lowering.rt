@@ -6,14 +6,18 @@ ghost use Rattle.nr_shifttable.specs.Accepted.{IsTable};
 ghost use Rattle.nr_peel.specs.Due.{work_of};
 ghost use Rattle.nr_peel.specs.StateInside.{lifted_checks};
 
-use crate::bit_parallel::pending_marks::PendingMarks;
 use crate::bit_parallel::lanes::lower_column;
-use crate::lifted::Lifted;
+use crate::bit_parallel::pending_marks::PendingMarks;
 use crate::bit_parallel::row_counts::RowCounts;
+use crate::lifted::Lifted;
 
 // The count of each row falls by how many fresh positions the row has, which then are fresh no more. Tells how many
 // pairs there are of a row and a fresh position of it.
-pub(crate) fn lower_all(counts: &mut RowCounts, pending: &mut PendingMarks, lifted: &Lifted<'_>) -> u64
+pub(crate) fn lower_all(
+    counts: &mut RowCounts,
+    pending: &mut PendingMarks,
+    lifted: &Lifted<'_>,
+) -> u64
     requires table { IsTable lifted.now.table.now }
     requires counts_lanes { counts.old.lanes ≡ lifted.now.plan.z }
     requires counts_long { length counts.old.items

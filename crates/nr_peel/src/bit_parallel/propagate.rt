@@ -7,9 +7,9 @@ ghost use Rattle.nr_peel.specs.Settled.{CatchesUp, HasNonePending, IsHeld, Keeps
 ghost use Rattle.nr_peel.specs.StateInside.{lifted_checks};
 ghost use Rattle.nr_peel.specs.Sweeps.{AreLanes, CountsOf, counted_in};
 
-use crate::lifted::Lifted;
 use crate::bit_parallel::lowering::lower_all;
 use crate::bit_parallel::sweep::Sweep;
+use crate::lifted::Lifted;
 
 impl Sweep {
     // The counts fall by the fresh positions, which then are fresh no more.

@@ -9,8 +9,8 @@ ghost use Rattle.nr_peel.specs.StateInside.{lifted_checks};
 ghost use Rattle.nr_peel.specs.Sweeps.{AreLanes, AreSought, CountsOf, counted_in, has_count, searched_pairs};
 
 use crate::bit_parallel::lanes::Lanes;
-use crate::lifted::Lifted;
 use crate::bit_parallel::row_counts::RowCounts;
+use crate::lifted::Lifted;
 use nr_lifting::BitSlicedCounts;
 use std::alloc::{AllocError, Global};
 

@@ -10,8 +10,8 @@ ghost use Rattle.nr_peel.specs.Peeling.{bit_where, fillers, left_of};
 ghost use Rattle.nr_peel.specs.Settled.{HasNonePending, IsHeld, Keeps};
 ghost use Rattle.nr_peel.specs.StateInside.{lifted_checks};
 
-use crate::lifted::Lifted;
 use crate::bit_parallel::sweep::Sweep;
+use crate::lifted::Lifted;
 use nr_bitvec::Bits;
 use std::alloc::{AllocError, Global};
 

@@ -15,10 +15,10 @@ ghost use Rattle.nr_peel.specs.Peeling.{bit_where, unknown_in};
 ghost use Rattle.nr_peel.specs.StateInside.{lifted_checks};
 ghost use Rattle.nr_peel.specs.Taken.{TakesUp};
 
-use crate::worklist::counters::Counters;
-use crate::fix::Fix;
 use crate::bit_parallel::sweep_peeler::filler_marks;
+use crate::fix::Fix;
 use crate::lifted::Lifted;
+use crate::worklist::counters::Counters;
 use nr_bitvec::Bits;
 use nr_shifttable::Entry;
 use std::alloc::{AllocError, Global};
