@@ -1,5 +1,5 @@
-//! What a code block's part of a transmission tells, put together by words. It goes by runs of the circular buffer,
-//! whose places stand one after another in the codeword.
+//! What a code block's part of a transmission has, put together by words. It goes by runs of the circular buffer, whose
+//! places stand one after another in the codeword.
 
 ghost use Rattle.std.specs.Prelude.{◌≡◌, ℕ, ◌*◌, ◌<◌, length, IsFalse, IsTrue, Bool};
 ghost use Rattle.std.specs.List.{list_any, range_with_len};
@@ -13,8 +13,8 @@ use crate::selected::Selected;
 use nr_harqbuf::merge_word;
 use nr_ratematch::Buffer;
 
-// Puts together what the selected bits of a code block tell. Returns whether they tell no position both bits; where
-// they do, nothing is told.
+// Puts the selected bits of a code block into its masks. Returns whether they give no position both bits; where they do,
+// the masks are empty.
 pub(crate) fn gather_part(
     buffer: &Buffer,
     rv: u32,

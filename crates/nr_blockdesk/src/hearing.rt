@@ -1,5 +1,5 @@
-//! Receiving one transmission. What it tells of a code block is put together first, and then the store and the peeler
-//! receive all of it at once.
+//! Receiving one transmission. What it gives a code block is put together in two masks first. Then the store and the peeler
+//! take them at once.
 
 ghost use Rattle.std.specs.Prelude.{◌≡◌, ℕ, ◌*◌, ◌%◌, ◌^◌, ◌<◌, ◌≤◌, length, slice_index, slice_index_or, List, IfOk, MatchResult, Ok, Err};
 ghost use Rattle.nr_bitvec.specs.Bit.{bit};
@@ -91,8 +91,8 @@ fn hear_part(
     }
 }
 
-// Receives all that is told: what is told for the first time is learned at once. Returns whether each bit told is that
-// of `word`. Nothing is told then.
+// Takes the masks of a part into store and peeler: what was received for the first time is learned at once. Returns
+// whether each of their bits is that of `word`. The masks are empty then.
 fn absorb(
     part_masks: &mut PartMasks,
     store: &mut Store,
@@ -114,7 +114,7 @@ fn absorb(
     agreed
 }
 
-// Learns all that is told. Nothing is told then.
+// Learns the positions of the masks, which are empty then.
 fn learn_masks(part_masks: &mut PartMasks, peeler: &mut Peeler<'_>)
     requires heard { length part_masks.old.heard.items ≡ (checks_for peeler.old).size }
     requires bits { length part_masks.old.value.items ≡ length part_masks.old.heard.items }
@@ -131,7 +131,7 @@ fn learn_masks(part_masks: &mut PartMasks, peeler: &mut Peeler<'_>)
     part_masks.heard.zero();
 }
 
-// Receives a part place by place: what is received for the first time is told, and then learned at once.
+// Receives a part place by place: what is received for the first time is put into the masks, and then learned at once.
 fn hear_by_places(
     buffer: &Buffer,
     tx: &Tx,

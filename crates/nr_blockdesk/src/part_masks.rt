@@ -1,4 +1,4 @@
-//! What one transmission tells of a code block.
+//! What one transmission gives a code block.
 
 ghost use Rattle.std.specs.Prelude.{◌≡◌, ℕ, false, IfOk, IsTrue};
 ghost use Rattle.nr_bitvec.specs.Bit.{bit};
@@ -9,8 +9,8 @@ use nr_bitvec::Bits;
 use nr_segment::Plan;
 use std::alloc::{AllocError, Global};
 
-/// Which positions of a codeword are told, and their bits. Between code blocks none is told; the bits of positions that
-/// aren't are whatever they were.
+/// Which positions of a codeword a part of a transmission has, and their bits. Between code blocks there are none; the bits
+/// of the other positions are whatever they were.
 #[derive(Drop)]
 pub(crate) struct PartMasks {
     pub(crate) heard: Bits,
@@ -18,7 +18,7 @@ pub(crate) struct PartMasks {
 }
 
 impl PartMasks {
-    // The lists of a code block of this plan, of which nothing is told.
+    // Empty masks for a code block of this plan.
     pub(crate) fn new(alloc: Global, plan: &Plan) -> Result<PartMasks, AllocError>
         ensures { IfOk result (AreEmpty (positions_of plan.now)) }
     {
@@ -28,7 +28,7 @@ impl PartMasks {
         Ok(PartMasks { heard, value })
     }
 
-    // Whether no position is told.
+    // Whether there is no position.
     pub(crate) fn is_empty(&self) -> bool
         ensures { IsTrue result → (p : ℕ) → bit self.now.heard.items p ≡ false }
     {
