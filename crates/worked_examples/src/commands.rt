@@ -1,14 +1,35 @@
-//! A command over a text in memory, and a text over an output with little room. The texts of all commands, and what each
-//! end that breaks makes of them, stand in `tests/program_tests`.
+//! The five commands over texts in memory. The values are worked by hand. Under the practice table the word of block 01
+//! has 52 columns of four bits. The parity columns are sums and rotations of the information columns.
 
-ghost use Rattle.std.specs.Prelude.{◌<◌};
-
-use nr_commands::{RunFault, Tape, cut, put_all};
+use crate::ends::{Command, End, ended};
+use nr_commands::{RunFault, Tape, cut};
 use nr_segment::SegFault;
 use nr_shifttable::Feed;
 use nr_transmission::DeskFault;
 use std::alloc::{AllocError, Global};
 use std::test::Fail;
+
+/// Whether a command ends well under the practice table, and writes this text.
+fn writes(
+    alloc: Global,
+    command: Command,
+    blocks: &[u8],
+    schedule: &[u8],
+    text: &[u8],
+) -> Result<bool, AllocError> {
+    let (answer, _, tape) = ended(alloc, command, blocks, schedule, (End::Output, 0))?;
+    Ok(answer == Ok(()) && tape.bytes() == text)
+}
+
+/// What `cut` makes of block 01.
+pub(crate) const CUT_01: &[u8] =
+    b"block 1 a 8 b 24 graph 2 c 1 l 0 kdash 24 kb 6 z 4 set 0 k 40 n 200\nattached 1 011021\ncode 1 0 011021\n";
+
+#[test]
+fn cut_shows_block_01(rt: HostRuntime) -> Result<(), Fail> {
+    assert!(rt; writes(rt.alloc(), Command::Cut, b"01\n", b"", CUT_01)?);
+    Ok(())
+}
 
 /// How `cut` ends at the code rate 0.25 with two blocks, of 1 and of 955 octets, and how much it wrote.
 fn cut_in_three(alloc: Global) -> Result<(Result<(), RunFault>, usize), AllocError> {
@@ -29,36 +50,64 @@ fn cut_refuses_955_octets(rt: HostRuntime) -> Result<(), Fail> {
     Ok(())
 }
 
-/// What stands of `abcdef` on a new Tape: whether all was put, how many octets are there, and whether they are its first.
-fn put_onto(
-    alloc: Global,
-    room: u32,
-    step: u32,
-    fail: u32,
-) -> Result<(bool, usize, bool), AllocError>
-    requires { 0 < step }
-{
-    let text = b"abcdef";
-    let mut tape = Tape::new(alloc, room, step, fail)?;
-    let answer = put_all(&mut tape, text);
-    let written = tape.bytes();
-    Ok((answer == Ok(()), written.len(), text.starts_with(written)))
+#[test]
+fn check_counts_the_entries(rt: HostRuntime) -> Result<(), Fail> {
+    assert!(rt;
+        writes(
+            rt.alloc(),
+            Command::Check,
+            b"",
+            b"",
+            b"graph 2 entries 105\n"
+        )?
+    );
+    Ok(())
 }
 
+// With its CRC the block is 011021. All of the buffer; 24 bits in four rows of six, read by columns; 40 bits from column
+// 45 on; and two transmissions that are refused.
 #[test]
-fn text_is_put_until_the_output_is_broken(rt: HostRuntime) -> Result<(), Fail> {
-    for (room, step, fail, count) in [
-        (6, 6, 0, 6),
-        (6, 4, 0, 6),
-        (9, 1, 7, 6),
-        (9, 1, 6, 5),
-        (6, 4, 2, 4),
-        (5, 2, 0, 5),
-        (6, 6, 1, 0),
-        (0, 1, 0, 0),
-    ] {
-        let found = put_onto(rt.alloc(), room, step.max(1), fail)?;
-        assert!(rt; found == (count == 6, count, true));
-    }
+fn send_writes_block_01(rt: HostRuntime) -> Result<(), Fail> {
+    let schedule =
+        b"block,rv,g,qm,nl,erase\n1,0,184,1,1,-\n1,0,24,4,1,-\n1,3,40,1,1,-\n1,4,24,1,1,-\n1,0,30,4,1,-\n";
+    let want: &[u8] = b"sent 1 1 1021033022000008108800000240220000081088000002\n\
+        sent 2 1 000a51\n\
+        sent 3 1 8000002102\n\
+        refused 4 1 Rv\n\
+        refused 5 1 Ragged\n";
+    assert!(rt; writes(rt.alloc(), Command::Send, b"01", schedule, want)?);
+    Ok(())
+}
+
+/// All of the buffer of a block whose codeword has 184 bits to be sent.
+const WHOLE: &[u8] = b"block,rv,g,qm,nl,erase\n1,0,184,1,1,-\n";
+
+#[test]
+fn run_delivers_block_01(rt: HostRuntime) -> Result<(), Fail> {
+    let want: &[u8] = b"sent 1 1 1021033022000008108800000240220000081088000002\n\
+        left 1 1 0 0\n\
+        block 1 delivered tx 1 failed 0 of 1 01\n\
+        total blocks 1 delivered 1 open 0 contradiction 0 codeblocks 1 failed 0\n";
+    assert!(rt; writes(rt.alloc(), Command::Run, b"01", WHOLE, want)?);
+    Ok(())
+}
+
+// The steps fix the two columns that are never sent.
+#[test]
+fn audit_orders_block_01(rt: HostRuntime) -> Result<(), Fail> {
+    assert!(rt; writes(rt.alloc(), Command::Audit, b"01", WHOLE, b"order 1 0 8\n")?);
+    Ok(())
+}
+
+/// The first 24 bits of the buffer of block 01.
+const FIRST_BITS: &[u8] = b"block,rv,g,qm,nl,erase\n1,0,24,1,1,-\n";
+
+// Column 1, columns 12 and 13, and the rotations of column 1, which are columns 21, 31, 41 and 51.
+#[test]
+fn audit_names_the_stopping_set(rt: HostRuntime) -> Result<(), Fail> {
+    let want: &[u8] =
+        b"stuck 1 0 28 4 5 6 7 48 49 50 51 52 53 54 55 84 85 86 87 124 125 126 127 164 165 166 167 \
+        204 205 206 207\n";
+    assert!(rt; writes(rt.alloc(), Command::Audit, b"01", FIRST_BITS, want)?);
     Ok(())
 }

@@ -26,7 +26,11 @@ mod crcs;
 #[cfg(test)]
 mod endless;
 #[cfg(test)]
+mod ends;
+#[cfg(test)]
 mod fix_orders;
+#[cfg(test)]
+mod hostile_ends;
 #[cfg(test)]
 mod interleaving;
 #[cfg(test)]

@@ -114,6 +114,13 @@ fn push_practice(
     Ok(())
 }
 
+/// The text of the practice table of base graph 2.
+pub(crate) fn practice_text(alloc: Global) -> Result<String, AllocError> {
+    let mut cells = Vec::new(alloc);
+    push_practice(&mut cells, Graph::Two, (0, 1))?;
+    text_of(alloc, &cells)
+}
+
 /// The practice table of base graph 2. With `more`, row 1 has column 0 too, rotated by one.
 pub(crate) fn practice(alloc: Global, first: u32, middle: u32, more: bool) -> Result<Table, Fail> {
     let mut cells = Vec::new(alloc);

@@ -1,0 +1,139 @@
+//! Whole commands over an output that takes one octet a put and is Broken at each put in turn. And a text over an
+//! output with little room.
+
+ghost use Rattle.std.specs.Prelude.{◌<◌};
+
+use super::{BLOCKS, ROUNDS, SCHEDULE};
+use crate::commands::CUT_01;
+use crate::ends::{Command, End, ended};
+use nr_commands::{RunFault, Tape, put_all};
+use std::alloc::{AllocError, Global};
+use std::process::Abort;
+use std::test::Fail;
+
+/// Whether a command writes so many octets of a text and no more, where its output is Broken at the put behind them. Behind
+/// the text's last octet there is no put.
+fn breaks_behind(
+    alloc: Global,
+    command: Command,
+    schedule: &[u8],
+    text: &[u8],
+    count: u32,
+) -> Result<bool, AllocError> {
+    let breaks = (End::Output, count.saturating_add(1));
+    let (answer, _, tape) = ended(alloc, command, BLOCKS, schedule, breaks)?;
+    let is_told = if count as usize == text.len() {
+        answer == Ok(())
+    } else {
+        answer == Err(RunFault::Write)
+    };
+    Ok(is_told && text.get(..count as usize) == Some(tape.bytes()))
+}
+
+/// A command over a schedule whose output is Broken at each of its puts in turn.
+fn breaks_at_each_put(
+    rt: &impl Abort,
+    alloc: Global,
+    command: Command,
+    schedule: &[u8],
+    text: &[u8],
+) -> Result<(), Fail> {
+    for count in 0..=text.len().min(1000) as u32 {
+        assert!(rt; breaks_behind(alloc, command, schedule, text, count)?);
+    }
+    Ok(())
+}
+
+#[test]
+fn cut_is_broken_at_each_put(rt: HostRuntime) -> Result<(), Fail> {
+    breaks_at_each_put(&rt, rt.alloc(), Command::Cut, SCHEDULE, CUT_01)
+}
+
+#[test]
+fn check_is_broken_at_each_put(rt: HostRuntime) -> Result<(), Fail> {
+    let text = b"graph 2 entries 105\n";
+    breaks_at_each_put(&rt, rt.alloc(), Command::Check, SCHEDULE, text)
+}
+
+// Block 01 with its CRC is 011021, with Zc 4: columns 2 to 7 behind the fillers, by four bits a symbol.
+#[test]
+fn send_is_broken_at_each_put(rt: HostRuntime) -> Result<(), Fail> {
+    let text = b"sent 1 1 000a51\n";
+    breaks_at_each_put(&rt, rt.alloc(), Command::Send, SCHEDULE, text)
+}
+
+// 24 bits leave column 1 of block 01's word.
+#[test]
+fn run_is_broken_at_each_put(rt: HostRuntime) -> Result<(), Fail> {
+    let text = b"sent 1 1 000a51\n\
+        left 1 1 0 4\n\
+        block 1 open tx 1 failed 1 of 1\n\
+        total blocks 1 delivered 0 open 1 contradiction 0 codeblocks 1 failed 1\n";
+    breaks_at_each_put(&rt, rt.alloc(), Command::Run, SCHEDULE, text)
+}
+
+// With column 1 columns 12 and 13 are left and the rotations of column 1, which are columns 21, 31, 41 and 51.
+#[test]
+fn audit_is_broken_at_each_put(rt: HostRuntime) -> Result<(), Fail> {
+    let text =
+        b"stuck 1 0 28 4 5 6 7 48 49 50 51 52 53 54 55 84 85 86 87 124 125 126 127 164 165 166 167 \
+        204 205 206 207\n";
+    breaks_at_each_put(&rt, rt.alloc(), Command::Audit, SCHEDULE, text)
+}
+
+// Column 1 is left of the first round too, which the second one ends; 32 bits leave nothing, and of 208 positions 16
+// are fillers.
+#[test]
+fn run_by_rounds_is_broken_at_each_put(rt: HostRuntime) -> Result<(), Fail> {
+    let text = b"sent 1 1 000a51\n\
+        left 1 1 0 4\n\
+        process 3 block 1 open tx 1 failed 1 of 1\n\
+        sent 2 1 10210330\n\
+        left 2 1 0 0\n\
+        process 3 block 1 delivered tx 1 failed 0 of 1 01\n\
+        total rounds 2 delivered 1 open 1 contradiction 0 codeblocks 2 failed 1\n";
+    breaks_at_each_put(&rt, rt.alloc(), Command::Run, ROUNDS, text)
+}
+
+#[test]
+fn audit_by_rounds_is_broken_at_each_put(rt: HostRuntime) -> Result<(), Fail> {
+    let text =
+        b"process 3 stuck 1 0 28 4 5 6 7 48 49 50 51 52 53 54 55 84 85 86 87 124 125 126 127 164 165 166 167 \
+        204 205 206 207\n\
+        process 3 order 1 0 160\n";
+    breaks_at_each_put(&rt, rt.alloc(), Command::Audit, ROUNDS, text)
+}
+
+/// What stands of `abcdef` on a new Tape: whether all was put, how many octets are there, and whether they are its first.
+fn put_onto(
+    alloc: Global,
+    room: u32,
+    step: u32,
+    fail: u32,
+) -> Result<(bool, usize, bool), AllocError>
+    requires { 0 < step }
+{
+    let text = b"abcdef";
+    let mut tape = Tape::new(alloc, room, step, fail)?;
+    let answer = put_all(&mut tape, text);
+    let written = tape.bytes();
+    Ok((answer == Ok(()), written.len(), text.starts_with(written)))
+}
+
+#[test]
+fn text_is_put_until_the_output_is_broken(rt: HostRuntime) -> Result<(), Fail> {
+    for (room, step, fail, count) in [
+        (6, 6, 0, 6),
+        (6, 4, 0, 6),
+        (9, 1, 7, 6),
+        (9, 1, 6, 5),
+        (6, 4, 2, 4),
+        (5, 2, 0, 5),
+        (6, 6, 1, 0),
+        (0, 1, 0, 0),
+    ] {
+        let found = put_onto(rt.alloc(), room, step.max(1), fail)?;
+        assert!(rt; found == (count == 6, count, true));
+    }
+    Ok(())
+}
