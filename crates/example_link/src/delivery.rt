@@ -107,9 +107,9 @@ fn arrives(lost: bool, bit: bool) -> Heard
 
 /// An outcome, as it is printed: a transport block by its octets in hexadecimal.
 #[derive(Drop)]
-pub struct Told<'a>(pub &'a Outcome);
+pub struct OutcomeText<'a>(pub &'a Outcome);
 
-impl fmt::Display for Told<'_> {
+impl fmt::Display for OutcomeText<'_> {
     fn fmt<W: fmt::Write>(&self, f: &mut fmt::Formatter<W>) -> fmt::Result {
         match self.0 {
             Outcome::Delivered(block) => {

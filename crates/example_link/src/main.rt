@@ -5,7 +5,7 @@
 
 pub mod delivery;
 
-use crate::delivery::{Attempt, Told, deliver};
+use crate::delivery::{Attempt, OutcomeText, deliver};
 use nr_bitvec::Bits;
 use nr_blockdesk::{DeskFault, Settings, Tx};
 use nr_ratematch::Mask;
@@ -64,8 +64,8 @@ fn main(rt: HostRuntime) -> Result<(), Fault> {
     let table = Table::read(alloc, &mut Feed::new(text, 4096, 0))?;
     let block = Bits::from_bytes(alloc, &[0x01])?;
     let first = deliver(alloc, &table, SETTINGS, 5, &block, &ATTEMPTS[..1])?;
-    println!(rt; "after 1 transmission: {}", Told(&first))?;
+    println!(rt; "after 1 transmission: {}", OutcomeText(&first))?;
     let second = deliver(alloc, &table, SETTINGS, 5, &block, &ATTEMPTS)?;
-    println!(rt; "after 2 transmissions: {}", Told(&second))?;
+    println!(rt; "after 2 transmissions: {}", OutcomeText(&second))?;
     Ok(())
 }
