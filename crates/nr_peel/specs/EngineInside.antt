@@ -19,7 +19,7 @@ abbrev pub IsEngine : Lifted → Engine → Type 0
 IsEngine l (Words s) = IsSweepPeeler l s
 IsEngine l (Positions s) = IsWorklistPeeler l s
 
--- the same, where the fillers alone were given
+-- what is true between calls where the fillers alone were given
 pub record IsBegun (l : Lifted) (w : Engine) : Type 0 where
   pub engine : IsEngine l w
   pub peeled : IsPeeled (engine_view l w)

@@ -27,11 +27,11 @@ has_count n counts k = slice_index counts k == n
 abbrev pub searched_below : Checks → List ℕ → ℕ → ℕ
 searched_below c counts n = sum_below (λ k. if has_count 1 counts k then row_length c k else 0) n
 
--- the same of all rows
+-- how many pairs there are of all rows that have one unknown position
 unfoldable pub searched_pairs : Checks → List ℕ → ℕ
 searched_pairs c counts = searched_below c counts (c.rows * c.lanes)
 
--- each has a place for each position; unknown positions have no bit, and fresh ones are known
+-- each has a place for each position; unknown positions have no bit, and pending ones are known
 pub record AreLanes (c : Checks) (s : Lanes) : Type 0 where
   pub known_long : length s.known.items ≡ c.size
   pub bits_long : length s.bits.items ≡ c.size
@@ -64,7 +64,7 @@ pub record IsBlockSought (c : Checks) (counts : List ℕ) (i : ℕ) (old new : L
   pub whole : (t : ℕ) → t < c.lanes → has_count 1 counts (i * c.lanes + t) ≡ true → count_by (λ p. not (bit new.known.items p)) (c.row i t) ≡ 0
   pub searched : step_pairs c fixes.steps ≤ sum_below (λ t. if has_count 1 counts (i * c.lanes + t) then row_length c (i * c.lanes + t) else 0) c.lanes
 
--- the same of the first n rows of blocks
+-- The rows of the first n row blocks fixed the positions that they had alone to fix.
 pub record AreSought (c : Checks) (counts : List ℕ) (n : ℕ) (old new : Lanes) : Type 0 where
   pub fixes : Fixes c (counted_in old) old new
   pub few : length fixes.steps ≤ marked (has_count 1 counts) (n * c.lanes)

@@ -89,7 +89,7 @@ pub record IsWorklistPeeler (l : Lifted) (s : WorklistPeeler) : Type 0 where
   pub settled : IsSettled s.counters
   pub counted : IsCounted l.plan.kdash s
 
--- the same, where the fillers alone were given
+-- what is true between calls where the fillers alone were given
 pub record IsNew (l : Lifted) (s : WorklistPeeler) : Type 0 where
   pub settled : IsWorklistPeeler l s
   pub filled : HasFillers l (position_view l s)
