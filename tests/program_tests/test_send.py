@@ -56,11 +56,11 @@ BEHIND_OTHERS = [
     for last, bits in [("1,0,24,4,1,-", "000a51"), ("1,3,40,1,1,-", "8000002102"), ("1,0,24,1,1,-", "102103")]
 ]
 
-# The values of the first parity column turn it, and with it the next three. In row 1 column 0 stands too, turned by
+# The values of the first parity column rotate it, and with it the next three. In row 1 column 0 stands too, rotated by
 # one.
 BY_THE_TABLE = [
     Row(
-        f"the first parity column turned by {first} and {middle}",
+        f"the first parity column rotated by {first} and {middle}",
         f"sent 1 1 {bits}\n",
         table=practice_with(record(2, 1, 0, 1), record(2, 0, 10, first), record(2, 2, 10, middle)),
         blocks="80",
