@@ -1,11 +1,13 @@
 -- The bits of a code block with its fillers, and of a transport block with its CRC.
-use Rattle.std.proofs.Common.{◌≡◌, ◌≢◌, ℕ, zero, suc, ◌+◌, ◌-◌, ◌*◌, ◌/◌, ◌%◌, ◌<◌, ◌≤◌, ◌==◌, nat_lt, min, Bool, true, false, cond, List, [], ◌∷◌, ◌++◌, length, get_or, set, take, drop, replicate, refl, sym, ap, subst, ◌∙◌, ⊎_elim, append_assoc, length-append, arith}
+use Rattle.std.proofs.Common.{◌≡◌, ◌≢◌, ℕ, zero, suc, ◌+◌, ◌-◌, ◌*◌, ◌/◌, ◌%◌, ◌<◌, ◌≤◌, ◌==◌, nat_lt, min, Bool, true, false, cond, List, ◌++◌, length, get_or, set, take, drop, replicate, refl, sym, ap, subst, ◌∙◌, ⊎_elim, length-append, arith}
 use Rattle.std.specs.Int.{bit_at}
 use Rattle.std.proofs.lemmas.Bool.{cases_eq, cases_lt}
 use Rattle.std.proofs.lemmas.Grind.{get_or-set_at}
 use Rattle.std.proofs.lemmas.Nat.{div-mul-add, mod-mul-add}
 use Rattle.std.proofs.lemmas.List.{get_or-append_right, get_or-drop, get_or-replicate, get_or-set_other, get_or-take, get_or_append_left, get_or_default, length-drop, length-take-le, same_lists}
+use Rattle.nr_bitvec.proofs.PackedListFacts.{bit-low_first}
 use Rattle.nr_bitvec.specs.Bit.{bit}
+use Rattle.nr_bitvec.specs.BitList.{low_first}
 use Rattle.nr_crcattach.specs.Crc.{crc_of, high_first}
 use Rattle.nr_crcattach.specs.declared.Poly.TheVariants.{B24}
 use Rattle.nr_graphpick.specs.Graph.{cols_of, info_cols_of}
@@ -122,15 +124,14 @@ k-fits One p columns = omega (arith, columns)
 k-fits Two p columns = omega (arith, columns)
 
 -- a word of bits more is read, of one code block
-pub read-more : (p : Numbers) (ps : List Peeling) (xs ys : List Bool) (n count word : ℕ) → 0 < share p
+pub read-more : (p : Numbers) (ps : List Peeling) (xs ys : List Bool) (n count word : ℕ) → 0 < share p → length xs ≡ n
     → ((i : ℕ) → i < n → IsRead p ps xs i)
     → n % share p + count ≤ share p
     → ((j : ℕ) (d : Peeling) → j < count → (bit_at word j == 1) ≡ known_bit (get_or ps (n / share p) d) (n % share p + j))
-    → ((t : ℕ) → t < count → bit ys (n + t) ≡ (bit_at word t == 1))
-    → ((t : ℕ) → t < n → bit ys t ≡ bit xs t)
+    → ys ≡ xs ++ low_first count word
     → (i : ℕ) → i < n + count → IsRead p ps ys i
-read-more p ps xs ys n count word some read one-block known within before i below d = ⊎_elim
-    (λ (low : i < n). before i low ∙ read i low d)
+read-more p ps xs ys n count word some long read one-block known pushed i below d = ap (λ l. bit l i) pushed ∙ ⊎_elim
+    (λ (low : i < n). get_or_append_left xs (low_first count word) false i (omega (arith, low, long)) ∙ read i low d)
     (λ (high : n ≤ i).
     let s : ℕ = share p in
     let j : ℕ = i - n in
@@ -139,8 +140,7 @@ read-more p ps xs ys n count word some read one-block known within before i belo
     let split : n / s * s + (n % s + j) ≡ i = omega (arith, high) in
     let block : i / s ≡ n / s = ap (λ m. m / s) (sym split) ∙ div-mul-add (n / s) s (n % s + j) small in
     let place : i % s ≡ n % s + j = ap (λ m. m % s) (sym split) ∙ mod-mul-add (n / s) s (n % s + j) small in
-    let there : n + j ≡ i = omega (arith, high) in
-    ap (bit ys) (sym there) ∙ within j few ∙ known j d few
+    get_or-append_right xs (low_first count word) n i false long high ∙ bit-low_first count word j few ∙ known j d few
     ∙ ap (λ m. known_bit (get_or ps m d) (n % s + j)) (sym block)
     ∙ ap (known_bit (get_or ps (i / s) d)) (sym place))
     (cases_lt i n)
@@ -158,8 +158,3 @@ copied-more n i word count from xs ys count-is some done read within before t be
     let place : 64 * i + (t - 64 * i) ≡ t = omega arith in
     ap (bit ys) (sym place) ∙ within (t - 64 * i) (omega arith) ∙ read (t - 64 * i) (omega arith) ∙ ap (bit from) place)
     (cases_lt t (64 * i))
-
--- a list whose bits are the first ones of another is what that begins with
-pub copied-all : (xs from : List Bool) → length xs ≤ length from → ((t : ℕ) → t < length xs → bit xs t ≡ bit from t)
-    → xs ≡ take (length xs) from
-copied-all xs from fits same = sym (begins-with from xs (length xs) fits refl (λ t below. sym (same t below)))

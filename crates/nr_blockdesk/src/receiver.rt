@@ -17,7 +17,7 @@ ghost use Rattle.nr_blockdesk.specs.ReceivingInside.{AreWords, IsDecided};
 
 mod taking;
 
-use crate::candidate::{CandidateState, all_known, candidate, copy_bits};
+use crate::candidate::{CandidateState, all_known, candidate};
 use crate::encoder::explains;
 use crate::heard::Heard;
 use crate::hearing::judge_heard;
@@ -217,9 +217,10 @@ impl<'t> Receiver<'t> {
         &self.peelers[r as usize]
     }
 
-    // What may be handed up, in a list of A bits.
+    // What may be handed up, in an empty list that has room for A bits.
     fn answer(&mut self, mut list: Bits) -> Outcome
-        requires long { length list.items ≡ self.old.link.a }
+        requires empty { list.items ≡ [] }
+        requires room { self.old.link.a ≤ list.room }
         ensures same { self.new ≡ self.old }
         ensures decided { IsDecided self.old.link self.old.heard result }
     {
@@ -230,7 +231,7 @@ impl<'t> Receiver<'t> {
         match self.candidate_state {
             CandidateState::NotRead => self.read(list),
             CandidateState::Consistent => {
-                copy_bits(&self.block, &mut list);
+                list.extend_range(&self.block, 0, self.a as usize);
                 Outcome::Delivered(list)
             }
             CandidateState::Inconsistent => Outcome::Contradiction,
@@ -239,7 +240,8 @@ impl<'t> Receiver<'t> {
 
     // What may be handed up where every position below K' is known: reads the transport block, and keeps its codewords.
     fn read(&mut self, list: Bits) -> Outcome
-        requires long { length list.items ≡ self.old.link.a }
+        requires empty { list.items ≡ [] }
+        requires room { self.old.link.a ≤ list.room }
         requires all { all_fixed self.old.link self.old.heard ≡ true }
         ensures same { self.new ≡ self.old }
         ensures decided { IsDecided self.old.link self.old.heard result }
@@ -248,7 +250,7 @@ impl<'t> Receiver<'t> {
         code_blocks_are_long();
         words_are_plain();
         plans_are_sound();
-        let block = candidate(&self.plan, &self.peelers, list);
+        let block = candidate(&self.plan, &self.peelers, self.a, list);
         attach_into(&block, &mut self.block);
         if explains(
             self.table,

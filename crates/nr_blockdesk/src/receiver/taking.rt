@@ -62,7 +62,8 @@ impl<'t> Receiver<'t> {
             → verdict answer ≢ contradiction) }
     {
         let lengths = judge_heard(&self.plan, tx, heard.len())?;
-        let list = Bits::zeros(self.alloc, self.a)?;
+        // Asked for before anything is heard: later nothing may fail. Not written, since nearly all answers are `Open`.
+        let list = Bits::with_room(self.alloc, self.a)?;
         let mut selected = Selected::new(self.alloc, longest(&lengths))?;
         accepted_are_matched();
         parts_are_at();

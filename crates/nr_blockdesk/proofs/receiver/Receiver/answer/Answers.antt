@@ -1,4 +1,4 @@
-use Rattle.std.proofs.Common.{◌≡◌, ◌==◌, true, List, length, take, subst, sym, ap, ◌∙◌}
+use Rattle.std.proofs.Common.{◌≡◌, ◌==◌, ◌++◌, true, List, length, take, subst, sym, ap, ◌∙◌}
 use Rattle.std.specs.List.{list_all}
 use Rattle.std.proofs.lemmas.List.{length-take-le}
 use Rattle.nr_peel.specs.Peeling.{Peeling, left_of}
@@ -43,8 +43,8 @@ returns-in-Consistent-clause-decided c =
     ∙ c.if-not-all_known.false in
     let stands : IsExplained link s.stores.items s.block.items s.words.items =
     subst (Stands link s.stores.items s.block.items s.words.items) c.in-Consistent.is inv.stands in
-    let whole : length c.args.list.items ≡ s.a = c.requires.long ∙ sym (ap (λ (v : ReceiverView). v.link.a) c.self.view_is) in
-    let copied : c.copy_bits.new.list.items ≡ take s.a s.block.items = c.copy_bits.ensures ∙ ap (λ n. take n s.block.items) whole in
+    let copied : c.extend_range.new.self.items ≡ take s.a s.block.items =
+    c.extend_range.ensures.items ∙ ap (λ l. l ++ take s.a s.block.items) c.requires.empty in
     rw (← c.self.view_is) (
       all,
       ap length copied ∙ length-take-le s.a s.block.items stands.held,

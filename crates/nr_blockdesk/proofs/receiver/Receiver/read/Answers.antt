@@ -1,4 +1,4 @@
-use Rattle.std.proofs.Common.{◌≡◌, ◌<◌, ◌≤◌, Bool, true, ◌++◌, List, length, get_or, drop, take, subst, sym, ap, ◌∙◌, arith}
+use Rattle.std.proofs.Common.{◌≡◌, ◌≤◌, Bool, true, ◌++◌, List, length, get_or, drop, take, subst, sym, ap, ◌∙◌, arith}
 use Rattle.std.specs.Vec.{vec_len}
 use Rattle.nr_crcattach.specs.Attachment.{attached_length}
 use Rattle.nr_segment.specs.Plan.{word_size}
@@ -22,19 +22,15 @@ candidate-block-requires-clause-sized c = λ r d block.
 pub attach_into-requires : goal.attach_into-requires
 attach_into-requires c =
     let inv = c.self.invariant in
-    let whole : length c.candidate-block.result.items ≡ c.self.inside.a =
-    c.candidate-block.ensures.long ∙ c.requires.long ∙ sym (ap (λ (v : ReceiverView). v.link.a) c.self.view_is) in
     let long = c.attachment_lengthens.ensures.block c.candidate-block.result.items
-    ∙ ap attached_length whole in
+    ∙ ap attached_length c.candidate-block.ensures.long in
     record { room = omega (arith, long, inv.whole, inv.room) }
 
 pub explains-requires-clause-whole : goal.explains-requires-clause-whole
 explains-requires-clause-whole c =
-    let whole : length c.candidate-block.result.items ≡ c.self.inside.a =
-    c.candidate-block.ensures.long ∙ c.requires.long ∙ sym (ap (λ (v : ReceiverView). v.link.a) c.self.view_is) in
     ap length c.attach_into.ensures.items
     ∙ c.attachment_lengthens.ensures.block c.candidate-block.result.items
-    ∙ ap attached_length whole
+    ∙ ap attached_length c.candidate-block.ensures.long
     ∙ sym c.self.invariant.whole
 
 pub invariant_of-self : goal.invariant_of-self
@@ -45,12 +41,11 @@ invariant_of-self c =
     let bits : List Bool = c.candidate-block.result.items in
     let W : List (List Bool) = c.explains.new.words in
     let all : all_fixed link s.stores.items ≡ true = ap (λ (v : ReceiverView). all_fixed v.link v.heard) c.self.view_is ∙ c.requires.all in
-    let whole : IsBlock link bits = c.candidate-block.ensures.long ∙ c.requires.long ∙ sym (ap (λ (v : ReceiverView). v.link.a) c.self.view_is) in
     let only : (y : List Bool) → IsBlock link y → ExplainedBy link s.stores.items y → y ≡ bits =
     candidate-only c.plans_are_sound.ensures c.words_are_plain.ensures c.attachment_lengthens.ensures.block
-    c.code_blocks_are_long.ensures.bits link s.stores.items s.peelers.items bits inv.is_link inv.desk all whole
+    c.code_blocks_are_long.ensures.bits link s.stores.items s.peelers.items bits inv.is_link inv.desk all c.candidate-block.ensures.long
     (λ i low. subst (λ (ps : List Peeling). IsRead link.plan ps bits i) c.deref.ensures.value
-    (c.candidate-block.ensures.read i (subst (λ n. i < n) (sym (sym c.candidate-block.ensures.long ∙ whole)) low))) in
+    (c.candidate-block.ensures.read i low)) in
     let by : ExplainedBy link s.stores.items bits =
     explained-by link s.stores.items c.deref-2.result.now c.attach_into.new.list.items bits c.deref-2.ensures.value c.attach_into.ensures.items
     (c.explains.ensures.fits c.if-explains.true) in
@@ -63,7 +58,7 @@ invariant_of-self c =
       room = omega (arith, inv.room, c.attach_into.ensures.room);
       sized = subst (AreWords s.plan.c (word_size link.graph link.plan)) (sym kept) c.explains.ensures.words;
       stands = subst (IsExplained link s.stores.items c.attach_into.new.list.items) (sym kept)
-          (kept-read link s.stores.items c.attach_into.new.list.items bits W c.attach_into.ensures.items whole by only
+          (kept-read link s.stores.items c.attach_into.new.list.items bits W c.attach_into.ensures.items c.candidate-block.ensures.long by only
           (c.explains.ensures.encoded c.if-explains.true));
       empty = inv.empty;
     }
@@ -76,12 +71,11 @@ invariant_of-self-else-explains c =
     let bits : List Bool = c.candidate-block.result.items in
     let W : List (List Bool) = c.explains.new.words in
     let all : all_fixed link s.stores.items ≡ true = ap (λ (v : ReceiverView). all_fixed v.link v.heard) c.self.view_is ∙ c.requires.all in
-    let whole : IsBlock link bits = c.candidate-block.ensures.long ∙ c.requires.long ∙ sym (ap (λ (v : ReceiverView). v.link.a) c.self.view_is) in
     let only : (y : List Bool) → IsBlock link y → ExplainedBy link s.stores.items y → y ≡ bits =
     candidate-only c.plans_are_sound.ensures c.words_are_plain.ensures c.attachment_lengthens.ensures.block
-    c.code_blocks_are_long.ensures.bits link s.stores.items s.peelers.items bits inv.is_link inv.desk all whole
+    c.code_blocks_are_long.ensures.bits link s.stores.items s.peelers.items bits inv.is_link inv.desk all c.candidate-block.ensures.long
     (λ i low. subst (λ (ps : List Peeling). IsRead link.plan ps bits i) c.deref.ensures.value
-    (c.candidate-block.ensures.read i (subst (λ n. i < n) (sym (sym c.candidate-block.ensures.long ∙ whole)) low))) in
+    (c.candidate-block.ensures.read i low)) in
     let long : length W ≡ vec_len s.words = omega (arith, c.explains.ensures.words.many, inv.sized.many) in
     let kept : take (vec_len s.words) (W ++ drop (length W) s.words.items) ≡ W = written (vec_len s.words) W (drop (length W) s.words.items) long in
     record {
@@ -103,7 +97,7 @@ returns-then-explains-clause-decided c =
     let bits : List Bool = c.candidate-block.result.items in
     rw (← c.self.view_is) (
       ap (λ (v : ReceiverView). all_fixed v.link v.heard) c.self.view_is ∙ c.requires.all,
-      c.candidate-block.ensures.long ∙ c.requires.long ∙ sym (ap (λ (v : ReceiverView). v.link.a) c.self.view_is),
+      c.candidate-block.ensures.long,
       explained-by link s.stores.items c.deref-2.result.now c.attach_into.new.list.items bits c.deref-2.ensures.value c.attach_into.ensures.items
           (c.explains.ensures.fits c.if-explains.true),
     )
@@ -115,12 +109,11 @@ returns-else-explains-clause-decided c =
     let link = link_of s.table.now s.plan s.a s.buffer in
     let bits : List Bool = c.candidate-block.result.items in
     let all : all_fixed link s.stores.items ≡ true = ap (λ (v : ReceiverView). all_fixed v.link v.heard) c.self.view_is ∙ c.requires.all in
-    let whole : IsBlock link bits = c.candidate-block.ensures.long ∙ c.requires.long ∙ sym (ap (λ (v : ReceiverView). v.link.a) c.self.view_is) in
     let only : (y : List Bool) → IsBlock link y → ExplainedBy link s.stores.items y → y ≡ bits =
     candidate-only c.plans_are_sound.ensures c.words_are_plain.ensures c.attachment_lengthens.ensures.block
-    c.code_blocks_are_long.ensures.bits link s.stores.items s.peelers.items bits inv.is_link inv.desk all whole
+    c.code_blocks_are_long.ensures.bits link s.stores.items s.peelers.items bits inv.is_link inv.desk all c.candidate-block.ensures.long
     (λ i low. subst (λ (ps : List Peeling). IsRead link.plan ps bits i) c.deref.ensures.value
-    (c.candidate-block.ensures.read i (subst (λ n. i < n) (sym (sym c.candidate-block.ensures.long ∙ whole)) low))) in
+    (c.candidate-block.ensures.read i low)) in
     rw (← c.self.view_is) (
       all,
       λ y long-y by. c.explains.ensures.misfits c.if-explains.false
