@@ -1,15 +1,17 @@
 -- Steps of the rows that a lane marks.
 use Rattle.std.proofs.Common.{◌≡◌, ℕ, zero, suc, ◌+◌, ◌-◌, ◌*◌, ◌/◌, ◌%◌, ◌^◌, ◌<◌, ◌≤◌, ◌==◌, Bool, true, false, if◌then◌else◌, List, [], ◌∷◌, ◌++◌, length, get_or, refl, sym, ap, ◌∙◌, inl, inr, arith, add-one, append_assoc, length-append}
 use Rattle.std.proofs.lemmas.Bool.{cases_lt, eq-eqb}
-use Rattle.std.proofs.lemmas.Nat.Bits.{bit_at-trailing_zeros, bit_at-zero, bit_at_above}
+use Rattle.std.proofs.lemmas.Nat.Bits.{bit_at-trailing_zeros, bit_at-zero, bit_at_above, bit_at_ones}
+use Rattle.std.proofs.Math.Nat.{add-mod-mod}
 use Rattle.std.specs.Int.{bit_at, trailing_zeros, w64}
-use Rattle.nr_bitvec.proofs.BitFacts.{bit_at_shr}
+use Rattle.nr_bitvec.proofs.BitFacts.{bit_at_mod, bit_at_shr}
 use Rattle.nr_lifting.proofs.LaneBitFacts.{counted_all, marked-append, marked-same, word_bit}
 use Rattle.std.proofs.lemmas.List.{append-nil}
 use Rattle.nr_bitvec.specs.Packed.{IsClear}
 use Rattle.nr_lifting.specs.Rings.{is_set, marked}
-use Rattle.nr_peel.specs.Lanes.{steps_below, rotated_step}
+use Rattle.nr_peel.specs.Lanes.{step_after, steps_below, rotated_step}
 use Rattle.nr_peel.specs.declared.fix.Fix.{Fix}
+use Rattle.nr_peel.proofs.RowPlaceFacts.{mod_low}
 
 -- no step where nothing is marked
 pub steps_none : (step : ℕ → Fix) (u : ℕ → Bool) (a n : ℕ) → ((t : ℕ) → a ≤ t → t < a + n → u t ≡ false) → steps_below step u (a + n) ≡ steps_below step u a
@@ -86,31 +88,68 @@ lowest word rest at left some fits whole =
       before = λ j h. sym (left j) ∙ found.2 j h;
     }
 
--- what is left of the word past it
-pub rest_left : (word rest at skip : ℕ) → ((j : ℕ) → bit_at rest j ≡ bit_at word (at + j)) → (j : ℕ) → bit_at (rest / 2 ^ skip / 2 ^ 1) j ≡ bit_at word (at + (skip + 1) + j)
-rest_left word rest at skip left j =
-    bit_at_shr (rest / 2 ^ skip) 1 j ∙ bit_at_shr rest skip (1 + j) ∙ left (skip + (1 + j)) ∙ ap (bit_at word) (regroup at skip j)
+-- what is left of the word past it, and past more bits from it on
+pub rest_left : (word rest at skip more : ℕ) → ((j : ℕ) → bit_at rest j ≡ bit_at word (at + j)) → (j : ℕ) → bit_at (rest / 2 ^ skip / 2 ^ more) j ≡ bit_at word (at + (skip + more) + j)
+rest_left word rest at skip more left j =
+    bit_at_shr (rest / 2 ^ skip) more j ∙ bit_at_shr rest skip (more + j) ∙ left (skip + (more + j)) ∙ ap (bit_at word) (regroup at skip more j)
   where
-    regroup : (a s j : ℕ) → a + (s + (1 + j)) ≡ a + (s + 1) + j
+    regroup : (a s m j : ℕ) → a + (s + (m + j)) ≡ a + (s + m) + j
+    regroup a s m j = omega arith
+
+-- the 32 bits of a word from bit `from` on are set
+abbrev pub IsRun : ℕ → ℕ → Type 0
+IsRun word from = (j : ℕ) → j < 32 → bit_at word (from + j) ≡ 1
+
+pub run_found : (word rest at skip : ℕ) → ((j : ℕ) → bit_at rest j ≡ bit_at word (at + j)) → rest / 2 ^ skip % 2 ^ 32 ≡ 2 ^ 32 - 1 → IsRun word (at + skip)
+run_found word rest at skip left full j short =
+    ap (bit_at word) (regroup at skip j) ∙ sym (left (skip + j)) ∙ sym (bit_at_shr rest skip j) ∙ sym (bit_at_mod (rest / 2 ^ skip) 32 j short)
+    ∙ ap (λ n. bit_at n j) full ∙ bit_at_ones 32 j short
+  where
+    regroup : (a s j : ℕ) → a + s + j ≡ a + (s + j)
     regroup a s j = omega arith
+
+pub run_inside : (word from : ℕ) → word < 2 ^ 64 → IsRun word from → from + 32 ≤ 64
+run_inside word from whole run = elim (cases_lt (from + 31) 64) [
+  | inl h ↦ omega (arith, h)
+  | inr h ↦ absurd (omega (arith, run 31 (omega arith), bit_at_above word 64 (from + 31) whole h))
+]
 
 module _ (step : ℕ → Fix) (word at : ℕ) where
   abbrev u : ℕ → Bool
   u b = bit_at word b == 1
 
+  unmarked : (skip : ℕ) → IsLowest word at skip → (t : ℕ) → at ≤ t → t < at + skip → u t ≡ false
+  unmarked skip low t above below =
+      let split : at + (t - at) ≡ t = omega (arith, above) in
+      ap u (sym split) ∙ ap (λ n. n == 1) (low.before (t - at) (omega (arith, above, below)))
+
   pub lowest_steps : (skip : ℕ) → IsLowest word at skip → steps_below step u (at + (skip + 1)) ≡ steps_below step u at ++ step (at + skip) ∷ []
   lowest_steps skip low =
       ap (steps_below step u) (regroup at skip)
       ∙ steps_next step u (at + skip) (eq-eqb (bit_at word (at + skip)) 1 low.set)
-      ∙ ap (λ xs. xs ++ step (at + skip) ∷ []) (steps_none step u at skip none)
+      ∙ ap (λ xs. xs ++ step (at + skip) ∷ []) (steps_none step u at skip (unmarked skip low))
     where
       regroup : (a s : ℕ) → a + (s + 1) ≡ a + s + 1
       regroup a s = omega arith
 
-      none : (t : ℕ) → at ≤ t → t < at + skip → u t ≡ false
-      none t above below =
-          let split : at + (t - at) ≡ t = omega (arith, above) in
-          ap u (sym split) ∙ ap (λ n. n == 1) (low.before (t - at) (omega (arith, above, below)))
+  pub run_steps : (skip : ℕ) → IsLowest word at skip → IsRun word (at + skip) → steps_below step u (at + (skip + 32)) ≡ steps_below step u at ++ steps_below (λ j. step (at + skip + j)) (λ b. true) 32
+  run_steps skip low run =
+      ap (steps_below step u) (regroup at skip)
+      ∙ steps_append step u (at + skip) 32
+      ∙ ap (λ xs. xs ++ steps_below (λ j. step (at + skip + j)) (λ j. u (at + skip + j)) 32) (steps_none step u at skip (unmarked skip low))
+      ∙ ap (λ xs. steps_below step u at ++ xs) (steps_same (λ j. step (at + skip + j)) (λ j. step (at + skip + j)) (λ j. u (at + skip + j)) (λ b. true) 32 (λ t h. refl) (λ t h. eq-eqb (bit_at word (at + skip + t)) 1 (run t h)))
+    where
+      regroup : (a s : ℕ) → a + (s + 32) ≡ a + s + 32
+      regroup a s = omega arith
+
+  pub run_room : (skip : ℕ) → IsLowest word at skip → word < 2 ^ 64 → IsRun word (at + skip) → length (steps_below step u at) + 32 ≤ marked u 64
+  run_room skip low whole run =
+      let more = steps_below (λ j. step (at + skip + j)) (λ b. true) 32 in
+      let here = ap length (run_steps skip low run) ∙ length-append (steps_below step u at) more in
+      let after = steps_count step u (at + (skip + 32)) in
+      let split : at + (skip + 32) + (64 - (at + (skip + 32))) ≡ 64 = omega (arith, run_inside word (at + skip) whole run) in
+      let all = sym (ap (marked u) split) ∙ marked-append u (at + (skip + 32)) (64 - (at + (skip + 32))) in
+      omega (arith, here, after, all, steps_count (λ j. step (at + skip + j)) (λ b. true) 32)
 
   pub lowest_room : (skip : ℕ) → IsLowest word at skip → length (steps_below step u at) + 1 ≤ marked u 64
   lowest_room skip low =
@@ -135,6 +174,27 @@ pushed size row col rotation start at skip place is =
   where
     regroup : (a b d : ℕ) → a + b + d ≡ a + (b + d)
     regroup a b d = omega arith
+
+-- the steps of a run, whose positions come one after another
+pub run_pushed : (size row col rotation start at skip pos : ℕ) → pos ≡ col * size + (start + at + skip + rotation) % size → pos + 32 ≤ (col + 1) * size → (j : ℕ) → j < 32
+    → step_after row (start + at + skip) pos j ≡ rotated_step size row col rotation (start + (at + skip + j))
+run_pushed size row col rotation start at skip pos is inside j short =
+    let first = (start + at + skip + rotation) % size in
+    let below : j + first < size = omega (arith, is, inside, short, next col size) in
+    let moved : (start + (at + skip + j) + rotation) % size ≡ j + first =
+    ap (λ s. s % size) (regroup start at skip j rotation) ∙ sym (add-mod-mod j (start + at + skip + rotation) size) ∙ mod_low (j + first) size below in
+    let place : pos + j ≡ col * size + (start + (at + skip + j) + rotation) % size = omega (arith, is, moved) in
+    ap (λ p. record { row = row; lane = start + at + skip + j; pos = p }) place
+    ∙ ap (λ t. record { row = row; lane = t; pos = col * size + (start + (at + skip + j) + rotation) % size }) (back start at skip j)
+  where
+    next : (c z : ℕ) → (c + 1) * z ≡ c * z + z
+    next c z = omega arith
+
+    regroup : (a b s j r : ℕ) → a + (b + s + j) + r ≡ j + (a + b + s + r)
+    regroup a b s j r = omega arith
+
+    back : (a b s j : ℕ) → a + b + s + j ≡ a + (b + s + j)
+    back a b s j = omega arith
 
 -- ---- the words of a lane, one after another
 

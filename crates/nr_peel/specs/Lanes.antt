@@ -13,6 +13,10 @@ use Rattle.nr_peel.specs.declared.lifted.Lifted.{Lifted}
 abbrev pub rotated_step : ℕ → ℕ → ℕ → ℕ → ℕ → Fix
 rotated_step z i j rotation t = record { row = i; lane = t; pos = j * z + (t + rotation) % z }
 
+-- the step of the row b rows after `lane`, which fixes the position as many after `pos`
+abbrev pub step_after : ℕ → ℕ → ℕ → ℕ → Fix
+step_after i lane pos b = record { row = i; lane = lane + b; pos = pos + b }
+
 -- the steps of those of the first n rows that are marked
 abbrev pub steps_below : (ℕ → Fix) → (ℕ → Bool) → ℕ → List Fix
 steps_below step u zero = []

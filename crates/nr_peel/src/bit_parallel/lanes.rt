@@ -1,6 +1,6 @@
 //! What is known of a code block, in lanes, and how a row of blocks fixes positions: all its rows at a time.
 
-ghost use Rattle.std.specs.Prelude.{◌≡◌, ◌+◌, ◌*◌, ◌%◌, ◌^◌, ◌<◌, ◌≤◌, ◌++◌, ◌==◌, ℕ, if◌then◌else◌, All, IfOk, count_by, length, slice_index, vec_capacity};
+ghost use Rattle.std.specs.Prelude.{◌≡◌, ◌+◌, ◌*◌, ◌%◌, ◌^◌, ◌<◌, ◌≤◌, ◌++◌, ◌==◌, ℕ, if◌then◌else◌, All, IfOk, count_by, length, slice_index, true, vec_capacity};
 ghost use Rattle.std.specs.Int.{bit_at};
 ghost use Rattle.nr_bitvec.specs.Bit.{bit};
 ghost use Rattle.nr_bitvec.specs.Packed.{IsClear};
@@ -10,7 +10,7 @@ ghost use Rattle.nr_shifttable.specs.Tails.{value_in};
 ghost use Rattle.nr_ldpcenc.specs.Parity.{parity};
 ghost use Rattle.nr_ldpcenc.specs.Rows.{positions};
 ghost use Rattle.nr_peel.specs.Due.{due_in, work_of};
-ghost use Rattle.nr_peel.specs.Lanes.{TakesLane, hits, lacks, steps_below, rotated_step};
+ghost use Rattle.nr_peel.specs.Lanes.{TakesLane, hits, lacks, steps_below, step_after, rotated_step};
 ghost use Rattle.nr_peel.specs.Starts.{AreBlank};
 ghost use Rattle.nr_peel.specs.StateInside.{lifted_checks};
 ghost use Rattle.nr_peel.specs.Sweeps.{AreLanes, CountsOf, IsBlockSought, counted_in, has_count};
@@ -22,6 +22,7 @@ use crate::lifted::Lifted;
 use nr_lifting::{DoubledLanes, common, lane_count, rotate_lane};
 use nr_shifttable::Entry;
 use std::alloc::{AllocError, Global};
+use std::mem::replace;
 
 // The sum of the bits of each row of a row of blocks, modulo two.
 pub(crate) fn row_sum(bits: &DoubledLanes, lifted: &Lifted<'_>, row: &[Entry]) -> [u64; 6]
@@ -87,7 +88,28 @@ fn placed(size: u32, col: u16, rotation: u32, lane: u32) -> u32
     u32::from(col) * size + rotated
 }
 
-// Adds the steps of those of 64 rows of an entry's block that a word marks, from row `start` on.
+// Adds the steps of 32 rows of a row of blocks, from row `lane` on, which fix positions from `pos` on. The list is moved
+// out meanwhile and the count is fixed, so that compiled code writes two steps at a time, with no loop.
+fn push_run(order: &mut Vec<Fix>, row: u16, lane: u32, pos: u32)
+    requires few { lane + 32 ≤ 384 }
+    requires fits { pos + 32 ≤ 2 ^ 32 }
+    requires room { length order.old.items + 32 ≤ vec_capacity order.old }
+    ensures steps { order.new.items ≡ order.old.items
+        ++ steps_below (step_after row lane pos) (λ b. true) 32 }
+    ensures capacity { vec_capacity order.new ≡ vec_capacity order.old }
+{
+    let none = Vec::new(*order.allocator());
+    let mut taken = replace(order, none);
+    for b in 0..32u32 {
+        let lane = (lane + b) as u16;
+        let pos = pos + b;
+        taken.push_reserved(Fix { row, lane, pos });
+    }
+    *order = taken;
+}
+
+// Adds the steps of those of 64 rows of an entry's block that a word marks, from row `start` on. Mostly all are marked,
+// so 32 marked rows go at once where their positions stand in a row too, short of the block's end.
 fn push_word(order: &mut Vec<Fix>, entry: &Entry, size: u32, rotation: u32, start: u32, word: u64)
     requires few { size ≤ 384 }
     requires rotation { rotation < size }
@@ -99,18 +121,27 @@ fn push_word(order: &mut Vec<Fix>, entry: &Entry, size: u32, rotation: u32, star
         (λ b. bit_at word b == 1) 64 }
     ensures capacity { vec_capacity order.new ≡ vec_capacity order.old }
 {
+    let end = (u32::from(entry.col) + 1) * size;
     let mut rest = word;
     let mut at = 0;
     'bits: while rest != 0 {
         let skip = rest.trailing_zeros();
         let lane = start + at + skip;
-        order.push_reserved(Fix {
-            row: entry.row,
-            lane: lane as u16,
-            pos: placed(size, entry.col, rotation, lane),
-        });
-        rest = rest >> skip >> 1;
-        at += skip + 1;
+        let pos = placed(size, entry.col, rotation, lane);
+        if (rest >> skip) % 0x1_0000_0000 == 0xFFFF_FFFF && pos + 32 <= end {
+            push_run(order, entry.row, lane, pos);
+            rest = rest >> skip >> 32;
+            at += skip + 32;
+        } else {
+            let lane = lane as u16;
+            order.push_reserved(Fix {
+                row: entry.row,
+                lane,
+                pos,
+            });
+            rest = rest >> skip >> 1;
+            at += skip + 1;
+        }
     }
 }
 

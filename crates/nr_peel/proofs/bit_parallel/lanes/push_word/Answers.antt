@@ -1,7 +1,7 @@
-use Rattle.std.proofs.Common.{◌≡◌, ◌≢◌, ◌<◌, ◌≤◌, ◌+◌, ◌^◌, ◌==◌, ◌++◌, ℕ, [], ◌∷◌, length, sym, ap, ◌∙◌, arith, length-append}
+use Rattle.std.proofs.Common.{◌≡◌, ◌≢◌, ◌<◌, ◌≤◌, ◌+◌, ◌^◌, ◌==◌, ◌++◌, true, ℕ, [], ◌∷◌, length, refl, sym, ap, ◌∙◌, arith, length-append}
 use Rattle.std.specs.Int.{bit_at, trailing_zeros, w64}
-use Rattle.nr_peel.specs.Lanes.{steps_below, rotated_step}
-use Rattle.nr_peel.proofs.StepFacts.{IsLowest, join_steps, lowest, lowest_room, lowest_steps, pushed, rest_left, steps_whole}
+use Rattle.nr_peel.specs.Lanes.{step_after, steps_below, rotated_step}
+use Rattle.nr_peel.proofs.StepFacts.{IsLowest, join_steps, lowest, lowest_room, lowest_steps, pushed, rest_left, run_found, run_inside, run_pushed, run_room, run_steps, steps_same, steps_whole}
 use Rattle.nr_peel.proofs.bit_parallel.lanes.push_word.Goals as goal
 
 -- the next bit of the word
@@ -23,11 +23,49 @@ overflow_cast-lane c =
     let low = found c.args.word c.bits.rest c.bits.at c.bits.invariant.few c.bits.invariant.left c.bits-test.true (omega arith) (omega arith) in
     omega (arith, c.requires.inside _ low.set, c.requires.few)
 
-pub placed-requires-clause-lane : goal.placed-requires-clause-lane
-placed-requires-clause-lane c =
+pub placed-pos-requires-clause-lane : goal.placed-pos-requires-clause-lane
+placed-pos-requires-clause-lane c =
     let low = found c.args.word c.bits.rest c.bits.at c.bits.invariant.few c.bits.invariant.left c.bits-test.true (omega arith) (omega arith) in
     omega (arith, c.requires.inside _ low.set)
 
+-- a run of 32 bits
+pub push_run-requires-clause-few : goal.push_run-requires-clause-few
+push_run-requires-clause-few c =
+    let run = run_found c.args.word c.bits.rest c.bits.at (trailing_zeros w64 c.bits.rest) c.bits.invariant.left c.if-rest-skip-eq4294967295.true in
+    omega (arith, c.requires.inside _ (run 31 (omega arith)), c.requires.few)
+
+pub push_run-requires-clause-room : goal.push_run-requires-clause-room
+push_run-requires-clause-room c =
+    let low = found c.args.word c.bits.rest c.bits.at c.bits.invariant.few c.bits.invariant.left c.bits-test.true (omega arith) (omega arith) in
+    let run = run_found c.args.word c.bits.rest c.bits.at (trailing_zeros w64 c.bits.rest) c.bits.invariant.left c.if-rest-skip-eq4294967295.true in
+    let step = λ (b : ℕ). rotated_step c.args.size c.args.entry.now.row c.args.entry.now.col c.args.rotation (c.args.start + b) in
+    let long = ap length c.bits.invariant.steps ∙ length-append c.args.order.now.items (steps_below step (λ b. bit_at c.args.word b == 1) c.bits.at) in
+    omega (arith, long, c.bits.invariant.capacity, c.requires.room, run_room step c.args.word c.bits.at _ low (omega arith) run)
+
+pub bits-smaller-then-pos-end : goal.bits-smaller-then-pos-end
+bits-smaller-then-pos-end c =
+    let low = found c.args.word c.bits.rest c.bits.at c.bits.invariant.few c.bits.invariant.left c.bits-test.true (omega arith) (omega arith) in
+    omega (arith, low.inside)
+
+pub bits-preserved-then-pos-end : goal.bits-preserved-then-pos-end
+bits-preserved-then-pos-end c =
+    let low = found c.args.word c.bits.rest c.bits.at c.bits.invariant.few c.bits.invariant.left c.bits-test.true (omega arith) (omega arith) in
+    let run = run_found c.args.word c.bits.rest c.bits.at (trailing_zeros w64 c.bits.rest) c.bits.invariant.left c.if-rest-skip-eq4294967295.true in
+    let step = λ (b : ℕ). rotated_step c.args.size c.args.entry.now.row c.args.entry.now.col c.args.rotation (c.args.start + b) in
+    let inside = rw c.from.ensures at c.if-pos-end.true in
+    record {
+      few = omega (arith, run_inside c.args.word (c.bits.at + trailing_zeros w64 c.bits.rest) (omega arith) run);
+      left = λ j. rest_left c.args.word c.bits.rest c.bits.at _ 32 c.bits.invariant.left j;
+      steps =
+          join_steps _ _ _ _ _ _ c.push_run.ensures.steps c.bits.invariant.steps
+          (ap (λ s. steps_below step (λ b. bit_at c.args.word b == 1) c.bits.at ++ s)
+          (steps_same (step_after c.args.entry.now.row (c.args.start + c.bits.at + trailing_zeros w64 c.bits.rest) c.placed-pos.result) (λ j. step (c.bits.at + trailing_zeros w64 c.bits.rest + j)) (λ b. true) (λ b. true) 32
+          (run_pushed c.args.size c.args.entry.now.row c.args.entry.now.col c.args.rotation c.args.start c.bits.at (trailing_zeros w64 c.bits.rest) c.placed-pos.result c.placed-pos.ensures inside) (λ t _. refl))
+          ∙ sym (run_steps step c.args.word c.bits.at _ low run));
+      capacity = c.push_run.ensures.capacity ∙ c.bits.invariant.capacity;
+    }
+
+-- a bit alone
 pub push_reserved-requires : goal.push_reserved-requires
 push_reserved-requires c =
     let low = found c.args.word c.bits.rest c.bits.at c.bits.invariant.few c.bits.invariant.left c.bits-test.true (omega arith) (omega arith) in
@@ -46,11 +84,11 @@ bits-preserved c =
     let step = λ (b : ℕ). rotated_step c.args.size c.args.entry.now.row c.args.entry.now.col c.args.rotation (c.args.start + b) in
     record {
       few = omega (arith, low.inside);
-      left = λ j. rest_left c.args.word c.bits.rest c.bits.at _ c.bits.invariant.left j;
+      left = λ j. rest_left c.args.word c.bits.rest c.bits.at _ 1 c.bits.invariant.left j;
       steps =
           join_steps _ _ _ _ _ _ c.push_reserved.ensures.items c.bits.invariant.steps
           (ap (λ s. steps_below step (λ b. bit_at c.args.word b == 1) c.bits.at ++ s ∷ [])
-          (pushed c.args.size c.args.entry.now.row c.args.entry.now.col c.args.rotation c.args.start c.bits.at (trailing_zeros w64 c.bits.rest) c.placed.result c.placed.ensures)
+          (pushed c.args.size c.args.entry.now.row c.args.entry.now.col c.args.rotation c.args.start c.bits.at (trailing_zeros w64 c.bits.rest) c.placed-pos.result c.placed-pos.ensures)
           ∙ sym (lowest_steps step c.args.word c.bits.at _ low));
       capacity = c.push_reserved.ensures.capacity ∙ c.bits.invariant.capacity;
     }
