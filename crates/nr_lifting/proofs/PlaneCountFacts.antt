@@ -1,9 +1,9 @@
 -- Counts that are kept as bit planes, plane by plane.
-use Rattle.std.proofs.Common.{◌≡◌, ℕ, zero, suc, ◌+◌, ◌-◌, ◌*◌, ◌/◌, ◌%◌, ◌^◌, ◌<◌, ◌≤◌, ◌==◌, if◌then◌else◌, min, max, List, [], length, get_or, set, refl, sym, ap, ◌∙◌, inl, inr, arith, add-one, length-set, get_or-set_same, get_or-set_other}
+use Rattle.std.proofs.Common.{◌≡◌, ℕ, zero, suc, ◌+◌, ◌-◌, ◌*◌, ◌/◌, ◌%◌, ◌^◌, ◌<◌, ◌≤◌, ◌==◌, if◌then◌else◌, min, max, List, [], length, get_or, set, refl, sym, ap, subst, ◌∙◌, inl, inr, arith, add-one, length-set, get_or-set_same, get_or-set_other}
 use Rattle.std.proofs.Math.Nat.{pow-suc}
 use Rattle.std.proofs.lemmas.Bool.{cases_eq, cases_lt, ne_eqb}
 use Rattle.std.proofs.lemmas.Nat.{pow_pos}
-use Rattle.std.proofs.lemmas.Nat.Bits.{bit_at-lt, bit_at_and, bit_at_or, bit_at_xor, bit_at_not}
+use Rattle.std.proofs.lemmas.Nat.Bits.{bit_at-lt, bit_at-zero, bit_at_and, bit_at_or, bit_at_xor, bit_at_not}
 use Rattle.std.specs.Int.{bit_at, bit_not, w64}
 use Rattle.std.specs.Int.RustNames.{bit_and, bit_or, bit_xor}
 use Rattle.nr_lifting.specs.Planes.{number_below, number, number_at, Falls}
@@ -72,6 +72,29 @@ borrows_more n next now old bits borrow word h within is fits put = record {
   kept = λ k above. ap (λ ws. get_or ws k 0) put ∙ get_or-set_other now n k (bit_xor word borrow) 0 (λ e. omega (arith, e, above)) ∙ h.kept k (omega (arith, above));
   long = ap length put ∙ length-set now n (bit_xor word borrow) ∙ h.long;
 }
+
+-- where no borrow is left, one plane more has fallen, as it was
+borrows_idle : (n : ℕ) (now old : List ℕ) (bits borrow : ℕ) → Borrows n now old bits borrow → borrow ≡ 0 → Borrows (n + 1) now old bits borrow
+borrows_idle n now old bits borrow h none = record {
+  numbers = λ j short.
+      let digit : bit_at borrow j ≡ 0 = ap (λ w. bit_at w j) none ∙ bit_at-zero j in
+      let same : 2 ^ n * bit_at (get_or now n 0) j ≡ 2 ^ n * bit_at (get_or old n 0) j = ap (λ w. 2 ^ n * bit_at w j) (h.kept n (omega arith)) in
+      let below : number_below n now j + bit_at bits j ≡ number_below n old j + 2 ^ n * 0 = h.numbers j short ∙ ap (λ x. number_below n old j + 2 ^ n * x) digit in
+      let goes : 2 ^ (n + 1) * bit_at borrow j ≡ 2 ^ (n + 1) * 0 = ap (λ x. 2 ^ (n + 1) * x) digit in
+      omega (arith, below-next n now j, below-next n old j, same, below, goes);
+  kept = λ k above. h.kept k (omega (arith, above));
+  long = h.long;
+}
+
+-- where no borrow is left, all planes have fallen
+pub borrows_rest : (n m : ℕ) (now old : List ℕ) (bits borrow : ℕ) → Borrows n now old bits borrow → borrow ≡ 0 → n ≤ m → Borrows m now old bits borrow
+borrows_rest n zero now old bits borrow h none within = subst (λ k. Borrows k now old bits borrow) (omega (arith, within)) h
+borrows_rest n (suc m) now old bits borrow h none within = elim (cases_eq n (suc m)) [
+  | inl at ↦ subst (λ k. Borrows k now old bits borrow) at h
+  | inr apart ↦
+      let before : n ≤ m = omega (arith, within, apart) in
+      subst (λ k. Borrows k now old bits borrow) (add-one m) (borrows_idle m now old bits borrow (borrows_rest n m now old bits borrow h none before) none)
+]
 
 -- no borrow is left where no count was 0
 no_borrow : (a b p u y : ℕ) → a < p → y < 2 → u ≤ b → a + u ≡ b + p * y → a + u ≡ b

@@ -19,6 +19,10 @@ pub fn lower_word<const N: usize>(planes: &mut [u64; N], bits: u64)
 {
     let mut borrow = bits;
     for b in 0..N {
+        // After three planes a borrow is seldom left. Tests at the planes before cost more by wrong guesses than they save.
+        if b == 3 && borrow == 0 {
+            break;
+        }
         let word = planes[b];
         planes[b] = word ^ borrow;
         borrow &= !word;
