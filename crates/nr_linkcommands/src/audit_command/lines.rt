@@ -56,7 +56,6 @@ fn gained(peeler: &Peeler) -> u32
 }
 
 // Whether a peeler knows a position that it was not given.
-#[tactic(auto, using(crate::proofs::AuditLemmas::known_at_some))]
 fn is_gained(peeler: &Peeler, position: u32) -> bool
     requires { position < length peeler.now.given }
     ensures { result ≡ (bit peeler.now.known position && not (bit peeler.now.given position)) }
