@@ -8,7 +8,7 @@ use crate::receptions::{
 };
 use nr_blockdesk::{Settings, Tx};
 use nr_ratematch::Mask;
-use std::alloc::Global;
+use std::alloc::{AllocError, Global};
 use std::test::Fail;
 
 /// Whether the checkers accept what is shown of octets of which first bits are sent.
@@ -130,27 +130,37 @@ fn end_of_two_code_blocks(alloc: Global, mask: Mask, heard: Places<'_>) -> Resul
 fn two_code_blocks_are_certified(rt: HostRuntime) -> Result<(), Fail> {
     for (mask, heard) in [(Mask::All, NONE), (Mask::Only([2, 0, 0, 0, 0, 0]), ALL)] {
         let end = end_of_two_code_blocks(rt.alloc(), mask, heard)?;
-        assert!(rt; (end.left, end.accepted) == (1952, true));
+        assert!(rt; end.left == 1952 && end.accepted);
     }
     Ok(())
 }
 
+/// Each place of the buffer as a range.
+fn places_of(alloc: Global) -> Result<Vec<[(usize, usize); 1]>, AllocError> {
+    let mut places = Vec::new(alloc);
+    for m in 0..184 {
+        places.push([(m, m)])?;
+    }
+    Ok(places)
+}
+
+/// Transmissions of the whole buffer, of each of which one place is received.
+fn place_by_place<'a>(
+    alloc: Global,
+    places: &'a [[(usize, usize); 1]],
+) -> Result<Vec<First<'a>>, AllocError> {
+    let mut firsts = Vec::new(alloc);
+    for place in places {
+        firsts.push((184, place.as_slice(), NONE))?;
+    }
+    Ok(firsts)
+}
+
 /// What comes of octet 01 of which each place of the buffer is received in a transmission of its own.
 fn end_place_by_place(alloc: Global) -> Result<End, Fail> {
-    let table = practice(alloc, 0, 1, false)?;
-    let mut ranges = Vec::new(alloc);
-    for m in 0..184 {
-        ranges.push([(m, m)])?;
-    }
-    let mut arrivals = Vec::new(alloc);
-    for range in &ranges {
-        arrivals.push(Arrival {
-            tx: on_one_layer(0, 184, 1),
-            heard: range,
-            flipped: NONE,
-        })?;
-    }
-    end_over(alloc, &table, PLAIN, &[0x01], &arrivals)
+    let places = places_of(alloc)?;
+    let firsts = place_by_place(alloc, &places)?;
+    end_of_firsts(alloc, PLAIN, &[0x01], &firsts)
 }
 
 // The table has 105 entries, so with four lanes 420 pairs.

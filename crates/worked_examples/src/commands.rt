@@ -18,7 +18,7 @@ fn writes(
     text: &[u8],
 ) -> Result<bool, AllocError> {
     let (answer, _, tape) = ended(alloc, command, blocks, schedule, (End::Output, 0))?;
-    Ok(answer == Ok(()) && tape.bytes() == text)
+    Ok(answer.is_ok() && tape.bytes() == text)
 }
 
 /// What `cut` makes of block 01.

@@ -1,6 +1,6 @@
 //! The commands over files and an output in memory, each of which can be made to break.
 
-ghost use Rattle.std.specs.Prelude.{◌≡◌, ◌<◌, Some, IfOk};
+ghost use Rattle.std.specs.Prelude.{◌≡◌, ◌<◌, ◌^◌, Some, IfOk};
 
 use crate::practice::practice_text;
 use nr_commands::{RunFault, Tape, check, cut};
@@ -9,7 +9,7 @@ use nr_shifttable::{Broken, Feed, Source};
 use std::alloc::{AllocError, Global};
 
 /// A command of the program; `cut` at the highest code rate.
-#[derive(Clone, Copy, Debug, PartialEq, Eq)]
+#[derive(Clone, Copy, PartialEq, Eq)]
 pub(crate) enum Command {
     Cut,
     Check,
@@ -19,7 +19,7 @@ pub(crate) enum Command {
 }
 
 /// What a command reads, and what it writes to.
-#[derive(Clone, Copy, Debug, PartialEq, Eq)]
+#[derive(Clone, Copy, PartialEq, Eq)]
 pub(crate) enum End {
     Table,
     Settings,
@@ -66,7 +66,7 @@ fn source_of(
     breaks: (End, u32),
 ) -> Result<Counted, AllocError>
     requires { 0 < step }
-    ensures { IfOk result (λ source. source.feed.failed ≡ 0) }
+    ensures { IfOk result (λ source. source.feed.failed < 2 ^ 32) }
 {
     Ok(Counted {
         feed: Feed::new(Vec::from_slice(alloc, text)?, step, breaks_at(end, breaks)),
@@ -84,10 +84,10 @@ fn perform(
     schedule: &mut Counted,
     tape: &mut Tape,
 ) -> Result<(), RunFault>
-    requires table { table.old.feed.failed ≡ 0 }
-    requires settings { settings.old.feed.failed ≡ 0 }
-    requires blocks { blocks.old.feed.failed ≡ 0 }
-    requires schedule { schedule.old.feed.failed ≡ 0 }
+    requires table { table.old.feed.failed < 2 ^ 32 }
+    requires settings { settings.old.feed.failed < 2 ^ 32 }
+    requires blocks { blocks.old.feed.failed < 2 ^ 32 }
+    requires schedule { schedule.old.feed.failed < 2 ^ 32 }
     requires puts { tape.old.failures ≡ 0 }
 {
     match command {
@@ -103,6 +103,59 @@ fn perform(
 /// Then what it wrote.
 pub(crate) type Ended = (Result<(), RunFault>, [u32; 4], Tape);
 
+/// How a command ends under these files and a schedule. The output takes one octet a put.
+fn ended_over_three(
+    alloc: Global,
+    command: Command,
+    table: &mut Counted,
+    settings: &mut Counted,
+    blocks: &mut Counted,
+    schedule: &[u8],
+    breaks: (End, u32),
+) -> Result<Ended, AllocError>
+    requires table { table.old.feed.failed < 2 ^ 32 }
+    requires settings { settings.old.feed.failed < 2 ^ 32 }
+    requires blocks { blocks.old.feed.failed < 2 ^ 32 }
+{
+    let mut schedule = source_of(alloc, schedule, 1, End::Schedule, breaks)?;
+    let mut tape = Tape::new(alloc, ROOM, 1, breaks_at(End::Output, breaks))?;
+    let answer = perform(
+        alloc,
+        command,
+        table,
+        settings,
+        blocks,
+        &mut schedule,
+        &mut tape,
+    );
+    let pulls = [table.pulls, settings.pulls, blocks.pulls, schedule.pulls];
+    Ok((answer, pulls, tape))
+}
+
+/// How a command ends under a table and the highest code rate. The files but the table give one octet a pull.
+fn ended_over_table(
+    alloc: Global,
+    command: Command,
+    table: &mut Counted,
+    blocks: &[u8],
+    schedule: &[u8],
+    breaks: (End, u32),
+) -> Result<Ended, AllocError>
+    requires { table.old.feed.failed < 2 ^ 32 }
+{
+    let mut settings = source_of(alloc, SETTINGS, 1, End::Settings, breaks)?;
+    let mut blocks = source_of(alloc, blocks, 1, End::Blocks, breaks)?;
+    ended_over_three(
+        alloc,
+        command,
+        table,
+        &mut settings,
+        &mut blocks,
+        schedule,
+        breaks,
+    )
+}
+
 /// How a command ends under the practice table and the highest code rate, where this end breaks at this pull or put. The
 /// table gives 64 octets a pull, and the other files one; the output takes one octet a put.
 pub(crate) fn ended(
@@ -114,19 +167,5 @@ pub(crate) fn ended(
 ) -> Result<Ended, AllocError> {
     let text = practice_text(alloc)?;
     let mut table = source_of(alloc, text.as_bytes(), 64, End::Table, breaks)?;
-    let mut settings = source_of(alloc, SETTINGS, 1, End::Settings, breaks)?;
-    let mut blocks = source_of(alloc, blocks, 1, End::Blocks, breaks)?;
-    let mut schedule = source_of(alloc, schedule, 1, End::Schedule, breaks)?;
-    let mut tape = Tape::new(alloc, ROOM, 1, breaks_at(End::Output, breaks))?;
-    let answer = perform(
-        alloc,
-        command,
-        &mut table,
-        &mut settings,
-        &mut blocks,
-        &mut schedule,
-        &mut tape,
-    );
-    let pulls = [table.pulls, settings.pulls, blocks.pulls, schedule.pulls];
-    Ok((answer, pulls, tape))
+    ended_over_table(alloc, command, &mut table, blocks, schedule, breaks)
 }

@@ -12,23 +12,30 @@ use nr_shifttable::Table;
 use std::alloc::{AllocError, Global};
 use std::test::Fail;
 
-/// Marks positions, each with the chance `share` of 256, and ones in all other places. With a larger share the same
-/// positions are marked, too.
-fn drawn(alloc: Global, size: u32, share: u64, seed: u64) -> Result<(Bits, Bits), AllocError> {
+/// Marks positions, each with the chance `share` of 256. With a larger share the same positions are marked, too.
+fn drawn(alloc: Global, size: u32, share: u64, seed: u64) -> Result<Bits, AllocError> {
     let mut marks = Bits::zeros(alloc, size.min(30_000))?;
-    let mut values = Bits::zeros(alloc, size.min(30_000))?;
     let mut state = seed;
     for pos in 0..marks.len() {
         state = state
             .wrapping_mul(6_364_136_223_846_793_005)
             .wrapping_add(1_442_695_040_888_963_407);
-        let heard = state >> 56 < share;
-        if pos < marks.len() && pos < values.len() {
-            marks.set(pos, heard);
-            values.set(pos, !heard);
+        if pos < marks.len() {
+            marks.set(pos, state >> 56 < share);
         }
     }
-    Ok((marks, values))
+    Ok(marks)
+}
+
+/// Ones in all places that are not marked.
+fn turned(marks: &Bits) -> Result<Bits, AllocError> {
+    let mut values = marks.try_clone()?;
+    for pos in 0..marks.len() {
+        if pos < values.len() {
+            values.set(pos, !marks.get(pos));
+        }
+    }
+    Ok(values)
 }
 
 /// Gives marked positions of the word of zeros, one after another.
@@ -40,8 +47,15 @@ fn hear_each(peeler: &mut Peeler<'_>, marks: &Bits) {
     }
 }
 
+/// Gives marked positions of the word of zeros at a time. What the values have elsewhere is nothing to a peeler.
+fn hear_at_a_time(peeler: &mut Peeler<'_>, marks: &Bits) -> Result<(), AllocError> {
+    let values = turned(marks)?;
+    learn_all(peeler, marks, &values);
+    Ok(())
+}
+
 /// Gives positions of the word of zeros, each with the chance `share` of 256. They go one after another, or first half
-/// of them at a time and then all of them. What the values have elsewhere is nothing to a peeler.
+/// of them at a time and then all of them.
 fn hear(
     alloc: Global,
     peeler: &mut Peeler<'_>,
@@ -50,15 +64,14 @@ fn hear(
     each: bool,
 ) -> Result<(), AllocError> {
     let seed = share.wrapping_add(7);
-    let (marks, values) = drawn(alloc, size, share, seed)?;
+    let marks = drawn(alloc, size, share, seed)?;
     if each {
         hear_each(peeler, &marks);
         return Ok(());
     }
-    let (half, turned) = drawn(alloc, size, share / 2, seed)?;
-    learn_all(peeler, &half, &turned);
-    learn_all(peeler, &marks, &values);
-    Ok(())
+    let half = drawn(alloc, size, share / 2, seed)?;
+    hear_at_a_time(peeler, &half)?;
+    hear_at_a_time(peeler, &marks)
 }
 
 /// Whether rounds mark what the peeler knows, all of which is zero.
@@ -157,14 +170,23 @@ fn count(alloc: Global, table: &Table, plan: &Plan, each: bool) -> Result<[u32; 
     Ok(counts)
 }
 
-/// The lifting size of so many bits, and whether all words are as rounds and the checks say, some of them whole and some
-/// not.
-fn agrees(alloc: Global, graph: Graph, bits: u32, each: bool) -> Result<(u32, bool), Fail> {
+/// Whether all words of a plan are as rounds and the checks say, some of them whole and some not.
+fn agrees_over(alloc: Global, table: &Table, plan: &Plan, each: bool) -> Result<bool, Fail> {
+    let [whole, stuck, other] = count(alloc, table, plan, each)?;
+    Ok(whole > 0 && stuck > 0 && other == 0)
+}
+
+/// A made-up table of a base graph.
+fn made_up_table(alloc: Global, graph: Graph) -> Result<Table, Fail> {
     let cells = made_up(alloc, graph, 2)?;
-    let table = table_of(alloc, &cells)?;
+    table_of(alloc, &cells)
+}
+
+/// The lifting size of so many bits, and whether all their words are right.
+fn agrees(alloc: Global, graph: Graph, bits: u32, each: bool) -> Result<(u32, bool), Fail> {
     let plan = plan(graph, bits)?;
-    let [whole, stuck, other] = count(alloc, &table, &plan, each)?;
-    Ok((plan.z, whole > 0 && stuck > 0 && other == 0))
+    let table = made_up_table(alloc, graph)?;
+    Ok((plan.z, agrees_over(alloc, &table, &plan, each)?))
 }
 
 // Two small sizes position by position. Then many positions at a time: sizes of all eight sets. Of these 7, 11 and 18

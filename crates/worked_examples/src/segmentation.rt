@@ -127,9 +127,10 @@ fn each_of_two_code_blocks_has_1952_bits_and_its_own_crc(rt: HostRuntime) -> Res
 }
 
 // Three code blocks, joined.
-fn joined(alloc: Global, plan: &Plan, blocks: &[Bits; 3]) -> Result<Bits, Fail> {
+fn joined(alloc: Global, plan: &Plan, blocks: &[Bits]) -> Result<Bits, Fail> {
     let long = plan.kdash as usize;
     if plan.c == 3
+        && blocks.len() == 3
         && blocks[0].len() == long
         && blocks[1].len() == long
         && blocks[2].len() == long
@@ -142,10 +143,11 @@ fn joined(alloc: Global, plan: &Plan, blocks: &[Bits; 3]) -> Result<Bits, Fail> 
 
 // A block's three code blocks, joined.
 fn rejoined(alloc: Global, plan: &Plan, block: &Bits) -> Result<Bits, Fail> {
-    let first = cut_out(alloc, plan, block, 0)?;
-    let second = cut_out(alloc, plan, block, 1)?;
-    let third = cut_out(alloc, plan, block, 2)?;
-    joined(alloc, plan, &[first, second, third])
+    let mut blocks = Vec::new(alloc);
+    for r in 0..3 {
+        blocks.push(cut_out(alloc, plan, block, r)?)?;
+    }
+    joined(alloc, plan, &blocks)
 }
 
 // 957 octets are 7656 bits.

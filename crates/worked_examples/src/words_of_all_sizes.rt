@@ -92,6 +92,15 @@ fn bits_at(graph: Graph, size: u16) -> u32 {
     (columns * u32::from(size)).saturating_sub(3).max(24)
 }
 
+/// Whether a code block of drawn bits is encoded by a plan.
+fn is_encoded(alloc: Global, table: &Table, cells: &[Cell], plan: &Plan) -> Result<bool, Fail> {
+    let bits = drawn(alloc, plan.kdash)?;
+    match word_of(alloc, table, plan, &bits) {
+        Ok(word) => Ok(begins_with(&word, &bits) && is_word(table, cells, plan, &word)),
+        Err(fault) => Err(fault.into()),
+    }
+}
+
 /// Whether a code block of drawn bits is encoded at a lifting size.
 fn is_encoded_at(
     alloc: Global,
@@ -101,13 +110,7 @@ fn is_encoded_at(
     size: u16,
 ) -> Result<bool, Fail> {
     let plan = plan(graph, bits_at(graph, size))?;
-    let bits = drawn(alloc, plan.kdash)?;
-    let word = word_of(alloc, table, &plan, &bits)?;
-    Ok(
-        plan.z == u32::from(size)
-            && begins_with(&word, &bits)
-            && is_word(table, cells, &plan, &word),
-    )
+    Ok(plan.z == u32::from(size) && is_encoded(alloc, table, cells, &plan)?)
 }
 
 /// The first of the lifting sizes from one on at which a code block is not encoded over a made-up table.

@@ -23,9 +23,9 @@ fn breaks_behind(
     let breaks = (End::Output, count.saturating_add(1));
     let (answer, _, tape) = ended(alloc, command, BLOCKS, schedule, breaks)?;
     let is_told = if count as usize == text.len() {
-        answer == Ok(())
+        answer.is_ok()
     } else {
-        answer == Err(RunFault::Write)
+        matches!(answer, Err(RunFault::Write))
     };
     Ok(is_told && text.get(..count as usize) == Some(tape.bytes()))
 }

@@ -141,9 +141,9 @@ fn spreads(rt: HostRuntime) -> Result<(), AllocError> {
 }
 
 // Joins two code blocks, where they have the plan's bits.
-fn join_two(alloc: Global, plan: &Plan, blocks: &[Bits; 2]) -> Result<Bits, AllocError> {
+fn join_two(alloc: Global, plan: &Plan, blocks: &[Bits]) -> Result<Bits, AllocError> {
     let long = plan.kdash as usize;
-    if plan.c == 2 && blocks[0].len() == long && blocks[1].len() == long {
+    if plan.c == 2 && blocks.len() == 2 && blocks[0].len() == long && blocks[1].len() == long {
         join(alloc, plan, blocks)
     } else {
         Err(AllocError)
@@ -151,21 +151,27 @@ fn join_two(alloc: Global, plan: &Plan, blocks: &[Bits; 2]) -> Result<Bits, Allo
 }
 
 // How many bits two code blocks of zeros have, joined.
-fn joined_length(alloc: Global, plan: &Plan, blocks: &[Bits; 2]) -> Result<usize, AllocError> {
+fn joined_length(alloc: Global, plan: &Plan, blocks: &[Bits]) -> Result<usize, AllocError> {
     match join_two(alloc, plan, blocks) {
         Ok(bits) => Ok(bits.len()),
         Err(error) => Err(error),
     }
 }
 
+// Two code blocks of 1952 zeros.
+fn two_of_zeros(alloc: Global) -> Result<Vec<Bits>, AllocError> {
+    let mut blocks = Vec::new(alloc);
+    for _ in 0..2 {
+        blocks.push(Bits::zeros(alloc, 1952)?)?;
+    }
+    Ok(blocks)
+}
+
 // 3856 bits with base graph 2 are two code blocks of 1952 bits, each with its CRC, which is zero for zeros.
 #[test]
 fn joins(rt: HostRuntime) -> Result<(), Fail> {
     let two = plan(Graph::Two, 3856)?;
-    let blocks = [
-        Bits::zeros(rt.alloc(), 1952)?,
-        Bits::zeros(rt.alloc(), 1952)?,
-    ];
+    let blocks = two_of_zeros(rt.alloc())?;
     let answer = joined_length(rt.alloc(), &two, &blocks);
     if answer.is_err() && has_memory(rt.alloc()) {
         assert!(rt; joined_length(rt.alloc(), &two, &blocks) == Ok(3856));
