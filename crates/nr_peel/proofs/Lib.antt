@@ -26,6 +26,7 @@ mod GivenLaneFacts
 mod OneGivenFacts
 mod QuotientFacts
 mod RemainingFacts
+mod GainedFacts
 mod FixOrderCheckFacts
 mod RowEntryFacts
 mod StoppingCheckFacts

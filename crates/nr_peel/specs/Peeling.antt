@@ -1,5 +1,5 @@
 -- Believed: what contracts see of a peeler, and what is true of every one.
-use Rattle.std.specs.Prelude.{◌≡◌, ◌≢◌, ℕ, ◌+◌, ◌*◌, ◌≤◌, ◌||◌, Bool, true, false, not, if◌then◌else◌, List, length, map, filter, take, count_by, Option, Some, None}
+use Rattle.std.specs.Prelude.{◌≡◌, ◌≢◌, ℕ, ◌+◌, ◌*◌, ◌≤◌, ◌&&◌, ◌||◌, Bool, true, false, not, if◌then◌else◌, List, length, map, filter, take, count_by, Option, Some, None}
 use Rattle.std.specs.List.{range_with_len}
 use Rattle.nr_bitvec.specs.Bit.{bit}
 use Rattle.nr_graphpick.specs.declared.Graph.{Graph}
@@ -47,6 +47,10 @@ left_of n known = count_by (λ b. not b) (take n known)
 -- the positions that aren't known, ascending
 abbrev pub unknown_in : List Bool → List ℕ
 unknown_in known = filter (λ p. not (bit known p)) (range_with_len 0 (length known))
+
+-- how many positions are known that were not given
+abbrev pub gained_in : List Bool → List Bool → ℕ
+gained_in known given = count_by (λ p. bit known p && not (bit given p)) (range_with_len 0 (length given))
 
 -- twice the lifting size times the entries of the base graph: twice the pairs of a row and a position of it
 abbrev pub most_visits : Peeling → ℕ

@@ -4,7 +4,7 @@ ghost use Rattle.std.specs.Prelude.{◌≡◌, ◌+◌, ◌<◌, ◌≤◌, ◌=
 ghost use Rattle.std.specs.Int.{bit_at};
 ghost use Rattle.nr_bitvec.specs.Bit.{bit};
 ghost use Rattle.nr_shifttable.specs.Accepted.{IsTable};
-ghost use Rattle.nr_peel.specs.Peeling.{bit_where, unknown_in};
+ghost use Rattle.nr_peel.specs.Peeling.{bit_where, gained_in, unknown_in};
 ghost use Rattle.nr_peel.specs.StateInside.{lifted_checks};
 ghost use Rattle.nr_peel.specs.Taken.{TakesUp};
 ghost use Rattle.nr_peel.specs.Engine.{
@@ -112,6 +112,17 @@ impl Engine {
         match self {
             Engine::Words(sweep_peeler) => sweep_peeler.left,
             Engine::Positions(peeler) => peeler.left,
+        }
+    }
+
+    // How many positions are known that were not given.
+    pub(crate) fn gained(&self, lifted: &Lifted<'_>) -> u32
+        requires { IsEngine lifted.now self.now }
+        ensures { result ≡ gained_in (known_in self.now) (given_in self.now) }
+    {
+        match self {
+            Engine::Words(sweep_peeler) => sweep_peeler.gained(lifted),
+            Engine::Positions(peeler) => peeler.gained(),
         }
     }
 

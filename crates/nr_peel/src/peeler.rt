@@ -19,6 +19,7 @@ ghost use Rattle.nr_peel.specs.Peeling.{
   StopsWhereLeft,
   TakesAll,
   checks_for,
+  gained_in,
   known_at,
   left_of,
   most_visits,
@@ -148,6 +149,15 @@ impl<'t> Peeler<'t> {
         ensures peeled { IsPeeled self.now }
     {
         self.engine.left()
+    }
+
+    /// How many positions peeling fixed: those that are known and were not given. A step whose position was given later is
+    /// none of them.
+    pub fn gained(&self) -> u32
+        ensures value { result ≡ gained_in self.now.known self.now.given }
+        ensures peeled { IsPeeled self.now }
+    {
+        self.engine.gained(&self.lifted)
     }
 
     /// How many visits there were of a row and a position of it. With n the number of pairs of a row and a known position

@@ -15,7 +15,7 @@ use nr_bitvec::words::low_bits;
 use nr_lifting::{common, lane_count};
 
 // The block of `size` bits of a list from bit `from` on.
-fn read_lane(bits: &Bits, from: usize, size: usize) -> [u64; 6]
+pub(crate) fn read_lane(bits: &Bits, from: usize, size: usize) -> [u64; 6]
     requires few { size ≤ 384 }
     requires short { from < 2 ^ 32 }
     ensures bits { (t : ℕ) → t < size → is_set result t ≡ bit bits.now.items (from + t) }

@@ -6,13 +6,15 @@ ghost use Rattle.nr_bitvec.specs.Bit.{bit};
 ghost use Rattle.nr_segment.specs.CodeBlock.{numbers};
 ghost use Rattle.nr_shifttable.specs.Accepted.{IsTable};
 ghost use Rattle.nr_peel.specs.Learning.{IsFilled, IsSweepPeeler, Learns};
-ghost use Rattle.nr_peel.specs.Peeling.{bit_where, fillers, left_of};
+ghost use Rattle.nr_peel.specs.Peeling.{bit_where, fillers, gained_in, left_of};
 ghost use Rattle.nr_peel.specs.Settled.{HasNonePending, IsHeld, Keeps};
 ghost use Rattle.nr_peel.specs.StateInside.{lifted_checks};
 
+use crate::bit_parallel::hearing::read_lane;
 use crate::bit_parallel::sweep::Sweep;
 use crate::lifted::Lifted;
 use nr_bitvec::Bits;
+use nr_lifting::{lane_count, without};
 use std::alloc::{AllocError, Global};
 
 // The fillers of a plan, marked.
@@ -110,6 +112,21 @@ impl SweepPeeler {
         self.given.set(pos as usize, true);
         self.sweep.lanes.hear_one(lifted, pos, value);
         self.go_on(lifted);
+    }
+
+    // How many positions are known that were not given, a column at a time.
+    pub(crate) fn gained(&self, lifted: &Lifted<'_>) -> u32
+        requires { IsSweepPeeler lifted.now self.now }
+        ensures { result ≡ gained_in self.now.sweep.lanes.known.items self.now.given.items }
+    {
+        let size = lifted.plan.z as usize;
+        let mut gained = 0;
+        for j in 0..lifted.plan.graph.cols() as usize {
+            let known = self.sweep.lanes.known.lane(j, 0);
+            let given = read_lane(&self.given, j * size, size);
+            gained += lane_count(&without(&known, &given));
+        }
+        gained
     }
 
     // The bit of a position, if it is known.

@@ -11,7 +11,7 @@ ghost use Rattle.nr_ldpcenc.specs.Rows.{one_at};
 ghost use Rattle.nr_peel.specs.Worklist.{GivesMarks, Grows, IsBlank, IsBusy, IsWorklistPeeler, IsCounted, IsNew, IsVisited, IsWorklistSound, position_view};
 ghost use Rattle.nr_peel.specs.ClosureInside.{IsOnlyMissing};
 ghost use Rattle.nr_peel.specs.Counters.{AreTied, Follows, IsListed, IsLowered, IsSettled, holder};
-ghost use Rattle.nr_peel.specs.Peeling.{bit_where, unknown_in};
+ghost use Rattle.nr_peel.specs.Peeling.{bit_where, gained_in, unknown_in};
 ghost use Rattle.nr_peel.specs.StateInside.{lifted_checks};
 ghost use Rattle.nr_peel.specs.Taken.{TakesUp};
 
@@ -269,6 +269,18 @@ impl WorklistPeeler {
     {
         let count = (self.bits.len() - pos).min(64);
         (self.bits.window(pos), count as u32)
+    }
+
+    // How many positions are known that were not given.
+    pub(crate) fn gained(&self) -> u32
+        requires { length self.now.known.items ≡ length self.now.given.items }
+        ensures { result ≡ gained_in self.now.known.items self.now.given.items }
+    {
+        let mut gained = 0;
+        for p in 0..self.given.len() {
+            gained += u32::from(self.known.get(p) && !self.given.get(p));
+        }
+        gained
     }
 
     // The positions that aren't known, ascending.

@@ -1,0 +1,24 @@
+use Rattle.std.proofs.Common.{◌+◌, ◌*◌, ◌<◌, ◌≤◌, ap, ◌∙◌, arith}
+use Rattle.std.proofs.Math.Nat.{mul-le-mul_right}
+use Rattle.nr_graphpick.specs.Graph.{cols_of}
+use Rattle.nr_peel.proofs.GainedFacts.{counted_most, gained_column, is_gained}
+use Rattle.nr_peel.proofs.StartFacts.{size_most}
+use Rattle.nr_peel.proofs.bit_parallel.sweep_peeler.SweepPeeler.gained.Goals as goal
+
+pub loop-j-preserved : goal.loop-j-preserved
+loop-j-preserved c =
+    let z = c.args.lifted.now.plan.z in
+    let lanes = c.requires.sweep.held.lanes in
+    let read = rw lanes.known_lanes at c.lane-known.ensures.bits in
+    let clear = rw lanes.known_lanes at c.lane-known.ensures.clear in
+    ap (λ m. m + c.lane_count-gained.result) c.loop-j.invariant
+    ∙ gained_column c.args.self.now.sweep.lanes.known.items c.args.self.now.given.items z c.loop-j.j c.lane_count-gained.result c.lane-known.result c.read_lane-given.result c.without.result
+    read c.read_lane-given.ensures.bits c.without.ensures.bits (c.lane_count-gained.ensures.marked z (c.without.ensures.clear z clear))
+
+pub overflow_add-gained : goal.overflow_add-gained
+overflow_add-gained c =
+    let p = c.args.lifted.now.plan in
+    let below : c.loop-j.j < cols_of p.graph = omega arith in
+    let within : c.loop-j.j * p.z ≤ cols_of p.graph * p.z = mul-le-mul_right p.z (omega (arith, below)) in
+    let whole : cols_of p.graph * p.z ≤ 68 * 384 = size_most c.args.lifted.now in
+    omega (arith, c.loop-j.invariant, within, whole, c.lane_count-gained.ensures.few, counted_most (is_gained c.args.self.now.sweep.lanes.known.items c.args.self.now.given.items) (c.loop-j.j * p.z))
