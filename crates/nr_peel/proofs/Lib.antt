@@ -27,6 +27,7 @@ mod OneGivenFacts
 mod QuotientFacts
 mod RemainingFacts
 mod GainedFacts
+mod UnknownFacts
 mod FixOrderCheckFacts
 mod RowEntryFacts
 mod StoppingCheckFacts

@@ -1,23 +1,19 @@
-use Rattle.std.proofs.Common.{◌≡◌, ◌++◌, true, false, not, cond, [], ◌∷◌, sym, ap, ◌∙◌}
+use Rattle.std.proofs.Common.{◌≡◌, ◌*◌, ◌++◌, ap, ◌∙◌, arith}
 use Rattle.std.specs.List.{filter, range_with_len}
-use Rattle.std.proofs.lemmas.List.{append-nil}
-use Rattle.nr_bitvec.specs.Bit.{bit}
-use Rattle.nr_peel.proofs.LeftPositionFacts.{kept_more}
+use Rattle.nr_peel.specs.StateInside.{lifted_checks}
+use Rattle.nr_peel.proofs.UnknownFacts.{is_missing, listed_more}
 use Rattle.nr_peel.proofs.bit_parallel.lanes.Lanes.unknown.Goals as goal
-use Rattle.nr_peel.proofs.bit_parallel.lanes.Lanes.unknown.Goals.{then-not-get+in_ok-push, else-not-get}
 
-pub loop-p-preserved : goal.loop-p-preserved
-loop-p-preserved c =
+pub loop-at-preserved : goal.loop-at-preserved
+loop-at-preserved c =
+    let l = c.args.lifted.now in
     let known = c.args.self.now.known.items in
-    let p = c.loop-p.p in
-    let more = kept_more (λ q. not (bit known q)) p in
-    elim c.if-not-get.branch [
-      | then-not-get+in_ok-push w ↦
-          let out : not (bit known p) ≡ true = ap not (sym c.get.ensures ∙ w.if-not-get.true) in
-          ap (λ v. v.items) w.unknown-is ∙ w.in_ok-push.ensures.items ∙ ap (λ l. l ++ p ∷ []) c.loop-p.invariant
-          ∙ ap (λ b. filter (λ q. not (bit known q)) (range_with_len 0 p) ++ cond b (p ∷ []) []) (sym out) ∙ sym more
-      | else-not-get w ↦
-          let in_ : not (bit known p) ≡ false = ap not (sym c.get.ensures ∙ w.if-not-get.false) in
-          ap (λ v. v.items) w.unknown-is ∙ c.loop-p.invariant ∙ sym (append-nil (filter (λ q. not (bit known q)) (range_with_len 0 p)))
-          ∙ ap (λ b. filter (λ q. not (bit known q)) (range_with_len 0 p) ++ cond b (p ∷ []) []) (sym in_) ∙ sym more
-    ]
+    let start = c.loop-at.at in
+    let word = c.word_from-word.result.0 in
+    let count = c.word_from-word.result.1 in
+    let size : c.cols.result * l.plan.z ≡ (lifted_checks l).size = ap (λ n. n * l.plan.z) c.cols.ensures in
+    record {
+      below = omega (arith, c.word_from-word.ensures.inside, c.requires.known_long, size);
+      listed = listed_more known c.push_unknown.new.unknown.items start count word c.word_from-word.ensures.bits
+          (c.in_ok-push_unknown.ensures ∙ ap (λ items. items ++ filter (is_missing word start) (range_with_len start count)) c.loop-at.invariant.listed);
+    }

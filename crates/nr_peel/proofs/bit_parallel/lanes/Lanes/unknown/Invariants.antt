@@ -1,8 +1,14 @@
-use Rattle.std.proofs.Common.{◌≡◌, not}
+use Rattle.std.proofs.Common.{◌≡◌, ◌-◌, ◌≤◌, not}
 use Rattle.std.specs.List.{filter, range_with_len}
 use Rattle.nr_bitvec.specs.Bit.{bit}
 use Rattle.nr_peel.proofs.bit_parallel.lanes.Lanes.unknown.Given as goal
 
+abbrev pub decreases-loop-at : goal.decreases-loop-at
+decreases-loop-at l = l.size - l.at
+
 -- the positions so far that aren't known
-abbrev pub invariant-loop-p : goal.invariant-loop-p
-invariant-loop-p l = l.unknown.items ≡ filter (λ p. not (bit l.self.known.items p)) (range_with_len 0 l.p)
+abbrev pub invariant-loop-at : goal.invariant-loop-at
+invariant-loop-at l = record {
+  below : l.at ≤ l.size;
+  listed : l.unknown.items ≡ filter (λ p. not (bit l.self.known.items p)) (range_with_len 0 l.at);
+}

@@ -1,0 +1,97 @@
+-- The positions that aren't known, listed word by word.
+use Rattle.std.proofs.Common.{◌≡◌, ℕ, zero, suc, ◌+◌, ◌-◌, ◌<◌, ◌≤◌, ◌==◌, Bool, true, false, not, cond, List, [], ◌∷◌, ◌++◌, refl, sym, ap, ◌∙◌, arith, append_assoc}
+use Rattle.std.specs.Int.{bit_at}
+use Rattle.std.specs.List.{filter, range_with_len}
+use Rattle.std.proofs.lemmas.List.{append-nil, map-id}
+use Rattle.std.proofs.lemmas.List.FromFn.{filter_of_map_range_with_len_more}
+use Rattle.std.proofs.lemmas.Nat.Bits.{bit_at-lt, bit_at_ones}
+use Rattle.nr_bitvec.specs.Bit.{bit}
+use Rattle.nr_peel.proofs.LeftPositionFacts.{kept_more}
+
+-- ---- a filter of numbers that follow one another
+
+module _ (keeps : ℕ → Bool) where
+  abbrev kept : ℕ → ℕ → List ℕ
+  kept a n = filter keeps (range_with_len a n)
+
+  -- one number more
+  pub kept_on : (a n : ℕ) → filter keeps (range_with_len a (n + 1)) ≡ filter keeps (range_with_len a n) ++ cond (keeps (a + n)) ((a + n) ∷ []) []
+  kept_on a n =
+      ap (filter keeps) (sym (map-id (range_with_len a (n + 1)))) ∙ filter_of_map_range_with_len_more keeps (λ (x : ℕ). x) a n (a + n) refl
+      ∙ ap (λ l. filter keeps l ++ cond (keeps (a + n)) ((a + n) ∷ []) []) (map-id (range_with_len a n))
+
+  -- one that is kept, and one that isn't, behind other numbers
+  pub kept_in : (now old : List ℕ) (a n : ℕ) → now ≡ old ++ filter keeps (range_with_len a n) → keeps (a + n) ≡ true → now ++ (a + n) ∷ [] ≡ old ++ filter keeps (range_with_len a (n + 1))
+  kept_in now old a n is keep =
+      ap (λ l. l ++ (a + n) ∷ []) is ∙ append_assoc old (kept a n) ((a + n) ∷ [])
+      ∙ ap (λ l. old ++ l) (ap (λ b. kept a n ++ cond b ((a + n) ∷ []) []) (sym keep) ∙ sym (kept_on a n))
+
+  pub kept_out : (now old : List ℕ) (a n : ℕ) → now ≡ old ++ filter keeps (range_with_len a n) → keeps (a + n) ≡ false → now ≡ old ++ filter keeps (range_with_len a (n + 1))
+  kept_out now old a n is drop =
+      is ∙ ap (λ l. old ++ l) (sym (append-nil (kept a n)) ∙ ap (λ b. kept a n ++ cond b ((a + n) ∷ []) []) (sym drop) ∙ sym (kept_on a n))
+
+  -- those of n numbers more
+  pub kept_parts : (a n : ℕ) → filter keeps (range_with_len 0 (a + n)) ≡ filter keeps (range_with_len 0 a) ++ filter keeps (range_with_len a n)
+  kept_parts a zero = ap (kept 0) (plain a) ∙ sym (append-nil (kept 0 a))
+    where
+      plain : (a : ℕ) → a + 0 ≡ a
+      plain a = omega arith
+  kept_parts a (suc n) =
+      ap (kept 0) (step a n) ∙ kept_more keeps (a + n) ∙ ap (λ l. l ++ cond (keeps (a + n)) ((a + n) ∷ []) []) (kept_parts a n)
+      ∙ append_assoc (kept 0 a) (kept a n) (cond (keeps (a + n)) ((a + n) ∷ []) []) ∙ ap (λ l. kept 0 a ++ l) (sym (kept_on a n) ∙ ap (kept a) (next n))
+    where
+      step : (a n : ℕ) → a + suc n ≡ a + n + 1
+      step a n = omega arith
+
+      next : (n : ℕ) → n + 1 ≡ suc n
+      next n = omega arith
+
+  pub kept_none : (a n : ℕ) → ((p : ℕ) → a ≤ p → p < a + n → keeps p ≡ false) → filter keeps (range_with_len a n) ≡ []
+  kept_none a zero none = refl
+  kept_none a (suc n) none =
+      ap (λ b. cond b (a ∷ kept (a + 1) n) (kept (a + 1) n)) (none a (omega arith) (omega arith)) ∙ kept_none (a + 1) n (λ p low below. none p (omega (arith, low)) (omega (arith, below)))
+
+pub kept_same : (keeps other : ℕ → Bool) (a n : ℕ) → ((p : ℕ) → a ≤ p → p < a + n → keeps p ≡ other p) → filter keeps (range_with_len a n) ≡ filter other (range_with_len a n)
+kept_same keeps other a zero same = refl
+kept_same keeps other a (suc n) same =
+    ap (λ b. cond b (a ∷ filter keeps (range_with_len (a + 1) n)) (filter keeps (range_with_len (a + 1) n))) (same a (omega arith) (omega arith))
+    ∙ ap (λ l. cond (other a) (a ∷ l) l) (kept_same keeps other (a + 1) n (λ p low below. same p (omega (arith, low)) (omega (arith, below))))
+
+-- ---- the positions of a word
+
+-- a word that begins at a position doesn't mark another
+abbrev pub is_missing : ℕ → ℕ → ℕ → Bool
+is_missing word start p = not (bit_at word (p - start) == 1)
+
+missing_at : (word start j : ℕ) → is_missing word start (start + j) ≡ not (bit_at word j == 1)
+missing_at word start j = ap (λ m. not (bit_at word m == 1)) (back start j)
+  where
+    back : (a j : ℕ) → a + j - a ≡ j
+    back a j = omega arith
+
+pub missing_where : (word start j : ℕ) → bit_at word j ≡ 0 → is_missing word start (start + j) ≡ true
+missing_where word start j is = missing_at word start j ∙ ap (λ (n : ℕ). not (n == 1)) is
+
+pub marked_where : (word start j : ℕ) → 0 < bit_at word j → is_missing word start (start + j) ≡ false
+marked_where word start j some =
+    let one : bit_at word j ≡ 1 = omega (arith, some, bit_at-lt word j) in
+    missing_at word start j ∙ ap (λ (n : ℕ). not (n == 1)) one
+
+-- a full word marks all
+pub full_missing : (start count : ℕ) → count ≤ 64 → filter (is_missing 18446744073709551615 start) (range_with_len start count) ≡ []
+full_missing start count few =
+    kept_none (is_missing 18446744073709551615 start) start count (λ p low below. ap (λ (n : ℕ). not (n == 1)) (bit_at_ones 64 (p - start) (omega (arith, low, below, few))))
+
+-- the positions of a word more are listed
+pub listed_more : (known : List Bool) (items : List ℕ) (at count word : ℕ) → ((j : ℕ) → j < count → (bit_at word j == 1) ≡ bit known (at + j))
+    → items ≡ filter (λ p. not (bit known p)) (range_with_len 0 at) ++ filter (is_missing word at) (range_with_len at count)
+    → items ≡ filter (λ p. not (bit known p)) (range_with_len 0 (at + count))
+listed_more known items at count word marks is =
+    is
+    ∙ ap (λ l. filter (λ p. not (bit known p)) (range_with_len 0 at) ++ l) (kept_same (is_missing word at) (λ p. not (bit known p)) at count here)
+    ∙ sym (kept_parts (λ p. not (bit known p)) at count)
+  where
+    here : (p : ℕ) → at ≤ p → p < at + count → is_missing word at p ≡ not (bit known p)
+    here p low below =
+        let split : at + (p - at) ≡ p = omega (arith, low) in
+        ap not (marks (p - at) (omega (arith, low, below)) ∙ ap (bit known) split)

@@ -1,0 +1,8 @@
+use Rattle.std.proofs.Common.{◌≡◌, ◌++◌}
+use Rattle.std.specs.List.{filter, range_with_len}
+use Rattle.nr_peel.proofs.UnknownFacts.{is_missing}
+use Rattle.nr_peel.proofs.unknown.push_unknown.Given as goal
+
+-- the word's positions so far are added
+abbrev pub invariant-loop-j : goal.invariant-loop-j
+invariant-loop-j l = l.unknown.items ≡ l.initial.unknown.items ++ filter (is_missing l.word l.at) (range_with_len l.at l.j)
