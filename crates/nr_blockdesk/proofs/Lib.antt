@@ -15,6 +15,7 @@ mod KeptCandidateFacts
 mod GatheredWordFacts
 mod MarkFacts
 mod SelectedBitFacts
+mod SelectedMarkFacts
 mod MergingFacts
 mod NothingReceivedFacts
 mod LinkEndFacts

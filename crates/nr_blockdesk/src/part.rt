@@ -1,8 +1,10 @@
 //! A code block's part of a transmission.
 
-ghost use Rattle.std.specs.Prelude.{◌≡◌, ◌+◌, ◌^◌, ◌<◌, ◌≤◌, length};
+ghost use Rattle.std.specs.Prelude.{◌≡◌, ℕ, ◌+◌, ◌^◌, ◌<◌, ◌≤◌, true, length, IsTrue};
+ghost use Rattle.nr_bitvec.specs.Bit.{bit};
 
 use nr_bitvec::Bits;
+use nr_bitvec::words::low_bits;
 
 /// What was received of a code block: `count` places of a transmission from place `from` on. Those at which a bit was
 /// received are marked in `heard`, and their bits stand in `value`.
@@ -15,4 +17,21 @@ pub(crate) struct Part<'m> {
     ghost both: { length value.now.items ≡ length heard.now.items },
     ghost inside: { from + count ≤ length heard.now.items },
     ghost short: { from + count < 2 ^ 32 },
+}
+
+impl Part<'_> {
+    // Whether a bit was received at each place. Looks at 64 places at once.
+    pub(crate) fn arrived_whole(&self) -> bool
+        ensures { IsTrue result → (m : ℕ) → m < self.now.count
+            → bit self.now.heard.now.items (self.now.from + m) ≡ true }
+    {
+        let (from, count) = (self.from as usize, self.count as usize);
+        for i in 0..count.div_ceil(64) {
+            let wide = (count - 64 * i).min(64);
+            if low_bits(!self.heard.window(from + 64 * i), wide) != 0 {
+                return false;
+            }
+        }
+        true
+    }
 }

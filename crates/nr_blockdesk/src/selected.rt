@@ -1,6 +1,6 @@
 //! What was received of a code block, in the order in which its bits were selected.
 
-ghost use Rattle.std.specs.Prelude.{◌≡◌, ℕ, ◌%◌, ◌^◌, ◌≤◌, ◌<◌, length, take, drop, IfOk};
+ghost use Rattle.std.specs.Prelude.{◌≡◌, ℕ, ◌+◌, ◌%◌, ◌^◌, ◌≤◌, ◌<◌, length, take, drop, IfOk};
 ghost use Rattle.nr_interleave.specs.Interleaving.{interleaved};
 ghost use Rattle.nr_blockdesk.specs.Inside.{HasRoomFor};
 
@@ -39,7 +39,25 @@ impl Selected {
         ensures room { (n : ℕ) → HasRoomFor n self.old → HasRoomFor n self.new }
     {
         let (from, count) = (part.from as usize, part.count as usize);
-        unspread_into(qm, part.heard, from, count, &mut self.heard);
+        read_marks(qm, part, &mut self.heard);
         unspread_into(qm, part.value, from, count, &mut self.value);
+    }
+}
+
+// Takes up the marks of a code block's part. Mostly every place is marked, and marks alone are the same in any order.
+fn read_marks(qm: u32, part: &Part<'_>, heard: &mut Bits)
+    requires order { 0 < qm }
+    requires whole { part.now.count % qm ≡ 0 }
+    requires room { part.now.count ≤ length heard.old.items + heard.old.room }
+    ensures marks { interleaved qm heard.new.items
+        ≡ take part.now.count (drop part.now.from part.now.heard.now.items) }
+    ensures room { length heard.old.items + heard.old.room ≤ length heard.new.items + heard.new.room }
+{
+    let (from, count) = (part.from as usize, part.count as usize);
+    if part.arrived_whole() {
+        heard.clear();
+        heard.extend_range(part.heard, from, count);
+    } else {
+        unspread_into(qm, part.heard, from, count, heard);
     }
 }

@@ -1,0 +1,39 @@
+-- Marks of a part that was received whole are the same in any order.
+use Rattle.std.proofs.Common.{◌≡◌, ℕ, ◌+◌, ◌%◌, ◌^◌, ◌<◌, ◌≤◌, ◌==◌, Bool, true, false, List, length, take, drop, sym, ap, ◌∙◌, arith}
+use Rattle.std.specs.Int.{bit_at, bit_not, w64}
+use Rattle.std.proofs.lemmas.List.{get_or-drop, get_or-take, length-drop, length-take-le}
+use Rattle.std.proofs.lemmas.Nat.Bits.{bit_at-lt, bit_at_not}
+use Rattle.nr_bitvec.proofs.PlaceFacts.{same_from_bits}
+use Rattle.nr_bitvec.specs.Bit.{bit}
+use Rattle.nr_interleave.proofs.SeatFacts.{seat-inside}
+use Rattle.nr_interleave.specs.Interleaving.{interleaved, seat_of}
+use Rattle.nr_blockdesk.proofs.SentPlaceFacts.{bit-interleaved, length-interleaved}
+
+-- where the complement of a word has a zero, the word has a one
+pub marked : (word j : ℕ) → word < 2 ^ 64 → j < 64 → bit_at (bit_not w64 word) j ≡ 0 → (bit_at word j == 1) ≡ true
+marked word j fits few none =
+    let one : bit_at word j ≡ 1 = omega (arith, bit_at_not w64 word j fits few, none, bit_at-lt word j) in
+    ap (λ b. b == 1) one
+
+-- interleaving leaves ones alone as they are
+ones-interleaved : (qm n : ℕ) (ones : List Bool) → 0 < qm → n % qm ≡ 0 → length ones ≡ n → ((m : ℕ) → m < n → bit ones m ≡ true)
+    → interleaved qm ones ≡ ones
+ones-interleaved qm n ones some whole long all =
+    let same : length (interleaved qm ones) ≡ n = length-interleaved qm ones ∙ long in
+    same_from_bits (interleaved qm ones) ones (length-interleaved qm ones)
+    (λ m below.
+    let inside : m < n = omega (arith, below, same) in
+    bit-interleaved qm ones m (omega (arith, inside, long))
+    ∙ ap (λ e. bit ones (seat_of qm e m)) long
+    ∙ all (seat_of qm n m) (seat-inside qm n m some whole inside)
+    ∙ sym (all m inside))
+
+-- the marks of a part whose places are all marked
+pub whole-interleaved : (qm from n : ℕ) (marks new : List Bool) → 0 < qm → n % qm ≡ 0 → from + n ≤ length marks
+    → ((m : ℕ) → m < n → bit marks (from + m) ≡ true) → new ≡ take n (drop from marks)
+    → interleaved qm new ≡ take n (drop from marks)
+whole-interleaved qm from n marks new some whole inside all is =
+    let cut : length (take n (drop from marks)) ≡ n = length-take-le n (drop from marks) (omega (arith, length-drop from marks, inside)) in
+    ap (interleaved qm) is
+    ∙ ones-interleaved qm n (take n (drop from marks)) some whole cut
+    (λ m below. get_or-take n (drop from marks) m false below ∙ get_or-drop from marks m false ∙ all m below)
