@@ -132,6 +132,7 @@ fn learn_masks(part_masks: &mut PartMasks, peeler: &mut Peeler<'_>)
 }
 
 // Receives a part place by place: what is received for the first time is put into the masks, and then learned at once.
+// Where there is nothing new the masks aren't read: a few bits of a long block leave most parts empty.
 fn hear_by_places(
     buffer: &Buffer,
     tx: &Tx,
@@ -153,6 +154,7 @@ fn hear_by_places(
 {
     record_continues();
     let mut agreed = true;
+    let mut any = false;
     for m in 0..part.count {
         let at = (part.from + m) as usize;
         if part.heard.get(at) {
@@ -161,12 +163,15 @@ fn hear_by_places(
             if store.heard(pos).is_none() {
                 part_masks.heard.set(pos as usize, true);
                 part_masks.value.set(pos as usize, bit);
+                any = true;
             }
             store.hear(pos, bit);
             agreed &= word.get(pos as usize) == bit;
         }
     }
-    learn_masks(part_masks, peeler);
+    if any {
+        learn_masks(part_masks, peeler);
+    }
     agreed
 }
 

@@ -1,19 +1,25 @@
-use Rattle.std.proofs.Common.{◌≡◌, ℕ, ◌+◌, ◌<◌, Bool, true, false, not, Some, None, ◌&&◌, ◌++◌, List, length, set, sym, ap, subst, ◌∙◌, arith}
+use Rattle.std.proofs.Common.{◌≡◌, ℕ, ◌+◌, ◌*◌, ◌<◌, ◌≤◌, Bool, true, false, not, Some, None, ◌&&◌, ◌++◌, List, length, set, sym, ap, subst, ◌∙◌, arith}
 use Rattle.std.specs.Bool.{beq}
+use Rattle.std.proofs.lemmas.Bool.{true≢false}
 use Rattle.std.proofs.lemmas.List.{length-set}
 use Rattle.nr_bitvec.specs.Bit.{bit}
-use Rattle.nr_harqbuf.specs.Record.{HeardBits, first_at, is_heard, record_of, with_hearing}
-use Rattle.nr_ratematch.specs.Selection.{place_of}
+use Rattle.nr_graphpick.specs.Graph.{cols_of}
+use Rattle.nr_harqbuf.specs.Record.{HeardBits, Observation, first_at, is_heard, record_of, with_hearing}
+use Rattle.nr_ratematch.specs.Selection.{Circular, place_of}
 use Rattle.nr_interleave.specs.Interleaving.{seat_of}
 use Rattle.nr_blockdesk.specs.Explains.{heard_at}
 use Rattle.nr_blockdesk.specs.Hearing.{heard_bit}
 use Rattle.nr_blockdesk.specs.Marks.{place_heard}
 use Rattle.nr_blockdesk.specs.Inside.{heards_of}
 use Rattle.nr_blockdesk.specs.ReceivingInside.{Fits, IsNews, Agrees, part_hearings}
+use Rattle.nr_blockdesk.specs.Telling.{AreEmpty}
+use Rattle.nr_blockdesk.specs.declared.part.Part.{Part}
 use Rattle.nr_blockdesk.specs.declared.part_masks.PartMasks.{PartMasks}
+use Rattle.nr_transmission.specs.declared.tx.Tx.{Tx}
 use Rattle.nr_blockdesk.proofs.HearingFacts.{first-kept, first-set, fits-before, part-none, part-some, recorded-more, tells-more}
 use Rattle.nr_blockdesk.proofs.MarkFacts.{heard-at, length-heards, some-marked}
-use Rattle.nr_blockdesk.proofs.NewPositionFacts.{news-again, news-more}
+use Rattle.nr_blockdesk.proofs.MergingFacts.{empty-bit}
+use Rattle.nr_blockdesk.proofs.NewPositionFacts.{news-again, news-more, tied-still}
 use Rattle.nr_blockdesk.proofs.RecordFacts.{heard-some}
 use Rattle.nr_blockdesk.proofs.hearing.hear_by_places.Goals as goal
 use Rattle.nr_blockdesk.proofs.hearing.hear_by_places.Goals.{then-get, then-is_none, else-is_none, else-get}
@@ -73,6 +79,10 @@ loop-m-preserved c =
               | then-is_none u ↦ ap (λ (t : PartMasks). length t.value.items) (w.part_masks-is ∙ u.part_masks-is) ∙ ap length u.set-then-is_none.ensures.items ∙ length-set c.loop-m.part_masks.value.items pos v ∙ inv.bits
               | else-is_none u ↦ ap (λ (t : PartMasks). length t.value.items) (w.part_masks-is ∙ u.part_masks-is) ∙ inv.bits
             ];
+            none = elim w.if-is_none.branch [
+              | then-is_none u ↦ λ e. absurd (true≢false (sym (w.any-is ∙ u.any-is) ∙ e))
+              | else-is_none u ↦ λ e. subst (AreEmpty (cols_of b.graph * b.z)) (sym (w.part_masks-is ∙ u.part_masks-is)) (inv.none (sym (w.any-is ∙ u.any-is) ∙ e))
+            ];
             fewer = λ f fits. inv.fewer f (fits-before s pos v f inside (subst (λ (h : HeardBits). Fits h f) store-is fits));
             part_masks = subst (λ b. Agrees b heard-word s₀ c.if-get.store)
                 (sym (w.agreed-is ∙ ap (λ b. c.loop-m.agreed && beq b v) w.get-then-get.ensures))
@@ -88,23 +98,46 @@ loop-m-preserved c =
                 (subst (λ (h : HeardBits). IsNews s₀ h c.loop-m.part_masks.heard.items c.loop-m.part_masks.value.items) (sym w.store-is) inv.news);
             marks = ap (λ (t : PartMasks). length t.heard.items) w.part_masks-is ∙ inv.marks;
             bits = ap (λ (t : PartMasks). length t.value.items) w.part_masks-is ∙ inv.bits;
+            none = λ e. subst (AreEmpty (cols_of b.graph * b.z)) (sym w.part_masks-is) (inv.none (sym w.any-is ∙ e));
             fewer = λ f fits. inv.fewer f (subst (λ (h : HeardBits). Fits h f) w.store-is fits);
             part_masks = subst (λ b. Agrees b heard-word s₀ c.if-get.store) (sym w.agreed-is)
                 (subst (λ (h : HeardBits). Agrees c.loop-m.agreed heard-word s₀ h) (sym w.store-is) inv.part_masks);
           }
     ]
 
-pub returns-clause-hears : goal.returns-clause-hears
-returns-clause-hears c =
-    let part = c.args.part.now in
-    let b = c.args.buffer.now in
-    let tx = c.args.tx.now in
+-- the record with all places of the part
+recorded-whole : (b : Circular) (tx : Tx) (part : Part) (m : ℕ) (s₀ s : HeardBits) → part.count ≤ m → m ≤ part.count
+    → ((hs : List Observation) → s₀ ≡ record_of (length s₀.first) hs
+    → s ≡ record_of (length s₀.first) (hs ++ part_hearings b tx (heards_of part) m))
+    → (hs : List Observation) → s₀ ≡ record_of (length s₀.first) hs
+    → s ≡ record_of (length s₀.first) (hs ++ part_hearings b tx (heards_of part) (length (heards_of part)))
+recorded-whole b tx part m s₀ s least most recorded hs e =
+    let all : m ≡ length (heards_of part) =
+    omega (arith, least, most, length-heards part.heard.now.items part.value.now.items part.from part.count) in
+    recorded hs e ∙ ap (λ k. record_of (length s₀.first) (hs ++ part_hearings b tx (heards_of part) k)) all
+
+pub returns-then-any-clause-hears : goal.returns-then-any-clause-hears
+returns-then-any-clause-hears c =
     let s₀ : HeardBits = c.args.store.now in
-    let all : c.loop-m.m ≡ length (heards_of part) =
-    omega (arith, c.loop-m-test.false, c.loop-m.auto.m-end, length-heards part.heard.now.items part.value.now.items part.from part.count) in
     record {
-      recorded = λ hs e. c.loop-m.invariant.recorded hs e ∙ ap (λ k. record_of (length s₀.first) (hs ++ part_hearings b tx (heards_of part) k)) all;
+      recorded = recorded-whole c.args.buffer.now c.args.tx.now c.args.part.now c.loop-m.m s₀ c.loop-m.store
+          (omega (arith, c.loop-m-test.false)) c.loop-m.auto.m-end c.loop-m.invariant.recorded;
       tied = λ link tied. c.learn_masks.ensures.tied link s₀ c.loop-m.store c.loop-m.invariant.news tied;
       fewer = c.loop-m.invariant.fewer;
       visited = c.learn_masks.ensures.visited;
+    }
+
+-- where nothing is new, store and peeler belong together as before
+pub returns-else-any-clause-hears : goal.returns-else-any-clause-hears
+returns-else-any-clause-hears c =
+    let s₀ : HeardBits = c.args.store.now in
+    let t = c.loop-m.part_masks in
+    let empty = c.loop-m.invariant.none c.if-any.false in
+    record {
+      recorded = recorded-whole c.args.buffer.now c.args.tx.now c.args.part.now c.loop-m.m s₀ c.loop-m.store
+          (omega (arith, c.loop-m-test.false)) c.loop-m.auto.m-end c.loop-m.invariant.recorded;
+      tied = λ link tied. tied-still s₀ c.loop-m.store t.heard.items t.value.items c.loop-m.invariant.news link c.args.peeler.now tied
+          (λ k. empty-bit t.heard.items (cols_of c.args.buffer.now.graph * c.args.buffer.now.z) k empty.marks);
+      fewer = c.loop-m.invariant.fewer;
+      visited = omega arith;
     }

@@ -1,11 +1,12 @@
 -- The places so far are received, what is told is what the store has now and had not, and the word was compared with
--- it.
-use Rattle.std.proofs.Common.{◌≡◌, ℕ, ◌*◌, Bool, List, ◌++◌, length}
+-- it. While no position was marked, the masks are empty.
+use Rattle.std.proofs.Common.{◌≡◌, ℕ, ◌*◌, Bool, false, List, ◌++◌, length}
 use Rattle.nr_bitvec.specs.Bit.{bit}
 use Rattle.nr_graphpick.specs.Graph.{cols_of}
 use Rattle.nr_harqbuf.specs.Record.{Observation, record_of}
 use Rattle.nr_blockdesk.specs.Inside.{heards_of}
 use Rattle.nr_blockdesk.specs.ReceivingInside.{Fits, IsNews, Agrees, part_hearings}
+use Rattle.nr_blockdesk.specs.Telling.{AreEmpty}
 use Rattle.nr_blockdesk.proofs.hearing.hear_by_places.Given as goal
 
 abbrev pub invariant-loop-m : goal.invariant-loop-m
@@ -15,6 +16,7 @@ invariant-loop-m l = record {
   news : IsNews l.fn.store l.store l.part_masks.heard.items l.part_masks.value.items;
   marks : length l.part_masks.heard.items ≡ cols_of l.buffer.graph * l.buffer.z;
   bits : length l.part_masks.value.items ≡ cols_of l.buffer.graph * l.buffer.z;
+  none : l.any ≡ false → AreEmpty (cols_of l.buffer.graph * l.buffer.z) l.part_masks;
   fewer : (w : ℕ → Bool) → Fits l.store w → Fits l.fn.store w;
   part_masks : Agrees l.agreed (bit l.word) l.fn.store l.store;
 }
