@@ -1,13 +1,10 @@
 -- The text of `audit`, line by line.
-use Rattle.std.proofs.Common.{◌≡◌, ℕ, zero, suc, ◌+◌, ◌<◌, ◌≤◌, ◌==◌, ◌&&◌, Bool, true, false, not, if◌then◌else◌, None, Some, List, [], ◌∷◌, ◌++◌, All, length, take, drop, flat_map, get_or, codes, ap, sym, subst, ◌∙◌, refl, arith, append_assoc, length-append, cond}
+use Rattle.std.proofs.Common.{◌≡◌, ℕ, zero, suc, ◌+◌, ◌<◌, ◌==◌, ◌&&◌, Bool, true, false, not, if◌then◌else◌, List, [], ◌∷◌, ◌++◌, All, length, take, drop, flat_map, get_or, codes, ap, sym, subst, ◌∙◌, arith, append_assoc, length-append, cond}
 use Rattle.std.proofs.lemmas.Grind.{flat_map-append}
-use Rattle.std.proofs.lemmas.List.{append-nil, map-id, take_more}
+use Rattle.std.proofs.lemmas.List.{append-nil, take_more}
 use Rattle.std.proofs.lemmas.List.Elements.{filter-append}
-use Rattle.std.proofs.lemmas.List.FromFn.{sum_by-map-range_with_len_more}
-use mir.Val.{bool_byte}
 use Rattle.std.specs.Fmt.{decimal}
 use Rattle.std.specs.List.{count_by, filter, range_with_len}
-use Rattle.std.specs.Option.{is_some}
 use Rattle.nr_crcattach.specs.Attachment.{attached_length}
 use Rattle.nr_bitvec.specs.Bit.{bit}
 use Rattle.nr_graphpick.specs.declared.Graph.{Graph}
@@ -15,7 +12,7 @@ use Rattle.nr_harqbuf.specs.Record.{HeardBits}
 use Rattle.nr_ldpcenc.specs.Rows.{Checks, block_checks}
 use Rattle.nr_segment.specs.Plan.{word_size, Numbers, PlansAreSound}
 use Rattle.nr_peel.specs.Closure.{closure}
-use Rattle.nr_peel.specs.Peeling.{IsPeeled, Peeling, checks_for, known_at, unknown_in}
+use Rattle.nr_peel.specs.Peeling.{IsPeeled, Peeling, checks_for, gained_in, unknown_in}
 use Rattle.nr_shifttable.specs.Accepted.{Entries}
 use Rattle.nr_blockdesk.specs.Explains.{Reception}
 use Rattle.nr_blockdesk.specs.Heard.{heard_of, heard_record}
@@ -24,7 +21,7 @@ use Rattle.nr_blockdesk.specs.Outcome.{fixed, given, left}
 use Rattle.nr_blockdesk.specs.Receiving.{ReceiverView}
 use Rattle.nr_blockdesk.specs.Sent.{SenderView}
 use Rattle.nr_linkcommands.specs.AuditText.{audit_lines, audit_of}
-use Rattle.nr_linkcommands.specs.Inside.{HasHeard, gained}
+use Rattle.nr_linkcommands.specs.Inside.{HasHeard}
 use Rattle.nr_linkcommands.specs.AuditLines.{audit_block, audit_line, order_line, position_word, steps_of, stuck_line, unfixed}
 use Rattle.nr_files.specs.Rounds.{IsOfBlock, of_process}
 use Rattle.nr_linkcommands.specs.RunText.{received, received_of}
@@ -95,7 +92,7 @@ same_size : (link : Link) (s : HeardBits) (p : Peeling) → IsPeelerOf link s p 
 same_size link s p of = ap (λ (c : Checks). c.size) (same_checks link s p of)
 
 -- what it gained are the steps, and what it does not know is not fixed
-pub gained-steps : (link : Link) (s : HeardBits) (p : Peeling) → IsPeelerOf link s p → gained p ≡ steps_of link s
+pub gained-steps : (link : Link) (s : HeardBits) (p : Peeling) → IsPeelerOf link s p → gained_in p.known p.given ≡ steps_of link s
 gained-steps link s p of =
     ap (λ (f : ℕ → Bool). count_by (λ k. f k && not (bit p.given k)) (range_with_len 0 (length p.given))) (same_known link s p of)
     ∙ ap (λ (g : ℕ → Bool). count_by (λ k. fixed link s k && not (g k)) (range_with_len 0 (length p.given))) (same_given link s p of)
@@ -105,36 +102,6 @@ pub unknown-unfixed : (link : Link) (s : HeardBits) (p : Peeling) → IsPeelerOf
 unknown-unfixed link s p of =
     ap (λ (f : ℕ → Bool). filter (λ k. not (f k)) (range_with_len 0 (length p.known))) (same_known link s p of)
     ∙ ap (λ (n : ℕ). filter (λ k. not (fixed link s k)) (range_with_len 0 n)) (of.peeled.known_long ∙ same_size link s p of)
-
--- a bit is known where the mark says so
-pub known_at_some : (p : Peeling) (k : ℕ) → is_some (known_at p k) ≡ bit p.known k
-known_at_some p k = go (bit p.known k)
-  where
-    go : (b : Bool) → is_some (if b then Some (bit p.bits k) else None) ≡ b
-    go true = refl
-    go false = refl
-
--- one number more is counted, or is not
-count-more : (test : ℕ → Bool) (n : ℕ) → count_by test (range_with_len 0 (n + 1)) ≡ count_by test (range_with_len 0 n) + cond (test n) 1 0
-count-more test n =
-    ap (count_by test) (sym (map-id (range_with_len 0 (n + 1))))
-    ∙ sum_by-map-range_with_len_more (λ k. cond (test k) 1 0) (λ (x : ℕ). x) 0 n n (omega arith)
-    ∙ ap (λ (xs : List ℕ). count_by test xs + cond (test n) 1 0) (map-id (range_with_len 0 n))
-
-pub count-next : (test : ℕ → Bool) (n count step : ℕ) → count ≡ count_by test (range_with_len 0 n) → step ≡ cond (test n) 1 0 → count + step ≡ count_by test (range_with_len 0 (n + 1))
-count-next test n count step is more = omega (arith, is, more, count-more test n)
-
--- a truth value as a number
-pub byte-step : (b t : Bool) (step : ℕ) → step ≡ bool_byte b → b ≡ t → step ≡ cond t 1 0
-byte-step b t step is same = is ∙ ap bool_byte same ∙ go t
-  where
-    go : (t : Bool) → bool_byte t ≡ cond t 1 0
-    go true = refl
-    go false = refl
-
-pub step-few : (b : Bool) (step : ℕ) → step ≡ cond b 1 0 → step ≤ 1
-step-few true step is = omega (arith, is)
-step-few false step is = omega (arith, is)
 
 -- the lines of the blocks before the one at index i, its own, and those behind it
 pub audit_lines-parts : (schedule : List Transmission) (n : ℕ) (senders : List SenderView) (i : ℕ) (sender none : SenderView) → i < length senders → sender ≡ get_or senders i none

@@ -1,11 +1,12 @@
 -- How transport blocks end: their lines, and their totals.
 use Rattle.std.proofs.Common.{◌≡◌, ◌≢◌, ℕ, zero, suc, ◌+◌, ◌<◌, ◌≤◌, ◌==◌, Bool, true, false, not, cond, ltb, Option, None, Some, Result, Ok, Err, IfOk, List, [], ◌∷◌, ◌++◌, length, drop, get_or, codes, ap, sym, refl, ◌∙◌, arith, length-append}
+use mir.Val.{bool_byte}
 use Rattle.std.specs.Prelude.{count_by}
 use Rattle.std.specs.Fmt.{decimal}
 use Rattle.std.specs.List.{find, list_all, range_with_len}
 use Rattle.std.proofs.lemmas.Bool.{true≢false}
-use Rattle.std.proofs.lemmas.List.{drop_all, drop_more}
-use Rattle.std.proofs.lemmas.List.FromFn.{get_or-map-range_with_len}
+use Rattle.std.proofs.lemmas.List.{drop_all, drop_more, map-id}
+use Rattle.std.proofs.lemmas.List.FromFn.{get_or-map-range_with_len, sum_by-map-range_with_len_more}
 use Rattle.std.proofs.lemmas.List.Sums.{sum_by-cons}
 use Rattle.std.proofs.lemmas.Bool.Decides.{nat_tests}
 use Rattle.nr_harqbuf.specs.Record.{HeardBits, record_of}
@@ -30,6 +31,28 @@ use Rattle.nr_commands.proofs.WrittenLemmas.{some_at_end}
 -- a number that isn't zero is greater than zero
 pub some-tested : (n m : ℕ) → n ≡ m → ltb 0 n ≡ not (m == 0)
 some-tested n m same = grind (arith, nat_tests)
+
+-- one number more is counted, or is not
+count-more : (test : ℕ → Bool) (n : ℕ) → count_by test (range_with_len 0 (n + 1)) ≡ count_by test (range_with_len 0 n) + cond (test n) 1 0
+count-more test n =
+    ap (count_by test) (sym (map-id (range_with_len 0 (n + 1))))
+    ∙ sum_by-map-range_with_len_more (λ k. cond (test k) 1 0) (λ (x : ℕ). x) 0 n n (omega arith)
+    ∙ ap (λ (xs : List ℕ). count_by test xs + cond (test n) 1 0) (map-id (range_with_len 0 n))
+
+pub count-next : (test : ℕ → Bool) (n count step : ℕ) → count ≡ count_by test (range_with_len 0 n) → step ≡ cond (test n) 1 0 → count + step ≡ count_by test (range_with_len 0 (n + 1))
+count-next test n count step is more = omega (arith, is, more, count-more test n)
+
+-- a truth value as a number
+pub byte-step : (b t : Bool) (step : ℕ) → step ≡ bool_byte b → b ≡ t → step ≡ cond t 1 0
+byte-step b t step is same = is ∙ ap bool_byte same ∙ go t
+  where
+    go : (t : Bool) → bool_byte t ≡ cond t 1 0
+    go true = refl
+    go false = refl
+
+pub step-few : (b : Bool) (step : ℕ) → step ≡ cond b 1 0 → step ≤ 1
+step-few true step is = omega (arith, is)
+step-few false step is = omega (arith, is)
 
 -- how many pass where all do
 count-all : (f : ℕ → Bool) (a n : ℕ) → ((r : ℕ) → a ≤ r → r < a + n → f r ≡ true) → count_by f (range_with_len a n) ≡ n

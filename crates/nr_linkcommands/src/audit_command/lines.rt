@@ -1,13 +1,10 @@
 //! The lines of `audit`, each made once.
 
-ghost use Rattle.std.specs.Prelude.{IfOk, length, not, ◌&&◌, ◌++◌, ◌+◌, ◌<◌, ◌≡◌};
+ghost use Rattle.std.specs.Prelude.{IfOk, ◌++◌, ◌<◌, ◌≡◌};
 ghost use Rattle.std.specs.String.{string_bytes};
 ghost use Rattle.nr_linkcommands.specs.AuditLines.{audit_line, order_line, stuck_line};
-ghost use Rattle.nr_linkcommands.specs.Inside.{gained};
-ghost use Rattle.nr_bitvec.specs.Bit.{bit};
 
 use nr_blockdesk::Receiver;
-use nr_peel::Peeler;
 use std::alloc::{AllocError, Global};
 use std::fmt::Write;
 
@@ -37,32 +34,10 @@ fn line_of(alloc: Global, number: u32, receiver: &Receiver, r: u32) -> Result<St
 {
     let peeler = receiver.peeler(r);
     if receiver.left(r) == 0 {
-        return order_line(alloc, number, r, gained(peeler));
+        return order_line(alloc, number, r, peeler.gained());
     }
     let positions = peeler.stuck()?;
     stuck_line(alloc, number, r, &positions)
-}
-
-// How many positions a peeler knows that it was not given. A step whose position was received later is none of
-// them.
-fn gained(peeler: &Peeler) -> u32
-    ensures { result ≡ gained peeler.now }
-{
-    let mut count = 0;
-    for position in 0..peeler.given().len() as u32 {
-        count += u32::from(is_gained(peeler, position));
-    }
-    count
-}
-
-// Whether a peeler knows a position that it was not given.
-fn is_gained(peeler: &Peeler, position: u32) -> bool
-    requires { position < length peeler.now.given }
-    ensures { result ≡ (bit peeler.now.known position && not (bit peeler.now.given position)) }
-{
-    let given = peeler.given().get(position as usize);
-    let known = peeler.known(position).is_some();
-    known && !given
 }
 
 // The line of code block `r` of block `number`, which is fixed in so many steps.

@@ -2,8 +2,7 @@ use Rattle.std.proofs.Common.{◌≡◌, ◌==◌, cond, not, ap, arith}
 use Rattle.nr_blockdesk.specs.Outcome.{left}
 use Rattle.nr_segment.specs.Plan.{Numbers}
 use Rattle.nr_linkcommands.specs.RunLines.{unfixed_blocks}
-use Rattle.nr_linkcommands.proofs.AuditLemmas.{byte-step, count-next, step-few}
-use Rattle.nr_linkcommands.proofs.RunOutcomeFacts.{some-tested}
+use Rattle.nr_linkcommands.proofs.RunOutcomeFacts.{byte-step, count-next, some-tested, step-few}
 use Rattle.nr_linkcommands.proofs.run_command.slot.unfixed.Goals as goal
 
 pub returns-clause-value : goal.returns-clause-value
