@@ -42,15 +42,6 @@ fn push(bits: &mut Bits, bit: bool) -> Result<(), Fail> {
     Ok(())
 }
 
-// So many ones.
-fn ones(alloc: Global, count: u32) -> Result<Bits, Fail> {
-    let mut bits = Bits::new(alloc);
-    for _ in 0..count {
-        push(&mut bits, true)?;
-    }
-    Ok(bits)
-}
-
 #[test]
 fn three_octets_are_24_bits(rt: HostRuntime) -> Result<(), Fail> {
     let bits = bits_of(rt.alloc(), &[0x01, 0x10, 0x21])?;
@@ -95,7 +86,8 @@ fn one_and_zero(alloc: Global) -> Result<Bits, Fail> {
 
 // These, with a one behind them.
 fn one_zero_and_one(alloc: Global) -> Result<Bits, Fail> {
-    let more = ones(alloc, 1)?;
+    let mut more = Bits::new(alloc);
+    push(&mut more, true)?;
     let bits = one_and_zero(alloc)?;
     joined(bits, &more)
 }

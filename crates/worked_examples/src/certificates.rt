@@ -11,19 +11,6 @@ use nr_ratematch::Mask;
 use std::alloc::{AllocError, Global};
 use std::test::Fail;
 
-/// Whether the checkers accept what is shown of octets of which first bits are sent.
-fn is_accepted(
-    alloc: Global,
-    settings: Settings,
-    octets: &[u8],
-    firsts: &[First<'_>],
-) -> Result<bool, Fail> {
-    match end_of_firsts(alloc, settings, octets, firsts) {
-        Ok(end) => Ok(end.accepted),
-        Err(fault) => Err(fault),
-    }
-}
-
 const MOST: Places<'static> = &[
     (0, 32),
     (47, 95),
@@ -47,7 +34,7 @@ const OF_ZEROS: &[&[First<'static>]] = &[
 #[test]
 fn zeros_are_certified(rt: HostRuntime) -> Result<(), Fail> {
     for firsts in OF_ZEROS.iter().copied() {
-        assert!(rt; is_accepted(rt.alloc(), PLAIN, &[0; 3], firsts)?);
+        assert!(rt; end_of_firsts(rt.alloc(), PLAIN, &[0; 3], firsts)?.accepted);
     }
     Ok(())
 }
@@ -98,7 +85,7 @@ const OF_AN_OCTET: &[(u8, Settings, &[First<'static>])] = &[
 #[test]
 fn an_octet_is_certified(rt: HostRuntime) -> Result<(), Fail> {
     for (octet, settings, firsts) in OF_AN_OCTET.iter().copied() {
-        assert!(rt; is_accepted(rt.alloc(), settings, &[octet], firsts)?);
+        assert!(rt; end_of_firsts(rt.alloc(), settings, &[octet], firsts)?.accepted);
     }
     Ok(())
 }
@@ -136,22 +123,19 @@ fn two_code_blocks_are_certified(rt: HostRuntime) -> Result<(), Fail> {
 }
 
 /// Each place of the buffer as a range.
-fn places_of(alloc: Global) -> Result<Vec<[(usize, usize); 1]>, AllocError> {
+fn places_of(alloc: Global) -> Result<Vec<(usize, usize)>, AllocError> {
     let mut places = Vec::new(alloc);
     for m in 0..184 {
-        places.push([(m, m)])?;
+        places.push((m, m))?;
     }
     Ok(places)
 }
 
 /// Transmissions of the whole buffer, of each of which one place is received.
-fn place_by_place<'a>(
-    alloc: Global,
-    places: &'a [[(usize, usize); 1]],
-) -> Result<Vec<First<'a>>, AllocError> {
+fn place_by_place<'a>(alloc: Global, places: Places<'a>) -> Result<Vec<First<'a>>, AllocError> {
     let mut firsts = Vec::new(alloc);
-    for place in places {
-        firsts.push((184, place.as_slice(), NONE))?;
+    for m in 0..places.len() {
+        firsts.push((184, &places[m..m + 1], NONE))?;
     }
     Ok(firsts)
 }

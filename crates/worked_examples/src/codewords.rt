@@ -46,19 +46,12 @@ pub(crate) fn word_of(
     }
 }
 
-/// The length of a new word, and whether it meets every row of a table.
-fn new_word_over(alloc: Global, table: &Table, plan: &Plan) -> Result<(usize, bool), AllocError> {
-    match Word::new(alloc, plan) {
-        Ok(word) => Ok((word.len(), is_met(table, plan, &word))),
-        Err(error) => Err(error),
-    }
-}
-
 /// The length of a new word of 24 bits, and whether it meets every row of the practice table.
 fn new_word(alloc: Global) -> Result<(usize, bool), Fail> {
     let plan = plan(Graph::Two, 24)?;
     let table = practice(alloc, 0, 1, true)?;
-    Ok(new_word_over(alloc, &table, &plan)?)
+    let word = Word::new(alloc, &plan)?;
+    Ok((word.len(), is_met(&table, &plan, &word)))
 }
 
 #[test]

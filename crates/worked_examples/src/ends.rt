@@ -9,7 +9,7 @@ use nr_shifttable::{Broken, Feed, Source};
 use std::alloc::{AllocError, Global};
 
 /// A command of the program; `cut` at the highest code rate.
-#[derive(Clone, Copy, PartialEq, Eq)]
+#[derive(Clone, Copy)]
 pub(crate) enum Command {
     Cut,
     Check,

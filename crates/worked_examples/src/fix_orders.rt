@@ -8,6 +8,7 @@ use nr_peel::Fix;
 use nr_segment::{Plan, plan};
 use nr_shifttable::Table;
 use std::alloc::{AllocError, Global};
+use std::slice::from_ref;
 use std::test::Fail;
 
 /// The positions of columns, in their order, without the one at an index, and then one more.
@@ -54,22 +55,12 @@ fn is_stuck_on(
     Ok((is_it, is_stuck(table, plan, &shown.given, &set)))
 }
 
-/// What is stuck over a table after these positions, beside a set.
-fn stuck_over(
-    alloc: Global,
-    table: &Table,
-    ranges: &[Range],
-    set: Set<'_>,
-) -> Result<(bool, bool), Fail> {
-    let plan = plan(Graph::Two, 24)?;
-    let shown = shown_over(alloc, table, &plan, Told::Ranges(ranges))?;
-    is_stuck_on(alloc, table, &plan, &shown, set)
-}
-
-/// What is stuck over the practice table after them, beside a set.
+/// What is stuck over the practice table after these positions, beside a set.
 fn stuck_after(alloc: Global, ranges: &[Range], set: Set<'_>) -> Result<(bool, bool), Fail> {
+    let plan = plan(Graph::Two, 24)?;
     let table = practice(alloc, 0, 1, false)?;
-    stuck_over(alloc, &table, ranges, set)
+    let shown = shown_over(alloc, &table, &plan, Told::Ranges(ranges))?;
+    is_stuck_on(alloc, &table, &plan, &shown, set)
 }
 
 #[test]
@@ -78,15 +69,17 @@ fn the_first_24_bits_leave_a_stopping_set(rt: HostRuntime) -> Result<(), Fail> {
     Ok(())
 }
 
-// An empty list, one out of order, one with a position past the last, and one with a filler.
+/// An empty list, one out of order, one with a position past the last, and one with a filler.
+const OTHERS: &[Set<'static>] = &[
+    (&[], NONE, None),
+    (LEFT, 0, Some(4)),
+    (LEFT, NONE, Some(208)),
+    (&[1, 6, 12, 13, 21, 31, 41, 51], NONE, None),
+];
+
 #[test]
 fn other_lists_are_no_stopping_sets(rt: HostRuntime) -> Result<(), Fail> {
-    for set in [
-        ([].as_slice(), NONE, None),
-        (LEFT, 0, Some(4)),
-        (LEFT, NONE, Some(208)),
-        ([1, 6, 12, 13, 21, 31, 41, 51].as_slice(), NONE, None),
-    ] {
+    for set in OTHERS.iter().copied() {
         assert!(rt; stuck_after(rt.alloc(), PART, set)? == (false, false));
     }
     Ok(())
@@ -125,17 +118,12 @@ fn is_changed_order(
     Ok(is_order(table, plan, &shown.given, &changed)?)
 }
 
-/// Whether the changed steps of a table are a fix order, after all that is sent.
-fn is_order_over(alloc: Global, table: &Table, change: Change) -> Result<bool, Fail> {
-    let plan = plan(Graph::Two, 24)?;
-    let shown = shown_over(alloc, table, &plan, Told::Ranges(WHOLE))?;
-    is_changed_order(alloc, table, &plan, &shown, change)
-}
-
-/// Whether the changed steps are a fix order over the practice table.
+/// Whether the changed steps are a fix order over the practice table, after all that is sent.
 fn is_order_after_all(alloc: Global, change: Change) -> Result<bool, Fail> {
+    let plan = plan(Graph::Two, 24)?;
     let table = practice(alloc, 0, 1, false)?;
-    is_order_over(alloc, &table, change)
+    let shown = shown_over(alloc, &table, &plan, Told::Ranges(WHOLE))?;
+    is_changed_order(alloc, &table, &plan, &shown, change)
 }
 
 // The peeler's own steps, and with the last one repeated; without the step that fixes position 0; and no step.
@@ -152,17 +140,13 @@ fn an_order_needs_each_first_step(rt: HostRuntime) -> Result<(), Fail> {
     Ok(())
 }
 
-/// Whether one step is accepted of a table where every position was given.
-fn is_step_over(alloc: Global, table: &Table, plan: &Plan, step: Fix) -> Result<bool, AllocError> {
-    let given = marks_of(alloc, plan, &[(0, 208)])?;
-    is_order(table, plan, &given, &[step])
-}
-
-/// Whether one step is accepted over the practice table.
+/// Whether one step is accepted over the practice table where every position was given.
 fn is_step(alloc: Global, row: u16, lane: u16, pos: u32) -> Result<bool, Fail> {
     let plan = plan(Graph::Two, 24)?;
     let table = practice(alloc, 0, 1, false)?;
-    Ok(is_step_over(alloc, &table, &plan, Fix { row, lane, pos })?)
+    let given = marks_of(alloc, &plan, &[(0, 208)])?;
+    let step = Fix { row, lane, pos };
+    Ok(is_order(&table, &plan, &given, from_ref(&step))?)
 }
 
 // Row 0 has position 0 and not position 1; the last row is 41, the last lane 3 and the last position 207. Position 65,536
@@ -209,17 +193,12 @@ fn columns_of(alloc: Global, table: &Table, plan: &Plan, shown: &Shown) -> Resul
     Ok((shown.left, stuck, needless))
 }
 
-/// What is said of the columns of a plan.
-fn columns_over(alloc: Global, table: &Table, plan: &Plan) -> Result<Columns, Fail> {
-    let shown = shown_over(alloc, table, plan, Told::Without(COLUMNS))?;
-    columns_of(alloc, table, plan, &shown)
-}
-
 /// What is said of the columns where so many bits are coded over the practice table.
 fn columns_at(alloc: Global, bits: u32) -> Result<Columns, Fail> {
     let plan = plan(Graph::Two, bits)?;
     let table = practice(alloc, 0, 1, false)?;
-    columns_over(alloc, &table, &plan)
+    let shown = shown_over(alloc, &table, &plan, Told::Without(COLUMNS))?;
+    columns_of(alloc, &table, &plan, &shown)
 }
 
 // Position by position at lifting size 7, and by words at 32.

@@ -34,19 +34,14 @@ pub(crate) fn size_of(plan: &Plan) -> u32
     plan.graph.cols() * plan.z
 }
 
-/// Marks positions of a list.
-fn mark(marks: &mut Bits, ranges: &[Range]) {
+/// Marks of positions of a code block.
+pub(crate) fn marks_of(alloc: Global, plan: &Plan, ranges: &[Range]) -> Result<Bits, AllocError> {
+    let mut marks = Bits::zeros(alloc, size_of(plan).min(30_000))?;
     for pos in 0..marks.len() {
         if is_in(ranges, pos as u32) && pos < marks.len() {
             marks.set(pos, true);
         }
     }
-}
-
-/// Marks of positions of a code block.
-pub(crate) fn marks_of(alloc: Global, plan: &Plan, ranges: &[Range]) -> Result<Bits, AllocError> {
-    let mut marks = Bits::zeros(alloc, size_of(plan).min(30_000))?;
-    mark(&mut marks, ranges);
     Ok(marks)
 }
 
@@ -213,19 +208,12 @@ pub(crate) fn shown_over(
     }
 }
 
-/// What a peeler knows that was given these positions of the word.
-fn knows_over(alloc: Global, table: &Table, plan: &Plan, ranges: &[Range]) -> Result<Knows, Fail> {
-    match shown_over(alloc, table, plan, Told::Ranges(ranges)) {
-        Ok(shown) => Ok(shown.knows),
-        Err(fault) => Err(fault),
-    }
-}
-
-/// What a peeler over the practice table knows then.
+/// What a peeler over the practice table knows that was given these positions of the word.
 fn knows_after(alloc: Global, ranges: &[Range]) -> Result<Knows, Fail> {
     let plan = plan(Graph::Two, 24)?;
     let table = practice(alloc, 0, 1, false)?;
-    knows_over(alloc, &table, &plan, ranges)
+    let shown = shown_over(alloc, &table, &plan, Told::Ranges(ranges))?;
+    Ok(shown.knows)
 }
 
 // The fillers are columns 6 to 9, and each tenth column behind them is a copy of one.

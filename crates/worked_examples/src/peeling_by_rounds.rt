@@ -170,23 +170,19 @@ fn count(alloc: Global, table: &Table, plan: &Plan, each: bool) -> Result<[u32; 
     Ok(counts)
 }
 
-/// Whether all words of a plan are as rounds and the checks say, some of them whole and some not.
-fn agrees_over(alloc: Global, table: &Table, plan: &Plan, each: bool) -> Result<bool, Fail> {
-    let [whole, stuck, other] = count(alloc, table, plan, each)?;
-    Ok(whole > 0 && stuck > 0 && other == 0)
-}
-
 /// A made-up table of a base graph.
 fn made_up_table(alloc: Global, graph: Graph) -> Result<Table, Fail> {
     let cells = made_up(alloc, graph, 2)?;
     table_of(alloc, &cells)
 }
 
-/// The lifting size of so many bits, and whether all their words are right.
+/// The lifting size of so many bits, and whether all their words are as rounds and the checks say. Some of them are to
+/// be whole, and some not.
 fn agrees(alloc: Global, graph: Graph, bits: u32, each: bool) -> Result<(u32, bool), Fail> {
     let plan = plan(graph, bits)?;
     let table = made_up_table(alloc, graph)?;
-    Ok((plan.z, agrees_over(alloc, &table, &plan, each)?))
+    let [whole, stuck, other] = count(alloc, &table, &plan, each)?;
+    Ok((plan.z, whole > 0 && stuck > 0 && other == 0))
 }
 
 // Two small sizes position by position. Then many positions at a time: sizes of all eight sets. Of these 7, 11 and 18

@@ -5,7 +5,7 @@ use crate::receptions::{HandedUp, arrives, left_of, sent_of, told};
 use nr_bitvec::Bits;
 use nr_blockdesk::{DeskFault, Heard, Processes};
 use nr_shifttable::Table;
-use std::alloc::{AllocError, Global};
+use std::alloc::Global;
 use std::test::Fail;
 
 /// A call on a process.
@@ -96,7 +96,7 @@ fn left(processes: &Processes<'_>, p: u8) -> Option<u32> {
     }
 }
 
-/// What the last of some calls returns, and what is left then of processes 0 and 1, if they have begun.
+/// What a call returns, and what is left then of processes 0 and 1, if they have begun.
 type After = (Answer, [Option<u32>; 2]);
 
 /// How many positions are left of processes 0 and 1, if they have begun.
@@ -104,30 +104,33 @@ pub(crate) fn left_of_two(processes: &Processes<'_>) -> [Option<u32>; 2] {
     [left(processes, 0), left(processes, 1)]
 }
 
-/// What comes of calls on these processes.
-fn after_all(
+/// Whether each of these calls comes to what stands beside it.
+fn are_as_said(
     alloc: Global,
     table: &Table,
     processes: &mut Processes<'_>,
-    calls: &[Call],
-) -> Result<After, Fail> {
-    let mut last = Ok(None);
-    for call in calls.iter().copied() {
-        last = answer(alloc, table, processes, call)?;
+    list: &[(Call, After)],
+) -> Result<bool, Fail> {
+    for (call, wanted) in list {
+        let answer = answer(alloc, table, processes, *call)?;
+        let found = (answer, left_of_two(processes));
+        if found != *wanted {
+            return Ok(false);
+        }
     }
-    Ok((last, left_of_two(processes)))
+    Ok(true)
 }
 
-/// What comes of calls on new processes.
-fn after_over(alloc: Global, table: &Table, calls: &[Call]) -> Result<After, Fail> {
+/// Whether calls on new processes do.
+fn are_as_said_over(alloc: Global, table: &Table, list: &[(Call, After)]) -> Result<bool, Fail> {
     let mut processes = Processes::new(alloc, table, PLAIN);
-    after_all(alloc, table, &mut processes, calls)
+    are_as_said(alloc, table, &mut processes, list)
 }
 
-/// What comes of calls on new processes over the practice table.
-fn after(alloc: Global, calls: &[Call]) -> Result<After, Fail> {
+/// Whether calls on new processes over the practice table do.
+fn come_as_said(alloc: Global, list: &[(Call, After)]) -> Result<bool, Fail> {
     let table = practice(alloc, 0, 1, false)?;
-    after_over(alloc, &table, calls)
+    are_as_said_over(alloc, &table, list)
 }
 
 const TWO: [(Call, After); 8] = [
@@ -177,51 +180,17 @@ const REFUSED: [(Call, After); 6] = [
     ),
 ];
 
-/// The first of these calls.
-fn calls_of(alloc: Global, list: &[(Call, After)]) -> Result<Vec<Call>, AllocError> {
-    let mut calls = Vec::new(alloc);
-    for (call, _) in list {
-        calls.push(*call)?;
-    }
-    Ok(calls)
-}
-
-/// What comes of them.
-fn comes_of(alloc: Global, list: &[(Call, After)]) -> Result<After, Fail> {
-    let calls = calls_of(alloc, list)?;
-    after(alloc, &calls)
-}
-
-/// Whether the last of these calls comes to what stands beside it.
-fn is_as_said(alloc: Global, list: &[(Call, After)]) -> Result<bool, Fail> {
-    let found = comes_of(alloc, list)?;
-    match list.last() {
-        Some((_, wanted)) => Ok(found == *wanted),
-        None => Ok(false),
-    }
-}
-
-/// Whether each of these calls does.
-fn are_as_said(alloc: Global, list: &[(Call, After)]) -> Result<bool, Fail> {
-    for n in 0..list.len() {
-        if !is_as_said(alloc, &list[..n + 1])? {
-            return Ok(false);
-        }
-    }
-    Ok(true)
-}
-
 // By hand: 24 bits leave 4 of 24 information bits, which four more fix, and 32 bits leave none. What one process
 // received is nothing to the other one, nor to itself once it began again.
 #[test]
 fn processes_are_kept_apart(rt: HostRuntime) -> Result<(), Fail> {
-    assert!(rt; are_as_said(rt.alloc(), &TWO)?);
+    assert!(rt; come_as_said(rt.alloc(), &TWO)?);
     Ok(())
 }
 
 #[test]
 fn a_refused_call_leaves_what_was_heard(rt: HostRuntime) -> Result<(), Fail> {
-    assert!(rt; are_as_said(rt.alloc(), &REFUSED)?);
+    assert!(rt; come_as_said(rt.alloc(), &REFUSED)?);
     Ok(())
 }
 

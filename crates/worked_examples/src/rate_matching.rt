@@ -39,20 +39,15 @@ fn limits_keep_350_or_300_bits_or_1(rt: HostRuntime) -> Result<(), Fail> {
     Ok(())
 }
 
-/// Puts ones in the places of bits that the word has.
-fn put_ones(word: &mut Word, ones: &[usize]) {
+/// The word of zeros but for ones at these positions.
+fn word_with(alloc: Global, ones: &[usize]) -> Result<Word, Fail> {
+    let plan = plan(Graph::Two, 40)?;
+    let mut word = Word::new(alloc, &plan)?;
     for at in ones.iter().copied() {
         if at < word.len() {
             word.set(at, true);
         }
     }
-}
-
-/// The word of zeros but for ones at these positions.
-fn word_with(alloc: Global, ones: &[usize]) -> Result<Word, Fail> {
-    let plan = plan(Graph::Two, 40)?;
-    let mut word = Word::new(alloc, &plan)?;
-    put_ones(&mut word, ones);
     Ok(word)
 }
 

@@ -28,7 +28,7 @@ pub(crate) struct Arrival<'a> {
 pub(crate) type First<'a> = (u32, Places<'a>, Places<'a>);
 
 /// What a receiver hands up: of a delivered block its first octet.
-#[derive(Clone, Copy, Debug, PartialEq, Eq)]
+#[derive(Clone, Copy, PartialEq, Eq)]
 pub(crate) enum HandedUp {
     Open,
     Delivered(u8),

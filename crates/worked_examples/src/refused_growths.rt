@@ -2,6 +2,14 @@
 //! growth of these tests in turn. A test ends out of memory exactly where a growth is refused, and first compares what
 //! the call was to change with what was before.
 
+use nr_bitvec::Bits;
+use std::alloc::Global;
+
 mod coding;
 mod commands;
 mod low;
+
+/// Whether memory is there, as it is where one growth alone was refused.
+fn has_memory(alloc: Global) -> bool {
+    Bits::zeros(alloc, 1).is_ok()
+}

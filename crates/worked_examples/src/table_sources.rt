@@ -15,7 +15,10 @@ fn read_shift(
     limit: usize,
 ) -> Result<Result<usize, ReadFault>, Fail> {
     let mut feed = Feed::new(Vec::from_slice(alloc, b"shift")?, step.max(1), fail);
-    Ok(read_to_end(alloc, &mut feed, limit).map(|octets| octets.len()))
+    match read_to_end(alloc, &mut feed, limit) {
+        Ok(octets) => Ok(Ok(octets.len())),
+        Err(fault) => Ok(Err(fault)),
+    }
 }
 
 // A feed gives at most a step a pull, and goes on failing once it has failed.

@@ -60,11 +60,6 @@ fn all_add_up(cells: &[Cell], plan: &Plan, word: &Word) -> bool {
     true
 }
 
-/// Whether a word meets every row, by the entries alone and by what tests words.
-fn is_word(table: &Table, cells: &[Cell], plan: &Plan, word: &Word) -> bool {
-    all_add_up(cells, plan, word) && is_met(table, plan, word)
-}
-
 /// Bits that look drawn at random.
 fn drawn(alloc: Global, count: u32) -> Result<Bits, AllocError> {
     let mut bits = Bits::zeros(alloc, count.min(16_384))?;
@@ -92,11 +87,16 @@ fn bits_at(graph: Graph, size: u16) -> u32 {
     (columns * u32::from(size)).saturating_sub(3).max(24)
 }
 
-/// Whether a code block of drawn bits is encoded by a plan.
+/// Whether a code block of drawn bits is encoded by a plan. Its word is to begin with them and to meet every row, by the
+/// entries alone and by what tests words.
 fn is_encoded(alloc: Global, table: &Table, cells: &[Cell], plan: &Plan) -> Result<bool, Fail> {
     let bits = drawn(alloc, plan.kdash)?;
     match word_of(alloc, table, plan, &bits) {
-        Ok(word) => Ok(begins_with(&word, &bits) && is_word(table, cells, plan, &word)),
+        Ok(word) => Ok(
+            begins_with(&word, &bits)
+                && all_add_up(cells, plan, &word)
+                && is_met(table, plan, &word),
+        ),
         Err(fault) => Err(fault.into()),
     }
 }

@@ -27,7 +27,7 @@ fn pulls_of(file: End, schedule: &[u8]) -> u32 {
 fn pulls_until(command: Command, file: End, k: u32) -> [u32; 4] {
     match file {
         End::Table => [k, 0, 0, 0],
-        End::Blocks if command == Command::Cut => [0, 0, k, 0],
+        End::Blocks if matches!(command, Command::Cut) => [0, 0, k, 0],
         End::Settings => [43, k, 0, 0],
         End::Blocks => [43, 17, k, 0],
         End::Schedule => [43, 17, 4, k],

@@ -1,6 +1,7 @@
 //! Calls of rate matching, of peeling and of processes. Where a growth is refused and memory is there again, the call
 //! is made again, and returns the true result.
 
+use super::has_memory;
 use crate::peeling::size_of;
 use crate::practice::{PLAIN, practice};
 use crate::processes::{Answer, begins, left_of_two, takes};
@@ -15,11 +16,6 @@ use nr_segment::{Plan, plan};
 use nr_shifttable::Table;
 use std::alloc::{AllocError, Global};
 use std::test::Fail;
-
-/// Whether memory is there.
-fn has_memory(alloc: Global) -> bool {
-    Bits::zeros(alloc, 1).is_ok()
-}
 
 /// 65 bits of version 0 of a word of zeros.
 fn select_65(alloc: Global, plan: &Plan, word: &Word) -> Result<Bits, AllocError> {
@@ -100,18 +96,13 @@ fn closed_again(alloc: Global, table: &Table, plan: &Plan, known: &mut Bits) -> 
     (first, answer.is_ok() && marks[1] == 0x80)
 }
 
-/// What closing over position 0 alone comes to.
-fn closed_over(alloc: Global, table: &Table, plan: &Plan) -> Result<(Closed, bool), AllocError> {
-    let mut known = Bits::zeros(alloc, 208)?;
-    known.set(0, true);
-    Ok(closed_again(alloc, table, plan, &mut known))
-}
-
-/// What closing over position 0 of the practice table comes to.
+/// What closing over position 0 alone of the practice table comes to.
 fn closed_at_last(alloc: Global) -> Result<(Closed, bool), Fail> {
     let plan = plan(Graph::Two, 24)?;
     let table = practice(alloc, 0, 1, false)?;
-    Ok(closed_over(alloc, &table, &plan)?)
+    let mut known = Bits::zeros(alloc, 208)?;
+    known.set(0, true);
+    Ok(closed_again(alloc, &table, &plan, &mut known))
 }
 
 // At lifting size 4, column 50 is column 0 turned by 40, so position 0 fixes position 200.

@@ -1,5 +1,6 @@
 //! Lists of bits that grow, code blocks that are joined or appended, and interleaving to a list of its own.
 
+use super::has_memory;
 use nr_bitvec::Bits;
 use nr_cbconcat::append;
 use nr_graphpick::Graph;
@@ -11,11 +12,6 @@ use std::test::Fail;
 
 // One word of bits, so that one bit more needs another.
 const OCTETS: [u8; 8] = [0x31, 0x32, 0x33, 0x34, 0x35, 0x36, 0x37, 0x38];
-
-// Whether memory is given, as it is where one growth alone was refused.
-fn has_memory(alloc: Global) -> bool {
-    Bits::with_room(alloc, 64).is_ok()
-}
 
 // That a list has the bits of those octets alone.
 fn is_as_before(rt: &impl Abort, bits: &Bits) {
@@ -36,7 +32,7 @@ fn push_one_again(rt: &impl Abort, alloc: Global, bits: &mut Bits) -> Result<(),
     if answer.is_err() {
         is_as_before(rt, bits);
         if has_memory(alloc) {
-            push_one(bits).expect(rt, "memory is there again");
+            assert!(rt; push_one(bits).is_ok());
             ends_in_one(rt, bits);
         }
     }
@@ -85,7 +81,7 @@ fn extends(rt: HostRuntime) -> Result<(), AllocError> {
     if answer.is_err() {
         is_as_before(&rt, &bits);
         if has_memory(rt.alloc()) {
-            extend(&mut bits, &more).expect(&rt, "memory is there again");
+            assert!(rt; extend(&mut bits, &more).is_ok());
             are_twice_the_octets(&rt, &bits);
         }
     }
@@ -102,7 +98,7 @@ fn appends(rt: HostRuntime) -> Result<(), AllocError> {
     if answer.is_err() {
         is_as_before(&rt, &bits);
         if has_memory(rt.alloc()) {
-            append_block(&mut bits, &more).expect(&rt, "memory is there again");
+            assert!(rt; append_block(&mut bits, &more).is_ok());
             are_twice_the_octets(&rt, &bits);
         }
     }
