@@ -69,8 +69,7 @@ fn is_written(alloc: Global, fault: EncFault, name: &str) -> Result<bool, AllocE
 }
 
 #[test]
-fn faults_of_the_encoder_are_written(rt: HostRuntime) -> Result<(), Fail> {
-    assert!(rt; is_written(rt.alloc(), EncFault::NoGraph, "NoGraph")?);
-    assert!(rt; is_written(rt.alloc(), EncFault::Memory, "Memory")?);
-    Ok(())
+fn faults_of_the_encoder_are_written(rt: HostRuntime) {
+    assert!(rt; is_written(rt.alloc(), EncFault::NoGraph, "NoGraph") == Ok(true));
+    assert!(rt; is_written(rt.alloc(), EncFault::Memory, "Memory") == Ok(true));
 }

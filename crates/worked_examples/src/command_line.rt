@@ -2,7 +2,6 @@
 
 use nr_job::{Job, JobFault, job};
 use std::alloc::{AllocError, Global};
-use std::test::Fail;
 
 /// The words of a line.
 fn words_of(alloc: Global, line: &str) -> Result<Vec<String>, AllocError> {
@@ -73,9 +72,8 @@ const LINES: &[(&str, &str)] = &[
 ];
 
 #[test]
-fn lines_ask_for_jobs(rt: HostRuntime) -> Result<(), Fail> {
+fn lines_ask_for_jobs(rt: HostRuntime) {
     for (line, want) in LINES.iter().copied() {
-        assert!(rt; is_asked(rt.alloc(), line, want)?, "{line}");
+        assert!(rt; is_asked(rt.alloc(), line, want) == Ok(true), "{line}");
     }
-    Ok(())
 }

@@ -7,7 +7,6 @@ use nr_segment::SegFault;
 use nr_shifttable::Feed;
 use nr_transmission::DeskFault;
 use std::alloc::{AllocError, Global};
-use std::test::Fail;
 
 /// Whether a command ends well under the practice table, and writes this text.
 fn writes(
@@ -26,9 +25,8 @@ pub(crate) const CUT_01: &[u8] =
     b"block 1 a 8 b 24 graph 2 c 1 l 0 kdash 24 kb 6 z 4 set 0 k 40 n 200\nattached 1 011021\ncode 1 0 011021\n";
 
 #[test]
-fn cut_shows_block_01(rt: HostRuntime) -> Result<(), Fail> {
-    assert!(rt; writes(rt.alloc(), Command::Cut, b"01\n", b"", CUT_01)?);
-    Ok(())
+fn cut_shows_block_01(rt: HostRuntime) {
+    assert!(rt; writes(rt.alloc(), Command::Cut, b"01\n", b"", CUT_01) == Ok(true));
 }
 
 /// How `cut` ends at the code rate 0.25 with two blocks, of 1 and of 955 octets, and how much it wrote.
@@ -44,14 +42,13 @@ fn cut_in_three(alloc: Global) -> Result<(Result<(), RunFault>, usize), AllocErr
 // 955 octets are 7664 bits with their CRC, and 7736 with those of three code blocks, which can't share them. Block 2 stops
 // block 1's lines too.
 #[test]
-fn cut_refuses_955_octets(rt: HostRuntime) -> Result<(), Fail> {
+fn cut_refuses_955_octets(rt: HostRuntime) {
     let fault = RunFault::Desk(2, DeskFault::Seg(SegFault::Uneven));
-    assert!(rt; cut_in_three(rt.alloc())? == (Err(fault), 0));
-    Ok(())
+    assert!(rt; cut_in_three(rt.alloc()) == Ok((Err(fault), 0)));
 }
 
 #[test]
-fn check_counts_the_entries(rt: HostRuntime) -> Result<(), Fail> {
+fn check_counts_the_entries(rt: HostRuntime) {
     assert!(rt;
         writes(
             rt.alloc(),
@@ -59,15 +56,14 @@ fn check_counts_the_entries(rt: HostRuntime) -> Result<(), Fail> {
             b"",
             b"",
             b"graph 2 entries 105\n"
-        )?
+        ) == Ok(true)
     );
-    Ok(())
 }
 
 // With its CRC the block is 011021. All of the buffer; 24 bits in four rows of six, read by columns; 40 bits from column
 // 45 on; and two transmissions that are refused.
 #[test]
-fn send_writes_block_01(rt: HostRuntime) -> Result<(), Fail> {
+fn send_writes_block_01(rt: HostRuntime) {
     let schedule =
         b"block,rv,g,qm,nl,erase\n1,0,184,1,1,-\n1,0,24,4,1,-\n1,3,40,1,1,-\n1,4,24,1,1,-\n1,0,30,4,1,-\n";
     let want: &[u8] = b"sent 1 1 1021033022000008108800000240220000081088000002\n\
@@ -75,28 +71,25 @@ fn send_writes_block_01(rt: HostRuntime) -> Result<(), Fail> {
         sent 3 1 8000002102\n\
         refused 4 1 Rv\n\
         refused 5 1 Ragged\n";
-    assert!(rt; writes(rt.alloc(), Command::Send, b"01", schedule, want)?);
-    Ok(())
+    assert!(rt; writes(rt.alloc(), Command::Send, b"01", schedule, want) == Ok(true));
 }
 
 /// All of the buffer of a block whose codeword has 184 bits to be sent.
 const WHOLE: &[u8] = b"block,rv,g,qm,nl,erase\n1,0,184,1,1,-\n";
 
 #[test]
-fn run_delivers_block_01(rt: HostRuntime) -> Result<(), Fail> {
+fn run_delivers_block_01(rt: HostRuntime) {
     let want: &[u8] = b"sent 1 1 1021033022000008108800000240220000081088000002\n\
         left 1 1 0 0\n\
         block 1 delivered tx 1 failed 0 of 1 01\n\
         total blocks 1 delivered 1 open 0 contradiction 0 codeblocks 1 failed 0\n";
-    assert!(rt; writes(rt.alloc(), Command::Run, b"01", WHOLE, want)?);
-    Ok(())
+    assert!(rt; writes(rt.alloc(), Command::Run, b"01", WHOLE, want) == Ok(true));
 }
 
 // The steps fix the two columns that are never sent.
 #[test]
-fn audit_orders_block_01(rt: HostRuntime) -> Result<(), Fail> {
-    assert!(rt; writes(rt.alloc(), Command::Audit, b"01", WHOLE, b"order 1 0 8\n")?);
-    Ok(())
+fn audit_orders_block_01(rt: HostRuntime) {
+    assert!(rt; writes(rt.alloc(), Command::Audit, b"01", WHOLE, b"order 1 0 8\n") == Ok(true));
 }
 
 /// The first 24 bits of the buffer of block 01.
@@ -104,10 +97,9 @@ const FIRST_BITS: &[u8] = b"block,rv,g,qm,nl,erase\n1,0,24,1,1,-\n";
 
 // Column 1, columns 12 and 13, and the rotations of column 1, which are columns 21, 31, 41 and 51.
 #[test]
-fn audit_names_the_stopping_set(rt: HostRuntime) -> Result<(), Fail> {
+fn audit_names_the_stopping_set(rt: HostRuntime) {
     let want: &[u8] =
         b"stuck 1 0 28 4 5 6 7 48 49 50 51 52 53 54 55 84 85 86 87 124 125 126 127 164 165 166 167 \
         204 205 206 207\n";
-    assert!(rt; writes(rt.alloc(), Command::Audit, b"01", FIRST_BITS, want)?);
-    Ok(())
+    assert!(rt; writes(rt.alloc(), Command::Audit, b"01", FIRST_BITS, want) == Ok(true));
 }

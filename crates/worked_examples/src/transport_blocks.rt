@@ -108,9 +108,8 @@ const NAMES: &[(DeskFault, &str)] = &[
 ];
 
 #[test]
-fn the_innermost_fault_is_written(rt: HostRuntime) -> Result<(), Fail> {
+fn the_innermost_fault_is_written(rt: HostRuntime) {
     for (fault, name) in NAMES.iter().copied() {
-        assert!(rt; is_written(rt.alloc(), fault, name)?, "{name}");
+        assert!(rt; is_written(rt.alloc(), fault, name) == Ok(true), "{name}");
     }
-    Ok(())
 }

@@ -9,7 +9,6 @@ use crate::ends::{Command, End, ended};
 use nr_commands::{RunFault, Tape, put_all};
 use std::alloc::{AllocError, Global};
 use std::process::Abort;
-use std::test::Fail;
 
 /// Whether a command writes so many octets of a text and no more, where its output is Broken at the put behind them. Behind
 /// the text's last octet there is no put.
@@ -37,54 +36,53 @@ fn breaks_at_each_put(
     command: Command,
     schedule: &[u8],
     text: &[u8],
-) -> Result<(), Fail> {
+) {
     for count in 0..=text.len().min(1000) as u32 {
-        assert!(rt; breaks_behind(alloc, command, schedule, text, count)?);
+        assert!(rt; breaks_behind(alloc, command, schedule, text, count) == Ok(true));
     }
-    Ok(())
 }
 
 #[test]
-fn cut_is_broken_at_each_put(rt: HostRuntime) -> Result<(), Fail> {
-    breaks_at_each_put(&rt, rt.alloc(), Command::Cut, SCHEDULE, CUT_01)
+fn cut_is_broken_at_each_put(rt: HostRuntime) {
+    breaks_at_each_put(&rt, rt.alloc(), Command::Cut, SCHEDULE, CUT_01);
 }
 
 #[test]
-fn check_is_broken_at_each_put(rt: HostRuntime) -> Result<(), Fail> {
+fn check_is_broken_at_each_put(rt: HostRuntime) {
     let text = b"graph 2 entries 105\n";
-    breaks_at_each_put(&rt, rt.alloc(), Command::Check, SCHEDULE, text)
+    breaks_at_each_put(&rt, rt.alloc(), Command::Check, SCHEDULE, text);
 }
 
 // Block 01 with its CRC is 011021, with Zc 4: columns 2 to 7 behind the fillers, by four bits a symbol.
 #[test]
-fn send_is_broken_at_each_put(rt: HostRuntime) -> Result<(), Fail> {
+fn send_is_broken_at_each_put(rt: HostRuntime) {
     let text = b"sent 1 1 000a51\n";
-    breaks_at_each_put(&rt, rt.alloc(), Command::Send, SCHEDULE, text)
+    breaks_at_each_put(&rt, rt.alloc(), Command::Send, SCHEDULE, text);
 }
 
 // 24 bits leave column 1 of block 01's word.
 #[test]
-fn run_is_broken_at_each_put(rt: HostRuntime) -> Result<(), Fail> {
+fn run_is_broken_at_each_put(rt: HostRuntime) {
     let text = b"sent 1 1 000a51\n\
         left 1 1 0 4\n\
         block 1 open tx 1 failed 1 of 1\n\
         total blocks 1 delivered 0 open 1 contradiction 0 codeblocks 1 failed 1\n";
-    breaks_at_each_put(&rt, rt.alloc(), Command::Run, SCHEDULE, text)
+    breaks_at_each_put(&rt, rt.alloc(), Command::Run, SCHEDULE, text);
 }
 
 // With column 1 columns 12 and 13 are left and the rotations of column 1, which are columns 21, 31, 41 and 51.
 #[test]
-fn audit_is_broken_at_each_put(rt: HostRuntime) -> Result<(), Fail> {
+fn audit_is_broken_at_each_put(rt: HostRuntime) {
     let text =
         b"stuck 1 0 28 4 5 6 7 48 49 50 51 52 53 54 55 84 85 86 87 124 125 126 127 164 165 166 167 \
         204 205 206 207\n";
-    breaks_at_each_put(&rt, rt.alloc(), Command::Audit, SCHEDULE, text)
+    breaks_at_each_put(&rt, rt.alloc(), Command::Audit, SCHEDULE, text);
 }
 
 // Column 1 is left of the first round too, which the second one ends; 32 bits leave nothing, and of 208 positions 16
 // are fillers.
 #[test]
-fn run_by_rounds_is_broken_at_each_put(rt: HostRuntime) -> Result<(), Fail> {
+fn run_by_rounds_is_broken_at_each_put(rt: HostRuntime) {
     let text = b"sent 1 1 000a51\n\
         left 1 1 0 4\n\
         process 3 block 1 open tx 1 failed 1 of 1\n\
@@ -92,16 +90,16 @@ fn run_by_rounds_is_broken_at_each_put(rt: HostRuntime) -> Result<(), Fail> {
         left 2 1 0 0\n\
         process 3 block 1 delivered tx 1 failed 0 of 1 01\n\
         total rounds 2 delivered 1 open 1 contradiction 0 codeblocks 2 failed 1\n";
-    breaks_at_each_put(&rt, rt.alloc(), Command::Run, ROUNDS, text)
+    breaks_at_each_put(&rt, rt.alloc(), Command::Run, ROUNDS, text);
 }
 
 #[test]
-fn audit_by_rounds_is_broken_at_each_put(rt: HostRuntime) -> Result<(), Fail> {
+fn audit_by_rounds_is_broken_at_each_put(rt: HostRuntime) {
     let text =
         b"process 3 stuck 1 0 28 4 5 6 7 48 49 50 51 52 53 54 55 84 85 86 87 124 125 126 127 164 165 166 167 \
         204 205 206 207\n\
         process 3 order 1 0 160\n";
-    breaks_at_each_put(&rt, rt.alloc(), Command::Audit, ROUNDS, text)
+    breaks_at_each_put(&rt, rt.alloc(), Command::Audit, ROUNDS, text);
 }
 
 /// What stands of `abcdef` on a new Tape: whether all was put, how many octets are there, and whether they are its first.
@@ -121,7 +119,7 @@ fn put_onto(
 }
 
 #[test]
-fn text_is_put_until_the_output_is_broken(rt: HostRuntime) -> Result<(), Fail> {
+fn text_is_put_until_the_output_is_broken(rt: HostRuntime) {
     for (room, step, fail, count) in [
         (6, 6, 0, 6),
         (6, 4, 0, 6),
@@ -132,8 +130,7 @@ fn text_is_put_until_the_output_is_broken(rt: HostRuntime) -> Result<(), Fail> {
         (6, 6, 1, 0),
         (0, 1, 0, 0),
     ] {
-        let found = put_onto(rt.alloc(), room, step.max(1), fail)?;
-        assert!(rt; found == (count == 6, count, true));
+        let found = put_onto(rt.alloc(), room, step.max(1), fail);
+        assert!(rt; found == Ok((count == 6, count, true)));
     }
-    Ok(())
 }
