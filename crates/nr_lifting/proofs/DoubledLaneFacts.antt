@@ -14,7 +14,7 @@ use Rattle.nr_bitvec.specs.Packed.{place, IsClear}
 use Rattle.nr_bitvec.proofs.PlaceFacts.{same_from_bits}
 use Rattle.nr_lifting.specs.LaneInside.{AddsPlaces}
 use Rattle.nr_lifting.specs.Rings.{BlockBits, IsRing, GainsTwice, IsRotated, block_bits, is_set, lane_marks, ring_bit}
-use Rattle.nr_lifting.specs.Inside.{AreRings}
+use Rattle.nr_lifting.specs.Inside.{AreRings, IsMask}
 use Rattle.nr_lifting.proofs.LaneViewFacts.{max_bits, place-lt, place-zeros, rest_bits, sum_bits}
 use Rattle.nr_lifting.proofs.RotationFacts.{mod_small}
 
@@ -153,8 +153,8 @@ module _ (z : ℕ) (some : 0 < z) where
 
   -- ---- rings stay rings
 
-  pub rings_set : (rings : List (List ℕ)) (j : ℕ) (ring : List ℕ) → AreRings z rings → j < length rings → IsRing z ring → IsClear ring (2 * z) → AreRings z (set rings j ring)
-  rings_set rings j ring are within twice clear = record {
+  pub rings_set : (mask : List ℕ) (rings : List (List ℕ)) (j : ℕ) (ring : List ℕ) → AreRings z mask rings → j < length rings → IsRing z ring → IsClear ring (2 * z) → AreRings z mask (set rings j ring)
+  rings_set mask rings j ring are within twice clear = record {
     some = are.some;
     short = are.short;
     few = omega (arith, are.few, length-set rings j ring);
@@ -166,6 +166,7 @@ module _ (z : ℕ) (some : 0 < z) where
       | inl e ↦ rw (ap (λ k. get_or (set rings j ring) k []) e ∙ get_or-set_same rings j ring [] within) clear
       | inr apart ↦ rw (get_or-set_other rings j i ring [] apart) (are.clear i)
     ];
+    mask = are.mask;
   }
 
 -- rings of zeros
@@ -179,13 +180,14 @@ module _ (z count w : ℕ) where
     | inr h ↦ ap (λ r. place r t) (get_or_past zeros j [] (omega (arith, length-replicate count (replicate {A = ℕ} w 0), h))) ∙ bit_at-zero (t % 64)
   ]
 
-  pub zero_rings : 0 < z → z ≤ 384 → count < 2 ^ 16 → AreRings z zeros
-  zero_rings some short few = record {
+  pub zero_rings : (mask : List ℕ) → IsMask z mask → 0 < z → z ≤ 384 → count < 2 ^ 16 → AreRings z mask zeros
+  zero_rings mask is some short few = record {
     some = some;
     short = short;
     few = omega (arith, length-replicate count (replicate {A = ℕ} w 0), few);
     ring = λ j t below. zero_at j (z + t) ∙ sym (zero_at j t);
     clear = λ j t past. zero_at j t;
+    mask = is;
   }
 
   pub zero_bits : 0 < z → (block_bits z zeros).items ≡ replicate (count * z) false

@@ -1,8 +1,8 @@
 -- Loops that write the words of a lane one by one.
-use Rattle.std.proofs.Common.{◌≡◌, ℕ, ◌+◌, ◌*◌, ◌/◌, ◌%◌, ◌-◌, ◌^◌, ◌<◌, ◌≤◌, min, max, List, length, get_or, set, refl, sym, ap, ◌∙◌, inl, inr, arith, length-set, get_or-set_other}
+use Rattle.std.proofs.Common.{◌≡◌, ℕ, ◌+◌, ◌*◌, ◌/◌, ◌%◌, ◌<◌, ◌≤◌, min, max, List, length, get_or, set, refl, sym, ap, ◌∙◌, inl, inr, arith, length-set, get_or-set_other}
 use Rattle.std.proofs.lemmas.Bool.{cases_lt, cases_eq}
-use Rattle.std.proofs.lemmas.Nat.Bits.{bit_at_and, bit_at_not, bit_at_or, bit_at_xor}
-use Rattle.std.specs.Int.{bit_at, bit_not, w64}
+use Rattle.std.proofs.lemmas.Nat.Bits.{bit_at_and, bit_at_or, bit_at_xor}
+use Rattle.std.specs.Int.{bit_at}
 use Rattle.std.specs.Int.RustNames.{bit_and, bit_or, bit_xor}
 use Rattle.nr_bitvec.specs.Packed.{place, IsClear}
 use Rattle.nr_lifting.specs.Lane.{IsRotatedWord}
@@ -77,14 +77,6 @@ module _ (z i p now rotated : ℕ) (ws src : List ℕ) (kept : now ≡ get_or ws
 
   pub joined_high : z ≤ 64 * i + j → bit_at (bit_or now rotated) j ≡ 0
   joined_high past = omega (arith, bit_at_or now rotated j, word_past past, none j past)
-
-  pub less_low : rotated < 2 ^ 64 → 64 * i + j < z → bit_at (bit_and now (bit_not w64 rotated)) j ≡ min (place ws (64 * i + j)) (1 - place src ((64 * i + j + p) % z))
-  less_low fits below =
-      bit_at_and now (bit_not w64 rotated) j ∙ ap (min (bit_at now j)) (bit_at_not w64 rotated j fits short)
-      ∙ ap (λ n. min n (1 - bit_at rotated j)) word_at ∙ ap (λ n. min (place ws (64 * i + j)) (1 - n)) (is j short below)
-
-  pub less_high : z ≤ 64 * i + j → bit_at (bit_and now (bit_not w64 rotated)) j ≡ 0
-  less_high past = omega (arith, bit_at_and now (bit_not w64 rotated) j, word_past past)
 
   -- with a second lane, whose word gains the places that both have
   module _ (word : ℕ) (more : List ℕ) (other : word ≡ get_or more i 0) (free : IsClear more z) where

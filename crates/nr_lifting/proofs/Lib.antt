@@ -7,4 +7,6 @@ pub mod LaneMoveFacts
 mod BlockPlaceFacts
 mod PlaneCountFacts
 mod DoubledLaneFacts
+mod RingSpanFacts
+mod RingJoinFacts
 pub mod RotationFacts

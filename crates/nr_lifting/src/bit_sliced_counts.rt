@@ -8,6 +8,7 @@ ghost use Rattle.nr_lifting.specs.Planes.{number, number_at, Falls, FallsRotated
 ghost use Rattle.nr_lifting.specs.Rings.{IsRing, is_set};
 
 use crate::doubled_lanes::{DoubledLanes, ring_word};
+use crate::ring_spans::span;
 use nr_bitvec::words::low_bits;
 use std::alloc::{AllocError, Global};
 use std::marker::Model;
@@ -56,6 +57,24 @@ pub fn lower_block(planes: &mut [[u64; 7]], count: usize, ring: &[u64], size: us
 {
     for i in 0..count {
         lower_word(&mut planes[i], ring_word(ring, size, i, p));
+    }
+}
+
+// `lower_block` for at most 384 counts and a ring of twelve words, each of which is read in one piece.
+fn lower_lane(planes: &mut [[u64; 7]; 6], ring: &[u64; 12], size: usize, p: usize)
+    requires rotation { p < size }
+    requires few { size ≤ 384 }
+    requires ring { IsRing size ring.now }
+    requires enough { (t : ℕ) → t < size
+        → place ring.now ((t + p) % size) ≤ number_at planes.old t }
+    ensures { FallsRotated size planes.new planes.old ring.now p }
+{
+    let (word, turn) = (p / 64, p % 64);
+    for k in 0..size.div_ceil(64) {
+        lower_word(
+            &mut planes[k],
+            low_bits(span(ring, word + k, turn), size - 64 * k),
+        );
     }
 }
 
@@ -167,13 +186,6 @@ impl BitSlicedCounts {
         ensures long { length self.new.items ≡ length self.old.items }
         ensures lanes { self.new.lanes ≡ self.old.lanes }
     {
-        let count = self.size.div_ceil(64);
-        lower_block(
-            &mut self.blocks[i],
-            count,
-            marks.ring(j),
-            self.size,
-            rotation,
-        );
+        lower_lane(&mut self.blocks[i], marks.ring(j), self.size, rotation);
     }
 }

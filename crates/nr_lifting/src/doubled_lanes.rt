@@ -5,11 +5,13 @@ ghost use Rattle.std.specs.Prelude.{◌≡◌, ℕ, ◌+◌, ◌-◌, ◌*◌, �
 ghost use Rattle.std.specs.Int.{bit_at};
 ghost use Rattle.nr_bitvec.specs.Bit.{◌⊕◌, bit};
 ghost use Rattle.nr_bitvec.specs.Packed.{place, IsClear};
+ghost use Rattle.nr_lifting.specs.Inside.{IsMask};
 ghost use Rattle.nr_lifting.specs.Lane.{IsRotatedWord};
 ghost use Rattle.nr_lifting.specs.LaneInside.{AddsPlaces};
 ghost use Rattle.nr_lifting.specs.Rings.{GainsTwice, IsRing, IsRotated, is_set, lane_marks};
 
 use crate::lane::{rotated_word, wrapped_word};
+use crate::ring_spans::{join_twice, mask_of, span};
 use nr_bitvec::words::{low_bits, window};
 use std::alloc::{AllocError, Global};
 use std::marker::Model;
@@ -65,11 +67,9 @@ pub fn rotate_lane(words: &[u64; 6], size: usize, p: usize) -> [u64; 6]
     if size <= 64 {
         return one_word(rotated_word(words, size, 0, p));
     }
-    let mut lane = [0; 6];
-    for i in 0..size.div_ceil(64) {
-        lane[i] = rotated_word(words, size, i, p);
-    }
-    lane
+    let mut ring = [0; 12];
+    join_twice(&mut ring, words, size);
+    ring_lane(&ring, size, p, &mask_of(size))
 }
 
 // A lane whose first word is `word`, with no bit after it.
@@ -83,21 +83,30 @@ fn one_word(word: u64) -> [u64; 6]
 }
 
 // Adds the block of a ring, at most 384 bits, to a lane, modulo two, rotated by `p`.
-fn add_ring(sum: &mut [u64; 6], ring: &[u64], size: usize, p: usize)
+fn add_ring(sum: &mut [u64; 6], ring: &[u64; 12], size: usize, p: usize, mask: &[u64; 6])
     requires rotation { p < size }
     requires few { size ≤ 384 }
     requires ring { IsRing size ring.now }
+    requires mask { IsMask size mask.now }
     requires clear { IsClear sum.old size }
     ensures sum { AddsPlaces size sum.new sum.old ring.now p }
     ensures clear { IsClear sum.new size }
 {
-    for i in 0..size.div_ceil(64) {
-        sum[i] ^= ring_word(ring, size, i, p);
+    let (word, turn) = (p / 64, p % 64);
+    if size <= 64 {
+        sum[0] ^= span(ring, word, turn) & mask[0];
+        return;
     }
+    // All six words, since the number is known and several go at a time.
+    let mut now = *sum;
+    for i in 0..6 {
+        now[i] ^= span(ring, word + i, turn) & mask[i];
+    }
+    *sum = now;
 }
 
 // The bits of a lane that the block of a ring, at most 384 bits and rotated by `p`, lacks.
-fn lane_less_ring(lane: &[u64; 6], ring: &[u64], size: usize, p: usize) -> [u64; 6]
+fn lane_less_ring(lane: &[u64; 6], ring: &[u64; 12], size: usize, p: usize) -> [u64; 6]
     requires rotation { p < size }
     requires few { size ≤ 384 }
     requires ring { IsRing size ring.now }
@@ -106,30 +115,33 @@ fn lane_less_ring(lane: &[u64; 6], ring: &[u64], size: usize, p: usize) -> [u64;
         → place result t ≡ min (place lane.now t) (1 - place ring.now ((t + p) % size)) }
     ensures clear { IsClear result size }
 {
+    let (word, turn) = (p / 64, p % 64);
     if size <= 64 {
-        return one_word(lane[0] & !ring_word(ring, size, 0, p));
+        return one_word(lane[0] & !span(ring, word, turn));
     }
     let mut rest = *lane;
-    for i in 0..size.div_ceil(64) {
-        rest[i] &= !ring_word(ring, size, i, p);
+    for i in 0..6 {
+        rest[i] &= !span(ring, word + i, turn);
     }
     rest
 }
 
 // The block of a ring, at most 384 bits, rotated by `p`: its bit t is bit (t + p) mod `size` of the ring's.
-fn ring_lane(ring: &[u64], size: usize, p: usize) -> [u64; 6]
+fn ring_lane(ring: &[u64; 12], size: usize, p: usize, mask: &[u64; 6]) -> [u64; 6]
     requires rotation { p < size }
     requires few { size ≤ 384 }
     requires ring { IsRing size ring.now }
+    requires mask { IsMask size mask.now }
     ensures rotated { IsRotated size result ring.now p }
     ensures clear { IsClear result size }
 {
+    let (word, turn) = (p / 64, p % 64);
     if size <= 64 {
-        return one_word(ring_word(ring, size, 0, p));
+        return one_word(span(ring, word, turn) & mask[0]);
     }
     let mut lane = [0; 6];
-    for i in 0..size.div_ceil(64) {
-        lane[i] = ring_word(ring, size, i, p);
+    for i in 0..6 {
+        lane[i] = span(ring, word + i, turn) & mask[i];
     }
     lane
 }
@@ -139,6 +151,7 @@ fn ring_lane(ring: &[u64], size: usize, p: usize) -> [u64; 6]
 #[derive(Drop)]
 pub struct DoubledLanes {
     size: usize,
+    mask: [u64; 6],
     rings: Vec<[u64; 12]>,
 }
 
@@ -150,7 +163,7 @@ impl Model for DoubledLanes {
 
     ghost view = { λ a. block_bits a.size a.rings.items };
 
-    ghost invariant = { λ a. AreRings a.size a.rings.items };
+    ghost invariant = { λ a. AreRings a.size a.mask a.rings.items };
 }
 
 impl DoubledLanes {
@@ -170,7 +183,8 @@ impl DoubledLanes {
         for i in 0..count {
             rings.push_reserved([0; 12]);
         }
-        Ok(DoubledLanes { size, rings })
+        let mask = mask_of(size);
+        Ok(DoubledLanes { size, mask, rings })
     }
 
     // The ring of block `j`.
@@ -216,7 +230,7 @@ impl DoubledLanes {
             ≡ bit self.now.items (j * self.now.lanes + (t + rotation) % self.now.lanes) }
         ensures clear { IsClear result self.now.lanes }
     {
-        ring_lane(&self.rings[j], self.size, rotation)
+        ring_lane(&self.rings[j], self.size, rotation, &self.mask)
     }
 
     /// Adds block `j`, rotated by `rotation`, to a lane, modulo two: its bit t gains bit (t + `rotation`) modulo the size of the
@@ -229,7 +243,7 @@ impl DoubledLanes {
             ≡ is_set sum.old t ⊕ bit self.now.items (j * self.now.lanes + (t + rotation) % self.now.lanes) }
         ensures clear { IsClear sum.new self.now.lanes }
     {
-        add_ring(sum, &self.rings[j], self.size, rotation);
+        add_ring(sum, &self.rings[j], self.size, rotation, &self.mask);
     }
 
     /// The bits of a lane that block `j`, rotated by `rotation`, lacks. They are those t whose bit (t + `rotation`) modulo the
@@ -254,7 +268,7 @@ impl DoubledLanes {
         ensures long { length self.new.items ≡ length self.old.items }
         ensures lanes { self.new.lanes ≡ self.old.lanes }
     {
-        join_ring(&mut self.rings[j], lane, self.size);
+        join_twice(&mut self.rings[j], lane, self.size);
     }
 
     /// Makes the bits of block `j` zeros.

@@ -6,4 +6,4 @@ use Rattle.nr_lifting.proofs.doubled_lanes.add_ring.Given as goal
 -- the words before word i have gained theirs
 abbrev pub invariant-loop-i : goal.invariant-loop-i
 invariant-loop-i l =
-    IsWritten l.size l.i (λ t. (place l.initial.sum t + place l.ring ((t + l.p) % l.size)) % 2) l.sum l.initial.sum
+    IsWritten l.size l.i (λ t. (place l.initial.now t + place l.ring ((t + l.p) % l.size)) % 2) l.now l.initial.now

@@ -1,9 +1,9 @@
-use Rattle.std.proofs.Common.{◌<◌, ◌+◌, ◌*◌, ◌/◌, ◌%◌, refl, ap, ◌∙◌, inl, inr, arith}
+use Rattle.std.proofs.Common.{◌<◌, ◌+◌, ◌%◌, replicate, ap, ◌∙◌, inl, inr, arith}
 use Rattle.std.proofs.lemmas.Bool.{cases_lt}
-use Rattle.std.specs.Int.{bit_at}
 use Rattle.nr_bitvec.specs.Packed.{place}
-use Rattle.nr_lifting.proofs.LaneViewFacts.{place-zeros}
-use Rattle.nr_lifting.proofs.LaneWordFacts.{written_more}
+use Rattle.nr_lifting.proofs.DoubledLaneFacts.{zero_ring, zero_clear}
+use Rattle.nr_lifting.proofs.RingJoinFacts.{ring_of_zeros}
+use Rattle.nr_lifting.proofs.RotationFacts.{ring-gains}
 use Rattle.nr_lifting.proofs.doubled_lanes.rotate_lane.Goals as goal
 
 -- one word
@@ -20,17 +20,14 @@ returns-then-size-le64-clause-clear c = λ t past. elim (cases_lt t 64) [
   | inr out ↦ c.one_word.ensures.rest t out
 ]
 
--- the next word is turned
-pub loop-i-preserved : goal.loop-i-preserved
-loop-i-preserved c =
-    written_more _ _ _ _ _ _ _ c.loop-i.invariant (omega arith) refl
-    c.rotated_word-in-loop-i.ensures.rotated (λ j _ past. c.rotated_word-in-loop-i.ensures.clear j past)
+-- several, which a ring is made of
+pub join_twice-requires-clause-ring_clear : goal.join_twice-requires-clause-ring_clear
+join_twice-requires-clause-ring_clear c = zero_clear _ 12
+
+pub ring_lane-requires-clause-ring : goal.ring_lane-requires-clause-ring
+ring_lane-requires-clause-ring c =
+    ring-gains c.args.size c.join_twice.new.ring (replicate 12 0) c.args.words.now (zero_ring c.args.size 12) c.join_twice.ensures.joined
 
 pub returns-clause-rotated : goal.returns-clause-rotated
-returns-clause-rotated c = λ t below. c.loop-i.invariant.done t (omega (arith, below)) below
-
-pub returns-clause-clear : goal.returns-clause-clear
-returns-clause-clear c = λ t past. elim (cases_lt t (64 * c.loop-i.i)) [
-  | inl inside ↦ c.loop-i.invariant.clear t inside past
-  | inr out ↦ ap (λ n. bit_at n (t % 64)) (c.loop-i.invariant.kept (t / 64) (omega (arith, out))) ∙ place-zeros 6 t
-]
+returns-clause-rotated c = λ t below.
+    c.ring_lane.ensures.rotated t below ∙ ring_of_zeros c.args.size 12 (t + c.args.p) c.join_twice.new.ring c.args.words.now c.join_twice.ensures.joined (omega (arith, below))

@@ -8,8 +8,8 @@ use Rattle.nr_lifting.proofs.bit_sliced_counts.BitSlicedCounts.lower.Goals as go
 pub index_mut-requires : goal.index_mut-requires
 index_mut-requires c = omega (arith, counts_within c.self.inside.size c.self.invariant.some c.self.inside.blocks.items _ c.args.i c.self.view_is c.requires.block)
 
-pub lower_block-requires-clause-enough : goal.lower_block-requires-clause-enough
-lower_block-requires-clause-enough c =
+pub lower_lane-requires-clause-enough : goal.lower_lane-requires-clause-enough
+lower_lane-requires-clause-enough c =
     let within = counts_within c.self.inside.size c.self.invariant.some c.self.inside.blocks.items _ c.args.i c.self.view_is c.requires.block in
     let z = c.self.inside.size in
     let some = c.self.invariant.some in
@@ -25,6 +25,6 @@ pub returns-clause-falls : goal.returns-clause-falls
 returns-clause-falls c =
     let within = counts_within c.self.inside.size c.self.invariant.some c.self.inside.blocks.items _ c.args.i c.self.view_is c.requires.block in
     let bits = rw (c.requires.same, ← c.self.view_is) at c.ring.ensures.bits in
-    rw (← c.self.view_is) (lowered_counts c.self.inside.size c.self.invariant.some c.self.inside.blocks.items c.args.i c.lower_block.new.planes c.ring.result.now c.args.marks.now.items c.args.j c.args.rotation within
-    (subst (λ groups. FallsRotated c.self.inside.size c.lower_block.new.planes groups c.ring.result.now c.args.rotation) (get_or_read c.self.inside.blocks.items c.args.i c.index_mut.result.now within c.index_mut.ensures.value [])
-    c.lower_block.ensures) bits)
+    rw (← c.self.view_is) (lowered_counts c.self.inside.size c.self.invariant.some c.self.inside.blocks.items c.args.i c.lower_lane.new.planes c.ring.result.now c.args.marks.now.items c.args.j c.args.rotation within
+    (subst (λ groups. FallsRotated c.self.inside.size c.lower_lane.new.planes groups c.ring.result.now c.args.rotation) (get_or_read c.self.inside.blocks.items c.args.i c.index_mut.result.now within c.index_mut.ensures.value [])
+    c.lower_lane.ensures) bits)

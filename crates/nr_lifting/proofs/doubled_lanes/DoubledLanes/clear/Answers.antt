@@ -7,7 +7,7 @@ index_mut-requires c = omega (arith, block_within c.self.inside.size c.self.inva
 
 pub invariant_of-self : goal.invariant_of-self
 invariant_of-self c =
-    rings_set c.self.inside.size c.self.invariant.some c.self.inside.rings.items c.args.j (replicate 12 0) c.self.invariant
+    rings_set c.self.inside.size c.self.invariant.some c.self.inside.mask c.self.inside.rings.items c.args.j (replicate 12 0) c.self.invariant
     (block_within c.self.inside.size c.self.invariant.some c.self.inside.rings.items _ c.args.j c.self.view_is c.requires) (zero_ring _ 12) (zero_clear _ 12)
 
 pub returns-clause-cleared : goal.returns-clause-cleared

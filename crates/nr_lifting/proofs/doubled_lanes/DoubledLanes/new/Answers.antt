@@ -14,7 +14,7 @@ loop-i-preserved c = record {
 pub invariant_of-result : goal.invariant_of-result
 invariant_of-result c =
     let made = made_all (replicate {A = ℕ} 12 0) c.loop-i.i c.args.count c.loop-i.rings.items c.loop-i.invariant.made (omega arith) in
-    subst (AreRings c.args.size) (sym made) (zero_rings c.args.size c.args.count 12 c.requires.some c.requires.short c.requires.few)
+    subst (AreRings c.args.size c.mask_of-mask.result) (sym made) (zero_rings c.args.size c.args.count 12 c.mask_of-mask.result c.mask_of-mask.ensures c.requires.some c.requires.short c.requires.few)
 
 pub returns-clause-items : goal.returns-clause-items
 returns-clause-items c =

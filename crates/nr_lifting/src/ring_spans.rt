@@ -1,0 +1,61 @@
+//! Twelve words that keep a ring of a block of at most 384 bits: setting it by a lane, and reading 64 places of it in one
+//! piece. No word of a rotation needs a branch, since a mask cuts off the places past the block.
+
+ghost use Rattle.std.specs.Prelude.{◌≡◌, ℕ, ◌+◌, ◌*◌, ◌<◌, ◌≤◌};
+ghost use Rattle.std.specs.Int.{bit_at};
+ghost use Rattle.nr_bitvec.specs.Packed.{place, IsClear};
+ghost use Rattle.nr_lifting.specs.Inside.{IsMask};
+ghost use Rattle.nr_lifting.specs.Rings.{GainsTwice};
+
+use nr_bitvec::words::low_bits;
+
+// The 64 places from place `turn` of word `word` on, the first of them lowest. The next word moves up in two steps, since
+// a shift by 64, at turn 0, is none.
+pub(crate) fn span(ring: &[u64; 12], word: usize, turn: usize) -> u64
+    requires inside { word < 11 }
+    requires turn { turn < 64 }
+    ensures { (j : ℕ) → j < 64 → bit_at result j ≡ place ring.now (64 * word + turn + j) }
+{
+    ring[word] >> turn | ring[word + 1] << 1 << (63 - turn)
+}
+
+// The lane of which the first `size` places are set.
+pub(crate) fn mask_of(size: usize) -> [u64; 6]
+    requires { size ≤ 384 }
+    ensures { IsMask size result }
+{
+    let mut mask = [0; 6];
+    for i in 0..6 {
+        mask[i] = low_bits(u64::MAX, size - size.min(64 * i));
+    }
+    mask
+}
+
+// Sets the places of a ring where a block of `size` bits has a one, as `join_ring` does. The second copy is the words moved
+// up by `size`: each takes what the one before it left over.
+pub(crate) fn join_twice(ring: &mut [u64; 12], words: &[u64; 6], size: usize)
+    requires few { size ≤ 384 }
+    requires ring_clear { IsClear ring.old (2 * size) }
+    requires clear { IsClear words.now size }
+    ensures joined { GainsTwice size ring.new ring.old words.now }
+    ensures ring_clear { IsClear ring.new (2 * size) }
+{
+    if size <= 32 {
+        ring[0] |= words[0] | words[0] << size;
+        return;
+    }
+    let mut now = *ring;
+    for k in 0..6 {
+        now[k] |= words[k];
+    }
+    let (word, turn) = (size / 64, size % 64);
+    let mut past = 0;
+    for i in 0..6 {
+        now[word + i] |= words[i] << turn | past;
+        past = words[i] >> 1 >> (63 - turn);
+    }
+    if word < 6 {
+        now[word + 6] |= past;
+    }
+    *ring = now;
+}
