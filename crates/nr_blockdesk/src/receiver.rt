@@ -140,7 +140,7 @@ impl<'t> Receiver<'t> {
     /// transport block is delivered only where it explains all that arrived, and no other one does. When every position
     /// below K' is known for the first time, that block is encoded and compared with all that was received; a later
     /// call compares only the bits that it receives. So it costs its G places, the peelers' visits, and a copy of the
-    /// block. A peeler that works by words makes at most three lane operations a visit, and one for each row block.
+    /// block. A peeler makes at most three lane operations a visit, and one for each row block.
     ///
     /// # Errors
     ///

@@ -1,6 +1,5 @@
--- How many positions are known that were not given, counted one by one and column by column.
-use Rattle.std.proofs.Common.{◌≡◌, ℕ, zero, suc, ◌+◌, ◌*◌, ◌%◌, ◌<◌, ◌≤◌, ◌&&◌, Bool, true, false, not, cond, List, refl, sym, ap, ◌∙◌, arith}
-use mir.Val.{bool_byte}
+-- How many positions are known that were not given, counted column by column.
+use Rattle.std.proofs.Common.{◌≡◌, ℕ, zero, suc, ◌+◌, ◌*◌, ◌%◌, ◌<◌, ◌≤◌, ◌&&◌, Bool, true, false, not, cond, List, sym, ap, ◌∙◌, arith}
 use Rattle.std.specs.List.{count_by, range_with_len}
 use Rattle.std.proofs.lemmas.List.{map-id}
 use Rattle.std.proofs.lemmas.List.FromFn.{sum_by-map-range_with_len_more}
@@ -10,7 +9,7 @@ use Rattle.nr_lifting.proofs.LaneBitFacts.{marked-same}
 use Rattle.nr_peel.proofs.RowPlaceFacts.{mod_low}
 
 -- one number more is counted, or is not
-pub counted_more : (test : ℕ → Bool) (n : ℕ) → count_by test (range_with_len 0 (n + 1)) ≡ count_by test (range_with_len 0 n) + cond (test n) 1 0
+counted_more : (test : ℕ → Bool) (n : ℕ) → count_by test (range_with_len 0 (n + 1)) ≡ count_by test (range_with_len 0 n) + cond (test n) 1 0
 counted_more test n =
     ap (count_by test) (sym (map-id (range_with_len 0 (n + 1))))
     ∙ sum_by-map-range_with_len_more (λ k. cond (test k) 1 0) (λ (x : ℕ). x) 0 n n (omega arith)
@@ -42,18 +41,6 @@ counted_most test (suc n) =
     one : (b : Bool) → cond b 1 0 ≤ 1
     one true = omega arith
     one false = omega arith
-
--- a truth value as a number
-pub byte_step : (b t : Bool) (step : ℕ) → step ≡ bool_byte b → b ≡ t → step ≡ cond t 1 0
-byte_step b t step is same = is ∙ ap bool_byte same ∙ go t
-  where
-    go : (t : Bool) → bool_byte t ≡ cond t 1 0
-    go true = refl
-    go false = refl
-
-pub byte_few : (b : Bool) (step : ℕ) → step ≡ bool_byte b → step ≤ 1
-byte_few true step is = omega (arith, is)
-byte_few false step is = omega (arith, is)
 
 -- a position is known and was not given
 abbrev pub is_gained : List Bool → List Bool → ℕ → Bool

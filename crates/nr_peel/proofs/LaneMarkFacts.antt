@@ -72,9 +72,6 @@ module _ (z j v : ℕ) (some : 0 < z) where
       plain false true = refl
       plain false false = refl
 
-  pub marks_same : (u w : ℕ → Bool) (a : Bool) (p : ℕ) → ((t : ℕ) → u t ≡ w t) → (a || marks_of z j v u p) ≡ (a || marks_of z j v w p)
-  marks_same u w a p same = ap (λ b. a || ((p / z == j) && b)) (same (unrotate z v (p % z)))
-
 -- the lane that marks one row
 pub one_marked : (row : ℕ) → row < 384 → (t : ℕ) → is_set (set (replicate 6 0) (row / 64) (bit_or (get_or (replicate 6 0) (row / 64) 0) (1 * 2 ^ (row % 64) % 2 ^ 64))) t ≡ (row == t)
 one_marked row small t = elim (cases_eq (t / 64) (row / 64)) [

@@ -7,7 +7,7 @@ use Rattle.nr_shifttable.specs.Tails.{value_in}
 use Rattle.nr_ldpcenc.specs.Parity.{parity}
 use Rattle.nr_ldpcenc.specs.Rows.{one_at, positions}
 
-pub parity-push : (w : ℕ → Bool) (ps : List ℕ) (p : ℕ) → parity w (ps ++ p ∷ []) ≡ parity w ps ⊕ w p
+parity-push : (w : ℕ → Bool) (ps : List ℕ) (p : ℕ) → parity w (ps ++ p ∷ []) ≡ parity w ps ⊕ w p
 parity-push w [] p = none (w p)
   where
     none : (b : Bool) → (b ⊕ false) ≡ b

@@ -9,8 +9,8 @@ use Rattle.nr_shifttable.specs.Accepted.{IsTable}
 use Rattle.nr_ldpcenc.specs.Rows.{Checks}
 use Rattle.nr_peel.specs.Certificates.{all_accepted, is_fixed_by}
 use Rattle.nr_peel.specs.Hearing.{Hears}
-use Rattle.nr_peel.specs.Learning.{IsFilled, IsSweepPeeler, Learns, sweep_peeler_view}
-use Rattle.nr_peel.specs.Peeling.{HasBits, IsPeeled, fillers, left_of}
+use Rattle.nr_peel.specs.Learning.{IsFilled, IsSweepPeeler, Learns}
+use Rattle.nr_peel.specs.Peeling.{HasBits, fillers, left_of}
 use Rattle.nr_peel.specs.Settled.{HasNonePending, IsHeld, Keeps, Reaches}
 use Rattle.nr_peel.specs.Starts.{IsBlankSweep}
 use Rattle.nr_peel.specs.StateInside.{lifted_checks}
@@ -22,7 +22,6 @@ use Rattle.nr_peel.specs.declared.bit_parallel.sweep.Sweep.{Sweep}
 use Rattle.nr_peel.proofs.FillerFacts.{fillers_fit, fillers_long, fillers_there, fillers_within}
 use Rattle.nr_peel.proofs.RoundInvariantFacts.{counts_same}
 use Rattle.nr_peel.proofs.FixOrderFacts.{all_accepted_within, goes_taken}
-use Rattle.nr_peel.proofs.SweepViewFacts.{sweep_peeled}
 
 module _ (c : Checks) (H V : ℕ → Bool) (a d : Lanes) (lanes : AreLanes c a) (h : Hears c H V a d) where
   pub heard_known : (p : ℕ) → bit a.known.items p ≡ true → bit d.known.items p ≡ true
@@ -163,9 +162,6 @@ module _ (l : Lifted) (new : SweepPeeler) (held : IsHeld (lifted_checks l) new.s
 -- the fillers are known
 pub fillers_known : (l : Lifted) (s : SweepPeeler) → IsSweepPeeler l s → (p : ℕ) → l.plan.kdash ≤ p → p < l.plan.k → bit s.sweep.lanes.known.items p ≡ true
 fillers_known l s h p low below = h.sweep.reaches.reached p ∙ or_left (bit s.given.items p) (is_fixed_by s.sweep.lanes.order.items p) (h.fillers p low below)
-
-pub sweep_peeler_peeled : (l : Lifted) (s : SweepPeeler) → IsSweepPeeler l s → IsPeeled (sweep_peeler_view l s)
-sweep_peeler_peeled l s h = sweep_peeled l s.given.items s.sweep h.sweep
 
 pub kdash_fits : (l : Lifted) (s : SweepPeeler) → IsSweepPeeler l s → l.plan.kdash ≤ length s.sweep.lanes.known.items
 kdash_fits l s h = omega (arith, h.sweep.held.lanes.known_long, l.plan.sound.held, fillers_fit l)

@@ -40,17 +40,4 @@ mod SweepViewFacts
 mod BlankLaneFacts
 mod JoinedMarkFacts
 mod LearningFacts
-mod RowGainFacts
-mod ColumnWalkFacts
-mod LoweredCounterFacts
-mod CounterTieFacts
-mod LeftCountFacts
-mod RowSearchFacts
-mod FixFacts
-mod WorklistLoopFacts
-mod NewCounterFacts
-mod GivenPositionFacts
-mod WorklistFacts
-mod EngineFacts
-mod NextUnknownFacts
 mod StepPairFacts

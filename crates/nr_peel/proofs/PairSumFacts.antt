@@ -31,7 +31,7 @@ unfolding spent_pairs all_pairs
 spent_le c counts = sum_below-le (λ k. cond (slice_index counts k == 0) (row_length c k) 0) (row_length c) (c.rows * c.lanes) (λ k lt. cond_le (slice_index counts k == 0) (row_length c k))
 
 -- counters that fall
-pub spent_term : (a b d : ℕ) → b ≤ a → cond (a == 0) d 0 ≤ cond (b == 0) d 0
+spent_term : (a b d : ℕ) → b ≤ a → cond (a == 0) d 0 ≤ cond (b == 0) d 0
 spent_term a b d le = go (a == 0) refl
   where
     go : (t : Bool) → (a == 0) ≡ t → cond t d 0 ≤ cond (b == 0) d 0

@@ -51,14 +51,6 @@ stands_counted p (x ∷ row) h = go (x == p) refl h (stands_counted p row)
     go true e k ih = omega (arith, count_yes (λ q. q == p) x row e)
     go false e k ih = omega (arith, count_no (λ q. q == p) x row e, ih k)
 
-pub counted_stands : (p : ℕ) (row : List ℕ) → 0 < times_in p row → stands p row ≡ true
-counted_stands p [] h = absurd (omega arith)
-counted_stands p (x ∷ row) h = go (x == p) refl (counted_stands p row)
-  where
-    go : (b : Bool) → (x == p) ≡ b → (0 < times_in p row → stands p row ≡ true) → (b || stands p row) ≡ true
-    go true e ih = refl
-    go false e ih = ih (omega (arith, count_no (λ q. q == p) x row e))
-
 -- where every position but one of a row is in a set, the others are counted as that one
 pub others_counted : (S : ℕ → Bool) (p : ℕ) (row : List ℕ) → S p ≡ false → list_all (λ q. (q == p) || S q) row ≡ true → count_by (λ q. not (S q)) row ≡ times_in p row
 others_counted S p [] h k = refl

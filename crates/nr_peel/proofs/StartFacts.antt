@@ -36,13 +36,6 @@ rows_most Two = omega arith
 pub degree_short : (l : Lifted) (k : ℕ) → IsTable l.table.now → row_length (lifted_checks l) k ≤ 68
 degree_short l k table = omega (arith, rows_short l.table.now l.plan.graph (k / l.plan.z) table, length-map (row_of (entries_in l.plan.graph l.table.now) (k / l.plan.z)) (λ (e : Entry). one_at l.plan.z (k % l.plan.z) e.col (value_in l.plan.set e)))
 
-pub few_pairs : (l : Lifted) → IsTable l.table.now → 4 * all_pairs (lifted_checks l) + 4 < 2 ^ 64
-unfolding all_pairs
-few_pairs l table =
-    let most = sum_below-most (row_length (lifted_checks l)) 68 (rows_of l.plan.graph * l.plan.z) (λ k lt. degree_short l k table) in
-    let size : rows_of l.plan.graph * l.plan.z ≤ 46 * 384 = mul-le (rows_of l.plan.graph) l.plan.z 46 384 (rows_most l.plan.graph) l.plan.sound.size_most in
-    omega arith
-
 pub few_operations : (l : Lifted) → IsTable l.table.now → 16 * all_pairs (lifted_checks l) + (lifted_checks l).rows + 4 < 2 ^ 62
 unfolding all_pairs
 few_operations l table =

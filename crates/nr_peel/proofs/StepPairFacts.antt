@@ -15,7 +15,7 @@ pub step_pairs-append : (c : Checks) (xs ys : List Fix) → step_pairs c (xs ++ 
 unfolding step_pairs
 step_pairs-append c xs ys = sum_by-append (λ (s : Fix). length (c.row s.row s.lane)) xs ys
 
-pub step_pairs-push : (c : Checks) (xs : List Fix) (s : Fix) → step_pairs c (xs ++ s ∷ []) ≡ step_pairs c xs + length (c.row s.row s.lane)
+step_pairs-push : (c : Checks) (xs : List Fix) (s : Fix) → step_pairs c (xs ++ s ∷ []) ≡ step_pairs c xs + length (c.row s.row s.lane)
 unfolding step_pairs
 step_pairs-push c xs s = sum_by-append (λ (s : Fix). length (c.row s.row s.lane)) xs (s ∷ []) ∙ omega arith
 

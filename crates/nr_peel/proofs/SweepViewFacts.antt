@@ -1,4 +1,4 @@
--- What is true of every peeler that peels by lanes.
+-- What is true of every peeler.
 use Rattle.std.proofs.Common.{◌≡◌, ◌≢◌, ℕ, ◌+◌, ◌*◌, ◌<◌, ◌&&◌, Bool, true, false, not, List, refl, sym, ap, ◌∙◌, arith}
 use Rattle.std.specs.Prelude.{count_by, slice_index}
 use Rattle.std.proofs.lemmas.Bool.{or_left}
@@ -7,14 +7,16 @@ use Rattle.nr_segment.specs.CodeBlock.{numbers}
 use Rattle.nr_ldpcenc.specs.Rows.{Checks}
 use Rattle.nr_peel.specs.Closure.{AreSound, Within, closure}
 use Rattle.nr_peel.specs.Certificates.{is_fixed_by}
+use Rattle.nr_peel.specs.Learning.{IsSweepPeeler}
 use Rattle.nr_peel.specs.Peeling.{IsPeeled}
 use Rattle.nr_peel.specs.Settled.{HasNonePending, Reaches}
+use Rattle.nr_peel.specs.State.{sweep_peeler_view}
 use Rattle.nr_peel.specs.StateInside.{lifted_checks}
 use Rattle.nr_peel.specs.Sweeps.{CountsOf, counted_in}
-use Rattle.nr_peel.specs.Swept.{IsSettledSweep, sweep_view}
 use Rattle.nr_peel.specs.declared.bit_parallel.lanes.Lanes.{Lanes}
 use Rattle.nr_peel.specs.declared.lifted.Lifted.{Lifted}
 use Rattle.nr_peel.specs.declared.bit_parallel.sweep.Sweep.{Sweep}
+use Rattle.nr_peel.specs.declared.bit_parallel.sweep_peeler.SweepPeeler.{SweepPeeler}
 use Rattle.nr_peel.proofs.CountedPairFacts.{pairs_and_counts, spent_known}
 use Rattle.nr_peel.proofs.TableGridFacts.{checks_sound}
 use Rattle.nr_peel.proofs.FixOrderFacts.{after_accepted, steps_stay}
@@ -44,18 +46,19 @@ reached_closed c given s sound r counted settled = done_is_closure c (bit given)
     lacks : (i t : ℕ) → i < c.rows → t < c.lanes → count_by (λ p. not (bit s.lanes.known.items p)) (c.row i t) ≢ 1
     lacks i t block lane one = settled (i * c.lanes + t) (counted i t block lane ∙ one)
 
-pub sweep_peeled : (l : Lifted) (given : List Bool) (s : Sweep) → IsSettledSweep l given s → IsPeeled (sweep_view l given s)
-sweep_peeled l given s h =
+pub sweep_peeled : (l : Lifted) (s : SweepPeeler) → IsSweepPeeler l s → IsPeeled (sweep_peeler_view l s)
+sweep_peeled l s is =
     let c = lifted_checks l in
+    let h = is.sweep in
     let pos : 0 < l.plan.z = l.plan.sound.size_some in
-    let counted = all_counted c s.lanes s.counts.items h.none_pending h.held.counted in
-    let pairs = pairs_and_counts c s.lanes.known.items s.counts.items pos counted h.held.counts_long in
-    let spent = spent_known c s.lanes.known.items s.counts.items pos counted h.held.counts_long in
+    let counted = all_counted c s.sweep.lanes s.sweep.counts.items h.none_pending h.held.counted in
+    let pairs = pairs_and_counts c s.sweep.lanes.known.items s.sweep.counts.items pos counted h.held.counts_long in
+    let spent = spent_known c s.sweep.lanes.known.items s.sweep.counts.items pos counted h.held.counts_long in
     record {
       given_long = h.given_long;
       known_long = h.held.lanes.known_long;
       bits_long = h.held.lanes.bits_long;
-      closed = reached_closed c given s (checks_sound l.table.now l.plan.graph (numbers l.plan) h.table pos) h.reaches counted h.settled;
+      closed = reached_closed c s.given.items s.sweep (checks_sound l.table.now l.plan.graph (numbers l.plan) h.table pos) h.reaches counted h.settled;
       accepted = h.reaches.accepted;
       reached = h.reaches.reached;
       visited = omega (arith, pairs, h.held.least);

@@ -4,15 +4,12 @@ use Rattle.nr_bitvec.specs.Bit.{bit}
 use Rattle.nr_segment.specs.CodeBlock.{numbers}
 use Rattle.nr_ldpcenc.specs.Codeword.{filler}
 use Rattle.nr_ldpcenc.specs.Rows.{Meets}
-use Rattle.nr_peel.specs.Peeling.{GivesAll, HasBits, KeepsAllWords, KeepsBits, KeepsKnown, Peeling, TakesAll, fillers, left_of}
+use Rattle.nr_peel.specs.Peeling.{GivesAll, HasBits, KeepsAllWords, KeepsBits, KeepsKnown, TakesAll, fillers, left_of}
+use Rattle.nr_peel.specs.State.{sweep_peeler_view}
 use Rattle.nr_peel.specs.StateInside.{lifted_checks}
-use Rattle.nr_peel.specs.Swept.{IsSettledSweep, sweep_view}
+use Rattle.nr_peel.specs.Swept.{IsSettledSweep}
 use Rattle.nr_peel.specs.declared.bit_parallel.sweep_peeler.SweepPeeler.{SweepPeeler}
 use Rattle.nr_peel.specs.declared.lifted.Lifted.{Lifted}
-
--- what it is seen as
-abbrev pub sweep_peeler_view : Lifted → SweepPeeler → Peeling
-sweep_peeler_view l s = sweep_view l s.given.items s.sweep
 
 -- what was given is followed to its end, the fillers are given, and what is left is counted
 pub record IsSweepPeeler (l : Lifted) (s : SweepPeeler) : Type 0 where

@@ -17,8 +17,3 @@ pub mod Settled
 pub mod Starts
 pub mod Swept
 pub mod Learning
-pub mod Counters
-pub mod Taken
-pub mod Worklist
-pub mod Engine
-pub mod EngineInside

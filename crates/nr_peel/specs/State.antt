@@ -1,21 +1,20 @@
--- Believed: the parity checks of a lifted table, and what is seen of a peeler of its code.
-use Rattle.std.specs.Prelude.{ℕ, Bool, List}
+-- Believed: what is seen of a peeler.
 use Rattle.nr_segment.specs.CodeBlock.{numbers}
 use Rattle.nr_peel.specs.Peeling.{Peeling}
-use Rattle.nr_peel.specs.declared.fix.Fix.{Fix}
+use Rattle.nr_peel.specs.declared.bit_parallel.sweep_peeler.SweepPeeler.{SweepPeeler}
 use Rattle.nr_peel.specs.declared.lifted.Lifted.{Lifted}
 
 -- what is seen: the positions that were given, those known and their bits, the steps, and the counts of visits and of lane
 -- operations
-abbrev pub seen_of : Lifted → List Bool → List Bool → List Bool → List Fix → ℕ → ℕ → Peeling
-seen_of l given known bits order touches lanes = record {
+abbrev pub sweep_peeler_view : Lifted → SweepPeeler → Peeling
+sweep_peeler_view l s = record {
   table = l.table.now;
   graph = l.plan.graph;
   numbers = numbers l.plan;
-  given = given;
-  known = known;
-  bits = bits;
-  order = order;
-  touches = touches;
-  lanes = lanes;
+  given = s.given.items;
+  known = s.sweep.lanes.known.items;
+  bits = s.sweep.lanes.bits.items;
+  order = s.sweep.lanes.order.items;
+  touches = s.sweep.touches;
+  lanes = s.sweep.counts.operations;
 }

@@ -2,9 +2,7 @@
 use Rattle.std.specs.Prelude.{◌≡◌, ◌≢◌, ℕ, Bool, List, length, slice_index}
 use Rattle.nr_bitvec.specs.Bit.{bit}
 use Rattle.nr_shifttable.specs.Accepted.{IsTable}
-use Rattle.nr_peel.specs.Peeling.{Peeling}
 use Rattle.nr_peel.specs.Settled.{HasNonePending, IsHeld, Reaches}
-use Rattle.nr_peel.specs.State.{seen_of}
 use Rattle.nr_peel.specs.StateInside.{lifted_checks}
 use Rattle.nr_peel.specs.declared.lifted.Lifted.{Lifted}
 use Rattle.nr_peel.specs.declared.bit_parallel.sweep.Sweep.{Sweep}
@@ -17,7 +15,3 @@ pub record IsSettledSweep (l : Lifted) (given : List Bool) (s : Sweep) : Type 0 
   pub none_pending : HasNonePending s.lanes
   pub settled : (k : ℕ) → slice_index s.counts.items k ≢ 1
   pub reaches : Reaches (lifted_checks l) (bit given) s.lanes
-
--- what it is seen as
-abbrev pub sweep_view : Lifted → List Bool → Sweep → Peeling
-sweep_view l given s = seen_of l given s.lanes.known.items s.lanes.bits.items s.lanes.order.items s.touches s.counts.operations

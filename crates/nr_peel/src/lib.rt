@@ -3,25 +3,22 @@
 //! (specs/Peeling.antt, specs/Closure.antt). Each fix is a step that can be checked. The visits and the lane operations
 //! have bounds.
 //!
-//! Inside are two ways to peel, both with all their memory from `Peeler::new` on. From lifting size 20 on it works by
-//! words: a round takes all rows, and then the counts of rows fall (specs/Sweeps.antt, specs/Due.antt). Below, it works
-//! position by position (specs/Worklist.antt). By words it takes at most 8.1 octets a position at the largest lifting
-//! size, and position by position at most 9.3. `close` is the plain peeler by rounds; `check_order` and `check_stuck`
-//! judge certificates. Stands on nr_bitvec, nr_graphpick, nr_lifting, nr_segment, nr_shifttable and nr_ldpcenc.
+//! A peeler has all its memory from `Peeler::new` on. It works by words: a round takes all rows, and then the counts of
+//! rows fall (specs/Sweeps.antt, specs/Due.antt). At the largest lifting size it takes at most 8.1 octets a position.
+//! `close` is the plain peeler by rounds; `check_order` and `check_stuck` judge certificates. Stands on nr_bitvec,
+//! nr_graphpick, nr_lifting, nr_segment, nr_shifttable and nr_ldpcenc.
 //!
 //! Used by nr_blockdesk, nr_linkcommands and worked_examples.
 #![tactic(auto)]
 
 mod bit_parallel;
 mod check;
-mod engine;
 mod fix;
 pub mod laws;
 mod lifted;
 mod peeler;
 mod rounds;
 mod unknown;
-mod worklist;
 
 pub use check::{check_order, check_stuck};
 pub use fix::Fix;

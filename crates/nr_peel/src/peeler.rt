@@ -26,7 +26,7 @@ ghost use Rattle.nr_peel.specs.Peeling.{
   unknown_in,
 };
 
-use crate::engine::Engine;
+use crate::bit_parallel::sweep_peeler::SweepPeeler;
 use crate::fix::Fix;
 use crate::lifted::{Lifted, reciprocal};
 use nr_bitvec::Bits;
@@ -41,19 +41,19 @@ use std::marker::Model;
 #[derive(Drop)]
 pub struct Peeler<'t> {
     lifted: Lifted<'t>,
-    engine: Engine,
+    sweep_peeler: SweepPeeler,
 }
 
 impl<'t> Model for Peeler<'t> {
     ghost use Rattle.nr_peel.specs.Peeling.{Peeling};
-    ghost use Rattle.nr_peel.specs.Engine.{engine_view};
-    ghost use Rattle.nr_peel.specs.EngineInside.{IsEngine};
+    ghost use Rattle.nr_peel.specs.State.{sweep_peeler_view};
+    ghost use Rattle.nr_peel.specs.Learning.{IsSweepPeeler};
 
     ghost Value = { Peeling };
 
-    ghost view = { λ a. engine_view a.lifted a.engine };
+    ghost view = { λ a. sweep_peeler_view a.lifted a.sweep_peeler };
 
-    ghost invariant = { λ a. IsEngine a.lifted a.engine };
+    ghost invariant = { λ a. IsSweepPeeler a.lifted a.sweep_peeler };
 }
 
 impl<'t> Peeler<'t> {
@@ -77,8 +77,11 @@ impl<'t> Peeler<'t> {
             plan: *plan,
             reciprocal: reciprocal(plan.z),
         };
-        match Engine::new(alloc, &lifted) {
-            Ok(engine) => Ok(Peeler { lifted, engine }),
+        match SweepPeeler::new(alloc, &lifted) {
+            Ok(sweep_peeler) => Ok(Peeler {
+                lifted,
+                sweep_peeler,
+            }),
             Err(_) => Err(EncFault::Memory),
         }
     }
@@ -97,7 +100,7 @@ impl<'t> Peeler<'t> {
         ensures counted { self.old.touches ≤ self.new.touches }
         ensures peeled { IsPeeled self.new }
     {
-        self.engine.learn(&self.lifted, pos, value);
+        self.sweep_peeler.learn(&self.lifted, pos, value);
     }
 
     /// Gives all positions that `heard` marks; those that weren't known take the bits of `values`, and all that follows
@@ -117,7 +120,7 @@ impl<'t> Peeler<'t> {
         ensures counted { self.old.touches ≤ self.new.touches }
         ensures peeled { IsPeeled self.new }
     {
-        self.engine.learn_all(&self.lifted, heard, values);
+        self.sweep_peeler.learn_all(&self.lifted, heard, values);
     }
 
     /// The bit of a position, if it is known.
@@ -126,7 +129,7 @@ impl<'t> Peeler<'t> {
         ensures value { result ≡ known_at self.now pos }
         ensures peeled { IsPeeled self.now }
     {
-        self.engine.known(pos as usize)
+        self.sweep_peeler.known(pos as usize)
     }
 
     /// The bits of the positions from `pos` on, the first of them lowest, and zero for one that isn't known; and how many
@@ -139,16 +142,16 @@ impl<'t> Peeler<'t> {
         ensures few { result.1 ≤ 64 }
         ensures peeled { IsPeeled self.now }
     {
-        self.engine.bits_from(pos as usize)
+        self.sweep_peeler.bits_from(pos as usize)
     }
 
-    /// How many positions below K' aren't known. They are counted as they become known, so this takes the same time
-    /// however long the code block is.
+    /// How many positions below K' aren't known. They are counted at the end of each call that gives positions, so this
+    /// takes the same time however long the code block is.
     pub fn left(&self) -> u32
         ensures value { result ≡ left_of self.now.numbers.kdash self.now.known }
         ensures peeled { IsPeeled self.now }
     {
-        self.engine.left()
+        self.sweep_peeler.left
     }
 
     /// How many positions peeling fixed: those that are known and were not given. A step whose position was given later is
@@ -157,19 +160,19 @@ impl<'t> Peeler<'t> {
         ensures value { result ≡ gained_in self.now.known self.now.given }
         ensures peeled { IsPeeled self.now }
     {
-        self.engine.gained(&self.lifted)
+        self.sweep_peeler.gained(&self.lifted)
     }
 
     /// How many visits there were of a row and a position of it. With n the number of pairs of a row and a known position
     /// of it, they are at least n and at most 2 n. So all calls of a peeler's life together make at most twice the lifting
-    /// size times the entries of the base graph. By words the work is done lane by lane: at most three lane operations a
-    /// visit, and one for each row block.
+    /// size times the entries of the base graph. The work is done lane by lane: at most three lane operations a visit, and
+    /// one for each row block.
     pub fn touches(&self) -> u64
         ensures value { result ≡ self.now.touches }
         ensures few { result ≤ most_visits self.now }
         ensures peeled { IsPeeled self.now }
     {
-        self.engine.touches()
+        self.sweep_peeler.sweep.touches
     }
 
     /// The positions that were given, marked: the fillers and those learned.
@@ -177,7 +180,7 @@ impl<'t> Peeler<'t> {
         ensures value { result.now.items ≡ self.now.given }
         ensures peeled { IsPeeled self.now }
     {
-        self.engine.given()
+        &self.sweep_peeler.given
     }
 
     /// The steps that fixed positions, in turn. Where no position below K' is left they are a fix order from the
@@ -189,7 +192,7 @@ impl<'t> Peeler<'t> {
             → IsFixOrder (checks_for self.now) self.now.numbers.kdash
             (bit self.now.given) self.now.order }
     {
-        self.engine.order()
+        &self.sweep_peeler.sweep.lanes.order
     }
 
     /// All positions that aren't known, ascending. Where a position below K' is left they are a stopping set beside
@@ -204,7 +207,7 @@ impl<'t> Peeler<'t> {
         ensures stops { IfOk result (λ v. StopsWhereLeft self.now v.items) }
         ensures largest { IfOk result (λ v. HasEachStopping self.now v.items) }
     {
-        let positions = self.engine.unknown(&self.lifted)?;
+        let positions = self.sweep_peeler.sweep.lanes.unknown(&self.lifted)?;
         Ok(positions)
     }
 }

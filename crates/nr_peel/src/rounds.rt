@@ -1,4 +1,4 @@
-//! The plain peeler, which goes over all rows again and again: what the worklist saves is measured against it.
+//! The plain peeler, which goes over all rows again and again: what the `Peeler` saves is measured against it.
 
 ghost use Rattle.std.specs.Prelude.{◌≡◌, ◌+◌, ◌*◌, ◌<◌, ◌≤◌, ◌||◌, ℕ, not, false, All, IfOk, OnErr, OnOk, length};
 ghost use Rattle.nr_bitvec.specs.Bit.{bit};

@@ -201,7 +201,7 @@ fn columns_at(alloc: Global, bits: u32) -> Result<Columns, Fail> {
     columns_of(alloc, &table, &plan, &shown)
 }
 
-// Position by position at lifting size 7, and by words at 32.
+// At lifting size 7, where a block fills little of a word, and at 32.
 #[test]
 fn seven_columns_are_a_stopping_set(rt: HostRuntime) -> Result<(), Fail> {
     for (bits, z) in [(40, 7), (250, 32)] {

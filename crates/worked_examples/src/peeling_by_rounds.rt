@@ -185,8 +185,7 @@ fn agrees(alloc: Global, graph: Graph, bits: u32, each: bool) -> Result<(u32, bo
     Ok((plan.z, whole > 0 && stuck > 0 && other == 0))
 }
 
-// Two small sizes position by position. Then many positions at a time: sizes of all eight sets. Of these 7, 11 and 18
-// are peeled position by position and the others by words.
+// Two small sizes position by position. Then many positions at a time: sizes of all eight sets.
 #[test]
 fn graph_1_is_peeled_as_by_rounds(rt: HostRuntime) -> Result<(), Fail> {
     for (bits, z, each) in [

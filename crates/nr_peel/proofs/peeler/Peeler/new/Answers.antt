@@ -1,9 +1,10 @@
 use Rattle.std.proofs.Common.{refl, sym, ◌∙◌, arith}
-use Rattle.nr_peel.specs.Engine.{engine_view}
+use Rattle.nr_peel.specs.State.{sweep_peeler_view}
 use Rattle.nr_peel.specs.declared.lifted.Lifted.{Lifted}
 use Rattle.nr_peel.proofs.FillerFacts.{fillers_fit}
 use Rattle.nr_peel.proofs.NewPeelerFacts.{pending_left}
 use Rattle.nr_peel.proofs.SetIndexFacts.{in_sets}
+use Rattle.nr_peel.proofs.SweepViewFacts.{sweep_peeled}
 use Rattle.nr_peel.proofs.peeler.Peeler.new.Goals as goal
 
 pub invariant_of-lifted : goal.invariant_of-lifted
@@ -16,14 +17,14 @@ returns-in-Ok-clause-started c =
       table = refl;
       graph = refl;
       numbers = refl;
-      given = f.filled.given;
-      words = f.filled.words;
-      peeled = f.peeled;
+      given = f.given;
+      words = f.words;
+      peeled = sweep_peeled _ c.in-Ok.sweep_peeler f.sweep_peeler;
     }
 
 pub returns-in-Ok-clause-left : goal.returns-in-Ok-clause-left
 returns-in-Ok-clause-left c =
     let l : Lifted = record { table = c.args.table; plan = c.args.plan.now; reciprocal = c.reciprocal.result; in_sets = in_sets c.args.plan.now; inverse = c.reciprocal.ensures } in
     let started = returns-in-Ok-clause-started c in
-    pending_left (engine_view l c.in-Ok.engine) c.args.plan.now.b c.has.ensures.table (sym c.has.ensures.value ∙ c.if-not-has.false) c.args.plan.now.sound started.given started.peeled
+    pending_left (sweep_peeler_view l c.in-Ok.sweep_peeler) c.args.plan.now.b c.has.ensures.table (sym c.has.ensures.value ∙ c.if-not-has.false) c.args.plan.now.sound started.given started.peeled
     (omega (arith, started.peeled.known_long, c.args.plan.now.sound.held, fillers_fit l))
