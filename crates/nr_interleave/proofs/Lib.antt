@@ -1,4 +1,5 @@
 pub mod SeatFacts
 mod BoundedTestFacts
+mod OctetFacts
 mod SpreadTableFacts
 mod UnspreadFacts

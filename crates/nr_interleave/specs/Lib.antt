@@ -1,3 +1,4 @@
 pub mod Interleaving
+pub mod Octets
 pub mod Spreading
 pub mod Unspreading

@@ -12,11 +12,13 @@ ghost use Rattle.std.specs.Prelude.{◌≡◌, ◌+◌, ◌%◌, ◌<◌, ◌≤
 ghost use Rattle.nr_interleave.specs.Interleaving.{seat_of, interleaved, SeatsAreSeating};
 
 mod columns;
+mod octets;
 mod rows;
 
 use columns::{BY_2, BY_4, BY_6, BY_8, by_columns};
 use nr_bitvec::Bits;
-use rows::{OF_2, OF_4, OF_6, OF_8, by_rows, by_seats};
+use octets::{OF_2, OF_4, OF_6, OF_8};
+use rows::{by_rows, by_seats};
 use std::alloc::{AllocError, Global};
 
 /// The index among the `e` selected bits of the bit at place `m` of the interleaved ones (TS 38.212, 5.4.2.2). The
@@ -93,14 +95,19 @@ pub fn unspread_into(qm: u32, bits: &Bits, from: usize, count: usize, selected: 
 {
     let past = bits.len();
     prove!(from + count <= past);
-    selected.clear();
     match qm {
-        1 => selected.extend_range(bits, from, count),
+        1 => {
+            selected.clear();
+            selected.extend_range(bits, from, count);
+        }
         2 => by_rows::<2>(&OF_2, bits, from, count, selected),
         4 => by_rows::<4>(&OF_4, bits, from, count, selected),
         6 => by_rows::<6>(&OF_6, bits, from, count, selected),
         8 => by_rows::<8>(&OF_8, bits, from, count, selected),
-        _ => by_seats(qm as usize, bits, from, count, selected),
+        _ => {
+            selected.clear();
+            by_seats(qm as usize, bits, from, count, selected);
+        }
     }
 }
 

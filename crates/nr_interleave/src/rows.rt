@@ -1,83 +1,104 @@
-//! Un-interleaving: the rows of the matrix, one after the other, of bits that stand in it column by column.
+//! Un-interleaving: bits that stand column by column in a matrix are put into its rows.
 
-ghost use Rattle.std.specs.Prelude.{◌≡◌, ℕ, ◌+◌, ◌*◌, ◌/◌, ◌%◌, ◌^◌, ◌<◌, ◌≤◌, ◌==◌, ◌++◌, length, map};
+ghost use Rattle.std.specs.Prelude.{◌≡◌, ℕ, ◌+◌, ◌*◌, ◌/◌, ◌%◌, ◌^◌, ◌<◌, ◌≤◌, ◌==◌, ◌++◌, length, slice_index_or};
 ghost use Rattle.std.specs.Int.{bit_at};
-ghost use Rattle.std.specs.List.{range_with_len};
 ghost use Rattle.nr_bitvec.specs.Bit.{bit};
-ghost use Rattle.nr_interleave.specs.Unspreading.{apart, BringTogether, row_by_row};
+ghost use Rattle.nr_interleave.specs.Octets.{MakesOctets};
+ghost use Rattle.nr_interleave.specs.Unspreading.{HasOctets, row_by_row};
 
+use crate::octets::row_octets;
 use nr_bitvec::Bits;
 
-// Masks that bring together eight bits of a row, for the modulation orders that name them. They are those of single
-// bits, which stand Qm apart, of pairs, which stand 2 Qm apart, and of fours.
-pub(crate) const OF_2: [u64; 3] = [0x5555, 0x3333, 0x0f0f];
-
-pub(crate) const OF_4: [u64; 3] = [0x1111_1111, 0x0303_0303, 0x000f_000f];
-
-pub(crate) const OF_6: [u64; 3] = [0x0410_4104_1041, 0x0030_0300_3003, 0x0f00_000f];
-
-pub(crate) const OF_8: [u64; 3] = [
-    0x0101_0101_0101_0101,
-    0x0003_0003_0003_0003,
-    0x0000_000f_0000_000f,
-];
-
-// Eight bits of a word, each `QM` behind the one before it, the first lowest.
-fn every<const QM: usize>(masks: &[u64; 3], word: u64) -> u64
-    requires some { 0 < QM }
+// 64 columns of the matrix, from bit `from` of a list on. Each word has eight of them, as octets of their rows. The list
+// is read first, and the words are stored at the end, so that the steps between are taken for two words at once.
+#[inline(never)]
+fn column_octets<const QM: usize>(masks: &[u64; 3], bits: &Bits, from: usize) -> [u64; 8]
     requires few { QM ≤ 8 }
-    requires together { BringTogether QM masks.now }
-    ensures low { (j : ℕ) → j < 8 → (bit_at result j == 1) ≡ (bit_at word (QM * j) == 1) }
-    ensures high { (j : ℕ) → 8 ≤ j → bit_at result j ≡ 0 }
+    requires octets { MakesOctets QM masks.now }
+    requires short { from < 2 ^ 32 }
+    ensures { HasOctets QM result bits.now.items from }
 {
-    let ones = word & masks[0];
-    let pairs = (ones | ones >> (QM - 1)) & masks[1];
-    let fours = (pairs | pairs >> (2 * (QM - 1))) & masks[2];
-    (fours | fours >> (4 * (QM - 1))) & 255
+    let mut columns = [0; 8];
+    for eight in 0..8 {
+        columns[eight] = bits.window(from + 8 * QM * eight);
+    }
+    let mut octets = [0; 8];
+    for eight in 0..8 {
+        octets[eight] = row_octets::<QM>(masks, columns[eight]);
+    }
+    octets
 }
 
-// 64 bits of a list from bit `from` on, each `QM` behind the one before it, the first lowest. Bits past the end are zero.
-fn row_word<const QM: usize>(masks: &[u64; 3], bits: &Bits, from: usize) -> u64
-    requires some { 0 < QM }
-    requires few { QM ≤ 8 }
-    requires together { BringTogether QM masks.now }
-    requires short { from < 2 ^ 32 }
-    ensures { (j : ℕ) → j < 64 → (bit_at result j == 1) ≡ apart QM bits.now.items from j }
+// The octets of a row, one of each word, the first lowest.
+fn row_word(octets: &[u64; 8], row: usize) -> u64
+    requires { row < 8 }
+    ensures { (j : ℕ) → j < 64
+        → bit_at result j ≡ bit_at (slice_index_or octets.now (j / 8) 0) (8 * row + j % 8) }
 {
     let mut word = 0;
     for eight in 0..8 {
-        word |= every::<QM>(masks, bits.window(from + 8 * QM * eight)) << (8 * eight);
+        word |= (octets[eight] >> (8 * row) & 255) << (8 * eight);
     }
     word
 }
 
-// Puts a row of `columns` bits at the end of a list: those from bit `from` on, each `QM` behind the one before it.
-fn push_row<const QM: usize>(
-    masks: &[u64; 3],
-    bits: &Bits,
-    from: usize,
+// The rows of 64 columns, from bit `from` of a list on. They are stored too, so that two octets move at once.
+#[inline(never)]
+fn row_words<const QM: usize>(masks: &[u64; 3], bits: &Bits, from: usize) -> [u64; QM]
+    requires few { QM ≤ 8 }
+    requires octets { MakesOctets QM masks.now }
+    requires short { from < 2 ^ 32 }
+    ensures { (r j : ℕ) → r < QM → j < 64
+        → (bit_at (slice_index_or result r 0) j == 1) ≡ bit bits.now.items (from + (QM * j + r)) }
+{
+    let octets = column_octets::<QM>(masks, bits, from);
+    let mut rows = [0; QM];
+    for row in 0..QM {
+        rows[row] = row_word(&octets, row);
+    }
+    rows
+}
+
+// Puts `wide` columns, from `column` on, into the rows of a list, one of which has `columns` bits.
+fn put_columns<const QM: usize>(
+    rows: &[u64; QM],
     columns: usize,
+    column: usize,
+    wide: usize,
     selected: &mut Bits,
 )
-    requires some { 0 < QM }
     requires few { QM ≤ 8 }
-    requires together { BringTogether QM masks.now }
-    requires short { from + QM * columns < 2 ^ 32 }
-    requires room { columns ≤ selected.old.room }
-    ensures items { selected.new.items
-        ≡ selected.old.items ++ map (apart QM bits.now.items from) (range_with_len 0 columns) }
-    ensures room { selected.new.room + columns ≡ selected.old.room }
+    requires wide { wide ≤ 64 }
+    requires inside { column + wide ≤ columns }
+    requires short { columns ≤ 2 ^ 24 }
+    requires rows { QM * columns ≤ length selected.old.items }
+    ensures put { (r k : ℕ) → r < QM → k < wide
+        → bit selected.new.items (r * columns + (column + k)) ≡ (bit_at (slice_index_or rows.now r 0) k == 1) }
+    ensures before { (r k : ℕ) → r < QM → k < column
+        → bit selected.new.items (r * columns + k) ≡ bit selected.old.items (r * columns + k) }
+    ensures long { length selected.new.items ≡ length selected.old.items }
+    ensures room { selected.new.room ≡ selected.old.room }
 {
-    let mut column = 0;
-    while column < columns {
-        let wide = (columns - column).min(64);
-        let word = row_word::<QM>(masks, bits, from + QM * column);
-        selected.push_word(wide, word);
-        column += wide;
+    for row in 0..QM {
+        selected.put(row * columns + column, wide, rows[row]);
     }
 }
 
-// Puts the rows of the matrix at the end of a list, by the masks of the modulation order.
+// Gives a list the `count` bits of another one, or leaves it as it is where it has as many. Only their number matters.
+fn lengthen(bits: &Bits, from: usize, count: usize, selected: &mut Bits)
+    requires inside { from + count ≤ length bits.now.items }
+    requires room { count ≤ length selected.old.items + selected.old.room }
+    ensures long { length selected.new.items ≡ count }
+    ensures room { length selected.old.items + selected.old.room
+        ≤ length selected.new.items + selected.new.room }
+{
+    if selected.len() != count {
+        selected.clear();
+        selected.extend_range(bits, from, count);
+    }
+}
+
+// Puts the rows of the matrix, by the masks of the modulation order, in place of a list's bits.
 pub(crate) fn by_rows<const QM: usize>(
     masks: &[u64; 3],
     bits: &Bits,
@@ -87,16 +108,23 @@ pub(crate) fn by_rows<const QM: usize>(
 )
     requires some { 0 < QM }
     requires few { QM ≤ 8 }
-    requires together { BringTogether QM masks.now }
+    requires octets { MakesOctets QM masks.now }
     requires whole { count % QM ≡ 0 }
+    requires inside { from + count ≤ length bits.now.items }
     requires short { from + count ≤ 2 ^ 24 }
-    requires room { count ≤ selected.old.room }
-    ensures items { selected.new.items ≡ selected.old.items ++ row_by_row QM bits.now.items from count }
-    ensures room { selected.new.room + count ≡ selected.old.room }
+    requires room { count ≤ length selected.old.items + selected.old.room }
+    ensures items { selected.new.items ≡ row_by_row QM bits.now.items from count }
+    ensures room { length selected.old.items + selected.old.room
+        ≤ length selected.new.items + selected.new.room }
 {
+    lengthen(bits, from, count, selected);
     let columns = count / QM;
-    for row in 0..QM {
-        push_row::<QM>(masks, bits, from + row, columns, selected);
+    let mut column = 0;
+    while column < columns {
+        let wide = (columns - column).min(64);
+        let rows = row_words::<QM>(masks, bits, from + QM * column);
+        put_columns::<QM>(&rows, columns, column, wide, selected);
+        column += wide;
     }
 }
 

@@ -1,12 +1,15 @@
--- The rows so far stand in the list, which has room for the others.
-use Rattle.std.proofs.Common.{◌≡◌, ◌+◌, ◌*◌, ◌/◌, ◌%◌, ◌++◌, map}
-use Rattle.std.specs.List.{range_with_len}
+-- the columns so far stand in the rows
+use Rattle.std.proofs.Common.{◌≡◌, ℕ, ◌+◌, ◌-◌, ◌*◌, ◌<◌, ◌≤◌, length}
 use Rattle.nr_bitvec.specs.Bit.{bit}
 use Rattle.nr_interleave.proofs.rows.by_rows.Given as goal
 
-abbrev pub invariant-loop-row : goal.invariant-loop-row
-invariant-loop-row g l = record {
-  items : l.selected.items ≡ l.initial.selected.items
-      ++ map (λ k. bit l.bits.items (l.from + (g.row.QM * (k % (l.count / g.row.QM)) + k / (l.count / g.row.QM)))) (range_with_len 0 (l.row * (l.count / g.row.QM)));
-  room : l.selected.room + l.row * (l.count / g.row.QM) ≡ l.initial.selected.room;
+abbrev pub decreases-loop-column : goal.decreases-loop-column
+decreases-loop-column g l = l.columns - l.column
+
+abbrev pub invariant-loop-column : goal.invariant-loop-column
+invariant-loop-column g l = record {
+  put : (r k : ℕ) → r < g.row.QM → k < l.column → bit l.selected.items (r * l.columns + k) ≡ bit l.bits.items (l.from + (g.row.QM * k + r));
+  long : length l.selected.items ≡ length l.initial.selected.items;
+  room : l.selected.room ≡ l.initial.selected.room;
+  below : l.column ≤ l.columns;
 }

@@ -1,0 +1,155 @@
+-- Bits of words that change places in steps, and eight columns that become octets of their rows.
+use Rattle.std.proofs.Common.{◌≡◌, ℕ, ◌+◌, ◌-◌, ◌*◌, ◌/◌, ◌%◌, ◌^◌, ◌<◌, ◌≤◌, ◌==◌, ◌||◌, ◌&&◌, inl, inr, min, max, if◌then◌else◌, Bool, true, false, List, [], ◌∷◌, ◌++◌, length, get_or, set, refl, sym, ap, subst, ◌∙◌, arith, get_or-set_same, get_or-set_other}
+use Rattle.std.specs.Int.{bit_at}
+use Rattle.std.specs.Int.RustNames.{bit_and, bit_or}
+use Rattle.std.specs.List.{flat_map, list_any}
+use Rattle.std.proofs.lemmas.Bool.{cases_lt, cases_eq, eqb-true}
+use Rattle.std.proofs.lemmas.Bool.Decides.{nat_tests}
+use Rattle.std.proofs.lemmas.List.Folds.{list_any-append}
+use Rattle.std.proofs.lemmas.Nat.Bits.{bit_at-lt, bit_at_and, bit_at_or}
+use Rattle.nr_bitvec.proofs.BitFacts.{bit_at_shr, bit_at_shl_low, bit_at_shl_high, bit_at_mod, bit_at_mod_above}
+use Rattle.nr_interleave.proofs.BoundedTestFacts.{all_under, all_under-at}
+use Rattle.nr_interleave.specs.Octets.{after, apart_from, columns_apart, exchanged_from, Gets, MakesOctets, neither, octets_turned, only_in, raised}
+use Rattle.nr_interleave.specs.declared.octets.TheConstants.{OF_2, OF_4, OF_6, OF_8}
+
+-- ---- masks, tested
+
+-- a list has one number alone
+is_only : ℕ → List ℕ → Bool
+is_only n [] = false
+is_only n (x ∷ []) = x == n
+is_only n (x ∷ y ∷ zs) = false
+
+only-is : (n : ℕ) (xs : List ℕ) → is_only n xs ≡ true → xs ≡ n ∷ []
+unfolding is_only
+only-is n [] e = cc e
+only-is n (x ∷ []) e = ap (λ k. k ∷ []) (eqb-true x n e)
+only-is n (x ∷ y ∷ zs) e = cc e
+
+octets-from : (qm : ℕ) (masks : List ℕ) → all_under qm (λ r. all_under 8 (λ c. is_only (qm * c + r) (octets_turned (columns_apart qm masks) (8 * r + c)))) ≡ true → MakesOctets qm masks
+octets-from qm masks tested r c row column =
+    only-is (qm * c + r) (octets_turned (columns_apart qm masks) (8 * r + c))
+    (all_under-at 8 (λ c. is_only (qm * c + r) (octets_turned (columns_apart qm masks) (8 * r + c)))
+    (all_under-at qm (λ r. all_under 8 (λ c. is_only (qm * c + r) (octets_turned (columns_apart qm masks) (8 * r + c)))) tested r row) c column)
+
+pub of-2 : MakesOctets 2 OF_2
+unfolding all_under is_only
+of-2 = octets-from 2 OF_2 refl
+
+pub of-4 : MakesOctets 4 OF_4
+unfolding all_under is_only
+of-4 = octets-from 4 OF_4 refl
+
+pub of-6 : MakesOctets 6 OF_6
+unfolding all_under is_only
+of-6 = octets-from 6 OF_6 refl
+
+pub of-8 : MakesOctets 8 OF_8
+unfolding all_under is_only
+of-8 = octets-from 8 OF_8 refl
+
+-- ---- what comes to a place
+
+min-one : (a b : ℕ) → a < 2 → b < 2 → (min a b == 1) ≡ ((a == 1) && (b == 1))
+min-one a b low low-too = grind (arith, nat_tests)
+
+max-one : (a b : ℕ) → a < 2 → b < 2 → (max a b == 1) ≡ ((a == 1) || (b == 1))
+max-one a b low low-too = grind (arith, nat_tests)
+
+and-one : (a b p : ℕ) → (bit_at (bit_and a b) p == 1) ≡ ((bit_at a p == 1) && (bit_at b p == 1))
+and-one a b p = ap (λ k. k == 1) (bit_at_and a b p) ∙ min-one (bit_at a p) (bit_at b p) (bit_at-lt a p) (bit_at-lt b p)
+
+or-one : (a b p : ℕ) → (bit_at (bit_or a b) p == 1) ≡ ((bit_at a p == 1) || (bit_at b p == 1))
+or-one a b p = ap (λ k. k == 1) (bit_at_or a b p) ∙ max-one (bit_at a p) (bit_at b p) (bit_at-lt a p) (bit_at-lt b p)
+
+one-any : (b : Bool) → b ≡ (b || false)
+one-any true = refl
+one-any false = refl
+
+marked : (x k : ℕ) (there mark : Bool) → (mark ≡ true → there ≡ (bit_at x k == 1)) → (there && mark) ≡ list_any (λ k. bit_at x k == 1) (if mark then k ∷ [] else [])
+marked x k true true same = same refl ∙ one-any (bit_at x k == 1)
+marked x k false true same = same refl ∙ one-any (bit_at x k == 1)
+marked x k true false same = refl
+marked x k false false same = refl
+
+in-mask : (x n mask p k : ℕ) → (bit_at mask p ≡ 1 → bit_at n p ≡ bit_at x k) → (bit_at (bit_and n mask) p == 1) ≡ list_any (λ k. bit_at x k == 1) (only_in mask p k)
+in-mask x n mask p k same =
+    and-one n mask p
+    ∙ marked x k (bit_at n p == 1) (bit_at mask p == 1) (λ mark. ap (λ b. b == 1) (same (eqb-true (bit_at mask p) 1 mark)))
+
+-- a raised mask has places of the word alone, from there on
+pub record IsRaised (by p : ℕ) : Type 0 where
+  pub above : by ≤ p
+  pub inside : p < 64
+
+is-raised : (mask by p : ℕ) → bit_at (raised mask by) p ≡ 1 → IsRaised by p
+is-raised mask by p mark = elim (cases_lt p 64) [
+  | inr past ↦ let none : bit_at (mask * 2 ^ by % 2 ^ 64) p ≡ 0 = bit_at_mod_above (mask * 2 ^ by) 64 p past in absurd (omega (arith, none, mark))
+  | inl inside ↦ elim (cases_lt p by) [
+    | inr above ↦ record { above = above; inside = inside }
+    | inl below ↦
+        let none : bit_at (mask * 2 ^ by % 2 ^ 64) p ≡ 0 = bit_at_mod (mask * 2 ^ by) 64 p inside ∙ bit_at_shl_low mask by p below in
+        absurd (omega (arith, none, mark))
+  ]
+]
+
+moved-up : (x mask lane by p : ℕ) → by ≤ lane
+    → (bit_at (bit_and (x * 2 ^ by % 2 ^ 64) (raised mask lane)) p == 1) ≡ list_any (λ k. bit_at x k == 1) (only_in (raised mask lane) p (p - by))
+moved-up x mask lane by p few =
+    in-mask x (x * 2 ^ by % 2 ^ 64) (raised mask lane) p (p - by)
+    (λ mark.
+    let there = is-raised mask lane p mark in
+    bit_at_mod (x * 2 ^ by) 64 p there.inside ∙ bit_at_shl_high x by p (omega (arith, few, there.above)))
+
+pub apart-gets : (x mask lane by : ℕ) → by ≤ lane → Gets (apart_from mask lane by) x (bit_or (bit_and x mask) (bit_and (x * 2 ^ by % 2 ^ 64) (mask * 2 ^ lane % 2 ^ 64)))
+apart-gets x mask lane by few p =
+    let test : ℕ → Bool = λ k. bit_at x k == 1 in
+    or-one (bit_and x mask) (bit_and (x * 2 ^ by % 2 ^ 64) (raised mask lane)) p
+    ∙ ap (λ b. b || (bit_at (bit_and (x * 2 ^ by % 2 ^ 64) (raised mask lane)) p == 1)) (in-mask x x mask p p (λ mark. refl))
+    ∙ ap (λ b. list_any test (only_in mask p p) || b) (moved-up x mask lane by p few)
+    ∙ sym (list_any-append test (only_in mask p p) (only_in (raised mask lane) p (p - by)))
+
+pub exchanged-gets : (x mask by : ℕ) → Gets (exchanged_from mask by) x
+    (bit_or (bit_or (bit_and x (neither mask (raised mask by))) (bit_and (x * 2 ^ by % 2 ^ 64) (raised mask by))) (bit_and (x / 2 ^ by) mask))
+exchanged-gets x mask by p =
+    let test : ℕ → Bool = λ k. bit_at x k == 1 in
+    let kept : ℕ = bit_and x (neither mask (raised mask by)) in
+    let up : ℕ = bit_and (x * 2 ^ by % 2 ^ 64) (raised mask by) in
+    let kept_from : List ℕ = only_in (neither mask (raised mask by)) p p in
+    let up_from : List ℕ = only_in (raised mask by) p (p - by) in
+    or-one (bit_or kept up) (bit_and (x / 2 ^ by) mask) p
+    ∙ ap (λ b. b || (bit_at (bit_and (x / 2 ^ by) mask) p == 1)) (or-one kept up p)
+    ∙ ap (λ b. (b || (bit_at up p == 1)) || (bit_at (bit_and (x / 2 ^ by) mask) p == 1)) (in-mask x x (neither mask (raised mask by)) p p (λ mark. refl))
+    ∙ ap (λ b. (list_any test kept_from || b) || (bit_at (bit_and (x / 2 ^ by) mask) p == 1)) (moved-up x mask by by p (omega arith))
+    ∙ ap (λ b. b || (bit_at (bit_and (x / 2 ^ by) mask) p == 1)) (sym (list_any-append test kept_from up_from))
+    ∙ ap (λ b. list_any test (kept_from ++ up_from) || b) (in-mask x (x / 2 ^ by) mask p (by + p) (λ mark. bit_at_shr x by p))
+    ∙ sym (list_any-append test (kept_from ++ up_from) (only_in mask p (by + p)))
+
+through : (earlier : ℕ → List ℕ) (x w : ℕ) → Gets earlier x w → (ks : List ℕ)
+    → list_any (λ k. bit_at w k == 1) ks ≡ list_any (λ k. bit_at x k == 1) (flat_map earlier ks)
+through earlier x w gets [] = refl
+through earlier x w gets (k ∷ ks) =
+    ap (λ b. b || list_any (λ k. bit_at w k == 1) ks) (gets k)
+    ∙ ap (λ b. list_any (λ k. bit_at x k == 1) (earlier k) || b) (through earlier x w gets ks)
+    ∙ sym (list_any-append (λ k. bit_at x k == 1) (earlier k) (flat_map earlier ks))
+
+pub then-gets : (later earlier : ℕ → List ℕ) (x w v : ℕ) → Gets earlier x w → Gets later w v → Gets (after later earlier) x v
+then-gets later earlier x w v first second p = second p ∙ through earlier x w first (later p)
+
+-- a place to which one bit comes
+pub only-comes : (come : ℕ → List ℕ) (x w p k : ℕ) → Gets come x w → come p ≡ k ∷ [] → (bit_at w p == 1) ≡ (bit_at x k == 1)
+only-comes come x w p k gets only = gets p ∙ ap (list_any (λ k. bit_at x k == 1)) only ∙ sym (one-any (bit_at x k == 1))
+
+-- ---- lists of words
+
+-- what is true of each word so far is true of one more
+pub each-more : (P : ℕ → ℕ → Type 0) (xs : List ℕ) (i v : ℕ) → i < length xs → P i v → ((k : ℕ) → k < i → P k (get_or xs k 0))
+    → (k : ℕ) → k < i + 1 → P k (get_or (set xs i v) k 0)
+each-more P xs i v inside here before k below = elim (cases_eq k i) [
+  | inl same ↦
+      let now : get_or (set xs i v) k 0 ≡ v = ap (λ n. get_or (set xs i v) n 0) same ∙ get_or-set_same xs i v 0 inside in
+      let at_i : P k v = subst (λ (n : ℕ). P n v) (sym same) here in
+      subst (λ (w : ℕ). P k w) (sym now) at_i
+  | inr other ↦
+      subst (λ (w : ℕ). P k w) (sym (get_or-set_other xs i k v 0 other)) (before k (omega (arith, below, other)))
+]

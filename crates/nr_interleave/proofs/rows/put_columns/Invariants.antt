@@ -1,0 +1,13 @@
+-- the columns stand in the rows so far, and those before them are in all rows as they were
+use Rattle.std.proofs.Common.{◌≡◌, ℕ, ◌+◌, ◌*◌, ◌<◌, ◌==◌, length, slice_index_or}
+use Rattle.std.specs.Int.{bit_at}
+use Rattle.nr_bitvec.specs.Bit.{bit}
+use Rattle.nr_interleave.proofs.rows.put_columns.Given as goal
+
+abbrev pub invariant-loop-row : goal.invariant-loop-row
+invariant-loop-row g l = record {
+  put : (r k : ℕ) → r < l.row → k < l.wide → bit l.selected.items (r * l.columns + (l.column + k)) ≡ (bit_at (slice_index_or l.rows r 0) k == 1);
+  before : (r k : ℕ) → r < g.row.QM → k < l.column → bit l.selected.items (r * l.columns + k) ≡ bit l.initial.selected.items (r * l.columns + k);
+  long : length l.selected.items ≡ length l.initial.selected.items;
+  room : l.selected.room ≡ l.initial.selected.room;
+}
