@@ -13,7 +13,7 @@ use Rattle.nr_lifting.proofs.LaneViewFacts.{place-zeros}
 use Rattle.nr_ldpcenc.specs.Rows.{one_at, unrotate}
 use Rattle.nr_peel.specs.Lanes.{lacks, marks_of, steps_below}
 use Rattle.nr_peel.specs.declared.fix.Fix.{Fix}
-use Rattle.nr_peel.proofs.StepFacts.{steps_none}
+use Rattle.nr_peel.proofs.StepFacts.{steps_blank}
 
 -- nothing is marked where nothing is counted
 pub marked_zero : (u : ℕ → Bool) (n : ℕ) → marked u n ≡ 0 → (t : ℕ) → t < n → u t ≡ false
@@ -42,8 +42,7 @@ none_marked lane z clear none t = elim (cases_lt t z) [
 -- no step without a mark
 pub no_steps : (step : ℕ → Fix) (u : ℕ → Bool) (n : ℕ) (order : List Fix) → ((t : ℕ) → u t ≡ false) → order ≡ order ++ steps_below step u n
 no_steps step u n order none =
-    let from : 0 + n ≡ n = omega arith in
-    sym (ap (λ xs. order ++ xs) (sym (ap (steps_below step u) from) ∙ steps_none step u 0 n (λ t _ _. none t)) ∙ append-nil order)
+    sym (ap (λ xs. order ++ xs) (steps_blank step u n (λ t _. none t)) ∙ append-nil order)
 
 module _ (z j v : ℕ) (some : 0 < z) where
   -- the rows of a lane whose positions the block lacks

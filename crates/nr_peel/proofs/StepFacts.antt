@@ -1,17 +1,19 @@
 -- Steps of the rows that a lane marks.
-use Rattle.std.proofs.Common.{◌≡◌, ℕ, zero, suc, ◌+◌, ◌-◌, ◌*◌, ◌/◌, ◌%◌, ◌^◌, ◌<◌, ◌≤◌, ◌==◌, Bool, true, false, if◌then◌else◌, List, [], ◌∷◌, ◌++◌, length, get_or, refl, sym, ap, ◌∙◌, inl, inr, arith, add-one, append_assoc, length-append}
-use Rattle.std.proofs.lemmas.Bool.{cases_lt, eq-eqb}
-use Rattle.std.proofs.lemmas.Nat.Bits.{bit_at-trailing_zeros, bit_at-zero, bit_at_above, bit_at_ones}
-use Rattle.std.proofs.Math.Nat.{add-mod-mod}
+use Rattle.std.proofs.Common.{◌≡◌, ◌≢◌, ℕ, zero, suc, ◌+◌, ◌-◌, ◌*◌, ◌/◌, ◌%◌, ◌^◌, ◌<◌, ◌≤◌, ◌==◌, Bool, true, false, if◌then◌else◌, List, [], ◌∷◌, ◌++◌, length, get_or, refl, sym, ap, ◌∙◌, inl, inr, arith, add-one, append_assoc, length-append}
+use Rattle.std.proofs.lemmas.Bool.{cases_eq, cases_lt, eq-eqb, eqb-true}
+use Rattle.std.proofs.lemmas.Nat.{mod_below, pow_pos, shr_split}
+use Rattle.std.proofs.lemmas.Nat.Bits.{bit_at-pow_other, bit_at-pow_same, bit_at-trailing_zeros, bit_at-zero, bit_at_above, bit_at_and, bit_at_cat_high, bit_at_cat_low, bit_at_ones_above, same_from_bits_below}
+use Rattle.std.proofs.Math.Nat.{pow-suc}
 use Rattle.std.specs.Int.{bit_at, trailing_zeros, w64}
+use Rattle.std.specs.Int.RustNames.{bit_and, count_ones}
 use Rattle.nr_bitvec.proofs.BitFacts.{bit_at_mod, bit_at_shr}
-use Rattle.nr_lifting.proofs.LaneBitFacts.{counted_all, marked-append, marked-same, word_bit}
+use Rattle.nr_lifting.proofs.LaneBitFacts.{counted_all, marked-append, marked-le, marked-same, ones_marked, word_bit}
 use Rattle.std.proofs.lemmas.List.{append-nil}
 use Rattle.nr_bitvec.specs.Packed.{IsClear}
 use Rattle.nr_lifting.specs.Rings.{is_set, marked}
-use Rattle.nr_peel.specs.Lanes.{step_after, steps_below, rotated_step}
+use Rattle.nr_peel.specs.Lanes.{rotated_step, step_after, step_along, step_number, steps_below}
 use Rattle.nr_peel.specs.declared.fix.Fix.{Fix}
-use Rattle.nr_peel.proofs.RowPlaceFacts.{mod_low}
+use Rattle.nr_peel.proofs.RowPlaceFacts.{mod_high, mod_low}
 
 -- no step where nothing is marked
 pub steps_none : (step : ℕ → Fix) (u : ℕ → Bool) (a n : ℕ) → ((t : ℕ) → a ≤ t → t < a + n → u t ≡ false) → steps_below step u (a + n) ≡ steps_below step u a
@@ -27,6 +29,11 @@ steps_none step u a (suc n) none =
     next : (a n : ℕ) → a + suc n ≡ suc (a + n)
     next a n = omega arith
 
+pub steps_blank : (step : ℕ → Fix) (u : ℕ → Bool) (n : ℕ) → ((t : ℕ) → t < n → u t ≡ false) → steps_below step u n ≡ []
+steps_blank step u zero none = refl
+steps_blank step u (suc n) none =
+    ap (λ b. steps_below step u n ++ (if b then step n ∷ [] else [])) (none n (omega arith)) ∙ append-nil (steps_below step u n) ∙ steps_blank step u n (λ t h. none t (omega (arith, h)))
+
 -- steps that agree
 pub steps_same : (step step' : ℕ → Fix) (u v : ℕ → Bool) (n : ℕ) → ((t : ℕ) → t < n → step t ≡ step' t) → ((t : ℕ) → t < n → u t ≡ v t) → steps_below step u n ≡ steps_below step' v n
 steps_same step step' u v zero is same = refl
@@ -34,6 +41,17 @@ steps_same step step' u v (suc n) is same =
     ap (λ xs. xs ++ (if u n then step n ∷ [] else [])) (steps_same step step' u v n (λ t h. is t (omega (arith, h))) (λ t h. same t (omega (arith, h))))
     ∙ ap (λ b. steps_below step' v n ++ (if b then step n ∷ [] else [])) (same n (omega arith))
     ∙ ap (λ s. steps_below step' v n ++ (if v n then s ∷ [] else [])) (is n (omega arith))
+
+-- steps that agree at the marked rows
+pub steps_agree : (step step' : ℕ → Fix) (u : ℕ → Bool) (n : ℕ) → ((t : ℕ) → t < n → u t ≡ true → step t ≡ step' t) → steps_below step u n ≡ steps_below step' u n
+steps_agree step step' u zero is = refl
+steps_agree step step' u (suc n) is =
+    ap (λ xs. xs ++ (if u n then step n ∷ [] else [])) (steps_agree step step' u n (λ t h. is t (omega (arith, h))))
+    ∙ ap (λ xs. steps_below step' u n ++ xs) (one (u n) refl)
+  where
+    one : (b : Bool) → u n ≡ b → (if b then step n ∷ [] else []) ≡ (if b then step' n ∷ [] else [])
+    one true h = ap (λ s. s ∷ []) (is n (omega arith) h)
+    one false h = refl
 
 -- those of the rows from row a on come after the others
 pub steps_append : (step : ℕ → Fix) (u : ℕ → Bool) (a b : ℕ) → steps_below step u (a + b) ≡ steps_below step u a ++ steps_below (λ j. step (a + j)) (λ j. u (a + j)) b
@@ -62,139 +80,154 @@ steps_count step u (suc n) = length-append (steps_below step u n) (if u n then s
 pub steps_next : (step : ℕ → Fix) (u : ℕ → Bool) (n : ℕ) → u n ≡ true → steps_below step u (n + 1) ≡ steps_below step u n ++ step n ∷ []
 steps_next step u n h = rw add-one (ap (λ b. steps_below step u n ++ (if b then step n ∷ [] else [])) h)
 
+-- the first marked row's step comes before those of the others
+pub steps_first : (step : ℕ → Fix) (u v : ℕ → Bool) (b n : ℕ) → b < n → u b ≡ true → ((t : ℕ) → t < b → u t ≡ false) → v b ≡ false → ((t : ℕ) → t ≢ b → v t ≡ u t) → steps_below step u n ≡ step b ∷ steps_below step v n
+steps_first step u v b n inside here before gone same =
+    let more = n - (b + 1) in
+    let split : b + 1 + more ≡ n = omega (arith, inside) in
+    let after = λ (w : ℕ → Bool). steps_below (λ j. step (b + 1 + j)) (λ j. w (b + 1 + j)) more in
+    let one : steps_below step u (b + 1) ≡ step b ∷ [] = steps_next step u b here ∙ ap (λ xs. xs ++ step b ∷ []) (steps_blank step u b before) in
+    let none : steps_below step v (b + 1) ≡ [] = steps_blank step v (b + 1) (λ t h. elim (cases_eq t b) [
+      | inl e ↦ ap v e ∙ gone
+      | inr apart ↦ same t apart ∙ before t (omega (arith, h, apart))
+    ]) in
+    let rest : after v ≡ after u = steps_same (λ j. step (b + 1 + j)) (λ j. step (b + 1 + j)) (λ j. v (b + 1 + j)) (λ j. u (b + 1 + j)) more (λ t h. refl) (λ t h. same (b + 1 + t) (omega arith)) in
+    sym (ap (steps_below step u) split) ∙ steps_append step u (b + 1) more ∙ ap (λ xs. xs ++ after u) one
+    ∙ sym (ap (λ xs. step b ∷ xs) (sym (ap (steps_below step v) split) ∙ steps_append step v (b + 1) more ∙ ap (λ xs. xs ++ after v) none ∙ rest))
+
 -- what is added to a list that was added to
 pub join_steps : (new now old xs ys zs : List Fix) → new ≡ now ++ ys → now ≡ old ++ xs → xs ++ ys ≡ zs → new ≡ old ++ zs
 join_steps new now old xs ys zs added before whole = added ∙ ap (λ l. l ++ ys) before ∙ append_assoc old xs ys ∙ ap (λ l. old ++ l) whole
 
+-- ---- the numbers of steps
+
+-- the step b rows after that of a number
+pub along_after : (i lane pos b : ℕ) → i < 2 ^ 16 → lane + b < 2 ^ 16 → step_along (step_number i lane pos) b ≡ step_after i lane pos b
+along_after i lane pos b small short =
+    let n = step_number i lane pos + b * (2 ^ 16 + 2 ^ 32) in
+    let row : n % 2 ^ 16 ≡ i = omega (arith, small) in
+    let at : n / 2 ^ 16 % 2 ^ 16 ≡ lane + b = omega (arith, small, short) in
+    let place : n / 2 ^ 32 ≡ pos + b = omega (arith, small, short) in
+    ap (λ r. record { row = r; lane = n / 2 ^ 16 % 2 ^ 16; pos = n / 2 ^ 32 }) row
+    ∙ ap (λ t. record { row = i; lane = t; pos = n / 2 ^ 32 }) at
+    ∙ ap (λ p. record { row = i; lane = lane + b; pos = p }) place
+
 -- ---- the bits of a word, one after another
 
--- of the bits of a word from bit `at` on, the one `skip` places further is the first that is set
-pub record IsLowest (word at skip : ℕ) : Type 0 where
-  pub set : bit_at word (at + skip) ≡ 1
-  pub inside : at + skip < 64
-  pub before : (j : ℕ) → j < skip → bit_at word (at + j) ≡ 0
+-- the lowest bit of a word, and what is left without it
+module _ (rest b : ℕ) (set : bit_at rest b ≡ 1) (before : (i : ℕ) → i < b → bit_at rest i ≡ 0) where
+  low_part : rest % 2 ^ suc b ≡ 2 ^ b
+  low_part =
+      same_from_bits_below (suc b) (rest % 2 ^ suc b) (2 ^ b) (mod_below rest (2 ^ suc b) (pow_pos (suc b))) (omega (arith, pow-suc 2 b, pow_pos b))
+      (λ i below. bit_at_mod rest (suc b) i below ∙ elim (cases_eq i b) [
+        | inl e ↦ ap (bit_at rest) e ∙ set ∙ sym (bit_at-pow_same b) ∙ ap (bit_at (2 ^ b)) (sym e)
+        | inr apart ↦ before i (omega (arith, below, apart)) ∙ sym (bit_at-pow_other b i apart)
+      ])
 
-pub lowest : (word rest at : ℕ) → ((j : ℕ) → bit_at rest j ≡ bit_at word (at + j)) → 0 < rest → rest < 2 ^ 64 → word < 2 ^ 64 → IsLowest word at (trailing_zeros w64 rest)
-lowest word rest at left some fits whole =
-    let skip = trailing_zeros w64 rest in
+  rest_is : rest / 2 ^ suc b * 2 ^ suc b + 2 ^ b ≡ rest
+  rest_is = ap (λ r. rest / 2 ^ suc b * 2 ^ suc b + r) (sym low_part) ∙ shr_split rest (suc b)
+
+  less_is : rest - 1 ≡ rest / 2 ^ suc b * 2 ^ suc b + (2 ^ b - 1)
+  less_is = omega (arith, rest_is, pow_pos b)
+
+  pub lowest_lost : bit_at (bit_and rest (rest - 1)) b ≡ 0
+  lowest_lost =
+      let gone : bit_at (rest - 1) b ≡ 0 = ap (λ n. bit_at n b) less_is ∙ bit_at_cat_low (rest / 2 ^ suc b) (suc b) (2 ^ b - 1) b (omega arith) ∙ bit_at_ones_above b b (omega arith) in
+      omega (arith, bit_at_and rest (rest - 1) b, gone)
+
+  pub others_kept : (j : ℕ) → j ≢ b → bit_at (bit_and rest (rest - 1)) j ≡ bit_at rest j
+  others_kept j apart = elim (cases_lt j b) [
+    | inl below ↦ omega (arith, bit_at_and rest (rest - 1) j, before j below)
+    | inr above ↦
+        let q = rest / 2 ^ suc b in
+        let small : 2 ^ b < 2 ^ suc b = omega (arith, pow-suc 2 b, pow_pos b) in
+        let now = ap (λ n. bit_at n j) less_is ∙ bit_at_cat_high q (suc b) (2 ^ b - 1) j (omega (arith, small)) (omega (arith, above, apart)) in
+        let was = ap (λ n. bit_at n j) (sym rest_is) ∙ bit_at_cat_high q (suc b) (2 ^ b) j small (omega (arith, above, apart)) in
+        omega (arith, bit_at_and rest (rest - 1) j, now, was)
+  ]
+
+-- the step of a word's lowest bit comes before the others'
+pub lowest_first : (step : ℕ → Fix) (rest : ℕ) → 0 < rest → rest < 2 ^ 64
+    → steps_below step (λ j. bit_at rest j == 1) 64 ≡ step (trailing_zeros w64 rest) ∷ steps_below step (λ j. bit_at (bit_and rest (rest - 1)) j == 1) 64
+lowest_first step rest some fits =
+    let b = trailing_zeros w64 rest in
     let found = bit_at-trailing_zeros w64 rest some fits in
-    let is : bit_at word (at + skip) ≡ 1 = sym (left skip) ∙ found.1 in
-    record {
-      set = is;
-      inside = elim (cases_lt (at + skip) 64) [
-        | inl h ↦ h
-        | inr h ↦ absurd (omega (arith, is, bit_at_above word 64 (at + skip) whole h))
-      ];
-      before = λ j h. sym (left j) ∙ found.2 j h;
-    }
+    steps_first step (λ j. bit_at rest j == 1) (λ j. bit_at (bit_and rest (rest - 1)) j == 1) b 64 found.0 (eq-eqb (bit_at rest b) 1 found.1)
+    (λ t h. ap (λ n. n == 1) (found.2 t h)) (ap (λ n. n == 1) (lowest_lost rest b found.1 found.2)) (λ t apart. ap (λ n. n == 1) (others_kept rest b found.1 found.2 t apart))
 
--- what is left of the word past it, and past more bits from it on
-pub rest_left : (word rest at skip more : ℕ) → ((j : ℕ) → bit_at rest j ≡ bit_at word (at + j)) → (j : ℕ) → bit_at (rest / 2 ^ skip / 2 ^ more) j ≡ bit_at word (at + (skip + more) + j)
-rest_left word rest at skip more left j =
-    bit_at_shr (rest / 2 ^ skip) more j ∙ bit_at_shr rest skip (more + j) ∙ left (skip + (more + j)) ∙ ap (bit_at word) (regroup at skip more j)
-  where
-    regroup : (a s m j : ℕ) → a + (s + (m + j)) ≡ a + (s + m) + j
-    regroup a s m j = omega arith
+-- no bit of zero is marked
+pub zero_steps : (step : ℕ → Fix) → steps_below step (λ j. bit_at 0 j == 1) 64 ≡ []
+zero_steps step = steps_blank step (λ j. bit_at 0 j == 1) 64 (λ t _. ap (λ n. n == 1) (bit_at-zero t))
 
--- the 32 bits of a word from bit `from` on are set
-abbrev pub IsRun : ℕ → ℕ → Type 0
-IsRun word from = (j : ℕ) → j < 32 → bit_at word (from + j) ≡ 1
+-- the first rows are marked, as many as a number says
+pub run_steps : (step : ℕ → Fix) (word count : ℕ) → count ≤ 64 → ((j : ℕ) → j < count → bit_at word j ≡ 1) → ((j : ℕ) → count ≤ j → bit_at word j ≡ 0)
+    → steps_below step (λ j. bit_at word j == 1) 64 ≡ steps_below step (λ j. true) count
+run_steps step word count few ones zeros =
+    let u = λ (j : ℕ). bit_at word j == 1 in
+    let split : count + (64 - count) ≡ 64 = omega (arith, few) in
+    sym (ap (steps_below step u) split) ∙ steps_none step u count (64 - count) (λ t past _. ap (λ n. n == 1) (zeros t past))
+    ∙ steps_same step step u (λ j. true) count (λ t h. refl) (λ t h. eq-eqb (bit_at word t) 1 (ones t h))
 
-pub run_found : (word rest at skip : ℕ) → ((j : ℕ) → bit_at rest j ≡ bit_at word (at + j)) → rest / 2 ^ skip % 2 ^ 32 ≡ 2 ^ 32 - 1 → IsRun word (at + skip)
-run_found word rest at skip left full j short =
-    ap (bit_at word) (regroup at skip j) ∙ sym (left (skip + j)) ∙ sym (bit_at_shr rest skip j) ∙ sym (bit_at_mod (rest / 2 ^ skip) 32 j short)
-    ∙ ap (λ n. bit_at n j) full ∙ bit_at_ones 32 j short
-  where
-    regroup : (a s j : ℕ) → a + s + j ≡ a + (s + j)
-    regroup a s j = omega arith
+pub few_ones : (word : ℕ) → word < 2 ^ 64 → count_ones word ≤ 64
+few_ones word fits = omega (arith, ones_marked 64 word fits, marked-le (λ j. bit_at word j == 1) 64)
 
-pub run_inside : (word from : ℕ) → word < 2 ^ 64 → IsRun word from → from + 32 ≤ 64
-run_inside word from whole run = elim (cases_lt (from + 31) 64) [
-  | inl h ↦ omega (arith, h)
-  | inr h ↦ absurd (omega (arith, run 31 (omega arith), bit_at_above word 64 (from + 31) whole h))
-]
+-- ---- a word whose first `ahead` bits are taken first
 
-module _ (step : ℕ → Fix) (word at : ℕ) where
+module _ (step : ℕ → Fix) (word ahead : ℕ) (few : ahead ≤ 64) where
   abbrev u : ℕ → Bool
   u b = bit_at word b == 1
 
-  unmarked : (skip : ℕ) → IsLowest word at skip → (t : ℕ) → at ≤ t → t < at + skip → u t ≡ false
-  unmarked skip low t above below =
-      let split : at + (t - at) ≡ t = omega (arith, above) in
-      ap u (sym split) ∙ ap (λ n. n == 1) (low.before (t - at) (omega (arith, above, below)))
+  pub low_steps : (low : ℕ) → ((j : ℕ) → j < ahead → bit_at low j ≡ bit_at word j) → ((j : ℕ) → ahead ≤ j → bit_at low j ≡ 0) → steps_below step (λ j. bit_at low j == 1) 64 ≡ steps_below step u ahead
+  low_steps low same none =
+      let v = λ (j : ℕ). bit_at low j == 1 in
+      let split : ahead + (64 - ahead) ≡ 64 = omega (arith, few) in
+      sym (ap (steps_below step v) split) ∙ steps_none step v ahead (64 - ahead) (λ t past _. ap (λ n. n == 1) (none t past))
+      ∙ steps_same step step v u ahead (λ t h. refl) (λ t h. ap (λ n. n == 1) (same t h))
 
-  pub lowest_steps : (skip : ℕ) → IsLowest word at skip → steps_below step u (at + (skip + 1)) ≡ steps_below step u at ++ step (at + skip) ∷ []
-  lowest_steps skip low =
-      ap (steps_below step u) (regroup at skip)
-      ∙ steps_next step u (at + skip) (eq-eqb (bit_at word (at + skip)) 1 low.set)
-      ∙ ap (λ xs. xs ++ step (at + skip) ∷ []) (steps_none step u at skip (unmarked skip low))
+  pub high_steps : word < 2 ^ 64 → steps_below step u 64 ≡ steps_below step u ahead ++ steps_below (λ j. step (ahead + j)) (λ j. bit_at (word / 2 ^ ahead) j == 1) 64
+  high_steps fits =
+      let v = λ (j : ℕ). bit_at (word / 2 ^ ahead) j == 1 in
+      let next = λ (j : ℕ). step (ahead + j) in
+      let more = 64 - ahead in
+      let split : ahead + more ≡ 64 = omega (arith, few) in
+      let back : more + ahead ≡ 64 = omega (arith, few) in
+      let past : steps_below next v 64 ≡ steps_below next (λ j. u (ahead + j)) more =
+      sym (ap (steps_below next v) back)
+      ∙ steps_none next v more ahead (λ t out _. ap (λ n. n == 1) (bit_at_shr word ahead t ∙ bit_at_above word 64 (ahead + t) fits (omega (arith, out, few))))
+      ∙ steps_same next next v (λ j. u (ahead + j)) more (λ t h. refl) (λ t h. ap (λ n. n == 1) (bit_at_shr word ahead t)) in
+      sym (ap (steps_below step u) split) ∙ steps_append step u ahead more ∙ ap (λ xs. steps_below step u ahead ++ xs) (sym past)
+
+-- rows short of the block's turn, and from it on
+module _ (size row col rotation start word ahead : ℕ) where
+  -- the row of a bit
+  abbrev rotated : ℕ → Fix
+  rotated b = rotated_step size row col rotation (start + b)
+
+  pub ahead_steps : (low pos : ℕ) → pos ≡ col * size + rotation + start → ahead ≤ 64 → ((b : ℕ) → b < ahead → start + b + rotation < size)
+      → ((j : ℕ) → j < ahead → bit_at low j ≡ bit_at word j) → ((j : ℕ) → ahead ≤ j → bit_at low j ≡ 0)
+      → steps_below (step_after row start pos) (λ j. bit_at low j == 1) 64 ≡ steps_below (λ b. rotated_step size row col rotation (start + b)) (λ b. bit_at word b == 1) ahead
+  ahead_steps low pos is few short same none = steps_agree (step_after row start pos) rotated (λ j. bit_at low j == 1) 64 agree ∙ low_steps rotated word ahead few low same none
     where
-      regroup : (a s : ℕ) → a + (s + 1) ≡ a + s + 1
-      regroup a s = omega arith
+      agree : (b : ℕ) → b < 64 → (bit_at low b == 1) ≡ true → step_after row start pos b ≡ rotated b
+      agree b _ set = elim (cases_lt b ahead) [
+        | inl below ↦
+            let place : pos + b ≡ col * size + (start + b + rotation) % size = omega (arith, is, mod_low (start + b + rotation) size (short b below)) in
+            ap (λ p. record { row = row; lane = start + b; pos = p }) place
+        | inr past ↦ absurd (omega (arith, eqb-true (bit_at low b) 1 set, none b past))
+      ]
 
-  pub run_steps : (skip : ℕ) → IsLowest word at skip → IsRun word (at + skip) → steps_below step u (at + (skip + 32)) ≡ steps_below step u at ++ steps_below (λ j. step (at + skip + j)) (λ b. true) 32
-  run_steps skip low run =
-      ap (steps_below step u) (regroup at skip)
-      ∙ steps_append step u (at + skip) 32
-      ∙ ap (λ xs. xs ++ steps_below (λ j. step (at + skip + j)) (λ j. u (at + skip + j)) 32) (steps_none step u at skip (unmarked skip low))
-      ∙ ap (λ xs. steps_below step u at ++ xs) (steps_same (λ j. step (at + skip + j)) (λ j. step (at + skip + j)) (λ j. u (at + skip + j)) (λ b. true) 32 (λ t h. refl) (λ t h. eq-eqb (bit_at word (at + skip + t)) 1 (run t h)))
+  pub turned_steps : (pos : ℕ) → pos ≡ col * size + (start + ahead) - (size - rotation) → rotation < size → size ≤ start + ahead + rotation → ((b : ℕ) → bit_at word b ≡ 1 → start + b < size)
+      → steps_below (step_after row (start + ahead) pos) (λ j. bit_at (word / 2 ^ ahead) j == 1) 64 ≡ steps_below (λ j. rotated_step size row col rotation (start + (ahead + j))) (λ j. bit_at (word / 2 ^ ahead) j == 1) 64
+  turned_steps pos is small past inside = steps_agree (step_after row (start + ahead) pos) (λ j. rotated (ahead + j)) (λ j. bit_at (word / 2 ^ ahead) j == 1) 64 agree
     where
-      regroup : (a s : ℕ) → a + (s + 32) ≡ a + s + 32
-      regroup a s = omega arith
-
-  pub run_room : (skip : ℕ) → IsLowest word at skip → word < 2 ^ 64 → IsRun word (at + skip) → length (steps_below step u at) + 32 ≤ marked u 64
-  run_room skip low whole run =
-      let more = steps_below (λ j. step (at + skip + j)) (λ b. true) 32 in
-      let here = ap length (run_steps skip low run) ∙ length-append (steps_below step u at) more in
-      let after = steps_count step u (at + (skip + 32)) in
-      let split : at + (skip + 32) + (64 - (at + (skip + 32))) ≡ 64 = omega (arith, run_inside word (at + skip) whole run) in
-      let all = sym (ap (marked u) split) ∙ marked-append u (at + (skip + 32)) (64 - (at + (skip + 32))) in
-      omega (arith, here, after, all, steps_count (λ j. step (at + skip + j)) (λ b. true) 32)
-
-  pub lowest_room : (skip : ℕ) → IsLowest word at skip → length (steps_below step u at) + 1 ≤ marked u 64
-  lowest_room skip low =
-      let here = ap length (lowest_steps skip low) ∙ length-append (steps_below step u at) (step (at + skip) ∷ []) in
-      let after = steps_count step u (at + (skip + 1)) in
-      let split : at + (skip + 1) + (64 - (at + (skip + 1))) ≡ 64 = omega (arith, low.inside) in
-      let all = sym (ap (marked u) split) ∙ marked-append u (at + (skip + 1)) (64 - (at + (skip + 1))) in
-      omega (arith, here, after, all)
-
-  pub steps_whole : (rest : ℕ) → at ≤ 64 → ((j : ℕ) → bit_at rest j ≡ bit_at word (at + j)) → rest ≡ 0 → steps_below step u at ≡ steps_below step u 64
-  steps_whole rest few left none =
-      let split : at + (64 - at) ≡ 64 = omega (arith, few) in
-      sym (sym (ap (steps_below step u) split) ∙ steps_none step u at (64 - at) (λ t above below.
-      let back : at + (t - at) ≡ t = omega (arith, above) in
-      ap u (sym back) ∙ ap (λ n. n == 1) (sym (left (t - at)) ∙ ap (λ m. bit_at m (t - at)) none ∙ bit_at-zero (t - at))))
-
--- the step that is pushed
-pub pushed : (size row col rotation start at skip place : ℕ) → place ≡ col * size + (start + at + skip + rotation) % size
-    → ◌≡◌ {A = Fix} (record { row = row; lane = start + at + skip; pos = place }) (rotated_step size row col rotation (start + (at + skip)))
-pushed size row col rotation start at skip place is =
-    ap (λ p. record { row = row; lane = start + at + skip; pos = p }) is ∙ ap (rotated_step size row col rotation) (regroup start at skip)
-  where
-    regroup : (a b d : ℕ) → a + b + d ≡ a + (b + d)
-    regroup a b d = omega arith
-
--- the steps of a run, whose positions come one after another
-pub run_pushed : (size row col rotation start at skip pos : ℕ) → pos ≡ col * size + (start + at + skip + rotation) % size → pos + 32 ≤ (col + 1) * size → (j : ℕ) → j < 32
-    → step_after row (start + at + skip) pos j ≡ rotated_step size row col rotation (start + (at + skip + j))
-run_pushed size row col rotation start at skip pos is inside j short =
-    let first = (start + at + skip + rotation) % size in
-    let below : j + first < size = omega (arith, is, inside, short, next col size) in
-    let moved : (start + (at + skip + j) + rotation) % size ≡ j + first =
-    ap (λ s. s % size) (regroup start at skip j rotation) ∙ sym (add-mod-mod j (start + at + skip + rotation) size) ∙ mod_low (j + first) size below in
-    let place : pos + j ≡ col * size + (start + (at + skip + j) + rotation) % size = omega (arith, is, moved) in
-    ap (λ p. record { row = row; lane = start + at + skip + j; pos = p }) place
-    ∙ ap (λ t. record { row = row; lane = t; pos = col * size + (start + (at + skip + j) + rotation) % size }) (back start at skip j)
-  where
-    next : (c z : ℕ) → (c + 1) * z ≡ c * z + z
-    next c z = omega arith
-
-    regroup : (a b s j r : ℕ) → a + (b + s + j) + r ≡ j + (a + b + s + r)
-    regroup a b s j r = omega arith
-
-    back : (a b s j : ℕ) → a + b + s + j ≡ a + (b + s + j)
-    back a b s j = omega arith
+      agree : (j : ℕ) → j < 64 → (bit_at (word / 2 ^ ahead) j == 1) ≡ true → step_after row (start + ahead) pos j ≡ rotated (ahead + j)
+      agree j _ set =
+          let below : start + (ahead + j) < size = inside (ahead + j) (sym (bit_at_shr word ahead j) ∙ eqb-true (bit_at (word / 2 ^ ahead) j) 1 set) in
+          let moved = mod_high (start + (ahead + j) + rotation) size (omega (arith, past)) (omega (arith, small, below)) in
+          let place : pos + j ≡ col * size + (start + (ahead + j) + rotation) % size = omega (arith, is, moved, small, past) in
+          let lane : start + ahead + j ≡ start + (ahead + j) = omega arith in
+          ap (λ p. record { row = row; lane = start + ahead + j; pos = p }) place
+          ∙ ap (λ t. record { row = row; lane = t; pos = col * size + (start + (ahead + j) + rotation) % size }) lane
 
 -- ---- the words of a lane, one after another
 

@@ -1,5 +1,5 @@
 -- Internal: how a row of blocks fixes positions, all its rows at a time.
-use Rattle.std.specs.Prelude.{◌≡◌, ℕ, zero, suc, ◌+◌, ◌*◌, ◌/◌, ◌%◌, ◌==◌, ◌&&◌, ◌||◌, Bool, not, if◌then◌else◌, List, [], ◌∷◌, ◌++◌, length, vec_capacity}
+use Rattle.std.specs.Prelude.{◌≡◌, ℕ, zero, suc, ◌+◌, ◌*◌, ◌/◌, ◌%◌, ◌^◌, ◌==◌, ◌&&◌, ◌||◌, Bool, not, if◌then◌else◌, List, [], ◌∷◌, ◌++◌, length, vec_capacity}
 use Rattle.nr_bitvec.specs.Bit.{bit}
 use Rattle.nr_lifting.specs.Rings.{is_set}
 use Rattle.nr_ldpcenc.specs.Rows.{one_at, unrotate}
@@ -16,6 +16,18 @@ rotated_step z i j rotation t = record { row = i; lane = t; pos = j * z + (t + r
 -- the step of the row b rows after `lane`, which fixes the position as many after `pos`
 abbrev pub step_after : ℕ → ℕ → ℕ → ℕ → Fix
 step_after i lane pos b = record { row = i; lane = lane + b; pos = pos + b }
+
+-- the number of a step: its row of blocks, its row from bit 16 on, and its position from bit 32 on
+abbrev pub step_number : ℕ → ℕ → ℕ → ℕ
+step_number i lane pos = i + lane * 2 ^ 16 + pos * 2 ^ 32
+
+-- the step of a number
+abbrev pub step_of : ℕ → Fix
+step_of n = record { row = n % 2 ^ 16; lane = n / 2 ^ 16 % 2 ^ 16; pos = n / 2 ^ 32 }
+
+-- the step b rows and as many positions after that of a number
+abbrev pub step_along : ℕ → ℕ → Fix
+step_along n b = step_of (n + b * (2 ^ 16 + 2 ^ 32))
 
 -- the steps of those of the first n rows that are marked
 abbrev pub steps_below : (ℕ → Fix) → (ℕ → Bool) → ℕ → List Fix

@@ -6,5 +6,6 @@ pub(crate) mod lowering;
 pub(crate) mod pending_marks;
 pub(crate) mod propagate;
 pub(crate) mod row_counts;
+pub(crate) mod steps;
 pub(crate) mod sweep;
 pub(crate) mod sweep_peeler;

@@ -1,7 +1,6 @@
 //! What is known of a code block, in lanes, and how a row of blocks fixes positions: all its rows at a time.
 
-ghost use Rattle.std.specs.Prelude.{◌≡◌, ◌+◌, ◌*◌, ◌%◌, ◌^◌, ◌<◌, ◌≤◌, ◌++◌, ◌==◌, ℕ, if◌then◌else◌, All, IfOk, count_by, length, slice_index, true, vec_capacity};
-ghost use Rattle.std.specs.Int.{bit_at};
+ghost use Rattle.std.specs.Prelude.{◌≡◌, ◌+◌, ◌*◌, ◌^◌, ◌<◌, ◌≤◌, ◌==◌, ℕ, if◌then◌else◌, All, IfOk, count_by, length, slice_index, vec_capacity};
 ghost use Rattle.nr_bitvec.specs.Bit.{bit};
 ghost use Rattle.nr_bitvec.specs.Packed.{IsClear};
 ghost use Rattle.nr_lifting.specs.Rings.{is_set, marked};
@@ -10,19 +9,19 @@ ghost use Rattle.nr_shifttable.specs.Tails.{value_in};
 ghost use Rattle.nr_ldpcenc.specs.Parity.{parity};
 ghost use Rattle.nr_ldpcenc.specs.Rows.{positions};
 ghost use Rattle.nr_peel.specs.Due.{due_in, work_of};
-ghost use Rattle.nr_peel.specs.Lanes.{TakesLane, hits, lacks, steps_below, step_after, rotated_step};
+ghost use Rattle.nr_peel.specs.Lanes.{TakesLane, hits, lacks};
 ghost use Rattle.nr_peel.specs.Starts.{AreBlank};
 ghost use Rattle.nr_peel.specs.StateInside.{lifted_checks};
 ghost use Rattle.nr_peel.specs.Sweeps.{AreLanes, CountsOf, IsBlockSought, counted_in, has_count};
 
 use crate::bit_parallel::pending_marks::PendingMarks;
 use crate::bit_parallel::row_counts::RowCounts;
+use crate::bit_parallel::steps::push_lane;
 use crate::fix::Fix;
 use crate::lifted::Lifted;
 use nr_lifting::{DoubledLanes, common, lane_count, rotate_lane};
 use nr_shifttable::Entry;
 use std::alloc::{AllocError, Global};
-use std::mem::replace;
 
 // The sum of the bits of each row of a row of blocks, modulo two.
 pub(crate) fn row_sum(bits: &DoubledLanes, lifted: &Lifted<'_>, row: &[Entry]) -> [u64; 6]
@@ -69,95 +68,6 @@ pub(crate) fn lower_column(
     for entry in column {
         let rotation = lifted.rotation(entry);
         counts.lower(usize::from(entry.row), marks, j as usize, rotation as usize);
-    }
-}
-
-// The position of a row in the block of a column that is rotated by `rotation`.
-fn placed(size: u32, col: u16, rotation: u32, lane: u32) -> u32
-    requires lane { lane < size }
-    requires rotation { rotation < size }
-    requires few { size ≤ 384 }
-    ensures { result ≡ col * size + (lane + rotation) % size }
-{
-    let rotated = lane + rotation;
-    let rotated = if rotated < size {
-        rotated
-    } else {
-        rotated - size
-    };
-    u32::from(col) * size + rotated
-}
-
-// Adds the steps of 32 rows of a row of blocks, from row `lane` on, which fix positions from `pos` on. The list is moved
-// out meanwhile and the count is fixed, so that compiled code writes two steps at a time, with no loop.
-fn push_run(order: &mut Vec<Fix>, row: u16, lane: u32, pos: u32)
-    requires few { lane + 32 ≤ 384 }
-    requires fits { pos + 32 ≤ 2 ^ 32 }
-    requires room { length order.old.items + 32 ≤ vec_capacity order.old }
-    ensures steps { order.new.items ≡ order.old.items
-        ++ steps_below (step_after row lane pos) (λ b. true) 32 }
-    ensures capacity { vec_capacity order.new ≡ vec_capacity order.old }
-{
-    let none = Vec::new(*order.allocator());
-    let mut taken = replace(order, none);
-    for b in 0..32u32 {
-        let lane = (lane + b) as u16;
-        let pos = pos + b;
-        taken.push_reserved(Fix { row, lane, pos });
-    }
-    *order = taken;
-}
-
-// Adds the steps of those of 64 rows of an entry's block that a word marks, from row `start` on. Mostly all are marked,
-// so 32 marked rows go at once where their positions stand in a row too, short of the block's end.
-fn push_word(order: &mut Vec<Fix>, entry: &Entry, size: u32, rotation: u32, start: u32, word: u64)
-    requires few { size ≤ 384 }
-    requires rotation { rotation < size }
-    requires inside { (b : ℕ) → bit_at word b ≡ 1 → start + b < size }
-    requires room { length order.old.items + marked (λ b. bit_at word b == 1) 64
-        ≤ vec_capacity order.old }
-    ensures steps { order.new.items ≡ order.old.items
-        ++ steps_below (λ b. rotated_step size entry.now.row entry.now.col rotation (start + b))
-        (λ b. bit_at word b == 1) 64 }
-    ensures capacity { vec_capacity order.new ≡ vec_capacity order.old }
-{
-    let end = (u32::from(entry.col) + 1) * size;
-    let mut rest = word;
-    let mut at = 0;
-    'bits: while rest != 0 {
-        let skip = rest.trailing_zeros();
-        let lane = start + at + skip;
-        let pos = placed(size, entry.col, rotation, lane);
-        if (rest >> skip) % 0x1_0000_0000 == 0xFFFF_FFFF && pos + 32 <= end {
-            push_run(order, entry.row, lane, pos);
-            rest = rest >> skip >> 32;
-            at += skip + 32;
-        } else {
-            let lane = lane as u16;
-            order.push_reserved(Fix {
-                row: entry.row,
-                lane,
-                pos,
-            });
-            rest = rest >> skip >> 1;
-            at += skip + 1;
-        }
-    }
-}
-
-// Adds the steps of those rows of an entry's block that a lane marks.
-fn push_lane(order: &mut Vec<Fix>, entry: &Entry, size: u32, rotation: u32, lane: &[u64; 6])
-    requires few { size ≤ 384 }
-    requires rotation { rotation < size }
-    requires clear { IsClear lane.now size }
-    requires room { length order.old.items + marked (is_set lane.now) size
-        ≤ vec_capacity order.old }
-    ensures steps { order.new.items ≡ order.old.items
-        ++ steps_below (rotated_step size entry.now.row entry.now.col rotation) (is_set lane.now) size }
-    ensures capacity { vec_capacity order.new ≡ vec_capacity order.old }
-{
-    for i in 0..6u32 {
-        push_word(order, entry, size, rotation, 64 * i, lane[i as usize]);
     }
 }
 

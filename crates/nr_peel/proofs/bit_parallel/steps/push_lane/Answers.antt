@@ -1,8 +1,9 @@
 use Rattle.std.proofs.Common.{◌*◌, ◌++◌, length, refl, ap, ◌∙◌, arith, length-append}
+use Rattle.std.specs.Prelude.{vec_capacity}
 use Rattle.nr_lifting.specs.Rings.{is_set}
 use Rattle.nr_peel.specs.Lanes.{steps_below, rotated_step}
 use Rattle.nr_peel.proofs.StepFacts.{join_steps, lane_room, lane_steps, row_inside, word_steps}
-use Rattle.nr_peel.proofs.bit_parallel.lanes.push_lane.Goals as goal
+use Rattle.nr_peel.proofs.bit_parallel.steps.push_lane.Goals as goal
 
 -- a bit of the word is a row
 pub push_word-requires-clause-inside : goal.push_word-requires-clause-inside
@@ -12,8 +13,10 @@ push_word-requires-clause-inside c =
 pub push_word-requires-clause-room : goal.push_word-requires-clause-room
 push_word-requires-clause-room c =
     let step = rotated_step c.args.size c.args.entry.now.row c.args.entry.now.col c.args.rotation in
-    let long = ap length c.loop-i.invariant.steps ∙ length-append c.args.order.now.items (steps_below step (is_set c.args.lane.now) (64 * c.loop-i.i)) in
-    omega (arith, long, c.loop-i.invariant.capacity, c.requires.room, lane_room step c.args.lane.now c.args.size c.requires.clear c.loop-i.i 6 _ refl (omega arith) (omega arith))
+    let was = ap (λ v. length v.items) c.replace-taken.ensures.value in
+    let capacity = ap vec_capacity c.replace-taken.ensures.value in
+    let long = ap length c.loop-i.invariant.steps ∙ length-append c.replace-taken.result.items (steps_below step (is_set c.args.lane.now) (64 * c.loop-i.i)) in
+    omega (arith, was, capacity, long, c.loop-i.invariant.capacity, c.requires.room, lane_room step c.args.lane.now c.args.size c.requires.clear c.loop-i.i 6 _ refl (omega arith) (omega arith))
 
 -- the next word's steps are there
 pub loop-i-preserved : goal.loop-i-preserved
@@ -27,4 +30,8 @@ loop-i-preserved c =
 pub returns-clause-steps : goal.returns-clause-steps
 returns-clause-steps c =
     let step = rotated_step c.args.size c.args.entry.now.row c.args.entry.now.col c.args.rotation in
-    c.loop-i.invariant.steps ∙ ap (λ xs. c.args.order.now.items ++ xs) (lane_steps step c.args.lane.now c.args.size c.requires.clear (64 * c.loop-i.i) (omega (arith, c.requires.few)))
+    c.loop-i.invariant.steps ∙ ap (λ v. v.items ++ steps_below step (is_set c.args.lane.now) (64 * c.loop-i.i)) c.replace-taken.ensures.value
+    ∙ ap (λ xs. c.args.order.now.items ++ xs) (lane_steps step c.args.lane.now c.args.size c.requires.clear (64 * c.loop-i.i) (omega (arith, c.requires.few)))
+
+pub returns-clause-capacity : goal.returns-clause-capacity
+returns-clause-capacity c = c.loop-i.invariant.capacity ∙ ap vec_capacity c.replace-taken.ensures.value

@@ -2,11 +2,11 @@ use Rattle.std.proofs.Common.{◌≡◌, ◌*◌, ◌++◌}
 use Rattle.std.specs.Prelude.{vec_capacity}
 use Rattle.nr_lifting.specs.Rings.{is_set}
 use Rattle.nr_peel.specs.Lanes.{steps_below, rotated_step}
-use Rattle.nr_peel.proofs.bit_parallel.lanes.push_lane.Given as goal
+use Rattle.nr_peel.proofs.bit_parallel.steps.push_lane.Given as goal
 
 -- the steps of the words before word i are there
 abbrev pub invariant-loop-i : goal.invariant-loop-i
 invariant-loop-i l = record {
-  steps : l.order.items ≡ l.initial.order.items ++ steps_below (rotated_step l.size l.entry.row l.entry.col l.rotation) (is_set l.lane) (64 * l.i);
-  capacity : vec_capacity l.order ≡ vec_capacity l.initial.order;
+  steps : l.taken.items ≡ l.initial.taken.items ++ steps_below (rotated_step l.size l.entry.row l.entry.col l.rotation) (is_set l.lane) (64 * l.i);
+  capacity : vec_capacity l.taken ≡ vec_capacity l.initial.taken;
 }
