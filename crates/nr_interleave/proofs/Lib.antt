@@ -1,5 +1,5 @@
 pub mod SeatFacts
 mod BoundedTestFacts
 mod OctetFacts
-mod SpreadTableFacts
+mod SpreadFacts
 mod UnspreadFacts

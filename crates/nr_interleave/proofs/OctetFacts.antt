@@ -6,10 +6,11 @@ use Rattle.std.specs.List.{flat_map, list_any}
 use Rattle.std.proofs.lemmas.Bool.{cases_lt, cases_eq, eqb-true}
 use Rattle.std.proofs.lemmas.Bool.Decides.{nat_tests}
 use Rattle.std.proofs.lemmas.List.Folds.{list_any-append}
+use Rattle.std.proofs.lemmas.Nat.{and_mask}
 use Rattle.std.proofs.lemmas.Nat.Bits.{bit_at-lt, bit_at_and, bit_at_or}
 use Rattle.nr_bitvec.proofs.BitFacts.{bit_at_shr, bit_at_shl_low, bit_at_shl_high, bit_at_mod, bit_at_mod_above}
 use Rattle.nr_interleave.proofs.BoundedTestFacts.{all_under, all_under-at}
-use Rattle.nr_interleave.specs.Octets.{after, apart_from, columns_apart, exchanged_from, Gets, MakesOctets, neither, octets_turned, only_in, raised}
+use Rattle.nr_interleave.specs.Octets.{after, apart_from, columns_apart, columns_together, exchanged_from, Gets, MakesColumns, MakesOctets, neither, octets_back, octets_turned, only_in, raised, together_from}
 use Rattle.nr_interleave.specs.declared.octets.TheConstants.{OF_2, OF_4, OF_6, OF_8}
 
 -- ---- masks, tested
@@ -47,6 +48,28 @@ of-6 = octets-from 6 OF_6 refl
 pub of-8 : MakesOctets 8 OF_8
 unfolding all_under is_only
 of-8 = octets-from 8 OF_8 refl
+
+columns-from : (qm : ℕ) (masks : List ℕ) → all_under 8 (λ c. all_under qm (λ r. is_only (8 * r + c) (columns_together qm masks octets_back (c * qm + r)))) ≡ true → MakesColumns qm masks
+columns-from qm masks tested c r column row =
+    only-is (8 * r + c) (columns_together qm masks octets_back (c * qm + r))
+    (all_under-at qm (λ r. is_only (8 * r + c) (columns_together qm masks octets_back (c * qm + r)))
+    (all_under-at 8 (λ c. all_under qm (λ r. is_only (8 * r + c) (columns_together qm masks octets_back (c * qm + r)))) tested c column) r row)
+
+pub back-2 : MakesColumns 2 OF_2
+unfolding all_under is_only
+back-2 = columns-from 2 OF_2 refl
+
+pub back-4 : MakesColumns 4 OF_4
+unfolding all_under is_only
+back-4 = columns-from 4 OF_4 refl
+
+pub back-6 : MakesColumns 6 OF_6
+unfolding all_under is_only
+back-6 = columns-from 6 OF_6 refl
+
+pub back-8 : MakesColumns 8 OF_8
+unfolding all_under is_only
+back-8 = columns-from 8 OF_8 refl
 
 -- ---- what comes to a place
 
@@ -109,6 +132,14 @@ apart-gets x mask lane by few p =
     ∙ ap (λ b. list_any test (only_in mask p p) || b) (moved-up x mask lane by p few)
     ∙ sym (list_any-append test (only_in mask p p) (only_in (raised mask lane) p (p - by)))
 
+pub together-gets : (x mask lane by : ℕ) → Gets (together_from mask lane by) x (bit_or (bit_and x mask) (bit_and (x / 2 ^ by) (mask * 2 ^ (lane - by) % 2 ^ 64)))
+together-gets x mask lane by p =
+    let test : ℕ → Bool = λ k. bit_at x k == 1 in
+    or-one (bit_and x mask) (bit_and (x / 2 ^ by) (raised mask (lane - by))) p
+    ∙ ap (λ b. b || (bit_at (bit_and (x / 2 ^ by) (raised mask (lane - by))) p == 1)) (in-mask x x mask p p (λ mark. refl))
+    ∙ ap (λ b. list_any test (only_in mask p p) || b) (in-mask x (x / 2 ^ by) (raised mask (lane - by)) p (by + p) (λ mark. bit_at_shr x by p))
+    ∙ sym (list_any-append test (only_in mask p p) (only_in (raised mask (lane - by)) p (by + p)))
+
 pub exchanged-gets : (x mask by : ℕ) → Gets (exchanged_from mask by) x
     (bit_or (bit_or (bit_and x (neither mask (raised mask by))) (bit_and (x * 2 ^ by % 2 ^ 64) (raised mask by))) (bit_and (x / 2 ^ by) mask))
 exchanged-gets x mask by p =
@@ -139,6 +170,58 @@ then-gets later earlier x w v first second p = second p ∙ through earlier x w 
 -- a place to which one bit comes
 pub only-comes : (come : ℕ → List ℕ) (x w p k : ℕ) → Gets come x w → come p ≡ k ∷ [] → (bit_at w p == 1) ≡ (bit_at x k == 1)
 only-comes come x w p k gets only = gets p ∙ ap (list_any (λ k. bit_at x k == 1)) only ∙ sym (one-any (bit_at x k == 1))
+
+-- ---- octets of words
+
+-- an octet of a word
+abbrev octet : ℕ → ℕ → ℕ
+octet w at = bit_and (w / 2 ^ (8 * at)) 255
+
+octet-low : (w at j : ℕ) → j < 8 → bit_at (octet w at) j ≡ bit_at w (8 * at + j)
+octet-low w at j below =
+    ap (λ n. bit_at n j) (and_mask (w / 2 ^ (8 * at)) 8) ∙ bit_at_mod (w / 2 ^ (8 * at)) 8 j below ∙ bit_at_shr w (8 * at) j
+
+octet-high : (w at j : ℕ) → 8 ≤ j → bit_at (octet w at) j ≡ 0
+octet-high w at j past =
+    ap (λ n. bit_at n j) (and_mask (w / 2 ^ (8 * at)) 8) ∙ bit_at_mod_above (w / 2 ^ (8 * at)) 8 j past
+
+-- an octet more, of the next word
+module _ (words : List ℕ) (at i word : ℕ) (inside : i < 8)
+    (before : (j : ℕ) → j < 8 * i → bit_at word j ≡ bit_at (get_or words (j / 8) 0) (8 * at + j % 8))
+    (none : (j : ℕ) → 8 * i ≤ j → bit_at word j ≡ 0) where
+  both : (e j : ℕ) → bit_at (bit_or word (e * 2 ^ (8 * i) % 2 ^ 64)) j ≡ max (bit_at word j) (bit_at (e * 2 ^ (8 * i) % 2 ^ 64) j)
+  both e j = bit_at_or word (e * 2 ^ (8 * i) % 2 ^ 64) j
+
+  pub octet-more : (j : ℕ) → j < 8 * (i + 1)
+      → bit_at (bit_or word (octet (get_or words i 0) at * 2 ^ (8 * i) % 2 ^ 64)) j ≡ bit_at (get_or words (j / 8) 0) (8 * at + j % 8)
+  octet-more j below =
+      let e : ℕ = octet (get_or words i 0) at in
+      elim (cases_lt j (8 * i)) [
+        | inl first ↦
+            let nothing : bit_at (e * 2 ^ (8 * i) % 2 ^ 64) j ≡ 0 =
+            bit_at_mod (e * 2 ^ (8 * i)) 64 j (omega (arith, first, inside)) ∙ bit_at_shl_low e (8 * i) j first in
+            let same : bit_at (bit_or word (e * 2 ^ (8 * i) % 2 ^ 64)) j ≡ bit_at word j = omega (arith, both e j, nothing) in
+            same ∙ before j first
+        | inr later ↦
+            let here : j / 8 ≡ i = omega (arith, later, below) in
+            let place : 8 * at + (j - 8 * i) ≡ 8 * at + j % 8 = omega (arith, later, below) in
+            let moved : bit_at (e * 2 ^ (8 * i) % 2 ^ 64) j ≡ bit_at e (j - 8 * i) =
+            bit_at_mod (e * 2 ^ (8 * i)) 64 j (omega (arith, below, inside)) ∙ bit_at_shl_high e (8 * i) j later in
+            let same : bit_at (bit_or word (e * 2 ^ (8 * i) % 2 ^ 64)) j ≡ bit_at e (j - 8 * i) = omega (arith, both e j, moved, none j later) in
+            same ∙ octet-low (get_or words i 0) at (j - 8 * i) (omega (arith, later, below))
+            ∙ ap (bit_at (get_or words i 0)) place ∙ ap (λ k. bit_at (get_or words k 0) (8 * at + j % 8)) (sym here)
+      ]
+
+  pub octet-none : (j : ℕ) → 8 * (i + 1) ≤ j → bit_at (bit_or word (octet (get_or words i 0) at * 2 ^ (8 * i) % 2 ^ 64)) j ≡ 0
+  octet-none j past =
+      let e : ℕ = octet (get_or words i 0) at in
+      let nothing : bit_at (e * 2 ^ (8 * i) % 2 ^ 64) j ≡ 0 = elim (cases_lt j 64) [
+        | inl short ↦
+            bit_at_mod (e * 2 ^ (8 * i)) 64 j short ∙ bit_at_shl_high e (8 * i) j (omega (arith, past))
+            ∙ octet-high (get_or words i 0) at (j - 8 * i) (omega (arith, past))
+        | inr long ↦ bit_at_mod_above (e * 2 ^ (8 * i)) 64 j long
+      ] in
+      omega (arith, both e j, nothing, none j (omega (arith, past)))
 
 -- ---- lists of words
 

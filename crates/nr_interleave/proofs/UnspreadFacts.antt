@@ -1,92 +1,14 @@
--- Rows of words, and rows that are put one after another.
-use Rattle.std.proofs.Common.{◌≡◌, ℕ, ◌+◌, ◌-◌, ◌*◌, ◌/◌, ◌%◌, ◌^◌, ◌<◌, ◌≤◌, inl, inr, min, max, Bool, false, List, [], ◌++◌, length, get_or, map, take, drop, sym, ap, ◌∙◌, arith, length-take, length-drop, get_or-take, get_or-drop}
-use Rattle.std.specs.Int.{bit_at}
-use Rattle.std.specs.Int.RustNames.{bit_and, bit_or}
+-- Rows of a list that are put one after another.
+use Rattle.std.proofs.Common.{◌≡◌, ℕ, ◌+◌, ◌*◌, ◌/◌, ◌%◌, ◌<◌, ◌≤◌, min, Bool, false, List, [], ◌++◌, length, map, take, drop, sym, ap, ◌∙◌, arith, length-take, length-drop, get_or-take, get_or-drop}
 use Rattle.std.specs.List.{range_with_len}
 use Rattle.std.proofs.Math.Nat.{div-add-mod, mod-lt, mul_comm, mul-le-mul_right}
-use Rattle.std.proofs.lemmas.Bool.{cases_lt}
 use Rattle.std.proofs.lemmas.List.FromFn.{length-map-range_with_len, get_or-map-range_with_len}
-use Rattle.std.proofs.lemmas.Nat.{and_mask, div-mul-add, mod-mul-add}
-use Rattle.std.proofs.lemmas.Nat.Bits.{bit_at_or}
-use Rattle.nr_bitvec.proofs.BitFacts.{bit_at_shr, bit_at_shl_low, bit_at_shl_high, bit_at_mod, bit_at_mod_above}
+use Rattle.std.proofs.lemmas.Nat.{div-mul-add, mod-mul-add}
 use Rattle.nr_bitvec.proofs.PlaceFacts.{same_from_bits}
 use Rattle.nr_bitvec.specs.Bit.{bit}
 use Rattle.nr_interleave.proofs.SeatFacts.{column-below, columns-some, row-below, seat-inside}
 use Rattle.nr_interleave.specs.Interleaving.{seat_of, interleaved}
 use Rattle.nr_interleave.specs.Unspreading.{row_by_row}
-
--- ---- the octets of a row
-
--- an octet of a word
-octet_of : ℕ → ℕ → ℕ
-octet_of w row = bit_and (w / 2 ^ (8 * row)) 255
-
-octet-low : (w row j : ℕ) → j < 8 → bit_at (octet_of w row) j ≡ bit_at w (8 * row + j)
-unfolding octet_of
-octet-low w row j below =
-    ap (λ n. bit_at n j) (and_mask (w / 2 ^ (8 * row)) 8) ∙ bit_at_mod (w / 2 ^ (8 * row)) 8 j below ∙ bit_at_shr w (8 * row) j
-
-octet-high : (w row j : ℕ) → 8 ≤ j → bit_at (octet_of w row) j ≡ 0
-unfolding octet_of
-octet-high w row j past =
-    ap (λ n. bit_at n j) (and_mask (w / 2 ^ (8 * row)) 8) ∙ bit_at_mod_above (w / 2 ^ (8 * row)) 8 j past
-
--- an octet more of a row
-module _ (octets : List ℕ) (row eight word : ℕ) (inside : eight < 8)
-    (before : (j : ℕ) → j < 8 * eight → bit_at word j ≡ bit_at (get_or octets (j / 8) 0) (8 * row + j % 8))
-    (none : (j : ℕ) → 8 * eight ≤ j → bit_at word j ≡ 0) where
-  e : ℕ
-  e = octet_of (get_or octets eight 0) row
-
-  both : (j : ℕ) → bit_at (bit_or word (e * 2 ^ (8 * eight) % 2 ^ 64)) j ≡ max (bit_at word j) (bit_at (e * 2 ^ (8 * eight) % 2 ^ 64) j)
-  both j = bit_at_or word (e * 2 ^ (8 * eight) % 2 ^ 64) j
-
-  more : (j : ℕ) → j < 8 * (eight + 1) → bit_at (bit_or word (e * 2 ^ (8 * eight) % 2 ^ 64)) j ≡ bit_at (get_or octets (j / 8) 0) (8 * row + j % 8)
-  unfolding e
-  more j below = elim (cases_lt j (8 * eight)) [
-    | inl first ↦
-        let nothing : bit_at (e * 2 ^ (8 * eight) % 2 ^ 64) j ≡ 0 =
-        bit_at_mod (e * 2 ^ (8 * eight)) 64 j (omega (arith, first, inside)) ∙ bit_at_shl_low e (8 * eight) j first in
-        let same : bit_at (bit_or word (e * 2 ^ (8 * eight) % 2 ^ 64)) j ≡ bit_at word j = omega (arith, both j, nothing) in
-        same ∙ before j first
-    | inr later ↦
-        let here : j / 8 ≡ eight = omega (arith, later, below) in
-        let place : 8 * row + (j - 8 * eight) ≡ 8 * row + j % 8 = omega (arith, later, below) in
-        let moved : bit_at (e * 2 ^ (8 * eight) % 2 ^ 64) j ≡ bit_at e (j - 8 * eight) =
-        bit_at_mod (e * 2 ^ (8 * eight)) 64 j (omega (arith, below, inside)) ∙ bit_at_shl_high e (8 * eight) j later in
-        let same : bit_at (bit_or word (e * 2 ^ (8 * eight) % 2 ^ 64)) j ≡ bit_at e (j - 8 * eight) = omega (arith, both j, moved, none j later) in
-        same ∙ octet-low (get_or octets eight 0) row (j - 8 * eight) (omega (arith, later, below))
-        ∙ ap (bit_at (get_or octets eight 0)) place ∙ ap (λ k. bit_at (get_or octets k 0) (8 * row + j % 8)) (sym here)
-  ]
-
-  nothing-more : (j : ℕ) → 8 * (eight + 1) ≤ j → bit_at (bit_or word (e * 2 ^ (8 * eight) % 2 ^ 64)) j ≡ 0
-  unfolding e
-  nothing-more j past =
-      let nothing : bit_at (e * 2 ^ (8 * eight) % 2 ^ 64) j ≡ 0 = elim (cases_lt j 64) [
-        | inl short ↦
-            bit_at_mod (e * 2 ^ (8 * eight)) 64 j short ∙ bit_at_shl_high e (8 * eight) j (omega (arith, past))
-            ∙ octet-high (get_or octets eight 0) row (j - 8 * eight) (omega (arith, past))
-        | inr long ↦ bit_at_mod_above (e * 2 ^ (8 * eight)) 64 j long
-      ] in
-      omega (arith, both j, nothing, none j (omega (arith, past)))
-
-pub octet-more : (octets : List ℕ) (row eight word : ℕ) → eight < 8
-    → ((j : ℕ) → j < 8 * eight → bit_at word j ≡ bit_at (get_or octets (j / 8) 0) (8 * row + j % 8))
-    → ((j : ℕ) → 8 * eight ≤ j → bit_at word j ≡ 0)
-    → (j : ℕ) → j < 8 * (eight + 1)
-    → bit_at (bit_or word (bit_and (get_or octets eight 0 / 2 ^ (8 * row)) 255 * 2 ^ (8 * eight) % 2 ^ 64)) j ≡ bit_at (get_or octets (j / 8) 0) (8 * row + j % 8)
-unfolding octet_of e
-octet-more octets row eight word inside before none j below = more octets row eight word inside before none j below
-
-pub octet-none : (octets : List ℕ) (row eight word : ℕ) → eight < 8
-    → ((j : ℕ) → j < 8 * eight → bit_at word j ≡ bit_at (get_or octets (j / 8) 0) (8 * row + j % 8))
-    → ((j : ℕ) → 8 * eight ≤ j → bit_at word j ≡ 0)
-    → (j : ℕ) → 8 * (eight + 1) ≤ j
-    → bit_at (bit_or word (bit_and (get_or octets eight 0 / 2 ^ (8 * row)) 255 * 2 ^ (8 * eight) % 2 ^ 64)) j ≡ 0
-unfolding octet_of e
-octet-none octets row eight word inside before none j past = nothing-more octets row eight word inside before none j past
-
--- ---- rows of a list
 
 -- a place of a row before another row's column
 pub place-before : (columns r row k column : ℕ) → r ≤ row → k < column → r * columns + k < row * columns + column

@@ -23,6 +23,10 @@ only_in mask p k = if bit_at mask p == 1 then k ∷ [] else []
 abbrev pub apart_from : ℕ → ℕ → ℕ → ℕ → List ℕ
 apart_from mask lane by p = only_in mask p p ++ only_in (raised mask lane) p (p - by)
 
+-- a mask's places stay, and those up to `lane` above them are filled from `by` above
+abbrev pub together_from : ℕ → ℕ → ℕ → ℕ → List ℕ
+together_from mask lane by p = only_in mask p p ++ only_in (raised mask (lane - by)) p (by + p)
+
 -- the places that are in none of two masks
 abbrev pub neither : ℕ → ℕ → ℕ
 neither a b = 2 ^ 64 - 1 - bit_or a b
@@ -44,3 +48,17 @@ octets_turned earlier =
 -- masks that make octets of the rows of eight columns
 abbrev pub MakesOctets : ℕ → List ℕ → Type 0
 MakesOctets qm masks = (r c : ℕ) → r < qm → c < 8 → octets_turned (columns_apart qm masks) (8 * r + c) ≡ (qm * c + r) ∷ []
+
+-- eight rows of bits are exchanged with eight octets
+abbrev pub octets_back : ℕ → List ℕ
+octets_back =
+    after (exchanged_from 0x00aa00aa00aa00aa 7) (after (exchanged_from 0x0000cccc0000cccc 14) (exchanged_from 0x00000000f0f0f0f0 28))
+
+-- eight columns of qm places are moved together from octets
+abbrev pub columns_together : ℕ → List ℕ → (ℕ → List ℕ) → ℕ → List ℕ
+columns_together qm masks earlier =
+    after (together_from (slice_index_or masks 0 0) 32 (32 - 4 * qm)) (after (together_from (slice_index_or masks 1 0) 16 (16 - 2 * qm)) (after (together_from (slice_index_or masks 2 0) 8 (8 - qm)) earlier))
+
+-- masks that make columns of the octets of their rows
+abbrev pub MakesColumns : ℕ → List ℕ → Type 0
+MakesColumns qm masks = (c r : ℕ) → c < 8 → r < qm → columns_together qm masks octets_back (c * qm + r) ≡ (8 * r + c) ∷ []

@@ -15,7 +15,7 @@ mod columns;
 mod octets;
 mod rows;
 
-use columns::{BY_2, BY_4, BY_6, BY_8, by_columns};
+use columns::by_columns;
 use nr_bitvec::Bits;
 use octets::{OF_2, OF_4, OF_6, OF_8};
 use rows::{by_rows, by_seats};
@@ -60,10 +60,10 @@ pub fn spread_onto(qm: u32, bits: &Bits, spread: &mut Bits)
 {
     match qm {
         1 => spread.extend_range(bits, 0, bits.len()),
-        2 => by_columns::<2, 8>(&BY_2, bits, spread),
-        4 => by_columns::<4, 4>(&BY_4, bits, spread),
-        6 => by_columns::<6, 2>(&BY_6, bits, spread),
-        8 => by_columns::<8, 2>(&BY_8, bits, spread),
+        2 => by_columns::<2>(&OF_2, bits, spread),
+        4 => by_columns::<4>(&OF_4, bits, spread),
+        6 => by_columns::<6>(&OF_6, bits, spread),
+        8 => by_columns::<8>(&OF_8, bits, spread),
         _ => by_places(qm, bits, spread),
     }
 }

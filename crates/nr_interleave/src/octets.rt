@@ -1,8 +1,8 @@
-//! Eight columns of a matrix that stand in a word one after the other, as octets of its rows.
+//! Eight columns of a matrix that stand in a word one after the other, as octets of its rows, and back.
 
-ghost use Rattle.std.specs.Prelude.{◌≡◌, ℕ, ◌+◌, ◌*◌, ◌<◌, ◌≤◌, ◌==◌, slice_index_or};
+ghost use Rattle.std.specs.Prelude.{◌≡◌, ℕ, ◌+◌, ◌*◌, ◌<◌, ◌≤◌, ◌==◌, ◌/◌, ◌%◌, slice_index_or};
 ghost use Rattle.std.specs.Int.{bit_at};
-ghost use Rattle.nr_interleave.specs.Octets.{apart_from, exchanged_from, Gets, MakesOctets};
+ghost use Rattle.nr_interleave.specs.Octets.{apart_from, exchanged_from, together_from, Gets, MakesColumns, MakesOctets};
 
 // Masks of the columns that stay where they are, while the others move apart. They are those of the first four columns,
 // of the first two of each four, and of the first of each two.
@@ -21,6 +21,15 @@ fn apart(word: u64, mask: u64, lane: usize, by: usize) -> u64
     ensures { Gets (apart_from mask lane by) word result }
 {
     word & mask | word << by & mask << lane
+}
+
+// Keeps the places of a mask, and fills those behind them from the places that stand `by` higher: what `apart` undoes.
+fn together(word: u64, mask: u64, lane: usize, by: usize) -> u64
+    requires lane { lane < 64 }
+    requires by { by ≤ lane }
+    ensures { Gets (together_from mask lane by) word result }
+{
+    word & mask | word >> by & mask << (lane - by)
 }
 
 // The places of a mask, and those `by` above them, in each other's place.
@@ -44,4 +53,33 @@ pub(crate) fn row_octets<const QM: usize>(masks: &[u64; 3], word: u64) -> u64
     let pairs = exchanged(columns, 0x00aa_00aa_00aa_00aa, 7);
     let fours = exchanged(pairs, 0x0000_cccc_0000_cccc, 14);
     exchanged(fours, 0x0000_0000_f0f0_f0f0, 28)
+}
+
+// Octets of eight columns' rows as the columns, of `QM` places each: what `row_octets` undoes.
+pub(crate) fn column_word<const QM: usize>(masks: &[u64; 3], octets: u64) -> u64
+    requires few { QM ≤ 8 }
+    requires columns { MakesColumns QM masks.now }
+    ensures { (c r : ℕ) → c < 8 → r < QM
+        → (bit_at result (c * QM + r) == 1) ≡ (bit_at octets (8 * r + c) == 1) }
+{
+    let fours = exchanged(octets, 0x0000_0000_f0f0_f0f0, 28);
+    let pairs = exchanged(fours, 0x0000_cccc_0000_cccc, 14);
+    let columns = exchanged(pairs, 0x00aa_00aa_00aa_00aa, 7);
+    let quarters = together(columns, masks[2], 8, 8 - QM);
+    let halves = together(quarters, masks[1], 16, 16 - 2 * QM);
+    together(halves, masks[0], 32, 32 - 4 * QM)
+}
+
+// Octet `at` of each word, that of the first word lowest.
+pub(crate) fn octets_at<const N: usize>(words: &[u64; N], at: usize) -> u64
+    requires few { N ≤ 8 }
+    requires at { at < 8 }
+    ensures { (j : ℕ) → j < 8 * N
+        → bit_at result j ≡ bit_at (slice_index_or words.now (j / 8) 0) (8 * at + j % 8) }
+{
+    let mut octets = 0;
+    for i in 0..N {
+        octets |= (words[i] >> (8 * at) & 255) << (8 * i);
+    }
+    octets
 }

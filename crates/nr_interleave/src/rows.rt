@@ -6,7 +6,7 @@ ghost use Rattle.nr_bitvec.specs.Bit.{bit};
 ghost use Rattle.nr_interleave.specs.Octets.{MakesOctets};
 ghost use Rattle.nr_interleave.specs.Unspreading.{HasOctets, row_by_row};
 
-use crate::octets::row_octets;
+use crate::octets::{octets_at, row_octets};
 use nr_bitvec::Bits;
 
 // 64 columns of the matrix, from bit `from` of a list on. Each word has eight of them, as octets of their rows. The list
@@ -29,19 +29,6 @@ fn column_octets<const QM: usize>(masks: &[u64; 3], bits: &Bits, from: usize) ->
     octets
 }
 
-// The octets of a row, one of each word, the first lowest.
-fn row_word(octets: &[u64; 8], row: usize) -> u64
-    requires { row < 8 }
-    ensures { (j : ℕ) → j < 64
-        → bit_at result j ≡ bit_at (slice_index_or octets.now (j / 8) 0) (8 * row + j % 8) }
-{
-    let mut word = 0;
-    for eight in 0..8 {
-        word |= (octets[eight] >> (8 * row) & 255) << (8 * eight);
-    }
-    word
-}
-
 // The rows of 64 columns, from bit `from` of a list on. They are stored too, so that two octets move at once.
 #[inline(never)]
 fn row_words<const QM: usize>(masks: &[u64; 3], bits: &Bits, from: usize) -> [u64; QM]
@@ -54,7 +41,7 @@ fn row_words<const QM: usize>(masks: &[u64; 3], bits: &Bits, from: usize) -> [u6
     let octets = column_octets::<QM>(masks, bits, from);
     let mut rows = [0; QM];
     for row in 0..QM {
-        rows[row] = row_word(&octets, row);
+        rows[row] = octets_at(&octets, row);
     }
     rows
 }

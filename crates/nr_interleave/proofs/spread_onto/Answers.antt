@@ -1,19 +1,20 @@
 use Rattle.std.proofs.Common.{◌≡◌, ◌++◌, ◌∙◌, take, drop, ap, arith}
 use Rattle.nr_interleave.specs.Interleaving.{interleaved}
-use Rattle.nr_interleave.proofs.SpreadTableFacts.{by-2, by-4, by-6, by-8, one-row}
+use Rattle.nr_interleave.proofs.OctetFacts.{back-2, back-4, back-6, back-8}
+use Rattle.nr_interleave.proofs.SpreadFacts.{one-row}
 use Rattle.nr_interleave.proofs.spread_onto.Goals as goal
 
-pub by_columns-requires-clause-spreads : goal.by_columns-requires-clause-spreads
-by_columns-requires-clause-spreads c = by-2
+pub by_columns-requires-clause-masks : goal.by_columns-requires-clause-masks
+by_columns-requires-clause-masks c = back-2
 
-pub by_columns-requires-in-4-clause-spreads : goal.by_columns-requires-in-4-clause-spreads
-by_columns-requires-in-4-clause-spreads c = by-4
+pub by_columns-requires-in-4-clause-masks : goal.by_columns-requires-in-4-clause-masks
+by_columns-requires-in-4-clause-masks c = back-4
 
-pub by_columns-requires-in-6-clause-spreads : goal.by_columns-requires-in-6-clause-spreads
-by_columns-requires-in-6-clause-spreads c = by-6
+pub by_columns-requires-in-6-clause-masks : goal.by_columns-requires-in-6-clause-masks
+by_columns-requires-in-6-clause-masks c = back-6
 
-pub by_columns-requires-in-8-clause-spreads : goal.by_columns-requires-in-8-clause-spreads
-by_columns-requires-in-8-clause-spreads c = by-8
+pub by_columns-requires-in-8-clause-masks : goal.by_columns-requires-in-8-clause-masks
+by_columns-requires-in-8-clause-masks c = back-8
 
 pub returns-in-1-clause-items : goal.returns-in-1-clause-items
 returns-in-1-clause-items c =

@@ -4,7 +4,7 @@ use Rattle.nr_interleave.specs.Interleaving.{interleaved}
 use Rattle.nr_interleave.specs.Unspreading.{row_by_row}
 use Rattle.nr_interleave.proofs.OctetFacts.{of-2, of-4, of-6, of-8}
 use Rattle.nr_interleave.proofs.UnspreadFacts.{rows-many, rows-unspread}
-use Rattle.nr_interleave.proofs.SpreadTableFacts.{one-row}
+use Rattle.nr_interleave.proofs.SpreadFacts.{one-row}
 use Rattle.nr_interleave.proofs.unspread_into.Goals as goal
 
 pub by_rows-requires-clause-octets : goal.by_rows-requires-clause-octets

@@ -11,11 +11,11 @@ loop-row-preserved g c =
     let row = c.loop-row.row in
     record {
       read = each-more (λ r w. (j : ℕ) → j < 64 → (bit_at w j == 1) ≡ bit bits (c.args.from + (g.row.QM * j + r)))
-          c.loop-row.rows row c.row_word.result (omega (arith, c.loop-row-test.true, c.loop-row.invariant.long))
+          c.loop-row.rows row c.octets_at.result (omega (arith, c.loop-row-test.true, c.loop-row.invariant.long))
           (λ j below.
-          ap (λ b. b == 1) (c.row_word.ensures j below)
+          ap (λ b. b == 1) (c.octets_at.ensures j below)
           ∙ c.column_octets-octets.ensures (j / 8) row (j % 8) (omega (arith, below)) (omega (arith, c.loop-row-test.true)) (omega arith)
           ∙ ap (λ n. bit bits (c.args.from + (g.row.QM * n + row))) (div-add-mod j 8))
           c.loop-row.invariant.read;
-      long = length-set c.loop-row.rows row c.row_word.result ∙ c.loop-row.invariant.long;
+      long = length-set c.loop-row.rows row c.octets_at.result ∙ c.loop-row.invariant.long;
     }

@@ -1,0 +1,68 @@
+-- Columns of the matrix, put one after another.
+use Rattle.std.proofs.Common.{◌≡◌, ℕ, ◌+◌, ◌*◌, ◌/◌, ◌%◌, ◌<◌, ◌≤◌, ◌==◌, Bool, false, List, length, map, take, drop, sym, ap, ◌∙◌, arith, length-take, length-drop, get_or-take, get_or-drop}
+use Rattle.std.proofs.Math.Nat.{mul-le-mul_left, div-add-mod, div-lt_iff_lt-mul, mod-lt}
+use Rattle.std.proofs.lemmas.List.{take_all}
+use Rattle.std.proofs.lemmas.List.FromFn.{length-map-range_with_len, get_or-map-range_with_len}
+use Rattle.std.proofs.lemmas.Nat.{div-mul-add, mod-mul-add}
+use Rattle.std.specs.Int.{bit_at}
+use Rattle.std.specs.List.{range_with_len}
+use Rattle.nr_bitvec.proofs.PackedListFacts.{length-low_first, bit-low_first}
+use Rattle.nr_bitvec.proofs.PlaceFacts.{same_from_bits}
+use Rattle.nr_bitvec.specs.Bit.{bit}
+use Rattle.nr_bitvec.specs.BitList.{low_first}
+use Rattle.nr_interleave.proofs.SeatFacts.{whole-is}
+use Rattle.nr_interleave.specs.Interleaving.{seat_of, interleaved}
+
+-- columns of the matrix are a part of the interleaved bits
+pub columns-word : (xs : List Bool) (qm wide columns column n word : ℕ) → 0 < qm → length xs % qm ≡ 0 → columns ≡ length xs / qm → n ≤ wide → column + n ≤ columns
+    → ((s r : ℕ) → s < wide → r < qm → (bit_at word (s * qm + r) == 1) ≡ bit xs (r * columns + column + s)) → low_first (qm * n) word ≡ take (qm * n) (drop (qm * column) (interleaved qm xs))
+unfolding interleaved
+columns-word xs qm wide columns column n word some whole e few inside reads =
+    let placed : ℕ → Bool = λ m. bit xs (seat_of qm (length xs) m) in
+    let ys : List Bool = map placed (range_with_len 0 (length xs)) in
+    let long : length (map placed (range_with_len 0 (length xs))) ≡ length xs = length-map-range_with_len placed 0 (length xs) in
+    let all : qm * (length xs / qm) ≡ length xs = whole-is qm (length xs) whole in
+    let part : qm * (column + n) ≤ qm * (length xs / qm) = mul-le-mul_left qm (omega (arith, inside, e)) in
+    same_from_bits (low_first (qm * n) word) (take (qm * n) (drop (qm * column) ys))
+    (omega (arith, length-low_first (qm * n) word, length-take (qm * n) (drop (qm * column) ys), length-drop (qm * column) ys, long, all, part))
+    (λ t h.
+    let below : t < qm * n = omega (arith, h, length-low_first (qm * n) word) in
+    let row : t % qm < qm = mod-lt t some in
+    let split : t ≡ t / qm * qm + t % qm = omega (arith, div-add-mod t qm) in
+    let turned : t < n * qm = omega (arith, below) in
+    let column_in : t / qm < n = (div-lt_iff_lt-mul some).1 turned in
+    let m : qm * column + t ≡ (column + t / qm) * qm + t % qm = omega (arith, split) in
+    let row_of : (qm * column + t) % qm ≡ t % qm = ap (λ k. k % qm) m ∙ mod-mul-add (column + t / qm) qm (t % qm) row in
+    let column_of : (qm * column + t) / qm ≡ column + t / qm = ap (λ k. k / qm) m ∙ div-mul-add (column + t / qm) qm (t % qm) row in
+    let seat : seat_of qm (length xs) (qm * column + t) ≡ t % qm * columns + column + t / qm =
+    ap (λ k. k * (length xs / qm) + (qm * column + t) / qm) row_of ∙ ap (λ k. t % qm * (length xs / qm) + k) column_of ∙ ap (λ k. t % qm * k + (column + t / qm)) (sym e) ∙ omega arith in
+    bit-low_first (qm * n) word t below ∙ ap (λ k. bit_at word k == 1) split ∙ reads (t / qm) (t % qm) (omega (arith, column_in, few)) row ∙ ap (bit xs) (sym seat)
+    ∙ sym (get_or-take (qm * n) (drop (qm * column) ys) t false below ∙ get_or-drop (qm * column) ys t false
+    ∙ get_or-map-range_with_len placed 0 (length xs) (qm * column + t) (qm * column + t) false (omega (arith, below, all, part)) (omega arith)))
+
+-- all columns are all bits
+pub columns-all : (xs : List Bool) (qm n : ℕ) → length xs % qm ≡ 0 → n ≡ length xs / qm → take (qm * n) (interleaved qm xs) ≡ interleaved qm xs
+unfolding interleaved
+columns-all xs qm n whole e =
+    let placed : ℕ → Bool = λ m. bit xs (seat_of qm (length xs) m) in
+    let all : qm * n ≡ length xs = ap (λ k. qm * k) e ∙ whole-is qm (length xs) whole in
+    take_all (qm * n) (map placed (range_with_len 0 (length xs))) (omega (arith, all, length-map-range_with_len placed 0 (length xs)))
+
+-- one row stays as it is
+pub one-row : (xs : List Bool) → take (length xs) (drop 0 xs) ≡ interleaved 1 xs
+unfolding interleaved
+one-row xs =
+    let placed : ℕ → Bool = λ m. bit xs (seat_of 1 (length xs) m) in
+    let long : length (map placed (range_with_len 0 (length xs))) ≡ length xs = length-map-range_with_len placed 0 (length xs) in
+    take_all (length xs) xs (omega arith) ∙ same_from_bits xs (map placed (range_with_len 0 (length xs))) (sym long)
+    (λ t h.
+    let none : t % 1 ≡ 0 = omega arith in
+    let row : t % 1 * (length xs / 1) ≡ 0 = ap (λ k. k * (length xs / 1)) none ∙ omega arith in
+    let seat : seat_of 1 (length xs) t ≡ t = omega (arith, row) in
+    ap (bit xs) (sym seat) ∙ sym (get_or-map-range_with_len placed 0 (length xs) t t false h (omega arith)))
+
+-- columns have room among all bits
+pub columns-inside : (long qm column n : ℕ) → long % qm ≡ 0 → column + n ≤ long / qm → qm * column + qm * n ≤ long
+columns-inside long qm column n whole inside =
+    let part : qm * (column + n) ≤ qm * (long / qm) = mul-le-mul_left qm inside in
+    omega (arith, part, whole-is qm long whole)
