@@ -174,7 +174,7 @@ module _ (z count w : ℕ) where
   abbrev zeros : List (List ℕ)
   zeros = replicate count (replicate {A = ℕ} w 0)
 
-  zero_at : (j t : ℕ) → place (get_or zeros j []) t ≡ 0
+  pub zero_at : (j t : ℕ) → place (get_or zeros j []) t ≡ 0
   zero_at j t = elim (cases_lt j count) [
     | inl h ↦ ap (λ r. place r t) (get_or-replicate count j (replicate w 0) [] h) ∙ place-zeros w t
     | inr h ↦ ap (λ r. place r t) (get_or_past zeros j [] (omega (arith, length-replicate count (replicate {A = ℕ} w 0), h))) ∙ bit_at-zero (t % 64)

@@ -6,6 +6,7 @@ pub mod SetIndexFacts
 pub mod LaneMoveFacts
 mod BlockPlaceFacts
 mod PlaneCountFacts
+mod PlaneLaneFacts
 mod DoubledLaneFacts
 mod RingSpanFacts
 mod RingJoinFacts

@@ -1,38 +1,36 @@
--- Counts that are kept as bit planes, plane by plane.
-use Rattle.std.proofs.Common.{◌≡◌, ℕ, zero, suc, ◌+◌, ◌-◌, ◌*◌, ◌/◌, ◌%◌, ◌^◌, ◌<◌, ◌≤◌, ◌==◌, if◌then◌else◌, min, max, List, [], length, get_or, set, refl, sym, ap, subst, ◌∙◌, inl, inr, arith, add-one, length-set, get_or-set_same, get_or-set_other}
+-- Counts that are kept as bit planes: their digits, and the calls that read and write words of them.
+use Rattle.std.proofs.Common.{◌≡◌, ◌≢◌, ℕ, zero, suc, ◌+◌, ◌-◌, ◌*◌, ◌/◌, ◌%◌, ◌^◌, ◌<◌, ◌≤◌, ◌==◌, if◌then◌else◌, min, max, List, [], length, get_or, set, refl, sym, ap, subst, ◌∙◌, inl, inr, arith, add-one, length-set, get_or-set_same, get_or-set_other}
 use Rattle.std.proofs.Math.Nat.{pow-suc}
 use Rattle.std.proofs.lemmas.Bool.{cases_eq, cases_lt, ne_eqb}
 use Rattle.std.proofs.lemmas.Nat.{pow_pos}
-use Rattle.std.proofs.lemmas.Nat.Bits.{bit_at-lt, bit_at-zero, bit_at_and, bit_at_or, bit_at_xor, bit_at_not}
+use Rattle.std.proofs.lemmas.Nat.Bits.{bit_at-lt, bit_at_and, bit_at_xor, bit_at_not}
 use Rattle.std.specs.Int.{bit_at, bit_not, w64}
-use Rattle.std.specs.Int.RustNames.{bit_and, bit_or, bit_xor}
-use Rattle.nr_lifting.specs.Planes.{number_below, number, number_at, Falls}
+use Rattle.std.specs.Int.RustNames.{bit_and, bit_xor}
+use Rattle.nr_lifting.specs.Planes.{digits_below, number, number_at, Falls}
 
--- one plane more
-pub below-next : (n : ℕ) (ws : List ℕ) (j : ℕ) → number_below (n + 1) ws j ≡ number_below n ws j + 2 ^ n * bit_at (get_or ws n 0) j
-below-next n ws j = rw add-one refl
+-- one digit more
+pub below-next : (n : ℕ) (D : ℕ → ℕ) → digits_below (n + 1) D ≡ digits_below n D + 2 ^ n * D n
+below-next n D = rw add-one refl
 
--- planes that are the same write the same number
-pub below-same : (n : ℕ) (vs ws : List ℕ) (j : ℕ) → ((k : ℕ) → k < n → get_or vs k 0 ≡ get_or ws k 0) → number_below n vs j ≡ number_below n ws j
-below-same zero vs ws j same = refl
-below-same (suc n) vs ws j same =
-    ap (λ m. m + 2 ^ n * bit_at (get_or vs n 0) j) (below-same n vs ws j (λ k h. same k (omega (arith, h))))
-    ∙ ap (λ w. number_below n ws j + 2 ^ n * bit_at w j) (same n (omega arith))
+-- digits that are the same write the same number
+pub below-same : (n : ℕ) (D E : ℕ → ℕ) → ((k : ℕ) → k < n → D k ≡ E k) → digits_below n D ≡ digits_below n E
+below-same zero D E same = refl
+below-same (suc n) D E same =
+    ap (λ m. m + 2 ^ n * D n) (below-same n D E (λ k h. same k (omega (arith, h)))) ∙ ap (λ d. digits_below n E + 2 ^ n * d) (same n (omega arith))
 
 digit_fits : (a p x : ℕ) → a < p → x < 2 → a + p * x < p * 2
 digit_fits a p zero h k = omega arith
 digit_fits a p (suc zero) h k = omega arith
 digit_fits a p (suc (suc x)) h k = absurd (omega (arith, k))
 
--- n planes write a number below 2 ^ n
-pub below-lt : (n : ℕ) (ws : List ℕ) (j : ℕ) → number_below n ws j < 2 ^ n
-below-lt zero ws j = omega arith
-below-lt (suc n) ws j =
-    rw pow-suc (digit_fits (number_below n ws j) (2 ^ n) (bit_at (get_or ws n 0) j) (below-lt n ws j) (bit_at-lt (get_or ws n 0) j))
+-- n digits write a number below 2 ^ n
+below-lt : (n : ℕ) (D : ℕ → ℕ) → ((k : ℕ) → D k < 2) → digits_below n D < 2 ^ n
+below-lt zero D small = omega arith
+below-lt (suc n) D small = rw pow-suc (digit_fits (digits_below n D) (2 ^ n) (D n) (below-lt n D small) (small n))
 
 -- ---- one is taken off
 
--- a borrow y comes to the digit x of a plane of worth p: the digit that is left, and the borrow that goes on
+-- a borrow y comes to the digit x of worth p: the digit that is left, and the borrow that goes on
 plane : (a b p u x y : ℕ) → x < 2 → y < 2 → a + u ≡ b + p * y → a + p * ((x + y) % 2) + u ≡ b + p * x + p * 2 * min y (1 - x)
 plane a b p u zero zero h k e = omega (arith, e)
 plane a b p u zero (suc zero) h k e = omega (arith, e)
@@ -41,85 +39,77 @@ plane a b p u (suc zero) (suc zero) h k e = omega (arith, e)
 plane a b p u (suc (suc x)) y h k e = absurd (omega (arith, h))
 plane a b p u x (suc (suc y)) h k e = absurd (omega (arith, k))
 
--- the first n planes have fallen, with a borrow from the others, which are as they were
-pub record Borrows (n : ℕ) (now old : List ℕ) (bits borrow : ℕ) : Type 0 where
-  pub numbers : (j : ℕ) → j < 64 → number_below n now j + bit_at bits j ≡ number_below n old j + 2 ^ n * bit_at borrow j
-  pub kept : (k : ℕ) → n ≤ k → get_or now k 0 ≡ get_or old k 0
-  pub long : length now ≡ length old
+-- u is taken off the first n digits, with a borrow y from the others, which are as they were
+pub record Borrows (n : ℕ) (now old : ℕ → ℕ) (u y : ℕ) : Type 0 where
+  pub number : digits_below n now + u ≡ digits_below n old + 2 ^ n * y
+  pub kept : (k : ℕ) → n ≤ k → now k ≡ old k
 
--- one plane more falls
-pub borrows_more : (n : ℕ) (next now old : List ℕ) (bits borrow word : ℕ) → Borrows n now old bits borrow → n < length now → word ≡ get_or now n 0 → word < 2 ^ 64
-    → next ≡ set now n (bit_xor word borrow) → Borrows (n + 1) next old bits (bit_and borrow (bit_not w64 word))
-borrows_more n next now old bits borrow word h within is fits put = record {
-  numbers = λ j short.
-      let x = bit_at word j in
-      let y = bit_at borrow j in
-      let first : number_below n next j ≡ number_below n now j =
-      below-same n next now j (λ k below. ap (λ ws. get_or ws k 0) put ∙ get_or-set_other now n k (bit_xor word borrow) 0 (λ e. omega (arith, e, below))) in
-      let here : bit_at (get_or next n 0) j ≡ (x + y) % 2 =
-      ap (λ ws. bit_at (get_or ws n 0) j) put ∙ ap (λ w. bit_at w j) (get_or-set_same now n (bit_xor word borrow) 0 within) ∙ bit_at_xor word borrow j in
-      let was : bit_at (get_or old n 0) j ≡ x = ap (λ w. bit_at w j) (sym (is ∙ h.kept n (omega arith))) in
-      let goes : bit_at (bit_and borrow (bit_not w64 word)) j ≡ min y (1 - x) =
-      bit_at_and borrow (bit_not w64 word) j ∙ ap (min y) (bit_at_not w64 word j fits short) in
-      let left : number_below (n + 1) next j ≡ number_below n now j + 2 ^ n * ((x + y) % 2) =
-      below-next n next j ∙ ap (λ m. m + 2 ^ n * bit_at (get_or next n 0) j) first ∙ ap (λ m. number_below n now j + 2 ^ n * m) here in
-      let right : number_below (n + 1) old j ≡ number_below n old j + 2 ^ n * x = below-next n old j ∙ ap (λ m. number_below n old j + 2 ^ n * m) was in
-      let worth : 2 ^ (n + 1) * bit_at (bit_and borrow (bit_not w64 word)) j ≡ 2 ^ n * 2 * min y (1 - x) =
-      ap (λ m. m * bit_at (bit_and borrow (bit_not w64 word)) j) (rw add-one (pow-suc 2 n)) ∙ ap (λ m. 2 ^ n * 2 * m) goes in
-      ap (λ m. m + bit_at bits j) left
-      ∙ plane (number_below n now j) (number_below n old j) (2 ^ n) (bit_at bits j) x y (bit_at-lt word j) (bit_at-lt borrow j) (h.numbers j short)
-      ∙ sym (ap (λ m. m + 2 ^ (n + 1) * bit_at (bit_and borrow (bit_not w64 word)) j) right ∙ ap (λ m. number_below n old j + 2 ^ n * x + m) worth);
-  kept = λ k above. ap (λ ws. get_or ws k 0) put ∙ get_or-set_other now n k (bit_xor word borrow) 0 (λ e. omega (arith, e, above)) ∙ h.kept k (omega (arith, above));
-  long = ap length put ∙ length-set now n (bit_xor word borrow) ∙ h.long;
+pub borrows_none : (old : ℕ → ℕ) (u : ℕ) → Borrows 0 old old u u
+borrows_none old u = record {
+  number = omega arith;
+  kept = λ k _. refl;
 }
 
--- where no borrow is left, one plane more has fallen, as it was
-borrows_idle : (n : ℕ) (now old : List ℕ) (bits borrow : ℕ) → Borrows n now old bits borrow → borrow ≡ 0 → Borrows (n + 1) now old bits borrow
-borrows_idle n now old bits borrow h none = record {
-  numbers = λ j short.
-      let digit : bit_at borrow j ≡ 0 = ap (λ w. bit_at w j) none ∙ bit_at-zero j in
-      let same : 2 ^ n * bit_at (get_or now n 0) j ≡ 2 ^ n * bit_at (get_or old n 0) j = ap (λ w. 2 ^ n * bit_at w j) (h.kept n (omega arith)) in
-      let below : number_below n now j + bit_at bits j ≡ number_below n old j + 2 ^ n * 0 = h.numbers j short ∙ ap (λ x. number_below n old j + 2 ^ n * x) digit in
-      let goes : 2 ^ (n + 1) * bit_at borrow j ≡ 2 ^ (n + 1) * 0 = ap (λ x. 2 ^ (n + 1) * x) digit in
-      omega (arith, below-next n now j, below-next n old j, same, below, goes);
+-- one digit more falls
+pub borrows_more : (n : ℕ) (next now old : ℕ → ℕ) (u y x : ℕ) → Borrows n now old u y → x ≡ now n → x < 2 → y < 2
+    → ((k : ℕ) → k ≢ n → next k ≡ now k) → next n ≡ (x + y) % 2 → Borrows (n + 1) next old u (min y (1 - x))
+borrows_more n next now old u y x h is low high others here = record {
+  number =
+      let first : digits_below n next ≡ digits_below n now = below-same n next now (λ k below. others k (λ e. omega (arith, e, below))) in
+      let left : digits_below (n + 1) next ≡ digits_below n now + 2 ^ n * ((x + y) % 2) =
+      below-next n next ∙ ap (λ m. m + 2 ^ n * next n) first ∙ ap (λ m. digits_below n now + 2 ^ n * m) here in
+      let right : digits_below (n + 1) old ≡ digits_below n old + 2 ^ n * x =
+      below-next n old ∙ ap (λ m. digits_below n old + 2 ^ n * m) (sym (is ∙ h.kept n (omega arith))) in
+      let worth : 2 ^ (n + 1) * min y (1 - x) ≡ 2 ^ n * 2 * min y (1 - x) = ap (λ m. m * min y (1 - x)) (rw add-one (pow-suc 2 n)) in
+      ap (λ m. m + u) left
+      ∙ plane (digits_below n now) (digits_below n old) (2 ^ n) u x y low high h.number
+      ∙ sym (ap (λ m. m + 2 ^ (n + 1) * min y (1 - x)) right ∙ ap (λ m. digits_below n old + 2 ^ n * x + m) worth);
+  kept = λ k above. others k (λ e. omega (arith, e, above)) ∙ h.kept k (omega (arith, above));
+}
+
+-- where no borrow is left, one digit more has fallen, as it was
+borrows_idle : (n : ℕ) (now old : ℕ → ℕ) (u y : ℕ) → Borrows n now old u y → y ≡ 0 → Borrows (n + 1) now old u y
+borrows_idle n now old u y h none = record {
+  number =
+      let same : 2 ^ n * now n ≡ 2 ^ n * old n = ap (λ d. 2 ^ n * d) (h.kept n (omega arith)) in
+      let below : digits_below n now + u ≡ digits_below n old + 2 ^ n * 0 = h.number ∙ ap (λ d. digits_below n old + 2 ^ n * d) none in
+      let goes : 2 ^ (n + 1) * y ≡ 2 ^ (n + 1) * 0 = ap (λ d. 2 ^ (n + 1) * d) none in
+      omega (arith, below-next n now, below-next n old, same, below, goes);
   kept = λ k above. h.kept k (omega (arith, above));
-  long = h.long;
 }
 
--- where no borrow is left, all planes have fallen
-pub borrows_rest : (n m : ℕ) (now old : List ℕ) (bits borrow : ℕ) → Borrows n now old bits borrow → borrow ≡ 0 → n ≤ m → Borrows m now old bits borrow
-borrows_rest n zero now old bits borrow h none within = subst (λ k. Borrows k now old bits borrow) (omega (arith, within)) h
-borrows_rest n (suc m) now old bits borrow h none within = elim (cases_eq n (suc m)) [
-  | inl at ↦ subst (λ k. Borrows k now old bits borrow) at h
+-- where no borrow is left, all digits have fallen
+pub borrows_rest : (n m : ℕ) (now old : ℕ → ℕ) (u y : ℕ) → Borrows n now old u y → y ≡ 0 → n ≤ m → Borrows m now old u y
+borrows_rest n zero now old u y h none within = subst (λ k. Borrows k now old u y) (omega (arith, within)) h
+borrows_rest n (suc m) now old u y h none within = elim (cases_eq n (suc m)) [
+  | inl at ↦ subst (λ k. Borrows k now old u y) at h
   | inr apart ↦
       let before : n ≤ m = omega (arith, within, apart) in
-      subst (λ k. Borrows k now old bits borrow) (add-one m) (borrows_idle m now old bits borrow (borrows_rest n m now old bits borrow h none before) none)
+      subst (λ k. Borrows k now old u y) (add-one m) (borrows_idle m now old u y (borrows_rest n m now old u y h none before) none)
 ]
 
--- no borrow is left where no count was 0
+-- no borrow is left where the number was not less
 no_borrow : (a b p u y : ℕ) → a < p → y < 2 → u ≤ b → a + u ≡ b + p * y → a + u ≡ b
 no_borrow a b p u zero h k enough e = omega (arith, e)
 no_borrow a b p u (suc zero) h k enough e = absurd (omega (arith, e, h, enough))
 no_borrow a b p u (suc (suc y)) h k enough e = absurd (omega (arith, k))
 
-pub borrows_all : (n : ℕ) (now old : List ℕ) (bits borrow : ℕ) → Borrows n now old bits borrow → n ≡ length old → ((j : ℕ) → j < 64 → bit_at bits j ≤ number old j) → Falls now old bits
-borrows_all n now old bits borrow h all enough = record {
-  numbers = λ j short.
-      let whole : number_below (length now) now j ≡ number_below n now j = ap (λ m. number_below m now j) (h.long ∙ sym all) in
-      let was : number_below n old j ≡ number_below (length old) old j = ap (λ m. number_below m old j) all in
-      let few : bit_at bits j ≤ number_below n old j = rw was (enough j short) in
-      ap (λ m. m + bit_at bits j) whole
-      ∙ no_borrow (number_below n now j) (number_below n old j) (2 ^ n) (bit_at bits j) (bit_at borrow j) (below-lt n now j) (bit_at-lt borrow j) few (h.numbers j short)
-      ∙ was;
-  long = h.long;
-}
+pub borrows_all : (n : ℕ) (now old : ℕ → ℕ) (u y : ℕ) → Borrows n now old u y → ((k : ℕ) → now k < 2) → y < 2 → u ≤ digits_below n old
+    → digits_below n now + u ≡ digits_below n old
+borrows_all n now old u y h small high enough = no_borrow (digits_below n now) (digits_below n old) (2 ^ n) u y (below-lt n now small) high enough h.number
 
 -- ---- counts of one
 
--- of the first n planes, some above the lowest has a digit where `more` has one
-pub record HasMore (n : ℕ) (ws : List ℕ) (more : ℕ) : Type 0 where
-  pub none : (j : ℕ) → bit_at more j ≡ 0 → number_below n ws j ≡ bit_at (get_or ws 0 0) j
-  pub some : (j : ℕ) → bit_at more j ≡ 1 → 2 ≤ number_below n ws j
+-- of the first n digits, some above the lowest is one where m is
+pub record HasMore (n : ℕ) (D : ℕ → ℕ) (m : ℕ) : Type 0 where
+  pub none : m ≡ 0 → digits_below n D ≡ D 0
+  pub some : m ≡ 1 → 2 ≤ digits_below n D
+
+pub has_more-first : (D : ℕ → ℕ) (m : ℕ) → m ≡ 0 → HasMore 1 D m
+has_more-first D m e = record {
+  none = λ _. omega arith;
+  some = λ one. absurd (omega (arith, e, one));
+}
 
 two_at_least : (n : ℕ) → 0 < n → 2 ≤ 2 ^ n
 two_at_least zero h = absurd (omega (arith, h))
@@ -137,15 +127,10 @@ plane_some a p (suc zero) x h k two e some = omega (arith, some refl)
 plane_some a p (suc (suc m)) x h k two e some = absurd (omega (arith, h))
 plane_some a p zero (suc (suc x)) h k two e some = absurd (omega (arith, k))
 
-pub has_more-next : (n : ℕ) (ws : List ℕ) (more word : ℕ) → HasMore n ws more → 0 < n → word ≡ get_or ws n 0 → HasMore (n + 1) ws (bit_or more word)
-has_more-next n ws more word h above is = record {
-  none = λ j e.
-      below-next n ws j
-      ∙ plane_none (number_below n ws j) (2 ^ n) (bit_at (get_or ws 0 0) j) (bit_at more j) (bit_at (get_or ws n 0) j) (bit_at-lt more j) (bit_at-lt (get_or ws n 0) j)
-      (sym (bit_at_or more word j ∙ ap (λ w. max (bit_at more j) (bit_at w j)) is) ∙ e) (h.none j);
-  some = λ j e.
-      rw (below-next n ws j) (plane_some (number_below n ws j) (2 ^ n) (bit_at more j) (bit_at (get_or ws n 0) j) (bit_at-lt more j) (bit_at-lt (get_or ws n 0) j) (two_at_least n above)
-      (sym (bit_at_or more word j ∙ ap (λ w. max (bit_at more j) (bit_at w j)) is) ∙ e) (h.some j));
+pub has_more-next : (n : ℕ) (D : ℕ → ℕ) (m next : ℕ) → HasMore n D m → 0 < n → m < 2 → D n < 2 → next ≡ max m (D n) → HasMore (n + 1) D next
+has_more-next n D m next h above low high is = record {
+  none = λ e. below-next n D ∙ plane_none (digits_below n D) (2 ^ n) (D 0) m (D n) low high (sym is ∙ e) h.none;
+  some = λ e. rw (below-next n D) (plane_some (digits_below n D) (2 ^ n) m (D n) low high (two_at_least n above) (sym is ∙ e) h.some);
 }
 
 not_one : (n : ℕ) → 2 ≤ n → ◌≡◌ {A = ℕ} 0 (if n == 1 then 1 else 0)
@@ -159,13 +144,46 @@ exactly_one n (suc zero) (suc zero) h k none some = not_one n (some refl)
 exactly_one n (suc (suc f)) m h k none some = absurd (omega (arith, h))
 exactly_one n f (suc (suc m)) h k none some = absurd (omega (arith, k))
 
-pub ones_are : (n : ℕ) (ws : List ℕ) (more word j : ℕ) → HasMore n ws more → n ≡ length ws → word ≡ get_or ws 0 0 → more < 2 ^ 64 → j < 64
-    → bit_at (bit_and word (bit_not w64 more)) j ≡ (if number ws j == 1 then 1 else 0)
-ones_are n ws more word j h all is fits short =
-    bit_at_and word (bit_not w64 more) j
-    ∙ ap (min (bit_at word j)) (bit_at_not w64 more j fits short)
-    ∙ exactly_one (number_below n ws j) (bit_at word j) (bit_at more j) (bit_at-lt word j) (bit_at-lt more j) (λ e. h.none j e ∙ ap (λ w. bit_at w j) (sym is)) (h.some j)
-    ∙ ap (λ m. if number_below m ws j == 1 then 1 else 0) all
+pub ones_are : (n : ℕ) (D : ℕ → ℕ) (m : ℕ) → HasMore n D m → D 0 < 2 → m < 2 → min (D 0) (1 - m) ≡ (if digits_below n D == 1 then 1 else 0)
+ones_are n D m h first more = exactly_one (digits_below n D) (D 0) m first more h.none h.some
+
+-- ---- words
+
+-- digit k of count j of a group
+abbrev pub word_digit : List ℕ → ℕ → ℕ → ℕ
+word_digit group j k = bit_at (get_or group k 0) j
+
+-- the first n words have fallen, with borrows from the others
+pub record WordsBorrow (n : ℕ) (now old : List ℕ) (bits borrow : ℕ) : Type 0 where
+  pub digits : (j : ℕ) → j < 64 → Borrows n (word_digit now j) (word_digit old j) (bit_at bits j) (bit_at borrow j)
+  pub long : length now ≡ length old
+
+-- the digits that a word lowers
+pub lowered_digit : (word borrow j : ℕ) → word < 2 ^ 64 → j < 64 → bit_at (bit_and borrow (bit_not w64 word)) j ≡ min (bit_at borrow j) (1 - bit_at word j)
+lowered_digit word borrow j fits short = bit_at_and borrow (bit_not w64 word) j ∙ ap (min (bit_at borrow j)) (bit_at_not w64 word j fits short)
+
+-- one word more falls
+pub words_more : (n : ℕ) (next now old : List ℕ) (bits borrow word : ℕ) → WordsBorrow n now old bits borrow → n < length now → word ≡ get_or now n 0 → word < 2 ^ 64
+    → next ≡ set now n (bit_xor word borrow) → WordsBorrow (n + 1) next old bits (bit_and borrow (bit_not w64 word))
+words_more n next now old bits borrow word h within is fits put = record {
+  digits = λ j short.
+      subst (Borrows (n + 1) (word_digit next j) (word_digit old j) (bit_at bits j)) (sym (lowered_digit word borrow j fits short))
+      (borrows_more n (word_digit next j) (word_digit now j) (word_digit old j) (bit_at bits j) (bit_at borrow j) (bit_at word j)
+      (h.digits j short) (ap (λ w. bit_at w j) is) (bit_at-lt word j) (bit_at-lt borrow j)
+      (λ k apart. ap (λ ws. word_digit ws j k) put ∙ ap (λ w. bit_at w j) (get_or-set_other now n k (bit_xor word borrow) 0 apart))
+      (ap (λ ws. word_digit ws j n) put ∙ ap (λ w. bit_at w j) (get_or-set_same now n (bit_xor word borrow) 0 within) ∙ bit_at_xor word borrow j));
+  long = ap length put ∙ length-set now n (bit_xor word borrow) ∙ h.long;
+}
+
+pub words_all : (n : ℕ) (now old : List ℕ) (bits borrow : ℕ) → WordsBorrow n now old bits borrow → n ≡ length old → ((j : ℕ) → j < 64 → bit_at bits j ≤ number old j) → Falls now old bits
+words_all n now old bits borrow h all enough = record {
+  numbers = λ j short.
+      let was : digits_below n (word_digit old j) ≡ number old j = ap (λ m. digits_below m (word_digit old j)) all in
+      ap (λ m. digits_below m (word_digit now j) + bit_at bits j) (h.long ∙ sym all)
+      ∙ borrows_all n (word_digit now j) (word_digit old j) (bit_at bits j) (bit_at borrow j) (h.digits j short) (λ k. bit_at-lt (get_or now k 0) j) (bit_at-lt borrow j) (rw was (enough j short))
+      ∙ was;
+  long = h.long;
+}
 
 -- ---- groups
 

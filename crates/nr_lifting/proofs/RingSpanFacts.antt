@@ -62,11 +62,6 @@ pub spans : (z i p read : ℕ) (ring : List ℕ) → ((j : ℕ) → j < 64 → b
 spans z i p read ring reads rotation twice j short below =
     reads j short ∙ ap (place ring) (omega arith) ∙ ring-rotated ring z (64 * i + j) p below rotation twice
 
--- so have its lowest bits, as many as the block has from there on
-pub low_spans : (z i p read low : ℕ) (ring : List ℕ) → IsRotatedWord z ring i p read → ((j : ℕ) → j < z - 64 * i → bit_at low j ≡ bit_at read j)
-    → IsRotatedWord z ring i p low
-low_spans z i p read low ring rotated same j short below = same j (omega (arith, below)) ∙ rotated j short below
-
 -- So has it where a mask meets it, and none past place z.
 module _ (z i p read cut : ℕ) (ring mask : List ℕ) (is : IsMask z mask) (kept : cut ≡ get_or mask i 0) where
   pub cut_spans : IsRotatedWord z ring i p read → IsRotatedWord z ring i p (bit_and read cut)

@@ -3,16 +3,17 @@ use Rattle.std.specs.Prelude.{◌≡◌, ℕ, ◌^◌, ◌<◌, ◌≤◌, List,
 use Rattle.nr_bitvec.specs.Packed.{place, IsClear}
 use Rattle.nr_lifting.specs.Rings.{IsRing}
 
--- so many counts a block, and so few blocks
-pub record ArePlanes (z : ℕ) (blocks : List (List (List ℕ))) : Type 0 where
-  pub some : 0 < z
-  pub short : z ≤ 384
-  pub few : length blocks < 2 ^ 16
-
 -- the first z places are set, and no other
 pub record IsMask (z : ℕ) (mask : List ℕ) : Type 0 where
   pub set : (t : ℕ) → t < z → place mask t ≡ 1
   pub clear : IsClear mask z
+
+-- so many counts a block, and so few blocks; the mask has the places of a block
+pub record ArePlanes (z : ℕ) (cut : List ℕ) (blocks : List (List (List ℕ))) : Type 0 where
+  pub some : 0 < z
+  pub short : z ≤ 384
+  pub few : length blocks < 2 ^ 16
+  pub mask : IsMask z cut
 
 -- each keeps a block of z bits twice over, and no place after them is set; the mask has the places of a block
 pub record AreRings (z : ℕ) (cut : List ℕ) (rings : List (List ℕ)) : Type 0 where

@@ -5,14 +5,14 @@ use Rattle.std.specs.Int.{bit_at}
 use Rattle.std.specs.List.{range_with_len}
 use Rattle.nr_bitvec.specs.Packed.{place}
 
--- the number that the first n planes of a group write at place j
-abbrev pub number_below : ℕ → List ℕ → ℕ → ℕ
-number_below zero group j = 0
-number_below (suc n) group j = number_below n group j + 2 ^ n * bit_at (slice_index_or group n 0) j
+-- the number that the first n of some digits write, the lowest first
+abbrev pub digits_below : ℕ → (ℕ → ℕ) → ℕ
+digits_below zero digit = 0
+digits_below (suc n) digit = digits_below n digit + 2 ^ n * digit n
 
 -- count j of a group
 abbrev pub number : List ℕ → ℕ → ℕ
-number group j = number_below (length group) group j
+number group j = digits_below (length group) (λ b. bit_at (slice_index_or group b 0) j)
 
 -- count t of groups of 64 counts
 abbrev pub number_at : List (List ℕ) → ℕ → ℕ
@@ -28,6 +28,10 @@ pub record FallsRotated (z : ℕ) (new old : List (List ℕ)) (places : List ℕ
   pub numbers : (t : ℕ) → t < z → number_at new t + place places ((t + p) % z) ≡ number_at old t
   pub long : length new ≡ length old
 
+-- count t of planes of which each has a bit of every count
+abbrev pub plane_number : List (List ℕ) → ℕ → ℕ
+plane_number planes t = digits_below (length planes) (λ b. place (slice_index_or planes b []) t)
+
 -- ---- several blocks
 
 -- what contracts see of blocks of counts: the counts, block after block, and how many a block has
@@ -37,7 +41,7 @@ pub record BlockCounts : Type 0 where
 
 -- count k of blocks of z counts that are kept as bit planes
 abbrev pub plane_count : ℕ → List (List (List ℕ)) → ℕ → ℕ
-plane_count z blocks k = number_at (slice_index_or blocks (k / z) []) (k % z)
+plane_count z blocks k = plane_number (slice_index_or blocks (k / z) []) (k % z)
 
 -- the blocks of z counts that bit planes keep
 abbrev pub block_counts : ℕ → List (List (List ℕ)) → BlockCounts

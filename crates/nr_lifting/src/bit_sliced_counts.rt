@@ -8,8 +8,9 @@ ghost use Rattle.nr_lifting.specs.Planes.{number, number_at, Falls, FallsRotated
 ghost use Rattle.nr_lifting.specs.Rings.{IsRing, is_set};
 
 use crate::doubled_lanes::{DoubledLanes, ring_word};
-use crate::ring_spans::span;
-use nr_bitvec::words::low_bits;
+use crate::lane_words::common;
+use crate::planes::{alike, lower_planes, ones_of};
+use crate::ring_spans::mask_of;
 use std::alloc::{AllocError, Global};
 use std::marker::Model;
 
@@ -60,58 +61,13 @@ pub fn lower_block(planes: &mut [[u64; 7]], count: usize, ring: &[u64], size: us
     }
 }
 
-// `lower_block` for at most 384 counts and a ring of twelve words, each of which is read in one piece.
-fn lower_lane(planes: &mut [[u64; 7]; 6], ring: &[u64; 12], size: usize, p: usize)
-    requires rotation { p < size }
-    requires few { size ≤ 384 }
-    requires ring { IsRing size ring.now }
-    requires enough { (t : ℕ) → t < size
-        → place ring.now ((t + p) % size) ≤ number_at planes.old t }
-    ensures { FallsRotated size planes.new planes.old ring.now p }
-{
-    let (word, turn) = (p / 64, p % 64);
-    for k in 0..size.div_ceil(64) {
-        lower_word(
-            &mut planes[k],
-            low_bits(span(ring, word + k, turn), size - 64 * k),
-        );
-    }
-}
-
-// Marks those of `size` counts, at most 384, that are exactly one.
-fn ones_lane(planes: &[[u64; 7]], size: usize) -> [u64; 6]
-    requires few { size ≤ 384 }
-    requires below { size ≤ 64 * length planes.now }
-    ensures ones { (t : ℕ) → t < size
-        → place result t ≡ (if number_at planes.now t == 1 then 1 else 0) }
-    ensures clear { IsClear result size }
-{
-    let mut lane = [0; 6];
-    for i in 0..size.div_ceil(64) {
-        lane[i] = low_bits(ones_word(&planes[i]), size - 64 * i);
-    }
-    lane
-}
-
-// The bit planes of 64 counts that are all `n`.
-fn alike(n: u8) -> [u64; 7]
-    requires { n < 2 ^ 7 }
-    ensures { (j : ℕ) → j < 64 → number result j ≡ n }
-{
-    let mut planes = [0; 7];
-    for b in 0..7 {
-        if n >> b & 1 == 1 {
-            planes[b] = u64::MAX;
-        }
-    }
-    planes
-}
-
-/// Blocks of counts below 128, of one size, at most 384 counts each. They are kept as bit planes.
+/// Blocks of counts below 128, of one size, at most 384 counts each. Each is kept in seven planes: bit t of plane b is bit b
+/// of count t.
 #[derive(Drop)]
 pub struct BitSlicedCounts {
     size: usize,
-    blocks: Vec<[[u64; 7]; 6]>,
+    mask: [u64; 6],
+    blocks: Vec<[[u64; 6]; 7]>,
 }
 
 impl Model for BitSlicedCounts {
@@ -122,7 +78,7 @@ impl Model for BitSlicedCounts {
 
     ghost view = { λ a. block_counts a.size a.blocks.items };
 
-    ghost invariant = { λ a. ArePlanes a.size a.blocks.items };
+    ghost invariant = { λ a. ArePlanes a.size a.mask a.blocks.items };
 }
 
 impl BitSlicedCounts {
@@ -140,9 +96,10 @@ impl BitSlicedCounts {
     {
         let mut blocks = Vec::with_capacity(alloc, count)?;
         for k in 0..count {
-            blocks.push_reserved([[0; 7]; 6]);
+            blocks.push_reserved([[0; 6]; 7]);
         }
-        Ok(BitSlicedCounts { size, blocks })
+        let mask = mask_of(size);
+        Ok(BitSlicedCounts { size, mask, blocks })
     }
 
     /// Makes every count of block `i` the same.
@@ -155,8 +112,7 @@ impl BitSlicedCounts {
         ensures long { length self.new.items ≡ length self.old.items }
         ensures lanes { self.new.lanes ≡ self.old.lanes }
     {
-        let group = alike(n);
-        self.blocks[i] = [group; 6];
+        self.blocks[i] = alike(n);
     }
 
     /// Marks those counts of block `i` that are exactly one.
@@ -166,7 +122,7 @@ impl BitSlicedCounts {
             ≡ (slice_index self.now.items (i * self.now.lanes + t) == 1) }
         ensures clear { IsClear result self.now.lanes }
     {
-        ones_lane(&self.blocks[i], self.size)
+        common(&self.mask, &ones_of(&self.blocks[i]))
     }
 
     /// Takes one off those counts of block `i` to which a rotation by `rotation` brings a one of block `j` of `marks`. It
@@ -186,6 +142,7 @@ impl BitSlicedCounts {
         ensures long { length self.new.items ≡ length self.old.items }
         ensures lanes { self.new.lanes ≡ self.old.lanes }
     {
-        lower_lane(&mut self.blocks[i], marks.ring(j), self.size, rotation);
+        let lane = marks.lane(j, rotation);
+        lower_planes(&mut self.blocks[i], &lane, self.size);
     }
 }

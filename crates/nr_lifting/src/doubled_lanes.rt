@@ -187,17 +187,6 @@ impl DoubledLanes {
         Ok(DoubledLanes { size, mask, rings })
     }
 
-    // The ring of block `j`.
-    pub(crate) fn ring(&self, j: usize) -> &[u64; 12]
-        requires { (j + 1) * self.now.lanes ≤ length self.now.items }
-        ensures ring { IsRing self.now.lanes result.now }
-        ensures bits { (t : ℕ) → t < self.now.lanes
-            → is_set result.now t ≡ bit self.now.items (j * self.now.lanes + t) }
-        ensures short { self.now.lanes ≤ 384 }
-    {
-        &self.rings[j]
-    }
-
     /// One bit of all.
     pub fn get(&self, p: usize) -> bool
         requires { p < length self.now.items }

@@ -15,6 +15,7 @@ mod blocks;
 mod doubled_lanes;
 mod lane;
 mod lane_words;
+mod planes;
 mod ring_spans;
 mod sizes;
 mod tally;

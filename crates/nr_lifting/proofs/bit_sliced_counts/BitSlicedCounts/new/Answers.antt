@@ -8,7 +8,7 @@ use Rattle.nr_lifting.proofs.bit_sliced_counts.BitSlicedCounts.new.Goals as goal
 -- one block more
 pub loop-k-preserved : goal.loop-k-preserved
 loop-k-preserved c = record {
-  made = made_more (replicate 6 (replicate {A = ℕ} 7 0)) c.loop-k.k _ _ c.loop-k.invariant.made c.push_reserved.ensures.items;
+  made = made_more (replicate 7 (replicate {A = ℕ} 6 0)) c.loop-k.k _ _ c.loop-k.invariant.made c.push_reserved.ensures.items;
   room = omega (arith, c.loop-k.invariant.room, c.push_reserved.ensures.capacity);
 }
 
@@ -16,10 +16,11 @@ pub invariant_of-result : goal.invariant_of-result
 invariant_of-result c = record {
   some = c.requires.some;
   short = c.requires.short;
-  few = omega (arith, c.requires.few, ap length c.loop-k.invariant.made, length-replicate c.loop-k.k (replicate 6 (replicate {A = ℕ} 7 0)));
+  mask = c.mask_of-mask.ensures;
+  few = omega (arith, c.requires.few, ap length c.loop-k.invariant.made, length-replicate c.loop-k.k (replicate 7 (replicate {A = ℕ} 6 0)));
 }
 
 pub returns-clause-items : goal.returns-clause-items
 returns-clause-items c =
-    let made = made_all (replicate 6 (replicate {A = ℕ} 7 0)) c.loop-k.k c.args.count c.loop-k.blocks.items c.loop-k.invariant.made (omega arith) in
-    ap (λ blocks. (block_counts c.args.size blocks).items) made ∙ zero_counts c.args.size c.args.count 6 7 c.requires.some
+    let made = made_all (replicate 7 (replicate {A = ℕ} 6 0)) c.loop-k.k c.args.count c.loop-k.blocks.items c.loop-k.invariant.made (omega arith) in
+    ap (λ blocks. (block_counts c.args.size blocks).items) made ∙ zero_counts c.args.size c.args.count 7 6 c.requires.some
