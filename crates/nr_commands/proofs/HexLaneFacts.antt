@@ -1,36 +1,28 @@
 -- The digits of sixteen octets, lane by lane.
-use Rattle.std.proofs.Common.{◌≡◌, ℕ, ◌+◌, ◌*◌, ◌/◌, ◌%◌, ◌^◌, ◌<◌, ◌≤◌, List, [], ◌∷◌, ◌++◌, length, map, take, get_or, replicate, bit_and, refl, subst, sym, ap, ◌∙◌, arith, w8, Fits}
-use Rattle.std.proofs.lemmas.List.{get_or-map, length-map, ext_get_or}
+use Rattle.std.proofs.Common.{◌≡◌, ℕ, ◌+◌, ◌*◌, ◌/◌, ◌%◌, ◌^◌, ◌<◌, ◌≤◌, suc, zero, Bool, true, false, cond, nat_lt, List, [], ◌∷◌, ◌++◌, length, map, take, replicate, bit_and, refl, subst, sym, ap, ◌∙◌, arith, w8, Fits}
 use Rattle.std.proofs.lemmas.Grind.{flat_map-append}
 use Rattle.std.proofs.Math.Seq.{take-add}
-use Rattle.std.proofs.lemmas.List.FromFn.{get_or-map-range_with_len}
 use Rattle.std.proofs.lemmas.Nat.{and_le_r, and_mask}
-use Rattle.std.proofs.lemmas.Simd.{Each1-all, Each1-get_or, Each1-weaker, Each1-zip2, Each2-splat, below_from_Fits, get_or-swz_l_below, length-swz_l, map-map, pick_l_whole, swz_l, SwzOk, SwzOk-from_below, take_more_put_chunk, zip2_splat}
-use Rattle.std.specs.Simd.Lanes.{Each1, chunk, pick_l, put_chunk, zip2}
+use Rattle.std.proofs.lemmas.Simd.{Each1-all, Each1-weaker, Each1-zip2, Each2-splat, below_from_Fits, map-map, pick_l_whole, take_more_put_chunk, zip2_splat}
+use Rattle.std.specs.Simd.Lanes.{Each1, chunk, pick_l, put_chunk, sel_l, top, zip2}
 use Rattle.std.specs.Char.{digit_char}
 use Rattle.std.specs.List.{flat_map}
 use Rattle.nr_commands.specs.Inside.{two_digits}
-use Rattle.nr_commands.specs.declared.hex.TheConstants.{CHARACTERS, IN_TURN}
+use Rattle.nr_commands.specs.declared.hex.TheConstants.{IN_TURN}
 
--- a character of the table
-character : (value : ℕ) → value < 16 → get_or CHARACTERS value 0 ≡ digit_char value
-character value small = get_or-map-range_with_len digit_char 0 16 value value 0 small (omega arith)
+-- the character of a value, by whether it is below ten
+character : (b : Bool) (value : ℕ) → value < 16 → (value + cond (top 7 (cond b 255 0)) 48 87) % 2 ^ 8 ≡ cond b (48 + value) (87 + value)
+character true value small = omega (arith, small)
+character false value small = omega (arith, small)
 
--- sixteen values looked up
-pub characters : (values : List ℕ) → length values ≡ 16 → Each1 (λ value. value < 16) values → swz_l w8 16 CHARACTERS 0 values ≡ map digit_char values
-characters values long small =
-    ext_get_or 0 _ _ (length-swz_l w8 16 CHARACTERS 0 values ∙ sym (length-map values digit_char)) (λ i h.
-    let within : i < length values = omega (arith, length-swz_l w8 16 CHARACTERS 0 values) in
-    let value = get_or values i 0 in
-    let below : value < 16 = Each1-get_or (λ v. v < 16) values i 0 within small in
-    let place : 16 * ((0 + i) / 16) + value ≡ value = omega arith in
-    get_or-swz_l_below w8 16 CHARACTERS 0 values i within below
-    ∙ ap (λ k. get_or CHARACTERS k 0) place
-    ∙ character value below
-    ∙ sym (get_or-map digit_char values i 0 0 within))
-
-pub characters-ok : (values : List ℕ) → length values ≡ 16 → Each1 (λ value. value < 16) values → SwzOk w8 16 16 0 values
-characters-ok values long small = SwzOk-from_below w8 16 1 16 0 values refl (omega arith) small
+-- the characters of values, lane by lane
+pub characters : (n : ℕ) (values : List ℕ) → length values ≡ n → Each1 (λ value. value < 16) values
+    → zip2 (λ a b. (a + b) % 2 ^ 8) values (sel_l (map (top 7) (zip2 (λ a b. cond (nat_lt a b) 255 0) values (replicate n 10))) (replicate n 48) (replicate n 87)) ≡ map digit_char values
+characters n [] long small = refl
+characters zero (value ∷ values) long small = absurd (omega (arith, long))
+characters (suc n) (value ∷ values) long (below, small) =
+    ap (λ c. c ∷ zip2 (λ a b. (a + b) % 2 ^ 8) values (sel_l (map (top 7) (zip2 (λ a b. cond (nat_lt a b) 255 0) values (replicate n 10))) (replicate n 48) (replicate n 87))) (character (nat_lt value 10) value below)
+    ∙ ap (λ cs. digit_char value ∷ cs) (characters n values (omega (arith, long)) small)
 
 -- ---- the digits' values
 

@@ -10,9 +10,6 @@ use nr_bitvec::Bits;
 use std::alloc::{AllocError, Global};
 use std::simd::prelude::*;
 
-// The characters of the hexadecimal digits.
-const CHARACTERS: [u8; 16] = *b"0123456789abcdef";
-
 // The places of two lists of sixteen that take turns.
 const IN_TURN: [usize; 32] = [
     0, 16, 1, 17, 2, 18, 3, 19, 4, 20, 5, 21, 6, 22, 7, 23, 8, 24, 9, 25, 10, 26, 11, 27, 12, 28,
@@ -31,12 +28,13 @@ fn hex_digit(value: u8) -> u8
     }
 }
 
-// The characters of sixteen hexadecimal digits, looked up side by side.
+// The characters of sixteen hexadecimal digits, made side by side: a lookup would take them one by one.
 fn sixteen_characters(values: u8x16) -> u8x16
     requires { Each1 (λ value. value < 16) values }
     ensures { result ≡ map digit_char values }
 {
-    u8x16::from_array(CHARACTERS).swizzle_dyn(values)
+    let figures = values.simd_lt(u8x16::splat(10));
+    values + figures.select(u8x16::splat(b'0'), u8x16::splat(b'a' - 10))
 }
 
 // The two digits of each of sixteen octets.
