@@ -134,3 +134,34 @@ merged-step at count before old now bits start s word new merged step = record {
           | inl low ↦ ap (λ (t : Bool × Bool × Bool). clashes_at t (bit word (at + j))) (merged.beyond (at + j) (omega arith)) ∙ f (at + j) (omega (arith, low))
           | inr high ↦ ap (λ m. (m && bit s.heard (at + j)) && (bit s.value (at + j) ⊕ bit word (at + j))) (get_or_past s.marks (at + j) false (step.whole j lt high))
         ]
+
+idle : (h v n b : Bool) → n ≡ false → ◌≡◌ {A = Bool × Bool × Bool} (h, v, n) (after_hearing (h, v, n) b)
+idle true true false b e = refl
+idle true false false b e = refl
+idle false true false b e = refl
+idle false false false b e = refl
+idle h v true b e = absurd (true≢false e)
+
+-- no position from `at` to `next` is marked, so nothing changes there
+pub merged-idle : (at next now : ℕ) (start s : Lists) (word : List Bool) → at ≤ next → next ≤ at + 64 → now ≡ 0
+    → ((j : ℕ) → j < 64 → on now j ≡ bit s.marks (at + j)) → IsMerged at start word s → IsMerged next start word s
+merged-idle at next now start s word up few none reads merged = record {
+  below = λ p h. elim (cases_lt p at) [
+    | inl low ↦ merged.below p low
+    | inr from ↦ merged.beyond p from ∙ idle (bit start.heard p) (bit start.value p) (bit start.marks p) (bit word p) (unmarked p from h)
+  ];
+  beyond = λ p h. merged.beyond p (omega (arith, h, up));
+  quiet = λ e.
+      let first = merged.quiet e in
+      (first.0, λ p h. elim (cases_lt p at) [ inl low ↦ first.1 p low | inr from ↦ ap (λ m. clashing (bit start.heard p) (bit start.value p) m (bit word p)) (unmarked p from h) ]);
+  silent = λ e f. merged.silent e (λ p h. f p (omega (arith, h, up)));
+  heard_long = merged.heard_long;
+  value_long = merged.value_long;
+  marks_long = merged.marks_long;
+}
+  where
+    unmarked : (p : ℕ) → at ≤ p → p < next → bit start.marks p ≡ false
+    unmarked p from below =
+        ap (λ (t : Bool × Bool × Bool). t.2) (sym (merged.beyond p from))
+        ∙ sym (read-at s.marks at now p reads from (omega (arith, below, few)))
+        ∙ zero-none now (p - at) none

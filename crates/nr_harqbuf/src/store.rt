@@ -79,16 +79,19 @@ impl Store {
     {
         for i in 0..heard.len().div_ceil(64) {
             let at = 64 * i;
-            let count = (heard.len() - at).min(64);
-            let before = self.heard.window(at);
-            let old = self.value.window(at);
             let now = heard.window(at);
-            let bits = value.window(at);
-            let news = now & !before;
-            self.clash |= now & before & (old ^ bits) != 0;
-            self.heard.put(at, count, before | now);
-            self.value.put(at, count, old ^ (news & (old ^ bits)));
-            heard.put(at, count, news);
+            // Mostly the positions that a transmission leaves out stand together.
+            if now != 0 {
+                let count = (heard.len() - at).min(64);
+                let before = self.heard.window(at);
+                let old = self.value.window(at);
+                let bits = value.window(at);
+                let news = now & !before;
+                self.clash |= now & before & (old ^ bits) != 0;
+                self.heard.put(at, count, before | now);
+                self.value.put(at, count, old ^ (news & (old ^ bits)));
+                heard.put(at, count, news);
+            }
         }
     }
 

@@ -1,8 +1,9 @@
-use Rattle.std.proofs.Common.{◌≡◌, ◌<◌, ◌+◌, ◌*◌, min, length, ap, refl, arith}
+use Rattle.std.proofs.Common.{◌≡◌, ◌+◌, ◌*◌, min, length, ap, refl, arith}
 use Rattle.nr_harqbuf.specs.Record.{HeardBits}
 use Rattle.nr_harqbuf.proofs.KeptBitFacts.{length-kept}
-use Rattle.nr_harqbuf.proofs.MergedListFacts.{merged-none, merged-step}
+use Rattle.nr_harqbuf.proofs.MergedListFacts.{merged-idle, merged-none, merged-step}
 use Rattle.nr_harqbuf.proofs.MergedStoreFacts.{merged-done, news-done}
+use Rattle.nr_harqbuf.proofs.store.Store.hear_all.Goals.{then-now-ne0, else-now-ne0}
 use Rattle.nr_harqbuf.proofs.store.Store.hear_all.Goals as goal
 
 pub loop-i-init : goal.loop-i-init
@@ -15,7 +16,7 @@ put-requires-clause-inside c =
       c.loop-i-test.true,
       c.div_ceil-i-end.ensures,
       c.len.ensures.value,
-      c.len-in-loop-i.ensures.value,
+      c.len-then-now-ne0.ensures.value,
       c.min-count.ensures,
       c.loop-i.invariant.marks_long,
       c.loop-i.invariant.heard_long,
@@ -24,14 +25,14 @@ put-requires-clause-inside c =
       c.requires.marks,
     )
 
-pub put-requires-in-loop-i-clause-inside : goal.put-requires-in-loop-i-clause-inside
-put-requires-in-loop-i-clause-inside c =
+pub put-requires-then-now-ne0-clause-inside : goal.put-requires-then-now-ne0-clause-inside
+put-requires-then-now-ne0-clause-inside c =
     omega (
       arith,
       c.loop-i-test.true,
       c.div_ceil-i-end.ensures,
       c.len.ensures.value,
-      c.len-in-loop-i.ensures.value,
+      c.len-then-now-ne0.ensures.value,
       c.min-count.ensures,
       c.loop-i.invariant.marks_long,
       c.loop-i.invariant.value_long,
@@ -43,29 +44,33 @@ put-requires-in-loop-i-clause-inside c =
 
 pub loop-i-preserved : goal.loop-i-preserved
 loop-i-preserved c =
-    let more : 64 * c.loop-i.i < length c.args.heard.now.items = omega (arith, c.loop-i-test.true, c.div_ceil-i-end.ensures, c.len.ensures.value) in
-    let long : length c.loop-i.heard.items ≡ length c.args.heard.now.items = c.loop-i.invariant.marks_long in
-    let here : min (64 * c.loop-i.i) (length c.args.heard.now.items) ≡ 64 * c.loop-i.i = omega (arith, more) in
-    let next : min (64 * (c.loop-i.i + 1)) (length c.args.heard.now.items) ≡ 64 * c.loop-i.i + c.min-count.result = omega (arith, more, long, c.len-in-loop-i.ensures.value, c.min-count.ensures) in
-    rw next (merged-step (64 * c.loop-i.i) c.min-count.result c.window-before.result c.window-old.result c.window-now.result c.window-bits.result _ _ c.args.value.now.items _ (rw here at c.loop-i.invariant) (record {
-      few = omega (arith, c.min-count.ensures);
-      whole = λ j lt past. omega (arith, lt, past, c.min-count.ensures, c.len-in-loop-i.ensures.value);
-      before_fits = c.window-before.type_inv;
-      old_fits = c.window-old.type_inv;
-      now_fits = c.window-now.type_inv;
-      bits_fits = c.window-bits.type_inv;
-      reads_before = c.window-before.ensures;
-      reads_old = c.window-old.ensures;
-      reads_now = c.window-now.ensures;
-      reads_bits = c.window-bits.ensures;
-      put_heard = record { within = c.put.ensures.within; before = c.put.ensures.before; after = c.put.ensures.after };
-      put_value = record { within = c.put-in-loop-i.ensures.within; before = c.put-in-loop-i.ensures.before; after = c.put-in-loop-i.ensures.after };
-      put_marks = record { within = c.put-in-loop-i-2.ensures.within; before = c.put-in-loop-i-2.ensures.before; after = c.put-in-loop-i-2.ensures.after };
-      clash = refl;
-      heard_long = c.put.ensures.long;
-      value_long = c.put-in-loop-i.ensures.long;
-      marks_long = c.put-in-loop-i-2.ensures.long;
-    }))
+    let here : min (64 * c.loop-i.i) (length c.args.heard.now.items) ≡ 64 * c.loop-i.i = omega (arith, c.loop-i-test.true, c.div_ceil-i-end.ensures, c.len.ensures.value) in
+    elim c.if-now-ne0.branch [
+      | then-now-ne0 w ↦
+          let next : min (64 * (c.loop-i.i + 1)) (length c.args.heard.now.items) ≡ 64 * c.loop-i.i + w.min-count.result = omega (arith, here, c.loop-i.invariant.marks_long, w.len-then-now-ne0.ensures.value, w.min-count.ensures) in
+          rw (next, w.heard-is, w.self-inside-is) (merged-step (64 * c.loop-i.i) w.min-count.result w.window-before.result w.window-old.result c.window-now.result w.window-bits.result _ _ c.args.value.now.items _ (rw here at c.loop-i.invariant) (record {
+            few = omega (arith, w.min-count.ensures);
+            whole = λ j lt past. omega (arith, lt, past, w.min-count.ensures, w.len-then-now-ne0.ensures.value);
+            before_fits = w.window-before.type_inv;
+            old_fits = w.window-old.type_inv;
+            now_fits = c.window-now.type_inv;
+            bits_fits = w.window-bits.type_inv;
+            reads_before = w.window-before.ensures;
+            reads_old = w.window-old.ensures;
+            reads_now = c.window-now.ensures;
+            reads_bits = w.window-bits.ensures;
+            put_heard = record { within = w.put.ensures.within; before = w.put.ensures.before; after = w.put.ensures.after };
+            put_value = record { within = w.put-then-now-ne0.ensures.within; before = w.put-then-now-ne0.ensures.before; after = w.put-then-now-ne0.ensures.after };
+            put_marks = record { within = w.put-then-now-ne0-2.ensures.within; before = w.put-then-now-ne0-2.ensures.before; after = w.put-then-now-ne0-2.ensures.after };
+            clash = refl;
+            heard_long = w.put.ensures.long;
+            value_long = w.put-then-now-ne0.ensures.long;
+            marks_long = w.put-then-now-ne0-2.ensures.long;
+          }))
+      | else-now-ne0 w ↦
+          rw (w.heard-is, w.self-inside-is) (merged-idle (64 * c.loop-i.i) (min (64 * (c.loop-i.i + 1)) (length c.args.heard.now.items)) c.window-now.result _ _ c.args.value.now.items
+          (omega (arith, here)) (omega arith) w.if-now-ne0.false c.window-now.ensures (rw here at c.loop-i.invariant))
+    ]
 
 pub returns-clause-merged : goal.returns-clause-merged
 returns-clause-merged c =
