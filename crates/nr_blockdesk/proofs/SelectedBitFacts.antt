@@ -69,17 +69,17 @@ abbrev bit_tells : ℕ → ℕ → ℕ → Bool → Bool
 bit_tells now bits j v = (bit_at now j == 1) && beq (bit_at bits j == 1) v
 
 -- a run of selected bits, whose places stand one after another in the codeword
-module _ (b : Circular) (rv : ℕ) (marks bits : List Bool) (k position count now word : ℕ) (few : count ≤ 64)
+module _ (b : Circular) (rv : ℕ) (marks bits : List Bool) (k position count now word : ℕ)
     (run : (j : ℕ) → j < count → place_of b rv (k + j) ≡ position + j)
-    (reads : (j : ℕ) → j < 64 → (bit_at now j == 1) ≡ bit marks (k + j))
-    (reads-too : (j : ℕ) → j < 64 → (bit_at word j == 1) ≡ bit bits (k + j)) where
+    (reads : (j : ℕ) → j < count → (bit_at now j == 1) ≡ bit marks (k + j))
+    (reads-too : (j : ℕ) → j < count → (bit_at word j == 1) ≡ bit bits (k + j)) where
   -- selected bit k + j
   one-says : (p : ℕ) (v : Bool) (j : ℕ) → j < count
       → bit_says b rv marks bits p v (k + j) ≡ ((position + j == p) && bit_tells now word j v)
   one-says p v j inside =
       ap (λ q. (q == p) && says marks bits (k + j) v) (run j inside)
-      ∙ ap (λ m. (position + j == p) && (m && beq (bit bits (k + j)) v)) (sym (reads j (omega (arith, inside, few))))
-      ∙ ap (λ m. (position + j == p) && ((bit_at now j == 1) && beq m v)) (sym (reads-too j (omega (arith, inside, few))))
+      ∙ ap (λ m. (position + j == p) && (m && beq (bit bits (k + j)) v)) (sym (reads j inside))
+      ∙ ap (λ m. (position + j == p) && ((bit_at now j == 1) && beq m v)) (sym (reads-too j inside))
 
   word-tells : (p : ℕ) (v : Bool)
       → word_says position count now word p v ≡ list_any (bit_says b rv marks bits p v) (range_with_len k count)
@@ -190,28 +190,28 @@ module _ (b : Circular) (tx : Tx) (marks bits chosen chosen-too : List Bool) (fr
       ∙ ap (λ a. (at == p) && (a && beq (bit bits (from + m)) v)) (sym (seated chosen marks inside is m below))
       ∙ ap (λ a. (at == p) && (bit chosen (seat_of tx.qm n m) && beq a v)) (sym (seated chosen-too bits (omega (arith, inside, long)) is-too m below))
 
-  forth : (p : ℕ) (v : Bool) → list_any (bit_says b tx.rv chosen chosen-too p v) (range_with_len 0 (length chosen)) ≡ true
+  forth : (p : ℕ) (v : Bool) → list_any (bit_says b tx.rv chosen chosen-too p v) (range_with_len 0 (length chosen-too)) ≡ true
       → list_any (by_place p v) (range_with_len 0 (length places)) ≡ true
   forth p v any =
-      let it = find_it (bit_says b tx.rv chosen chosen-too p v) 0 (length chosen) any in
-      let seat = seat-given tx.qm n it.at whole (omega (arith, it.high, many chosen marks inside is)) in
+      let it = find_it (bit_says b tx.rv chosen chosen-too p v) 0 (length chosen-too) any in
+      let seat = seat-given tx.qm n it.at whole (omega (arith, it.high, many chosen-too bits (omega (arith, inside, long)) is-too)) in
       found (by_place p v) 0 (length places) seat.at (omega arith) (omega (arith, seat.inside, length-heards marks bits from n))
       (place-says p v seat.at seat.inside ∙ ap (bit_says b tx.rv chosen chosen-too p v) seat.is ∙ it.is)
 
   back : (p : ℕ) (v : Bool) → list_any (by_place p v) (range_with_len 0 (length places)) ≡ true
-      → list_any (bit_says b tx.rv chosen chosen-too p v) (range_with_len 0 (length chosen)) ≡ true
+      → list_any (bit_says b tx.rv chosen chosen-too p v) (range_with_len 0 (length chosen-too)) ≡ true
   back p v any =
       let it = find_it (by_place p v) 0 (length places) any in
       let below : it.at < n = omega (arith, it.high, length-heards marks bits from n) in
-      found (bit_says b tx.rv chosen chosen-too p v) 0 (length chosen) (seat_of tx.qm n it.at) (omega arith)
-      (omega (arith, seat-inside tx.qm n it.at some whole below, many chosen marks inside is))
+      found (bit_says b tx.rv chosen chosen-too p v) 0 (length chosen-too) (seat_of tx.qm n it.at) (omega arith)
+      (omega (arith, seat-inside tx.qm n it.at some whole below, many chosen-too bits (omega (arith, inside, long)) is-too))
       (sym (place-says p v it.at below) ∙ it.is)
 
-  pub says-part : (p : ℕ) (v : Bool) → list_any (bit_says b tx.rv chosen chosen-too p v) (range_with_len 0 (length chosen))
+  pub says-part : (p : ℕ) (v : Bool) → list_any (bit_says b tx.rv chosen chosen-too p v) (range_with_len 0 (length chosen-too))
       ≡ heard_as (part_hearings b tx (heards_from marks bits from n) (length (heards_from marks bits from n))) p v
   unfolding heard_as
   says-part p v =
-      same_test (list_any (bit_says b tx.rv chosen chosen-too p v) (range_with_len 0 (length chosen))) (list_any (by_place p v) (range_with_len 0 (length places))) (forth p v) (back p v)
+      same_test (list_any (bit_says b tx.rv chosen chosen-too p v) (range_with_len 0 (length chosen-too))) (list_any (by_place p v) (range_with_len 0 (length places))) (forth p v) (back p v)
       ∙ sym (any-part_masks (part_hearing b tx places) p v (range_with_len 0 (length places)))
 
 pub none-more : (a : Bool) → a ≡ (a || false)

@@ -1,7 +1,7 @@
 -- Marks of a part that was received whole are the same in any order.
-use Rattle.std.proofs.Common.{◌≡◌, ℕ, ◌+◌, ◌%◌, ◌^◌, ◌<◌, ◌≤◌, ◌==◌, Bool, true, false, List, length, take, drop, sym, ap, ◌∙◌, arith}
+use Rattle.std.proofs.Common.{◌≡◌, ℕ, ◌+◌, ◌%◌, ◌^◌, ◌<◌, ◌≤◌, ◌==◌, Bool, true, false, List, length, replicate, take, drop, sym, ap, ◌∙◌, arith}
 use Rattle.std.specs.Int.{bit_at, bit_not, w64}
-use Rattle.std.proofs.lemmas.List.{get_or-drop, get_or-take, length-drop, length-take-le}
+use Rattle.std.proofs.lemmas.List.{get_or-drop, get_or-replicate, get_or-take, length-drop, length-replicate, length-take-le}
 use Rattle.std.proofs.lemmas.Nat.Bits.{bit_at-lt, bit_at_not}
 use Rattle.nr_bitvec.proofs.PlaceFacts.{same_from_bits}
 use Rattle.nr_bitvec.specs.Bit.{bit}
@@ -28,12 +28,16 @@ ones-interleaved qm n ones some whole long all =
     ∙ all (seat_of qm n m) (seat-inside qm n m some whole inside)
     ∙ sym (all m inside))
 
--- the marks of a part whose places are all marked
-pub whole-interleaved : (qm from n : ℕ) (marks new : List Bool) → 0 < qm → n % qm ≡ 0 → from + n ≤ length marks
-    → ((m : ℕ) → m < n → bit marks (from + m) ≡ true) → new ≡ take n (drop from marks)
-    → interleaved qm new ≡ take n (drop from marks)
-whole-interleaved qm from n marks new some whole inside all is =
+-- marks of a part whose places are all marked
+pub whole-interleaved : (qm from n many : ℕ) (marks : List Bool) → 0 < qm → n % qm ≡ 0 → from + n ≤ length marks
+    → ((m : ℕ) → m < n → bit marks (from + m) ≡ true) → many ≡ n
+    → interleaved qm (replicate many true) ≡ take n (drop from marks)
+whole-interleaved qm from n many marks some whole inside all is =
     let cut : length (take n (drop from marks)) ≡ n = length-take-le n (drop from marks) (omega (arith, length-drop from marks, inside)) in
-    ap (interleaved qm) is
-    ∙ ones-interleaved qm n (take n (drop from marks)) some whole cut
-    (λ m below. get_or-take n (drop from marks) m false below ∙ get_or-drop from marks m false ∙ all m below)
+    let long : length (replicate many true) ≡ n = length-replicate many true ∙ is in
+    ones-interleaved qm n (replicate many true) some whole long (λ m below. get_or-replicate many m true false (omega (arith, below, is)))
+    ∙ same_from_bits (replicate many true) (take n (drop from marks)) (long ∙ sym cut)
+    (λ m below.
+    let inside : m < n = omega (arith, below, long) in
+    get_or-replicate many m true false (omega (arith, inside, is))
+    ∙ sym (get_or-take n (drop from marks) m false inside ∙ get_or-drop from marks m false ∙ all m inside))

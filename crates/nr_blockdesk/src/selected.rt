@@ -1,8 +1,10 @@
 //! What was received of a code block, in the order in which its bits were selected.
 
-ghost use Rattle.std.specs.Prelude.{◌≡◌, ℕ, ◌+◌, ◌%◌, ◌^◌, ◌≤◌, ◌<◌, length, take, drop, IfOk};
+ghost use Rattle.std.specs.Prelude.{◌≡◌, ℕ, ◌+◌, ◌%◌, ◌^◌, ◌≤◌, ◌<◌, ◌==◌, length, take, drop, IfOk};
+ghost use Rattle.std.specs.Int.{bit_at};
+ghost use Rattle.nr_bitvec.specs.Bit.{bit};
 ghost use Rattle.nr_interleave.specs.Interleaving.{interleaved};
-ghost use Rattle.nr_blockdesk.specs.Inside.{HasRoomFor};
+ghost use Rattle.nr_blockdesk.specs.Inside.{HasRoomFor, marks_of};
 
 use crate::part::Part;
 use nr_bitvec::Bits;
@@ -14,6 +16,8 @@ use std::alloc::{AllocError, Global};
 pub(crate) struct Selected {
     pub(crate) heard: Bits,
     pub(crate) value: Bits,
+    // Every bit was received. Mostly it is so, and then the marks are not written.
+    pub(crate) whole: bool,
 }
 
 impl Selected {
@@ -24,7 +28,11 @@ impl Selected {
     {
         let heard = Bits::with_room(alloc, most)?;
         let value = Bits::with_room(alloc, most)?;
-        Ok(Selected { heard, value })
+        Ok(Selected {
+            heard,
+            value,
+            whole: false,
+        })
     }
 
     // Takes up a code block's part.
@@ -32,32 +40,29 @@ impl Selected {
         requires order { 0 < qm }
         requires whole { part.now.count % qm ≡ 0 }
         requires room { HasRoomFor part.now.count self.old }
-        ensures marks { interleaved qm self.new.heard.items
+        ensures marks { interleaved qm (marks_of self.new)
             ≡ take part.now.count (drop part.now.from part.now.heard.now.items) }
         ensures bits { interleaved qm self.new.value.items
             ≡ take part.now.count (drop part.now.from part.now.value.now.items) }
         ensures room { (n : ℕ) → HasRoomFor n self.old → HasRoomFor n self.new }
     {
         let (from, count) = (part.from as usize, part.count as usize);
-        read_marks(qm, part, &mut self.heard);
+        self.whole = part.arrived_whole();
+        if !self.whole {
+            unspread_into(qm, part.heard, from, count, &mut self.heard);
+        }
         unspread_into(qm, part.value, from, count, &mut self.value);
     }
-}
 
-// Takes up the marks of a code block's part. Mostly every place is marked, and marks alone are the same in any order.
-fn read_marks(qm: u32, part: &Part<'_>, heard: &mut Bits)
-    requires order { 0 < qm }
-    requires whole { part.now.count % qm ≡ 0 }
-    requires room { part.now.count ≤ length heard.old.items + heard.old.room }
-    ensures marks { interleaved qm heard.new.items
-        ≡ take part.now.count (drop part.now.from part.now.heard.now.items) }
-    ensures room { length heard.old.items + heard.old.room ≤ length heard.new.items + heard.new.room }
-{
-    let (from, count) = (part.from as usize, part.count as usize);
-    if part.arrived_whole() {
-        heard.clear();
-        heard.extend_range(part.heard, from, count);
-    } else {
-        unspread_into(qm, part.heard, from, count, heard);
+    // Marks of the 64 bits from bit `k` on, the first of them lowest.
+    pub(crate) fn marks(&self, k: usize) -> u64
+        ensures { (j : ℕ) → j < 64 → k + j < length self.now.value.items
+            → (bit_at result j == 1) ≡ bit (marks_of self.now) (k + j) }
+    {
+        if self.whole {
+            u64::MAX
+        } else {
+            self.heard.window(k)
+        }
     }
 }
