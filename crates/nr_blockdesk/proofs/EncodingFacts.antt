@@ -1,10 +1,9 @@
 -- The bits of a code block with its fillers, and of a transport block with its CRC.
-use Rattle.std.proofs.Common.{◌≡◌, ◌≢◌, ℕ, zero, suc, ◌+◌, ◌-◌, ◌*◌, ◌/◌, ◌%◌, ◌<◌, ◌≤◌, ◌==◌, nat_lt, min, Bool, true, false, cond, List, ◌++◌, length, get_or, set, take, drop, replicate, refl, sym, ap, subst, ◌∙◌, ⊎_elim, length-append, arith}
+use Rattle.std.proofs.Common.{◌≡◌, ℕ, zero, suc, ◌+◌, ◌-◌, ◌*◌, ◌/◌, ◌%◌, ◌<◌, ◌≤◌, ◌==◌, nat_lt, min, Bool, true, false, cond, List, ◌++◌, length, get_or, take, drop, replicate, refl, sym, ap, subst, ◌∙◌, ⊎_elim, length-append, arith}
 use Rattle.std.specs.Int.{bit_at}
-use Rattle.std.proofs.lemmas.Bool.{cases_eq, cases_lt}
-use Rattle.std.proofs.lemmas.Grind.{get_or-set_at}
+use Rattle.std.proofs.lemmas.Bool.{cases_lt}
 use Rattle.std.proofs.lemmas.Nat.{div-mul-add, mod-mul-add}
-use Rattle.std.proofs.lemmas.List.{get_or-append_right, get_or-drop, get_or-replicate, get_or-set_other, get_or-take, get_or_append_left, get_or_default, length-drop, length-take-le, same_lists}
+use Rattle.std.proofs.lemmas.List.{get_or-append_right, get_or-drop, get_or-replicate, get_or-take, get_or_append_left, get_or_default, length-drop, length-take-le, same_lists}
 use Rattle.nr_bitvec.proofs.PackedListFacts.{bit-low_first}
 use Rattle.nr_bitvec.specs.Bit.{bit}
 use Rattle.nr_bitvec.specs.BitList.{low_first}
@@ -98,13 +97,21 @@ part-inside zero s r inside = absurd (omega arith)
 part-inside (suc c) s zero inside = omega arith
 part-inside (suc c) s (suc r) inside = let before = part-inside c s r (omega arith) in omega (arith, before)
 
--- one bit more is put
-pub same-more : (xs target : List Bool) (n : ℕ) (v : Bool) → n < length xs → ((q : ℕ) → q < n → bit xs q ≡ bit target q)
-    → v ≡ bit target n → (q : ℕ) → q < n + 1 → bit (set xs n v) q ≡ bit target q
-same-more xs target n v inside same one q below = ⊎_elim
-    (λ (here : q ≡ n). get_or-set_at xs n q v false here inside ∙ one ∙ ap (bit target) (sym here))
-    (λ (there : q ≢ n). get_or-set_other xs n q v false there ∙ same q (omega (arith, below, there)))
-    (cases_eq q n)
+-- one word more is put, of bits that another list has
+pub same-more : (n k most word count : ℕ) (target xs ys : List Bool) → count ≡ min (most - n - 64 * k) 64
+    → ((q : ℕ) → q < min (n + 64 * k) most → bit xs q ≡ bit target q)
+    → ((t : ℕ) → t < 64 → n + (64 * k + t) < most → (bit_at word t == 1) ≡ bit target (n + (64 * k + t)))
+    → ((t : ℕ) → t < count → bit ys (n + 64 * k + t) ≡ (bit_at word t == 1))
+    → ((t : ℕ) → t < n + 64 * k → bit ys t ≡ bit xs t)
+    → (q : ℕ) → q < min (n + 64 * (k + 1)) most → bit ys q ≡ bit target q
+same-more n k most word count target xs ys count-is same next within before q below = ⊎_elim
+    (λ (low : q < n + 64 * k). before q low ∙ same q (omega arith))
+    (λ (high : n + 64 * k ≤ q).
+    let t : ℕ = q - (n + 64 * k) in
+    let place : n + 64 * k + t ≡ q = omega arith in
+    let place-too : n + (64 * k + t) ≡ q = omega arith in
+    ap (bit ys) (sym place) ∙ within t (omega arith) ∙ next t (omega arith) (omega arith) ∙ ap (bit target) place-too)
+    (cases_lt q (n + 64 * k))
 
 pub begins-with : (xs target : List Bool) (n : ℕ) → n ≤ length xs → length target ≡ n → ((q : ℕ) → q < n → bit xs q ≡ bit target q)
     → take n xs ≡ target
@@ -146,13 +153,13 @@ read-more p ps xs ys n count word some long read one-block known pushed i below 
     (cases_lt i n)
 
 -- one word of bits more is copied
-pub copied-more : (n i word count : ℕ) (from xs ys : List Bool) → count ≡ min (n - 64 * i) 64 → 64 * i < n
+pub copied-more : (n i word count : ℕ) (from xs ys : List Bool) → count ≡ min (n - 64 * i) 64
     → ((t : ℕ) → t < min (64 * i) n → bit xs t ≡ bit from t)
     → ((t : ℕ) → t < 64 → (bit_at word t == 1) ≡ bit from (64 * i + t))
     → ((t : ℕ) → t < count → bit ys (64 * i + t) ≡ (bit_at word t == 1))
     → ((t : ℕ) → t < 64 * i → bit ys t ≡ bit xs t)
     → (t : ℕ) → t < min (64 * (i + 1)) n → bit ys t ≡ bit from t
-copied-more n i word count from xs ys count-is some done read within before t below = ⊎_elim
+copied-more n i word count from xs ys count-is done read within before t below = ⊎_elim
     (λ (low : t < 64 * i). before t low ∙ done t (omega arith))
     (λ (high : 64 * i ≤ t).
     let place : 64 * i + (t - 64 * i) ≡ t = omega arith in

@@ -1,35 +1,37 @@
 //! Encoding a transport block in memory that is there, and comparing its codewords with what was received.
 
-ghost use Rattle.std.specs.Prelude.{◌≡◌, ℕ, true, false, ◌+◌, ◌-◌, ◌^◌, ◌<◌, ◌≤◌, Bool, IsTrue, List, length};
+ghost use Rattle.std.specs.Prelude.{◌≡◌, ℕ, true, false, ◌+◌, ◌-◌, ◌*◌, ◌^◌, ◌<◌, ◌==◌, Bool, IsTrue, List, length};
+ghost use Rattle.std.specs.Int.{bit_at};
 ghost use Rattle.nr_bitvec.specs.Bit.{bit};
-ghost use Rattle.nr_crcattach.specs.Crc.{crc_of};
-ghost use Rattle.nr_crcattach.specs.declared.Poly.TheVariants.{B24};
 ghost use Rattle.nr_harqbuf.specs.Record.{HeardBits};
 ghost use Rattle.nr_ldpcenc.specs.Codeword.{codeword};
-ghost use Rattle.nr_segment.specs.CodeBlock.{positions_of, code_bits, code_block, numbers, shared_bits};
+ghost use Rattle.nr_segment.specs.CodeBlock.{positions_of, code_bits, code_block, numbers};
 ghost use Rattle.nr_shifttable.specs.Accepted.{has_graph};
 ghost use Rattle.nr_blockdesk.specs.Heard.{heard_of};
 ghost use Rattle.nr_blockdesk.specs.ReceivingInside.{AreWords, Fits, word_at};
 
-use nr_bitvec::Bits;
+use nr_bitvec::{Bits, reversed};
 use nr_crcattach::{Poly, crc_range};
 use nr_harqbuf::Store;
 use nr_ldpcenc::{Word, fill};
 use nr_segment::{Plan, code_blocks_are_long, part};
 use nr_shifttable::Table;
 
-// Bit `k` of code block `r` with its fillers, behind its bits of the transport block, of which `check` is the CRC24B.
-fn tail_bit(plan: &Plan, check: u32, k: u32) -> bool
-    requires behind { plan.now.kdash - plan.now.l ≤ k }
-    ensures { (bits : List Bool) (r : ℕ) → length bits ≡ plan.now.b → r < plan.now.c → k < plan.now.k
-        → check ≡ crc_of B24 (shared_bits (numbers plan.now) bits r)
-        → result ≡ bit (code_block (numbers plan.now) bits r) k }
+// Word `j` of code block `r` with its fillers, behind its bits of the transport block. Only a CRC24B has ones there.
+fn tail_word(plan: &Plan, attached: &Bits, r: u32, j: usize) -> u64
+    requires whole { length attached.now.items ≡ plan.now.b }
+    requires block { r < plan.now.c }
+    ensures { (t : ℕ) → t < 64 → plan.now.kdash - plan.now.l + (64 * j + t) < plan.now.k
+        → (bit_at result t == 1) ≡ bit (code_block (numbers plan.now) attached.now.items r)
+        (plan.now.kdash - plan.now.l + (64 * j + t)) }
 {
     code_blocks_are_long();
-    if k < plan.kdash {
-        check >> (plan.kdash - 1 - k) & 1 == 1
+    if j == 0 && plan.l > 0 {
+        let start = part(plan, r, 0) as usize;
+        let check = crc_range(Poly::B24, attached, start, (plan.kdash - plan.l) as usize);
+        reversed(u64::from(check)) >> 40
     } else {
-        false
+        0
     }
 }
 
@@ -47,13 +49,15 @@ pub(crate) fn encode_into(table: &Table, plan: &Plan, attached: &Bits, r: u32, w
     code_blocks_are_long();
     let share = (plan.kdash - plan.l) as usize;
     let start = part(plan, r, 0) as usize;
-    let check = crc_range(Poly::B24, attached, start, share);
-    for i in 0..share.div_ceil(64) {
-        let at = 64 * i;
-        word.put(at, (share - at).min(64), attached.window(start + at));
+    let whole = share / 64;
+    for i in 0..whole {
+        word.put(64 * i, 64, attached.window(start + 64 * i));
     }
-    for k in share as u32..plan.k {
-        word.set(k as usize, tail_bit(plan, check, k));
+    word.put(64 * whole, share % 64, attached.window(start + 64 * whole));
+    let tail = plan.k as usize - share;
+    for j in 0..tail.div_ceil(64) {
+        let wide = (tail - 64 * j).min(64);
+        word.put(share + 64 * j, wide, tail_word(plan, attached, r, j));
     }
     fill(table, plan, word);
 }

@@ -1,5 +1,5 @@
 -- The bits so far are those of the code block with its fillers.
-use Rattle.std.proofs.Common.{◌≡◌, ℕ, ◌*◌, ◌<◌, drop, length, min}
+use Rattle.std.proofs.Common.{◌≡◌, ℕ, ◌+◌, ◌*◌, ◌<◌, drop, length, min}
 use Rattle.nr_bitvec.specs.Bit.{bit}
 use Rattle.nr_segment.specs.Plan.{word_size}
 use Rattle.nr_segment.specs.CodeBlock.{code_block, numbers}
@@ -11,8 +11,8 @@ invariant-loop-i l = record {
   same : (q : ℕ) → q < min (64 * l.i) l.share → bit l.word q ≡ bit (drop l.start l.attached.items) q;
 }
 
-abbrev pub invariant-loop-k : goal.invariant-loop-k
-invariant-loop-k l = record {
+abbrev pub invariant-loop-j : goal.invariant-loop-j
+invariant-loop-j l = record {
   long : length l.word ≡ word_size l.plan.graph (numbers l.plan);
-  same : (q : ℕ) → q < l.k → bit l.word q ≡ bit (code_block (numbers l.plan) l.attached.items l.r) q;
+  same : (q : ℕ) → q < min (l.share + 64 * l.j) l.plan.k → bit l.word q ≡ bit (code_block (numbers l.plan) l.attached.items l.r) q;
 }
