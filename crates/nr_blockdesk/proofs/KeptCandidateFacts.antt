@@ -1,5 +1,5 @@
 -- What a receiver keeps of the one transport block that may explain what was received.
-use Rattle.std.proofs.Common.{◌≡◌, ◌≢◌, ℕ, ◌+◌, ◌<◌, Bool, true, false, List, [], ◌++◌, length, set, take, sym, ap, subst, ◌∙◌, ⊎_elim, length-append, arith}
+use Rattle.std.proofs.Common.{◌≡◌, ◌≢◌, ℕ, ◌+◌, ◌<◌, Bool, true, false, List, [], ◌++◌, length, set, take, refl, sym, ap, subst, ◌∙◌, ⊎_elim, length-append, arith}
 use Rattle.std.proofs.lemmas.Bool.{cases_eq}
 use Rattle.std.proofs.lemmas.Grind.{get_or-set_at}
 use Rattle.std.proofs.lemmas.List.{get_or-set_other, length-set}
@@ -13,7 +13,7 @@ use Rattle.nr_segment.specs.CodeBlock.{code_bits}
 use Rattle.nr_blockdesk.specs.Heard.{heard_of}
 use Rattle.nr_blockdesk.specs.Link.{IsBlock, Link, word}
 use Rattle.nr_blockdesk.specs.Outcome.{ExplainedBy}
-use Rattle.nr_blockdesk.specs.ReceivingInside.{AllAgree, AreWords, Fits, IsExplained, Stands, candidate_after, word_at}
+use Rattle.nr_blockdesk.specs.ReceivingInside.{AllAgree, AreWords, Fits, IsExplained, Stands, candidate_after, is_consistent, word_at}
 use Rattle.nr_blockdesk.specs.declared.candidate.CandidateState.{CandidateState}
 use Rattle.nr_blockdesk.specs.declared.candidate.CandidateState.TheVariants as candidate_state
 
@@ -42,20 +42,20 @@ module _ (link : Link) (S T : List HeardBits) (fewer : (r : ℕ) (w : ℕ → Bo
   explained-before y by r inside = fewer r (bit (word link y r)) inside (by r inside)
 
   -- how the one transport block that may explain all stands, once its codewords were compared with what was received
-  pub stands-after : (list : List Bool) (words : List (List Bool)) (agreed : Bool) (st : CandidateState) → AllAgree agreed link.plan.c words S T
+  pub stands-after : (list : List Bool) (words : List (List Bool)) (agreed : Bool) (st : CandidateState) → (is_consistent st ≡ true → AllAgree agreed link.plan.c words S T)
       → Stands link S list words st → Stands link T list words (candidate_after st agreed)
   stands-after list words agreed candidate_state.NotRead tells stands = tt
   stands-after list words true candidate_state.Consistent tells stands = record {
     held = stands.held;
     explains = λ r inside.
         subst (λ (w : List Bool). Fits (heard_of T r) (bit w)) (stands.coded r inside)
-        (tells r inside (subst (λ (w : List Bool). Fits (heard_of S r) (bit w)) (sym (stands.coded r inside)) (stands.explains r inside)));
+        (tells refl r inside (subst (λ (w : List Bool). Fits (heard_of S r) (bit w)) (sym (stands.coded r inside)) (stands.explains r inside)));
     only = λ y whole by. stands.only y whole (explained-before y by);
     coded = stands.coded;
   }
   stands-after list words false candidate_state.Consistent tells stands = λ y whole by.
       let is : y ≡ take link.a list = stands.only y whole (explained-before y by) in
-      tells (λ r inside.
+      tells refl (λ r inside.
       subst (λ (w : List Bool). Fits (heard_of T r) (bit w)) (sym (stands.coded r inside))
       (subst (λ (x : List Bool). Fits (heard_of T r) (bit (word link x r))) is (by r inside)))
   stands-after list words agreed candidate_state.Inconsistent tells stands = λ y whole by. stands y whole (explained-before y by)

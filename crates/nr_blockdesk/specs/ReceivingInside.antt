@@ -98,6 +98,11 @@ Stands link records list words candidate_state.NotRead = Unit {0}
 Stands link records list words candidate_state.Consistent = IsExplained link records list words
 Stands link records list words candidate_state.Inconsistent = IsUnexplained link records
 
+-- it explains all
+abbrev pub is_consistent : CandidateState → Bool
+is_consistent candidate_state.Consistent = true
+is_consistent _ = false
+
 -- how it stands once more was received, which agrees with its codewords or doesn't
 abbrev pub candidate_after : CandidateState → Bool → CandidateState
 candidate_after candidate_state.NotRead agreed = candidate_state.NotRead

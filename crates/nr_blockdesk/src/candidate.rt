@@ -4,7 +4,7 @@ ghost use Rattle.std.specs.Prelude.{◌≡◌, ℕ, ◌==◌, ◌<◌, ◌≤◌
 ghost use Rattle.std.specs.List.{list_all};
 ghost use Rattle.nr_peel.specs.Peeling.{Peeling, checks_for, left_of};
 ghost use Rattle.nr_segment.specs.CodeBlock.{numbers};
-ghost use Rattle.nr_blockdesk.specs.ReceivingInside.{IsRead, candidate_after};
+ghost use Rattle.nr_blockdesk.specs.ReceivingInside.{IsRead, candidate_after, is_consistent};
 
 use nr_bitvec::Bits;
 use nr_peel::Peeler;
@@ -22,6 +22,13 @@ pub(crate) enum CandidateState {
 }
 
 impl CandidateState {
+    // Whether what is received more decides how it stands.
+    pub(crate) fn is_consistent(self) -> bool
+        ensures { result ≡ is_consistent self }
+    {
+        matches!(self, CandidateState::Consistent)
+    }
+
     // How it stands when more is received, which agrees with its codewords or does not. A contradiction
     // stays.
     pub(crate) fn after(self, agreed: bool) -> CandidateState

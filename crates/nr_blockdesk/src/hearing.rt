@@ -1,7 +1,7 @@
 //! Receiving one transmission. What it gives a code block is put together in two masks first. Then the store and the peeler
 //! take them at once.
 
-ghost use Rattle.std.specs.Prelude.{◌≡◌, ℕ, ◌*◌, ◌%◌, ◌^◌, ◌<◌, ◌≤◌, length, slice_index, slice_index_or, List, IfOk, MatchResult, Ok, Err};
+ghost use Rattle.std.specs.Prelude.{◌≡◌, ℕ, ◌*◌, ◌%◌, ◌^◌, ◌<◌, ◌≤◌, length, slice_index, slice_index_or, List, IfOk, IsTrue, MatchResult, Ok, Err};
 ghost use Rattle.nr_bitvec.specs.Bit.{bit};
 ghost use Rattle.nr_graphpick.specs.Graph.{cols_of};
 ghost use Rattle.nr_harqbuf.specs.Masks.{AreMasks};
@@ -57,7 +57,7 @@ pub(crate) fn judge_heard(
 const POSITIONS_PER_PLACE: usize = 128;
 
 // Receives one code block's part of a transmission: only the first bit of a position is learned. Returns whether each
-// bit received is that of `word`.
+// bit received is that of `word`, where that is asked.
 fn hear_part(
     buffer: &Buffer,
     tx: &Tx,
@@ -65,6 +65,7 @@ fn hear_part(
     store: &mut Store,
     peeler: &mut Peeler<'_>,
     word: &Word,
+    compare: bool,
     part_masks: &mut PartMasks,
     selected: &mut Selected,
 ) -> bool
@@ -76,7 +77,7 @@ fn hear_part(
     requires empty { AreEmpty (cols_of buffer.now.graph * buffer.now.z) part_masks.old }
     requires room { HasRoomFor part.now.count selected.old }
     ensures hears { HearsPart buffer.now tx.now (heards_of part.now) store.old peeler.old store.new peeler.new }
-    ensures agreed { Agrees result (bit word.now) store.old store.new }
+    ensures agreed { IsTrue compare → Agrees result (bit word.now) store.old store.new }
     ensures empty { AreEmpty (cols_of buffer.now.graph * buffer.now.z) part_masks.new }
     ensures room { (n : ℕ) → HasRoomFor n selected.old → HasRoomFor n selected.new }
 {
@@ -85,30 +86,31 @@ fn hear_part(
     }
     selected.read(tx.qm, part);
     if gather_part(buffer, tx.rv, selected, part_masks) {
-        absorb(part_masks, store, peeler, word)
+        absorb(part_masks, store, peeler, word, compare)
     } else {
         hear_by_places(buffer, tx, part, store, peeler, word, part_masks)
     }
 }
 
 // Takes the masks of a part into store and peeler: what was received for the first time is learned at once. Returns
-// whether each of their bits is that of `word`. The masks are empty then.
+// whether each of their bits is that of `word`, where that is asked. The masks are empty then.
 fn absorb(
     part_masks: &mut PartMasks,
     store: &mut Store,
     peeler: &mut Peeler<'_>,
     word: &Word,
+    compare: bool,
 ) -> bool
     requires sized { IsSized (length part_masks.old.heard.items) store.old peeler.old }
     requires bits { length part_masks.old.value.items ≡ length part_masks.old.heard.items }
     ensures hears { (more : List Observation)
         → AreMasks more part_masks.old.heard.items part_masks.old.value.items
         → HearsAll more store.old peeler.old store.new peeler.new }
-    ensures agreed { Agrees result (bit word.now) store.old store.new }
+    ensures agreed { IsTrue compare → Agrees result (bit word.now) store.old store.new }
     ensures empty { AreEmpty (length part_masks.old.heard.items) part_masks.new }
 {
     record_merges();
-    let agreed = agrees(&part_masks.heard, &part_masks.value, word.bits());
+    let agreed = !compare || agrees(&part_masks.heard, &part_masks.value, word.bits());
     store.hear_all(&mut part_masks.heard, &part_masks.value);
     learn_masks(part_masks, peeler);
     agreed
@@ -176,7 +178,7 @@ fn hear_by_places(
 }
 
 // Receives a transmission: each code block has its part of the places. Returns whether each bit received is that of its
-// code block's word.
+// code block's word, where that is asked.
 pub(crate) fn hear(
     buffer: &Buffer,
     tx: &Tx,
@@ -186,6 +188,7 @@ pub(crate) fn hear(
     stores: &mut [Store],
     peelers: &mut [Peeler<'_>],
     words: &[Word],
+    compare: bool,
     part_masks: &mut PartMasks,
     selected: &mut Selected,
 ) -> bool
@@ -207,7 +210,7 @@ pub(crate) fn hear(
         → HearsPart buffer.now tx.now (piece lengths.now (heards heard.now.items value.now.items) r)
         (heard_of stores.old r) (slice_index_or peelers.old r d)
         (heard_of stores.new r) (slice_index_or peelers.new r d) }
-    ensures agreed { AllAgree result (length stores.old) words.now stores.old stores.new }
+    ensures agreed { IsTrue compare → AllAgree result (length stores.old) words.now stores.old stores.new }
     ensures empty { AreEmpty (cols_of buffer.now.graph * buffer.now.z) part_masks.new }
 {
     let mut agreed = true;
@@ -223,7 +226,7 @@ pub(crate) fn hear(
         let store = &mut stores[r];
         let peeler = &mut peelers[r];
         agreed &= hear_part(
-            buffer, tx, &part, store, peeler, &words[r], part_masks, selected,
+            buffer, tx, &part, store, peeler, &words[r], compare, part_masks, selected,
         );
         from += count;
     }

@@ -81,6 +81,7 @@ impl<'t> Receiver<'t> {
             &mut self.stores,
             &mut self.peelers,
             &self.words,
+            self.candidate_state.is_consistent(),
             &mut self.part_masks,
             &mut selected,
         );

@@ -43,10 +43,10 @@ loop-r-preserved c =
       later_peelers = peelers-kept c.args.peelers.now c.loop-r.peelers r c.hear_part-agreed.new.peeler inv.later_peelers;
       empty = c.hear_part-agreed.ensures.empty;
       room = λ n has. c.hear_part-agreed.ensures.room n (inv.room n has);
-      agreed = all-tell-more c.loop-r.agreed c.hear_part-agreed.result c.args.words.now c.index-words-r.result c.args.stores.now S r (get_or S r s) c.hear_part-agreed.new.store stored
+      agreed = λ asked. all-tell-more c.loop-r.agreed c.hear_part-agreed.result c.args.words.now c.index-words-r.result c.args.stores.now S r (get_or S r s) c.hear_part-agreed.new.store stored
           (get_or_read c.args.words.now r c.index-words-r.result worded c.index-words-r.is [])
           (sym c.index-stores-r.is ∙ get_or_read S r s stored c.index-stores-r.is (record { first = []; clash = false }) ∙ inv.later r (omega arith))
-          c.hear_part-agreed.ensures.agreed inv.agreed;
+          (c.hear_part-agreed.ensures.agreed asked) (inv.agreed asked);
     }
 
 pub invariant_of-part : goal.invariant_of-part

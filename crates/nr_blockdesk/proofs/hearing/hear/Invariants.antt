@@ -1,5 +1,6 @@
 -- The code blocks so far have received their parts, and the others nothing yet.
 use Rattle.std.proofs.Common.{◌≡◌, ℕ, ◌*◌, ◌<◌, ◌≤◌, length, take, sum, slice_index_or}
+use Rattle.std.specs.Prelude.{IsTrue}
 use Rattle.nr_graphpick.specs.Graph.{cols_of}
 use Rattle.nr_peel.specs.Peeling.{Peeling}
 use Rattle.nr_blockdesk.specs.Heard.{heard_of}
@@ -20,5 +21,5 @@ invariant-loop-r l = record {
   later_peelers : (q : ℕ) (d : Peeling) → l.r ≤ q → slice_index_or l.peelers q d ≡ slice_index_or l.fn.peelers q d;
   empty : AreEmpty (cols_of l.buffer.graph * l.buffer.z) l.part_masks;
   room : (n : ℕ) → HasRoomFor n l.fn.selected → HasRoomFor n l.selected;
-  agreed : AllAgree l.agreed l.r l.words l.fn.stores l.stores;
+  agreed : IsTrue l.compare → AllAgree l.agreed l.r l.words l.fn.stores l.stores;
 }

@@ -1,4 +1,4 @@
-use Rattle.std.proofs.Common.{◌≡◌, ◌*◌, ◌<◌, ◌≤◌, [], ◌∷◌, ◌++◌, inr, ℕ, Bool, Ok, Err, List, length, get_or, drop, take, refl, subst, sym, ap, ◌∙◌, arith}
+use Rattle.std.proofs.Common.{◌≡◌, ◌*◌, ◌<◌, ◌≤◌, [], ◌∷◌, ◌++◌, inr, ℕ, Bool, true, Ok, Err, List, length, get_or, drop, take, refl, subst, sym, ap, ◌∙◌, arith}
 use Rattle.std.proofs.lemmas.Result.{err_from_is_err_and}
 use Rattle.std.specs.Prelude.{IsOk, Result, slice_index}
 use Rattle.std.specs.Vec.{vec_len}
@@ -16,7 +16,7 @@ use Rattle.nr_blockdesk.proofs.MarkFacts.{length-heards, room-less}
 use Rattle.nr_blockdesk.specs.Heard.{IsRecordOf, heard_of}
 use Rattle.nr_blockdesk.specs.Link.{link_of}
 use Rattle.nr_blockdesk.specs.Receiving.{ReceiverView, RefusesAs, peeling_of}
-use Rattle.nr_blockdesk.specs.ReceivingInside.{AllAgree, IsDesk, IsSized, Stands}
+use Rattle.nr_blockdesk.specs.ReceivingInside.{AllAgree, IsDesk, IsSized, Stands, is_consistent}
 use Rattle.nr_blockdesk.specs.Telling.{AreEmpty}
 use Rattle.nr_blockdesk.proofs.CandidateFacts.{outcome-of_record, sized-of}
 use Rattle.nr_blockdesk.proofs.KeptCandidateFacts.{stands-after, part_masks-of, written}
@@ -122,9 +122,9 @@ invariant_of-self c =
     let stores-whole : length S' ≡ vec_len s.stores = omega (arith, many) in
     let peelers-whole : length P' ≡ vec_len s.peelers = omega (arith, peeled) in
     let kept : take (vec_len s.stores) (S' ++ drop (length S') S) ≡ S' = written (vec_len s.stores) S' (drop (length S') S) stores-whole in
-    let part_masks : AllAgree c.hear-agreed.result s.plan.c s.words.items S S' =
-    part_masks-of c.hear-agreed.result s.plan.c s.words.items c.deref-3.result.now S c.deref_mut.result.now S' c.deref-3.ensures.value c.deref_mut.ensures.value
-    inv.desk.stores c.hear-agreed.ensures.agreed in
+    let part_masks : is_consistent s.candidate_state ≡ true → AllAgree c.hear-agreed.result s.plan.c s.words.items S S' =
+    λ asked. part_masks-of c.hear-agreed.result s.plan.c s.words.items c.deref-3.result.now S c.deref_mut.result.now S' c.deref-3.ensures.value c.deref_mut.ensures.value
+    inv.desk.stores (c.hear-agreed.ensures.agreed (c.is_consistent.ensures ∙ asked)) in
     let kept-too : take (vec_len s.peelers) (P' ++ drop (length P') P) ≡ P' = written (vec_len s.peelers) P' (drop (length P') P) peelers-whole in
     record {
       is_link = inv.is_link;
