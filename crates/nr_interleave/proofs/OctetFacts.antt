@@ -10,7 +10,7 @@ use Rattle.std.proofs.lemmas.Nat.{and_mask}
 use Rattle.std.proofs.lemmas.Nat.Bits.{bit_at-lt, bit_at_and, bit_at_or}
 use Rattle.nr_bitvec.proofs.BitFacts.{bit_at_shr, bit_at_shl_low, bit_at_shl_high, bit_at_mod, bit_at_mod_above}
 use Rattle.nr_interleave.proofs.BoundedTestFacts.{all_under, all_under-at}
-use Rattle.nr_interleave.specs.Octets.{after, apart_from, columns_apart, columns_together, exchanged_from, Gets, MakesColumns, MakesOctets, neither, octets_back, octets_turned, only_in, raised, together_from}
+use Rattle.nr_interleave.specs.Octets.{in_two_steps, apart_from, columns_apart, columns_together, exchanged_from, Gets, MakesColumns, MakesOctets, neither, octets_back, octets_turned, only_in, moved_up, together_from}
 use Rattle.nr_interleave.specs.declared.octets.TheConstants.{OF_2, OF_4, OF_6, OF_8}
 
 -- ---- masks, tested
@@ -105,7 +105,7 @@ pub record IsRaised (by p : ℕ) : Type 0 where
   pub above : by ≤ p
   pub inside : p < 64
 
-is-raised : (mask by p : ℕ) → bit_at (raised mask by) p ≡ 1 → IsRaised by p
+is-raised : (mask by p : ℕ) → bit_at (moved_up mask by) p ≡ 1 → IsRaised by p
 is-raised mask by p mark = elim (cases_lt p 64) [
   | inr past ↦ let none : bit_at (mask * 2 ^ by % 2 ^ 64) p ≡ 0 = bit_at_mod_above (mask * 2 ^ by) 64 p past in absurd (omega (arith, none, mark))
   | inl inside ↦ elim (cases_lt p by) [
@@ -117,9 +117,9 @@ is-raised mask by p mark = elim (cases_lt p 64) [
 ]
 
 moved-up : (x mask lane by p : ℕ) → by ≤ lane
-    → (bit_at (bit_and (x * 2 ^ by % 2 ^ 64) (raised mask lane)) p == 1) ≡ list_any (λ k. bit_at x k == 1) (only_in (raised mask lane) p (p - by))
+    → (bit_at (bit_and (x * 2 ^ by % 2 ^ 64) (moved_up mask lane)) p == 1) ≡ list_any (λ k. bit_at x k == 1) (only_in (moved_up mask lane) p (p - by))
 moved-up x mask lane by p few =
-    in-mask x (x * 2 ^ by % 2 ^ 64) (raised mask lane) p (p - by)
+    in-mask x (x * 2 ^ by % 2 ^ 64) (moved_up mask lane) p (p - by)
     (λ mark.
     let there = is-raised mask lane p mark in
     bit_at_mod (x * 2 ^ by) 64 p there.inside ∙ bit_at_shl_high x by p (omega (arith, few, there.above)))
@@ -127,30 +127,30 @@ moved-up x mask lane by p few =
 pub apart-gets : (x mask lane by : ℕ) → by ≤ lane → Gets (apart_from mask lane by) x (bit_or (bit_and x mask) (bit_and (x * 2 ^ by % 2 ^ 64) (mask * 2 ^ lane % 2 ^ 64)))
 apart-gets x mask lane by few p =
     let test : ℕ → Bool = λ k. bit_at x k == 1 in
-    or-one (bit_and x mask) (bit_and (x * 2 ^ by % 2 ^ 64) (raised mask lane)) p
-    ∙ ap (λ b. b || (bit_at (bit_and (x * 2 ^ by % 2 ^ 64) (raised mask lane)) p == 1)) (in-mask x x mask p p (λ mark. refl))
+    or-one (bit_and x mask) (bit_and (x * 2 ^ by % 2 ^ 64) (moved_up mask lane)) p
+    ∙ ap (λ b. b || (bit_at (bit_and (x * 2 ^ by % 2 ^ 64) (moved_up mask lane)) p == 1)) (in-mask x x mask p p (λ mark. refl))
     ∙ ap (λ b. list_any test (only_in mask p p) || b) (moved-up x mask lane by p few)
-    ∙ sym (list_any-append test (only_in mask p p) (only_in (raised mask lane) p (p - by)))
+    ∙ sym (list_any-append test (only_in mask p p) (only_in (moved_up mask lane) p (p - by)))
 
 pub together-gets : (x mask lane by : ℕ) → Gets (together_from mask lane by) x (bit_or (bit_and x mask) (bit_and (x / 2 ^ by) (mask * 2 ^ (lane - by) % 2 ^ 64)))
 together-gets x mask lane by p =
     let test : ℕ → Bool = λ k. bit_at x k == 1 in
-    or-one (bit_and x mask) (bit_and (x / 2 ^ by) (raised mask (lane - by))) p
-    ∙ ap (λ b. b || (bit_at (bit_and (x / 2 ^ by) (raised mask (lane - by))) p == 1)) (in-mask x x mask p p (λ mark. refl))
-    ∙ ap (λ b. list_any test (only_in mask p p) || b) (in-mask x (x / 2 ^ by) (raised mask (lane - by)) p (by + p) (λ mark. bit_at_shr x by p))
-    ∙ sym (list_any-append test (only_in mask p p) (only_in (raised mask (lane - by)) p (by + p)))
+    or-one (bit_and x mask) (bit_and (x / 2 ^ by) (moved_up mask (lane - by))) p
+    ∙ ap (λ b. b || (bit_at (bit_and (x / 2 ^ by) (moved_up mask (lane - by))) p == 1)) (in-mask x x mask p p (λ mark. refl))
+    ∙ ap (λ b. list_any test (only_in mask p p) || b) (in-mask x (x / 2 ^ by) (moved_up mask (lane - by)) p (by + p) (λ mark. bit_at_shr x by p))
+    ∙ sym (list_any-append test (only_in mask p p) (only_in (moved_up mask (lane - by)) p (by + p)))
 
 pub exchanged-gets : (x mask by : ℕ) → Gets (exchanged_from mask by) x
-    (bit_or (bit_or (bit_and x (neither mask (raised mask by))) (bit_and (x * 2 ^ by % 2 ^ 64) (raised mask by))) (bit_and (x / 2 ^ by) mask))
+    (bit_or (bit_or (bit_and x (neither mask (moved_up mask by))) (bit_and (x * 2 ^ by % 2 ^ 64) (moved_up mask by))) (bit_and (x / 2 ^ by) mask))
 exchanged-gets x mask by p =
     let test : ℕ → Bool = λ k. bit_at x k == 1 in
-    let kept : ℕ = bit_and x (neither mask (raised mask by)) in
-    let up : ℕ = bit_and (x * 2 ^ by % 2 ^ 64) (raised mask by) in
-    let kept_from : List ℕ = only_in (neither mask (raised mask by)) p p in
-    let up_from : List ℕ = only_in (raised mask by) p (p - by) in
+    let kept : ℕ = bit_and x (neither mask (moved_up mask by)) in
+    let up : ℕ = bit_and (x * 2 ^ by % 2 ^ 64) (moved_up mask by) in
+    let kept_from : List ℕ = only_in (neither mask (moved_up mask by)) p p in
+    let up_from : List ℕ = only_in (moved_up mask by) p (p - by) in
     or-one (bit_or kept up) (bit_and (x / 2 ^ by) mask) p
     ∙ ap (λ b. b || (bit_at (bit_and (x / 2 ^ by) mask) p == 1)) (or-one kept up p)
-    ∙ ap (λ b. (b || (bit_at up p == 1)) || (bit_at (bit_and (x / 2 ^ by) mask) p == 1)) (in-mask x x (neither mask (raised mask by)) p p (λ mark. refl))
+    ∙ ap (λ b. (b || (bit_at up p == 1)) || (bit_at (bit_and (x / 2 ^ by) mask) p == 1)) (in-mask x x (neither mask (moved_up mask by)) p p (λ mark. refl))
     ∙ ap (λ b. (list_any test kept_from || b) || (bit_at (bit_and (x / 2 ^ by) mask) p == 1)) (moved-up x mask by by p (omega arith))
     ∙ ap (λ b. b || (bit_at (bit_and (x / 2 ^ by) mask) p == 1)) (sym (list_any-append test kept_from up_from))
     ∙ ap (λ b. list_any test (kept_from ++ up_from) || b) (in-mask x (x / 2 ^ by) mask p (by + p) (λ mark. bit_at_shr x by p))
@@ -164,7 +164,7 @@ through earlier x w gets (k ∷ ks) =
     ∙ ap (λ b. list_any (λ k. bit_at x k == 1) (earlier k) || b) (through earlier x w gets ks)
     ∙ sym (list_any-append (λ k. bit_at x k == 1) (earlier k) (flat_map earlier ks))
 
-pub then-gets : (later earlier : ℕ → List ℕ) (x w v : ℕ) → Gets earlier x w → Gets later w v → Gets (after later earlier) x v
+pub then-gets : (later earlier : ℕ → List ℕ) (x w v : ℕ) → Gets earlier x w → Gets later w v → Gets (in_two_steps later earlier) x v
 then-gets later earlier x w v first second p = second p ∙ through earlier x w first (later p)
 
 -- a place to which one bit comes

@@ -9,6 +9,6 @@ HasRows qm rows bits columns column = (r j : ℕ) → r < qm → j < 64
     → (bit_at (slice_index_or rows r 0) j == 1) ≡ bit bits (r * columns + column + j)
 
 -- words of its columns from a column on, eight in a word, of qm places each
-abbrev pub HasColumns : ℕ → List ℕ → List Bool → ℕ → ℕ → Type 0
-HasColumns qm words bits columns column = (e s r : ℕ) → e < 8 → s < 8 → r < qm
+abbrev pub HasColumnBits : ℕ → List ℕ → List Bool → ℕ → ℕ → Type 0
+HasColumnBits qm words bits columns column = (e s r : ℕ) → e < 8 → s < 8 → r < qm
     → (bit_at (slice_index_or words e 0) (s * qm + r) == 1) ≡ bit bits (r * columns + column + (8 * e + s))

@@ -5,7 +5,7 @@ ghost use Rattle.std.specs.Int.{bit_at};
 ghost use Rattle.nr_bitvec.specs.Bit.{bit};
 ghost use Rattle.nr_interleave.specs.Interleaving.{interleaved};
 ghost use Rattle.nr_interleave.specs.Octets.{MakesColumns};
-ghost use Rattle.nr_interleave.specs.Spreading.{HasColumns, HasRows};
+ghost use Rattle.nr_interleave.specs.Spreading.{HasColumnBits, HasRows};
 
 use crate::octets::{column_word, octets_at};
 use nr_bitvec::Bits;
@@ -37,7 +37,7 @@ fn column_words<const QM: usize>(
     requires masks { MakesColumns QM masks.now }
     requires columns { columns ≤ 2 ^ 24 }
     requires column { column ≤ 2 ^ 24 }
-    ensures { HasColumns QM result bits.now.items columns column }
+    ensures { HasColumnBits QM result bits.now.items columns column }
 {
     let rows = read_rows::<QM>(bits, columns, column);
     let mut octets = [0; 8];
@@ -63,8 +63,8 @@ fn refill<const QM: usize>(
     requires masks { MakesColumns QM masks.now }
     requires columns { columns ≤ 2 ^ 24 }
     requires eight { 8 * eight ≤ 2 ^ 24 }
-    requires words { 0 < eight % 8 → HasColumns QM words.old bits.now.items columns (64 * (eight / 8)) }
-    ensures { HasColumns QM words.new bits.now.items columns (64 * (eight / 8)) }
+    requires words { 0 < eight % 8 → HasColumnBits QM words.old bits.now.items columns (64 * (eight / 8)) }
+    ensures { HasColumnBits QM words.new bits.now.items columns (64 * (eight / 8)) }
 {
     if eight % 8 != 0 {
         return;

@@ -1,5 +1,5 @@
 use Rattle.std.proofs.Common.{ℕ, ◌+◌, ◌-◌, ◌*◌, List, slice_index_or}
-use Rattle.nr_interleave.specs.Octets.{after, apart_from, columns_apart, exchanged_from, octets_turned}
+use Rattle.nr_interleave.specs.Octets.{in_two_steps, apart_from, columns_apart, exchanged_from, octets_turned}
 use Rattle.nr_interleave.proofs.OctetFacts.{only-comes, then-gets}
 use Rattle.nr_interleave.proofs.octets.row_octets.Goals as goal
 
@@ -13,11 +13,11 @@ returns g c =
     let fourth : ℕ → List ℕ = exchanged_from 0x00aa00aa00aa00aa 7 in
     let fifth : ℕ → List ℕ = exchanged_from 0x0000cccc0000cccc 14 in
     let sixth : ℕ → List ℕ = exchanged_from 0x00000000f0f0f0f0 28 in
-    let moved : ℕ → List ℕ = after third (after second first) in
-    let gets = then-gets sixth (after fifth (after fourth moved)) x c.exchanged-fours.result c.exchanged.result
-    (then-gets fifth (after fourth moved) x c.exchanged-pairs.result c.exchanged-fours.result
+    let moved : ℕ → List ℕ = in_two_steps third (in_two_steps second first) in
+    let gets = then-gets sixth (in_two_steps fifth (in_two_steps fourth moved)) x c.exchanged-fours.result c.exchanged.result
+    (then-gets fifth (in_two_steps fourth moved) x c.exchanged-pairs.result c.exchanged-fours.result
     (then-gets fourth moved x c.apart-columns.result c.exchanged-pairs.result
-    (then-gets third (after second first) x c.apart-quarters.result c.apart-columns.result
+    (then-gets third (in_two_steps second first) x c.apart-quarters.result c.apart-columns.result
     (then-gets second first x c.apart-halves.result c.apart-quarters.result c.apart-halves.ensures c.apart-quarters.ensures) c.apart-columns.ensures)
     c.exchanged-pairs.ensures) c.exchanged-fours.ensures) c.exchanged.ensures in
     λ r k row column. only-comes (octets_turned (columns_apart g.row.QM masks)) x c.exchanged.result (8 * r + k) (g.row.QM * k + r) gets (c.requires.octets r k row column)
