@@ -170,15 +170,6 @@ counted_more i count word lane is fits before =
     next : (i : ℕ) → 64 * i + 64 ≡ 64 * (i + 1)
     next i = omega arith
 
--- a word of zeros has no bit
-pub counted_none : (i count : ℕ) (lane : List ℕ) → get_or lane i 0 ≡ 0 → count ≡ marked (is_set lane) (64 * i) → count ≡ marked (is_set lane) (64 * (i + 1))
-counted_none i count lane none before = none_more count ∙ counted_more i count 0 lane (sym none) (omega arith) before
-  where
-    none_more : (n : ℕ) → n ≡ n + count_ones 0
-    none_more n =
-        let zero_ones : count_ones 0 ≡ 0 = ones_below 0 (omega arith) in
-        omega (arith, zero_ones)
-
 -- the bits of a lane that is clear from place n on are below it
 pub counted_all : (k n : ℕ) (lane : List ℕ) → length lane ≤ k → IsClear lane n → marked (is_set lane) (64 * k) ≡ marked (is_set lane) n
 counted_all k n lane few clear = elim (cases_lt n (64 * k)) [

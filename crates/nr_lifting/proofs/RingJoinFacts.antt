@@ -90,27 +90,28 @@ module _ (z : ℕ) (now old ws : List ℕ) (few : length ws ≤ 6) where
         omega (arith, kept, none)
   ]
 
-module _ (z i : ℕ) (next now old ws : List ℕ) (past : ℕ) (h : IsMade (z / 64 + i) (λ t. max (place old t) (moved z ws t)) now old)
-    (carry : Carries z i ws past) (within : z / 64 + i < length now) where
+pub carries_six : (z i : ℕ) (ws : List ℕ) (past : ℕ) → Carries z i ws past → i ≡ 6 → Carries z 6 ws past
+carries_six z i ws past carry six = subst (λ n. Carries z n ws past) six carry
+
+module _ (z i : ℕ) (next now old ws : List ℕ) (h : IsMade (z / 64 + i) (λ t. max (place old t) (moved z ws t)) now old) (within : z / 64 + i < length now) where
   -- one word more is joined where it is moved up
-  pub moved_next : (word : ℕ) → word ≡ get_or ws i 0 → next ≡ set now (z / 64 + i) (bit_or (get_or now (z / 64 + i) 0) (bit_or (word * 2 ^ (z % 64) % 2 ^ 64) past))
+  pub moved_next : (word : ℕ) → next ≡ set now (z / 64 + i) (bit_or (get_or now (z / 64 + i) 0) word) → ((j : ℕ) → j < 64 → bit_at word j ≡ moved z ws (64 * (z / 64 + i) + j))
       → IsMade (z / 64 + (i + 1)) (λ t. max (place old t) (moved z ws t)) next old
-  moved_next word kept put =
+  moved_next word put are =
       let one_more : z / 64 + i + 1 ≡ z / 64 + (i + 1) = omega arith in
       subst (λ n. IsMade n (λ t. max (place old t) (moved z ws t)) next old) one_more (made_next (z / 64 + i) _ next now old _ h within put (λ j short.
-      ring_low 0 (z / 64 + i) _ old _ j short (h.kept (z / 64 + i) (omega arith)) (moved_word z i word ws kept past carry j short)))
+      ring_low 0 (z / 64 + i) _ old _ j short (h.kept (z / 64 + i) (omega arith)) (are j short)))
 
   -- what the last leaves over is joined
-  pub moved_last : i ≡ 6 → length ws ≤ 6 → next ≡ set now (z / 64 + 6) (bit_or (get_or now (z / 64 + 6) 0) past)
+  pub moved_last : (past : ℕ) → Carries z 6 ws past → i ≡ 6 → length ws ≤ 6 → next ≡ set now (z / 64 + 6) (bit_or (get_or now (z / 64 + 6) 0) past)
       → (t : ℕ) → place next t ≡ max (place old t) (moved z ws t)
-  moved_last six few put =
+  moved_last past carry six few put =
       let here : next ≡ set now (z / 64 + i) (bit_or (get_or now (z / 64 + i) 0) past) = put ∙ ap (λ k. set now (z / 64 + k) (bit_or (get_or now (z / 64 + k) 0) past)) (sym six) in
-      moved_all z next old ws few (z / 64 + i + 1) (made_next (z / 64 + i) _ next now old _ h within here (λ j short.
-      ring_low 0 (z / 64 + i) _ old _ j short (h.kept (z / 64 + i) (omega arith)) (carried j short))) (omega (arith, six))
+      moved_all z next old ws few (z / 64 + (i + 1)) (moved_next past here carried) (omega (arith, six))
     where
       carried : (j : ℕ) → j < 64 → bit_at past j ≡ moved z ws (64 * (z / 64 + i) + j)
       carried j short = elim (cases_lt j (z % 64)) [
-        | inl low ↦ carry.low j low
+        | inl low ↦ carry.low j low ∙ ap (λ k. moved z ws (64 * (z / 64 + k) + j)) (sym six)
         | inr high ↦
             let t = 64 * (z / 64 + i) + j in
             carry.high j high ∙ sym (moved-high z ws t (omega (arith, high)) ∙ place_past ws (t - z) (omega (arith, few, six, high)))

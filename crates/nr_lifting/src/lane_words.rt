@@ -46,10 +46,7 @@ pub fn lane_count(lane: &[u64; 6]) -> u32
 {
     let mut count = 0;
     for i in 0..6 {
-        // Most words of most lanes are zero, and to count takes longer than to see that.
-        if lane[i] != 0 {
-            count += lane[i].count_ones();
-        }
+        count += lane[i].count_ones();
     }
     count
 }

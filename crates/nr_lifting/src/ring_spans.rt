@@ -26,9 +26,24 @@ pub(crate) fn mask_of(size: usize) -> [u64; 6]
 {
     let mut mask = [0; 6];
     for i in 0..6 {
-        mask[i] = low_bits(u64::MAX, size - size.min(64 * i));
+        mask[i] = mask_word(size, i);
     }
     mask
+}
+
+// Word `i` of a mask. It is chosen and not made by shifts, whose number would be another for each word.
+fn mask_word(size: usize, i: usize) -> u64
+    ensures low { (j : ℕ) → j < 64 → 64 * i + j < size → bit_at result j ≡ 1 }
+    ensures high { (j : ℕ) → size ≤ 64 * i + j → bit_at result j ≡ 0 }
+{
+    let whole = size / 64;
+    if i < whole {
+        u64::MAX
+    } else if i == whole {
+        low_bits(u64::MAX, size % 64)
+    } else {
+        0
+    }
 }
 
 // Sets the places of a ring where a block of `size` bits has a one, as `join_ring` does. The second copy is the words moved
@@ -44,18 +59,22 @@ pub(crate) fn join_twice(ring: &mut [u64; 12], words: &[u64; 6], size: usize)
         ring[0] |= words[0] | words[0] << size;
         return;
     }
-    let mut now = *ring;
-    for k in 0..6 {
-        now[k] |= words[k];
-    }
+    // Both copies are read before the ring is written, so that several words go at a time.
+    let lane = *words;
     let (word, turn) = (size / 64, size % 64);
+    let mut up = [0; 6];
     let mut past = 0;
     for i in 0..6 {
-        now[word + i] |= words[i] << turn | past;
-        past = words[i] >> 1 >> (63 - turn);
+        up[i] = lane[i] << turn | past;
+        past = lane[i] >> 1 >> (63 - turn);
+    }
+    for k in 0..6 {
+        ring[k] |= lane[k];
+    }
+    for m in 0..6 {
+        ring[word + m] |= up[m];
     }
     if word < 6 {
-        now[word + 6] |= past;
+        ring[word + 6] |= past;
     }
-    *ring = now;
 }

@@ -1,8 +1,7 @@
 use Rattle.std.proofs.Common.{◌+◌, ◌*◌, ◌∙◌, refl, arith}
 use Rattle.nr_lifting.specs.Rings.{is_set}
-use Rattle.nr_lifting.proofs.LaneBitFacts.{counted_all, counted_more, counted_none, marked-le}
+use Rattle.nr_lifting.proofs.LaneBitFacts.{counted_all, counted_more, marked-le}
 use Rattle.nr_lifting.proofs.lane_words.lane_count.Goals as goal
-use Rattle.nr_lifting.proofs.lane_words.lane_count.Goals.{then-lane-i-ne0, else-lane-i-ne0}
 
 pub overflow_add-count : goal.overflow_add-count
 overflow_add-count c =
@@ -11,10 +10,7 @@ overflow_add-count c =
 
 -- the bits of the next word are counted
 pub loop-i-preserved : goal.loop-i-preserved
-loop-i-preserved c = elim c.if-lane-i-ne0.branch [
-  | then-lane-i-ne0 w ↦ w.count-is ∙ counted_more c.loop-i.i c.loop-i.count _ c.args.lane.now refl (omega arith) c.loop-i.invariant
-  | else-lane-i-ne0 w ↦ w.count-is ∙ counted_none c.loop-i.i c.loop-i.count c.args.lane.now (omega (arith, w.if-lane-i-ne0.false)) c.loop-i.invariant
-]
+loop-i-preserved c = counted_more c.loop-i.i c.loop-i.count _ c.args.lane.now refl (omega arith) c.loop-i.invariant
 
 pub returns-clause-marked : goal.returns-clause-marked
 returns-clause-marked c = λ n clear. c.loop-i.invariant ∙ counted_all c.loop-i.i n c.args.lane.now (omega arith) clear

@@ -1,6 +1,5 @@
-use Rattle.std.proofs.Common.{◌*◌, refl, ◌∙◌, inl, inr, arith}
+use Rattle.std.proofs.Common.{◌*◌, refl, inl, inr, arith}
 use Rattle.std.proofs.lemmas.Bool.{cases_lt}
-use Rattle.std.proofs.lemmas.Nat.Bits.{bit_at_ones}
 use Rattle.nr_bitvec.proofs.BitFacts.{place_past}
 use Rattle.nr_lifting.proofs.LaneWordFacts.{written_more}
 use Rattle.nr_lifting.proofs.ring_spans.mask_of.Goals as goal
@@ -8,9 +7,7 @@ use Rattle.nr_lifting.proofs.ring_spans.mask_of.Goals as goal
 -- the next word is made
 pub loop-i-preserved : goal.loop-i-preserved
 loop-i-preserved c =
-    written_more _ _ _ _ _ _ _ c.loop-i.invariant (omega arith) refl
-    (λ j short below. c.low_bits.ensures.low j (omega (arith, c.min.ensures, below)) ∙ bit_at_ones 64 j short)
-    (λ j _ past. c.low_bits.ensures.high j (omega (arith, c.min.ensures, past)))
+    written_more _ _ _ _ _ _ _ c.loop-i.invariant (omega arith) refl c.mask_word.ensures.low (λ j _ past. c.mask_word.ensures.high j past)
 
 pub returns : goal.returns
 returns c = record {
