@@ -35,12 +35,6 @@ pub record PlanesBorrow (z n : ℕ) (now old : List (List ℕ)) (lane borrow : �
   pub digits : (t : ℕ) → t < z → Borrows n (plane_digit now t) (plane_digit old t) (lane t) (borrow t)
   pub long : length now ≡ length old
 
-pub planes_none : (z : ℕ) (old : List (List ℕ)) (lane : ℕ → ℕ) → PlanesBorrow z 0 old old lane lane
-planes_none z old lane = record {
-  digits = λ t below. borrows_none (plane_digit old t) (lane t);
-  long = refl;
-}
-
 -- one plane more falls
 pub planes_more : (z n : ℕ) (next now old : List (List ℕ)) (lane borrow left : ℕ → ℕ) (plane : List ℕ) → PlanesBorrow z n now old lane borrow → n < length now → ((t : ℕ) → borrow t < 2)
     → next ≡ set now n plane → ((t : ℕ) → t < z → place plane t ≡ (place (get_or now n []) t + borrow t) % 2)

@@ -31,12 +31,6 @@ pub record Carries (z i : ℕ) (ws : List ℕ) (past : ℕ) : Type 0 where
   pub low : (j : ℕ) → j < z % 64 → bit_at past j ≡ moved z ws (64 * (z / 64 + i) + j)
   pub high : (j : ℕ) → z % 64 ≤ j → bit_at past j ≡ 0
 
-pub carries_none : (z : ℕ) (ws : List ℕ) → Carries z 0 ws 0
-carries_none z ws = record {
-  low = λ j h. bit_at-zero j ∙ sym (moved-low z ws (64 * (z / 64 + 0) + j) (omega (arith, h)));
-  high = λ j h. bit_at-zero j;
-}
-
 module _ (z i word : ℕ) (ws : List ℕ) (kept : word ≡ get_or ws i 0) where
   pub carries_more : word < 2 ^ 64 → Carries z (i + 1) ws (word / 2 ^ 1 / 2 ^ (63 - z % 64))
   carries_more fits = record {
