@@ -6,7 +6,7 @@ use Rattle.std.proofs.lemmas.Bool.{cases_eq, cases_lt, eq-eqb, ne_eqb, true≢fa
 use Rattle.std.proofs.lemmas.List.{get_or_past, get_or-set_other, get_or-set_same, get_or-replicate, length-map, length-replicate}
 use Rattle.std.proofs.lemmas.List.Folds.{sum_by-replicate}
 use Rattle.std.proofs.lemmas.List.Sums.{count_by-le-length, sum_by-set}
-use Rattle.std.proofs.lemmas.Nat.{div_below, div-mul-add, mod_below}
+use Rattle.std.proofs.lemmas.Nat.{div_below, div-mul-add, mod-mul-add, mod_below}
 use Rattle.nr_bitvec.specs.Bit.{bit}
 use Rattle.nr_lifting.specs.Planes.{BlockCounts}
 use Rattle.nr_lifting.specs.Rings.{BlockBits, is_set, lane_marks, marked}
@@ -121,9 +121,10 @@ no_count n j = elim (cases_lt j n) [
   | inr past ↦ get_or_past (replicate n 0) j 0 (omega (arith, length-replicate {A = ℕ} n 0, past))
 ]
 
-pub marks_new : (r : BlockBits) (count size : ℕ) → 0 < size → count ≤ 68 → r.lanes ≡ size → r.items ≡ replicate (count * size) false → ArePendingMarks r (replicate 68 0)
-marks_new r count size some few lanes items = record {
+pub marks_new : (r : BlockBits) (count size : ℕ) → 0 < size → size ≤ 384 → count ≤ 68 → r.lanes ≡ size → r.items ≡ replicate (count * size) false → ArePendingMarks r (replicate 68 0)
+marks_new r count size some short few lanes items = record {
   some = omega (arith, lanes, some);
+  short = omega (arith, lanes, short);
   few =
       let long : length r.items ≡ count * size = ap length items ∙ length-replicate (count * size) false in
       rw lanes (omega (arith, long, mul-le-mul_right size few));
@@ -135,6 +136,7 @@ marks_set : (a d : BlockBits) (columns : List ℕ) (j n : ℕ) → ArePendingMar
     → ((i t : ℕ) → i ≢ j → t < a.lanes → bit d.items (i * a.lanes + t) ≡ bit a.items (i * a.lanes + t)) → n ≡ marked (λ t. bit d.items (j * a.lanes + t)) a.lanes → ArePendingMarks d (set columns j n)
 marks_set a d columns j n old within lanes long same count = record {
   some = omega (arith, old.some, lanes);
+  short = omega (arith, old.short, lanes);
   few = rw lanes (omega (arith, old.few, long));
   counted = λ i. counted i ∙ sym (ap (λ z. marked (λ t. bit d.items (i * z + t)) z) lanes);
 }
@@ -147,10 +149,37 @@ marks_set a d columns j n old within lanes long same count = record {
           ∙ marked-same (λ t. bit a.items (i * a.lanes + t)) (λ t. bit d.items (i * a.lanes + t)) a.lanes (λ t below. sym (same i t other below))
     ]
 
-pub marks_join : (a d : BlockBits) (columns : List ℕ) (j n : ℕ) (M : ℕ → Bool) → ArePendingMarks a columns → j < length columns → d.lanes ≡ a.lanes → length d.items ≡ length a.items
-    → ((p : ℕ) → bit d.items p ≡ (bit a.items p || lane_marks a.lanes j M p)) → n ≡ marked (λ t. bit d.items (j * a.lanes + t)) a.lanes → ArePendingMarks d (set columns j n)
-marks_join a d columns j n M old within lanes long joined count = marks_set a d columns j n old within lanes long same count
+-- marks of two sets that share none
+marked_apart : (u v w : ℕ → Bool) (n : ℕ) → ((t : ℕ) → t < n → w t ≡ (u t || v t)) → ((t : ℕ) → t < n → v t ≡ true → u t ≡ false) → marked w n ≡ marked u n + marked v n
+marked_apart u v w zero is apart = refl
+marked_apart u v w (suc n) is apart =
+    omega (arith, marked_apart u v w n (λ t h. is t (omega (arith, h))) (λ t h. apart t (omega (arith, h))), one (u n) (v n) (w n) (is n (omega arith)) (apart n (omega arith)))
   where
+    two : (a b : Bool) → (b ≡ true → a ≡ false) → cond {A = ℕ} (a || b) 1 0 ≡ cond {A = ℕ} a 1 0 + cond {A = ℕ} b 1 0
+    two true true h = absurd (true≢false (h refl))
+    two true false h = refl
+    two false true h = refl
+    two false false h = refl
+
+    one : (a b c : Bool) → c ≡ (a || b) → (b ≡ true → a ≡ false) → cond {A = ℕ} c 1 0 ≡ cond {A = ℕ} a 1 0 + cond {A = ℕ} b 1 0
+    one a b c e h = ap (λ x. cond {A = ℕ} x 1 0) e ∙ two a b h
+
+pub marks_join : (a d : BlockBits) (columns : List ℕ) (j n : ℕ) (M : ℕ → Bool) → ArePendingMarks a columns → j < length columns → d.lanes ≡ a.lanes → length d.items ≡ length a.items
+    → ((p : ℕ) → bit d.items p ≡ (bit a.items p || lane_marks a.lanes j M p)) → ((p : ℕ) → lane_marks a.lanes j M p ≡ true → bit a.items p ≡ false) → n ≡ marked M a.lanes → ArePendingMarks d (set columns j (slice_index columns j + n))
+marks_join a d columns j n M old within lanes long joined fresh count = marks_set a d columns j (slice_index columns j + n) old within lanes long same more
+  where
+    here : (t : ℕ) → t < a.lanes → lane_marks a.lanes j M (j * a.lanes + t) ≡ M t
+    here t below =
+        let column : ((j * a.lanes + t) / a.lanes == j) ≡ true = ap (λ h. h == j) (block_at j t a.lanes below) ∙ eq-eqb j j refl in
+        ap (λ b. b && M ((j * a.lanes + t) % a.lanes)) column ∙ ap M (mod-mul-add j a.lanes t below)
+
+    more : slice_index columns j + n ≡ marked (λ t. bit d.items (j * a.lanes + t)) a.lanes
+    more =
+        let sum =
+        marked_apart (λ t. bit a.items (j * a.lanes + t)) M (λ t. bit d.items (j * a.lanes + t)) a.lanes
+        (λ t below. joined (j * a.lanes + t) ∙ ap (λ b. bit a.items (j * a.lanes + t) || b) (here t below)) (λ t below set. fresh (j * a.lanes + t) (here t below ∙ set)) in
+        omega (arith, old.counted j, count, sum)
+
     plain : (b : Bool) → (b || false) ≡ b
     plain true = refl
     plain false = refl

@@ -1,15 +1,17 @@
 -- Blocks of a list as lanes, and positions that are given column after column.
 use Rattle.std.proofs.Common.{◌≡◌, ℕ, zero, suc, ◌+◌, ◌*◌, ◌/◌, ◌%◌, ◌<◌, ◌==◌, ◌&&◌, ◌||◌, nat_lt, Bool, true, false, not, cond, List, length, refl, sym, ap, ◌∙◌, inl, inr, arith}
-use Rattle.std.proofs.lemmas.Bool.{cases_eq, cases_lt, eqb-true, eq-eqb, ne_eqb, lt-ltb, le-ltb, true≢false, false≢true}
+use Rattle.std.proofs.lemmas.Bool.{and_parts, cases_eq, cases_lt, eqb-true, eq-eqb, ne_eqb, lt-ltb, le-ltb, true≢false, false≢true}
 use Rattle.std.proofs.lemmas.List.{get_or_past}
 use Rattle.std.proofs.lemmas.Nat.{mod_below, div_below}
 use Rattle.nr_bitvec.specs.Bit.{bit}
 use Rattle.nr_lifting.specs.Rings.{is_set, lane_marks}
 use Rattle.nr_ldpcenc.specs.Rows.{Checks}
+use Rattle.nr_peel.specs.Closure.{Within}
 use Rattle.nr_peel.specs.Hearing.{Hears, news}
 use Rattle.nr_peel.specs.Sweeps.{AreLanes}
 use Rattle.nr_peel.specs.declared.bit_parallel.lanes.Lanes.{Lanes}
 use Rattle.nr_peel.proofs.ColumnFacts.{below_column, in_column}
+use Rattle.nr_peel.proofs.LaneStepFacts.{outside, unnot}
 use Rattle.nr_peel.proofs.RowPlaceFacts.{mod_low, row_number}
 
 -- a digit that is one where a test holds
@@ -161,6 +163,19 @@ module _ (z j : ℕ) (some : 0 < z) (old now : Lanes) (H V : ℕ → Bool) (h : 
           regroup false l v w k = refl
           regroup true true v w k = k refl
           regroup true false v w k = refl
+
+  -- none of what is new in the column is fresh
+  pub told_fresh : Within (bit old.pending.items) (bit old.known.items) → (lane : List ℕ) → ((p : ℕ) → lane_marks z j (is_set lane) p ≡ in_column z N j p)
+      → (p : ℕ) → lane_marks z j (is_set lane) p ≡ true → bit now.pending.items p ≡ false
+  told_fresh within lane marks p set =
+      let new = and_parts (N p) (p / z == j) (sym (marks p) ∙ set) in
+      let unknown = unnot (bit old.known.items p) (and_parts (H p) (not (bit old.known.items p)) new.0).1 in
+      let past : nat_lt (p / z) j ≡ false = le-ltb (p / z) j (omega (arith, eqb-true (p / z) j new.1)) in
+      h.pending p ∙ ap (λ b. b || (N p && nat_lt (p / z) j)) (outside (bit old.pending.items) (bit old.known.items) within p unknown) ∙ ap (λ b. N p && b) past ∙ nothing (N p)
+    where
+      nothing : (b : Bool) → (b && false) ≡ false
+      nothing true = refl
+      nothing false = refl
 
   -- a column in which nothing is new
   pub told_skip : (lane : List ℕ) → ((p : ℕ) → lane_marks z j (is_set lane) p ≡ in_column z N j p) → ((t : ℕ) → is_set lane t ≡ false) → AreTold z N V (j + 1) old now

@@ -9,10 +9,12 @@ use Rattle.std.proofs.lemmas.List.{append-nil, get_or-set_same, get_or-set_other
 use Rattle.std.proofs.lemmas.Nat.{div_below, mod_below}
 use Rattle.nr_bitvec.specs.Packed.{IsClear}
 use Rattle.nr_lifting.specs.Rings.{IsRotated, is_set, lane_marks, marked}
+use Rattle.nr_lifting.proofs.LaneBitFacts.{marked-append, marked-same}
 use Rattle.nr_lifting.proofs.LaneViewFacts.{place-zeros}
 use Rattle.nr_ldpcenc.specs.Rows.{one_at, unrotate}
 use Rattle.nr_peel.specs.Lanes.{lacks, marks_of, steps_below}
 use Rattle.nr_peel.specs.declared.fix.Fix.{Fix}
+use Rattle.nr_peel.proofs.RowPlaceFacts.{mod_high, mod_low}
 use Rattle.nr_peel.proofs.StepFacts.{steps_blank}
 
 -- nothing is marked where nothing is counted
@@ -43,6 +45,22 @@ none_marked lane z clear none t = elim (cases_lt t z) [
 pub no_steps : (step : ℕ → Fix) (u : ℕ → Bool) (n : ℕ) (order : List Fix) → ((t : ℕ) → u t ≡ false) → order ≡ order ++ steps_below step u n
 no_steps step u n order none =
     sym (ap (λ xs. order ++ xs) (steps_blank step u n (λ t _. none t)) ∙ append-nil order)
+
+-- a rotation of a lane has as many marks
+pub turned_count : (z p : ℕ) (u w : ℕ → Bool) → p < z → ((t : ℕ) → t < z → w t ≡ u ((t + p) % z)) → marked w z ≡ marked u z
+turned_count z p u w small turned =
+    let a = z - p in
+    let before : a + p ≡ z = omega (arith, small) in
+    let after : p + a ≡ z = omega (arith, small) in
+    let first = marked-same w (λ j. u (p + j)) a (λ t h. turned t (omega (arith, h)) ∙ ap u (mod_low (t + p) z (omega (arith, h)) ∙ swap t p)) in
+    let second = marked-same (λ j. w (a + j)) u p (λ j h. turned (a + j) (omega (arith, h, small)) ∙ ap u (mod_high (a + j + p) z (omega (arith, small)) (omega (arith, h, small)) ∙ past j)) in
+    omega (arith, first, second, sym (ap (marked w) before) ∙ marked-append w a p, sym (ap (marked u) after) ∙ marked-append u p a)
+  where
+    swap : (t p : ℕ) → t + p ≡ p + t
+    swap t p = omega arith
+
+    past : (j : ℕ) → z - p + j + p - z ≡ j
+    past j = omega (arith, small)
 
 module _ (z j v : ℕ) (some : 0 < z) where
   -- the rows of a lane whose positions the block lacks

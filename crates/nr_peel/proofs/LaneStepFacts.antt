@@ -96,6 +96,17 @@ module _ (z j v : ℕ) (some : 0 < z) (u : ℕ → Bool) where
           fixed ∙ passes_any_below (λ t. u t && (one_at z t j v == p)) z t (mod_below (p % z + (z - v % z)) z some)
           (and_from (u t) (one_at z t j v == p) parts.1 (eq-eqb (one_at z t j v) p (place_of_mark p parts.0)))
 
+-- a position that a row marks since it isn't in a set
+pub mark_missing : (z j v : ℕ) → 0 < z → (ones : List ℕ) (K : ℕ → Bool) (p : ℕ) → marks_of z j v (lacks z j v ones K) p ≡ true → K p ≡ false
+mark_missing z j v some ones K p h =
+    let t = unrotate z v (p % z) in
+    let parts = and_parts (p / z == j) (lacks z j v ones K t) h in
+    sym (ap K (place_of_mark z j v some (lacks z j v ones K) p parts.0)) ∙ unnot (K (one_at z t j v)) (and_parts (is_set ones t) (not (K (one_at z t j v))) parts.1).1
+
+-- a set that is within another has none of what that lacks
+pub outside : (P K : ℕ → Bool) → Within P K → (p : ℕ) → K p ≡ false → P p ≡ false
+outside P K within p out = false_from_ne_true (P p) (λ there. true≢false (sym (within p there) ∙ out))
+
 -- ---- an entry is taken
 
 module _ (l : Lifted) (i : ℕ) (e : Entry) (ones sums : List ℕ) (K : ℕ → Bool) (a d : Lanes) (took : TakesLane l e ones sums a d) (lanes : AreLanes (lifted_checks l) a) where
@@ -121,9 +132,7 @@ module _ (l : Lifted) (i : ℕ) (e : Entry) (ones sums : List ℕ) (K : ℕ → 
   unknown_at t h = unnot (bit a.known.items (at t)) (and_parts (is_set ones t) (not (bit a.known.items (at t))) h).1
 
   missing_of : 0 < z → (p : ℕ) → marks_of z e.col v u p ≡ true → bit a.known.items p ≡ false
-  missing_of some p h =
-      let parts = and_parts (p / z == e.col) (u (unrotate z v (p % z))) h in
-      sym (ap (bit a.known.items) (place_of_mark z e.col v some u p parts.0)) ∙ unknown_at (unrotate z v (p % z)) parts.1
+  missing_of some p h = mark_missing z e.col v some ones (bit a.known.items) p h
 
   bits_kept : 0 < z → (p : ℕ) → bit a.known.items p ≡ true → bit d.bits.items p ≡ bit a.bits.items p
   bits_kept some p known =

@@ -101,6 +101,10 @@ join_steps new now old xs ys zs added before whole = added ∙ ap (λ l. l ++ ys
 
 -- ---- the numbers of steps
 
+same_fix : (r t p r' t' p' : ℕ) → r ≡ r' → t ≡ t' → p ≡ p' → ◌≡◌ {A = Fix} (record { row = r; lane = t; pos = p }) (record { row = r'; lane = t'; pos = p' })
+same_fix r t p r' t' p' row lane place =
+    ap (λ n. record { row = n; lane = t; pos = p }) row ∙ ap (λ n. record { row = r'; lane = n; pos = p }) lane ∙ ap (λ n. record { row = r'; lane = t'; pos = n }) place
+
 -- the step b rows after that of a number
 pub along_after : (i lane pos b : ℕ) → i < 2 ^ 16 → lane + b < 2 ^ 16 → step_along (step_number i lane pos) b ≡ step_after i lane pos b
 along_after i lane pos b small short =
@@ -108,9 +112,7 @@ along_after i lane pos b small short =
     let row : n % 2 ^ 16 ≡ i = omega (arith, small) in
     let at : n / 2 ^ 16 % 2 ^ 16 ≡ lane + b = omega (arith, small, short) in
     let place : n / 2 ^ 32 ≡ pos + b = omega (arith, small, short) in
-    ap (λ r. record { row = r; lane = n / 2 ^ 16 % 2 ^ 16; pos = n / 2 ^ 32 }) row
-    ∙ ap (λ t. record { row = i; lane = t; pos = n / 2 ^ 32 }) at
-    ∙ ap (λ p. record { row = i; lane = lane + b; pos = p }) place
+    same_fix (n % 2 ^ 16) (n / 2 ^ 16 % 2 ^ 16) (n / 2 ^ 32) i (lane + b) (pos + b) row at place
 
 -- ---- the bits of a word, one after another
 
@@ -226,8 +228,7 @@ module _ (size row col rotation start word ahead : ℕ) where
           let moved = mod_high (start + (ahead + j) + rotation) size (omega (arith, past)) (omega (arith, small, below)) in
           let place : pos + j ≡ col * size + (start + (ahead + j) + rotation) % size = omega (arith, is, moved, small, past) in
           let lane : start + ahead + j ≡ start + (ahead + j) = omega arith in
-          ap (λ p. record { row = row; lane = start + ahead + j; pos = p }) place
-          ∙ ap (λ t. record { row = row; lane = t; pos = col * size + (start + (ahead + j) + rotation) % size }) lane
+          same_fix row (start + ahead + j) (pos + j) row (start + (ahead + j)) (col * size + (start + (ahead + j) + rotation) % size) refl lane place
 
 -- ---- the words of a lane, one after another
 

@@ -37,5 +37,6 @@ pub record AreKept (counts : BlockCounts) (due : List Bool) : Type 0 where
 -- marks of positions, and for each column how many it has
 pub record ArePendingMarks (marks : BlockBits) (columns : List ℕ) : Type 0 where
   pub some : 0 < marks.lanes
+  pub short : marks.lanes ≤ 384
   pub few : length marks.items ≤ 68 * marks.lanes
   pub counted : (j : ℕ) → slice_index columns j ≡ marked (λ t. bit marks.items (j * marks.lanes + t)) marks.lanes

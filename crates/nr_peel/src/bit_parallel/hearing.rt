@@ -8,7 +8,7 @@ ghost use Rattle.nr_peel.specs.Hearing.{Hears};
 ghost use Rattle.nr_peel.specs.StateInside.{lifted_checks};
 ghost use Rattle.nr_peel.specs.Sweeps.{AreLanes};
 
-use crate::bit_parallel::lanes::Lanes;
+use crate::bit_parallel::lanes::{Lanes, is_blank};
 use crate::lifted::Lifted;
 use nr_bitvec::Bits;
 use nr_bitvec::words::low_bits;
@@ -50,10 +50,10 @@ impl Lanes {
         for j in 0..lifted.plan.graph.cols() as usize {
             let told = read_lane(heard, j * size, size);
             let lane = self.known.lacking(j, 0, &told);
-            if lane_count(&lane) != 0 {
+            if !is_blank(&lane) {
                 let bits = common(&lane, &read_lane(values, j * size, size));
                 self.known.join(j, &lane);
-                self.pending.join(j, &lane);
+                self.pending.join(j, &lane, lane_count(&lane));
                 self.bits.join(j, &bits);
             }
         }
@@ -69,7 +69,7 @@ impl Lanes {
             let j = (pos / lifted.plan.z) as usize;
             let lane = one_marked((pos % lifted.plan.z) as usize);
             self.known.join(j, &lane);
-            self.pending.join(j, &lane);
+            self.pending.join(j, &lane, lane_count(&lane));
             if value {
                 self.bits.join(j, &lane);
             }

@@ -1,6 +1,6 @@
 //! What is known of a code block, in lanes, and how a row of blocks fixes positions: all its rows at a time.
 
-ghost use Rattle.std.specs.Prelude.{◌≡◌, ◌+◌, ◌*◌, ◌^◌, ◌<◌, ◌≤◌, ◌==◌, ℕ, if◌then◌else◌, All, IfOk, count_by, length, slice_index, vec_capacity};
+ghost use Rattle.std.specs.Prelude.{◌≡◌, ◌+◌, ◌-◌, ◌*◌, ◌%◌, ◌^◌, ◌<◌, ◌≤◌, ◌==◌, ℕ, if◌then◌else◌, All, IfOk, count_by, false, length, slice_index, true, vec_capacity};
 ghost use Rattle.nr_bitvec.specs.Bit.{bit};
 ghost use Rattle.nr_bitvec.specs.Packed.{IsClear};
 ghost use Rattle.nr_lifting.specs.Rings.{is_set, marked};
@@ -8,6 +8,7 @@ ghost use Rattle.nr_shifttable.specs.Accepted.{IsTable, entries_in, row_of};
 ghost use Rattle.nr_shifttable.specs.Tails.{value_in};
 ghost use Rattle.nr_ldpcenc.specs.Parity.{parity};
 ghost use Rattle.nr_ldpcenc.specs.Rows.{positions};
+ghost use Rattle.nr_peel.specs.Closure.{Within};
 ghost use Rattle.nr_peel.specs.Due.{due_in, work_of};
 ghost use Rattle.nr_peel.specs.Lanes.{TakesLane, hits, lacks};
 ghost use Rattle.nr_peel.specs.Starts.{AreBlank};
@@ -71,6 +72,26 @@ pub(crate) fn lower_column(
     }
 }
 
+// Whether a lane has no bit, seen without a count.
+pub(crate) fn is_blank(lane: &[u64; 6]) -> bool
+    ensures { result ≡ true → (t : ℕ) → is_set lane.now t ≡ false }
+{
+    let mut all = 0;
+    for i in 0..6 {
+        all |= lane[i];
+    }
+    all == 0
+}
+
+// The rotation that undoes another, without a division.
+fn turned_back(size: u32, rotation: u32) -> u32
+    requires { rotation < size }
+    ensures value { result ≡ (size - rotation) % size }
+    ensures small { result < size }
+{
+    if rotation == 0 { 0 } else { size - rotation }
+}
+
 // What is known of a code block: the positions that are, and their bits (zero elsewhere). Then those that the counts of
 // the rows don't know of yet, and the steps that fixed positions.
 #[derive(Drop)]
@@ -116,6 +137,7 @@ impl Lanes {
         requires same { self.old.known.lanes ≡ lifted.now.plan.z }
         requires same_bits { self.old.bits.lanes ≡ lifted.now.plan.z }
         requires same_pending { self.old.pending.lanes ≡ lifted.now.plan.z }
+        requires within { Within (bit self.old.pending.items) (bit self.old.known.items) }
         requires clear { IsClear ones.now lifted.now.plan.z }
         requires room { length self.old.order.items
             + marked (lacks lifted.now.plan.z entry.now.col (value_in lifted.now.plan.set entry.now)
@@ -126,13 +148,13 @@ impl Lanes {
         let rotation = lifted.rotation(entry);
         let col = usize::from(entry.col);
         let lane = self.known.lacking(col, rotation as usize, ones);
-        if lane_count(&lane) != 0 {
+        if !is_blank(&lane) {
             push_lane(&mut self.order, entry, size, rotation, &lane);
-            let back = (size - rotation) % size;
+            let back = turned_back(size, rotation);
             let marks = rotate_lane(&lane, size as usize, back as usize);
             let bits = rotate_lane(&common(&lane, sums), size as usize, back as usize);
             self.known.join(col, &marks);
-            self.pending.join(col, &marks);
+            self.pending.join(col, &marks, lane_count(&lane));
             self.bits.join(col, &bits);
         }
     }

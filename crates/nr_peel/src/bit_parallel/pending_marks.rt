@@ -1,11 +1,11 @@
 //! The positions that counts don't know of yet, and how many of them each column has.
 
-ghost use Rattle.std.specs.Prelude.{◌≡◌, ℕ, ◌+◌, ◌*◌, ◌/◌, ◌<◌, ◌≤◌, ◌==◌, ◌&&◌, ◌||◌, not, false, length, replicate, IfOk};
+ghost use Rattle.std.specs.Prelude.{◌≡◌, ℕ, ◌+◌, ◌*◌, ◌/◌, ◌<◌, ◌≤◌, ◌==◌, ◌&&◌, ◌||◌, not, true, false, length, replicate, IfOk};
 ghost use Rattle.nr_bitvec.specs.Bit.{bit};
 ghost use Rattle.nr_bitvec.specs.Packed.{IsClear};
 ghost use Rattle.nr_lifting.specs.Rings.{is_set, lane_marks, marked};
 
-use nr_lifting::{DoubledLanes, lane_count};
+use nr_lifting::DoubledLanes;
 use std::alloc::{AllocError, Global};
 use std::marker::Model;
 
@@ -59,17 +59,22 @@ impl PendingMarks {
         columns[j]
     }
 
-    // Marks those positions of a column that a lane marks.
-    pub(crate) fn join(&mut self, j: usize, lane: &[u64; 6])
+    // Marks those positions of a column that a lane marks. They are `count` many, and none of them was marked, so that no
+    // lane is counted anew.
+    pub(crate) fn join(&mut self, j: usize, lane: &[u64; 6], count: u32)
         requires block { (j + 1) * self.old.lanes ≤ length self.old.items }
         requires clear { IsClear lane.now self.old.lanes }
+        requires fresh { (p : ℕ) → lane_marks self.old.lanes j (is_set lane.now) p ≡ true
+            → bit self.old.items p ≡ false }
+        requires counted { count ≡ marked (is_set lane.now) self.old.lanes }
         ensures joined { (p : ℕ) → bit self.new.items p
             ≡ (bit self.old.items p || lane_marks self.old.lanes j (is_set lane.now) p) }
         ensures long { length self.new.items ≡ length self.old.items }
         ensures lanes { self.new.lanes ≡ self.old.lanes }
     {
         self.rings.join(j, lane);
-        self.columns[j] = lane_count(&self.rings.lane(j, 0)) as u16;
+        let more = count as u16;
+        self.columns[j] += more;
     }
 
     // No position of a column is marked any more.

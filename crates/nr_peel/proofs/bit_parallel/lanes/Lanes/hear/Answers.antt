@@ -1,14 +1,12 @@
-use Rattle.std.proofs.Common.{◌≡◌, ◌<◌, refl, sym, ◌∙◌, arith}
+use Rattle.std.proofs.Common.{◌≡◌, ◌<◌, refl, ◌∙◌, arith}
 use Rattle.std.proofs.Math.Nat.{mul-le-mul_right}
 use Rattle.nr_bitvec.specs.Bit.{bit}
 use Rattle.nr_graphpick.specs.Graph.{cols_of}
-use Rattle.nr_lifting.specs.Rings.{is_set, marked}
 use Rattle.nr_peel.specs.Hearing.{news}
 use Rattle.nr_peel.specs.StateInside.{lifted_checks}
-use Rattle.nr_peel.proofs.LaneMarkFacts.{none_marked}
-use Rattle.nr_peel.proofs.GivenLaneFacts.{lane_new, told_all, told_next, told_none, told_skip}
+use Rattle.nr_peel.proofs.GivenLaneFacts.{lane_new, told_all, told_fresh, told_next, told_none, told_skip}
 use Rattle.nr_peel.proofs.bit_parallel.lanes.Lanes.hear.Goals as goal
-use Rattle.nr_peel.proofs.bit_parallel.lanes.Lanes.hear.Goals.{else-lane_count-ne0, then-lane_count-ne0}
+use Rattle.nr_peel.proofs.bit_parallel.lanes.Lanes.hear.Goals.{else-not-is_blank, then-not-is_blank}
 
 pub loop-j-init : goal.loop-j-init
 loop-j-init c = told_none c.args.lifted.now.plan.z (news (bit c.args.heard.now.items) c.args.self.now) (bit c.args.values.now.items) c.args.self.now
@@ -25,14 +23,35 @@ lacking-lane-requires-clause-rotation c = rw (c.loop-j.invariant.known_lanes, c.
 pub lacking-lane-requires-clause-clear : goal.lacking-lane-requires-clause-clear
 lacking-lane-requires-clause-clear c = rw (c.loop-j.invariant.known_lanes, c.requires.lanes.known_lanes) c.read_lane-told.ensures.clear
 
-pub join-requires-then-lane_count-ne0-clause-clear : goal.join-requires-then-lane_count-ne0-clause-clear
-join-requires-then-lane_count-ne0-clause-clear c =
+pub join-requires-then-not-is_blank-clause-clear : goal.join-requires-then-not-is_blank-clause-clear
+join-requires-then-not-is_blank-clause-clear c =
     rw (c.loop-j.invariant.pending_lanes, c.requires.lanes.pending_lanes) (rw (c.loop-j.invariant.known_lanes, c.requires.lanes.known_lanes) at c.lacking-lane.ensures.clear)
 
-pub join-requires-then-lane_count-ne0-2-clause-clear : goal.join-requires-then-lane_count-ne0-2-clause-clear
-join-requires-then-lane_count-ne0-2-clause-clear c =
+pub join-requires-then-not-is_blank-2-clause-clear : goal.join-requires-then-not-is_blank-2-clause-clear
+join-requires-then-not-is_blank-2-clause-clear c =
     let z = c.args.lifted.now.plan.z in
     rw (c.loop-j.invariant.bits_lanes, c.requires.lanes.bits_lanes) (c.common-bits.ensures.clear z (rw (c.loop-j.invariant.known_lanes, c.requires.lanes.known_lanes) at c.lacking-lane.ensures.clear))
+
+-- none of what is new was fresh
+pub join-requires-then-not-is_blank-clause-fresh : goal.join-requires-then-not-is_blank-clause-fresh
+join-requires-then-not-is_blank-clause-fresh c =
+    let z = c.args.lifted.now.plan.z in
+    let j = c.loop-j.j in
+    let some = c.args.lifted.now.plan.sound.size_some in
+    let old = c.args.self.now in
+    let now = c.loop-j.self in
+    let H = bit c.args.heard.now.items in
+    let V = bit c.args.values.now.items in
+    let inv = c.loop-j.invariant in
+    let known_lanes : now.known.lanes ≡ z = inv.known_lanes ∙ c.requires.lanes.known_lanes in
+    let lacks = rw known_lanes at c.lacking-lane.ensures.bits in
+    let marks = lane_new z j some old now H V inv c.read_lane-told.result c.lacking-lane.result c.read_lane-told.ensures.bits lacks in
+    rw (inv.pending_lanes, c.requires.lanes.pending_lanes) (told_fresh z j some old now H V inv c.requires.lanes.within c.lacking-lane.result marks)
+
+pub join-requires-then-not-is_blank-clause-counted : goal.join-requires-then-not-is_blank-clause-counted
+join-requires-then-not-is_blank-clause-counted c =
+    let clear = rw (c.loop-j.invariant.known_lanes, c.requires.lanes.known_lanes) at c.lacking-lane.ensures.clear in
+    rw (c.loop-j.invariant.pending_lanes, c.requires.lanes.pending_lanes) (c.lane_count.ensures.marked c.args.lifted.now.plan.z clear)
 
 -- the next column is given
 pub loop-j-preserved : goal.loop-j-preserved
@@ -49,20 +68,18 @@ loop-j-preserved c =
     let bits_lanes : now.bits.lanes ≡ z = inv.bits_lanes ∙ c.requires.lanes.bits_lanes in
     let pending_lanes : now.pending.lanes ≡ z = inv.pending_lanes ∙ c.requires.lanes.pending_lanes in
     let lacks = rw known_lanes at c.lacking-lane.ensures.bits in
-    let clear = rw known_lanes at c.lacking-lane.ensures.clear in
     let marks = lane_new z j some old now H V inv c.read_lane-told.result c.lacking-lane.result c.read_lane-told.ensures.bits lacks in
-    elim c.if-lane_count-ne0.branch [
-      | then-lane_count-ne0 w ↦
+    elim c.if-not-is_blank.branch [
+      | then-not-is_blank w ↦
           let known = rw known_lanes at w.join.ensures.joined in
-          let pending = rw pending_lanes at w.join-then-lane_count-ne0.ensures.joined in
-          let bits = rw bits_lanes at w.join-then-lane_count-ne0-2.ensures.joined in
+          let pending = rw pending_lanes at w.join-then-not-is_blank.ensures.joined in
+          let bits = rw bits_lanes at w.join-then-not-is_blank-2.ensures.joined in
           rw w.self-is
-          (told_next z j some old now H V inv (record { known = w.join.new.self; bits = w.join-then-lane_count-ne0-2.new.self; pending = w.join-then-lane_count-ne0.new.self; order = now.order })
+          (told_next z j some old now H V inv (record { known = w.join.new.self; bits = w.join-then-not-is_blank-2.new.self; pending = w.join-then-not-is_blank.new.self; order = now.order })
           c.lacking-lane.result w.common-bits.result w.read_lane.result marks w.common-bits.ensures.bits w.read_lane.ensures.bits known pending bits refl
-          w.join.ensures.long w.join-then-lane_count-ne0-2.ensures.long w.join-then-lane_count-ne0.ensures.long w.join.ensures.lanes w.join-then-lane_count-ne0-2.ensures.lanes w.join-then-lane_count-ne0.ensures.lanes)
-      | else-lane_count-ne0 w ↦
-          let count : marked (is_set c.lacking-lane.result) z ≡ 0 = sym (c.lane_count.ensures.marked z clear) ∙ omega (arith, w.if-lane_count-ne0.false) in
-          rw w.self-is (told_skip z j some old now H V inv c.lacking-lane.result marks (none_marked c.lacking-lane.result z clear count))
+          w.join.ensures.long w.join-then-not-is_blank-2.ensures.long w.join-then-not-is_blank.ensures.long w.join.ensures.lanes w.join-then-not-is_blank-2.ensures.lanes w.join-then-not-is_blank.ensures.lanes)
+      | else-not-is_blank w ↦
+          rw w.self-is (told_skip z j some old now H V inv c.lacking-lane.result marks (c.is_blank.ensures w.if-not-is_blank.false))
     ]
 
 pub returns : goal.returns

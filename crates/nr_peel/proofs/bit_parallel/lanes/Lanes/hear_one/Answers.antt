@@ -1,7 +1,8 @@
 use Rattle.std.proofs.Common.{◌≡◌, ℕ, ◌==◌, ◌&&◌, ◌||◌, Bool, true, false, not, refl, sym, ap, ◌∙◌, inl, inr}
-use Rattle.std.proofs.lemmas.Bool.{cases_eq, ne_eqb, false≢true}
+use Rattle.std.proofs.lemmas.Bool.{cases_eq, eqb-true, ne_eqb, false≢true}
 use Rattle.nr_bitvec.specs.Bit.{bit}
 use Rattle.nr_peel.specs.StateInside.{lifted_checks}
+use Rattle.nr_peel.proofs.LaneStepFacts.{outside}
 use Rattle.nr_peel.proofs.OneGivenFacts.{one_clear, one_marks, one_told}
 use Rattle.nr_peel.proofs.bit_parallel.lanes.Lanes.hear_one.Goals as goal
 
@@ -10,6 +11,19 @@ join-requires-clause-clear c = rw c.requires.lanes.known_lanes (one_clear c.args
 
 pub join-requires-then-not-get-clause-clear : goal.join-requires-then-not-get-clause-clear
 join-requires-then-not-get-clause-clear c = rw c.requires.lanes.pending_lanes (one_clear c.args.lifted.now.plan.z c.args.pos c.one_marked-lane.result c.args.lifted.now.plan.sound.size_some c.one_marked-lane.ensures)
+
+pub join-requires-then-not-get-clause-fresh : goal.join-requires-then-not-get-clause-fresh
+join-requires-then-not-get-clause-fresh c =
+    let z = c.args.lifted.now.plan.z in
+    let pos = c.args.pos in
+    let K = bit c.args.self.now.known.items in
+    let marks = λ (p : ℕ). one_marks z pos p c.one_marked-lane.result c.one_marked-lane.ensures in
+    rw c.requires.lanes.pending_lanes (λ p set. outside (bit c.args.self.now.pending.items) K c.requires.lanes.within p (ap K (sym (eqb-true pos p (sym (marks p) ∙ set))) ∙ sym c.get.ensures ∙ c.if-not-get.true))
+
+pub join-requires-then-not-get-clause-counted : goal.join-requires-then-not-get-clause-counted
+join-requires-then-not-get-clause-counted c =
+    let z = c.args.lifted.now.plan.z in
+    rw c.requires.lanes.pending_lanes (c.lane_count.ensures.marked z (one_clear z c.args.pos c.one_marked-lane.result c.args.lifted.now.plan.sound.size_some c.one_marked-lane.ensures))
 
 pub join-requires-then-value-clause-clear : goal.join-requires-then-value-clause-clear
 join-requires-then-value-clause-clear c = rw c.requires.lanes.bits_lanes (one_clear c.args.lifted.now.plan.z c.args.pos c.one_marked-lane.result c.args.lifted.now.plan.sound.size_some c.one_marked-lane.ensures)

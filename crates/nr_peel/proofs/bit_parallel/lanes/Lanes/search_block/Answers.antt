@@ -49,6 +49,9 @@ take-requires-clause-pending c =
     row_fits c.args.lifted.now c.row-row.result.now c.args.i (length c.loop-entry.self.pending.items) c.requires.table c.row-row.ensures c.loop-entry.invariant.taking.fixes.lanes.pending_long
     c.loop-entry.entry-index none c.loop-entry-test.true
 
+pub take-requires-clause-within : goal.take-requires-clause-within
+take-requires-clause-within c = c.loop-entry.invariant.taking.fixes.lanes.within
+
 pub take-requires-clause-room : goal.take-requires-clause-room
 take-requires-clause-room c =
     let l = c.args.lifted.now in

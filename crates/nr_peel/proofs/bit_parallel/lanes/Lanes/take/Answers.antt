@@ -1,10 +1,11 @@
-use Rattle.std.proofs.Common.{◌≡◌, ℕ, ◌-◌, ◌%◌, ◌<◌, ◌&&◌, ◌||◌, false, ◌++◌, refl, sym, ap, ◌∙◌, arith}
+use Rattle.std.proofs.Common.{◌≡◌, ℕ, ◌-◌, ◌%◌, ◌<◌, ◌==◌, ◌&&◌, ◌||◌, false, ◌++◌, refl, sym, ap, ◌∙◌, arith}
 use Rattle.nr_bitvec.specs.Bit.{bit}
-use Rattle.nr_lifting.specs.Rings.{IsRotated, is_set, marked}
+use Rattle.nr_lifting.specs.Rings.{IsRotated, is_set}
 use Rattle.nr_lifting.proofs.LaneBitFacts.{marked-same}
 use Rattle.nr_shifttable.specs.Tails.{value_in}
 use Rattle.nr_peel.specs.Lanes.{lacks, rotated_step}
-use Rattle.nr_peel.proofs.LaneMarkFacts.{lacking, marks_none, no_steps, none_marked, rotated_marks}
+use Rattle.nr_peel.proofs.LaneMarkFacts.{lacking, marks_none, no_steps, rotated_marks, turned_count}
+use Rattle.nr_peel.proofs.LaneStepFacts.{mark_missing, outside}
 use Rattle.nr_peel.proofs.StepFacts.{steps_same}
 use Rattle.nr_peel.proofs.bit_parallel.lanes.Lanes.take.Goals as goal
 
@@ -30,14 +31,15 @@ rotate_lane-bits-requires-clause-clear c = c.common.ensures.clear c.args.lifted.
 pub join-requires-clause-clear : goal.join-requires-clause-clear
 join-requires-clause-clear c = rw c.requires.same c.rotate_lane-marks.ensures.clear
 
-pub join-requires-then-lane_count-ne0-clause-clear : goal.join-requires-then-lane_count-ne0-clause-clear
-join-requires-then-lane_count-ne0-clause-clear c = rw c.requires.same_pending c.rotate_lane-marks.ensures.clear
+pub join-requires-then-not-is_blank-clause-clear : goal.join-requires-then-not-is_blank-clause-clear
+join-requires-then-not-is_blank-clause-clear c = rw c.requires.same_pending c.rotate_lane-marks.ensures.clear
 
-pub join-requires-then-lane_count-ne0-2-clause-clear : goal.join-requires-then-lane_count-ne0-2-clause-clear
-join-requires-then-lane_count-ne0-2-clause-clear c = rw c.requires.same_bits c.rotate_lane-bits.ensures.clear
+pub join-requires-then-not-is_blank-2-clause-clear : goal.join-requires-then-not-is_blank-2-clause-clear
+join-requires-then-not-is_blank-2-clause-clear c = rw c.requires.same_bits c.rotate_lane-bits.ensures.clear
 
-pub returns-then-lane_count-ne0 : goal.returns-then-lane_count-ne0
-returns-then-lane_count-ne0 c =
+-- none of the marks was fresh, since none was known
+pub join-requires-then-not-is_blank-clause-fresh : goal.join-requires-then-not-is_blank-clause-fresh
+join-requires-then-not-is_blank-clause-fresh c =
     let l = c.args.lifted.now in
     let e = c.args.entry.now in
     let z = l.plan.z in
@@ -48,14 +50,37 @@ returns-then-lane_count-ne0 c =
     let read = rw (c.requires.same, c.from-col.ensures, c.rotation-rotation.ensures.value) at c.lacking-lane.ensures.bits in
     let lane_clear = rw c.requires.same at c.lacking-lane.ensures.clear in
     let lane = lacking z e.col v some c.args.ones.now c.lacking-lane.result K c.requires.clear lane_clear read in
-    let marks_rotated : IsRotated z c.rotate_lane-marks.result c.lacking-lane.result ((z - v % z) % z) = rw (sym c.rotation-rotation.ensures.value) c.rotate_lane-marks.ensures.rotated in
-    let bits_rotated : IsRotated z c.rotate_lane-bits.result c.common.result ((z - v % z) % z) = rw (sym c.rotation-rotation.ensures.value) c.rotate_lane-bits.ensures.rotated in
+    let rotated : IsRotated z c.rotate_lane-marks.result c.lacking-lane.result ((z - v % z) % z) = rw (sym c.rotation-rotation.ensures.value) (rw c.turned_back-back.ensures.value at c.rotate_lane-marks.ensures.rotated) in
+    let marks = rotated_marks z e.col v some c.rotate_lane-marks.result c.lacking-lane.result u rotated lane in
+    rw (c.requires.same_pending, c.from-col.ensures) (λ p set. outside (bit c.args.self.now.pending.items) K c.requires.within p (mark_missing z e.col v some c.args.ones.now K p (sym (marks p) ∙ set)))
+
+pub join-requires-then-not-is_blank-clause-counted : goal.join-requires-then-not-is_blank-clause-counted
+join-requires-then-not-is_blank-clause-counted c =
+    let z = c.args.lifted.now.plan.z in
+    let lane_clear = rw c.requires.same at c.lacking-lane.ensures.clear in
+    let turned = turned_count z c.turned_back-back.result (is_set c.lacking-lane.result) (is_set c.rotate_lane-marks.result) c.turned_back-back.ensures.small (λ t below. ap (λ n. n == 1) (c.rotate_lane-marks.ensures.rotated t below)) in
+    rw c.requires.same_pending (c.lane_count.ensures.marked z lane_clear ∙ sym turned)
+
+pub returns-then-not-is_blank : goal.returns-then-not-is_blank
+returns-then-not-is_blank c =
+    let l = c.args.lifted.now in
+    let e = c.args.entry.now in
+    let z = l.plan.z in
+    let v = value_in l.plan.set e in
+    let some : 0 < z = omega (arith, c.rotation-rotation.ensures.small) in
+    let K = bit c.args.self.now.known.items in
+    let u = lacks z e.col v c.args.ones.now K in
+    let read = rw (c.requires.same, c.from-col.ensures, c.rotation-rotation.ensures.value) at c.lacking-lane.ensures.bits in
+    let lane_clear = rw c.requires.same at c.lacking-lane.ensures.clear in
+    let lane = lacking z e.col v some c.args.ones.now c.lacking-lane.result K c.requires.clear lane_clear read in
+    let marks_rotated : IsRotated z c.rotate_lane-marks.result c.lacking-lane.result ((z - v % z) % z) = rw (sym c.rotation-rotation.ensures.value) (rw c.turned_back-back.ensures.value at c.rotate_lane-marks.ensures.rotated) in
+    let bits_rotated : IsRotated z c.rotate_lane-bits.result c.common.result ((z - v % z) % z) = rw (sym c.rotation-rotation.ensures.value) (rw c.turned_back-back.ensures.value at c.rotate_lane-bits.ensures.rotated) in
     let marks = rotated_marks z e.col v some c.rotate_lane-marks.result c.lacking-lane.result u marks_rotated lane in
     let both : (t : ℕ) → is_set c.common.result t ≡ (u t && is_set c.args.sums.now t) = λ t. c.common.ensures.bits t ∙ ap (λ b. b && is_set c.args.sums.now t) (lane t) in
     let set = rotated_marks z e.col v some c.rotate_lane-bits.result c.common.result (λ t. u t && is_set c.args.sums.now t) bits_rotated both in
     let known = rw (c.requires.same, c.from-col.ensures) at c.join.ensures.joined in
-    let pending = rw (c.requires.same_pending, c.from-col.ensures) at c.join-then-lane_count-ne0.ensures.joined in
-    let bits = rw (c.requires.same_bits, c.from-col.ensures) at c.join-then-lane_count-ne0-2.ensures.joined in
+    let pending = rw (c.requires.same_pending, c.from-col.ensures) at c.join-then-not-is_blank.ensures.joined in
+    let bits = rw (c.requires.same_bits, c.from-col.ensures) at c.join-then-not-is_blank-2.ensures.joined in
     record {
       known = λ p. known p ∙ ap (λ b. bit c.args.self.now.known.items p || b) (marks p);
       pending = λ p. pending p ∙ ap (λ b. bit c.args.self.now.pending.items p || b) (marks p);
@@ -66,15 +91,15 @@ returns-then-lane_count-ne0 c =
           (steps_same (rotated_step z e.row e.col c.rotation-rotation.result) (rotated_step z e.row e.col (v % z)) (is_set c.lacking-lane.result) u z (λ t _. ap (λ n. rotated_step z e.row e.col n t) c.rotation-rotation.ensures.value) (λ t _. lane t));
       capacity = c.push_lane.ensures.capacity;
       known_long = c.join.ensures.long;
-      pending_long = c.join-then-lane_count-ne0.ensures.long;
-      bits_long = c.join-then-lane_count-ne0-2.ensures.long;
+      pending_long = c.join-then-not-is_blank.ensures.long;
+      bits_long = c.join-then-not-is_blank-2.ensures.long;
       known_lanes = c.join.ensures.lanes;
-      pending_lanes = c.join-then-lane_count-ne0.ensures.lanes;
-      bits_lanes = c.join-then-lane_count-ne0-2.ensures.lanes;
+      pending_lanes = c.join-then-not-is_blank.ensures.lanes;
+      bits_lanes = c.join-then-not-is_blank-2.ensures.lanes;
     }
 
-pub returns-else-lane_count-ne0 : goal.returns-else-lane_count-ne0
-returns-else-lane_count-ne0 c =
+pub returns-else-not-is_blank : goal.returns-else-not-is_blank
+returns-else-not-is_blank c =
     let l = c.args.lifted.now in
     let e = c.args.entry.now in
     let z = l.plan.z in
@@ -85,9 +110,7 @@ returns-else-lane_count-ne0 c =
     let read = rw (c.requires.same, c.from-col.ensures, c.rotation-rotation.ensures.value) at c.lacking-lane.ensures.bits in
     let lane_clear = rw c.requires.same at c.lacking-lane.ensures.clear in
     let lane = lacking z e.col v some c.args.ones.now c.lacking-lane.result K c.requires.clear lane_clear read in
-    let clear = lane_clear in
-    let count : marked (is_set c.lacking-lane.result) z ≡ 0 = sym (c.lane_count.ensures.marked z clear) ∙ omega (arith, c.if-lane_count-ne0.false) in
-    let none : (t : ℕ) → u t ≡ false = λ t. sym (lane t) ∙ none_marked c.lacking-lane.result z clear count t in
+    let none : (t : ℕ) → u t ≡ false = λ t. sym (lane t) ∙ c.is_blank.ensures c.if-not-is_blank.false t in
     let unset : (t : ℕ) → (u t && is_set c.args.sums.now t) ≡ false = λ t. ap (λ b. b && is_set c.args.sums.now t) (none t) in
     record {
       known = λ p. marks_none z e.col v some u (bit c.args.self.now.known.items p) p none;
