@@ -14,7 +14,7 @@ use nr_bitvec::Bits;
 use nr_bitvec::words::low_bits;
 use nr_lifting::{common, lane_count};
 
-// The block of `size` bits of a list from bit `from` on.
+// The block of `size` bits of a list from bit `from` on. Only a last word that isn't full is cut.
 pub(crate) fn read_lane(bits: &Bits, from: usize, size: usize) -> [u64; 6]
     requires few { size ≤ 384 }
     requires short { from < 2 ^ 32 }
@@ -22,8 +22,14 @@ pub(crate) fn read_lane(bits: &Bits, from: usize, size: usize) -> [u64; 6]
     ensures clear { IsClear result size }
 {
     let mut lane = [0; 6];
-    for i in 0..size.div_ceil(64) {
-        lane[i] = low_bits(bits.window(from + 64 * i), size - 64 * i);
+    let whole = size / 64;
+    for i in 0..whole {
+        lane[i] = bits.window(from + 64 * i);
+    }
+    let rest = size % 64;
+    if rest != 0 {
+        let word = bits.window(from + 64 * whole);
+        lane[whole] = low_bits(word, rest);
     }
     lane
 }
