@@ -72,14 +72,14 @@ module _ (z j v : ℕ) (some : 0 < z) where
   ]
 
   -- a lane that is turned back marks its rows' positions
+  pub turned_marks : (lane : List ℕ) (u : ℕ → Bool) → ((t : ℕ) → is_set lane t ≡ u t) → (p : ℕ) → lane_marks z j (λ t. is_set lane ((t + (z - v % z) % z) % z)) p ≡ marks_of z j v u p
+  turned_marks lane u is p =
+      let back : (p % z + (z - v % z) % z) % z ≡ unrotate z v (p % z) = add-mod-mod (p % z) (z - v % z) z in
+      ap (λ t. (p / z == j) && is_set lane t) back ∙ ap (λ b. (p / z == j) && b) (is (unrotate z v (p % z)))
+
   pub rotated_marks : (marks lane : List ℕ) (u : ℕ → Bool) → IsRotated z marks lane ((z - v % z) % z) → ((t : ℕ) → is_set lane t ≡ u t)
       → (p : ℕ) → lane_marks z j (is_set marks) p ≡ marks_of z j v u p
-  rotated_marks marks lane u rotated is p =
-      let small : p % z < z = mod_below p z some in
-      let back : (p % z + (z - v % z) % z) % z ≡ unrotate z v (p % z) = add-mod-mod (p % z) (z - v % z) z in
-      ap (λ n. (p / z == j) && (n == 1)) (rotated (p % z) small)
-      ∙ ap (λ t. (p / z == j) && is_set lane t) back
-      ∙ ap (λ b. (p / z == j) && b) (is (unrotate z v (p % z)))
+  rotated_marks marks lane u rotated is p = ap (λ n. (p / z == j) && (n == 1)) (rotated (p % z) (mod_below p z some)) ∙ turned_marks lane u is p
 
   pub marks_none : (u : ℕ → Bool) (a : Bool) (p : ℕ) → ((t : ℕ) → u t ≡ false) → a ≡ (a || marks_of z j v u p)
   marks_none u a p none = sym (ap (λ b. a || ((p / z == j) && b)) (none (unrotate z v (p % z))) ∙ plain a (p / z == j))

@@ -1,9 +1,9 @@
 //! What is known of a code block, in lanes, and how a row of blocks fixes positions: all its rows at a time.
 
-ghost use Rattle.std.specs.Prelude.{◌≡◌, ◌+◌, ◌-◌, ◌*◌, ◌%◌, ◌^◌, ◌<◌, ◌≤◌, ◌==◌, ℕ, if◌then◌else◌, All, IfOk, count_by, false, length, slice_index, true, vec_capacity};
+ghost use Rattle.std.specs.Prelude.{◌≡◌, ◌+◌, ◌-◌, ◌*◌, ◌%◌, ◌^◌, ◌<◌, ◌≤◌, ◌==◌, ◌||◌, ℕ, if◌then◌else◌, All, IfOk, count_by, false, length, slice_index, true, vec_capacity};
 ghost use Rattle.nr_bitvec.specs.Bit.{bit};
 ghost use Rattle.nr_bitvec.specs.Packed.{IsClear};
-ghost use Rattle.nr_lifting.specs.Rings.{is_set, marked};
+ghost use Rattle.nr_lifting.specs.Rings.{is_set, lane_marks, marked};
 ghost use Rattle.nr_shifttable.specs.Accepted.{IsTable, entries_in, row_of};
 ghost use Rattle.nr_shifttable.specs.Tails.{value_in};
 ghost use Rattle.nr_ldpcenc.specs.Parity.{parity};
@@ -92,6 +92,24 @@ fn turned_back(size: u32, rotation: u32) -> u32
     if rotation == 0 { 0 } else { size - rotation }
 }
 
+// Sets the bits of a block where a lane that is rotated by `p` has a one. Often it has none, where few rows fix positions.
+fn join_turned(rings: &mut DoubledLanes, j: usize, lane: &[u64; 6], size: u32, p: u32)
+    requires block { (j + 1) * rings.old.lanes ≤ length rings.old.items }
+    requires same { rings.old.lanes ≡ size }
+    requires rotation { p < size }
+    requires few { size ≤ 384 }
+    requires clear { IsClear lane.now size }
+    ensures joined { (q : ℕ) → bit rings.new.items q
+        ≡ (bit rings.old.items q || lane_marks size j (λ t. is_set lane.now ((t + p) % size)) q) }
+    ensures long { length rings.new.items ≡ length rings.old.items }
+    ensures lanes { rings.new.lanes ≡ rings.old.lanes }
+{
+    if !is_blank(lane) {
+        let turned = rotate_lane(lane, size as usize, p as usize);
+        rings.join(j, &turned);
+    }
+}
+
 // What is known of a code block: the positions that are, and their bits (zero elsewhere). Then those that the counts of
 // the rows don't know of yet, and the steps that fixed positions.
 #[derive(Drop)]
@@ -152,10 +170,10 @@ impl Lanes {
             push_lane(&mut self.order, entry, size, rotation, &lane);
             let back = turned_back(size, rotation);
             let marks = rotate_lane(&lane, size as usize, back as usize);
-            let bits = rotate_lane(&common(&lane, sums), size as usize, back as usize);
+            let set = common(&lane, sums);
             self.known.join(col, &marks);
             self.pending.join(col, &marks, lane_count(&lane));
-            self.bits.join(col, &bits);
+            join_turned(&mut self.bits, col, &set, size, back);
         }
     }
     // The rows of row of blocks `i` with a count of one fix their positions, unless another row has. How many such rows

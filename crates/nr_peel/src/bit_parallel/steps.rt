@@ -112,6 +112,9 @@ fn push_word(
         (λ b. bit_at word b == 1) 64 }
     ensures capacity { vec_capacity order.new ≡ vec_capacity order.old }
 {
+    if word == 0 {
+        return;
+    }
     let block = u32::from(col) * size;
     let turn = size - rotation;
     let ahead = turn.saturating_sub(start).min(64);

@@ -1,14 +1,21 @@
 use Rattle.std.proofs.Common.{◌≡◌, ◌<◌, ◌≤◌, ◌+◌, ◌-◌, ◌*◌, ◌/◌, ◌^◌, ◌==◌, ◌++◌, ℕ, length, sym, ap, ◌∙◌, arith, length-append}
 use Rattle.std.proofs.Math.Nat.{mul-le-mul_right}
+use Rattle.std.proofs.lemmas.List.{append-nil}
 use Rattle.std.specs.Int.{bit_at}
 use Rattle.nr_peel.specs.Lanes.{rotated_step, step_after, steps_below}
-use Rattle.nr_peel.proofs.StepFacts.{ahead_steps, high_steps, join_steps, low_steps, steps_count, turned_steps}
+use Rattle.nr_peel.proofs.StepFacts.{ahead_steps, high_steps, join_steps, low_steps, steps_count, turned_steps, zero_steps}
 use Rattle.nr_peel.proofs.bit_parallel.steps.push_word.Goals as goal
 
 block_fits : (col size : ℕ) → col < 2 ^ 16 → size ≤ 384 → col * size ≤ 2 ^ 16 * 384
 block_fits col size small few =
     let most : col * size ≤ 2 ^ 16 * size = mul-le-mul_right size (omega (arith, small)) in
     omega (arith, most, few)
+
+pub returns-then-word-eq0-clause-steps : goal.returns-then-word-eq0-clause-steps
+returns-then-word-eq0-clause-steps c =
+    let step = λ (b : ℕ). rotated_step c.args.size c.args.row c.args.col c.args.rotation (c.args.start + b) in
+    let old = c.args.order.now.items in
+    sym (append-nil old) ∙ ap (λ xs. old ++ xs) (sym (ap (λ w. steps_below step (λ b. bit_at w b == 1) 64) c.if-word-eq0.true ∙ zero_steps step))
 
 pub push_part-requires-clause-fits : goal.push_part-requires-clause-fits
 push_part-requires-clause-fits c = omega (arith, block_fits c.args.col c.args.size (omega arith) c.requires.few, ap (λ n. n * c.args.size) c.from.ensures)

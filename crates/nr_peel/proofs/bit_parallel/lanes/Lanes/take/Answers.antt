@@ -4,7 +4,7 @@ use Rattle.nr_lifting.specs.Rings.{IsRotated, is_set}
 use Rattle.nr_lifting.proofs.LaneBitFacts.{marked-same}
 use Rattle.nr_shifttable.specs.Tails.{value_in}
 use Rattle.nr_peel.specs.Lanes.{lacks, rotated_step}
-use Rattle.nr_peel.proofs.LaneMarkFacts.{lacking, marks_none, no_steps, rotated_marks, turned_count}
+use Rattle.nr_peel.proofs.LaneMarkFacts.{lacking, marks_none, no_steps, rotated_marks, turned_count, turned_marks}
 use Rattle.nr_peel.proofs.LaneStepFacts.{mark_missing, outside}
 use Rattle.nr_peel.proofs.StepFacts.{steps_same}
 use Rattle.nr_peel.proofs.bit_parallel.lanes.Lanes.take.Goals as goal
@@ -25,17 +25,14 @@ lacking-lane-requires-clause-clear c = rw c.requires.same c.requires.clear
 pub rotate_lane-marks-requires-clause-clear : goal.rotate_lane-marks-requires-clause-clear
 rotate_lane-marks-requires-clause-clear c = rw c.requires.same at c.lacking-lane.ensures.clear
 
-pub rotate_lane-bits-requires-clause-clear : goal.rotate_lane-bits-requires-clause-clear
-rotate_lane-bits-requires-clause-clear c = c.common.ensures.clear c.args.lifted.now.plan.z (rw c.requires.same at c.lacking-lane.ensures.clear)
+pub join_turned-requires-clause-clear : goal.join_turned-requires-clause-clear
+join_turned-requires-clause-clear c = c.common-set.ensures.clear c.args.lifted.now.plan.z (rw c.requires.same at c.lacking-lane.ensures.clear)
 
 pub join-requires-clause-clear : goal.join-requires-clause-clear
 join-requires-clause-clear c = rw c.requires.same c.rotate_lane-marks.ensures.clear
 
 pub join-requires-then-not-is_blank-clause-clear : goal.join-requires-then-not-is_blank-clause-clear
 join-requires-then-not-is_blank-clause-clear c = rw c.requires.same_pending c.rotate_lane-marks.ensures.clear
-
-pub join-requires-then-not-is_blank-2-clause-clear : goal.join-requires-then-not-is_blank-2-clause-clear
-join-requires-then-not-is_blank-2-clause-clear c = rw c.requires.same_bits c.rotate_lane-bits.ensures.clear
 
 -- none of the marks was fresh, since none was known
 pub join-requires-then-not-is_blank-clause-fresh : goal.join-requires-then-not-is_blank-clause-fresh
@@ -74,13 +71,12 @@ returns-then-not-is_blank c =
     let lane_clear = rw c.requires.same at c.lacking-lane.ensures.clear in
     let lane = lacking z e.col v some c.args.ones.now c.lacking-lane.result K c.requires.clear lane_clear read in
     let marks_rotated : IsRotated z c.rotate_lane-marks.result c.lacking-lane.result ((z - v % z) % z) = rw (sym c.rotation-rotation.ensures.value) (rw c.turned_back-back.ensures.value at c.rotate_lane-marks.ensures.rotated) in
-    let bits_rotated : IsRotated z c.rotate_lane-bits.result c.common.result ((z - v % z) % z) = rw (sym c.rotation-rotation.ensures.value) (rw c.turned_back-back.ensures.value at c.rotate_lane-bits.ensures.rotated) in
     let marks = rotated_marks z e.col v some c.rotate_lane-marks.result c.lacking-lane.result u marks_rotated lane in
-    let both : (t : ℕ) → is_set c.common.result t ≡ (u t && is_set c.args.sums.now t) = λ t. c.common.ensures.bits t ∙ ap (λ b. b && is_set c.args.sums.now t) (lane t) in
-    let set = rotated_marks z e.col v some c.rotate_lane-bits.result c.common.result (λ t. u t && is_set c.args.sums.now t) bits_rotated both in
+    let both : (t : ℕ) → is_set c.common-set.result t ≡ (u t && is_set c.args.sums.now t) = λ t. c.common-set.ensures.bits t ∙ ap (λ b. b && is_set c.args.sums.now t) (lane t) in
+    let set = turned_marks z e.col v some c.common-set.result (λ t. u t && is_set c.args.sums.now t) both in
     let known = rw (c.requires.same, c.from-col.ensures) at c.join.ensures.joined in
     let pending = rw (c.requires.same_pending, c.from-col.ensures) at c.join-then-not-is_blank.ensures.joined in
-    let bits = rw (c.requires.same_bits, c.from-col.ensures) at c.join-then-not-is_blank-2.ensures.joined in
+    let bits = rw (c.from-col.ensures, c.turned_back-back.ensures.value, c.rotation-rotation.ensures.value) at c.join_turned.ensures.joined in
     record {
       known = λ p. known p ∙ ap (λ b. bit c.args.self.now.known.items p || b) (marks p);
       pending = λ p. pending p ∙ ap (λ b. bit c.args.self.now.pending.items p || b) (marks p);
@@ -92,10 +88,10 @@ returns-then-not-is_blank c =
       capacity = c.push_lane.ensures.capacity;
       known_long = c.join.ensures.long;
       pending_long = c.join-then-not-is_blank.ensures.long;
-      bits_long = c.join-then-not-is_blank-2.ensures.long;
+      bits_long = c.join_turned.ensures.long;
       known_lanes = c.join.ensures.lanes;
       pending_lanes = c.join-then-not-is_blank.ensures.lanes;
-      bits_lanes = c.join-then-not-is_blank-2.ensures.lanes;
+      bits_lanes = c.join_turned.ensures.lanes;
     }
 
 pub returns-else-not-is_blank : goal.returns-else-not-is_blank
