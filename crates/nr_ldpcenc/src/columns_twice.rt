@@ -12,7 +12,9 @@ use crate::lanes::{add_rotated, put_twice, read_lane};
 use nr_bitvec::Bits;
 use nr_shifttable::Entry;
 
-// Adds to a block what a row of blocks has before a column.
+// Adds to a block what a row of blocks has before a column. A copy of the block is read and stored once, so that it stays
+// in registers, two words in one.
+#[inline(never)]
 pub(crate) fn add_row<const Z: usize, const W: usize>(
     set: usize,
     row: &[Entry],
@@ -31,12 +33,19 @@ pub(crate) fn add_row<const Z: usize, const W: usize>(
     ensures { (t : ℕ) → t < Z → (place sum.new t == 1)
         ≡ (place sum.old t == 1) ⊕ sum_before set Z (col_bit Z cols.now) before t row.now }
 {
+    let mut total = *sum;
     for entry in row {
         let col = usize::from(entry.col);
         if col < before {
-            add_rotated(sum, cols, 12 * col, usize::from(entry.values[set]) % Z);
+            add_rotated(
+                &mut total,
+                cols,
+                12 * col,
+                usize::from(entry.values[set]) % Z,
+            );
         }
     }
+    *sum = total;
 }
 
 // Puts a block in the place of column `j`, the first one that is not there yet.

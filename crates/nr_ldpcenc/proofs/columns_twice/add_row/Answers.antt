@@ -22,14 +22,14 @@ loop-entry-preserved g c =
     let cols = c.args.cols.now in
     let w : ℕ → Bool = col_bit z cols in
     let first : ℕ → Bool = λ t. place c.args.sum.now t == 1 in
-    let old : ℕ → Bool = λ t. place c.loop-entry.sum t == 1 in
-    let new : ℕ → Bool = λ t. place c.if-col-before.sum t == 1 in
+    let old : ℕ → Bool = λ t. place c.loop-entry.total t == 1 in
+    let new : ℕ → Bool = λ t. place c.if-col-before.total t == 1 in
     let next = λ (t : ℕ). sum-next set z w j t row i none (omega arith) in
     elim c.if-col-before.branch [
       | then-col-before b ↦ λ t lt.
           let col = c.from-col.result in
           let p = b.from.result % z in
-          let same : new t ≡ (place b.add_rotated.new.sum t == 1) = ap (λ (l : List ℕ). place l t == 1) b.sum-is in
+          let same : new t ≡ (place b.add_rotated.new.sum t == 1) = ap (λ (l : List ℕ). place l t == 1) b.total-is in
           let gain : (place b.add_rotated.new.sum t == 1) ≡ old t ⊕ (place cols (64 * (12 * col) + p + t) == 1) =
           added_bit _ _ cols t (64 * (12 * col) + p + t) (b.add_rotated.ensures t (omega (arith, lt))) in
           let rotated : (place cols (64 * (12 * col) + p + t) == 1) ≡ w (col * z + (t + b.from.result % z) % z) =
@@ -42,7 +42,7 @@ loop-entry-preserved g c =
           (same ∙ gain ∙ ap (λ y. old t ⊕ y) (rotated ∙ added))
           (next t)
       | else-col-before b ↦ λ t lt.
-          let same : new t ≡ old t = ap (λ (l : List ℕ). place l t == 1) b.sum-is in
+          let same : new t ≡ old t = ap (λ (l : List ℕ). place l t == 1) b.total-is in
           let none_more : entry_bit set z w j t e ≡ false = entry_bit-not set z w j t e c.from-col.result c.from-col.ensures b.if-col-before.false in
           same ∙ not_gained (first t) (old t)
           (sum_before set z w j t (take i row)) (sum_before set z w j t (take (i + 1) row))
