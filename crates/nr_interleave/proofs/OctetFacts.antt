@@ -174,54 +174,73 @@ only-comes come x w p k gets only = gets p ∙ ap (list_any (λ k. bit_at x k ==
 -- ---- octets of words
 
 -- an octet of a word
-abbrev octet : ℕ → ℕ → ℕ
-octet w at = bit_and (w / 2 ^ (8 * at)) 255
+octet_of : ℕ → ℕ → ℕ
+octet_of w row = bit_and (w / 2 ^ (8 * row)) 255
 
-octet-low : (w at j : ℕ) → j < 8 → bit_at (octet w at) j ≡ bit_at w (8 * at + j)
-octet-low w at j below =
-    ap (λ n. bit_at n j) (and_mask (w / 2 ^ (8 * at)) 8) ∙ bit_at_mod (w / 2 ^ (8 * at)) 8 j below ∙ bit_at_shr w (8 * at) j
+octet-low : (w row j : ℕ) → j < 8 → bit_at (octet_of w row) j ≡ bit_at w (8 * row + j)
+unfolding octet_of
+octet-low w row j below =
+    ap (λ n. bit_at n j) (and_mask (w / 2 ^ (8 * row)) 8) ∙ bit_at_mod (w / 2 ^ (8 * row)) 8 j below ∙ bit_at_shr w (8 * row) j
 
-octet-high : (w at j : ℕ) → 8 ≤ j → bit_at (octet w at) j ≡ 0
-octet-high w at j past =
-    ap (λ n. bit_at n j) (and_mask (w / 2 ^ (8 * at)) 8) ∙ bit_at_mod_above (w / 2 ^ (8 * at)) 8 j past
+octet-high : (w row j : ℕ) → 8 ≤ j → bit_at (octet_of w row) j ≡ 0
+unfolding octet_of
+octet-high w row j past =
+    ap (λ n. bit_at n j) (and_mask (w / 2 ^ (8 * row)) 8) ∙ bit_at_mod_above (w / 2 ^ (8 * row)) 8 j past
 
--- an octet more, of the next word
-module _ (words : List ℕ) (at i word : ℕ) (inside : i < 8)
-    (before : (j : ℕ) → j < 8 * i → bit_at word j ≡ bit_at (get_or words (j / 8) 0) (8 * at + j % 8))
-    (none : (j : ℕ) → 8 * i ≤ j → bit_at word j ≡ 0) where
-  both : (e j : ℕ) → bit_at (bit_or word (e * 2 ^ (8 * i) % 2 ^ 64)) j ≡ max (bit_at word j) (bit_at (e * 2 ^ (8 * i) % 2 ^ 64) j)
-  both e j = bit_at_or word (e * 2 ^ (8 * i) % 2 ^ 64) j
+-- an octet more
+module _ (octets : List ℕ) (row eight word : ℕ) (inside : eight < 8)
+    (before : (j : ℕ) → j < 8 * eight → bit_at word j ≡ bit_at (get_or octets (j / 8) 0) (8 * row + j % 8))
+    (none : (j : ℕ) → 8 * eight ≤ j → bit_at word j ≡ 0) where
+  e : ℕ
+  e = octet_of (get_or octets eight 0) row
 
-  pub octet-more : (j : ℕ) → j < 8 * (i + 1)
-      → bit_at (bit_or word (octet (get_or words i 0) at * 2 ^ (8 * i) % 2 ^ 64)) j ≡ bit_at (get_or words (j / 8) 0) (8 * at + j % 8)
-  octet-more j below =
-      let e : ℕ = octet (get_or words i 0) at in
-      elim (cases_lt j (8 * i)) [
-        | inl first ↦
-            let nothing : bit_at (e * 2 ^ (8 * i) % 2 ^ 64) j ≡ 0 =
-            bit_at_mod (e * 2 ^ (8 * i)) 64 j (omega (arith, first, inside)) ∙ bit_at_shl_low e (8 * i) j first in
-            let same : bit_at (bit_or word (e * 2 ^ (8 * i) % 2 ^ 64)) j ≡ bit_at word j = omega (arith, both e j, nothing) in
-            same ∙ before j first
-        | inr later ↦
-            let here : j / 8 ≡ i = omega (arith, later, below) in
-            let place : 8 * at + (j - 8 * i) ≡ 8 * at + j % 8 = omega (arith, later, below) in
-            let moved : bit_at (e * 2 ^ (8 * i) % 2 ^ 64) j ≡ bit_at e (j - 8 * i) =
-            bit_at_mod (e * 2 ^ (8 * i)) 64 j (omega (arith, below, inside)) ∙ bit_at_shl_high e (8 * i) j later in
-            let same : bit_at (bit_or word (e * 2 ^ (8 * i) % 2 ^ 64)) j ≡ bit_at e (j - 8 * i) = omega (arith, both e j, moved, none j later) in
-            same ∙ octet-low (get_or words i 0) at (j - 8 * i) (omega (arith, later, below))
-            ∙ ap (bit_at (get_or words i 0)) place ∙ ap (λ k. bit_at (get_or words k 0) (8 * at + j % 8)) (sym here)
-      ]
+  both : (j : ℕ) → bit_at (bit_or word (e * 2 ^ (8 * eight) % 2 ^ 64)) j ≡ max (bit_at word j) (bit_at (e * 2 ^ (8 * eight) % 2 ^ 64) j)
+  both j = bit_at_or word (e * 2 ^ (8 * eight) % 2 ^ 64) j
 
-  pub octet-none : (j : ℕ) → 8 * (i + 1) ≤ j → bit_at (bit_or word (octet (get_or words i 0) at * 2 ^ (8 * i) % 2 ^ 64)) j ≡ 0
-  octet-none j past =
-      let e : ℕ = octet (get_or words i 0) at in
-      let nothing : bit_at (e * 2 ^ (8 * i) % 2 ^ 64) j ≡ 0 = elim (cases_lt j 64) [
+  more : (j : ℕ) → j < 8 * (eight + 1) → bit_at (bit_or word (e * 2 ^ (8 * eight) % 2 ^ 64)) j ≡ bit_at (get_or octets (j / 8) 0) (8 * row + j % 8)
+  unfolding e
+  more j below = elim (cases_lt j (8 * eight)) [
+    | inl first ↦
+        let nothing : bit_at (e * 2 ^ (8 * eight) % 2 ^ 64) j ≡ 0 =
+        bit_at_mod (e * 2 ^ (8 * eight)) 64 j (omega (arith, first, inside)) ∙ bit_at_shl_low e (8 * eight) j first in
+        let same : bit_at (bit_or word (e * 2 ^ (8 * eight) % 2 ^ 64)) j ≡ bit_at word j = omega (arith, both j, nothing) in
+        same ∙ before j first
+    | inr later ↦
+        let here : j / 8 ≡ eight = omega (arith, later, below) in
+        let place : 8 * row + (j - 8 * eight) ≡ 8 * row + j % 8 = omega (arith, later, below) in
+        let moved : bit_at (e * 2 ^ (8 * eight) % 2 ^ 64) j ≡ bit_at e (j - 8 * eight) =
+        bit_at_mod (e * 2 ^ (8 * eight)) 64 j (omega (arith, below, inside)) ∙ bit_at_shl_high e (8 * eight) j later in
+        let same : bit_at (bit_or word (e * 2 ^ (8 * eight) % 2 ^ 64)) j ≡ bit_at e (j - 8 * eight) = omega (arith, both j, moved, none j later) in
+        same ∙ octet-low (get_or octets eight 0) row (j - 8 * eight) (omega (arith, later, below))
+        ∙ ap (bit_at (get_or octets eight 0)) place ∙ ap (λ k. bit_at (get_or octets k 0) (8 * row + j % 8)) (sym here)
+  ]
+
+  nothing-more : (j : ℕ) → 8 * (eight + 1) ≤ j → bit_at (bit_or word (e * 2 ^ (8 * eight) % 2 ^ 64)) j ≡ 0
+  unfolding e
+  nothing-more j past =
+      let nothing : bit_at (e * 2 ^ (8 * eight) % 2 ^ 64) j ≡ 0 = elim (cases_lt j 64) [
         | inl short ↦
-            bit_at_mod (e * 2 ^ (8 * i)) 64 j short ∙ bit_at_shl_high e (8 * i) j (omega (arith, past))
-            ∙ octet-high (get_or words i 0) at (j - 8 * i) (omega (arith, past))
-        | inr long ↦ bit_at_mod_above (e * 2 ^ (8 * i)) 64 j long
+            bit_at_mod (e * 2 ^ (8 * eight)) 64 j short ∙ bit_at_shl_high e (8 * eight) j (omega (arith, past))
+            ∙ octet-high (get_or octets eight 0) row (j - 8 * eight) (omega (arith, past))
+        | inr long ↦ bit_at_mod_above (e * 2 ^ (8 * eight)) 64 j long
       ] in
-      omega (arith, both e j, nothing, none j (omega (arith, past)))
+      omega (arith, both j, nothing, none j (omega (arith, past)))
+
+pub octet-more : (octets : List ℕ) (row eight word : ℕ) → eight < 8
+    → ((j : ℕ) → j < 8 * eight → bit_at word j ≡ bit_at (get_or octets (j / 8) 0) (8 * row + j % 8))
+    → ((j : ℕ) → 8 * eight ≤ j → bit_at word j ≡ 0)
+    → (j : ℕ) → j < 8 * (eight + 1)
+    → bit_at (bit_or word (bit_and (get_or octets eight 0 / 2 ^ (8 * row)) 255 * 2 ^ (8 * eight) % 2 ^ 64)) j ≡ bit_at (get_or octets (j / 8) 0) (8 * row + j % 8)
+unfolding octet_of e
+octet-more octets row eight word inside before none j below = more octets row eight word inside before none j below
+
+pub octet-none : (octets : List ℕ) (row eight word : ℕ) → eight < 8
+    → ((j : ℕ) → j < 8 * eight → bit_at word j ≡ bit_at (get_or octets (j / 8) 0) (8 * row + j % 8))
+    → ((j : ℕ) → 8 * eight ≤ j → bit_at word j ≡ 0)
+    → (j : ℕ) → 8 * (eight + 1) ≤ j
+    → bit_at (bit_or word (bit_and (get_or octets eight 0 / 2 ^ (8 * row)) 255 * 2 ^ (8 * eight) % 2 ^ 64)) j ≡ 0
+unfolding octet_of e
+octet-none octets row eight word inside before none j past = nothing-more octets row eight word inside before none j past
 
 -- ---- lists of words
 
