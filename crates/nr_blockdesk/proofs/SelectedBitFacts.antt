@@ -57,12 +57,21 @@ find_it f a (suc n) any = go (f a) refl any (λ later. find_it f (a + 1) n later
         record { at = r.at; low = omega (arith, r.low); high = omega (arith, r.high); is = r.is }
 
 -- a range in two parts
-any-more : (f : ℕ → Bool) (n k : ℕ) → list_any f (range_with_len 0 (n + k)) ≡ (list_any f (range_with_len 0 n) || list_any f (range_with_len n k))
-any-more f n k =
-    let start : 0 + n ≡ n = omega arith in
-    ap (list_any f) (range-split 0 n k)
-    ∙ list_any-append f (range_with_len 0 n) (range_with_len (0 + n) k)
-    ∙ ap (λ a. list_any f (range_with_len 0 n) || list_any f (range_with_len a k)) start
+any-more : (f : ℕ → Bool) (a n k : ℕ) → list_any f (range_with_len a (n + k)) ≡ (list_any f (range_with_len a n) || list_any f (range_with_len (a + n) k))
+any-more f a n k = ap (list_any f) (range-split a n k) ∙ list_any-append f (range_with_len a n) (range_with_len (a + n) k)
+
+-- what is said once more numbers of a range were looked at
+pub runs-more : (f : ℕ → Bool → ℕ → Bool) (a n count k : ℕ) → k ≡ a + n → (first old new : ℕ → Bool → Bool) (one more : Bool)
+    → (one ≡ true → (p : ℕ) (v : Bool) → old p v ≡ (first p v || list_any (f p v) (range_with_len a n)))
+    → (more ≡ true → (p : ℕ) (v : Bool) → new p v ≡ (old p v || list_any (f p v) (range_with_len k count)))
+    → (one && more) ≡ true → (p : ℕ) (v : Bool) → new p v ≡ (first p v || list_any (f p v) (range_with_len a (n + count)))
+runs-more f a n count k start first old new one more before said both p v =
+    let clean = and_parts one more both in
+    said clean.1 p v
+    ∙ ap (λ t. t || list_any (f p v) (range_with_len k count)) (before clean.0 p v)
+    ∙ or_assoc (first p v) (list_any (f p v) (range_with_len a n)) (list_any (f p v) (range_with_len k count))
+    ∙ ap (λ s. first p v || (list_any (f p v) (range_with_len a n) || list_any (f p v) (range_with_len s count))) start
+    ∙ ap (λ t. first p v || t) (sym (any-more (f p v) a n count))
 
 -- place j of a word of marks and a word of bits tells this bit
 abbrev bit_tells : ℕ → ℕ → ℕ → Bool → Bool
@@ -81,7 +90,7 @@ module _ (b : Circular) (rv : ℕ) (marks bits : List Bool) (k position count no
       ∙ ap (λ m. (position + j == p) && (m && beq (bit bits (k + j)) v)) (sym (reads j inside))
       ∙ ap (λ m. (position + j == p) && ((bit_at now j == 1) && beq m v)) (sym (reads-too j inside))
 
-  word-tells : (p : ℕ) (v : Bool)
+  pub word-tells : (p : ℕ) (v : Bool)
       → word_says position count now word p v ≡ list_any (bit_says b rv marks bits p v) (range_with_len k count)
   word-tells p v = same_test (word_says position count now word p v) (list_any (bit_says b rv marks bits p v) (range_with_len k count)) forth back
     where
@@ -115,20 +124,6 @@ module _ (b : Circular) (rv : ℕ) (marks bits : List Bool) (k position count no
           (and_from (nat_le position p) (nat_lt p (position + count)) (le-leb position p (omega (arith, here))) (lt-ltb p (position + count) (omega (arith, here, inside))))
           (sym (ap (λ i. bit_at now i == 1) back) ∙ part_masks.0))
           (sym (ap (λ i. beq (bit_at word i == 1) v) back) ∙ part_masks.1)
-
-  -- a run more
-  pub run-more : (first old new : ℕ → Bool → Bool) (one more : Bool)
-      → (one ≡ true → (p : ℕ) (v : Bool) → old p v ≡ (first p v || list_any (bit_says b rv marks bits p v) (range_with_len 0 k)))
-      → (more ≡ true → (p : ℕ) (v : Bool) → new p v ≡ (old p v || word_says position count now word p v))
-      → (one && more) ≡ true → (p : ℕ) (v : Bool) → new p v ≡ (first p v || list_any (bit_says b rv marks bits p v) (range_with_len 0 (k + count)))
-  run-more first old new one more before said both p v =
-      let clean = and_parts one more both in
-      let f : ℕ → Bool = bit_says b rv marks bits p v in
-      said clean.1 p v
-      ∙ ap (λ t. t || word_says position count now word p v) (before clean.0 p v)
-      ∙ or_assoc (first p v) (list_any f (range_with_len 0 k)) (word_says position count now word p v)
-      ∙ ap (λ t. first p v || (list_any f (range_with_len 0 k) || t)) (word-tells p v)
-      ∙ ap (λ t. first p v || t) (sym (any-more f k count))
 
 -- what is received at a place, as a hearing, and whether it tells this bit of this position
 told_by : ℕ → Bool → Option Observation → Bool

@@ -1,8 +1,7 @@
 -- Internal: what the proofs need beside what is believed.
-use Rattle.std.specs.Prelude.{Bool, true, false, if◌then◌else◌, Option, Some, None, List, map, ℕ, ◌+◌, ◌*◌, ◌<◌, ◌≤◌, ◌==◌, ◌&&◌, length, replicate, ◌≡◌}
+use Rattle.std.specs.Prelude.{Bool, true, false, if◌then◌else◌, Option, Some, None, List, map, ℕ, ◌+◌, ◌≤◌, ◌==◌, ◌&&◌, length, replicate, ◌≡◌}
 use Rattle.std.specs.Bool.{beq}
 use Rattle.std.specs.List.{range_with_len}
-use Rattle.nr_graphpick.specs.Graph.{cols_of}
 use Rattle.nr_harqbuf.specs.Masks.{says}
 use Rattle.nr_ratematch.specs.Selection.{Circular, place_of}
 use Rattle.nr_blockdesk.specs.Link.{Link, word, IsLink}
@@ -27,12 +26,6 @@ heards_of part = heards_from part.heard.now.items part.value.now.items part.from
 -- selected bit k of a code block was received, has this bit, and stands at this position of its codeword
 abbrev pub bit_says : Circular → ℕ → List Bool → List Bool → ℕ → Bool → ℕ → Bool
 bit_says b rv marks bits p v k = (place_of b rv k == p) && says marks bits k v
-
--- up to `most` selected bits from bit k on stand in the codeword from a position on, one after another
-pub record IsRun (b : Circular) (rv k most position count : ℕ) : Type 0 where
-  pub few : count ≤ most
-  pub inside : position + count ≤ cols_of b.graph * b.z
-  pub places : (j : ℕ) → j < count → place_of b rv (k + j) ≡ position + j
 
 -- marks of the selected bits that were received: of all, where every one was
 abbrev pub marks_of : Selected → List Bool

@@ -1,11 +1,12 @@
 //! What a code block's part of a transmission has, put together by words. It goes by runs of the circular buffer, whose
 //! places stand one after another in the codeword.
 
-ghost use Rattle.std.specs.Prelude.{◌≡◌, ℕ, ◌*◌, ◌<◌, length, IsFalse, IsTrue, Bool};
+ghost use Rattle.std.specs.Prelude.{◌≡◌, ℕ, ◌+◌, ◌*◌, ◌<◌, ◌≤◌, ◌||◌, length, IsFalse, IsTrue, Bool};
 ghost use Rattle.std.specs.List.{list_any, range_with_len};
 ghost use Rattle.nr_graphpick.specs.Graph.{cols_of};
 ghost use Rattle.nr_harqbuf.specs.Masks.{says};
-ghost use Rattle.nr_blockdesk.specs.Inside.{IsRun, bit_says, marks_of};
+ghost use Rattle.nr_ratematch.specs.Selection.{Circular, place_of};
+ghost use Rattle.nr_blockdesk.specs.Inside.{bit_says, marks_of};
 ghost use Rattle.nr_blockdesk.specs.Telling.{AreEmpty};
 
 use crate::part_masks::PartMasks;
@@ -13,20 +14,54 @@ use crate::selected::Selected;
 use nr_harqbuf::merge_word;
 use nr_ratematch::Buffer;
 
-// The run of the selected bits from bit `k` on: what is left of the one before, and the buffer's next one after it. To
-// ask the buffer takes divisions.
-fn run_from(buffer: &Buffer, rv: u32, k: u32, most: u32, run: (u32, u32)) -> (u32, u32)
-    requires version { rv < 4 }
-    requires some { 0 < most }
-    requires run { IsRun buffer.now rv k most run.0 run.1 }
-    ensures some { 0 < result.1 }
-    ensures run { IsRun buffer.now rv k most result.0 result.1 }
+// Puts the `count` selected bits from bit `k` on into the masks, where their places stand from `position` on, one after
+// another. Returns whether no position that the masks marked before is marked again with the other bit.
+fn gather_run(
+    selected: &Selected,
+    k: usize,
+    position: usize,
+    count: usize,
+    part_masks: &mut PartMasks,
+) -> bool
+    requires inside { position + count ≤ length part_masks.old.heard.items }
+    requires both { length part_masks.old.value.items ≡ length part_masks.old.heard.items }
+    requires selected { k + count ≤ length selected.now.value.items }
+    ensures part_masks { IsTrue result → (b : Circular) (rv : ℕ) → ((j : ℕ) → j < count → place_of b rv (k + j) ≡ position + j)
+        → (p : ℕ) (v : Bool) → says part_masks.new.heard.items part_masks.new.value.items p v
+        ≡ (says part_masks.old.heard.items part_masks.old.value.items p v
+        || list_any (bit_says b rv (marks_of selected.now) selected.now.value.items p v) (range_with_len k count)) }
+    ensures marks { length part_masks.new.heard.items ≡ length part_masks.old.heard.items }
+    ensures bits { length part_masks.new.value.items ≡ length part_masks.old.value.items }
 {
-    if run.1 == 0 {
-        buffer.run(rv, k, most)
-    } else {
-        run
+    // Lists have at most 2^24 bits, as `len` says: so no place overflows.
+    let (_, _) = (part_masks.heard.len(), selected.value.len());
+    let mut one_bit = true;
+    let whole = count / 64;
+    for i in 0..whole {
+        let now = selected.marks(k + 64 * i);
+        let bits = selected.value.window(k + 64 * i);
+        let at = position + 64 * i;
+        one_bit &= merge_word(
+            &mut part_masks.heard,
+            &mut part_masks.value,
+            at,
+            64,
+            now,
+            bits,
+        );
     }
+    let now = selected.marks(k + 64 * whole);
+    let bits = selected.value.window(k + 64 * whole);
+    let at = position + 64 * whole;
+    one_bit &= merge_word(
+        &mut part_masks.heard,
+        &mut part_masks.value,
+        at,
+        count % 64,
+        now,
+        bits,
+    );
+    one_bit
 }
 
 // Puts the selected bits of a code block into its masks. Returns whether they give no position both bits; where they do,
@@ -47,26 +82,18 @@ pub(crate) fn gather_part(
     ensures bits { length part_masks.new.value.items ≡ length part_masks.old.value.items }
 {
     let count = selected.value.len() as u32;
-    // A list has at most 2^24 bits, as `len` says: so no position overflows.
-    let _ = part_masks.value.len();
     let mut one_bit = true;
     let mut k = 0;
-    let mut run = (0, 0);
     while k < count {
-        let (position, left) = run_from(buffer, rv, k, count - k, run);
-        let wide = left.min(64);
-        let now = selected.marks(k as usize);
-        let bits = selected.value.window(k as usize);
-        one_bit &= merge_word(
-            &mut part_masks.heard,
-            &mut part_masks.value,
+        let (position, run) = buffer.run(rv, k, count - k);
+        one_bit &= gather_run(
+            selected,
+            k as usize,
             position as usize,
-            wide as usize,
-            now,
-            bits,
+            run as usize,
+            part_masks,
         );
-        k += wide;
-        run = (position + wide, left - wide);
+        k += run;
     }
     if one_bit {
         return true;

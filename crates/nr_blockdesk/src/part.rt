@@ -26,12 +26,12 @@ impl Part<'_> {
             → bit self.now.heard.now.items (self.now.from + m) ≡ true }
     {
         let (from, count) = (self.from as usize, self.count as usize);
-        for i in 0..count.div_ceil(64) {
-            let wide = (count - 64 * i).min(64);
-            if low_bits(!self.heard.window(from + 64 * i), wide) != 0 {
+        let whole = count / 64;
+        for i in 0..whole {
+            if self.heard.window(from + 64 * i) != u64::MAX {
                 return false;
             }
         }
-        true
+        low_bits(!self.heard.window(from + 64 * whole), count % 64) == 0
     }
 }

@@ -2,7 +2,7 @@
 use Rattle.std.proofs.Common.{◌≡◌, ℕ, ◌-◌, ◌≤◌, ◌||◌, Bool, true, length}
 use Rattle.std.specs.List.{list_any, range_with_len}
 use Rattle.nr_harqbuf.specs.Masks.{says}
-use Rattle.nr_blockdesk.specs.Inside.{IsRun, bit_says, marks_of}
+use Rattle.nr_blockdesk.specs.Inside.{bit_says, marks_of}
 use Rattle.nr_blockdesk.proofs.gather_part.gather_part.Given as goal
 
 abbrev pub decreases-loop-k : goal.decreases-loop-k
@@ -14,7 +14,6 @@ invariant-loop-k l = record {
       ≡ (says l.fn.part_masks.heard.items l.fn.part_masks.value.items p v
       || list_any (bit_says l.buffer l.rv (marks_of l.selected) l.selected.value.items p v) (range_with_len 0 l.k));
   below : l.k ≤ l.count;
-  run : IsRun l.buffer l.rv l.k (l.count - l.k) l.run.0 l.run.1;
   marks : length l.part_masks.heard.items ≡ length l.fn.part_masks.heard.items;
   bits : length l.part_masks.value.items ≡ length l.fn.part_masks.value.items;
 }
