@@ -28,8 +28,8 @@ abbrev pub bit_says : Circular → ℕ → List Bool → List Bool → ℕ → B
 bit_says b rv marks bits p v k = (place_of b rv k == p) && says marks bits k v
 
 -- marks of the selected bits that were received: of all, where every one was
-abbrev pub marks_of : Selected → List Bool
-marks_of selected = if selected.whole then replicate (length selected.value.items) true else selected.heard.items
+abbrev pub received_marks : Selected → List Bool
+received_marks selected = if selected.whole then replicate (length selected.value.items) true else selected.heard.items
 
 -- lists that have room for n bits
 pub record HasRoomFor (n : ℕ) (selected : Selected) : Type 0 where

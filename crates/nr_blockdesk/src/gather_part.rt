@@ -6,7 +6,7 @@ ghost use Rattle.std.specs.List.{list_any, range_with_len};
 ghost use Rattle.nr_graphpick.specs.Graph.{cols_of};
 ghost use Rattle.nr_harqbuf.specs.Masks.{says};
 ghost use Rattle.nr_ratematch.specs.Selection.{Circular, place_of};
-ghost use Rattle.nr_blockdesk.specs.Inside.{bit_says, marks_of};
+ghost use Rattle.nr_blockdesk.specs.Inside.{bit_says, received_marks};
 ghost use Rattle.nr_blockdesk.specs.Telling.{AreEmpty};
 
 use crate::part_masks::PartMasks;
@@ -29,7 +29,7 @@ fn gather_run(
     ensures part_masks { IsTrue result → (b : Circular) (rv : ℕ) → ((j : ℕ) → j < count → place_of b rv (k + j) ≡ position + j)
         → (p : ℕ) (v : Bool) → says part_masks.new.heard.items part_masks.new.value.items p v
         ≡ (says part_masks.old.heard.items part_masks.old.value.items p v
-        || list_any (bit_says b rv (marks_of selected.now) selected.now.value.items p v) (range_with_len k count)) }
+        || list_any (bit_says b rv (received_marks selected.now) selected.now.value.items p v) (range_with_len k count)) }
     ensures marks { length part_masks.new.heard.items ≡ length part_masks.old.heard.items }
     ensures bits { length part_masks.new.value.items ≡ length part_masks.old.value.items }
 {
@@ -75,7 +75,7 @@ pub(crate) fn gather_part(
     requires version { rv < 4 }
     requires empty { AreEmpty (cols_of buffer.now.graph * buffer.now.z) part_masks.old }
     ensures part_masks { IsTrue result → (p : ℕ) (v : Bool) → says part_masks.new.heard.items part_masks.new.value.items p v
-        ≡ list_any (bit_says buffer.now rv (marks_of selected.now) selected.now.value.items p v)
+        ≡ list_any (bit_says buffer.now rv (received_marks selected.now) selected.now.value.items p v)
         (range_with_len 0 (length selected.now.value.items)) }
     ensures empty { IsFalse result → AreEmpty (cols_of buffer.now.graph * buffer.now.z) part_masks.new }
     ensures marks { length part_masks.new.heard.items ≡ length part_masks.old.heard.items }

@@ -4,7 +4,7 @@ ghost use Rattle.std.specs.Prelude.{◌≡◌, ℕ, ◌+◌, ◌%◌, ◌^◌, �
 ghost use Rattle.std.specs.Int.{bit_at};
 ghost use Rattle.nr_bitvec.specs.Bit.{bit};
 ghost use Rattle.nr_interleave.specs.Interleaving.{interleaved};
-ghost use Rattle.nr_blockdesk.specs.Inside.{HasRoomFor, marks_of};
+ghost use Rattle.nr_blockdesk.specs.Inside.{HasRoomFor, received_marks};
 
 use crate::part::Part;
 use nr_bitvec::Bits;
@@ -40,7 +40,7 @@ impl Selected {
         requires order { 0 < qm }
         requires whole { part.now.count % qm ≡ 0 }
         requires room { HasRoomFor part.now.count self.old }
-        ensures marks { interleaved qm (marks_of self.new)
+        ensures marks { interleaved qm (received_marks self.new)
             ≡ take part.now.count (drop part.now.from part.now.heard.now.items) }
         ensures bits { interleaved qm self.new.value.items
             ≡ take part.now.count (drop part.now.from part.now.value.now.items) }
@@ -57,7 +57,7 @@ impl Selected {
     // Marks of the 64 bits from bit `k` on, the first of them lowest.
     pub(crate) fn marks(&self, k: usize) -> u64
         ensures { (j : ℕ) → j < 64 → k + j < length self.now.value.items
-            → (bit_at result j == 1) ≡ bit (marks_of self.now) (k + j) }
+            → (bit_at result j == 1) ≡ bit (received_marks self.now) (k + j) }
     {
         if self.whole {
             u64::MAX

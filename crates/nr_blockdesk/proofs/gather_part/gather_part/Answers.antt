@@ -4,7 +4,7 @@ use Rattle.std.specs.List.{list_any, range_with_len}
 use Rattle.nr_bitvec.specs.Bit.{bit}
 use Rattle.nr_graphpick.specs.Graph.{cols_of}
 use Rattle.nr_harqbuf.specs.Masks.{says}
-use Rattle.nr_blockdesk.specs.Inside.{bit_says, marks_of}
+use Rattle.nr_blockdesk.specs.Inside.{bit_says, received_marks}
 use Rattle.nr_blockdesk.proofs.MergingFacts.{empty-bit}
 use Rattle.nr_blockdesk.proofs.SelectedBitFacts.{none-more, runs-more}
 use Rattle.nr_blockdesk.proofs.gather_part.gather_part.Goals as goal
@@ -19,7 +19,7 @@ loop-k-init c = record {
 
 pub loop-k-preserved : goal.loop-k-preserved
 loop-k-preserved c = record {
-  part_masks = runs-more (bit_says c.args.buffer.now c.args.rv (marks_of c.args.selected.now) c.args.selected.now.value.items)
+  part_masks = runs-more (bit_says c.args.buffer.now c.args.rv (received_marks c.args.selected.now) c.args.selected.now.value.items)
       0 c.loop-k.k c.run-position.result.1 c.loop-k.k (omega arith)
       (says c.args.part_masks.now.heard.items c.args.part_masks.now.value.items)
       (says c.loop-k.part_masks.heard.items c.loop-k.part_masks.value.items)
@@ -34,7 +34,7 @@ loop-k-preserved c = record {
 pub returns-then-one_bit-clause-part_masks : goal.returns-then-one_bit-clause-part_masks
 returns-then-one_bit-clause-part_masks c = λ _ p v.
     let b = c.args.buffer.now in
-    let marks = marks_of c.args.selected.now in
+    let marks = received_marks c.args.selected.now in
     let bits = c.args.selected.now.value.items in
     let all : c.loop-k.k ≡ length bits = omega (arith, c.loop-k-test.false, c.loop-k.invariant.below, c.len-count.ensures.value) in
     let none : bit c.args.part_masks.now.heard.items p ≡ false = empty-bit c.args.part_masks.now.heard.items (cols_of b.graph * b.z) p c.requires.empty.marks in

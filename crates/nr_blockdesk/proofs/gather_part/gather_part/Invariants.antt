@@ -2,7 +2,7 @@
 use Rattle.std.proofs.Common.{◌≡◌, ℕ, ◌-◌, ◌≤◌, ◌||◌, Bool, true, length}
 use Rattle.std.specs.List.{list_any, range_with_len}
 use Rattle.nr_harqbuf.specs.Masks.{says}
-use Rattle.nr_blockdesk.specs.Inside.{bit_says, marks_of}
+use Rattle.nr_blockdesk.specs.Inside.{bit_says, received_marks}
 use Rattle.nr_blockdesk.proofs.gather_part.gather_part.Given as goal
 
 abbrev pub decreases-loop-k : goal.decreases-loop-k
@@ -12,7 +12,7 @@ abbrev pub invariant-loop-k : goal.invariant-loop-k
 invariant-loop-k l = record {
   part_masks : l.one_bit ≡ true → (p : ℕ) (v : Bool) → says l.part_masks.heard.items l.part_masks.value.items p v
       ≡ (says l.fn.part_masks.heard.items l.fn.part_masks.value.items p v
-      || list_any (bit_says l.buffer l.rv (marks_of l.selected) l.selected.value.items p v) (range_with_len 0 l.k));
+      || list_any (bit_says l.buffer l.rv (received_marks l.selected) l.selected.value.items p v) (range_with_len 0 l.k));
   below : l.k ≤ l.count;
   marks : length l.part_masks.heard.items ≡ length l.fn.part_masks.heard.items;
   bits : length l.part_masks.value.items ≡ length l.fn.part_masks.value.items;
