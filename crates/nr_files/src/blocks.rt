@@ -1,11 +1,14 @@
 //! The blocks file: one transport block a line, written in hexadecimal digits.
 
-ghost use Rattle.std.specs.Prelude.{◌≡◌, ◌≤◌, ◌<◌, ◌+◌, ◌*◌, ◌/◌, ◌^◌, IsTrue, IfOk, IfSome, All, map, length};
+ghost use Rattle.std.specs.Prelude.{◌≡◌, ◌≤◌, ◌<◌, ◌+◌, ◌*◌, ◌/◌, ◌^◌, ◌==◌, ◌∷◌, IsTrue, IfOk, IfSome, All, map, length};
 ghost use Rattle.std.specs.Char.{is_ascii_hexdigit, digit_value};
-ghost use Rattle.std.specs.List.{list_all};
+ghost use Rattle.std.specs.List.{list_all, slice_split};
+ghost use Rattle.std.specs.Option.{option_copied};
 ghost use Rattle.nr_files.specs.Blocks.{without_last, octets_of_digits, block_said, blocks_said, IsBlockLength};
+ghost use Rattle.nr_files.specs.Inside.{parts_left};
 ghost use Rattle.nr_refusal.specs.Refusal.{FailsAs, Gives};
 
+use memchr::memchr;
 use nr_shifttable::{ReadFault, Source, read_to_end};
 use std::alloc::{AllocError, Global};
 use thiserror::Error;
@@ -56,6 +59,18 @@ fn strip_last(text: &[u8], last: u8) -> &[u8]
     ensures { result.now ≡ without_last last text.now }
 {
     text.strip_suffix(&[last]).unwrap_or(text)
+}
+
+// What stands before the first line feed of a text, and what stands behind it, where there is one. `memchr` looks at
+// many octets at a time, `split` at one.
+fn first_line(text: &[u8]) -> (&[u8], Option<&[u8]>)
+    ensures { slice_split (λ c. c == 10) text.now
+        ≡ result.0.now ∷ parts_left (option_copied result.1) }
+{
+    match memchr(b'\n', text) {
+        Some(end) => (&text[..end], Some(&text[end + 1..])),
+        None => (text, None),
+    }
 }
 
 // The value of a hexadecimal digit, without a branch: letters of both cases have bit 64, and 1 to 6 in the bits below
@@ -150,13 +165,16 @@ pub fn parse_blocks(alloc: Global, text: &[u8]) -> Result<Vec<Vec<u8>>, BlocksFa
         return Err(BlocksFault::Empty);
     }
     let mut blocks = Vec::new(alloc);
-    for part in strip_last(text, b'\n').split(|character| *character == b'\n') {
+    let mut rest = Some(strip_last(text, b'\n'));
+    while let Some(lines) = rest {
         if blocks.len() == MOST_BLOCKS {
             return Err(BlocksFault::TooMany);
         }
+        let (line, more) = first_line(lines);
         let number = blocks.len() as u32 + 1;
-        let block = block_of(alloc, number, strip_last(part, b'\r'))?;
+        let block = block_of(alloc, number, strip_last(line, b'\r'))?;
         blocks.push(block).map_err(|_| BlocksFault::Memory)?;
+        rest = more;
     }
     Ok(blocks)
 }
