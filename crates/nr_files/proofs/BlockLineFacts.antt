@@ -1,5 +1,5 @@
 -- The lines of a blocks file, one by one.
-use Rattle.std.proofs.Common.{add-one, ◌-◌, ◌==◌, Bool, take, length-take, length-drop, get_or-take, ◌≡◌, ℕ, ◌+◌, ◌<◌, ◌≤◌, ◌⊎◌, inl, inr, true, false, Result, Ok, Err, List, [], ◌∷◌, ◌++◌, length, drop, get_or, ap, sym, ◌∙◌, refl, arith, append_assoc, nat_lt, nat_eq}
+use Rattle.std.proofs.Common.{add-one, ◌-◌, ◌==◌, take, length-take, length-drop, get_or-take, ◌≡◌, ℕ, ◌+◌, ◌<◌, ◌≤◌, ◌⊎◌, inl, inr, true, false, Result, Ok, Err, List, [], ◌∷◌, ◌++◌, length, drop, get_or, ap, sym, ◌∙◌, refl, arith, append_assoc, nat_lt, nat_eq}
 use Rattle.std.proofs.lemmas.Bool.{cases_Bool}
 use Rattle.std.proofs.lemmas.List.{append-nil, get_or_default, take_all}
 use Rattle.std.proofs.Math.Seq.{split_at}
