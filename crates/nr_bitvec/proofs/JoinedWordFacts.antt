@@ -1,15 +1,14 @@
 -- Words that are added after the places of others.
-use Rattle.std.proofs.Common.{◌≡◌, ℕ, ◌+◌, ◌-◌, ◌*◌, ◌/◌, ◌%◌, ◌^◌, ◌<◌, ◌≤◌, ◌==◌, inl, inr, min, false, List, ◌++◌, length, get_or, take, replicate, refl, ap, sym, ◌∙◌, arith, length-append, length-take}
+use Rattle.std.proofs.Common.{◌≡◌, ℕ, ◌+◌, ◌-◌, ◌*◌, ◌/◌, ◌%◌, ◌^◌, ◌<◌, ◌≤◌, ◌==◌, inl, inr, min, false, List, length, get_or, replicate, refl, ap, sym, ◌∙◌, arith}
 use Rattle.std.proofs.lemmas.Bool.{cases_lt}
-use Rattle.std.proofs.lemmas.List.{get_or_past, get_or_append_left, get_or-append_right, get_or-replicate, length-replicate, take_all}
+use Rattle.std.proofs.lemmas.List.{get_or_past, get_or-replicate, length-replicate}
 use Rattle.std.proofs.lemmas.Nat.Bits.{bit_at-zero, bit_at_above}
 use Rattle.std.specs.Int.{bit_at}
 use Rattle.nr_bitvec.specs.Packed.{place, IsClear, unpacked}
 use Rattle.nr_bitvec.specs.PackedInside.{moved, IsPacked, Joins}
-use Rattle.nr_bitvec.proofs.BitFacts.{place_of, place_past}
-use Rattle.nr_bitvec.proofs.PlaceFacts.{length-unpacked}
+use Rattle.nr_bitvec.proofs.BitFacts.{place_of}
 use Rattle.nr_bitvec.proofs.AddedBitFacts.{moved_below, moved_from, kept}
-use Rattle.nr_bitvec.proofs.PackedListFacts.{unpacked-is, bit-within}
+use Rattle.nr_bitvec.proofs.PackedListFacts.{unpacked-is}
 
 -- ---- word by word
 
@@ -79,57 +78,3 @@ pub zeros-items : (n count : ℕ) (ws : List ℕ) → ws ≡ replicate count 0 �
 zeros-items n count ws made =
     unpacked-is n ws (replicate n false) (length-replicate n false)
     (λ t h. ap (λ vs. place vs t == 1) made ∙ ap (λ k. k == 1) (place-zeros count t) ∙ sym (get_or-replicate n t false false h))
-
--- more words, which are zero, have the same places
-place-resized : (ws : List ℕ) (count t : ℕ) → length ws ≤ count → place (take count ws ++ replicate (count - length ws) 0) t ≡ place ws t
-place-resized ws count t h =
-    let whole : take count ws ≡ ws = take_all count ws h in
-    ap (λ (vs : List ℕ). place (vs ++ replicate (count - length ws) 0) t) whole ∙ elim (cases_lt (t / 64) (length ws)) [
-      | inl old ↦ ap (λ k. bit_at k (t % 64)) (get_or_append_left ws (replicate (count - length ws) 0) 0 (t / 64) old)
-      | inr new ↦
-          ap (λ k. bit_at k (t % 64)) (get_or-append_right ws (replicate (count - length ws) 0) (length ws) (t / 64) 0 refl new ∙ zeros (count - length ws) (t / 64 - length ws))
-          ∙ bit_at-zero (t % 64) ∙ sym (place_past ws t (omega (arith, new)))
-    ]
-
-length-resized : (ws : List ℕ) (count : ℕ) → length ws ≤ count → length (take count ws ++ replicate {A = ℕ} (count - length ws) 0) ≡ count
-length-resized ws count h =
-    length-append (take count ws) (replicate (count - length ws) 0) ∙ omega (arith, length-take count ws, length-replicate {A = ℕ} (count - length ws) 0, h)
-
--- words of n bits with as many words as n + m places need
-pub record Resizes (ws mid : List ℕ) (count : ℕ) : Type 0 where
-  pub same : (t : ℕ) → place mid t ≡ place ws t
-  pub long : length mid ≡ count
-
-pub resizes : (n m count len : ℕ) (ws mid : List ℕ) → IsPacked n ws → len ≡ length ws → count ≡ (n + m) / 64 + min 1 ((n + m) % 64) → mid ≡ ws ++ replicate (count - len) 0 → Resizes ws mid count
-resizes n m count len ws mid packed e f g =
-    let enough : length ws ≤ count = omega (arith, packed.above, f) in
-    let h : mid ≡ take count ws ++ replicate (count - length ws) 0 =
-    g ∙ ap (λ k. ws ++ replicate (count - k) 0) e ∙ ap (λ (l : List ℕ). l ++ replicate (count - length ws) 0) (sym (take_all count ws enough)) in
-    record {
-      same = λ t. ap (λ (vs : List ℕ). place vs t) h ∙ place-resized ws count t enough;
-      long = ap length h ∙ length-resized ws count enough;
-    }
-
--- the words' new list of bits, and that they are packed
-pub joined-packed : (n m count : ℕ) (ws vs mid new : List ℕ) → IsPacked n ws → IsPacked m vs → n + m ≤ 2 ^ 24 → count ≡ (n + m) / 64 + min 1 ((n + m) % 64) → length mid ≡ count → Joins n mid vs new (length vs) → IsPacked (n + m) new
-joined-packed n m count ws vs mid new old more short e long joins = record {
-  short = short;
-  above = omega (arith, e, long, joins.long);
-  below = omega (arith, e, long, joins.long);
-  clear = λ t h.
-      let k : n + (t - n) ≡ t = omega (arith, h) in
-      sym (ap (place new) k) ∙ elim (cases_lt (t - n) (64 * length vs)) [
-        | inl within ↦ joins.within (t - n) within ∙ more.clear (t - n) (omega (arith, h))
-        | inr past ↦ joins.after (t - n) past
-      ];
-}
-
-pub joined-items : (n m : ℕ) (ws vs mid new : List ℕ) → IsPacked m vs → ((t : ℕ) → place mid t ≡ place ws t) → Joins n mid vs new (length vs) → unpacked (n + m) new ≡ unpacked n ws ++ unpacked m vs
-joined-items n m ws vs mid new more same joins =
-    unpacked-is (n + m) new (unpacked n ws ++ unpacked m vs) (length-append (unpacked n ws) (unpacked m vs) ∙ omega (arith, length-unpacked n ws, length-unpacked m vs))
-    (λ t h. elim (cases_lt t n) [
-      | inl low ↦ ap (λ k. k == 1) (joins.before t low ∙ same t) ∙ sym (bit-within n ws t low) ∙ sym (get_or_append_left (unpacked n ws) (unpacked m vs) false t (omega (arith, low, length-unpacked n ws)))
-      | inr high ↦
-          let k : n + (t - n) ≡ t = omega (arith, high) in
-          ap (λ p. p == 1) (sym (ap (place new) k) ∙ joins.within (t - n) (omega (arith, h, high, more.below))) ∙ sym (bit-within m vs (t - n) (omega (arith, h, high))) ∙ sym (get_or-append_right (unpacked n ws) (unpacked m vs) n t false (length-unpacked n ws) high)
-    ])

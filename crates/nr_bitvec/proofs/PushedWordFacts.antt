@@ -1,21 +1,17 @@
 -- Words that are pushed one after another: of octets, and of a range of other words. Octets that are written word by
 -- word.
-use Rattle.std.proofs.Common.{◌≡◌, ℕ, ◌+◌, ◌-◌, ◌*◌, ◌/◌, ◌%◌, ◌^◌, ◌<◌, ◌≤◌, ◌==◌, inl, inr, if◌then◌else◌, suc, zero, min, nat_lt, false, List, [], ◌∷◌, ◌++◌, length, get_or, take, drop, refl, ap, sym, ◌∙◌, arith, length-append, length-take, length-drop, get_or-take, get_or-drop}
+use Rattle.std.proofs.Common.{◌≡◌, ℕ, ◌+◌, ◌-◌, ◌*◌, ◌/◌, ◌%◌, ◌^◌, ◌<◌, ◌≤◌, ◌==◌, inl, inr, if◌then◌else◌, suc, zero, min, Bool, false, List, [], ◌∷◌, ◌++◌, length, get_or, take, drop, refl, ap, sym, ◌∙◌, arith, length-append, length-take, length-drop, get_or-take, get_or-drop}
 use Rattle.std.proofs.lemmas.Bool.{cases_lt, lt-ltb, le-ltb}
 use Rattle.std.proofs.lemmas.List.{get_or_past, get_or_append_left, get_or-append_right, length_push, same_lists, get_or_default}
 use Rattle.std.specs.Int.{bit_at, to_be_bytes, to_le_bytes, w64}
+use Rattle.std.specs.Int.RustNames.{bit_or}
 use Rattle.nr_bitvec.specs.BitList.{bits_of, octets_of}
 use Rattle.nr_bitvec.specs.Packed.{place, unpacked}
-use Rattle.nr_bitvec.specs.PackedInside.{octet_place, IsPacked}
-use Rattle.nr_bitvec.proofs.BitFacts.{bit_at_shr, bit_at_mod, place_of, place_past}
+use Rattle.nr_bitvec.specs.PackedInside.{octet_place, followed, IsPacked, Loads, Writes}
+use Rattle.nr_bitvec.proofs.BitFacts.{bit_at_shr, bit_at_mod, place_of, place_past, window-both}
 use Rattle.nr_bitvec.proofs.PlaceFacts.{place-push_old, place-push_new, length-unpacked, bit-place}
-use Rattle.nr_bitvec.proofs.PackedListFacts.{unpacked-is}
+use Rattle.nr_bitvec.proofs.PackedListFacts.{unpacked-is, bit-within}
 use Rattle.nr_bitvec.proofs.OctetListFacts.{length-bits_of, bit-bits_of, number_of-is, octets_of-octet, length-octets_of}
-
--- i words, with the places that G gives
-pub record Loads (G : ℕ → ℕ) (ws : List ℕ) (i : ℕ) : Type 0 where
-  pub long : length ws ≡ i
-  pub places : (t : ℕ) → t < 64 * i → place ws t ≡ G t
 
 pub loads_more : (G : ℕ → ℕ) (ws next : List ℕ) (i n : ℕ) → Loads G ws i → next ≡ ws ++ n ∷ [] → ((j : ℕ) → j < 64 → bit_at n j ≡ G (64 * i + j)) → Loads G next (i + 1)
 loads_more G ws next i n loads e word = record {
@@ -28,22 +24,10 @@ loads_more G ws next i n loads e word = record {
   ];
 }
 
--- enough of them are the words of a list of n bits
-pub loaded-packed : (G : ℕ → ℕ) (ws : List ℕ) (i n : ℕ) → Loads G ws i → n ≤ 2 ^ 24 → 64 * i < n + 64 → n ≤ 64 * i → ((t : ℕ) → n ≤ t → G t ≡ 0) → IsPacked n ws
-loaded-packed G ws i n loads short above below none = record {
-  short = short;
-  above = omega (arith, above, loads.long);
-  below = omega (arith, below, loads.long);
-  clear = λ t h. elim (cases_lt t (64 * i)) [
-    | inl within ↦ loads.places t within ∙ none t h
-    | inr past ↦ place_past ws t (omega (arith, past, loads.long))
-  ];
-}
-
 -- ---- of octets
 
 -- the places of eight octets among others
-pub group-place : (os : List ℕ) (i n j : ℕ) → n ≡ min (length os) (8 * i + 8) - 8 * i → j < 64 → octet_place (take n (drop (8 * i) os)) j ≡ octet_place os (64 * i + j)
+pub group-place : (os : List ℕ) (i n j : ℕ) → min (length os - 8 * i) 8 ≤ n → j < 64 → octet_place (take n (drop (8 * i) os)) j ≡ octet_place os (64 * i + j)
 group-place os i n j e h =
     let q : 8 * i + j / 8 ≡ (64 * i + j) / 8 = omega arith in
     let r : j % 8 ≡ (64 * i + j) % 8 = omega arith in
@@ -58,46 +42,59 @@ pub octets-items : (os ws : List ℕ) (i : ℕ) → i ≡ length os / 8 + min 1 
 octets-items os ws i e loads =
     unpacked-is (8 * length os) ws (bits_of os) (length-bits_of os) (λ t h. ap (λ k. k == 1) (loads.places t (omega (arith, e, h))) ∙ sym (bit-bits_of os t))
 
--- ---- of a range of other words
+-- ---- of other words
 
--- the places of `len` bits from bit `from` on, and zeros
-abbrev pub copied : List ℕ → ℕ → ℕ → ℕ → ℕ
-copied src from len t = if nat_lt t len then place src (from + t) else 0
+followed-old : (ws vs : List ℕ) (at t : ℕ) → t < 64 * length ws → followed ws vs at t ≡ place ws t
+followed-old ws vs at t h = ap (λ b. if b then place ws t else place vs (at + (t - 64 * length ws))) (lt-ltb t (64 * length ws) h)
 
-copied-within : (src : List ℕ) (from len t : ℕ) → t < len → copied src from len t ≡ place src (from + t)
-copied-within src from len t h = ap (λ b. if b then place src (from + t) else 0) (lt-ltb t len h)
+followed-new : (ws vs : List ℕ) (at t : ℕ) → 64 * length ws ≤ t → followed ws vs at t ≡ place vs (at + (t - 64 * length ws))
+followed-new ws vs at t h = ap (λ b. if b then place ws t else place vs (at + (t - 64 * length ws))) (le-ltb t (64 * length ws) h)
 
-copied-past : (src : List ℕ) (from len t : ℕ) → len ≤ t → copied src from len t ≡ 0
-copied-past src from len t h = ap (λ b. if b then place src (from + t) else 0) (le-ltb t len h)
+pub follows_none : (ws vs : List ℕ) (at : ℕ) → Loads (followed ws vs at) ws (length ws + 0)
+follows_none ws vs at = record { long = omega arith; places = λ t h. sym (followed-old ws vs at t (omega (arith, h))) }
 
-pub copied-word : (src : List ℕ) (from len i window n : ℕ)
-    → ((j : ℕ) → j < 64 → bit_at window j ≡ place src (64 * ((from + 64 * i) / 64) + (from + 64 * i) % 64 + j))
-    → ((j : ℕ) → j < len - 64 * i → bit_at n j ≡ bit_at window j) → ((j : ℕ) → len - 64 * i ≤ j → bit_at n j ≡ 0)
-    → (j : ℕ) → j < 64 → bit_at n j ≡ copied src from len (64 * i + j)
-copied-word src from len i window n reads low high j h =
-    elim (cases_lt (64 * i + j) len) [
-      | inl within ↦
-          let k : 64 * ((from + 64 * i) / 64) + (from + 64 * i) % 64 + j ≡ from + (64 * i + j) = omega arith in
-          low j (omega (arith, within)) ∙ reads j h ∙ ap (place src) k ∙ sym (copied-within src from len (64 * i + j) within)
-      | inr past ↦ high j (omega (arith, past)) ∙ sym (copied-past src from len (64 * i + j) past)
-    ]
+-- one word more, with the next places
+pub follows_more : (ws vs so_far next : List ℕ) (at i n : ℕ) → Loads (followed ws vs at) so_far (length ws + i) → next ≡ so_far ++ n ∷ [] → ((j : ℕ) → j < 64 → bit_at n j ≡ place vs (at + (64 * i + j))) → Loads (followed ws vs at) next (length ws + (i + 1))
+follows_more ws vs so_far next at i n loads e word =
+    let k : length ws + i + 1 ≡ length ws + (i + 1) = omega arith in
+    rw k at (loads_more (followed ws vs at) so_far next (length ws + i) n loads e
+    (λ j h.
+    let m : at + (64 * i + j) ≡ at + (64 * (length ws + i) + j - 64 * length ws) = omega arith in
+    word j h ∙ ap (place vs) m ∙ sym (followed-new ws vs at (64 * (length ws + i) + j) (omega arith))))
 
-pub copied-packed : (src ws : List ℕ) (from len i n : ℕ) → IsPacked n src → from + len ≤ n → i ≡ len / 64 + min 1 (len % 64) → Loads (copied src from len) ws i → IsPacked len ws
-copied-packed src ws from len i n packed inside e loads =
-    loaded-packed (copied src from len) ws i len loads (omega (arith, packed.short, inside)) (omega (arith, e)) (omega (arith, e)) (copied-past src from len)
+-- a word as it stands, and one of two that are turned
+pub whole-word : (vs : List ℕ) (w turn i j : ℕ) → turn ≡ 0 → j < 64 → bit_at (get_or vs (w + i) 0) j ≡ place vs (64 * w + turn + (64 * i + j))
+whole-word vs w turn i j none h = sym (place_of vs (64 * w + turn + (64 * i + j)) (w + i) j (omega (arith, none)) h)
 
-pub copied-items : (src ws : List ℕ) (from len i n : ℕ) → IsPacked n src → from + len ≤ n → i ≡ len / 64 + min 1 (len % 64) → Loads (copied src from len) ws i → unpacked len ws ≡ take len (drop from (unpacked n src))
-copied-items src ws from len i n packed inside e loads =
-    unpacked-is len ws (take len (drop from (unpacked n src))) (omega (arith, length-take len (drop from (unpacked n src)), length-drop from (unpacked n src), length-unpacked n src, inside))
-    (λ t h. ap (λ k. k == 1) (loads.places t (omega (arith, e, h)) ∙ copied-within src from len t h) ∙ sym (bit-place n src (from + t) packed.clear) ∙ sym (get_or-drop from (unpacked n src) t false) ∙ sym (get_or-take len (drop from (unpacked n src)) t false h))
+pub turned-word : (vs : List ℕ) (w turn i j : ℕ) → get_or vs (w + i) 0 < 2 ^ 64 → turn < 64 → 0 < turn → j < 64
+    → bit_at (bit_or (get_or vs (w + i) 0 / 2 ^ turn) (get_or vs (w + i + 1) 0 * 2 ^ (64 - turn) % 2 ^ 64)) j ≡ place vs (64 * w + turn + (64 * i + j))
+turned-word vs w turn i j fits short some h =
+    let m : 64 * (w + i) + turn + j ≡ 64 * w + turn + (64 * i + j) = omega arith in
+    window-both vs (w + i) turn j fits short some h ∙ ap (place vs) m
+
+-- the list of n bits that fill their words, and of the bits that follow
+pub filled-packed : (n count : ℕ) (ws new : List ℕ) (G : ℕ → ℕ) → n ≡ 64 * length ws → n + 64 * count ≤ 2 ^ 24 → Loads G new (length ws + count) → IsPacked (n + 64 * count) new
+filled-packed n count ws new G filled short loads = record {
+  short = short;
+  above = omega (arith, filled, loads.long);
+  below = omega (arith, filled, loads.long);
+  clear = λ t h. place_past new t (omega (arith, h, filled, loads.long));
+}
+
+pub filled-items : (n m p at count : ℕ) (ws vs new : List ℕ) → n ≡ 64 * length ws → p ≡ at → at + 64 * count ≤ m → Loads (followed ws vs p) new (length ws + count) → unpacked (n + 64 * count) new ≡ unpacked n ws ++ take (64 * count) (drop at (unpacked m vs))
+filled-items n m p at count ws vs new filled here inside loads =
+    let more : List Bool = take (64 * count) (drop at (unpacked m vs)) in
+    unpacked-is (n + 64 * count) new (unpacked n ws ++ more)
+    (length-append (unpacked n ws) more ∙ omega (arith, length-unpacked n ws, length-take (64 * count) (drop at (unpacked m vs)), length-drop at (unpacked m vs), length-unpacked m vs, inside))
+    (λ t h. ap (λ k. k == 1) (loads.places t (omega (arith, h, filled))) ∙ elim (cases_lt t n) [
+      | inl old ↦ ap (λ k. k == 1) (followed-old ws vs p t (omega (arith, old, filled))) ∙ sym (bit-within n ws t old) ∙ sym (get_or_append_left (unpacked n ws) more false t (omega (arith, old, length-unpacked n ws)))
+      | inr new ↦
+          let k : p + (t - 64 * length ws) ≡ at + (t - n) = omega (arith, filled, here) in
+          ap (λ q. q == 1) (followed-new ws vs p t (omega (arith, new, filled)) ∙ ap (place vs) k) ∙ sym (bit-within m vs (at + (t - n)) (omega (arith, h, new, inside)))
+          ∙ sym (get_or-append_right (unpacked n ws) more n t false (length-unpacked n ws) new ∙ get_or-take (64 * count) (drop at (unpacked m vs)) (t - n) false (omega (arith, h, new)) ∙ get_or-drop at (unpacked m vs) (t - n) false)
+    ])
 
 -- ---- octets of words
-
--- the octets of the first i words
-pub record Writes (ws os : List ℕ) (i : ℕ) : Type 0 where
-  pub long : length os ≡ 8 * i
-  pub places : (t : ℕ) → t < 64 * i → octet_place os t ≡ place ws t
-  pub small : (k : ℕ) → get_or os k 0 < 2 ^ 8
 
 pub writes_none : (ws os : List ℕ) → os ≡ [] → Writes ws os 0
 writes_none ws os e = record {

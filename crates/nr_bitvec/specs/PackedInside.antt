@@ -11,6 +11,10 @@ moved at n t = if nat_lt t at then 0 else bit_at n (t - at)
 abbrev pub octet_place : List ℕ → ℕ → ℕ
 octet_place os t = bit_at (slice_index_or os (t / 8) 0) (7 - t % 8)
 
+-- place t of words, behind which stand the places of others from place `at` on
+abbrev pub followed : List ℕ → List ℕ → ℕ → ℕ → ℕ
+followed ws vs at t = if nat_lt t (64 * length ws) then place ws t else place vs (at + (t - 64 * length ws))
+
 -- 64 bits are added modulo two from place `at` on
 abbrev pub Adds : ℕ → ℕ → List ℕ → List ℕ → Type 0
 Adds at bits old new = (t : ℕ) → place new t ≡ (place old t + moved at bits t) % 2
@@ -48,3 +52,14 @@ pub record Joins (n : ℕ) (old vs new : List ℕ) (i : ℕ) : Type 0 where
   pub within : (t : ℕ) → t < 64 * i → place new (n + t) ≡ place vs t
   pub after : (t : ℕ) → 64 * i ≤ t → place new (n + t) ≡ 0
   pub long : length new ≡ length old
+
+-- i words, with the places that G gives
+pub record Loads (G : ℕ → ℕ) (ws : List ℕ) (i : ℕ) : Type 0 where
+  pub long : length ws ≡ i
+  pub places : (t : ℕ) → t < 64 * i → place ws t ≡ G t
+
+-- the octets of the first i words
+pub record Writes (ws os : List ℕ) (i : ℕ) : Type 0 where
+  pub long : length os ≡ 8 * i
+  pub places : (t : ℕ) → t < 64 * i → octet_place os t ≡ place ws t
+  pub small : (k : ℕ) → slice_index_or os k 0 < 2 ^ 8

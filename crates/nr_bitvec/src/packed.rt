@@ -11,8 +11,8 @@ ghost use Rattle.nr_bitvec.specs.Packed.{place};
 
 mod ranges;
 
-use super::octets::{turned, word_of_octets};
-use super::words::{change, flip, join, lengthen, low_bits, make_places, same_words, window};
+use super::octets::{turned, word_of_octets, write_octets};
+use super::words::{change, flip, join, low_bits, make_places, same_words, window};
 use std::alloc::{AllocError, Global};
 use std::marker::Model;
 
@@ -86,10 +86,15 @@ impl Bits {
         requires { 8 * length octets.now ≤ 2 ^ 24 }
         ensures { IfOk result (λ b. b.items ≡ bits_of octets.now) }
     {
+        let whole = octets.len() / 8;
         let count = octets.len().div_ceil(8);
         let mut words = Vec::with_capacity(alloc, count)?;
-        for i in 0..count {
-            words.push_reserved(word_of_octets(&octets[8 * i..octets.len().min(8 * i + 8)]));
+        for i in 0..whole {
+            words.push_reserved(word_of_octets(&octets[8 * i..8 * i + 8]));
+        }
+        // What is left is less than a word.
+        for i in whole..count {
+            words.push_reserved(word_of_octets(&octets[8 * i..]));
         }
         Ok(Bits {
             words,
@@ -106,10 +111,8 @@ impl Bits {
     pub fn to_bytes(&self) -> Result<Vec<u8>, AllocError>
         ensures { IfOk result (λ v. v.items ≡ octets_of self.now.items) }
     {
-        let mut octets = Vec::with_capacity(*self.words.allocator(), 8 * self.words.len())?;
-        for word in &self.words {
-            octets.extend_from_slice(&turned(*word).to_le_bytes())?;
-        }
+        let mut octets = vec![in *self.words.allocator(); 0; 8 * self.words.len()]?;
+        write_octets(&self.words, &mut octets);
         octets.truncate(self.len.div_ceil(8));
         Ok(octets)
     }
@@ -132,23 +135,21 @@ impl Bits {
         ensures err { OnErr result (self.new ≡ self.old) }
         ensures full { OnErr result (self.old.room ≡ 0) }
     {
-        self.make_room()?;
+        self.make_room(1)?;
         self.push_in_room(bit);
         Ok(())
     }
 
-    // Asks for memory for a bit more.
-    fn make_room(&mut self) -> Result<(), AllocError>
-        requires { length self.old.items < 2 ^ 24 }
+    // Asks for memory for `count` bits more.
+    fn make_room(&mut self, count: usize) -> Result<(), AllocError>
+        requires { length self.old.items + count ≤ 2 ^ 24 }
         ensures items { self.new.items ≡ self.old.items }
-        ensures room { OnOk result (0 < self.new.room) }
+        ensures room { OnOk result (count ≤ self.new.room) }
         ensures err { OnErr result (self.new ≡ self.old) }
-        ensures full { OnErr result (self.old.room ≡ 0) }
+        ensures full { OnErr result (self.old.room < count) }
     {
-        if self.len % 64 == 0 {
-            self.words.reserve(1)?;
-        }
-        Ok(())
+        let words = (self.len + count).div_ceil(64);
+        self.words.reserve(words - self.words.len())
     }
 
     /// How many bits more the list has memory for, up to 2^24 bits in all.
@@ -209,10 +210,9 @@ impl Bits {
         ensures err { OnErr result (self.new ≡ self.old) }
         ensures full { OnErr result (self.old.room < length more.now.items) }
     {
-        let len = self.len + more.len;
-        lengthen(&mut self.words, len.div_ceil(64))?;
-        join(&mut self.words, self.len, &more.words);
-        self.len = len;
+        let count = more.len();
+        self.make_room(count)?;
+        self.extend_range(more, 0, count);
         Ok(())
     }
 
@@ -296,13 +296,11 @@ impl Bits {
         requires { from + len ≤ length self.now.items }
         ensures { IfOk result (λ b. b.items ≡ take len (drop from self.now.items)) }
     {
-        let count = len.div_ceil(64);
-        let mut words = Vec::with_capacity(*self.words.allocator(), count)?;
-        for i in 0..count {
-            let at = from + 64 * i;
-            words.push_reserved(low_bits(window(&self.words, at / 64, at % 64), len - 64 * i));
-        }
-        Ok(Bits { words, len })
+        let past = self.len();
+        prove!(from + len <= past);
+        let mut copy = Bits::with_room(*self.words.allocator(), len as u32)?;
+        copy.extend_range(self, from, len);
+        Ok(copy)
     }
 
     /// A list of its own with these bits.

@@ -1,12 +1,10 @@
 //! Words of 64 places, place 0 the lowest bit of the first word, as a list of bits and a rotated
 //! block keep them.
 
-ghost use Rattle.std.specs.Prelude.{◌≡◌, ℕ, ◌+◌, ◌-◌, ◌*◌, ◌^◌, ◌<◌, ◌≤◌, ◌++◌, length, replicate, vec_len, vec_capacity, IsTrue, OnOk, OnErr};
+ghost use Rattle.std.specs.Prelude.{◌≡◌, ℕ, ◌+◌, ◌-◌, ◌*◌, ◌^◌, ◌<◌, ◌≤◌, length, vec_len, vec_capacity, IsTrue};
 ghost use Rattle.std.specs.Int.{bit_at};
 ghost use Rattle.nr_bitvec.specs.Packed.{place, IsClear};
-ghost use Rattle.nr_bitvec.specs.PackedInside.{Adds, Changes, HasPlaces, IsPacked, Joins, SamePlaces};
-
-use std::alloc::AllocError;
+ghost use Rattle.nr_bitvec.specs.PackedInside.{Adds, Changes, HasPlaces, IsPacked, Joins, Loads, SamePlaces, followed};
 
 /// The `count` lowest bits of a word, and zeros above them.
 pub fn low_bits(word: u64, count: usize) -> u64
@@ -75,17 +73,31 @@ pub(crate) fn make_places(words: &mut Vec<u64>, len: usize, count: usize)
     }
 }
 
-// Puts zeros behind words until there are `count` of them. Where that is refused, they and their
-// memory stay as they were.
-pub(crate) fn lengthen(words: &mut Vec<u64>, count: usize) -> Result<(), AllocError>
-    requires { vec_len words.old ≤ count }
-    ensures items { OnOk result (words.new.items ≡ words.old.items ++ replicate (count - vec_len words.old) 0) }
-    ensures err { OnErr result (words.new.items ≡ words.old.items) }
-    ensures capacity { OnErr result (vec_capacity words.new ≡ vec_capacity words.old) }
-    ensures full { OnErr result (vec_capacity words.old < count) }
+// Puts `count` words behind words that have memory for them: the places from place `turn` of word `word` on, all of
+// which `from` has.
+pub(crate) fn push_windows(
+    words: &mut Vec<u64>,
+    from: &[u64],
+    word: usize,
+    turn: usize,
+    count: usize,
+)
+    requires turn { turn < 64 }
+    requires inside { 64 * word + turn + 64 * count ≤ 64 * length from.now }
+    requires room { vec_len words.old + count ≤ vec_capacity words.old }
+    ensures places { Loads (followed words.old.items from.now (64 * word + turn)) words.new.items
+        (length words.old.items + count) }
+    ensures capacity { vec_capacity words.new ≡ vec_capacity words.old }
 {
-    words.reserve(count - words.len())?;
-    words.resize(count, 0)
+    if turn == 0 {
+        for i in 0..count {
+            words.push_reserved(from[word + i]);
+        }
+        return;
+    }
+    for i in 0..count {
+        words.push_reserved(from[word + i] >> turn | from[word + i + 1] << (64 - turn));
+    }
 }
 
 // Puts words after the first `len` places, where no place is set. Their places past the end are

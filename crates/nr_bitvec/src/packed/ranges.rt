@@ -1,8 +1,9 @@
 //! Ranges of other lists at the end of a list.
 
-ghost use Rattle.std.specs.Prelude.{◌≡◌, ◌+◌, ◌≤◌, ◌++◌, length, take, drop};
+ghost use Rattle.std.specs.Prelude.{◌≡◌, ◌+◌, ◌*◌, ◌%◌, ◌<◌, ◌≤◌, ◌++◌, length, take, drop};
 
 use super::Bits;
+use crate::words::push_windows;
 
 impl Bits {
     /// Puts the `count` bits of `from` from its bit `at` on, which it has, at the end of a list that
@@ -15,8 +16,38 @@ impl Bits {
     {
         let past = from.len();
         prove!(at + count <= past);
-        for i in 0..count.div_ceil(64) {
-            self.push_word((count - 64 * i).min(64), from.window(at + 64 * i));
+        // The first bits fill the list's last word.
+        let first = count.min(64 - self.len() % 64);
+        self.push_word(first, from.window(at));
+        if first < count {
+            self.extend_filled(from, at + first, count - first);
         }
+    }
+
+    // The same for a list whose bits fill its words.
+    fn extend_filled(&mut self, from: &Bits, at: usize, count: usize)
+        requires filled { length self.old.items % 64 ≡ 0 }
+        requires inside { at + count ≤ length from.now.items }
+        requires room { count ≤ self.old.room }
+        ensures items { self.new.items ≡ self.old.items ++ take count (drop at from.now.items) }
+        ensures room { self.new.room + count ≡ self.old.room }
+    {
+        let past = from.len();
+        prove!(at + count <= past);
+        let whole = count / 64;
+        self.extend_words(from, at, whole);
+        self.push_word(count % 64, from.window(at + 64 * whole));
+    }
+
+    // The same for as many bits as `count` words have.
+    fn extend_words(&mut self, from: &Bits, at: usize, count: usize)
+        requires filled { length self.old.items % 64 ≡ 0 }
+        requires inside { at + 64 * count ≤ length from.now.items }
+        requires room { 64 * count ≤ self.old.room }
+        ensures items { self.new.items ≡ self.old.items ++ take (64 * count) (drop at from.now.items) }
+        ensures room { self.new.room + 64 * count ≡ self.old.room }
+    {
+        push_windows(&mut self.words, &from.words, at / 64, at % 64, count);
+        self.len += 64 * count;
     }
 }

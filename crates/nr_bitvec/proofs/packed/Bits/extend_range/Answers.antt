@@ -1,15 +1,24 @@
-use Rattle.std.proofs.Common.{◌≡◌, ◌+◌, ◌*◌, ◌<◌, ◌++◌, ◌∙◌, min, take, drop, ap, sym, arith}
-use Rattle.nr_bitvec.proofs.RangeWordFacts.{range-more}
+use Rattle.std.proofs.Common.{◌≡◌, ◌+◌, ◌-◌, ◌++◌, ◌∙◌, take, drop, ap, sym, length, length-append, drop-drop, arith}
+use Rattle.nr_bitvec.specs.BitList.{low_first}
+use Rattle.nr_bitvec.proofs.PackedListFacts.{length-low_first}
+use Rattle.nr_bitvec.proofs.RangeWordFacts.{range-word, taken-more}
 use Rattle.nr_bitvec.proofs.packed.Bits.extend_range.Goals as goal
 
-pub loop-i-preserved : goal.loop-i-preserved
-loop-i-preserved c =
-    let more : 64 * c.loop-i.i < c.args.count = omega (arith, c.loop-i-test.true, c.loop-i.auto.i-end, c.div_ceil-i-end.ensures) in
-    let so_far : min (64 * c.loop-i.i) c.args.count ≡ 64 * c.loop-i.i = omega (arith, more) in
-    let next : min (64 * (c.loop-i.i + 1)) c.args.count ≡ 64 * c.loop-i.i + c.min.result = omega (arith, more, c.min.ensures) in
-    record {
-      taken = range-more c.args.self.now.items c.loop-i.self.items c.push_word.new.self.items c.args.from.now.items c.args.at (64 * c.loop-i.i) c.min.result c.window.result (omega (arith, c.min.ensures)) (omega (arith, more, c.min.ensures, c.requires.inside)) c.window.ensures
-          (c.loop-i.invariant.taken ∙ ap (λ n. c.args.self.now.items ++ take n (drop c.args.at c.args.from.now.items)) so_far) c.push_word.ensures.items
-          ∙ ap (λ n. c.args.self.now.items ++ take n (drop c.args.at c.args.from.now.items)) (sym next);
-      room = omega (arith, next, so_far, c.push_word.ensures.room, c.loop-i.invariant.room);
-    }
+pub extend_filled-requires-clause-filled : goal.extend_filled-requires-clause-filled
+extend_filled-requires-clause-filled c =
+    omega (arith, ap length c.push_word.ensures.items, length-append c.args.self.now.items (low_first c.min-first.result c.window.result), length-low_first c.min-first.result c.window.result, c.min-first.ensures, c.len.ensures.value, c.if-first-count.true)
+
+pub returns-then-first-count-clause-items : goal.returns-then-first-count-clause-items
+returns-then-first-count-clause-items c =
+    let first = c.min-first.result in
+    let rest = drop c.args.at c.args.from.now.items in
+    let all : first + (c.args.count - first) ≡ c.args.count = omega (arith, c.if-first-count.true) in
+    taken-more c.args.self.now.items c.push_word.new.self.items c.extend_filled.new.self.items rest (take (c.args.count - first) (drop (c.args.at + first) c.args.from.now.items)) first (c.args.count - first)
+    (c.push_word.ensures.items ∙ ap (λ bits. c.args.self.now.items ++ bits) (range-word c.args.from.now.items c.args.at first c.window.result (omega (arith, c.min-first.ensures)) (omega (arith, c.requires.inside, c.min-first.ensures)) c.window.ensures))
+    c.extend_filled.ensures.items (ap (take (c.args.count - first)) (sym (drop-drop first c.args.at c.args.from.now.items)))
+    ∙ ap (λ n. c.args.self.now.items ++ take n rest) all
+
+pub returns-else-first-count-clause-items : goal.returns-else-first-count-clause-items
+returns-else-first-count-clause-items c =
+    let all : c.min-first.result ≡ c.args.count = omega (arith, c.if-first-count.false, c.min-first.ensures) in
+    c.push_word.ensures.items ∙ ap (λ bits. c.args.self.now.items ++ bits) (range-word c.args.from.now.items c.args.at c.min-first.result c.window.result (omega (arith, c.min-first.ensures)) (omega (arith, c.requires.inside, c.min-first.ensures)) c.window.ensures ∙ ap (λ n. take n (drop c.args.at c.args.from.now.items)) all)

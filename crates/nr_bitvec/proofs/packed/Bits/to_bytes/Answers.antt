@@ -1,18 +1,11 @@
-use Rattle.std.proofs.Common.{◌++◌, ap, ◌∙◌, refl, arith}
-use Rattle.nr_bitvec.proofs.PushedWordFacts.{writes_none, writes_more, writes_all}
+use Rattle.std.proofs.Common.{◌∙◌, ap, take, length, arith}
+use Rattle.std.proofs.lemmas.List.{take_at}
+use Rattle.nr_bitvec.specs.PackedInside.{Writes}
+use Rattle.nr_bitvec.proofs.PushedWordFacts.{writes_all}
 use Rattle.nr_bitvec.proofs.packed.Bits.to_bytes.Goals as goal
 
-pub loop-word-init : goal.loop-word-init
-loop-word-init c = writes_none c.deref-word-items.result.now c.in_ok-octets.octets.items c.in_ok-octets.ensures.items
-
--- eight octets more
-pub loop-word-preserved : goal.loop-word-preserved
-loop-word-preserved c =
-    writes_more c.deref-word-items.result.now c.loop-word.octets.items c.extend_from_slice.new.self.items c.loop-word.word-index _ c.turned.result c.loop-word.invariant refl c.turned.ensures
-    (c.in_ok-extend_from_slice.ensures.items ∙ ap (λ xs. c.loop-word.octets.items ++ xs) c.to_le_bytes.ensures)
-
--- and no more of them than the list needs
+-- no more octets than the list needs
 pub returns : goal.returns
 returns c =
-    rw (← c.self.view_is) (c.truncate.ensures.items ∙ writes_all c.self.inside.len c.self.inside.words.items c.loop-word.octets.items c.loop-word.word-index c.div_ceil.result c.self.invariant
-    (rw c.deref-word-items.ensures.value at c.loop-word.invariant) (omega (arith, c.loop-word-test.false, c.deref-word-items.ensures.len)) c.div_ceil.ensures)
+    let writes : Writes c.self.inside.words.items c.write_octets.new.octets (length c.self.inside.words.items) = rw c.deref.ensures.value at c.write_octets.ensures in
+    rw (← c.self.view_is) (c.truncate.ensures.items ∙ ap (take c.div_ceil.result) (take_at c.write_octets.new.octets _ _ (omega (arith, writes.long, c.in_ok-octets.ensures.len, c.len.ensures))) ∙ writes_all c.self.inside.len c.self.inside.words.items c.write_octets.new.octets _ c.div_ceil.result c.self.invariant writes (omega arith) c.div_ceil.ensures)
