@@ -6,3 +6,4 @@ mod OctetTableFacts
 mod RegisterFacts
 mod ResidueFacts
 mod PolynomialSumFacts
+mod FlipFacts

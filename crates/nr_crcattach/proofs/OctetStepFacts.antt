@@ -2,16 +2,18 @@
 use Rattle.std.proofs.Common.{◌≡◌, ℕ, ◌+◌, ◌-◌, ◌*◌, ◌/◌, ◌%◌, ◌^◌, ◌<◌, ◌==◌, if◌then◌else◌, zero, suc, Bool, List, [], ◌++◌, length, get_or, refl, sym, ◌∙◌, ap, arith, bit_and, bit_xor}
 use Rattle.std.specs.Int.{bit_at}
 use Rattle.std.proofs.lemmas.List.FromFn.{get_or-map-range_with_len}
-use Rattle.std.proofs.lemmas.Nat.{and_mask, mod_below, pow_pos, shl-shr, shl_whole, shr-shr, shr_below, shr_split, xor_lt}
+use Rattle.std.proofs.Math.Nat.{mod-eq_of_lt}
+use Rattle.std.proofs.lemmas.Nat.{and_mask, shl-shr, shr-shr, shr_below, shr_split, xor_lt}
 use Rattle.std.proofs.lemmas.Nat.Bits.{bit_at-lt, bit_at_xor}
 use lib.Bits.{xor_self, xor_zero_l, xor_zero_r}
 use Rattle.nr_bitvec.specs.BitList.{low_first}
 use Rattle.nr_crcattach.specs.declared.Poly.{Poly}
 use Rattle.nr_crcattach.specs.Crc.{degree, times_d, rho, residue, high_first}
-use Rattle.nr_crcattach.specs.Octets.{Continues, octet_residues, octet_tables}
+use Rattle.nr_crcattach.specs.Octets.{Continues, flip, octet_residues, octet_tables}
+use Rattle.nr_crcattach.proofs.FlipFacts.{flip-flip, flip-lt, flip-moved, flip-octet, flip-xor, high_first-flip}
 use Rattle.nr_crcattach.proofs.RemainderFacts.{length-high_first, residue-own}
-use Rattle.nr_crcattach.proofs.GeneratorFacts.{degree-le}
-use Rattle.nr_crcattach.proofs.NumberBitFacts.{high_first-low, high_first-reversed, high_first-split}
+use Rattle.nr_crcattach.proofs.GeneratorFacts.{degree-le, remainders-le}
+use Rattle.nr_crcattach.proofs.NumberBitFacts.{high_first-low, high_first-split}
 use Rattle.nr_crcattach.proofs.ResidueFacts.{residue-append, residue-lt, residue-suc}
 use Rattle.nr_crcattach.proofs.PolynomialSumFacts.{xor_pairs}
 
@@ -139,67 +141,72 @@ residue-octets p v (suc n) k =
 -- ---- the code's numbers
 
 -- a table's remainder of an octet
-looked-up : (p : Poly) (k octet : ℕ) → k < 8 → octet < 256 → get_or (get_or (octet_tables p) k []) octet 0 ≡ checked p k octet
+looked-up : (p : Poly) (k octet : ℕ) → k < 8 → octet < 256 → get_or (get_or (octet_tables p) k []) octet 0 ≡ flip (degree p) (checked p k (flip 8 octet))
 unfolding octet_tables octet_residues checked
 looked-up p k octet is_table is_octet =
     ap (λ t. get_or t octet 0) (get_or-map-range_with_len (λ m. octet_residues p (8 * m)) 0 8 k k [] is_table (omega arith))
-    ∙ get_or-map-range_with_len (λ o. residue p (8 * k + degree p) (high_first 8 o)) 0 256 octet octet 0 is_octet (omega arith)
+    ∙ get_or-map-range_with_len (λ o. flip (degree p) (residue p (8 * k + degree p) (low_first 8 o))) 0 256 octet octet 0 is_octet (omega arith)
+    ∙ ap (λ bits. flip (degree p) (residue p (8 * k + degree p) bits)) (sym (high_first-flip 8 octet))
 
--- octet k of a word, looked up
-looked-up_within : (p : Poly) (v k : ℕ) → k < 8 → get_or (get_or (octet_tables p) k []) (bit_and (v / 2 ^ (8 * k)) 255) 0 ≡ checked p k (v / 2 ^ (8 * k) % 2 ^ 8)
-looked-up_within p v k is_table =
-    let w = v / 2 ^ (8 * k) in
-    ap (λ o. get_or (get_or (octet_tables p) k []) o 0) (and_mask w 8) ∙ looked-up p k (w % 2 ^ 8) is_table (mod_below w (2 ^ 8) (pow_pos 8))
+-- octet k of a word, looked up behind the octets that follow it
+looked-up_octet : (p : Poly) (v k octet : ℕ) → k < 8 → octet ≡ v / 2 ^ (8 * k) % 2 ^ 8 → get_or (get_or (octet_tables p) (7 - k) []) octet 0 ≡ flip (degree p) (checked p (7 - k) (flip 64 v / 2 ^ (8 * (7 - k)) % 2 ^ 8))
+looked-up_octet p v k octet is_table is_octet =
+    looked-up p (7 - k) octet (omega arith) (omega (arith, is_octet)) ∙ ap (λ o. flip (degree p) (checked p (7 - k) o)) (ap (flip 8) is_octet ∙ sym (flip-octet v k is_table))
 
 -- what the code computes from the tables and a word, to which the check is added
 abbrev pub summed : List (List ℕ) → ℕ → ℕ
 summed tables v =
     let at : ℕ → ℕ → ℕ = λ k octet. get_or (get_or tables k []) octet 0 in
-    bit_xor (bit_xor (bit_xor (bit_xor (bit_xor (bit_xor (bit_xor (at 7 (v / 2 ^ 56)) (at 6 (bit_and (v / 2 ^ 48) 255))) (at 5 (bit_and (v / 2 ^ 40) 255))) (at 4 (bit_and (v / 2 ^ 32) 255))) (at 3 (bit_and (v / 2 ^ 24) 255))) (at 2 (bit_and (v / 2 ^ 16) 255))) (at 1 (bit_and (v / 2 ^ 8) 255))) (at 0 (bit_and v 255))
+    bit_xor (bit_xor (bit_xor (bit_xor (bit_xor (bit_xor (bit_xor (at 7 (bit_and v 255)) (at 6 (bit_and (v / 2 ^ 8) 255))) (at 5 (bit_and (v / 2 ^ 16) 255))) (at 4 (bit_and (v / 2 ^ 24) 255))) (at 3 (bit_and (v / 2 ^ 32) 255))) (at 2 (bit_and (v / 2 ^ 40) 255))) (at 1 (bit_and (v / 2 ^ 48) 255))) (at 0 (v / 2 ^ 56))
 
--- it is the check of the word's bits
-summed-is : (p : Poly) (v : ℕ) → v < 2 ^ 64 → summed (octet_tables p) v ≡ residue p (degree p) (high_first 64 v)
+-- a sum of two numbers in the other order
+flipped : {a b : ℕ} (n x y : ℕ) → a ≡ flip n x → b ≡ flip n y → bit_xor a b ≡ flip n (bit_xor x y)
+flipped n x y first second = both first second ∙ sym (flip-xor n x y)
+
+-- it is the check of the word's bits in the other order
+summed-is : (p : Poly) (v : ℕ) → v < 2 ^ 64 → summed (octet_tables p) v ≡ flip (degree p) (residue p (degree p) (high_first 64 (flip 64 v)))
 unfolding sum_of_octets
 summed-is p v is_word =
-    let inner : (k : ℕ) → k < 8 → get_or (get_or (octet_tables p) k []) (bit_and (v / 2 ^ (8 * k)) 255) 0 ≡ checked p k (v / 2 ^ (8 * k) % 2 ^ 8) = looked-up_within p v in
-    let top : get_or (get_or (octet_tables p) 7 []) (v / 2 ^ 56) 0 ≡ checked p 7 (v / 2 ^ 56) = looked-up p 7 (v / 2 ^ 56) (omega arith) (shr_below v 8 56 is_word) in
+    let w = flip 64 v in
+    let top : w / 2 ^ 56 % 2 ^ 8 ≡ w / 2 ^ 56 = mod-eq_of_lt (shr_below w 8 56 (flip-lt 64 v)) in
+    let last : v / 2 ^ 56 ≡ v / 2 ^ 56 % 2 ^ 8 = sym (mod-eq_of_lt (shr_below v 8 56 is_word)) in
     let whole : v / 2 ^ 0 ≡ v = omega arith in
-    let last : get_or (get_or (octet_tables p) 0 []) (bit_and v 255) 0 ≡ checked p 0 (v / 2 ^ 0 % 2 ^ 8) = ap (λ w. get_or (get_or (octet_tables p) 0 []) (bit_and w 255) 0) (sym whole) ∙ inner 0 (omega arith) in
-    let sum : summed (octet_tables p) v ≡ sum_of_octets p v 7 0 =
-    both (both (both (both (both (both (both top (inner 6 (omega arith))) (inner 5 (omega arith))) (inner 4 (omega arith))) (inner 3 (omega arith))) (inner 2 (omega arith))) (inner 1 (omega arith))) last in
-    let plain : 8 * 0 + degree p ≡ degree p = omega arith in
-    sum ∙ sym (residue-octets p v 7 0) ∙ ap (λ w. residue p (8 * 0 + degree p) (high_first 64 w)) whole ∙ ap (λ s. residue p s (high_first 64 v)) plain
+    let first : bit_and v 255 ≡ v / 2 ^ (8 * 0) % 2 ^ 8 = and_mask v 8 ∙ ap (λ u. u % 2 ^ 8) (sym whole) in
+    let at : (k : ℕ) → k < 8 → get_or (get_or (octet_tables p) (7 - k) []) (bit_and (v / 2 ^ (8 * k)) 255) 0 ≡ flip (degree p) (checked p (7 - k) (w / 2 ^ (8 * (7 - k)) % 2 ^ 8)) = λ k h. looked-up_octet p v k (bit_and (v / 2 ^ (8 * k)) 255) h (and_mask (v / 2 ^ (8 * k)) 8) in
+    let n = degree p in
+    let sum : summed (octet_tables p) v ≡ flip n (sum_of_octets p w 7 0) =
+    flipped n _ _ (flipped n _ _ (flipped n _ _ (flipped n _ _ (flipped n _ _ (flipped n _ _ (flipped n _ _
+    (looked-up_octet p v 0 (bit_and v 255) (omega arith) first ∙ ap (λ o. flip n (checked p 7 o)) top)
+    (at 1 (omega arith))) (at 2 (omega arith))) (at 3 (omega arith))) (at 4 (omega arith))) (at 5 (omega arith))) (at 6 (omega arith)))
+    (looked-up_octet p v 7 (v / 2 ^ 56) (omega arith) last) in
+    let plain : 8 * 0 + n ≡ n = omega arith in
+    let all : w / 2 ^ 0 ≡ w = omega arith in
+    sum ∙ ap (flip n) (sym (residue-octets p w 7 0) ∙ ap (λ u. residue p (8 * 0 + n) (high_first 64 u)) all ∙ ap (λ s. residue p s (high_first 64 w)) plain)
 
 -- it is a remainder
 pub summed-lt : (p : Poly) (tables : List (List ℕ)) (v : ℕ) → tables ≡ octet_tables p → v < 2 ^ 64 → summed tables v < 2 ^ degree p
 summed-lt p tables v are_tables is_word =
-    rw (are_tables, summed-is p v is_word) (residue-lt p (degree p) (high_first 64 v))
+    rw (are_tables, summed-is p v is_word) (flip-lt (degree p) (residue p (degree p) (high_first 64 (flip 64 v))))
 
--- the check, moved to the top of a word
-pub moved_up : (p : Poly) (r moved by : ℕ) → r < 2 ^ degree p → moved ≡ r → by ≡ degree p → moved * 2 ^ (64 - by) % 2 ^ 64 ≡ r * 2 ^ (64 - degree p)
-moved_up p r moved by small is_moved is_degree =
-    ap (λ n. n * 2 ^ (64 - by) % 2 ^ 64) is_moved
-    ∙ ap (λ n. r * 2 ^ (64 - n) % 2 ^ 64) is_degree
-    ∙ shl_whole r (degree p) (64 - degree p) 64 small (omega (arith, degree-le p))
-
--- the word with the check added to its highest bits is a word
-pub joined-lt : (r by reversed : ℕ) → reversed < 2 ^ 64 → bit_xor (r * 2 ^ by % 2 ^ 64) reversed < 2 ^ 64
-joined-lt r by reversed is_word =
-    xor_lt 64 (r * 2 ^ by % 2 ^ 64) reversed (mod_below (r * 2 ^ by) (2 ^ 64) (pow_pos 64)) is_word
+-- a word to which the check is added is a word
+pub joined-lt : (p : Poly) (r word : ℕ) → r < 2 ^ degree p → word < 2 ^ 64 → bit_xor r word < 2 ^ 64
+joined-lt p r word small is_word = xor_lt 64 r word (omega (arith, small, remainders-le p)) is_word
 
 -- it is the check of the bits with those of the word behind them
-pub Continues-summed : (p : Poly) (tables : List (List ℕ)) (r word reversed joined : ℕ) → tables ≡ octet_tables p → ((j : ℕ) → j < 64 → bit_at reversed j ≡ bit_at word (63 - j)) → joined ≡ bit_xor (r * 2 ^ (64 - degree p)) reversed → joined < 2 ^ 64
-    → Continues p r (low_first 64 word) (summed tables joined)
-unfolding high_first low_first
-Continues-summed p tables r word reversed joined are_tables turns is_joined is_word = λ bits same.
+pub Continues-summed : (p : Poly) (tables : List (List ℕ)) (r word : ℕ) → tables ≡ octet_tables p → r < 2 ^ degree p → word < 2 ^ 64
+    → Continues p (flip (degree p) r) (low_first 64 word) (flip (degree p) (summed tables (bit_xor r word)))
+Continues-summed p tables r word are_tables small is_word = λ bits same.
     let l = degree p in
     let k = 64 - l in
+    let joined = bit_xor r word in
     let long : l + k ≡ 64 = omega (arith, degree-le p) in
-    let turned_round : high_first 64 reversed ≡ low_first 64 word = high_first-reversed word reversed 0 64 turns refl in
-    let entered = residue-entered p k reversed bits in
-    let enters : residue p l (bits ++ high_first 64 reversed) ≡ residue p l (high_first 64 (bit_xor (residue p l bits * 2 ^ k) reversed)) = rw long at entered in
-    ap (λ t. summed t joined) are_tables
-    ∙ summed-is p joined is_word
-    ∙ ap (λ v. residue p l (high_first 64 v)) (is_joined ∙ ap (λ v. bit_xor (v * 2 ^ k) reversed) same)
+    let up : flip 64 r ≡ flip l r * 2 ^ k = ap (λ n. flip n r) (sym long) ∙ flip-moved l k r small in
+    let sum : flip 64 joined ≡ bit_xor (residue p l bits * 2 ^ k) (flip 64 word) = flip-xor 64 r word ∙ ap (λ n. bit_xor n (flip 64 word)) (up ∙ ap (λ v. v * 2 ^ k) same) in
+    let check = residue p l (high_first 64 (flip 64 joined)) in
+    let entered = residue-entered p k (flip 64 word) bits in
+    let enters : residue p l (bits ++ high_first 64 (flip 64 word)) ≡ residue p l (high_first 64 (bit_xor (residue p l bits * 2 ^ k) (flip 64 word))) = rw long at entered in
+    ap (λ t. flip l (summed t joined)) are_tables
+    ∙ ap (flip l) (summed-is p joined (joined-lt p r word small is_word)) ∙ flip-flip l check (residue-lt p l (high_first 64 (flip 64 joined)))
+    ∙ ap (λ v. residue p l (high_first 64 v)) sum
     ∙ sym enters
-    ∙ ap (λ w. residue p l (bits ++ w)) turned_round
+    ∙ ap (λ w. residue p l (bits ++ w)) (high_first-flip 64 word)

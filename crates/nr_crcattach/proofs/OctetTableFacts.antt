@@ -1,88 +1,75 @@
 -- The tables of the code.
-use Rattle.std.proofs.Common.{◌≡◌, ℕ, ◌+◌, ◌-◌, ◌*◌, ◌/◌, ◌%◌, ◌^◌, ◌<◌, ◌≤◌, ◌==◌, nat_lt, if◌then◌else◌, zero, suc, Bool, true, false, List, [], ◌∷◌, ◌++◌, length, map, get_or, bit_xor, refl, sym, ◌∙◌, ap, arith, length-append}
-use Rattle.std.specs.Int.{bit_at}
+use Rattle.std.proofs.Common.{◌≡◌, ℕ, ◌+◌, ◌-◌, ◌*◌, ◌^◌, ◌<◌, zero, suc, inl, inr, List, [], ◌∷◌, ◌++◌, length, map, get_or, bit_xor, refl, sym, ◌∙◌, ap, arith, length-append}
 use Rattle.std.specs.List.{range_with_len}
+use Rattle.std.proofs.lemmas.Bool.{cases_lt}
 use Rattle.std.proofs.lemmas.List.{get_or_append_left, get_or-append_right, get_or-map, length-map}
 use Rattle.std.proofs.lemmas.List.FromFn.{fill_by_all}
-use Rattle.std.proofs.lemmas.Nat.Bits.{bit_at_above}
-use Rattle.std.proofs.lemmas.Nat.{shr_high}
-use borrow.Author.Tests.{ltb-true, ltb-false}
-use lib.Bits.{xor_zero_l}
+use lib.Bits.{xor_self, xor_shifted}
+use Rattle.nr_bitvec.specs.BitList.{low_first}
 use Rattle.nr_crcattach.specs.declared.Poly.{Poly}
 use Rattle.nr_crcattach.specs.declared.Poly.TheVariants.{A24, B24, C16}
 use Rattle.nr_crcattach.specs.declared.tables.a24.TheConstants.{A24_RESIDUES}
 use Rattle.nr_crcattach.specs.declared.tables.b24.TheConstants.{B24_RESIDUES}
 use Rattle.nr_crcattach.specs.declared.tables.c16.TheConstants.{C16_RESIDUES}
 use Rattle.nr_crcattach.specs.Crc.{degree, times_d, rho, residue, high_first}
-use Rattle.nr_crcattach.specs.Octets.{octet_residues, octet_tables}
-use Rattle.nr_crcattach.proofs.RemainderFacts.{length-high_first}
-use Rattle.nr_crcattach.proofs.NumberBitFacts.{high_first-low}
+use Rattle.nr_crcattach.specs.Octets.{flip, octet_residues, octet_tables}
+use Rattle.nr_crcattach.proofs.FlipFacts.{flip-xor, high_first-flip}
+use Rattle.nr_crcattach.proofs.OctetStepFacts.{residue-xor}
 
 -- ---- a table by doubling
 
--- these remainders, and behind them these with one more power's remainder
+-- these values, and behind them these with one more added
 with_top : ℕ → List ℕ → List ℕ
-with_top power remainders = remainders ++ map (bit_xor power) remainders
+with_top power values = values ++ map (bit_xor power) values
 
--- the remainders of the numbers of n bits, each bit's power taken once
-doubled : Poly → ℕ → ℕ → List ℕ
-doubled p s zero = 0 ∷ []
-doubled p s (suc n) = with_top (rho p (n + s)) (doubled p s n)
+-- a function's values at the numbers of n bits, by those at the powers of two
+doubled : (ℕ → ℕ) → ℕ → List ℕ
+doubled f zero = 0 ∷ []
+doubled f (suc n) = with_top (f (2 ^ n)) (doubled f n)
 
--- there are 2^n
-length-doubled : (p : Poly) (s n : ℕ) → length (doubled p s n) ≡ 2 ^ n
-unfolding doubled with_top
-length-doubled p s zero = refl
-length-doubled p s (suc n) =
-    let lower = doubled p s n in
-    length-append lower (map (bit_xor (rho p (n + s))) lower)
-    ∙ omega (arith, length-map lower (bit_xor (rho p (n + s))), length-doubled p s n)
+-- A function that gives for a sum the sum of both values.
+module _ (f : ℕ → ℕ) (sums : (a b : ℕ) → f (bit_xor a b) ≡ bit_xor (f a) (f b)) where
+  length-doubled : (n : ℕ) → length (doubled f n) ≡ 2 ^ n
+  unfolding doubled with_top
+  length-doubled zero = refl
+  length-doubled (suc n) =
+      length-append (doubled f n) (map (bit_xor (f (2 ^ n))) (doubled f n)) ∙ omega (arith, length-map (doubled f n) (bit_xor (f (2 ^ n))), length-doubled n)
 
--- each is the remainder of its number
-get_or-doubled : (p : Poly) (s n k : ℕ) → k < 2 ^ n → get_or (doubled p s n) k 0 ≡ residue p s (high_first n k)
-unfolding doubled with_top residue high_first
-get_or-doubled p s zero zero within = refl
-get_or-doubled p s zero (suc k) within = absurd (omega arith)
-get_or-doubled p s (suc n) k within = go (nat_lt k (2 ^ n)) refl (get_or-doubled p s n)
-  where
-    lower : List ℕ
-    lower = doubled p s n
+  get_or-doubled : (n k : ℕ) → k < 2 ^ n → get_or (doubled f n) k 0 ≡ f k
+  unfolding doubled with_top
+  get_or-doubled zero zero within = sym (sums 0 0 ∙ xor_self (f 0))
+  get_or-doubled zero (suc k) within = absurd (omega arith)
+  get_or-doubled (suc n) k within =
+      let lower : List ℕ = doubled f n in
+      let upper : List ℕ = map (bit_xor (f (2 ^ n))) lower in
+      let long : length lower ≡ 2 ^ n = length-doubled n in
+      elim (cases_lt k (2 ^ n)) [
+        | inl below ↦ get_or_append_left lower upper 0 k (omega (arith, long)) ∙ get_or-doubled n k below
+        | inr up ↦
+            let small : k - 2 ^ n < 2 ^ n = omega arith in
+            let one : 2 ^ n ≡ 1 * 2 ^ n = omega arith in
+            let whole : bit_xor (2 ^ n) (k - 2 ^ n) ≡ k = ap (λ (high : ℕ). bit_xor high (k - 2 ^ n)) one ∙ xor_shifted 1 n (k - 2 ^ n) small ∙ omega arith in
+            get_or-append_right lower upper (2 ^ n) k 0 long up ∙ get_or-map (bit_xor (f (2 ^ n))) lower (k - 2 ^ n) 0 0 (omega (arith, long))
+            ∙ ap (bit_xor (f (2 ^ n))) (get_or-doubled n (k - 2 ^ n) small) ∙ sym (sums (2 ^ n) (k - 2 ^ n)) ∙ ap f whole
+      ]
 
-    power : ℕ
-    power = rho p (n + s)
+-- an octet's remainder in the other order
+entry : Poly → ℕ → ℕ → ℕ
+entry p s octet = flip (degree p) (residue p (s + degree p) (low_first 8 octet))
 
-    long : length lower ≡ 2 ^ n
-    long = length-doubled p s n
-
-    -- the remainder with one more bit on top
-    above : (b : ℕ) → residue p s ((b == 1) ∷ high_first n k) ≡ bit_xor (if b == 1 then power else 0) (residue p s (high_first n k))
-    above b = ap (λ m. bit_xor (if b == 1 then rho p (m + s) else 0) (residue p s (high_first n k))) (length-high_first n k)
-
-    go : (small : Bool) → nat_lt k (2 ^ n) ≡ small
-        → ((j : ℕ) → j < 2 ^ n → get_or lower j 0 ≡ residue p s (high_first n j))
-        → get_or (lower ++ map (bit_xor power) lower) k 0 ≡ residue p s ((bit_at k n == 1) ∷ high_first n k)
-    go true is each =
-        let below : k < 2 ^ n = ltb-true k (2 ^ n) is in
-        get_or_append_left lower (map (bit_xor power) lower) 0 k (omega (arith, long))
-        ∙ each k below
-        ∙ sym (ap (λ b. residue p s ((b == 1) ∷ high_first n k)) (bit_at_above k n n below (omega arith)) ∙ above 0 ∙ xor_zero_l (residue p s (high_first n k)))
-    go false is each =
-        let up : 2 ^ n ≤ k = ltb-false k (2 ^ n) is in
-        let rest = k - 2 ^ n in
-        let small : rest < 2 ^ n = omega arith in
-        let split : k ≡ 1 * 2 ^ n + rest = omega arith in
-        let bit_one : bit_at k n ≡ 1 = ap (λ q. q % 2) (ap (λ v. v / 2 ^ n) split ∙ shr_high 1 n rest small) in
-        let same : high_first n k ≡ high_first n rest = ap (high_first n) split ∙ high_first-low n n 1 rest (omega arith) in
-        get_or-append_right lower (map (bit_xor power) lower) (2 ^ n) k 0 long up
-        ∙ get_or-map (bit_xor power) lower rest 0 0 (omega (arith, long))
-        ∙ ap (bit_xor power) (each rest small ∙ ap (residue p s) (sym same))
-        ∙ sym (ap (λ b. residue p s ((b == 1) ∷ high_first n k)) bit_one ∙ above 1)
+entry-xor : (p : Poly) (s a b : ℕ) → entry p s (bit_xor a b) ≡ bit_xor (entry p s a) (entry p s b)
+unfolding entry
+entry-xor p s a b =
+    let bits : (v : ℕ) → residue p (s + degree p) (low_first 8 v) ≡ residue p (s + degree p) (high_first 8 (flip 8 v)) = λ v. ap (residue p (s + degree p)) (sym (high_first-flip 8 v)) in
+    ap (flip (degree p)) (bits (bit_xor a b) ∙ ap (λ v. residue p (s + degree p) (high_first 8 v)) (flip-xor 8 a b) ∙ residue-xor p (s + degree p) 8 (flip 8 a) (flip 8 b))
+    ∙ flip-xor (degree p) (residue p (s + degree p) (high_first 8 (flip 8 a))) (residue p (s + degree p) (high_first 8 (flip 8 b)))
+    ∙ sym (cc (bits a, bits b))
 
 -- so they are a table
-doubled-residues : (p : Poly) (s : ℕ) → doubled p (s + degree p) 8 ≡ octet_residues p s
-unfolding octet_residues
+doubled-residues : (p : Poly) (s : ℕ) → doubled (entry p s) 8 ≡ octet_residues p s
+unfolding octet_residues entry
 doubled-residues p s =
-    fill_by_all (λ octet. residue p (s + degree p) (high_first 8 octet)) (doubled p (s + degree p) 8) 256 0 (length-doubled p (s + degree p) 8) (get_or-doubled p (s + degree p) 8)
+    fill_by_all (entry p s) (doubled (entry p s) 8) 256 0 (length-doubled (entry p s) (entry-xor p s) 8) (get_or-doubled (entry p s) (entry-xor p s) 8)
 
 -- two functions that agree give one list
 map-same : {f g : ℕ → List ℕ} → ((k : ℕ) → f k ≡ g k) → (ks : List ℕ) → map f ks ≡ map g ks
@@ -91,7 +78,7 @@ map-same {f} {g} same (k ∷ ks) = ap (λ x. x ∷ map f ks) (same k) ∙ ap (λ
 
 -- all eight of them
 doubled_tables : Poly → List (List ℕ)
-doubled_tables p = map (λ k. doubled p (8 * k + degree p) 8) (range_with_len 0 8)
+doubled_tables p = map (λ k. doubled (entry p (8 * k)) 8) (range_with_len 0 8)
 
 tables-doubled : (p : Poly) → doubled_tables p ≡ octet_tables p
 unfolding doubled_tables octet_tables
@@ -101,15 +88,15 @@ tables-doubled p = map-same (λ k. doubled-residues p (8 * k)) (range_with_len 0
 
 -- the tables of CRC24A
 pub a24-residues : A24_RESIDUES ≡ octet_tables A24
-unfolding times_d rho doubled with_top doubled_tables
+unfolding times_d rho residue low_first flip entry doubled with_top doubled_tables
 a24-residues = (let same : A24_RESIDUES ≡ doubled_tables A24 = refl in same) ∙ tables-doubled A24
 
 -- the tables of CRC24B
 pub b24-residues : B24_RESIDUES ≡ octet_tables B24
-unfolding times_d rho doubled with_top doubled_tables
+unfolding times_d rho residue low_first flip entry doubled with_top doubled_tables
 b24-residues = (let same : B24_RESIDUES ≡ doubled_tables B24 = refl in same) ∙ tables-doubled B24
 
 -- the tables of CRC16
 pub c16-residues : C16_RESIDUES ≡ octet_tables C16
-unfolding times_d rho doubled with_top doubled_tables
+unfolding times_d rho residue low_first flip entry doubled with_top doubled_tables
 c16-residues = (let same : C16_RESIDUES ≡ doubled_tables C16 = refl in same) ∙ tables-doubled C16

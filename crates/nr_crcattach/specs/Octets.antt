@@ -1,12 +1,17 @@
 -- Internal: the CRC computed by octets and by words, for the proof of the faster body.
 use Rattle.std.specs.Prelude.{◌≡◌, ℕ, ◌+◌, ◌*◌, ◌++◌, Bool, List, map}
 use Rattle.std.specs.List.{range_with_len}
+use Rattle.nr_bitvec.specs.BitList.{low_first, number_of}
 use Rattle.nr_crcattach.specs.declared.Poly.{Poly}
-use Rattle.nr_crcattach.specs.Crc.{crc_of, degree, high_first, residue}
+use Rattle.nr_crcattach.specs.Crc.{crc_of, degree, residue}
 
--- the remainder of each octet times D^(L + s), in the order of the octets' numbers
+-- the n lowest bits of a number in the other order
+unfoldable pub flip : ℕ → ℕ → ℕ
+flip n v = number_of n (low_first n v)
+
+-- the remainder of each octet, its lowest bit first, times D^(L + s), in the other order. They stand in the order of the octets' numbers.
 unfoldable pub octet_residues : Poly → ℕ → List ℕ
-octet_residues p s = map (λ octet. residue p (s + degree p) (high_first 8 octet)) (range_with_len 0 256)
+octet_residues p s = map (λ octet. flip (degree p) (residue p (s + degree p) (low_first 8 octet))) (range_with_len 0 256)
 
 -- these for no zero octet behind each octet, for one, and so on up to seven
 unfoldable pub octet_tables : Poly → List (List ℕ)

@@ -122,7 +122,7 @@ fn crc_of_words(poly: Poly, bits: &Bits, from: usize, words: usize) -> u32
     for i in 0..words {
         register = poly.with_word(register, bits.window(from + 64 * i));
     }
-    register
+    poly.flipped(register)
 }
 
 /// Whether `bits`, as a polynomial, leaves remainder 0 by the generator `poly` (TS 38.212, 5.1), as
@@ -203,9 +203,7 @@ fn put_with_check(poly: Poly, bits: &Bits, list: &mut Bits)
     let check = crc(poly, bits);
     list.clear();
     list.extend_range(bits, 0, bits.len());
-    for place in (0..poly.degree()).rev() {
-        list.push_in_room(check >> place & 1 == 1);
-    }
+    list.push_word(poly.degree() as usize, u64::from(poly.flipped(check)));
 }
 
 /// The law of attachment: every list followed by its parity bits leaves remainder 0 by their generator. So does every

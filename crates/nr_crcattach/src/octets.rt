@@ -1,32 +1,40 @@
-//! A check 64 bits at a turn, by the remainders of their eight octets.
+//! A check 64 bits at a turn, by the remainders of their eight octets. Here a remainder has its bits in the other order,
+//! the first parity bit lowest, as the words have theirs.
 
 ghost use Rattle.std.specs.Prelude.{◌≡◌, ◌<◌, ◌^◌};
 ghost use Rattle.nr_bitvec.specs.BitList.{low_first};
-ghost use Rattle.nr_crcattach.specs.Crc.{degree, high_first};
-ghost use Rattle.nr_crcattach.specs.Octets.{Continues};
+ghost use Rattle.nr_crcattach.specs.Crc.{degree};
+ghost use Rattle.nr_crcattach.specs.Octets.{Continues, flip};
 ghost use Rattle.nr_crcattach.specs.declared.Poly.{Poly};
 
 use crate::Poly;
 use nr_bitvec::reversed;
 
 impl Poly {
-    // The check of bits, of which `remainder` is the check, with the bits of a word behind them, the
-    // lowest first. The remainder is added to the highest of the word's bits; no octet's table waits
-    // for another's.
+    // The check of bits, of which `remainder` is the check, with the bits of a word behind them, the lowest first. The
+    // remainder is added to the first of the word's bits; no octet's table waits for another's.
     pub(crate) fn with_word(self, remainder: u32, word: u64) -> u32
         requires { remainder < 2 ^ degree self }
-        ensures value { Continues self remainder (low_first 64 word) result }
+        ensures value { Continues self (flip (degree self) remainder) (low_first 64 word) (flip (degree self) result) }
         ensures fits { result < 2 ^ degree self }
     {
         let tables = self.octet_tables();
-        let joined = u64::from(remainder) << (64 - self.degree()) ^ reversed(word);
-        tables[7][(joined >> 56) as usize]
-            ^ tables[6][(joined >> 48 & 0xff) as usize]
-            ^ tables[5][(joined >> 40 & 0xff) as usize]
-            ^ tables[4][(joined >> 32 & 0xff) as usize]
-            ^ tables[3][(joined >> 24 & 0xff) as usize]
-            ^ tables[2][(joined >> 16 & 0xff) as usize]
-            ^ tables[1][(joined >> 8 & 0xff) as usize]
-            ^ tables[0][(joined & 0xff) as usize]
+        let joined = u64::from(remainder) ^ word;
+        tables[7][(joined & 0xff) as usize]
+            ^ tables[6][(joined >> 8 & 0xff) as usize]
+            ^ tables[5][(joined >> 16 & 0xff) as usize]
+            ^ tables[4][(joined >> 24 & 0xff) as usize]
+            ^ tables[3][(joined >> 32 & 0xff) as usize]
+            ^ tables[2][(joined >> 40 & 0xff) as usize]
+            ^ tables[1][(joined >> 48 & 0xff) as usize]
+            ^ tables[0][(joined >> 56) as usize]
+    }
+
+    // A remainder with its bits in the other order.
+    pub(crate) fn flipped(self, remainder: u32) -> u32
+        ensures value { result ≡ flip (degree self) remainder }
+        ensures fits { result < 2 ^ degree self }
+    {
+        (reversed(u64::from(remainder)) >> (64 - self.degree())) as u32
     }
 }

@@ -1,41 +1,27 @@
-use Rattle.std.proofs.Common.{◌≡◌, ◌-◌, ◌/◌, ◌^◌, ◌==◌, suc, [], ◌∷◌, ◌++◌, length, bit_and, sym, ap, ◌∙◌, append-nil, length-append, arith}
-use Rattle.std.specs.Int.{bit_at}
-use Rattle.std.proofs.lemmas.Nat.Bits.{shr_and_one}
-use Rattle.nr_crcattach.specs.Crc.{high_first}
-use Rattle.nr_crcattach.proofs.RemainderFacts.{high_first-next, length-high_first}
+use Rattle.std.proofs.Common.{◌≡◌, ◌++◌, ◌∙◌, List, Bool, length, length-append, length-take, take, drop, ap, arith}
+use Rattle.std.proofs.lemmas.List.{take_all}
+use Rattle.nr_bitvec.specs.BitList.{low_first}
+use Rattle.nr_bitvec.proofs.PackedListFacts.{length-low_first}
+use Rattle.nr_crcattach.specs.Crc.{degree, high_first}
+use Rattle.nr_crcattach.proofs.FlipFacts.{low_first-flip}
+use Rattle.nr_crcattach.proofs.RemainderFacts.{length-with_check}
 use Rattle.nr_crcattach.proofs.put_with_check.Goals as goal
 
-pub push_in_room-requires : goal.push_in_room-requires
-push_in_room-requires c =
-    let inv = c.loop-place.invariant in
-    let all = ap length inv.items in
-    let added = length-append c.loop-place.list.items (high_first c.loop-place.place c.crc-check.result) in
-    omega (arith, all, added, length-high_first c.loop-place.place c.crc-check.result, inv.room, c.requires.room, c.loop-place-test.true)
-
-pub loop-place-preserved : goal.loop-place-preserved
-loop-place-preserved c =
-    let inv = c.loop-place.invariant in
-    let check = c.crc-check.result in
-    let old = c.loop-place.list.items in
-    let below = c.loop-place.place - 1 in
-    let coded : (bit_and (check / 2 ^ below) 1 == 1) ≡ (bit_at check below == 1) = ap (λ n. n == 1) (shr_and_one check below) in
-    let place : suc below ≡ c.loop-place.place = omega (arith, c.loop-place-test.true) in
-    let pushed = c.push_in_room.ensures in
-    let longer = ap length pushed.items in
-    let added = length-append old ((bit_and (check / 2 ^ below) 1 == 1) ∷ []) in
-    record {
-      items = ap (λ bits. bits ++ high_first below check) pushed.items
-          ∙ ap (λ b. (old ++ b ∷ []) ++ high_first below check) coded
-          ∙ high_first-next below check old
-          ∙ ap (λ n. old ++ high_first n check) place
-          ∙ inv.items;
-      room = omega (arith, inv.room, pushed.room, longer, added);
-    }
+pub push_word-requires-clause-room : goal.push_word-requires-clause-room
+push_word-requires-clause-room c =
+    omega (arith, c.requires.room, length-with_check c.args.poly c.args.bits.now.items, c.clear.ensures.room, c.extend_range.ensures.room, c.len.ensures.value, c.degree.ensures)
 
 pub returns-clause-items : goal.returns-clause-items
-unfolding high_first
 returns-clause-items c =
-    let done : c.loop-place.place ≡ 0 = omega (arith, c.loop-place-test.false) in
-    sym (append-nil c.loop-place.list.items)
-    ∙ ap (λ n. c.loop-place.list.items ++ high_first n c.crc-check.result) (sym done)
-    ∙ c.loop-place.invariant.items
+    let bits : List Bool = c.args.bits.now.items in
+    let copied : c.extend_range.new.self.items ≡ bits = c.extend_range.ensures.items ∙ ap (λ old. old ++ take c.len.result bits) c.clear.ensures.items ∙ take_all c.len.result bits (omega (arith, c.len.ensures.value)) in
+    c.push_word.ensures.items ∙ ap (λ old. old ++ low_first c.degree.result c.from.result) copied
+    ∙ ap (λ n. bits ++ low_first n c.from.result) c.degree.ensures ∙ ap (λ v. bits ++ low_first (degree c.args.poly) v) (c.from.ensures ∙ c.flipped.ensures.value)
+    ∙ ap (λ more. bits ++ more) (low_first-flip (degree c.args.poly) c.crc-check.result) ∙ ap (λ v. bits ++ high_first (degree c.args.poly) v) c.crc-check.ensures.value
+
+pub returns-clause-room : goal.returns-clause-room
+returns-clause-room c =
+    let longer = ap length c.push_word.ensures.items in
+    let copied = ap length c.extend_range.ensures.items in
+    let none = ap length c.clear.ensures.items in
+    omega (arith, c.clear.ensures.room, c.extend_range.ensures.room, c.push_word.ensures.room, longer, copied, none, length-append c.extend_range.new.self.items (low_first c.degree.result c.from.result), length-low_first c.degree.result c.from.result, length-append c.clear.new.self.items (take c.len.result (drop 0 c.args.bits.now.items)), length-take c.len.result (drop 0 c.args.bits.now.items), c.len.ensures.value)
