@@ -1,5 +1,5 @@
 -- Lists of bits over packed words: what each change of the words makes of the list, and that the words stay packed.
-use Rattle.std.proofs.Common.{◌≡◌, ℕ, ◌+◌, ◌-◌, ◌*◌, ◌/◌, ◌%◌, ◌^◌, ◌<◌, ◌≤◌, ◌==◌, inl, inr, Bool, true, false, List, [], ◌∷◌, ◌++◌, length, get_or, set, refl, ap, sym, ◌∙◌, arith, length-append, length-set, get_or-set_same, get_or-set_other}
+use Rattle.std.proofs.Common.{◌≡◌, ◌≢◌, ℕ, ◌+◌, ◌-◌, ◌*◌, ◌/◌, ◌%◌, ◌^◌, ◌<◌, ◌≤◌, ◌==◌, inl, inr, Bool, true, false, List, [], ◌∷◌, ◌++◌, length, get_or, set, refl, ap, sym, ◌∙◌, arith, length-append, length-set, get_or-set_same, get_or-set_other}
 use Rattle.std.proofs.lemmas.Bool.{cases_lt, cases_eq}
 use Rattle.std.proofs.lemmas.List.{get_or_append_left, get_or-append_right}
 use Rattle.std.proofs.lemmas.List.FromFn.{length-map-range_with_len, get_or-map-range_with_len}
@@ -154,6 +154,40 @@ puts n ws new at count word change old inside changes long flips =
       before = λ t. put-before n ws new at count word change t old packed flips;
       after = λ t. put-after n ws new at count word change t old packed changes flips;
     }
+
+-- a whole word, in the place of another
+place-set : (ws : List ℕ) (k w t : ℕ) → k < length ws → t / 64 ≡ k → place (set ws k w) t ≡ bit_at w (t % 64)
+place-set ws k w t h e = ap (λ m. bit_at (get_or (set ws k w) m 0) (t % 64)) e ∙ ap (λ m. bit_at m (t % 64)) (get_or-set_same ws k w 0 h)
+
+place-set_other : (ws : List ℕ) (k w t : ℕ) → t / 64 ≢ k → place (set ws k w) t ≡ place ws t
+place-set_other ws k w t ne = ap (λ m. bit_at m (t % 64)) (get_or-set_other ws k (t / 64) w 0 ne)
+
+module _ (n at count word : ℕ) (ws : List ℕ) (old : IsPacked n ws) (whole : at % 64 ≡ 0) (full : count ≡ 64) (inside : at + count ≤ n) where
+  abbrev stored : List ℕ
+  stored = set ws (at / 64) word
+
+  stored-packed : IsPacked n stored
+  stored-packed = record {
+    short = old.short;
+    above = omega (arith, old.above, length-set ws (at / 64) word);
+    below = omega (arith, old.below, length-set ws (at / 64) word);
+    clear = λ t h. place-set_other ws (at / 64) word t (λ e. omega (arith, e, h, whole, inside, full)) ∙ old.clear t h;
+  }
+
+  stored-other : (t : ℕ) → t / 64 ≢ at / 64 → bit (unpacked n stored) t ≡ bit (unpacked n ws) t
+  stored-other t ne =
+      bit-place n stored t stored-packed.clear ∙ ap (λ k. k == 1) (place-set_other ws (at / 64) word t ne) ∙ sym (bit-place n ws t old.clear)
+
+  pub puts-word : Puts n at count word ws stored
+  puts-word = record {
+    packed = stored-packed;
+    within = λ t h.
+        let i : (at + t) % 64 ≡ t = omega (arith, whole, h, full) in
+        bit-within n stored (at + t) (omega (arith, inside, h))
+        ∙ ap (λ k. k == 1) (place-set ws (at / 64) word (at + t) (omega (arith, old.below, inside, full, whole)) (omega (arith, whole, h, full)) ∙ ap (bit_at word) i);
+    before = λ t h. stored-other t (λ e. omega (arith, e, h, whole));
+    after = λ t h. stored-other t (λ e. omega (arith, e, h, whole, full));
+  }
 
 -- the lowest bit of a truth value
 lowest : (b : Bool) → (bit_at (from_bool b) 0 == 1) ≡ b

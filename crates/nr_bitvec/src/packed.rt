@@ -266,6 +266,10 @@ impl Bits {
         ensures long { length self.new.items ≡ length self.old.items }
         ensures room { self.new.room ≡ self.old.room }
     {
+        if at % 64 == 0 && count == 64 {
+            self.words[at / 64] = word;
+            return;
+        }
         let added = change(&self.words, at, count, word);
         flip(&mut self.words, at, added);
     }
