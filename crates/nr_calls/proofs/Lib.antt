@@ -7,3 +7,4 @@ mod OctetCountFacts
 mod OutcomeListFacts
 mod PlacedEntryFacts
 mod RoomFacts
+mod MarkFacts

@@ -11,3 +11,4 @@ pub mod Cutting
 pub mod Encoding
 pub mod Judging
 pub mod Inside
+pub mod Marks

@@ -17,6 +17,7 @@ pub mod encoding;
 pub mod entries;
 pub mod fault;
 mod findings;
+mod marks;
 pub mod numbers;
 pub mod rates;
 pub mod receiving;

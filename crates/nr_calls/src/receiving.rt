@@ -6,6 +6,7 @@ ghost use Rattle.nr_shifttable.specs.Accepted.{IsTable};
 ghost use Rattle.nr_blockdesk.specs.Explains.{Reception, reception, reception_said};
 ghost use Rattle.nr_blockdesk.specs.Heard.{IsRecordOf};
 ghost use Rattle.nr_blockdesk.specs.Link.{IsLink, link_said};
+ghost use Rattle.nr_blockdesk.specs.Marks.{reception_by};
 ghost use Rattle.nr_blockdesk.specs.Receiving.{RefusesAs, verdict};
 ghost use Rattle.nr_calls.specs.Crossing.{settings_in, tx_of};
 ghost use Rattle.nr_calls.specs.Entries.{are_placed};
@@ -17,7 +18,9 @@ use crate::crossing::{NrSettings, NrTx};
 use crate::entries::{NrEntry, table_by};
 use crate::fault::Fault;
 use crate::findings::{Found, Room, outcome_number};
+use crate::marks::{MOST_MARKS, marks_of};
 use crate::numbers::plan_on;
+use nr_bitvec::Bits;
 use nr_blockdesk::{
     DeskFault, Heard, Outcome, Receiver, Settings, Tx, delivered_is_only, links_are_sound,
     nothing_is_open,
@@ -246,8 +249,38 @@ fn hear(
         → Gives Fault.Memory verdict result (one_more_said receiver.old.link list
         (reception tx.now (map heard_octet octets.now))) }
 {
-    let heard = heard_of(alloc, octets)?;
-    take(receiver, tx, &heard)
+    if octets.len() > MOST_MARKS {
+        let heard = heard_of(alloc, octets)?;
+        return take(receiver, tx, &heard);
+    }
+    let (heard, value) = marks_of(alloc, octets)?;
+    take_marks(receiver, tx, &heard, &value)
+}
+
+// The outcome after what two lists of bits say was received of one more transmission.
+fn take_marks(
+    receiver: &mut Receiver<'_>,
+    tx: &Tx,
+    heard: &Bits,
+    value: &Bits,
+) -> Result<Outcome, Fault>
+    requires { length value.now.items ≡ length heard.now.items }
+    ensures link { receiver.new.link ≡ receiver.old.link }
+    ensures refused { RefusesAs Fault.Memory result (with_fault Fault.Desk
+        (reception_said receiver.old.link (reception_by tx.now heard.now.items value.now.items))) }
+    ensures heard { IfOk result (λ outcome. (list : List Reception)
+        → IsRecordOf receiver.old.link list receiver.old.heard
+        → IsRecordOf receiver.old.link
+        (list ++ reception_by tx.now heard.now.items value.now.items ∷ []) receiver.new.heard) }
+    ensures outcome { (list : List Reception) → IsRecordOf receiver.old.link list receiver.old.heard
+        → Gives Fault.Memory verdict result (one_more_said receiver.old.link list
+        (reception_by tx.now heard.now.items value.now.items)) }
+{
+    match receiver.take_marks(tx, heard, value) {
+        Ok(outcome) => Ok(outcome),
+        Err(DeskFault::Memory) => Err(Fault::Memory),
+        Err(fault) => Err(Fault::Desk(fault)),
+    }
 }
 
 // The outcome after what was received of one more transmission. Memory is wanted only where it has no fault.

@@ -1,0 +1,46 @@
+//! What the octets of a transmission say was received, as two lists of bits: sixteen octets at a turn.
+
+ghost use Rattle.std.specs.Prelude.{◌≡◌, ◌*◌, ◌^◌, ◌≤◌, length, map, IfOk};
+ghost use Rattle.nr_bitvec.specs.BitList.{low_first};
+ghost use Rattle.nr_blockdesk.specs.Marks.{heards};
+ghost use Rattle.nr_calls.specs.Marks.{is_bit, is_one};
+ghost use Rattle.nr_calls.specs.Receiving.{heard_octet};
+
+use nr_bitvec::Bits;
+use std::alloc::{AllocError, Global};
+use std::simd::prelude::*;
+
+// The most octets of which marks are made. A transmission of so many bits is refused whatever they say.
+pub(crate) const MOST_MARKS: usize = 1 << 24;
+
+// Marks of those of sixteen octets that say a bit, and the bits, the first octet's lowest.
+fn sixteen_marks(octets: u8x16) -> (u64, u64)
+    ensures marks { low_first 16 result.0 ≡ map is_bit octets }
+    ensures bits { low_first 16 result.1 ≡ map is_one octets }
+{
+    let marks = octets.simd_lt(u8x16::splat(2)).to_bitmask();
+    let bits = octets.simd_eq(u8x16::splat(1)).to_bitmask();
+    (marks, bits)
+}
+
+// Marks of the octets that say a bit, and the bits.
+pub(crate) fn marks_of(alloc: Global, octets: &[u8]) -> Result<(Bits, Bits), AllocError>
+    requires { length octets.now ≤ 2 ^ 24 }
+    ensures same { IfOk result (λ lists. heards lists.0.items lists.1.items ≡ map heard_octet octets.now) }
+    ensures both { IfOk result (λ lists. length lists.1.items ≡ length lists.0.items) }
+{
+    let count = octets.len();
+    let mut heard = Bits::with_room(alloc, count as u32)?;
+    let mut value = Bits::with_room(alloc, count as u32)?;
+    let whole = count / 16;
+    for i in 0..whole {
+        let (marks, bits) = sixteen_marks(u8x16::from_slice(&octets[16 * i..]));
+        heard.push_word(16, marks);
+        value.push_word(16, bits);
+    }
+    for i in 16 * whole..count {
+        heard.push_in_room(octets[i] < 2);
+        value.push_in_room(octets[i] == 1);
+    }
+    Ok((heard, value))
+}
