@@ -1,11 +1,13 @@
 -- The closure of a set: it has the set, it is closed, and it lies in every closed set that has the set.
-use Rattle.std.proofs.Common.{◌≡◌, ℕ, ◌+◌, ◌<◌, ◌≤◌, ◌&&◌, Bool, true, false, not, cond, refl, sym, ap, ◌∙◌, ⊎_elim, inl, inr, arith}
+use Rattle.std.proofs.Common.{◌≡◌, ℕ, ◌<◌, ◌≤◌, Bool, true, false, refl, sym, ap, ◌∙◌, ⊎_elim, inl, inr, arith}
 use Rattle.std.specs.Prelude.{◌⊎◌, zero, suc}
-use Rattle.std.proofs.lemmas.Bool.{and_parts, and_from, or_cases, or_left, or_right, false≢true, true≢false, cases_lt}
+use Rattle.std.proofs.lemmas.Bool.{and_parts, or_cases, or_left, or_right, false≢true, cases_lt}
 use Rattle.nr_ldpcenc.specs.Rows.{Checks}
 use Rattle.nr_peel.specs.Closure.{Within, AreSound, any_below, closure, fixes, round, rounds, stands, union}
 use Rattle.nr_peel.specs.ClosureInside.{IsClosed}
 use Rattle.nr_peel.proofs.RowPositionFacts.{fixes_more}
+use Rattle.nr_lifting.specs.Rings.{marked}
+use Rattle.nr_peel.proofs.MarkedFacts.{marked_full, marked_back}
 
 pub cases_below : (k n : ℕ) → k < suc n → (k < n) ⊎ (k ≡ n)
 cases_below k n lt = ⊎_elim (λ l. inl l) (λ (le : n ≤ k). inr (omega arith)) (cases_lt k n)
@@ -37,16 +39,20 @@ unfolding round
 round_adds c S i t p li lt h = or_right (S p) (any_below (λ i. any_below (λ t. fixes S (c.row i t) p) c.lanes) c.rows)
     (passes_any_below (λ i. any_below (λ t. fixes S (c.row i t) p) c.lanes) c.rows i li (passes_any_below (λ t. fixes S (c.row i t) p) c.lanes t lt h))
 
--- a round stays in each closed set that has the set
-pub round_within : (c : Checks) (S T : ℕ → Bool) → Within S T → IsClosed c T → Within (round c S) T
+-- a round stays in each set that has the set and what a row fixes
+round_into : (c : Checks) (S U : ℕ → Bool) → Within S U → ((i t p : ℕ) → i < c.rows → t < c.lanes → fixes S (c.row i t) p ≡ true → U p ≡ true) → Within (round c S) U
 unfolding round
-round_within c S T within closed p h = ⊎_elim (within p) added (or_cases (S p) (any_below (λ i. any_below (λ t. fixes S (c.row i t) p) c.lanes) c.rows) h)
+round_into c S U within fixed p h = ⊎_elim (within p) added (or_cases (S p) (any_below (λ i. any_below (λ t. fixes S (c.row i t) p) c.lanes) c.rows) h)
   where
-    added : any_below (λ i. any_below (λ t. fixes S (c.row i t) p) c.lanes) c.rows ≡ true → T p ≡ true
+    added : any_below (λ i. any_below (λ t. fixes S (c.row i t) p) c.lanes) c.rows ≡ true → U p ≡ true
     added a =
         let r = any_below_passes (λ i. any_below (λ t. fixes S (c.row i t) p) c.lanes) c.rows a in
         let q = any_below_passes (λ t. fixes S (c.row r.number t) p) c.lanes r.passes in
-        closed r.number q.number p r.below q.below (fixes_more S T (c.row r.number q.number) p within q.passes)
+        fixed r.number q.number p r.below q.below q.passes
+
+-- a round stays in each closed set that has the set
+pub round_within : (c : Checks) (S T : ℕ → Bool) → Within S T → IsClosed c T → Within (round c S) T
+round_within c S T within closed = round_into c S T within (λ i t p li lt f. closed i t p li lt (fixes_more S T (c.row i t) p within f))
 
 pub rounds_keep : (c : Checks) (S : ℕ → Bool) (k : ℕ) → Within S (rounds c S k)
 rounds_keep c S zero p h = h
@@ -64,107 +70,36 @@ pub closure_least : (c : Checks) (S T : ℕ → Bool) → Within S T → IsClose
 unfolding closure
 closure_least c S T = rounds_within c S T c.size
 
--- how many positions below n are in a set
-unfoldable pub size_below : (ℕ → Bool) → ℕ → ℕ
-size_below S zero = 0
-size_below S (suc n) = size_below S n + cond (S n) 1 0
-
-cond_le : (a b : Bool) → (a ≡ true → b ≡ true) → cond a 1 0 ≤ cond b 1 0
-cond_le true true h = omega arith
-cond_le true false h = absurd (false≢true (h refl))
-cond_le false true h = omega arith
-cond_le false false h = omega arith
-
-size_within : (S T : ℕ → Bool) → Within S T → (n : ℕ) → size_below S n ≤ size_below T n
-unfolding size_below
-size_within S T within zero = omega arith
-size_within S T within (suc n) = omega (arith, size_within S T within n, cond_le (S n) (T n) (within n))
-
-cond_one : (b : Bool) → b ≡ true → ◌≡◌ {A = ℕ} (cond b 1 0) 1
-cond_one b h = ap (λ b. cond b 1 0) h
-
-cond_zero : (b : Bool) → b ≡ false → ◌≡◌ {A = ℕ} (cond b 1 0) 0
-cond_zero b h = ap (λ b. cond b 1 0) h
-
-pub size_grows : (S T : ℕ → Bool) → Within S T → (n p : ℕ) → p < n → S p ≡ false → T p ≡ true → size_below S n < size_below T n
-unfolding size_below
-size_grows S T within zero p lt out there = absurd (omega arith)
-size_grows S T within (suc n) p lt out there = ⊎_elim
-    (λ l. omega (arith, size_grows S T within n p l out there, cond_le (S n) (T n) (within n)))
-    (λ e. omega (arith, size_within S T within n, cond_zero (S n) (ap S (sym e) ∙ out), cond_one (T n) (ap T (sym e) ∙ there)))
-    (cases_below p n lt)
-
-pub size_le : (S : ℕ → Bool) (n : ℕ) → size_below S n ≤ n
-unfolding size_below
-size_le S zero = omega arith
-size_le S (suc n) = omega (arith, size_le S n, cond_le (S n) true (λ _. refl))
-
--- a set with all positions below n has each
-size_full : (S : ℕ → Bool) (n : ℕ) → n ≤ size_below S n → (p : ℕ) → p < n → S p ≡ true
-unfolding size_below
-size_full S zero h p lt = absurd (omega arith)
-size_full S (suc n) h p lt = ⊎_elim (λ l. size_full S n (omega (arith, cond_le (S n) true (λ _. refl))) p l) (λ e. ap S e ∙ last (S n) refl) (cases_below p n lt)
-  where
-    last : (b : Bool) → S n ≡ b → S n ≡ true
-    last true e = e
-    last false e = absurd (omega (arith, size_le S n, cond_zero (S n) e))
-
 -- a closed set stays closed under a round
 closed_round : (c : Checks) (T : ℕ → Bool) → IsClosed c T → IsClosed c (round c T)
 closed_round c T closed i t p li lt h =
     round_keeps c T p (closed i t p li lt (fixes_more (round c T) T (c.row i t) p (round_within c T T (λ q e. e) closed) h))
 
 -- after k rounds the set is closed, or has k positions
-settles : (c : Checks) (S : ℕ → Bool) → AreSound c → (k : ℕ) → IsClosed c (rounds c S k) ⊎ (k ≤ size_below (rounds c S k) c.size)
+settles : (c : Checks) (S : ℕ → Bool) → AreSound c → (k : ℕ) → IsClosed c (rounds c S k) ⊎ (k ≤ marked (rounds c S k) c.size)
 settles c S sound zero = inr (omega arith)
-settles c S sound (suc k) = ⊎_elim (λ closed. inl (closed_round c (rounds c S k) closed)) grown (settles c S sound k)
+settles c S sound (suc k) = ⊎_elim (λ closed. inl (closed_round c (rounds c S k) closed)) step (settles c S sound k)
   where
-    T : ℕ → Bool
-    T = rounds c S k
+    still : marked (round c (rounds c S k)) c.size ≤ marked (rounds c S k) c.size → IsClosed c (rounds c S k)
+    still same i t p li lt h =
+        marked_back (rounds c S k) (round c (rounds c S k)) (round_keeps c (rounds c S k)) c.size p (sound.in_range i t p li lt (and_parts (stands p (c.row i t)) _ h).0) same (round_adds c (rounds c S k) i t p li lt h)
 
-    new : ℕ → Bool
-    new p = round c (rounds c S k) p && not (rounds c S k p)
-
-    step : (b : Bool) → any_below new c.size ≡ b → k ≤ size_below (rounds c S k) c.size → IsClosed c (round c (rounds c S k)) ⊎ (suc k ≤ size_below (round c (rounds c S k)) c.size)
-    step true e le =
-        let r = any_below_passes new c.size e in
-        let parts = and_parts (round c (rounds c S k) r.number) (not (rounds c S k r.number)) r.passes in
-        let grows = size_grows (rounds c S k) (round c (rounds c S k)) (round_keeps c (rounds c S k)) c.size r.number r.below (unnot (rounds c S k r.number) parts.1) parts.0 in
-        inr (omega (arith, grows, le))
-      where
-        unnot : (b : Bool) → not b ≡ true → b ≡ false
-        unnot true h = absurd (false≢true h)
-        unnot false h = refl
-    step false e le = inl (closed_round c (rounds c S k) closed)
-      where
-        stays : (b : Bool) (p : ℕ) → p < c.size → round c (rounds c S k) p ≡ true → rounds c S k p ≡ b → rounds c S k p ≡ true
-        stays true p lt there out = out
-        stays false p lt there out = absurd (true≢false (sym (passes_any_below new c.size p lt (and_from (round c (rounds c S k) p) (not (rounds c S k p)) there (ap not out))) ∙ e))
-
-        closed : IsClosed c (rounds c S k)
-        closed i t p li lt h =
-            stays (rounds c S k p) p (sound.in_range i t p li lt (and_parts (stands p (c.row i t)) _ h).0) (round_adds c (rounds c S k) i t p li lt h) refl
-
-    grown : k ≤ size_below (rounds c S k) c.size → IsClosed c (round c (rounds c S k)) ⊎ (suc k ≤ size_below (round c (rounds c S k)) c.size)
-    grown le = step (any_below new c.size) refl le
+    step : k ≤ marked (rounds c S k) c.size → IsClosed c (rounds c S (suc k)) ⊎ (suc k ≤ marked (rounds c S (suc k)) c.size)
+    step le = ⊎_elim
+        (λ (more : marked (rounds c S k) c.size < marked (round c (rounds c S k)) c.size). inr (omega (arith, more, le)))
+        (λ same. inl (closed_round c (rounds c S k) (still same)))
+        (cases_lt (marked (rounds c S k) c.size) (marked (round c (rounds c S k)) c.size))
 
 pub closure_closed : (c : Checks) (S : ℕ → Bool) → AreSound c → IsClosed c (closure c S)
 unfolding closure
 closure_closed c S sound = ⊎_elim (λ closed. closed) full (settles c S sound c.size)
   where
-    full : c.size ≤ size_below (rounds c S c.size) c.size → IsClosed c (rounds c S c.size)
-    full le i t p li lt h = size_full (rounds c S c.size) c.size le p (sound.in_range i t p li lt (and_parts (stands p (c.row i t)) _ h).0)
+    full : c.size ≤ marked (rounds c S c.size) c.size → IsClosed c (rounds c S c.size)
+    full le i t p li lt h = marked_full (rounds c S c.size) c.size le p (sound.in_range i t p li lt (and_parts (stands p (c.row i t)) _ h).0)
 
 -- a round of a larger set is larger
 round_more : (c : Checks) (S T : ℕ → Bool) → Within S T → Within (round c S) (round c T)
-unfolding round
-round_more c S T within p h = ⊎_elim (λ s. round_keeps c T p (within p s)) added (or_cases (S p) (any_below (λ i. any_below (λ t. fixes S (c.row i t) p) c.lanes) c.rows) h)
-  where
-    added : any_below (λ i. any_below (λ t. fixes S (c.row i t) p) c.lanes) c.rows ≡ true → round c T p ≡ true
-    added a =
-        let r = any_below_passes (λ i. any_below (λ t. fixes S (c.row i t) p) c.lanes) c.rows a in
-        let q = any_below_passes (λ t. fixes S (c.row r.number t) p) c.lanes r.passes in
-        round_adds c T r.number q.number p r.below q.below (fixes_more S T (c.row r.number q.number) p within q.passes)
+round_more c S T within = round_into c S (round c T) (λ p s. round_keeps c T p (within p s)) (λ i t p li lt f. round_adds c T i t p li lt (fixes_more S T (c.row i t) p within f))
 
 rounds_more : (c : Checks) (S T : ℕ → Bool) (k : ℕ) → Within S T → Within (rounds c S k) (rounds c T k)
 rounds_more c S T zero within = within

@@ -3,7 +3,7 @@ use Rattle.std.proofs.Common.{◌≡◌, ◌≢◌, ℕ, ◌<◌, ◌==◌, ◌|
 use Rattle.std.specs.Prelude.{count_by}
 use Rattle.std.specs.Bool.{beq}
 use Rattle.std.specs.List.{list_all}
-use Rattle.std.proofs.lemmas.Bool.{and_parts, and_from, or_cases, or_left, or_right, false≢true, true≢false, eqb-true, false_from_ne_true}
+use Rattle.std.proofs.lemmas.Bool.{and_parts, and_from, or_cases, or_left, or_right, true≢false, eqb-true, false_from_ne_true}
 use Rattle.nr_bitvec.specs.Bit.{◌⊕◌}
 use Rattle.nr_ldpcenc.specs.Parity.{parity}
 use Rattle.nr_ldpcenc.specs.Rows.{Checks, Meets}
@@ -13,22 +13,10 @@ use Rattle.nr_peel.proofs.RowPositionFacts.{count_alike, count_no, count_yes, fi
 use Rattle.nr_peel.proofs.ClosureFacts.{closure_closed, closure_keeps, closure_least, same_truth}
 
 pub beq_true : (a b : Bool) → beq a b ≡ true → a ≡ b
-beq_true true true h = refl
-beq_true false false h = refl
-beq_true true false h = absurd (false≢true h)
-beq_true false true h = absurd (false≢true h)
+beq_true a b h = grind arith
 
 pub beq_same : (a b : Bool) → a ≡ b → beq a b ≡ true
-beq_same true b h = go b h
-  where
-    go : (b : Bool) → true ≡ b → beq true b ≡ true
-    go true h = refl
-    go false h = absurd (true≢false h)
-beq_same false b h = go b h
-  where
-    go : (b : Bool) → false ≡ b → beq false b ≡ true
-    go true h = absurd (false≢true h)
-    go false h = refl
+beq_same a b h = grind arith
 
 xor_cancel : (a b c : Bool) → a ⊕ b ≡ a ⊕ c → b ≡ c
 xor_cancel a b c h = grind arith

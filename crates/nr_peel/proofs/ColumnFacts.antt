@@ -1,7 +1,7 @@
 -- A column of blocks whose positions become known: what the rows' counts and the visits come to.
 use Rattle.std.proofs.Common.{◌≡◌, ℕ, zero, suc, ◌+◌, ◌-◌, ◌*◌, ◌/◌, ◌%◌, ◌<◌, ◌≤◌, ◌≢◌, ◌==◌, ◌&&◌, nat_lt, Bool, true, false, not, cond, List, [], ◌∷◌, length, map, refl, sym, ap, ◌∙◌, inl, inr, arith}
 use Rattle.std.specs.Prelude.{All, count_by, slice_index, sum}
-use Rattle.std.proofs.lemmas.Bool.{cases_eq, cases_lt, eqb-true, eq-eqb, ne_eqb, lt-ltb, le-ltb}
+use Rattle.std.proofs.lemmas.Bool.{eqb-true, eq-eqb, ne_eqb}
 use Rattle.std.proofs.lemmas.List.Elements.{All-head, All-tail}
 use Rattle.std.proofs.lemmas.Nat.{mod_below}
 use Rattle.nr_lifting.specs.Rings.{marked}
@@ -17,6 +17,7 @@ use Rattle.nr_peel.proofs.TableGridFacts.{place_column}
 use Rattle.nr_peel.proofs.PairSumFacts.{sum_below-plus, sum_below-same}
 use Rattle.nr_peel.proofs.RowPlaceFacts.{mod_high, mod_low, row_number}
 use Rattle.nr_peel.proofs.RowPositionFacts.{count_by-cons, count_no}
+use Rattle.std.proofs.lemmas.Bool.Decides.{nat_tests}
 
 -- ---- counts of a row's positions
 
@@ -37,25 +38,7 @@ abbrev pub from_column : ℕ → (ℕ → Bool) → ℕ → ℕ → Bool
 from_column z M j p = M p && not (nat_lt (p / z) j)
 
 column_bits : (a : Bool) (n j : ℕ) → cond (a && nat_lt n j) 1 0 + cond ((a && not (nat_lt n j)) && (n == j)) 1 0 ≡ cond (a && nat_lt n (j + 1)) 1 0
-column_bits false n j = refl
-column_bits true n j = elim (cases_lt n j) [
-  | inl below ↦
-      let a : nat_lt n j ≡ true = lt-ltb n j below in
-      let b : nat_lt n (j + 1) ≡ true = lt-ltb n (j + 1) (omega (arith, below)) in
-      rw (a, b) refl
-  | inr past ↦
-      let a : nat_lt n j ≡ false = le-ltb n j past in
-      elim (cases_eq n j) [
-        | inl e ↦
-            let b : nat_lt n (j + 1) ≡ true = lt-ltb n (j + 1) (omega (arith, e)) in
-            let d : (n == j) ≡ true = eq-eqb n j e in
-            rw (a, b, d) refl
-        | inr ne ↦
-            let b : nat_lt n (j + 1) ≡ false = le-ltb n (j + 1) (omega (arith, past, ne)) in
-            let d : (n == j) ≡ false = ne_eqb n j ne in
-            rw (a, b, d) refl
-      ]
-]
+column_bits a n j = grind (arith, nat_tests)
 
 -- one column more
 pub column_next : (z : ℕ) (M : ℕ → Bool) (j : ℕ) (row : List ℕ) → count_by (below_column z M j) row + count_by (in_column z (from_column z M j) j) row ≡ count_by (below_column z M (j + 1)) row
@@ -63,12 +46,7 @@ column_next z M j row = count_plus (below_column z M j) (in_column z (from_colum
 
 -- no more than the whole set has
 pub column_most : (z : ℕ) (M : ℕ → Bool) (j : ℕ) (row : List ℕ) → count_by (below_column z M j) row ≤ count_by M row
-column_most z M j row = omega (arith, count_plus (below_column z M j) (from_column z M j) M (λ p. both (M p) (nat_lt (p / z) j)) row)
-  where
-    both : (a b : Bool) → cond (a && b) 1 0 + cond (a && not b) 1 0 ≡ cond a 1 0
-    both false b = refl
-    both true true = refl
-    both true false = refl
+column_most z M j row = omega (arith, count_plus (below_column z M j) (from_column z M j) M (λ p. grind arith) row)
 
 -- ---- the entries of a column
 

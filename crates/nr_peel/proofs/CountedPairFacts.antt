@@ -17,11 +17,7 @@ use Rattle.nr_peel.proofs.RowPlaceFacts.{row_number}
 -- what passes and what doesn't are all
 pub count_both : (p : ℕ → Bool) (xs : List ℕ) → count_by (λ x. not (p x)) xs + count_by p xs ≡ length xs
 count_both p [] = refl
-count_both p (x ∷ xs) = omega (arith, count_by-cons (λ x. not (p x)) x xs, count_by-cons p x xs, one (p x), count_both p xs)
-  where
-    one : (b : Bool) → cond (not b) 1 0 + cond b 1 0 ≡ 1
-    one true = refl
-    one false = refl
+count_both p (x ∷ xs) = grind (arith, count_by-cons (λ x. not (p x)) x xs, count_by-cons p x xs, count_both p xs)
 
 pub sum_below-append : (g : ℕ → ℕ) (a b : ℕ) → sum_below g (a + b) ≡ sum_below g a + sum_below (λ j. g (a + j)) b
 sum_below-append g a zero = ap (sum_below g) (add_none a) ∙ omega arith

@@ -1,9 +1,9 @@
 -- Which row blocks are due, and which columns have gained something.
-use Rattle.std.proofs.Common.{◌≡◌, ◌≢◌, ℕ, zero, suc, ◌+◌, ◌*◌, ◌/◌, ◌%◌, ◌<◌, ◌≤◌, ◌==◌, ◌&&◌, ◌||◌, Bool, true, false, not, cond, if◌then◌else◌, List, length, set, replicate, refl, sym, ap, ◌∙◌, inl, inr, arith}
+use Rattle.std.proofs.Common.{◌≡◌, ◌≢◌, ℕ, ◌+◌, ◌*◌, ◌/◌, ◌%◌, ◌<◌, ◌≤◌, ◌==◌, ◌&&◌, ◌||◌, Bool, true, false, not, cond, List, length, set, replicate, refl, sym, ap, ◌∙◌, inl, inr, arith}
 use Rattle.std.specs.Prelude.{slice_index}
 use Rattle.std.proofs.Math.Nat.{mul-le-mul_right}
 use Rattle.std.proofs.lemmas.Bool.{cases_eq, cases_lt, eq-eqb, ne_eqb, true≢false}
-use Rattle.std.proofs.lemmas.List.{get_or_past, get_or-set_other, get_or-set_same, get_or-replicate, length-map, length-replicate}
+use Rattle.std.proofs.lemmas.List.{get_or_past, get_or-set_other, get_or-set_same, length-map, length-replicate}
 use Rattle.std.proofs.lemmas.List.Folds.{sum_by-replicate}
 use Rattle.std.proofs.lemmas.List.Sums.{count_by-le-length, sum_by-set}
 use Rattle.std.proofs.lemmas.Nat.{div_below, div-mul-add, mod-mul-add, mod_below}
@@ -19,8 +19,9 @@ use Rattle.nr_peel.specs.Due.{ArePendingMarks, AreKept, due_in}
 use Rattle.nr_peel.specs.StateInside.{lifted_checks}
 use Rattle.nr_peel.specs.Sweeps.{CountsOf, has_count}
 use Rattle.nr_peel.specs.declared.lifted.Lifted.{Lifted}
-use Rattle.nr_peel.proofs.LaneMarkFacts.{marked_zero}
 use Rattle.nr_peel.proofs.RowPlaceFacts.{row_number}
+use Rattle.nr_peel.proofs.MarkedFacts.{marked_apart, marked_zero, no_marks}
+use Rattle.nr_peel.proofs.FillerFacts.{get_or-same}
 
 -- ---- how many are due
 
@@ -33,7 +34,7 @@ due_more due i below = omega (arith, sum_by-set (λ (b : Bool). cond {A = ℕ} b
 -- ---- places of blocks
 
 -- a block that lies among m blocks is one of them
-pub block_low : (i n m z : ℕ) → (i + 1) * z ≤ n → n ≤ m * z → 0 < z → i < m
+block_low : (i n m z : ℕ) → (i + 1) * z ≤ n → n ≤ m * z → 0 < z → i < m
 block_low i n m z fits few some = elim (cases_lt i m) [
   | inl below ↦ below
   | inr past ↦
@@ -41,8 +42,11 @@ block_low i n m z fits few some = elim (cases_lt i m) [
       absurd (omega (arith, wide, fits, few, some))
 ]
 
-pub block_at : (i t z : ℕ) → t < z → (i * z + t) / z ≡ i
-block_at i t z below = div-mul-add i z t below
+pub kept_low : (p : BlockCounts) (due : List Bool) (i : ℕ) → AreKept p due → (i + 1) * p.lanes ≤ length p.items → i < 46
+kept_low p due i kept block = block_low i (length p.items) 46 p.lanes block kept.few kept.some
+
+pub marks_low : (r : BlockBits) (columns : List ℕ) (j : ℕ) → ArePendingMarks r columns → (j + 1) * r.lanes ≤ length r.items → j < 68
+marks_low r columns j marks block = block_low j (length r.items) 68 r.lanes block marks.few marks.some
 
 -- ---- counts of rows
 
@@ -97,29 +101,9 @@ kept_looked p due i b ones kept within none are = record {
 
 -- a block that isn't due has no count of one
 pub kept_none : (p : BlockCounts) (due : List Bool) (i t : ℕ) → AreKept p due → bit due i ≡ false → t < p.lanes → (slice_index p.items (i * p.lanes + t) == 1) ≡ false
-kept_none p due i t kept clear below = ne_eqb (slice_index p.items (i * p.lanes + t)) 1 (kept.settled (i * p.lanes + t) (ap (bit due) (block_at i t p.lanes below) ∙ clear))
-
-pub on_if : (b : Bool) → not b ≡ false → b ≡ true
-on_if true e = refl
-on_if false e = sym e
+kept_none p due i t kept clear below = ne_eqb (slice_index p.items (i * p.lanes + t)) 1 (kept.settled (i * p.lanes + t) (ap (bit due) (div-mul-add i p.lanes t below) ∙ clear))
 
 -- ---- marks of fresh positions
-
-no_marks : (u : ℕ → Bool) (n : ℕ) → ((t : ℕ) → t < n → u t ≡ false) → marked u n ≡ 0
-no_marks u zero none = refl
-no_marks u (suc n) none = omega (arith, no_marks u n (λ t below. none t (omega (arith, below))), ap {B = ℕ} (λ b. if b then 1 else 0) (none n (omega arith)))
-
-none_set : (n p : ℕ) → bit (replicate n false) p ≡ false
-none_set n p = elim (cases_lt p n) [
-  | inl below ↦ get_or-replicate n p false false below
-  | inr past ↦ get_or_past (replicate n false) p false (omega (arith, length-replicate n false, past))
-]
-
-no_count : (n j : ℕ) → slice_index (replicate n 0) j ≡ 0
-no_count n j = elim (cases_lt j n) [
-  | inl below ↦ get_or-replicate n j 0 0 below
-  | inr past ↦ get_or_past (replicate n 0) j 0 (omega (arith, length-replicate {A = ℕ} n 0, past))
-]
 
 pub marks_new : (r : BlockBits) (count size : ℕ) → 0 < size → size ≤ 384 → count ≤ 68 → r.lanes ≡ size → r.items ≡ replicate (count * size) false → ArePendingMarks r (replicate 68 0)
 marks_new r count size some short few lanes items = record {
@@ -128,7 +112,7 @@ marks_new r count size some short few lanes items = record {
   few =
       let long : length r.items ≡ count * size = ap length items ∙ length-replicate (count * size) false in
       rw lanes (omega (arith, long, mul-le-mul_right size few));
-  counted = λ j. no_count 68 j ∙ sym (no_marks (λ t. bit r.items (j * r.lanes + t)) r.lanes (λ t below. ap (λ xs. bit xs (j * r.lanes + t)) items ∙ none_set (count * size) (j * r.lanes + t)));
+  counted = λ j. get_or-same 68 j 0 ∙ sym (no_marks (λ t. bit r.items (j * r.lanes + t)) r.lanes (λ t below. ap (λ xs. bit xs (j * r.lanes + t)) items ∙ get_or-same (count * size) (j * r.lanes + t) false));
 }
 
 -- a column's number is made anew, and the others' marks are as they were
@@ -149,67 +133,38 @@ marks_set a d columns j n old within lanes long same count = record {
           ∙ marked-same (λ t. bit a.items (i * a.lanes + t)) (λ t. bit d.items (i * a.lanes + t)) a.lanes (λ t below. sym (same i t other below))
     ]
 
--- marks of two sets that share none
-marked_apart : (u v w : ℕ → Bool) (n : ℕ) → ((t : ℕ) → t < n → w t ≡ (u t || v t)) → ((t : ℕ) → t < n → v t ≡ true → u t ≡ false) → marked w n ≡ marked u n + marked v n
-marked_apart u v w zero is apart = refl
-marked_apart u v w (suc n) is apart =
-    omega (arith, marked_apart u v w n (λ t h. is t (omega (arith, h))) (λ t h. apart t (omega (arith, h))), one (u n) (v n) (w n) (is n (omega arith)) (apart n (omega arith)))
-  where
-    two : (a b : Bool) → (b ≡ true → a ≡ false) → cond {A = ℕ} (a || b) 1 0 ≡ cond {A = ℕ} a 1 0 + cond {A = ℕ} b 1 0
-    two true true h = absurd (true≢false (h refl))
-    two true false h = refl
-    two false true h = refl
-    two false false h = refl
-
-    one : (a b c : Bool) → c ≡ (a || b) → (b ≡ true → a ≡ false) → cond {A = ℕ} c 1 0 ≡ cond {A = ℕ} a 1 0 + cond {A = ℕ} b 1 0
-    one a b c e h = ap (λ x. cond {A = ℕ} x 1 0) e ∙ two a b h
-
 pub marks_join : (a d : BlockBits) (columns : List ℕ) (j n : ℕ) (M : ℕ → Bool) → ArePendingMarks a columns → j < length columns → d.lanes ≡ a.lanes → length d.items ≡ length a.items
     → ((p : ℕ) → bit d.items p ≡ (bit a.items p || lane_marks a.lanes j M p)) → ((p : ℕ) → lane_marks a.lanes j M p ≡ true → bit a.items p ≡ false) → n ≡ marked M a.lanes → ArePendingMarks d (set columns j (slice_index columns j + n))
 marks_join a d columns j n M old within lanes long joined fresh count = marks_set a d columns j (slice_index columns j + n) old within lanes long same more
   where
     here : (t : ℕ) → t < a.lanes → lane_marks a.lanes j M (j * a.lanes + t) ≡ M t
     here t below =
-        let column : ((j * a.lanes + t) / a.lanes == j) ≡ true = ap (λ h. h == j) (block_at j t a.lanes below) ∙ eq-eqb j j refl in
+        let column : ((j * a.lanes + t) / a.lanes == j) ≡ true = ap (λ h. h == j) (div-mul-add j a.lanes t below) ∙ eq-eqb j j refl in
         ap (λ b. b && M ((j * a.lanes + t) % a.lanes)) column ∙ ap M (mod-mul-add j a.lanes t below)
 
     more : slice_index columns j + n ≡ marked (λ t. bit d.items (j * a.lanes + t)) a.lanes
     more =
-        let sum =
-        marked_apart (λ t. bit a.items (j * a.lanes + t)) M (λ t. bit d.items (j * a.lanes + t)) a.lanes
-        (λ t below. joined (j * a.lanes + t) ∙ ap (λ b. bit a.items (j * a.lanes + t) || b) (here t below)) (λ t below set. fresh (j * a.lanes + t) (here t below ∙ set)) in
+        let sum = marked_apart (λ t. bit a.items (j * a.lanes + t)) M (λ t. bit d.items (j * a.lanes + t)) a.lanes (λ t below. grind (arith, joined (j * a.lanes + t), fresh (j * a.lanes + t), here t below)) in
         omega (arith, old.counted j, count, sum)
-
-    plain : (b : Bool) → (b || false) ≡ b
-    plain true = refl
-    plain false = refl
 
     same : (i t : ℕ) → i ≢ j → t < a.lanes → bit d.items (i * a.lanes + t) ≡ bit a.items (i * a.lanes + t)
     same i t other below =
-        let p = i * a.lanes + t in
-        joined p ∙ ap (λ b. bit a.items p || (b && M (p % a.lanes))) (ap (λ h. h == j) (block_at i t a.lanes below) ∙ ne_eqb i j other) ∙ plain (bit a.items p)
+        let apart : ((i * a.lanes + t) / a.lanes == j) ≡ false = ap (λ h. h == j) (div-mul-add i a.lanes t below) ∙ ne_eqb i j other in
+        grind (arith, joined (i * a.lanes + t), apart)
 
 pub marks_clear : (a d : BlockBits) (columns : List ℕ) (j : ℕ) → ArePendingMarks a columns → j < length columns → d.lanes ≡ a.lanes → length d.items ≡ length a.items
     → ((p : ℕ) → bit d.items p ≡ (bit a.items p && not (p / a.lanes == j))) → ArePendingMarks d (set columns j 0)
 marks_clear a d columns j old within lanes long cleared = marks_set a d columns j 0 old within lanes long same (sym (no_marks (λ t. bit d.items (j * a.lanes + t)) a.lanes none))
   where
-    plain : (b : Bool) → (b && true) ≡ b
-    plain true = refl
-    plain false = refl
-
-    nothing : (b : Bool) → (b && false) ≡ false
-    nothing true = refl
-    nothing false = refl
-
     same : (i t : ℕ) → i ≢ j → t < a.lanes → bit d.items (i * a.lanes + t) ≡ bit a.items (i * a.lanes + t)
     same i t other below =
-        let p = i * a.lanes + t in
-        cleared p ∙ ap (λ b. bit a.items p && not b) (ap (λ h. h == j) (block_at i t a.lanes below) ∙ ne_eqb i j other) ∙ plain (bit a.items p)
+        let apart : ((i * a.lanes + t) / a.lanes == j) ≡ false = ap (λ h. h == j) (div-mul-add i a.lanes t below) ∙ ne_eqb i j other in
+        grind (arith, cleared (i * a.lanes + t), apart)
 
     none : (t : ℕ) → t < a.lanes → bit d.items (j * a.lanes + t) ≡ false
     none t below =
-        let p = j * a.lanes + t in
-        cleared p ∙ ap (λ b. bit a.items p && not b) (ap (λ h. h == j) (block_at j t a.lanes below) ∙ eq-eqb j j refl) ∙ nothing (bit a.items p)
+        let column : ((j * a.lanes + t) / a.lanes == j) ≡ true = ap (λ h. h == j) (div-mul-add j a.lanes t below) ∙ eq-eqb j j refl in
+        grind (arith, cleared (j * a.lanes + t), column)
 
 -- ---- what a search costs
 

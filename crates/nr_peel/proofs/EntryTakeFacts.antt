@@ -1,7 +1,7 @@
 -- The entries of a row of blocks, one after another: its rows fix the positions that they have alone to fix.
 use Rattle.std.proofs.Common.{◌≡◌, ℕ, zero, suc, ◌+◌, ◌*◌, ◌%◌, ◌<◌, ◌≤◌, ◌==◌, ◌&&◌, Bool, true, false, not, cond, if◌then◌else◌, List, [], length, get_or, take, refl, sym, ap, ◌∙◌, arith, length-append}
 use Rattle.std.specs.Prelude.{count_by, slice_index}
-use Rattle.std.proofs.lemmas.Bool.{and_parts, eqb-true, true≢false, false≢true}
+use Rattle.std.proofs.lemmas.Bool.{and_parts, eqb-true, true≢false, false≢true, or_parts, not-true}
 use Rattle.std.proofs.lemmas.List.{get_or-map, length-map, take_all}
 use Rattle.std.proofs.lemmas.List.Elements.{filter_passes}
 use Rattle.std.proofs.lemmas.List.Sums.{sum_by-take-le}
@@ -28,7 +28,7 @@ use Rattle.nr_peel.specs.declared.fix.Fix.{Fix}
 use Rattle.nr_peel.specs.declared.bit_parallel.lanes.Lanes.{Lanes}
 use Rattle.nr_peel.specs.declared.lifted.Lifted.{Lifted}
 use Rattle.nr_peel.proofs.TableGridFacts.{checks_sound}
-use Rattle.nr_peel.proofs.LaneStepFacts.{neither, only_at, take_fixes, take_knows, unnot}
+use Rattle.nr_peel.proofs.LaneStepFacts.{only_at, take_fixes, take_knows}
 use Rattle.nr_peel.proofs.LeftPositionFacts.{stands_at}
 use Rattle.nr_peel.proofs.LaneMarkFacts.{none_marked}
 use Rattle.nr_peel.proofs.StepPairFacts.{step_pairs-alike, step_pairs-join, step_pairs-none}
@@ -153,11 +153,11 @@ module _ (l : Lifted) (i : ℕ) (ones : List ℕ) (a : Lanes) (table : IsTable l
       only = only_at l i e ones sums K m d took so_far.fixes.lanes l.plan.sound.size_some block row_is column K_known there one
 
       unknown_before : (p : ℕ) → bit m.known.items p ≡ false → bit a.known.items p ≡ false
-      unknown_before p h = (neither (bit a.known.items p) (is_fixed_by so_far.fixes.steps p) (sym (so_far.fixes.known p) ∙ h)).0
+      unknown_before p h = (or_parts (bit a.known.items p) (is_fixed_by so_far.fixes.steps p) (sym (so_far.fixes.known p) ∙ h)).0
 
       right : (w : ℕ → Bool) → Meets c w → HasBits m.known.items m.bits.items w → (t : ℕ) → t < z → lacks z e.col (value_in set e) ones (bit m.known.items) t ≡ true → w (at t) ≡ is_set sums t
       right w meets has t below h =
-          let out : bit m.known.items (at t) ≡ false = unnot (bit m.known.items (at t)) (and_parts (is_set ones t) (not (bit m.known.items (at t))) h).1 in
+          let out : bit m.known.items (at t) ≡ false = not-true (bit m.known.items (at t)) (and_parts (is_set ones t) (not (bit m.known.items (at t))) h).1 in
           forced_bit w (bit a.bits.items) K (at t) (c.row i t) (sound.distinct i t block below) (meets i t block below) (only t below h) (lanes.blank (at t) (unknown_before (at t) out))
           (λ q k. has q (K_known q k) ∙ so_far.fixes.kept q (counted_known a q k)) ∙ sym (sums_are t below)
 

@@ -1,7 +1,7 @@
 -- The rows' counts while the columns of blocks with fresh positions are taken one after another.
-use Rattle.std.proofs.Common.{◌≡◌, ℕ, ◌+◌, ◌*◌, ◌/◌, ◌%◌, ◌<◌, ◌≤◌, ◌==◌, ◌&&◌, nat_lt, Bool, true, false, not, List, [], ◌∷◌, length, refl, sym, ap, ◌∙◌, inl, inr, arith}
+use Rattle.std.proofs.Common.{◌≡◌, ℕ, ◌+◌, ◌*◌, ◌/◌, ◌%◌, ◌<◌, ◌≤◌, ◌==◌, ◌&&◌, nat_lt, Bool, true, false, not, List, length, refl, sym, ap, ◌∙◌, inl, inr, arith}
 use Rattle.std.specs.Prelude.{All, count_by, slice_index, sum}
-use Rattle.std.proofs.lemmas.Bool.{cases_eq, cases_lt, eqb-true, eq-eqb, ne_eqb, lt-ltb, le-ltb}
+use Rattle.std.proofs.lemmas.Bool.{cases_lt, eqb-true, lt-ltb, le-ltb}
 use Rattle.std.proofs.lemmas.List.{get_or_past}
 use Rattle.std.proofs.lemmas.List.Elements.{All-filter}
 use Rattle.std.proofs.lemmas.Nat.{mod_below, div_below}
@@ -15,9 +15,10 @@ use Rattle.nr_ldpcenc.specs.Rows.{Checks, checks_of, row_at}
 use Rattle.nr_peel.specs.Lanes.{hits}
 use Rattle.nr_peel.proofs.ColumnFacts.{below_column, column_most, column_next, column_visits, from_column, hits_marks, hits_past, in_column, sums_fall}
 use Rattle.nr_peel.proofs.TableGridFacts.{table_grid}
-use Rattle.nr_peel.proofs.LaneMarkFacts.{marked_zero}
 use Rattle.nr_peel.proofs.RowPlaceFacts.{row_number}
-use Rattle.nr_peel.proofs.RowPositionFacts.{count_alike, count_no}
+use Rattle.nr_peel.proofs.RowPositionFacts.{count_alike, count_none}
+use Rattle.nr_peel.proofs.MarkedFacts.{marked_zero}
+use Rattle.std.proofs.lemmas.Bool.Decides.{nat_tests}
 
 -- The columns below one are taken: each count has fallen by the positions of F there, which aren't fresh any more.
 pub record HasFallen (c : Checks) (F : ℕ → Bool) (j : ℕ) (old now : List ℕ) (pending : List Bool) (visits : ℕ) : Type 0 where
@@ -26,50 +27,19 @@ pub record HasFallen (c : Checks) (F : ℕ → Bool) (j : ℕ) (old now : List �
   pub visited : visits + sum now ≡ sum old
   pub long : length now ≡ c.rows * c.lanes
 
-count_none : (f : ℕ → Bool) → ((p : ℕ) → f p ≡ false) → (row : List ℕ) → count_by f row ≡ 0
-count_none f none [] = refl
-count_none f none (x ∷ row) = count_no f x row (none x) ∙ count_none f none row
-
-and_false : (b : Bool) → (b && false) ≡ false
-and_false true = refl
-and_false false = refl
-
-and_true : (b : Bool) → (b && true) ≡ b
-and_true true = refl
-and_true false = refl
-
 pub fallen_none : (c : Checks) (old : List ℕ) (pending : List Bool) → length old ≡ c.rows * c.lanes → HasFallen c (bit pending) 0 old old pending 0
-fallen_none c old pending long = record {
-  falls = λ i t _ _. omega (arith, count_none (below_column c.lanes (bit pending) 0) (λ p. ap (λ b. bit pending p && b) (none (p / c.lanes)) ∙ and_false (bit pending p)) (c.row i t));
-  left = λ p. sym (ap (λ b. bit pending p && not b) (none (p / c.lanes)) ∙ and_true (bit pending p));
-  visited = omega arith;
-  long = long;
-}
-  where
-    none : (n : ℕ) → nat_lt n 0 ≡ false
-    none n = le-ltb n 0 (omega arith)
+fallen_none c old pending long =
+    let none : (p : ℕ) → nat_lt (p / c.lanes) 0 ≡ false = λ p. le-ltb (p / c.lanes) 0 (omega arith) in
+    record {
+      falls = λ i t _ _. omega (arith, count_none (below_column c.lanes (bit pending) 0) (λ p. grind (arith, none p)) (c.row i t));
+      left = λ p. grind (arith, none p);
+      visited = omega arith;
+      long = long;
+    }
 
 -- what is left past one column more
 left_bits : (a : Bool) (n j : ℕ) → ((a && not (nat_lt n j)) && not (n == j)) ≡ (a && not (nat_lt n (j + 1)))
-left_bits false n j = refl
-left_bits true n j = elim (cases_lt n j) [
-  | inl below ↦
-      let a : nat_lt n j ≡ true = lt-ltb n j below in
-      let b : nat_lt n (j + 1) ≡ true = lt-ltb n (j + 1) (omega (arith, below)) in
-      rw (a, b) refl
-  | inr past ↦
-      let a : nat_lt n j ≡ false = le-ltb n j past in
-      elim (cases_eq n j) [
-        | inl e ↦
-            let b : nat_lt n (j + 1) ≡ true = lt-ltb n (j + 1) (omega (arith, e)) in
-            let d : (n == j) ≡ true = eq-eqb n j e in
-            rw (a, b, d) refl
-        | inr ne ↦
-            let b : nat_lt n (j + 1) ≡ false = le-ltb n (j + 1) (omega (arith, past, ne)) in
-            let d : (n == j) ≡ false = ne_eqb n j ne in
-            rw (a, b, d) refl
-      ]
-]
+left_bits a n j = grind (arith, nat_tests)
 
 -- the rows of a column's entries
 pub column_inside : (t : Entries) (g : Graph) (j : ℕ) → IsTable t → All (λ e. e.row < rows_of g) (column_of (entries_in g t) j)

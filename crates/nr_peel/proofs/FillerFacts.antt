@@ -1,8 +1,8 @@
 -- The fillers of a plan as marks.
-use Rattle.std.proofs.Common.{◌≡◌, ℕ, ◌+◌, ◌*◌, ◌<◌, ◌≤◌, ◌==◌, ◌||◌, nat_le, nat_lt, Bool, true, false, List, length, map, replicate, refl, sym, ◌∙◌, inl, inr, ⊎_elim, arith}
+use Rattle.std.proofs.Common.{◌≡◌, ℕ, ◌+◌, ◌*◌, ◌<◌, ◌≤◌, ◌==◌, ◌||◌, nat_le, nat_lt, Bool, true, false, List, length, map, replicate, sym, ◌∙◌, inl, inr, arith, get_or}
 use Rattle.std.specs.List.{range_with_len}
 use Rattle.std.proofs.Math.Nat.{mul-le-mul_right}
-use Rattle.std.proofs.lemmas.Bool.{cases_lt, eq-eqb, eqb-true, or_left, or_right, lt-ltb, le-leb, leb-true, ltb-true, and_parts, and_from, or_cases, true≢false}
+use Rattle.std.proofs.lemmas.Bool.{cases_lt, lt-ltb, le-leb, and_from, true≢false}
 use Rattle.std.proofs.lemmas.List.{get_or-replicate, get_or_past, length-replicate, same_lists, get_or_default}
 use Rattle.std.proofs.lemmas.List.FromFn.{get_or-map-range_with_len, length-map-range_with_len}
 use Rattle.nr_bitvec.specs.Bit.{bit}
@@ -15,7 +15,7 @@ use Rattle.nr_ldpcenc.specs.Rows.{Checks}
 use Rattle.nr_peel.specs.Closure.{Within}
 use Rattle.nr_peel.specs.Peeling.{fillers}
 use Rattle.nr_peel.specs.declared.lifted.Lifted.{Lifted}
-use Rattle.nr_peel.proofs.ClosureFacts.{cases_below, same_truth}
+use Rattle.std.proofs.lemmas.Bool.Decides.{nat_tests}
 
 info_below : (g : Graph) → info_cols_of g ≤ cols_of g
 info_below One = omega arith
@@ -27,31 +27,19 @@ fillers_fit l =
     let fits : info_cols_of l.plan.graph * l.plan.z ≤ cols_of l.plan.graph * l.plan.z = mul-le-mul_right l.plan.z (info_below l.plan.graph) in
     omega (arith, l.plan.sound.columns, fits)
 
--- a list of zeros
-pub bit-zeros : (n p : ℕ) → bit (replicate n false) p ≡ false
-bit-zeros n p = elim (cases_lt p n) [
-  | inl below ↦ get_or-replicate n p false false below
-  | inr past ↦ get_or_past (replicate n false) p false (omega (arith, length-replicate {A = Bool} n false, past))
+-- a list of one value
+pub get_or-same : {X : Type 0} (n p : ℕ) (x : X) → get_or (replicate n x) p x ≡ x
+get_or-same {X} n p x = elim (cases_lt p n) [
+  | inl below ↦ get_or-replicate n p x x below
+  | inr past ↦ get_or_past (replicate n x) p x (omega (arith, length-replicate {A = X} n x, past))
 ]
 
 -- one filler more
 pub filler_more : (kdash n q : ℕ) → kdash ≤ n → (filler kdash n q || (n == q)) ≡ filler kdash (n + 1) q
-filler_more kdash n q le = same_truth (filler kdash n q || (n == q)) (filler kdash (n + 1) q)
-    (λ h. ⊎_elim
-    (λ f. let parts = and_parts (nat_le kdash q) (nat_lt q n) f in and_from (nat_le kdash q) (nat_lt q (n + 1)) parts.0 (lt-ltb q (n + 1) (omega (arith, ltb-true q n parts.1))))
-    (λ e. let at : n ≡ q = eqb-true n q e in and_from (nat_le kdash q) (nat_lt q (n + 1)) (le-leb kdash q (omega arith)) (lt-ltb q (n + 1) (omega arith)))
-    (or_cases (filler kdash n q) (n == q) h))
-    (λ h. let parts = and_parts (nat_le kdash q) (nat_lt q (n + 1)) h in
-    ⊎_elim (λ l. or_left (filler kdash n q) (n == q) (and_from (nat_le kdash q) (nat_lt q n) parts.0 (lt-ltb q n l)))
-    (λ e. or_right (filler kdash n q) (n == q) (eq-eqb n q (sym e)))
-    (cases_below q n (omega (arith, ltb-true q (n + 1) parts.1))))
+filler_more kdash n q le = grind (arith, nat_tests)
 
 pub filler_none : (kdash q : ℕ) → filler kdash kdash q ≡ false
-filler_none kdash q = go (filler kdash kdash q) refl
-  where
-    go : (b : Bool) → filler kdash kdash q ≡ b → filler kdash kdash q ≡ false
-    go false e = e
-    go true e = let parts = and_parts (nat_le kdash q) (nat_lt q kdash) e in absurd (omega (arith, leb-true kdash q parts.0, ltb-true q kdash parts.1))
+filler_none kdash q = grind (arith, nat_tests)
 
 pub fillers_are : (kdash k size : ℕ) (xs : List Bool) → length xs ≡ size → ((q : ℕ) → bit xs q ≡ filler kdash k q) → xs ≡ map (filler kdash k) (range_with_len 0 size)
 fillers_are kdash k size xs long each = same_lists xs (map (filler kdash k) (range_with_len 0 size)) (long ∙ sym (length-map-range_with_len (filler kdash k) 0 size))

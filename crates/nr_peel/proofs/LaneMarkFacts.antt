@@ -1,5 +1,5 @@
 -- Lanes of rows, and the positions that they mark in a block.
-use Rattle.std.proofs.Common.{◌≡◌, ℕ, zero, suc, ◌+◌, ◌-◌, ◌*◌, ◌/◌, ◌%◌, ◌^◌, ◌<◌, ◌≤◌, ◌==◌, ◌&&◌, ◌||◌, Bool, true, false, not, if◌then◌else◌, List, ◌++◌, get_or, set, replicate, refl, sym, ap, ◌∙◌, inl, inr, arith}
+use Rattle.std.proofs.Common.{◌≡◌, ℕ, ◌+◌, ◌-◌, ◌*◌, ◌/◌, ◌%◌, ◌^◌, ◌<◌, ◌≤◌, ◌==◌, ◌&&◌, ◌||◌, Bool, true, false, not, List, ◌++◌, get_or, set, replicate, refl, sym, ap, ◌∙◌, inl, inr, arith}
 use Rattle.std.specs.Int.{bit_at, w64}
 use Rattle.std.specs.Int.RustNames.{bit_or}
 use Rattle.std.proofs.lemmas.Nat.Bits.{bit_at_set_other, bit_at_set_same}
@@ -15,21 +15,8 @@ use Rattle.nr_ldpcenc.specs.Rows.{one_at, unrotate}
 use Rattle.nr_peel.specs.Lanes.{lacks, marks_of, steps_below}
 use Rattle.nr_peel.specs.declared.fix.Fix.{Fix}
 use Rattle.nr_peel.proofs.RowPlaceFacts.{mod_high, mod_low}
-use Rattle.nr_peel.proofs.StepFacts.{steps_blank}
-
--- nothing is marked where nothing is counted
-pub marked_zero : (u : ℕ → Bool) (n : ℕ) → marked u n ≡ 0 → (t : ℕ) → t < n → u t ≡ false
-marked_zero u zero none t below = absurd (omega (arith, below))
-marked_zero u (suc n) none t below = go (u n) refl (λ e. marked_zero u n e t)
-  where
-    go : (b : Bool) → u n ≡ b → (marked u n ≡ 0 → t < n → u t ≡ false) → u t ≡ false
-    go true e ih = absurd (omega (arith, none, ap {B = ℕ} (λ b. if b then 1 else 0) e))
-    go false e ih = elim (cases_lt t n) [
-      | inl h ↦ ih (omega (arith, none)) h
-      | inr h ↦
-          let last : t ≡ n = omega (arith, below, h) in
-          ap u last ∙ e
-    ]
+use Rattle.nr_peel.proofs.MarkedFacts.{marked_zero}
+use Rattle.nr_peel.proofs.StepFacts.{steps_none}
 
 -- no place is set past the end
 pub past_clear : (lane : List ℕ) (z t : ℕ) → IsClear lane z → z ≤ t → is_set lane t ≡ false
@@ -44,7 +31,7 @@ none_marked lane z clear none t = elim (cases_lt t z) [
 -- no step without a mark
 pub no_steps : (step : ℕ → Fix) (u : ℕ → Bool) (n : ℕ) (order : List Fix) → ((t : ℕ) → u t ≡ false) → order ≡ order ++ steps_below step u n
 no_steps step u n order none =
-    sym (ap (λ xs. order ++ xs) (steps_blank step u n (λ t _. none t)) ∙ append-nil order)
+    sym (ap (λ xs. order ++ xs) (steps_none step u 0 n (omega arith) (λ t _ _. none t)) ∙ append-nil order)
 
 -- a rotation of a lane has as many marks
 pub turned_count : (z p : ℕ) (u w : ℕ → Bool) → p < z → ((t : ℕ) → t < z → w t ≡ u ((t + p) % z)) → marked w z ≡ marked u z

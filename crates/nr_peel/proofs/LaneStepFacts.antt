@@ -1,7 +1,7 @@
 -- What a row of blocks fixes in the block of one entry.
 use Rattle.std.proofs.Common.{◌≡◌, ℕ, ◌+◌, ◌-◌, ◌*◌, ◌/◌, ◌%◌, ◌<◌, ◌≤◌, ◌==◌, ◌&&◌, ◌||◌, Bool, true, false, not, List, refl, sym, ap, ◌∙◌, ⊎_elim, arith}
 use Rattle.std.specs.Prelude.{count_by}
-use Rattle.std.proofs.lemmas.Bool.{and_parts, and_from, or_cases, or_left, or_right, eqb-true, eq-eqb, true≢false, false_from_ne_true}
+use Rattle.std.proofs.lemmas.Bool.{and_parts, and_from, or_cases, eqb-true, eq-eqb, true≢false, false_from_ne_true, cases_eq, not-true, or_parts}
 use Rattle.std.proofs.lemmas.Nat.{mod_below}
 use Rattle.nr_bitvec.specs.Bit.{bit}
 use Rattle.nr_lifting.specs.Rings.{is_set}
@@ -25,30 +25,17 @@ use Rattle.nr_peel.proofs.RowPlaceFacts.{place-eqb, place_fits}
 use Rattle.nr_peel.proofs.RowPositionFacts.{only_from_count}
 use Rattle.nr_peel.proofs.StepLaws.{steps_accepted, steps_fix}
 use Rattle.nr_peel.proofs.CodewordFacts.{only_fixes}
-use Rattle.std.proofs.lemmas.Bool.{cases_eq}
 
 -- ---- bits
 
-pub neither : (a b : Bool) → (a || b) ≡ false → (a ≡ false) × (b ≡ false)
-neither false b h = (refl, h)
-neither true b h = absurd (true≢false h)
+kept_bit : (b x y s d : Bool) → d ≡ (b || (x && (y && s))) → (x && y) ≡ false → d ≡ b
+kept_bit b x y s d is out = grind arith
 
-pub unnot : (b : Bool) → not b ≡ true → b ≡ false
-unnot true h = absurd (true≢false (sym h))
-unnot false h = refl
+still_within : (k f m k' f' : Bool) → k' ≡ (k || m) → f' ≡ (f || m) → (f ≡ true → k ≡ true) → f' ≡ true → k' ≡ true
+still_within k f m k' f' known pending within h = grind arith
 
-and_less : (x y s : Bool) → (x && y) ≡ false → (x && (y && s)) ≡ false
-and_less true true s h = absurd (true≢false h)
-and_less true false s h = refl
-and_less false y s h = refl
-
-pub or_none : (a b : Bool) → b ≡ false → (a || b) ≡ a
-or_none true b h = refl
-or_none false b h = h
-
-or_only : (a b : Bool) → a ≡ false → (a || b) ≡ b
-or_only true b h = absurd (true≢false h)
-or_only false b h = refl
+known_then : (k o m k' : Bool) → k' ≡ (k || m) → ((o && not k) ≡ true → m ≡ true) → o ≡ true → k' ≡ true
+known_then k o m k' known marked set = grind arith
 
 -- the only position of a row outside a set is that which stands there and is outside
 pub only_here : (K : ℕ → Bool) (row : List ℕ) (p : ℕ) → count_by (λ q. not (K q)) row ≡ 1 → stands p row ≡ true → K p ≡ false → IsOnlyMissing K row p
@@ -101,7 +88,7 @@ pub mark_missing : (z j v : ℕ) → 0 < z → (ones : List ℕ) (K : ℕ → Bo
 mark_missing z j v some ones K p h =
     let t = unrotate z v (p % z) in
     let parts = and_parts (p / z == j) (lacks z j v ones K t) h in
-    sym (ap K (place_of_mark z j v some (lacks z j v ones K) p parts.0)) ∙ unnot (K (one_at z t j v)) (and_parts (is_set ones t) (not (K (one_at z t j v))) parts.1).1
+    sym (ap K (place_of_mark z j v some (lacks z j v ones K) p parts.0)) ∙ not-true (K (one_at z t j v)) (and_parts (is_set ones t) (not (K (one_at z t j v))) parts.1).1
 
 -- a set that is within another has none of what that lacks
 pub outside : (P K : ℕ → Bool) → Within P K → (p : ℕ) → K p ≡ false → P p ≡ false
@@ -129,7 +116,7 @@ module _ (l : Lifted) (i : ℕ) (e : Entry) (ones sums : List ℕ) (K : ℕ → 
   step = rotated_step z e.row e.col (v % z)
 
   unknown_at : (t : ℕ) → u t ≡ true → bit a.known.items (at t) ≡ false
-  unknown_at t h = unnot (bit a.known.items (at t)) (and_parts (is_set ones t) (not (bit a.known.items (at t))) h).1
+  unknown_at t h = not-true (bit a.known.items (at t)) (and_parts (is_set ones t) (not (bit a.known.items (at t))) h).1
 
   missing_of : 0 < z → (p : ℕ) → marks_of z e.col v u p ≡ true → bit a.known.items p ≡ false
   missing_of some p h = mark_missing z e.col v some ones (bit a.known.items) p h
@@ -137,19 +124,15 @@ module _ (l : Lifted) (i : ℕ) (e : Entry) (ones sums : List ℕ) (K : ℕ → 
   bits_kept : 0 < z → (p : ℕ) → bit a.known.items p ≡ true → bit d.bits.items p ≡ bit a.bits.items p
   bits_kept some p known =
       let out : marks_of z e.col v u p ≡ false = false_from_ne_true (marks_of z e.col v u p) (λ h. true≢false (sym known ∙ missing_of some p h)) in
-      took.bits p ∙ or_none (bit a.bits.items p) (marks_of z e.col v (λ t. u t && is_set sums t) p) (and_less (p / z == e.col) (u (unrotate z v (p % z))) (is_set sums (unrotate z v (p % z))) out)
+      kept_bit (bit a.bits.items p) (p / z == e.col) (u (unrotate z v (p % z))) (is_set sums (unrotate z v (p % z))) (bit d.bits.items p) (took.bits p) out
 
   blank_still : (p : ℕ) → bit d.known.items p ≡ false → bit d.bits.items p ≡ false
   blank_still p h =
-      let parts = neither (bit a.known.items p) (marks_of z e.col v u p) (sym (took.known p) ∙ h) in
-      took.bits p ∙ or_none (bit a.bits.items p) (marks_of z e.col v (λ t. u t && is_set sums t) p) (and_less (p / z == e.col) (u (unrotate z v (p % z))) (is_set sums (unrotate z v (p % z))) parts.1)
-      ∙ lanes.blank p parts.0
+      let parts = or_parts (bit a.known.items p) (marks_of z e.col v u p) (sym (took.known p) ∙ h) in
+      kept_bit (bit a.bits.items p) (p / z == e.col) (u (unrotate z v (p % z))) (is_set sums (unrotate z v (p % z))) (bit d.bits.items p) (took.bits p) parts.1 ∙ lanes.blank p parts.0
 
   pending_within : Within (bit d.pending.items) (bit d.known.items)
-  pending_within p h = ⊎_elim
-      (λ f. took.known p ∙ or_left (bit a.known.items p) (marks_of z e.col v u p) (lanes.within p f))
-      (λ m. took.known p ∙ or_right (bit a.known.items p) (marks_of z e.col v u p) m)
-      (or_cases (bit a.pending.items p) (marks_of z e.col v u p) (sym (took.pending p) ∙ h))
+  pending_within p = still_within (bit a.known.items p) (bit a.pending.items p) (marks_of z e.col v u p) (bit d.known.items p) (bit d.pending.items p) (took.known p) (took.pending p) (lanes.within p)
 
   module _ (some : 0 < z) (block : i < c.rows) (row_is : e.row ≡ i) (column : (e.col + 1) * z ≤ c.size) (within : Within K (bit a.known.items))
       (there : (t : ℕ) → t < z → stands (at t) (c.row i t) ≡ true) (one : (t : ℕ) → t < z → is_set ones t ≡ true → count_by (λ p. not (K p)) (c.row i t) ≡ 1) where
@@ -172,10 +155,7 @@ module _ (l : Lifted) (i : ℕ) (e : Entry) (ones sums : List ℕ) (K : ℕ → 
         let t = unrotate z v (p % z) in
         let below : t < z = mod_below (p % z + (z - v % z)) z some in
         let parts = and_parts (p / z == e.col) (u t) h in
-        let place = place_of_mark z e.col v some u p parts.0 in
-        let zero = lanes.blank p (missing_of some p h) in
-        let sum : marks_of z e.col v (λ t. u t && is_set sums t) p ≡ is_set sums t = ap (λ b. b && (u t && is_set sums t)) parts.0 ∙ ap (λ b. b && is_set sums t) parts.1 in
-        sym (ap w place) ∙ right w meets has t below parts.1 ∙ sym (took.bits p ∙ or_only (bit a.bits.items p) (marks_of z e.col v (λ t. u t && is_set sums t) p) zero ∙ sum)
+        grind (arith, ap w (place_of_mark z e.col v some u p parts.0), right w meets has t below parts.1, took.bits p, lanes.blank p (missing_of some p h), parts.0, parts.1)
 
     -- what an entry's block fixes, with as many steps as rows marked it
     pub take_fixes : ((w : ℕ → Bool) → Meets c w → HasBits a.known.items a.bits.items w → (t : ℕ) → t < z → u t ≡ true → w (at t) ≡ is_set sums t) → (f : Fixes c K a d) × (f.steps ≡ steps_below (rotated_step z e.row e.col (v % z)) u z)
@@ -209,10 +189,4 @@ module _ (l : Lifted) (i : ℕ) (e : Entry) (ones sums : List ℕ) (K : ℕ → 
 
     -- a row that has one position outside K, and an entry of its own, knows that entry's position
     pub take_knows : (t : ℕ) → t < z → is_set ones t ≡ true → bit d.known.items (at t) ≡ true
-    take_knows t below set = go (bit a.known.items (at t)) refl
-      where
-        go : (b : Bool) → bit a.known.items (at t) ≡ b → bit d.known.items (at t) ≡ true
-        go true h = took.known (at t) ∙ or_left (bit a.known.items (at t)) (marks_of z e.col v u (at t)) h
-        go false h =
-            let lacking : u t ≡ true = and_from (is_set ones t) (not (bit a.known.items (at t))) set (ap not h) in
-            took.known (at t) ∙ or_right (bit a.known.items (at t)) (marks_of z e.col v u (at t)) (marked_at z e.col v some u t below lacking)
+    take_knows t below = known_then (bit a.known.items (at t)) (is_set ones t) (marks_of z e.col v u (at t)) (bit d.known.items (at t)) (took.known (at t)) (marked_at z e.col v some u t below)

@@ -1,5 +1,5 @@
 -- Sums of rows, by lanes.
-use Rattle.std.proofs.Common.{◌≡◌, ℕ, ◌+◌, ◌<◌, Bool, true, false, List, [], ◌∷◌, ◌++◌, length, get_or, map, take, refl, ap, ◌∙◌, arith}
+use Rattle.std.proofs.Common.{◌≡◌, ℕ, ◌+◌, ◌<◌, Bool, List, [], ◌∷◌, ◌++◌, length, get_or, map, take, ap, ◌∙◌, arith}
 use Rattle.std.proofs.lemmas.List.{get_or-map, length-map, take_more}
 use Rattle.nr_bitvec.specs.Bit.{◌⊕◌}
 use Rattle.nr_shifttable.specs.declared.entry.Entry.{Entry}
@@ -8,15 +8,8 @@ use Rattle.nr_ldpcenc.specs.Parity.{parity}
 use Rattle.nr_ldpcenc.specs.Rows.{one_at, positions}
 
 parity-push : (w : ℕ → Bool) (ps : List ℕ) (p : ℕ) → parity w (ps ++ p ∷ []) ≡ parity w ps ⊕ w p
-parity-push w [] p = none (w p)
-  where
-    none : (b : Bool) → (b ⊕ false) ≡ b
-    none true = refl
-    none false = refl
-parity-push w (q ∷ ps) p = ap (λ b. w q ⊕ b) (parity-push w ps p) ∙ regroup (w q) (parity w ps) (w p)
-  where
-    regroup : (a b c : Bool) → (a ⊕ (b ⊕ c)) ≡ ((a ⊕ b) ⊕ c)
-    regroup a b c = grind arith
+parity-push w [] p = grind arith
+parity-push w (q ∷ ps) p = grind (arith, parity-push w ps p)
 
 -- one entry more
 pub summed_more : (B : ℕ → Bool) (set z t n : ℕ) (row : List Entry) (none : Entry) → n < length row

@@ -1,7 +1,7 @@
 -- Positions that are given where what is known is in order, and what a peeler then is.
-use Rattle.std.proofs.Common.{◌≡◌, ◌≢◌, ℕ, ◌*◌, ◌<◌, ◌≤◌, ◌&&◌, ◌||◌, Bool, true, false, not, length, refl, sym, ap, ◌∙◌, arith, []}
+use Rattle.std.proofs.Common.{◌≡◌, ◌≢◌, ℕ, ◌*◌, ◌<◌, ◌≤◌, ◌||◌, Bool, true, false, length, refl, sym, ap, ◌∙◌, arith, []}
 use Rattle.std.specs.Prelude.{slice_index, vec_capacity}
-use Rattle.std.proofs.lemmas.Bool.{or_left, or_right, false≢true, true≢false}
+use Rattle.std.proofs.lemmas.Bool.{or_left, or_right, true≢false}
 use Rattle.nr_bitvec.specs.Bit.{bit}
 use Rattle.nr_lifting.specs.Rings.{marked}
 use Rattle.nr_segment.specs.CodeBlock.{numbers}
@@ -28,61 +28,24 @@ module _ (c : Checks) (H V : ℕ → Bool) (a d : Lanes) (lanes : AreLanes c a) 
   heard_known p e = h.known p ∙ or_left (bit a.known.items p) (H p) e
 
   heard_bits : (p : ℕ) → bit a.known.items p ≡ true → bit d.bits.items p ≡ bit a.bits.items p
-  heard_bits p e = h.bits p ∙ old (bit a.bits.items p) (H p) (bit a.known.items p) (V p) e
-    where
-      old : (b m k v : Bool) → k ≡ true → (b || ((m && not k) && v)) ≡ b
-      old true m k v e = refl
-      old false false k v e = refl
-      old false true true v e = refl
-      old false true false v e = absurd (false≢true e)
+  heard_bits p e = grind (arith, h.bits p)
 
   heard_taken : (p : ℕ) → H p ≡ true → bit a.known.items p ≡ false → bit d.bits.items p ≡ V p
-  heard_taken p heard out = h.bits p ∙ new (bit a.bits.items p) (H p) (bit a.known.items p) (V p) heard out (lanes.blank p out)
-    where
-      new : (b m k v : Bool) → m ≡ true → k ≡ false → b ≡ false → (b || ((m && not k) && v)) ≡ v
-      new true m k v x y z = absurd (true≢false z)
-      new false false k v x y z = absurd (false≢true x)
-      new false true true v x y z = absurd (true≢false y)
-      new false true false v x y z = refl
+  heard_taken p heard out = grind (arith, h.bits p, lanes.blank p out)
 
   heard_words : (w : ℕ → Bool) → HasBits a.known.items a.bits.items w → ((p : ℕ) → H p ≡ true → w p ≡ V p) → HasBits d.known.items d.bits.items w
-  heard_words w has are p e = go (bit a.known.items p) refl
-    where
-      go : (b : Bool) → bit a.known.items p ≡ b → w p ≡ bit d.bits.items p
-      go true k = has p k ∙ sym (heard_bits p k)
-      go false k =
-          let heard : H p ≡ true = ap (λ b. b || H p) (sym k) ∙ sym (h.known p) ∙ e in
-          are p heard ∙ sym (heard_taken p heard k)
+  heard_words w has are p e = grind (arith, has p, are p, heard_bits p, heard_taken p, h.known p)
 
   -- the counts know of the same positions
   heard_counted : (p : ℕ) → counted_in a p ≡ counted_in d p
-  heard_counted p =
-      same (bit a.known.items p) (bit a.pending.items p) (H p) (lanes.within p)
-      ∙ ap (λ b. b && not (bit a.pending.items p || (H p && not (bit a.known.items p)))) (sym (h.known p)) ∙ ap (λ b. bit d.known.items p && not b) (sym (h.pending p))
-    where
-      same : (k f m : Bool) → (f ≡ true → k ≡ true) → (k && not f) ≡ ((k || m) && not (f || (m && not k)))
-      same true true m w = refl
-      same true false true w = refl
-      same true false false w = refl
-      same false true m w = absurd (false≢true (w refl))
-      same false false true w = refl
-      same false false false w = refl
+  heard_counted p = grind (arith, lanes.within p, h.known p, h.pending p)
 
   -- what is known is reached from the positions that were given and those that are
   heard_reaches : (G F : ℕ → Bool) → ((p : ℕ) → F p ≡ (G p || H p)) → Reaches c G a → Reaches c F d
   heard_reaches G F more r = record {
     accepted = ap (λ v. all_accepted c F v.items) h.order ∙ all_accepted_within c G F a.order.items (λ p e. more p ∙ or_left (G p) (H p) e) r.accepted;
-    reached = λ p.
-        h.known p ∙ ap (λ b. b || H p) (r.reached p) ∙ regroup (G p) (is_fixed_by a.order.items p) (H p)
-        ∙ ap (λ b. b || is_fixed_by a.order.items p) (sym (more p)) ∙ ap (λ v. F p || is_fixed_by v.items p) (sym h.order);
+    reached = λ p. grind (arith, h.known p, r.reached p, more p, ap (λ v. is_fixed_by v.items p) h.order);
   }
-    where
-      regroup : (g s m : Bool) → ((g || s) || m) ≡ ((g || m) || s)
-      regroup true s m = refl
-      regroup false true true = refl
-      regroup false true false = refl
-      regroup false false true = refl
-      regroup false false false = refl
 
 -- the counts are in order before they follow
 pub heard_held : (c : Checks) (H V : ℕ → Bool) (a d : Sweep) → IsHeld c a → Hears c H V a.lanes d.lanes → d.counts ≡ a.counts → d.touches ≡ a.touches → IsHeld c d

@@ -2,41 +2,33 @@
 use Rattle.std.proofs.Common.{◌≡◌, ◌≢◌, ℕ, ◌+◌, ◌<◌, ◌≤◌, ◌==◌, nat_lt, Bool, true, false, not, cond, List, [], ◌∷◌, ◌++◌, length, get_or, refl, sym, ap, ◌∙◌, ⊎_elim, arith}
 use Rattle.std.specs.Prelude.{zero, suc, count_by, slice_index}
 use Rattle.std.specs.List.{filter, range_with_len}
-use Rattle.std.proofs.lemmas.Bool.{cases_lt, eq-eqb, eqb-true, or_left, or_right, or_cases, lt-ltb, true≢false, false≢true, false_from_ne_true}
+use Rattle.std.proofs.lemmas.Bool.{cases_lt, eq-eqb, eqb-true, or_left, or_right, or_cases, lt-ltb, true≢false, false≢true, not-true}
 use Rattle.std.proofs.lemmas.List.{map-id}
 use Rattle.std.proofs.lemmas.List.Elements.{filter-append}
 use Rattle.std.proofs.lemmas.List.FromFn.{map-range_with_len_more}
 use Rattle.nr_bitvec.specs.Bit.{bit}
-use Rattle.nr_peel.specs.Closure.{AreSound, IsStopping, closure, stands}
+use Rattle.nr_peel.specs.Closure.{AreSound, closure, stands}
 use Rattle.nr_peel.specs.Certificates.{IsFixOrder, IsStoppingSet}
 use Rattle.nr_peel.specs.Peeling.{IsPeeled, Peeling, checks_for, left_of, unknown_in}
 use Rattle.nr_peel.proofs.FixOrderFacts.{after_accepted}
-use Rattle.nr_peel.proofs.RowPositionFacts.{count_by-cons, count_more, count_yes}
+use Rattle.nr_peel.proofs.RowPositionFacts.{count_by-cons, count_more, count_yes, count_where}
 use Rattle.nr_peel.proofs.CodewordFacts.{left_over_stops, stopping_stays_out}
+use Rattle.nr_lifting.specs.Rings.{marked}
+use Rattle.nr_peel.proofs.MarkedFacts.{marked_full, no_marks}
+use Rattle.nr_ldpcenc.specs.Rows.{Checks}
+use Rattle.nr_peel.proofs.ClosureFacts.{same_truth}
 
 pub left_more : (n : ℕ) (known : List Bool) → n < length known → left_of (suc n) known ≡ left_of n known + cond (not (get_or known n false)) 1 0
-left_more n known lt = ap (λ m. left_of m known) (next n) ∙ count_more (λ (b : Bool). not b) known n false lt
-  where
-    next : (n : ℕ) → suc n ≡ n + 1
-    next n = omega arith
+left_more n known lt = let next : suc n ≡ n + 1 = omega arith in ap (λ m. left_of m known) next ∙ count_more (λ (b : Bool). not b) known n false lt
+
+-- what is left and what is known are all
+pub left_and_known : (n : ℕ) (known : List Bool) → n ≤ length known → left_of n known + marked (bit known) n ≡ n
+left_and_known zero known le = refl
+left_and_known (suc n) known le = grind (arith, left_more n known (omega (arith, le)), left_and_known n known (omega (arith, le)))
 
 -- where none of the first positions is left, each is known
 pub none_left : (n : ℕ) (known : List Bool) → n ≤ length known → left_of n known ≡ 0 → (p : ℕ) → p < n → bit known p ≡ true
-none_left zero known le h p lt = absurd (omega arith)
-none_left (suc n) known le h p lt = ⊎_elim
-    (λ l. none_left n known (omega arith) (omega (arith, more)) p l)
-    (λ (ge : n ≤ p). let at : p ≡ n = omega arith in ap (bit known) at ∙ last (bit known n) refl)
-    (cases_lt p n)
-  where
-    more : left_of (suc n) known ≡ left_of n known + cond (not (get_or known n false)) 1 0
-    more = left_more n known (omega arith)
-
-    last : (b : Bool) → bit known n ≡ b → bit known n ≡ true
-    last true e = e
-    last false e = absurd (omega (arith, more, one e, h))
-      where
-        one : bit known n ≡ false → ◌≡◌ {A = ℕ} (cond (not (get_or known n false)) 1 0) 1
-        one e = ap (λ b. cond (not b) 1 0) e
+none_left n known le h = marked_full (bit known) n (omega (arith, left_and_known n known le, h))
 
 -- where some are left, one is
 pub record IsLeft (n : ℕ) (known : List Bool) : Type 0 where
@@ -46,24 +38,17 @@ pub record IsLeft (n : ℕ) (known : List Bool) : Type 0 where
 
 pub some_left : (n : ℕ) (known : List Bool) → n ≤ length known → left_of n known ≢ 0 → IsLeft n known
 some_left zero known le h = absurd (h refl)
-some_left (suc n) known le h = go (bit known n) refl (some_left n known (omega arith))
+some_left (suc n) known le h = go (bit known n) refl (some_left n known (omega (arith, le)))
   where
     go : (b : Bool) → bit known n ≡ b → (left_of n known ≢ 0 → IsLeft n known) → IsLeft (suc n) known
     go false e ih = record { pos = n; below = omega arith; missing = e }
     go true e ih =
-        let r = ih (λ z. h (left_more n known (omega arith) ∙ omega (arith, none e, z))) in
+        let r = ih (λ z. h (left_more n known (omega (arith, le)) ∙ grind arith)) in
         record { pos = r.pos; below = omega (arith, r.below); missing = r.missing }
-      where
-        none : bit known n ≡ true → ◌≡◌ {A = ℕ} (cond (not (get_or known n false)) 1 0) 0
-        none e = ap (λ b. cond (not b) 1 0) e
 
 -- where none of the first positions is known, all of them are left
 pub all_left : (n : ℕ) (known : List Bool) → n ≤ length known → ((p : ℕ) → p < n → bit known p ≡ false) → left_of n known ≡ n
-all_left zero known le out = refl
-all_left (suc n) known le out = omega (arith, left_more n known (omega arith), one (out n (omega arith)), all_left n known (omega arith) (λ p lt. out p (omega arith)))
-  where
-    one : bit known n ≡ false → ◌≡◌ {A = ℕ} (cond (not (get_or known n false)) 1 0) 1
-    one e = ap (λ b. cond (not b) 1 0) e
+all_left n known le out = omega (arith, left_and_known n known le, no_marks (bit known) n out)
 
 pub whole_order : (s : Peeling) → IsPeeled s → s.numbers.kdash ≤ length s.known → left_of s.numbers.kdash s.known ≡ 0 → IsFixOrder (checks_for s) s.numbers.kdash (bit s.given) s.order
 whole_order s h le none = record {
@@ -138,6 +123,11 @@ place_of (x ∷ xs) q h = ⊎_elim
     (λ r. let w = place_of xs q r in record { index = suc w.index; below = omega (arith, w.below); is = w.is })
     (or_cases (x == q) (stands q xs) h)
 
+-- a stopping set's members are not in the closure
+pub stops_out : (c : Checks) (S : ℕ → Bool) (kdash : ℕ) (set : List ℕ) (p : ℕ) → AreSound c → IsStoppingSet c kdash S set → stands p set ≡ true → closure c S p ≡ false
+stops_out c S kdash set p sound stop member = stopping_stays_out c S (λ q. stands q set) p sound
+    (record { beside = λ q m. (let w = place_of set q m in ap S (sym w.is) ∙ stop.is_beside.beside w.index w.below); never_one = stop.never_one }) member
+
 counted_low : (xs : List ℕ) (p k : ℕ) → stands p xs ≡ true → p < k → 0 < count_by (λ q. nat_lt q k) xs
 counted_low [] p k h lt = absurd (false≢true h)
 counted_low (x ∷ xs) p k h lt = ⊎_elim
@@ -150,30 +140,16 @@ module _ (s : Peeling) (h : IsPeeled s) (sound : AreSound (checks_for s)) where
   out p = not (bit s.known p)
 
   pub unknown_member : (p : ℕ) → stands p (unknown_in s.known) ≡ true → (p < length s.known) × (bit s.known p ≡ false)
-  unknown_member p m = let r = kept_stands out 0 (length s.known) p m in (omega (arith, r.1), unnot (bit s.known p) r.2)
-    where
-      unnot : (b : Bool) → not b ≡ true → b ≡ false
-      unnot true e = absurd (false≢true e)
-      unnot false e = refl
+  unknown_member p m = let r = kept_stands out 0 (length s.known) p m in (omega (arith, r.1), not-true (bit s.known p) r.2)
 
   pub unknown_stands : (p : ℕ) → p < length s.known → bit s.known p ≡ false → stands p (unknown_in s.known) ≡ true
   unknown_stands p lt e = stands_kept out 0 (length s.known) p (omega arith) (omega arith) (ap not e)
 
-  -- a position of a row is a member where it is not in the closure
-  same_member : (i t : ℕ) → i < (checks_for s).rows → t < (checks_for s).lanes → (row : List ℕ) → ((p : ℕ) → stands p row ≡ true → p < (checks_for s).size)
-      → count_by (λ p. stands p (unknown_in s.known)) row ≡ count_by (λ p. not (closure (checks_for s) (bit s.given) p)) row
-  same_member i t li lt [] inside = refl
-  same_member i t li lt (x ∷ row) inside =
-      count_by-cons (λ p. stands p (unknown_in s.known)) x row
-      ∙ both (stands x (unknown_in s.known)) (not (closure (checks_for s) (bit s.given) x)) _ _ (alike (bit s.known x) refl) (same_member i t li lt row (λ p m. inside p (or_right (x == p) (stands p row) m)))
-      ∙ sym (count_by-cons (λ p. not (closure (checks_for s) (bit s.given) p)) x row)
-    where
-      both : (a b : Bool) (m n : ℕ) → a ≡ b → m ≡ n → cond a 1 0 + m ≡ cond b 1 0 + n
-      both a b m n e f = cc
-
-      alike : (b : Bool) → bit s.known x ≡ b → stands x (unknown_in s.known) ≡ not (closure (checks_for s) (bit s.given) x)
-      alike false e = unknown_stands x (omega (arith, inside x (or_left (x == x) (stands x row) (eq-eqb x x refl)), h.known_long)) e ∙ sym (ap not (sym (h.closed x) ∙ e))
-      alike true e = false_from_ne_true (stands x (unknown_in s.known)) (λ m. true≢false (sym e ∙ (unknown_member x m).1)) ∙ sym (ap not (sym (h.closed x) ∙ e))
+  -- a position is a member where it is not in the closure
+  same_member : (p : ℕ) → p < length s.known → stands p (unknown_in s.known) ≡ not (closure (checks_for s) (bit s.given) p)
+  same_member p below = same_truth (stands p (unknown_in s.known)) (not (closure (checks_for s) (bit s.given) p))
+      (λ m. ap not (sym (h.closed p) ∙ (unknown_member p m).1))
+      (λ e. unknown_stands p below (h.closed p ∙ not-true (closure (checks_for s) (bit s.given) p) e))
 
   pub stuck_stops : s.numbers.kdash ≤ length s.known → left_of s.numbers.kdash s.known ≢ 0 → IsStoppingSet (checks_for s) s.numbers.kdash (bit s.given) (unknown_in s.known)
   stuck_stops le some =
@@ -187,7 +163,7 @@ module _ (s : Peeling) (h : IsPeeled s) (sound : AreSound (checks_for s)) where
           beside = λ i lt. let p = slice_index (unknown_in s.known) i in stop.beside p (ap not (sym (h.closed p) ∙ (unknown_member p (stands_at (unknown_in s.known) i lt)).1));
         };
         low = counted_low (unknown_in s.known) l.pos s.numbers.kdash (unknown_stands l.pos (omega (arith, l.below)) l.missing) l.below;
-        never_one = λ i t li lt one. stop.never_one i t li lt (sym (same_member i t li lt (c.row i t) (λ p m. sound.in_range i t p li lt m)) ∙ one);
+        never_one = λ i t li lt one. stop.never_one i t li lt (sym (count_where (λ p. stands p (unknown_in s.known)) (λ p. not (closure c (bit s.given) p)) (c.row i t) (λ p m. same_member p (omega (arith, sound.in_range i t p li lt m, h.known_long)))) ∙ one);
       }
 
   -- every stopping set's members are among them
@@ -195,8 +171,7 @@ module _ (s : Peeling) (h : IsPeeled s) (sound : AreSound (checks_for s)) where
   stuck_has kdash set p stop member =
       let c = checks_for s in
       let r = place_of set p member in
-      let as_set : IsStopping c (bit s.given) (λ q. stands q set) = record { beside = λ q m. (let w = place_of set q m in ap (bit s.given) (sym w.is) ∙ stop.is_beside.beside w.index w.below); never_one = stop.never_one } in
-      let missing = stopping_stays_out c (bit s.given) (λ q. stands q set) p sound as_set member in
+      let missing = stops_out c (bit s.given) kdash set p sound stop member in
       unknown_stands p (omega (arith, r.is, stop.is_beside.in_range r.index r.below, h.known_long)) (h.closed p ∙ missing)
 
 -- one number more

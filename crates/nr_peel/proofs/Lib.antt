@@ -1,3 +1,4 @@
+mod MarkedFacts
 mod RowPositionFacts
 mod ClosureFacts
 mod CodewordFacts

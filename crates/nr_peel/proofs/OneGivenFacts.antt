@@ -1,5 +1,5 @@
 -- One position that is given.
-use Rattle.std.proofs.Common.{◌≡◌, ℕ, ◌+◌, ◌*◌, ◌/◌, ◌%◌, ◌<◌, ◌==◌, ◌&&◌, ◌||◌, Bool, true, false, not, List, length, refl, sym, ap, ◌∙◌, arith}
+use Rattle.std.proofs.Common.{◌≡◌, ℕ, ◌+◌, ◌*◌, ◌/◌, ◌%◌, ◌<◌, ◌==◌, ◌&&◌, ◌||◌, Bool, true, false, List, sym, ap, ◌∙◌, arith}
 use Rattle.std.proofs.lemmas.Bool.{and_from, and_parts, eqb-true, eq-eqb, ne_eqb}
 use Rattle.std.proofs.lemmas.Nat.{mod_below}
 use Rattle.nr_bitvec.specs.Bit.{bit}
@@ -7,12 +7,12 @@ use Rattle.nr_bitvec.specs.Packed.{IsClear, place}
 use Rattle.nr_lifting.specs.Rings.{is_set, lane_marks}
 use Rattle.nr_lifting.proofs.LaneViewFacts.{place-lt}
 use Rattle.nr_ldpcenc.specs.Rows.{Checks}
-use Rattle.nr_peel.specs.Hearing.{Hears, news}
+use Rattle.nr_peel.specs.Hearing.{Hears}
 use Rattle.nr_peel.specs.Sweeps.{AreLanes}
 use Rattle.nr_peel.specs.declared.bit_parallel.lanes.Lanes.{Lanes}
 use Rattle.nr_peel.proofs.ClosureFacts.{same_truth}
 use Rattle.nr_peel.proofs.RowPlaceFacts.{row_number}
-use Rattle.nr_peel.proofs.GivenLaneFacts.{digit_is, told_lanes}
+use Rattle.nr_peel.proofs.GivenLaneFacts.{digit_is, told_lanes, AreAlike}
 
 -- the lane of its row marks the position alone
 pub one_marks : (z pos p : ℕ) (lane : List ℕ) → ((t : ℕ) → is_set lane t ≡ (pos % z == t)) → lane_marks z (pos / z) (is_set lane) p ≡ (pos == p)
@@ -37,20 +37,14 @@ one_clear z pos lane some is t past = digit_is (place lane t) false (place-lt la
 module _ (c : Checks) (pos : ℕ) (value : Bool) (old : Lanes) (lanes : AreLanes c old) where
   -- a position that wasn't known
   pub one_told : (now : Lanes) → bit old.known.items pos ≡ false → ((p : ℕ) → bit now.known.items p ≡ (bit old.known.items p || (pos == p))) → ((p : ℕ) → bit now.pending.items p ≡ (bit old.pending.items p || (pos == p)))
-      → ((p : ℕ) → bit now.bits.items p ≡ (bit old.bits.items p || ((pos == p) && value))) → now.order ≡ old.order → length now.known.items ≡ length old.known.items → length now.bits.items ≡ length old.bits.items
-      → length now.pending.items ≡ length old.pending.items → now.known.lanes ≡ old.known.lanes → now.bits.lanes ≡ old.bits.lanes → now.pending.lanes ≡ old.pending.lanes → Hears c (λ p. pos == p) (λ p. value) old now
-  one_told now out known pending bits order known_long bits_long pending_long known_lanes bits_lanes pending_lanes = record {
+      → ((p : ℕ) → bit now.bits.items p ≡ (bit old.bits.items p || ((pos == p) && value))) → now.order ≡ old.order → AreAlike old now → Hears c (λ p. pos == p) (λ p. value) old now
+  one_told now out known pending bits order alike = record {
     known = known;
-    pending = λ p. pending p ∙ ap (λ b. bit old.pending.items p || b) (new p);
-    bits = λ p. bits p ∙ ap (λ b. bit old.bits.items p || (b && value)) (new p);
+    pending = λ p. grind (arith, pending p, new p);
+    bits = λ p. grind (arith, bits p, new p);
     order = order;
-    lanes = told_lanes c (λ p. pos == p) (λ p. value) old now lanes known pending bits known_long bits_long pending_long known_lanes bits_lanes pending_lanes;
+    lanes = told_lanes c (λ p. pos == p) (λ p. value) old now lanes known pending bits alike;
   }
     where
-      new : (p : ℕ) → (pos == p) ≡ news (λ q. pos == q) old p
-      new p = alone (pos == p) (bit old.known.items p) (λ e. ap (bit old.known.items) (sym (eqb-true pos p e)) ∙ out)
-        where
-          alone : (m k : Bool) → (m ≡ true → k ≡ false) → m ≡ (m && not k)
-          alone false k h = refl
-          alone true true h = h refl
-          alone true false h = refl
+      new : (p : ℕ) → (pos == p) ≡ true → bit old.known.items p ≡ false
+      new p e = ap (bit old.known.items) (sym (eqb-true pos p e)) ∙ out

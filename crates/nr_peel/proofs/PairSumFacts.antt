@@ -1,11 +1,11 @@
 -- Sums of rows' numbers of positions.
-use Rattle.std.proofs.Common.{◌≡◌, ℕ, ◌+◌, ◌*◌, ◌%◌, ◌<◌, ◌≤◌, ◌==◌, Bool, true, false, cond, List, length, refl, ap, ◌∙◌, arith}
+use Rattle.std.proofs.Common.{◌≡◌, ℕ, ◌+◌, ◌*◌, ◌%◌, ◌<◌, ◌≤◌, ◌==◌, cond, List, length, refl, ap, ◌∙◌, arith}
 use Rattle.std.specs.Prelude.{zero, suc, slice_index}
-use Rattle.std.proofs.lemmas.Bool.{eqb-true, eq-eqb}
 use Rattle.std.proofs.lemmas.Nat.{div-mul-add, mod-mul-add}
 use Rattle.nr_ldpcenc.specs.Rows.{Checks}
 use Rattle.nr_peel.specs.Touches.{sum_below}
 use Rattle.nr_peel.specs.TouchesInside.{all_pairs, row_length, spent_pairs}
+use Rattle.std.proofs.lemmas.Bool.Decides.{nat_tests}
 
 pub sum_below-le : (f g : ℕ → ℕ) (n : ℕ) → ((k : ℕ) → k < n → f k ≤ g k) → sum_below f n ≤ sum_below g n
 sum_below-le f g zero h = omega arith
@@ -22,24 +22,13 @@ sum_below-plus f g h (suc n) e = omega (arith, sum_below-plus f g h n (λ k lt. 
 pub degree_at : (c : Checks) (i t : ℕ) → t < c.lanes → row_length c (i * c.lanes + t) ≡ length (c.row i t)
 degree_at c i t lt = ap (λ r. length (c.row r ((i * c.lanes + t) % c.lanes))) (div-mul-add i c.lanes t lt) ∙ ap (λ l. length (c.row i l)) (mod-mul-add i c.lanes t lt)
 
-cond_le : (b : Bool) (d : ℕ) → cond b d 0 ≤ d
-cond_le true d = omega arith
-cond_le false d = omega arith
-
 pub spent_le : (c : Checks) (counts : List ℕ) → spent_pairs c counts ≤ all_pairs c
 unfolding spent_pairs all_pairs
-spent_le c counts = sum_below-le (λ k. cond (slice_index counts k == 0) (row_length c k) 0) (row_length c) (c.rows * c.lanes) (λ k lt. cond_le (slice_index counts k == 0) (row_length c k))
+spent_le c counts = sum_below-le (λ k. cond (slice_index counts k == 0) (row_length c k) 0) (row_length c) (c.rows * c.lanes) (λ k lt. grind arith)
 
 -- counters that fall
 spent_term : (a b d : ℕ) → b ≤ a → cond (a == 0) d 0 ≤ cond (b == 0) d 0
-spent_term a b d le = go (a == 0) refl
-  where
-    go : (t : Bool) → (a == 0) ≡ t → cond t d 0 ≤ cond (b == 0) d 0
-    go false e = omega arith
-    go true e =
-        let none : b ≡ 0 = omega (arith, eqb-true a 0 e) in
-        let same : cond (b == 0) d 0 ≡ d = ap (λ t. cond t d 0) (eq-eqb b 0 none) in
-        omega (arith, same)
+spent_term a b d le = grind (arith, nat_tests)
 
 pub spent_more : (c : Checks) (old new : List ℕ) → ((k : ℕ) → slice_index new k ≤ slice_index old k) → spent_pairs c old ≤ spent_pairs c new
 unfolding spent_pairs

@@ -1,8 +1,8 @@
 -- Peeling by rounds: what a tally counts, what a round marks, and where rounds end.
-use Rattle.std.proofs.Common.{◌≡◌, ℕ, ◌+◌, ◌*◌, ◌<◌, ◌≤◌, ◌==◌, ◌||◌, ◌&&◌, nat_lt, Bool, true, false, not, cond, List, [], ◌∷◌, length, get_or, set, take, refl, sym, ap, ◌∙◌, subst, ⊎_elim, arith}
+use Rattle.std.proofs.Common.{◌≡◌, ℕ, ◌+◌, ◌*◌, ◌<◌, ◌≤◌, ◌==◌, ◌||◌, ◌&&◌, nat_lt, Bool, true, false, not, cond, List, length, get_or, set, take, refl, sym, ap, ◌∙◌, subst, ⊎_elim, arith}
 use Rattle.std.specs.Prelude.{zero, suc, All, count_by}
 use Rattle.std.specs.List.{list_all}
-use Rattle.std.proofs.lemmas.Bool.{and_parts, and_from, or_left, or_right, true≢false, eqb-true, eq-eqb, lt-ltb, cases_eq}
+use Rattle.std.proofs.lemmas.Bool.{and_parts, and_from, or_left, or_right, true≢false, eqb-true, eq-eqb, cases_eq}
 use Rattle.std.proofs.lemmas.List.Folds.{list_any_more}
 use Rattle.nr_bitvec.specs.Bit.{bit}
 use Rattle.nr_ldpcenc.specs.Rows.{Checks}
@@ -15,12 +15,15 @@ use Rattle.nr_peel.specs.Rounds.{CountsMarks, counts_one, is_counted_once, lacks
 use Rattle.nr_peel.specs.StateInside.{lifted_checks}
 use Rattle.nr_peel.specs.declared.lifted.Lifted.{Lifted}
 use Rattle.nr_peel.specs.declared.rounds.Tally.{Tally}
-use Rattle.nr_peel.proofs.ClosureFacts.{any_below_passes, closure_closed, passes_any_below, round_adds, round_keeps, round_within, same_truth, size_below, size_grows}
+use Rattle.nr_peel.proofs.ClosureFacts.{any_below_passes, closure_closed, passes_any_below, round_adds, round_keeps, round_within, same_truth}
 use Rattle.nr_peel.proofs.TableGridFacts.{checks_sound}
 use Rattle.nr_peel.proofs.NothingHeardFacts.{other_in}
-use Rattle.nr_peel.proofs.RowPositionFacts.{count_by-cons, fixed_counted, only_from_count}
+use Rattle.nr_peel.proofs.RowPositionFacts.{fixed_counted, only_from_count, count_where}
 use Rattle.nr_peel.proofs.TieFacts.{bit-mark, row_columns}
 use Rattle.nr_peel.proofs.CodewordFacts.{done_is_closure, only_fixes, stands_once}
+use Rattle.nr_lifting.specs.Rings.{marked}
+use Rattle.nr_peel.proofs.MarkedFacts.{marked_grows}
+use Rattle.std.proofs.lemmas.Bool.Decides.{nat_tests}
 
 -- a test of the numbers below n, and one number more
 pub any_below-same : (f g : ℕ → Bool) (n : ℕ) → ((k : ℕ) → k < n → f k ≡ g k) → any_below f n ≡ any_below g n
@@ -48,53 +51,20 @@ any_more_no f n h = any_below-more f n ∙ or_false (any_below f n) (f n) h
 
 -- one position more: whether any is counted, and whether several are
 pub tally_ones : (u a : Bool) (m : ℕ) → a ≡ nat_lt 0 m → (a || u) ≡ nat_lt 0 (m + cond u 1 0)
-tally_ones true a m e = or_right a true refl ∙ sym (lt-ltb 0 (m + 1) (omega arith))
-tally_ones false a m e = or_false a false refl ∙ e ∙ ap (nat_lt 0) (same m)
-  where
-    same : (m : ℕ) → m ≡ m + 0
-    same m = omega arith
+tally_ones u a m e = grind (arith, nat_tests)
 
 pub tally_more : (u a d : Bool) (m : ℕ) → a ≡ nat_lt 0 m → d ≡ nat_lt 1 m → (d || (a && u)) ≡ nat_lt 1 (m + cond u 1 0)
-tally_more true a d zero e f = ap (λ x. x || (a && true)) f ∙ ap (λ x. x && true) e
-tally_more true a d (suc m) e f =
-    or_right d (a && true) (and_from a true (e ∙ lt-ltb 0 (suc m) (omega arith)) refl) ∙ sym (lt-ltb 1 (suc m + 1) (omega arith))
-tally_more false a d m e f = or_false d (a && false) (none a) ∙ f ∙ ap (nat_lt 1) (same m)
-  where
-    none : (a : Bool) → (a && false) ≡ false
-    none true = refl
-    none false = refl
-
-    same : (m : ℕ) → m ≡ m + 0
-    same m = omega arith
+tally_more u a d m e f = grind (arith, nat_tests)
 
 -- one position more of a row that is marked
 pub marked_more : (old marks : List Bool) (ps : List ℕ) (n q : ℕ) → n < length ps → get_or ps n 0 ≡ q → q < length marks
     → ((p : ℕ) → bit marks p ≡ (bit old p || stands p (take n ps))) → (p : ℕ) → bit (set marks q true) p ≡ (bit old p || stands p (take (n + 1) ps))
 marked_more old marks ps n q lt is inside so p =
-    bit-mark marks q inside p
-    ∙ ap (λ b. b || (q == p)) (so p)
-    ∙ regroup (bit old p) (stands p (take n ps)) (q == p)
-    ∙ ap (λ b. bit old p || b) (sym (list_any_more (λ r. r == p) ps n 0 lt ∙ ap (λ r. stands p (take n ps) || (r == p)) is))
-  where
-    regroup : (a b d : Bool) → ((a || b) || d) ≡ (a || (b || d))
-    regroup true b d = refl
-    regroup false b d = refl
+    grind (arith, bit-mark marks q inside p, so p, list_any_more (λ r. r == p) ps n 0 lt, is)
 
 -- marks that were added to twice
 pub added_twice : (a b d m k : Bool) → m ≡ (a || b) → k ≡ (m || d) → k ≡ (a || (b || d))
-added_twice true b d m k e f = f ∙ ap (λ x. x || d) e
-added_twice false b d m k e f = f ∙ ap (λ x. x || d) e
-
--- tests that agree at the positions of a row count alike there
-pub count_where : (p q : ℕ → Bool) (xs : List ℕ) → ((x : ℕ) → stands x xs ≡ true → p x ≡ q x) → count_by p xs ≡ count_by q xs
-count_where p q [] h = refl
-count_where p q (x ∷ xs) h =
-    count_by-cons p x xs
-    ∙ both (p x) (q x) (count_by p xs) (count_by q xs) (h x (or_left (x == x) (stands x xs) (eq-eqb x x refl))) (count_where p q xs (λ y s. h y (or_right (x == y) (stands y xs) s)))
-    ∙ sym (count_by-cons q x xs)
-  where
-    both : (a b : Bool) (m n : ℕ) → a ≡ b → m ≡ n → cond a 1 0 + m ≡ cond b 1 0 + n
-    both a b m n e f = cc
+added_twice a b d m k e f = grind arith
 
 -- each entry of a row of blocks stands within the word
 pub row_fits : (l : Lifted) (es : List Entry) (i n : ℕ) → IsTable l.table.now → es ≡ row_of (entries_in l.plan.graph l.table.now) i → n ≡ (lifted_checks l).size → All (λ e. (e.col + 1) * l.plan.z ≤ n) es
@@ -163,7 +133,7 @@ round_marks c S p sound = by_mark (S p) refl
     by_mark false e = out_marks c S p sound e
 
 -- a round with such a row marks a new position
-pub round_grows : (c : Checks) (S T : ℕ → Bool) → AreSound c → some_lacks_one c S ≡ true → ((p : ℕ) → T p ≡ round c S p) → size_below S c.size < size_below T c.size
+pub round_grows : (c : Checks) (S T : ℕ → Bool) → AreSound c → some_lacks_one c S ≡ true → ((p : ℕ) → T p ≡ round c S p) → marked S c.size < marked T c.size
 unfolding some_lacks_one
 round_grows c S T sound some is =
     let r = any_below_passes (λ i. any_below (λ t. lacks_one S (c.row i t)) c.lanes) c.rows some in
@@ -171,7 +141,7 @@ round_grows c S T sound some is =
     let row = c.row r.number q.number in
     let only = only_from_count S row (eqb-true (count_by (λ p. not (S p)) row) 1 q.passes) in
     let inside = sound.in_range r.number q.number only.pos r.below q.below only.only.stands_there in
-    size_grows S T (λ p h. is p ∙ round_keeps c S p h) c.size only.pos inside only.only.missing
+    marked_grows S T (λ p h. is p ∙ round_keeps c S p h) c.size only.pos inside only.only.missing
     (is only.pos ∙ round_adds c S r.number q.number only.pos r.below q.below (only_fixes S row only.pos only.only))
 
 none_lacks : (c : Checks) (S : ℕ → Bool) → some_lacks_one c S ≡ false → LacksNoneOrSeveral c S

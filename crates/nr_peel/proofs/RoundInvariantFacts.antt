@@ -1,7 +1,7 @@
 -- What is kept from round to round: rows fix positions, and then the counts follow.
-use Rattle.std.proofs.Common.{◌≡◌, ◌≢◌, ℕ, ◌+◌, ◌-◌, ◌*◌, ◌/◌, ◌%◌, ◌^◌, ◌<◌, ◌≤◌, ◌||◌, ◌&&◌, Bool, true, false, not, cond, List, [], ◌∷◌, ◌++◌, length, refl, sym, ap, ◌∙◌, inl, inr, arith, length-append}
+use Rattle.std.proofs.Common.{◌≡◌, ◌≢◌, ℕ, ◌+◌, ◌-◌, ◌*◌, ◌/◌, ◌%◌, ◌^◌, ◌<◌, ◌≤◌, ◌||◌, Bool, true, false, not, cond, List, [], ◌∷◌, ◌++◌, length, refl, sym, ap, ◌∙◌, inl, inr, arith, length-append}
 use Rattle.std.specs.Prelude.{count_by, slice_index, sum, vec_capacity}
-use Rattle.std.proofs.lemmas.Bool.{and_from, and_parts, cases_lt, eq-eqb, false≢true, true≢false}
+use Rattle.std.proofs.lemmas.Bool.{and_from, and_parts, cases_lt, eq-eqb, true≢false}
 use Rattle.std.proofs.lemmas.List.{get_or_past}
 use Rattle.std.proofs.lemmas.Nat.{mod_below, div_below}
 use Rattle.nr_bitvec.specs.Bit.{bit}
@@ -17,27 +17,22 @@ use Rattle.nr_peel.specs.declared.fix.Fix.{Fix}
 use Rattle.nr_peel.specs.declared.bit_parallel.lanes.Lanes.{Lanes}
 use Rattle.nr_peel.specs.declared.bit_parallel.sweep.Sweep.{Sweep}
 use Rattle.nr_peel.proofs.ColumnFacts.{count_plus}
-use Rattle.nr_peel.proofs.LaneMarkFacts.{marked_zero}
 use Rattle.nr_peel.proofs.FixOrderFacts.{after_accepted, goes_none, goes_then}
 use Rattle.nr_peel.proofs.PairSumFacts.{spent_le, spent_more}
 use Rattle.nr_peel.proofs.RowPlaceFacts.{row_number}
 use Rattle.nr_peel.proofs.RowPositionFacts.{count_alike}
 use Rattle.nr_peel.proofs.StepPairFacts.{step_pairs-append}
 use Rattle.nr_peel.proofs.SweepStepFacts.{counted_known, counts_still, fixed_append, known_more, pairs_all}
-use Rattle.nr_peel.proofs.TallyFacts.{marked_most, none_and_one, searched_most, searched_none, spent_searched, zeros_gain, zeros_more}
+use Rattle.nr_peel.proofs.TallyFacts.{none_and_one, searched_most, searched_none, spent_searched, zeros_gain, zeros_more}
+use Rattle.nr_peel.proofs.MarkedFacts.{marked_zero}
+use Rattle.nr_lifting.proofs.LaneBitFacts.{marked-le}
 
 -- ---- the column half
 
 module _ (c : Checks) (s : Lanes) (counts : List ℕ) (within : Within (bit s.pending.items) (bit s.known.items)) (counted : CountsOf c (counted_in s) counts) where
   -- the positions of a row that the counts don't know of are the unknown ones and the fresh ones
   split : (i t : ℕ) → count_by (λ p. not (bit s.known.items p)) (c.row i t) + count_by (bit s.pending.items) (c.row i t) ≡ count_by (λ p. not (counted_in s p)) (c.row i t)
-  split i t = count_plus (λ p. not (bit s.known.items p)) (bit s.pending.items) (λ p. not (counted_in s p)) (λ p. one (bit s.known.items p) (bit s.pending.items p) (within p)) (c.row i t)
-    where
-      one : (a b : Bool) → (b ≡ true → a ≡ true) → cond (not a) 1 0 + cond b 1 0 ≡ cond (not (a && not b)) 1 0
-      one true true k = refl
-      one true false k = refl
-      one false true k = absurd (false≢true (k refl))
-      one false false k = refl
+  split i t = count_plus (λ p. not (bit s.known.items p)) (bit s.pending.items) (λ p. not (counted_in s p)) (λ p. grind (arith, within p)) (c.row i t)
 
   pub enough_pending : (i t : ℕ) → i < c.rows → t < c.lanes → count_by (bit s.pending.items) (c.row i t) ≤ slice_index counts (i * c.lanes + t)
   enough_pending i t li lt = omega (arith, split i t, counted i t li lt)
@@ -81,11 +76,7 @@ module _ (c : Checks) (b d : Sweep) (lanes : AreLanes c b.lanes) (caught : Catch
   }
 
   pub caught_counted : CountsOf c (counted_in d.lanes) d.counts.items
-  caught_counted = counts_same c (bit d.lanes.known.items) (counted_in d.lanes) d.counts.items caught.counted (λ p. all (bit d.lanes.known.items p) (bit d.lanes.pending.items p) (caught.none_pending p))
-    where
-      all : (a b : Bool) → b ≡ false → a ≡ (a && not b)
-      all true b e = sym (ap not e)
-      all false b e = refl
+  caught_counted = counts_same c (bit d.lanes.known.items) (counted_in d.lanes) d.counts.items caught.counted (λ p. grind (arith, caught.none_pending p))
 
   pub caught_keeps : Keeps c b.lanes d.lanes
   caught_keeps = record {
@@ -215,7 +206,7 @@ module _ (c : Checks) (some : 0 < c.lanes) (a b : Sweep) (h : IsHeld c a) (sough
 
     pub round_smaller : 0 < marked (has_count 1 a.counts.items) (c.rows * c.lanes)
         → c.rows * c.lanes - marked (has_count 0 d.counts.items) (c.rows * c.lanes) < c.rows * c.lanes - marked (has_count 0 a.counts.items) (c.rows * c.lanes)
-    round_smaller one = omega (arith, one, zeros_rise, marked_most (has_count 0 d.counts.items) (c.rows * c.lanes))
+    round_smaller one = omega (arith, one, zeros_rise, marked-le (has_count 0 d.counts.items) (c.rows * c.lanes))
 
   -- where no row has one unknown position
   module _ (none : marked (has_count 1 a.counts.items) (c.rows * c.lanes) ≡ 0) where

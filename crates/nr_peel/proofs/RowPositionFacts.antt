@@ -29,9 +29,20 @@ count_alike p q h (x ∷ xs) = count_by-cons p x xs ∙ both (p x) (q x) (count_
     both : (a b : Bool) (m n : ℕ) → a ≡ b → m ≡ n → cond a 1 0 + m ≡ cond b 1 0 + n
     both a b m n e f = cc
 
+-- and those that agree at the positions of a row count alike there
+pub count_where : (p q : ℕ → Bool) (xs : List ℕ) → ((x : ℕ) → stands x xs ≡ true → p x ≡ q x) → count_by p xs ≡ count_by q xs
+count_where p q [] h = refl
+count_where p q (x ∷ xs) h =
+    let here = h x (or_left (x == x) (stands x xs) (eq-eqb x x refl)) in
+    let rest = count_where p q xs (λ y s. h y (or_right (x == y) (stands y xs) s)) in
+    grind (arith, count_by-cons p x xs, count_by-cons q x xs)
+
+pub count_none : {X : Type 0} (p : X → Bool) → ((x : X) → p x ≡ false) → (xs : List X) → count_by p xs ≡ 0
+count_none p none [] = refl
+count_none p none (x ∷ xs) = count_no p x xs (none x) ∙ count_none p none xs
+
 pub not_not : (b : Bool) → not (not b) ≡ b
-not_not true = refl
-not_not false = refl
+not_not b = grind arith
 
 -- nothing passes where nothing is counted
 pub none_counted : {X : Type 0} (p : X → Bool) (xs : List X) → count_by p xs ≡ 0 → list_all (λ x. not (p x)) xs ≡ true

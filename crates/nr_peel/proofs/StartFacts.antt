@@ -1,5 +1,5 @@
 -- How many positions a code block has, and how many pairs there are of a row and a position of it.
-use Rattle.std.proofs.Common.{◌≡◌, ℕ, ◌+◌, ◌*◌, ◌/◌, ◌%◌, ◌<◌, ◌≤◌, Bool, false, not, List, [], ◌∷◌, length, refl, ◌∙◌, arith}
+use Rattle.std.proofs.Common.{◌≡◌, ℕ, ◌+◌, ◌*◌, ◌/◌, ◌%◌, ◌<◌, ◌≤◌, Bool, false, not, List, length, arith}
 use Rattle.std.specs.Prelude.{◌^◌, zero, suc, count_by}
 use Rattle.std.proofs.lemmas.List.{length-map}
 use Rattle.std.proofs.lemmas.Nat.{mul-le}
@@ -14,9 +14,9 @@ use Rattle.nr_peel.specs.StateInside.{lifted_checks}
 use Rattle.nr_peel.specs.Touches.{sum_below}
 use Rattle.nr_peel.specs.TouchesInside.{all_pairs, row_length}
 use Rattle.nr_peel.specs.declared.lifted.Lifted.{Lifted}
-use Rattle.nr_peel.proofs.RowPositionFacts.{count_no}
 use Rattle.nr_peel.proofs.CountedPairFacts.{count_both}
 use Rattle.nr_peel.proofs.TableGridFacts.{rows_short}
+use Rattle.nr_peel.proofs.RowPositionFacts.{count_none}
 
 sum_below-most : (f : ℕ → ℕ) (m n : ℕ) → ((k : ℕ) → k < n → f k ≤ m) → sum_below f n ≤ n * m
 sum_below-most f m zero h = omega arith
@@ -44,8 +44,4 @@ few_operations l table =
     omega (arith, rows_most l.plan.graph)
 
 pub count_all : (p : ℕ → Bool) (xs : List ℕ) → ((x : ℕ) → p x ≡ false) → count_by (λ x. not (p x)) xs ≡ length xs
-count_all p xs none = omega (arith, count_both p xs, no_one xs)
-  where
-    no_one : (xs : List ℕ) → count_by p xs ≡ 0
-    no_one [] = refl
-    no_one (x ∷ xs) = count_no p x xs (none x) ∙ no_one xs
+count_all p xs none = omega (arith, count_both p xs, count_none p none xs)

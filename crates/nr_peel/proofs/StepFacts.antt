@@ -14,44 +14,27 @@ use Rattle.nr_lifting.specs.Rings.{is_set, marked}
 use Rattle.nr_peel.specs.Lanes.{rotated_step, step_after, step_along, step_number, steps_below}
 use Rattle.nr_peel.specs.declared.fix.Fix.{Fix}
 use Rattle.nr_peel.proofs.RowPlaceFacts.{mod_high, mod_low}
+use Rattle.nr_peel.proofs.MarkedFacts.{marked_within}
 
 -- no step where nothing is marked
-pub steps_none : (step : ℕ → Fix) (u : ℕ → Bool) (a n : ℕ) → ((t : ℕ) → a ≤ t → t < a + n → u t ≡ false) → steps_below step u (a + n) ≡ steps_below step u a
-steps_none step u a zero none = ap (steps_below step u) (plain a)
-  where
-    plain : (a : ℕ) → a + 0 ≡ a
-    plain a = omega arith
-steps_none step u a (suc n) none =
-    ap (steps_below step u) (next a n)
-    ∙ ap (λ b. steps_below step u (a + n) ++ (if b then step (a + n) ∷ [] else [])) (none (a + n) (omega arith) (omega arith))
-    ∙ append-nil (steps_below step u (a + n)) ∙ steps_none step u a n (λ t above below. none t above (omega (arith, below)))
-  where
-    next : (a n : ℕ) → a + suc n ≡ suc (a + n)
-    next a n = omega arith
+pub steps_none : (step : ℕ → Fix) (u : ℕ → Bool) (n m : ℕ) → n ≤ m → ((t : ℕ) → n ≤ t → t < m → u t ≡ false) → steps_below step u m ≡ steps_below step u n
+steps_none step u n zero le none = let e : 0 ≡ n = omega (arith, le) in ap (steps_below step u) e
+steps_none step u n (suc m) le none = elim (cases_eq n (suc m)) [
+  | inl e ↦ ap (steps_below step u) (sym e)
+  | inr apart ↦
+      ap (λ b. steps_below step u m ++ (if b then step m ∷ [] else [])) (none m (omega (arith, le, apart)) (omega arith)) ∙ append-nil (steps_below step u m)
+      ∙ steps_none step u n m (omega (arith, le, apart)) (λ t above below. none t above (omega (arith, below)))
+]
 
-pub steps_blank : (step : ℕ → Fix) (u : ℕ → Bool) (n : ℕ) → ((t : ℕ) → t < n → u t ≡ false) → steps_below step u n ≡ []
-steps_blank step u zero none = refl
-steps_blank step u (suc n) none =
-    ap (λ b. steps_below step u n ++ (if b then step n ∷ [] else [])) (none n (omega arith)) ∙ append-nil (steps_below step u n) ∙ steps_blank step u n (λ t h. none t (omega (arith, h)))
-
--- steps that agree
-pub steps_same : (step step' : ℕ → Fix) (u v : ℕ → Bool) (n : ℕ) → ((t : ℕ) → t < n → step t ≡ step' t) → ((t : ℕ) → t < n → u t ≡ v t) → steps_below step u n ≡ steps_below step' v n
+-- steps of the same marked rows that agree there
+pub steps_same : (step step' : ℕ → Fix) (u v : ℕ → Bool) (n : ℕ) → ((t : ℕ) → t < n → u t ≡ true → step t ≡ step' t) → ((t : ℕ) → t < n → u t ≡ v t) → steps_below step u n ≡ steps_below step' v n
 steps_same step step' u v zero is same = refl
 steps_same step step' u v (suc n) is same =
     ap (λ xs. xs ++ (if u n then step n ∷ [] else [])) (steps_same step step' u v n (λ t h. is t (omega (arith, h))) (λ t h. same t (omega (arith, h))))
-    ∙ ap (λ b. steps_below step' v n ++ (if b then step n ∷ [] else [])) (same n (omega arith))
-    ∙ ap (λ s. steps_below step' v n ++ (if v n then s ∷ [] else [])) (is n (omega arith))
-
--- steps that agree at the marked rows
-pub steps_agree : (step step' : ℕ → Fix) (u : ℕ → Bool) (n : ℕ) → ((t : ℕ) → t < n → u t ≡ true → step t ≡ step' t) → steps_below step u n ≡ steps_below step' u n
-steps_agree step step' u zero is = refl
-steps_agree step step' u (suc n) is =
-    ap (λ xs. xs ++ (if u n then step n ∷ [] else [])) (steps_agree step step' u n (λ t h. is t (omega (arith, h))))
-    ∙ ap (λ xs. steps_below step' u n ++ xs) (one (u n) refl)
+    ∙ ap (λ xs. steps_below step' v n ++ xs) (one (u n) (v n) (step n) (step' n) (same n (omega arith)) (is n (omega arith)))
   where
-    one : (b : Bool) → u n ≡ b → (if b then step n ∷ [] else []) ≡ (if b then step' n ∷ [] else [])
-    one true h = ap (λ s. s ∷ []) (is n (omega arith) h)
-    one false h = refl
+    one : (a b : Bool) (s s' : Fix) → a ≡ b → (a ≡ true → s ≡ s') → (if a then s ∷ [] else []) ≡ (if b then s' ∷ [] else [])
+    one a b s s' e is = grind arith
 
 -- those of the rows from row a on come after the others
 pub steps_append : (step : ℕ → Fix) (u : ℕ → Bool) (a b : ℕ) → steps_below step u (a + b) ≡ steps_below step u a ++ steps_below (λ j. step (a + j)) (λ j. u (a + j)) b
@@ -86,12 +69,12 @@ steps_first step u v b n inside here before gone same =
     let more = n - (b + 1) in
     let split : b + 1 + more ≡ n = omega (arith, inside) in
     let after = λ (w : ℕ → Bool). steps_below (λ j. step (b + 1 + j)) (λ j. w (b + 1 + j)) more in
-    let one : steps_below step u (b + 1) ≡ step b ∷ [] = steps_next step u b here ∙ ap (λ xs. xs ++ step b ∷ []) (steps_blank step u b before) in
-    let none : steps_below step v (b + 1) ≡ [] = steps_blank step v (b + 1) (λ t h. elim (cases_eq t b) [
+    let one : steps_below step u (b + 1) ≡ step b ∷ [] = steps_next step u b here ∙ ap (λ xs. xs ++ step b ∷ []) (steps_none step u 0 b (omega arith) (λ t _. before t)) in
+    let none : steps_below step v (b + 1) ≡ [] = steps_none step v 0 (b + 1) (omega arith) (λ t _ h. elim (cases_eq t b) [
       | inl e ↦ ap v e ∙ gone
       | inr apart ↦ same t apart ∙ before t (omega (arith, h, apart))
     ]) in
-    let rest : after v ≡ after u = steps_same (λ j. step (b + 1 + j)) (λ j. step (b + 1 + j)) (λ j. v (b + 1 + j)) (λ j. u (b + 1 + j)) more (λ t h. refl) (λ t h. same (b + 1 + t) (omega arith)) in
+    let rest : after v ≡ after u = steps_same (λ j. step (b + 1 + j)) (λ j. step (b + 1 + j)) (λ j. v (b + 1 + j)) (λ j. u (b + 1 + j)) more (λ t _ _. refl) (λ t h. same (b + 1 + t) (omega arith)) in
     sym (ap (steps_below step u) split) ∙ steps_append step u (b + 1) more ∙ ap (λ xs. xs ++ after u) one
     ∙ sym (ap (λ xs. step b ∷ xs) (sym (ap (steps_below step v) split) ∙ steps_append step v (b + 1) more ∙ ap (λ xs. xs ++ after v) none ∙ rest))
 
@@ -159,16 +142,11 @@ lowest_first step rest some fits =
 
 -- no bit of zero is marked
 pub zero_steps : (step : ℕ → Fix) → steps_below step (λ j. bit_at 0 j == 1) 64 ≡ []
-zero_steps step = steps_blank step (λ j. bit_at 0 j == 1) 64 (λ t _. ap (λ n. n == 1) (bit_at-zero t))
+zero_steps step = steps_none step (λ j. bit_at 0 j == 1) 0 64 (omega arith) (λ t _ _. ap (λ n. n == 1) (bit_at-zero t))
 
--- the first rows are marked, as many as a number says
-pub run_steps : (step : ℕ → Fix) (word count : ℕ) → count ≤ 64 → ((j : ℕ) → j < count → bit_at word j ≡ 1) → ((j : ℕ) → count ≤ j → bit_at word j ≡ 0)
-    → steps_below step (λ j. bit_at word j == 1) 64 ≡ steps_below step (λ j. true) count
-run_steps step word count few ones zeros =
-    let u = λ (j : ℕ). bit_at word j == 1 in
-    let split : count + (64 - count) ≡ 64 = omega (arith, few) in
-    sym (ap (steps_below step u) split) ∙ steps_none step u count (64 - count) (λ t past _. ap (λ n. n == 1) (zeros t past))
-    ∙ steps_same step step u (λ j. true) count (λ t h. refl) (λ t h. eq-eqb (bit_at word t) 1 (ones t h))
+-- marks that are another's below n, and none from n on
+pub short_steps : (step : ℕ → Fix) (u v : ℕ → Bool) (n m : ℕ) → n ≤ m → ((j : ℕ) → j < n → u j ≡ v j) → ((j : ℕ) → n ≤ j → u j ≡ false) → steps_below step u m ≡ steps_below step v n
+short_steps step u v n m few same none = steps_none step u n m few (λ t past _. none t past) ∙ steps_same step step u v n (λ t _ _. refl) same
 
 pub few_ones : (word : ℕ) → word < 2 ^ 64 → count_ones word ≤ 64
 few_ones word fits = omega (arith, ones_marked 64 word fits, marked-le (λ j. bit_at word j == 1) 64)
@@ -180,11 +158,7 @@ module _ (step : ℕ → Fix) (word ahead : ℕ) (few : ahead ≤ 64) where
   u b = bit_at word b == 1
 
   pub low_steps : (low : ℕ) → ((j : ℕ) → j < ahead → bit_at low j ≡ bit_at word j) → ((j : ℕ) → ahead ≤ j → bit_at low j ≡ 0) → steps_below step (λ j. bit_at low j == 1) 64 ≡ steps_below step u ahead
-  low_steps low same none =
-      let v = λ (j : ℕ). bit_at low j == 1 in
-      let split : ahead + (64 - ahead) ≡ 64 = omega (arith, few) in
-      sym (ap (steps_below step v) split) ∙ steps_none step v ahead (64 - ahead) (λ t past _. ap (λ n. n == 1) (none t past))
-      ∙ steps_same step step v u ahead (λ t h. refl) (λ t h. ap (λ n. n == 1) (same t h))
+  low_steps low same none = short_steps step (λ j. bit_at low j == 1) u ahead 64 few (λ t h. ap (λ n. n == 1) (same t h)) (λ t past. ap (λ n. n == 1) (none t past))
 
   pub high_steps : word < 2 ^ 64 → steps_below step u 64 ≡ steps_below step u ahead ++ steps_below (λ j. step (ahead + j)) (λ j. bit_at (word / 2 ^ ahead) j == 1) 64
   high_steps fits =
@@ -192,11 +166,9 @@ module _ (step : ℕ → Fix) (word ahead : ℕ) (few : ahead ≤ 64) where
       let next = λ (j : ℕ). step (ahead + j) in
       let more = 64 - ahead in
       let split : ahead + more ≡ 64 = omega (arith, few) in
-      let back : more + ahead ≡ 64 = omega (arith, few) in
       let past : steps_below next v 64 ≡ steps_below next (λ j. u (ahead + j)) more =
-      sym (ap (steps_below next v) back)
-      ∙ steps_none next v more ahead (λ t out _. ap (λ n. n == 1) (bit_at_shr word ahead t ∙ bit_at_above word 64 (ahead + t) fits (omega (arith, out, few))))
-      ∙ steps_same next next v (λ j. u (ahead + j)) more (λ t h. refl) (λ t h. ap (λ n. n == 1) (bit_at_shr word ahead t)) in
+      short_steps next v (λ j. u (ahead + j)) more 64 (omega arith) (λ t _. ap (λ n. n == 1) (bit_at_shr word ahead t))
+      (λ t out. ap (λ n. n == 1) (bit_at_shr word ahead t ∙ bit_at_above word 64 (ahead + t) fits (omega (arith, out, few)))) in
       sym (ap (steps_below step u) split) ∙ steps_append step u ahead more ∙ ap (λ xs. steps_below step u ahead ++ xs) (sym past)
 
 -- rows short of the block's turn, and from it on
@@ -208,7 +180,7 @@ module _ (size row col rotation start word ahead : ℕ) where
   pub ahead_steps : (low pos : ℕ) → pos ≡ col * size + rotation + start → ahead ≤ 64 → ((b : ℕ) → b < ahead → start + b + rotation < size)
       → ((j : ℕ) → j < ahead → bit_at low j ≡ bit_at word j) → ((j : ℕ) → ahead ≤ j → bit_at low j ≡ 0)
       → steps_below (step_after row start pos) (λ j. bit_at low j == 1) 64 ≡ steps_below (λ b. rotated_step size row col rotation (start + b)) (λ b. bit_at word b == 1) ahead
-  ahead_steps low pos is few short same none = steps_agree (step_after row start pos) rotated (λ j. bit_at low j == 1) 64 agree ∙ low_steps rotated word ahead few low same none
+  ahead_steps low pos is few short same none = steps_same (step_after row start pos) rotated (λ j. bit_at low j == 1) (λ j. bit_at low j == 1) 64 agree (λ _ _. refl) ∙ low_steps rotated word ahead few low same none
     where
       agree : (b : ℕ) → b < 64 → (bit_at low b == 1) ≡ true → step_after row start pos b ≡ rotated b
       agree b _ set = elim (cases_lt b ahead) [
@@ -220,7 +192,7 @@ module _ (size row col rotation start word ahead : ℕ) where
 
   pub turned_steps : (pos : ℕ) → pos ≡ col * size + (start + ahead) - (size - rotation) → rotation < size → size ≤ start + ahead + rotation → ((b : ℕ) → bit_at word b ≡ 1 → start + b < size)
       → steps_below (step_after row (start + ahead) pos) (λ j. bit_at (word / 2 ^ ahead) j == 1) 64 ≡ steps_below (λ j. rotated_step size row col rotation (start + (ahead + j))) (λ j. bit_at (word / 2 ^ ahead) j == 1) 64
-  turned_steps pos is small past inside = steps_agree (step_after row (start + ahead) pos) (λ j. rotated (ahead + j)) (λ j. bit_at (word / 2 ^ ahead) j == 1) 64 agree
+  turned_steps pos is small past inside = steps_same (step_after row (start + ahead) pos) (λ j. rotated (ahead + j)) (λ j. bit_at (word / 2 ^ ahead) j == 1) (λ j. bit_at (word / 2 ^ ahead) j == 1) 64 agree (λ _ _. refl)
     where
       agree : (j : ℕ) → j < 64 → (bit_at (word / 2 ^ ahead) j == 1) ≡ true → step_after row (start + ahead) pos j ≡ rotated (ahead + j)
       agree j _ set =
@@ -251,26 +223,19 @@ module _ (step : ℕ → Fix) (lane : List ℕ) (size : ℕ) (clear : IsClear la
       next : (i : ℕ) → 64 * (i + 1) ≡ 64 * i + 64
       next i = omega arith
 
-  marked_more : (a b : ℕ) → a ≤ b → marked (is_set lane) a ≤ marked (is_set lane) b
-  marked_more a b le =
-      let split : a + (b - a) ≡ b = omega (arith, le) in
-      omega (arith, sym (ap (marked (is_set lane)) split) ∙ marked-append (is_set lane) a (b - a))
-
   pub lane_room : (i k word : ℕ) → word ≡ get_or lane i 0 → i < k → length lane ≤ k → length (steps_below step (is_set lane) (64 * i)) + marked (λ b. bit_at word b == 1) 64 ≤ marked (is_set lane) size
   lane_room i k word is below all =
-      omega (arith, steps_count step (is_set lane) (64 * i), word_marks i word is, marked_more (64 * (i + 1)) (64 * k) (omega (arith, below)), counted_all k size lane all clear)
+      omega (arith, steps_count step (is_set lane) (64 * i), word_marks i word is, marked_within (is_set lane) (64 * (i + 1)) (64 * k) (omega (arith, below)), counted_all k size lane all clear)
 
   pub word_steps : (i word : ℕ) → word ≡ get_or lane i 0
       → steps_below step (is_set lane) (64 * i) ++ steps_below (λ b. step (64 * i + b)) (λ b. bit_at word b == 1) 64 ≡ steps_below step (is_set lane) (64 * (i + 1))
   word_steps i word is =
       ap (λ xs. steps_below step (is_set lane) (64 * i) ++ xs)
-      (steps_same (λ b. step (64 * i + b)) (λ b. step (64 * i + b)) (λ b. bit_at word b == 1) (λ b. is_set lane (64 * i + b)) 64 (λ t h. refl) (λ b short. ap (λ n. n == 1) (word_bit i b word lane is short)))
+      (steps_same (λ b. step (64 * i + b)) (λ b. step (64 * i + b)) (λ b. bit_at word b == 1) (λ b. is_set lane (64 * i + b)) 64 (λ t _ _. refl) (λ b short. ap (λ n. n == 1) (word_bit i b word lane is short)))
       ∙ sym (steps_append step (is_set lane) (64 * i) 64) ∙ ap (steps_below step (is_set lane)) (next i)
     where
       next : (i : ℕ) → 64 * i + 64 ≡ 64 * (i + 1)
       next i = omega arith
 
   pub lane_steps : (n : ℕ) → size ≤ n → steps_below step (is_set lane) n ≡ steps_below step (is_set lane) size
-  lane_steps n le =
-      let split : size + (n - size) ≡ n = omega (arith, le) in
-      sym (ap (steps_below step (is_set lane)) split) ∙ steps_none step (is_set lane) size (n - size) (λ t past _. ap (λ m. m == 1) (clear t past))
+  lane_steps n le = short_steps step (is_set lane) (is_set lane) size n le (λ _ _. refl) (λ t past. ap (λ m. m == 1) (clear t past))

@@ -10,29 +10,25 @@ use Rattle.std.proofs.lemmas.Nat.{div-mul-add, mod-mul-add, mul-le}
 use Rattle.std.proofs.lemmas.List.{get_or-map, length-map}
 use Rattle.nr_shifttable.specs.declared.entry.Entry.{Entry}
 use Rattle.nr_ldpcenc.specs.Rows.{Checks}
-use Rattle.nr_peel.specs.Closure.{AreSound, IsStopping, closure, stands}
+use Rattle.nr_peel.specs.Closure.{AreSound, stands}
 use Rattle.nr_peel.specs.Certificates.{IsFixOrder, IsRising, IsStoppingSet}
 use Rattle.nr_peel.specs.declared.fix.Fix.{Fix}
-use Rattle.nr_peel.proofs.LeftPositionFacts.{place_of, stands_at}
+use Rattle.nr_peel.proofs.LeftPositionFacts.{place_of, stands_at, stops_out}
 use Rattle.nr_peel.proofs.FixOrderFacts.{steps_stay}
 use Rattle.nr_peel.proofs.RowPositionFacts.{count_more, count_no}
-use Rattle.nr_peel.proofs.CodewordFacts.{stopping_stays_out}
+
+never_falls : (xs : List ℕ) → IsRising xs → (i j : ℕ) → i ≤ j → j < length xs → get_or xs i 0 ≤ get_or xs j 0
+never_falls xs rising i j le lt = ⊎_elim (λ (l : i < j). omega (arith, rising i j l lt)) (λ (ge : j ≤ i). let e : i ≡ j = omega arith in omega (arith, ap (slice_index xs) e)) (cases_lt i j)
 
 -- a rising list's search finds what stands in it
 pub search_is : (xs : List ℕ) (x : ℕ) (r : Result ℕ ℕ) → IsBinarySearchResult (λ y. nat_cmp y x) xs r → IsRising xs → is_ok r ≡ stands x xs
 search_is xs x (Ok i) h rising =
-    let s = searched xs x (Ok i) h (le_from xs rising) in
+    let s = searched xs x (Ok i) h (never_falls xs rising) in
     sym (sym (ap (λ y. stands y xs) s.1) ∙ stands_at xs i s.0)
-  where
-    le_from : (xs : List ℕ) → IsRising xs → (i j : ℕ) → i ≤ j → j < length xs → get_or xs i 0 ≤ get_or xs j 0
-    le_from xs rising i j le lt = ⊎_elim (λ (l : i < j). omega (arith, rising i j l lt)) (λ (ge : j ≤ i). let e : i ≡ j = omega arith in omega (arith, ap (slice_index xs) e)) (cases_lt i j)
 search_is xs x (Err i) h rising =
-    let s = searched xs x (Err i) h (le_from xs rising) in
+    let s = searched xs x (Err i) h (never_falls xs rising) in
     sym (false_from_ne_true (stands x xs) (λ m. let w = place_of xs x m in
     ⊎_elim (λ (l : w.index < i). absurd (omega (arith, s.1 w.index l, w.is))) (λ (ge : i ≤ w.index). absurd (omega (arith, s.2 w.index ge w.below, w.is))) (cases_lt w.index i)))
-  where
-    le_from : (xs : List ℕ) → IsRising xs → (i j : ℕ) → i ≤ j → j < length xs → get_or xs i 0 ≤ get_or xs j 0
-    le_from xs rising i j le lt = ⊎_elim (λ (l : i < j). omega (arith, rising i j l lt)) (λ (ge : j ≤ i). let e : i ≡ j = omega arith in omega (arith, ap (slice_index xs) e)) (cases_lt i j)
 
 -- one position of a row more
 pub member_more : (set : List ℕ) (f : Entry → ℕ) (own es : List Entry) (i p : ℕ) (none : Entry) → es ≡ own → i < length es → p ≡ f (get_or es i none)
@@ -51,12 +47,6 @@ row_below i t rows z lt small = let le : (i + 1) * z ≤ rows * z = mul-le (i + 
 pub row_at_number : (P : ℕ → ℕ → Type 0) (rows z : ℕ) → ((j : ℕ) → j < rows * z → P (j / z) (j % z)) → (i t : ℕ) → i < rows → t < z → P i t
 row_at_number P rows z all i t lt small =
     subst (λ n. P n t) (div-mul-add i z t small) (subst (P ((i * z + t) / z)) (mod-mul-add i z t small) (all (i * z + t) (row_below i t rows z lt small)))
-
--- a stopping set's members are not in the closure
-pub stops_out : (c : Checks) (S : ℕ → Bool) (kdash : ℕ) (set : List ℕ) (p : ℕ) → AreSound c → IsStoppingSet c kdash S set → stands p set ≡ true → closure c S p ≡ false
-stops_out c S kdash set p sound stop member =
-    let as_set : IsStopping c S (λ q. stands q set) = record { beside = λ q m. (let w = place_of set q m in ap S (sym w.is) ∙ stop.is_beside.beside w.index w.below); never_one = stop.never_one } in
-    stopping_stays_out c S (λ q. stands q set) p sound as_set member
 
 -- a member below a bound, where some are counted
 pub record HasLow (xs : List ℕ) (k : ℕ) : Type 0 where

@@ -1,7 +1,7 @@
 -- Steps one after another, row of blocks by row of blocks.
-use Rattle.std.proofs.Common.{◌≡◌, ℕ, zero, suc, ◌+◌, ◌-◌, ◌*◌, ◌<◌, ◌≤◌, ◌==◌, nat_lt, ◌&&◌, ◌||◌, Bool, true, false, not, cond, if◌then◌else◌, List, [], ◌∷◌, ◌++◌, length, refl, sym, ap, ◌∙◌, ⊎_elim, inl, inr, arith, append_assoc, length-append}
+use Rattle.std.proofs.Common.{◌≡◌, ℕ, zero, suc, ◌+◌, ◌-◌, ◌*◌, ◌<◌, ◌≤◌, ◌==◌, nat_lt, ◌||◌, Bool, true, not, if◌then◌else◌, List, [], ◌∷◌, ◌++◌, length, refl, sym, ap, ◌∙◌, ⊎_elim, arith, append_assoc, length-append}
 use Rattle.std.specs.Prelude.{count_by, vec_capacity}
-use Rattle.std.proofs.lemmas.Bool.{and_parts, and_from, cases_lt, or_cases, or_left, eq-eqb, le-ltb, lt-ltb, ltb-true, ne_eqb, true≢false, false≢true}
+use Rattle.std.proofs.lemmas.Bool.{and_parts, and_from, or_cases, or_left, false≢true, or_parts}
 use Rattle.std.proofs.lemmas.List.{append-nil, length-map}
 use Rattle.std.proofs.lemmas.List.Folds.{list_any-append}
 use Rattle.std.proofs.Math.Nat.{mul-le-mul_right}
@@ -23,21 +23,16 @@ use Rattle.nr_peel.specs.declared.bit_parallel.lanes.Lanes.{Lanes}
 use Rattle.nr_peel.specs.declared.lifted.Lifted.{Lifted}
 use Rattle.nr_peel.proofs.ClosureFacts.{cases_below}
 use Rattle.nr_peel.proofs.CountedPairFacts.{sum_below-append}
-use Rattle.nr_peel.proofs.LaneStepFacts.{neither, or_none}
 use Rattle.nr_peel.proofs.PairSumFacts.{degree_at}
 use Rattle.nr_peel.proofs.StepPairFacts.{step_pairs-append, step_pairs-none}
 use Rattle.nr_peel.proofs.RowPositionFacts.{count_alike, count_by-cons}
+use Rattle.nr_peel.proofs.MarkedFacts.{marked_within}
+use Rattle.std.proofs.lemmas.Bool.Decides.{nat_tests}
 
 -- fewer positions of a list lie outside a larger set
 pub count_fewer : (S T : ℕ → Bool) → Within S T → (xs : List ℕ) → count_by (λ p. not (T p)) xs ≤ count_by (λ p. not (S p)) xs
 count_fewer S T within [] = omega arith
-count_fewer S T within (x ∷ xs) = omega (arith, count_by-cons (λ p. not (T p)) x xs, count_by-cons (λ p. not (S p)) x xs, one (S x) (T x) (within x), count_fewer S T within xs)
-  where
-    one : (s t : Bool) → (s ≡ true → t ≡ true) → cond (not t) 1 0 ≤ cond (not s) 1 0
-    one true true h = omega arith
-    one true false h = absurd (false≢true (h refl))
-    one false true h = omega arith
-    one false false h = omega arith
+count_fewer S T within (x ∷ xs) = grind (arith, count_by-cons (λ p. not (T p)) x xs, count_by-cons (λ p. not (S p)) x xs, within x, count_fewer S T within xs)
 
 -- ---- steps one after another
 
@@ -51,16 +46,12 @@ accepted_append c S (x ∷ xs) ys h more =
 pub fixed_append : (xs ys : List Fix) (p : ℕ) → is_fixed_by (xs ++ ys) p ≡ (is_fixed_by xs p || is_fixed_by ys p)
 fixed_append xs ys p = list_any-append (λ s. s.pos == p) xs ys
 
-or_assoc : (a b d : Bool) → ((a || b) || d) ≡ (a || (b || d))
-or_assoc true b d = refl
-or_assoc false b d = refl
-
 pub fixes_none : (c : Checks) (K : ℕ → Bool) (a : Lanes) → AreLanes c a → (f : Fixes c K a a) × (f.steps ≡ [])
 fixes_none c K a lanes = (
   record {
     steps = [];
-    known = λ p. sym (or_none (bit a.known.items p) false refl);
-    pending = λ p. sym (or_none (bit a.pending.items p) false refl);
+    known = λ p. grind arith;
+    pending = λ p. grind arith;
     order = sym (append-nil a.order.items);
     missing = λ p h. absurd (false≢true h);
     accepted = λ S m. refl;
@@ -81,7 +72,7 @@ fixes_then c K a b d f g = (
     order = g.order ∙ ap (λ xs. xs ++ g.steps) f.order ∙ append_assoc a.order.items f.steps g.steps;
     missing = λ p h. ⊎_elim
         (λ s. f.missing p s)
-        (λ s. (neither (bit a.known.items p) (is_fixed_by f.steps p) (sym (f.known p) ∙ g.missing p s)).0)
+        (λ s. (or_parts (bit a.known.items p) (is_fixed_by f.steps p) (sym (f.known p) ∙ g.missing p s)).0)
         (or_cases (is_fixed_by f.steps p) (is_fixed_by g.steps p) (sym (fixed_append f.steps g.steps p) ∙ h));
     accepted = λ S m. accepted_append c S f.steps g.steps (f.accepted S m) (λ T w. g.accepted T (λ p k. w p (m p k)));
     kept = λ p k. g.kept p (f.known p ∙ or_left (bit a.known.items p) (is_fixed_by f.steps p) k) ∙ f.kept p k;
@@ -93,8 +84,7 @@ fixes_then c K a b d f g = (
 )
   where
     joined : (x y w : Bool) (p : ℕ) → y ≡ (x || is_fixed_by f.steps p) → w ≡ (y || is_fixed_by g.steps p) → w ≡ (x || is_fixed_by (f.steps ++ g.steps) p)
-    joined x y w p one two =
-        two ∙ ap (λ b. b || is_fixed_by g.steps p) one ∙ or_assoc x (is_fixed_by f.steps p) (is_fixed_by g.steps p) ∙ ap (λ b. x || b) (sym (fixed_append f.steps g.steps p))
+    joined x y w p one two = grind (arith, fixed_append f.steps g.steps p)
 
 -- steps that are accepted from a set are accepted from a larger one
 pub fixes_on : (c : Checks) (K M : ℕ → Bool) (a d : Lanes) (f : Fixes c K a d) → Within K M → (h : Fixes c M a d) × (h.steps ≡ f.steps)
@@ -116,17 +106,7 @@ fixes_on c K M a d f more = (
 
 -- what the counts know stays the same
 pub counted_same : (c : Checks) (K : ℕ → Bool) (a d : Lanes) → Fixes c K a d → (p : ℕ) → counted_in d p ≡ counted_in a p
-counted_same c K a d f p =
-    ap (λ x. x && not (bit d.pending.items p)) (f.known p) ∙ ap (λ x. (bit a.known.items p || is_fixed_by f.steps p) && not x) (f.pending p)
-    ∙ still (bit a.known.items p) (is_fixed_by f.steps p) (bit a.pending.items p) (f.missing p)
-  where
-    still : (k s r : Bool) → (s ≡ true → k ≡ false) → ((k || s) && not (r || s)) ≡ (k && not r)
-    still true true r h = absurd (true≢false (h refl))
-    still true false true h = refl
-    still true false false h = refl
-    still false true true h = refl
-    still false true false h = refl
-    still false false r h = refl
+counted_same c K a d f p = grind (arith, f.known p, f.pending p, f.missing p)
 
 pub counts_still : (c : Checks) (K : ℕ → Bool) (counts : List ℕ) (a d : Lanes) → Fixes c K a d → CountsOf c (counted_in a) counts → CountsOf c (counted_in d) counts
 counts_still c K counts a d f counted i t block lane =
@@ -142,11 +122,6 @@ counted_known a p h = (and_parts (bit a.known.items p) (not (bit a.pending.items
 
 pub next_block : (i z : ℕ) → (i + 1) * z ≡ i * z + z
 next_block i z = omega arith
-
-pub marked_within : (u : ℕ → Bool) (m n : ℕ) → m ≤ n → marked u m ≤ marked u n
-marked_within u m n le =
-    let split : m + (n - m) ≡ n = omega (arith, le) in
-    omega (arith, sym (ap (marked u) split) ∙ marked-append u m (n - m))
 
 pub sought_start : (c : Checks) (counts : List ℕ) (a : Lanes) → AreLanes c a → AreSought c counts 0 a a
 sought_start c counts a lanes =
@@ -188,12 +163,7 @@ sought_room c counts i a b before block room =
 
 sum_alike : (u : ℕ → Bool) (f : ℕ → ℕ) (d n : ℕ) → ((t : ℕ) → t < n → f t ≡ (if u t then d else 0)) → sum_below f n ≡ marked u n * d
 sum_alike u f d zero h = omega arith
-sum_alike u f d (suc n) h =
-    ap (λ m. m + f n) (sum_alike u f d n (λ t lt. h t (omega (arith, lt)))) ∙ one (u n) (marked u n) (f n) (h n (omega arith))
-  where
-    one : (b : Bool) (m x : ℕ) → x ≡ (if b then d else 0) → m * d + x ≡ (m + (if b then 1 else 0)) * d
-    one true m x e = omega (arith, e)
-    one false m x e = omega (arith, e)
+sum_alike u f d (suc n) h = grind (arith, sum_alike u f d n (λ t lt. h t (omega (arith, lt))), h n (omega arith))
 
 -- the visits of one row of blocks
 pub block_visits : (l : Lifted) (counts : List ℕ) (i : ℕ) → sum_below (λ t. if has_count 1 counts (i * l.plan.z + t) then row_length (lifted_checks l) (i * l.plan.z + t) else 0) l.plan.z
@@ -225,8 +195,4 @@ pairs_all c counts = refl
 
 -- whether some row is searched, of more rows
 pub some_more : (found : Bool) (m r : ℕ) → found ≡ nat_lt 0 m → (found || not (r == 0)) ≡ nat_lt 0 (m + r)
-some_more true m r e = sym (lt-ltb 0 (m + r) (omega (arith, ltb-true 0 m (sym e))))
-some_more false m r e = elim (cases_lt 0 r) [
-  | inl some ↦ ap not (ne_eqb r 0 (λ h. omega (arith, h, some))) ∙ sym (lt-ltb 0 (m + r) (omega (arith, some)))
-  | inr none ↦ ap not (eq-eqb r 0 (omega (arith, none))) ∙ sym (le-ltb 0 (m + r) (⊎_elim (λ (lt : 0 < m). absurd (true≢false (sym (lt-ltb 0 m lt) ∙ sym e))) (λ (le : m ≤ 0). omega (arith, le, none)) (cases_lt 0 m)))
-]
+some_more found m r e = grind (arith, nat_tests)

@@ -1,5 +1,5 @@
 -- What is true of every peeler.
-use Rattle.std.proofs.Common.{◌≡◌, ◌≢◌, ℕ, ◌+◌, ◌*◌, ◌<◌, ◌&&◌, Bool, true, false, not, List, refl, sym, ap, ◌∙◌, arith}
+use Rattle.std.proofs.Common.{◌≡◌, ◌≢◌, ℕ, ◌+◌, ◌*◌, ◌<◌, Bool, not, List, sym, ◌∙◌, arith}
 use Rattle.std.specs.Prelude.{count_by, slice_index}
 use Rattle.std.proofs.lemmas.Bool.{or_left}
 use Rattle.nr_bitvec.specs.Bit.{bit}
@@ -26,11 +26,7 @@ use Rattle.nr_peel.proofs.CodewordFacts.{done_is_closure}
 -- where no position is fresh, the counts know of all that is known
 pub all_counted : (c : Checks) (s : Lanes) (counts : List ℕ) → HasNonePending s → CountsOf c (counted_in s) counts → CountsOf c (bit s.known.items) counts
 all_counted c s counts none counted i t block lane =
-    counted i t block lane ∙ count_alike (λ p. not (counted_in s p)) (λ p. not (bit s.known.items p)) (λ p. ap not (ap (λ b. bit s.known.items p && not b) (none p) ∙ plain (bit s.known.items p))) (c.row i t)
-  where
-    plain : (b : Bool) → (b && true) ≡ b
-    plain true = refl
-    plain false = refl
+    counted i t block lane ∙ count_alike (λ p. not (counted_in s p)) (λ p. not (bit s.known.items p)) (λ p. grind (arith, none p)) (c.row i t)
 
 -- what is known is the closure of what was given
 reached_closed : (c : Checks) (given : List Bool) (s : Sweep) → AreSound c → Reaches c (bit given) s.lanes → CountsOf c (bit s.lanes.known.items) s.counts.items

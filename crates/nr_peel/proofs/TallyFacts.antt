@@ -1,49 +1,18 @@
 -- How many rows have none or one unknown position, and how many pairs are of such rows.
-use Rattle.std.proofs.Common.{◌≡◌, ◌≢◌, ℕ, zero, suc, ◌+◌, ◌*◌, ◌<◌, ◌≤◌, ◌==◌, Bool, true, false, cond, List, refl, ap, inl, inr, arith}
+use Rattle.std.proofs.Common.{◌≡◌, ℕ, zero, suc, ◌+◌, ◌*◌, ◌<◌, ◌≤◌, ◌==◌, cond, List, refl, arith}
 use Rattle.std.specs.Prelude.{slice_index}
-use Rattle.std.proofs.lemmas.Bool.{cases_eq, eq-eqb, ne_eqb}
 use Rattle.nr_lifting.specs.Rings.{marked}
 use Rattle.nr_ldpcenc.specs.Rows.{Checks}
 use Rattle.nr_peel.specs.Sweeps.{has_count, searched_pairs}
 use Rattle.nr_peel.specs.Touches.{sum_below}
 use Rattle.nr_peel.specs.TouchesInside.{all_pairs, row_length, spent_pairs}
 use Rattle.nr_peel.proofs.PairSumFacts.{sum_below-le, sum_below-plus}
-
--- ---- marks
-
-marked_le : (u v : ℕ → Bool) (n : ℕ) → ((k : ℕ) → k < n → cond (u k) 1 0 ≤ cond (v k) 1 0) → marked u n ≤ marked v n
-marked_le u v zero h = omega arith
-marked_le u v (suc n) h = omega (arith, marked_le u v n (λ k l. h k (omega (arith, l))), h n (omega arith))
-
-marked_two : (u v w : ℕ → Bool) (n : ℕ) → ((k : ℕ) → k < n → cond (u k) 1 0 + cond (v k) 1 0 ≤ cond (w k) 1 0) → marked u n + marked v n ≤ marked w n
-marked_two u v w zero h = omega arith
-marked_two u v w (suc n) h = omega (arith, marked_two u v w n (λ k l. h k (omega (arith, l))), h n (omega arith))
-
-pub marked_most : (u : ℕ → Bool) (n : ℕ) → marked u n ≤ n
-marked_most u zero = omega arith
-marked_most u (suc n) = omega (arith, marked_most u n, one (u n))
-  where
-    one : (b : Bool) → cond b 1 0 ≤ 1
-    one true = omega arith
-    one false = omega arith
-
--- what a test of a count adds
-test_yes : (m n d : ℕ) → m ≡ n → cond (m == n) d 0 ≡ d
-test_yes m n d e = ap (λ b. cond b d 0) (eq-eqb m n e)
-
-test_no : (m n d : ℕ) → m ≢ n → cond (m == n) d 0 ≡ 0
-test_no m n d ne = ap (λ b. cond b d 0) (ne_eqb m n ne)
+use Rattle.nr_peel.proofs.MarkedFacts.{marked_le, marked_two}
+use Rattle.std.proofs.lemmas.Bool.Decides.{nat_tests}
 
 -- no count is none and one at a time
 apart : (m : ℕ) → cond (m == 0) 1 0 + cond (m == 1) 1 0 ≤ 1
-apart m = elim (cases_eq m 0) [
-  | inl e ↦ omega (arith, test_yes m 0 1 e, test_no m 1 1 (λ one. absurd (omega (arith, e, one))))
-  | inr ne ↦ omega (arith, test_no m 0 1 ne, most (m == 1))
-]
-  where
-    most : (b : Bool) → cond b 1 0 ≤ 1
-    most true = omega arith
-    most false = omega arith
+apart m = grind (arith, nat_tests)
 
 pub none_and_one : (counts : List ℕ) (n : ℕ) → marked (has_count 0 counts) n + marked (has_count 1 counts) n ≤ n
 none_and_one counts zero = omega arith
@@ -52,23 +21,14 @@ none_and_one counts (suc n) = omega (arith, none_and_one counts n, apart (slice_
 -- ---- counts that fall
 
 fallen : (a b : ℕ) → b ≤ a → cond (a == 0) 1 0 ≤ cond (b == 0) 1 0
-fallen a b le = elim (cases_eq a 0) [
-  | inl e ↦ omega (arith, test_yes a 0 1 e, test_yes b 0 1 (omega (arith, e, le)))
-  | inr ne ↦ omega (arith, test_no a 0 1 ne)
-]
+fallen a b le = grind (arith, nat_tests)
 
 pub zeros_more : (old new : List ℕ) (n : ℕ) → ((k : ℕ) → slice_index new k ≤ slice_index old k) → marked (has_count 0 old) n ≤ marked (has_count 0 new) n
 zeros_more old new n falls = marked_le (has_count 0 old) (has_count 0 new) n (λ k _. fallen (slice_index old k) (slice_index new k) (falls k))
 
 -- what a row adds whose count comes down from one to none
 gain_term : (a b d : ℕ) → b ≤ a → (a ≡ 1 → b ≡ 0) → cond (a == 0) d 0 + cond (a == 1) d 0 ≤ cond (b == 0) d 0
-gain_term a b d le down = elim (cases_eq a 0) [
-  | inl e ↦ omega (arith, test_yes a 0 d e, test_no a 1 d (λ one. absurd (omega (arith, e, one))), test_yes b 0 d (omega (arith, e, le)))
-  | inr ne ↦ elim (cases_eq a 1) [
-    | inl one ↦ omega (arith, test_no a 0 d ne, test_yes a 1 d one, test_yes b 0 d (down one))
-    | inr other ↦ omega (arith, test_no a 0 d ne, test_no a 1 d other)
-  ]
-]
+gain_term a b d le down = grind (arith, nat_tests)
 
 module _ (c : Checks) (old new : List ℕ) (falls : (k : ℕ) → slice_index new k ≤ slice_index old k) (down : (k : ℕ) → k < c.rows * c.lanes → slice_index old k ≡ 1 → slice_index new k ≡ 0) where
   -- rows that had one unknown position and have none add to those that have none
@@ -88,11 +48,7 @@ module _ (c : Checks) (old new : List ℕ) (falls : (k : ℕ) → slice_index ne
 
 pub searched_most : (c : Checks) (counts : List ℕ) → searched_pairs c counts ≤ all_pairs c
 unfolding searched_pairs all_pairs
-searched_most c counts = sum_below-le (λ k. cond (slice_index counts k == 1) (row_length c k) 0) (row_length c) (c.rows * c.lanes) (λ k _. at_most (slice_index counts k == 1) (row_length c k))
-  where
-    at_most : (b : Bool) (d : ℕ) → cond b d 0 ≤ d
-    at_most true d = omega arith
-    at_most false d = omega arith
+searched_most c counts = sum_below-le (λ k. cond (slice_index counts k == 1) (row_length c k) 0) (row_length c) (c.rows * c.lanes) (λ k _. grind arith)
 
 pub searched_none : (c : Checks) (counts : List ℕ) → marked (has_count 1 counts) (c.rows * c.lanes) ≡ 0 → searched_pairs c counts ≡ 0
 unfolding searched_pairs
@@ -100,8 +56,4 @@ searched_none c counts none = go (c.rows * c.lanes) none
   where
     go : (n : ℕ) → marked (has_count 1 counts) n ≡ 0 → sum_below (λ k. cond (slice_index counts k == 1) (row_length c k) 0) n ≡ 0
     go zero e = refl
-    go (suc n) e = omega (arith, go n (omega (arith, e)), last (slice_index counts n == 1) (row_length c n) (omega (arith, e)))
-      where
-        last : (b : Bool) (d : ℕ) → ◌≡◌ {A = ℕ} (cond b 1 0) 0 → cond b d 0 ≡ 0
-        last true d h = absurd (omega (arith, h))
-        last false d h = refl
+    go (suc n) e = grind (arith, go n)

@@ -1,7 +1,7 @@
 -- Marks with one more, and where the rows and columns of a table lie.
-use Rattle.std.proofs.Common.{◌≡◌, ◌≢◌, ℕ, ◌+◌, ◌*◌, ◌<◌, ◌≤◌, ◌==◌, ◌||◌, Bool, true, false, List, length, set, refl, sym, ap, ◌∙◌, ⊎_elim, arith}
+use Rattle.std.proofs.Common.{◌≡◌, ℕ, ◌+◌, ◌*◌, ◌<◌, ◌≤◌, ◌==◌, Bool, true, false, List, length, set, ap, ◌∙◌, arith, inl, inr}
 use Rattle.std.specs.Prelude.{All}
-use Rattle.std.proofs.lemmas.Bool.{eq-eqb, ne_eqb, cases_eq}
+use Rattle.std.proofs.lemmas.Bool.{cases_eq}
 use Rattle.std.proofs.lemmas.List.{get_or-set_same, get_or-set_other}
 use Rattle.std.proofs.lemmas.List.Elements.{All-filter, All-weaker}
 use Rattle.std.proofs.Math.Nat.{mul-le-mul_right}
@@ -13,24 +13,14 @@ use Rattle.nr_shifttable.specs.declared.entry.Entry.{Entry}
 use Rattle.nr_shifttable.specs.Accepted.{Entries, IsTable, column_of, entries_in, row_of}
 use Rattle.nr_peel.specs.Certificates.{with_position}
 use Rattle.nr_peel.proofs.TableGridFacts.{table_grid}
+use Rattle.std.proofs.lemmas.Bool.Decides.{nat_tests}
 
 -- marks with one more
 pub bit-mark : (xs : List Bool) (p : ℕ) → p < length xs → (q : ℕ) → bit (set xs p true) q ≡ with_position (bit xs) p q
-bit-mark xs p lt q = ⊎_elim here there (cases_eq q p)
-  where
-    or_true : (a b : Bool) → b ≡ true → (a || b) ≡ true
-    or_true true b h = refl
-    or_true false b h = h
-
-    or_false : (a b : Bool) → b ≡ false → (a || b) ≡ a
-    or_false true b h = refl
-    or_false false b h = h
-
-    here : q ≡ p → bit (set xs p true) q ≡ with_position (bit xs) p q
-    here e = ap (bit (set xs p true)) e ∙ get_or-set_same xs p true false lt ∙ sym (or_true (bit xs q) (p == q) (eq-eqb p q (sym e)))
-
-    there : q ≢ p → bit (set xs p true) q ≡ with_position (bit xs) p q
-    there ne = get_or-set_other xs p q true false ne ∙ sym (or_false (bit xs q) (p == q) (ne_eqb p q (λ e. ne (sym e))))
+bit-mark xs p lt q = elim (cases_eq q p) [
+  | inl e ↦ grind (arith, nat_tests, ap (bit (set xs p true)) e ∙ get_or-set_same xs p true false lt)
+  | inr ne ↦ grind (arith, nat_tests, get_or-set_other xs p q true false ne)
+]
 
 module _ (t : Entries) (g : Graph) (n : Numbers) (table : IsTable t) (pos : 0 < n.z) where
   pub column_rows : (j : ℕ) → All (λ e. (e.row + 1) * n.z ≤ rows_of g * n.z) (column_of (entries_in g t) j)

@@ -2,7 +2,8 @@ use Rattle.std.proofs.Common.{◌*◌, ap, arith}
 use Rattle.nr_bitvec.specs.Bit.{bit}
 use Rattle.nr_segment.specs.CodeBlock.{numbers}
 use Rattle.nr_ldpcenc.specs.Rows.{block_checks}
-use Rattle.nr_peel.proofs.StoppingCheckFacts.{stops_orders, stops_out}
+use Rattle.nr_peel.proofs.LeftPositionFacts.{stops_out}
+use Rattle.nr_peel.proofs.StoppingCheckFacts.{stops_orders}
 use Rattle.nr_peel.proofs.TableGridFacts.{checks_sound}
 use Rattle.nr_peel.proofs.SetIndexFacts.{in_sets}
 use Rattle.nr_peel.proofs.check.check_stuck.Goals as goal

@@ -1,14 +1,15 @@
-use Rattle.std.proofs.Common.{◌-◌, ◌*◌, ◌<◌, false, length, sym, ap, ◌∙◌, arith}
+use Rattle.std.proofs.Common.{◌*◌, false, length, sym, ap, ◌∙◌, arith}
 use Rattle.std.proofs.lemmas.List.{length-replicate}
 use Rattle.nr_bitvec.specs.Bit.{bit}
 use Rattle.nr_segment.specs.CodeBlock.{numbers}
 use Rattle.nr_ldpcenc.specs.Rows.{block_checks}
 use Rattle.nr_peel.specs.Closure.{closure}
-use Rattle.nr_peel.proofs.ClosureFacts.{closure_closed, closure_keeps, round_keeps, round_within, size_below, size_le}
+use Rattle.nr_peel.proofs.ClosureFacts.{closure_closed, closure_keeps, round_keeps, round_within}
 use Rattle.nr_peel.proofs.TableGridFacts.{checks_sound}
 use Rattle.nr_peel.proofs.RoundFacts.{round_grows, rounds_done}
 use Rattle.nr_peel.proofs.SetIndexFacts.{in_sets}
 use Rattle.nr_peel.proofs.rounds.close.Goals as goal
+use Rattle.nr_lifting.proofs.LaneBitFacts.{marked-le}
 
 pub invariant_of-lifted : goal.invariant_of-lifted
 invariant_of-lifted c = record { in_sets = in_sets c.args.plan.now; inverse = c.reciprocal.ensures }
@@ -33,8 +34,7 @@ rounds-smaller c =
     let next = bit c.go_round.new.known.items in
     let sound = checks_sound c.args.table.now p.graph (numbers p) c.tables_are_sound.ensures p.sound.size_some in
     let grows = round_grows ck known next sound (sym c.go_round.ensures.some ∙ c.rounds-test.true) c.go_round.ensures.known in
-    let small : ck.size - size_below next ck.size < ck.size - size_below known ck.size = omega (arith, grows, size_le next ck.size) in
-    small
+    omega (arith, grows, marked-le next ck.size)
 
 pub rounds-preserved : goal.rounds-preserved
 rounds-preserved c =

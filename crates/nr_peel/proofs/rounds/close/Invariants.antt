@@ -4,7 +4,7 @@ use Rattle.nr_segment.specs.CodeBlock.{numbers}
 use Rattle.nr_ldpcenc.specs.Rows.{block_checks}
 use Rattle.nr_peel.specs.Closure.{Within, closure}
 use Rattle.nr_peel.specs.Rounds.{HasLanes}
-use Rattle.nr_peel.proofs.ClosureFacts.{size_below}
+use Rattle.nr_lifting.specs.Rings.{marked}
 use Rattle.nr_peel.proofs.rounds.close.Given as goal
 
 -- what was known is known, and all that is known is in the closure
@@ -19,4 +19,4 @@ invariant-rounds l = record {
 
 -- how many positions aren't known
 abbrev pub decreases-rounds : goal.decreases-rounds
-decreases-rounds l = (block_checks l.table l.plan.graph (numbers l.plan)).size - size_below (bit l.known.items) (block_checks l.table l.plan.graph (numbers l.plan)).size
+decreases-rounds l = (block_checks l.table l.plan.graph (numbers l.plan)).size - marked (bit l.known.items) (block_checks l.table l.plan.graph (numbers l.plan)).size

@@ -2,7 +2,7 @@ use Rattle.std.proofs.Common.{◌≡◌, ◌*◌, ◌==◌, ◌||◌, false, tru
 use Rattle.std.proofs.lemmas.List.{length-replicate, length-set}
 use Rattle.nr_bitvec.specs.Bit.{bit}
 use Rattle.nr_peel.specs.StateInside.{lifted_checks}
-use Rattle.nr_peel.proofs.FillerFacts.{bit-zeros, filler_more, filler_none, fillers_are, fillers_fit}
+use Rattle.nr_peel.proofs.FillerFacts.{filler_more, filler_none, fillers_are, fillers_fit, get_or-same}
 use Rattle.nr_peel.proofs.TieFacts.{bit-mark}
 use Rattle.nr_peel.proofs.bit_parallel.sweep_peeler.filler_marks.Goals as goal
 
@@ -11,7 +11,7 @@ loop-pos-init c =
     let l = c.args.lifted.now in
     let n = c.cols.result * l.plan.z in
     record {
-      marked = λ q. ap (λ v. bit v q) c.in_ok-marks.ensures ∙ bit-zeros n q ∙ sym (filler_none l.plan.kdash q);
+      marked = λ q. ap (λ v. bit v q) c.in_ok-marks.ensures ∙ get_or-same n q false ∙ sym (filler_none l.plan.kdash q);
       long = ap length c.in_ok-marks.ensures ∙ length-replicate n false ∙ ap (λ m. m * l.plan.z) c.cols.ensures;
     }
 

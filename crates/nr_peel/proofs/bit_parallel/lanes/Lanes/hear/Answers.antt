@@ -15,22 +15,22 @@ pub lacking-lane-requires-clause-block : goal.lacking-lane-requires-clause-block
 lacking-lane-requires-clause-block c =
     let p = c.args.lifted.now.plan in
     let below : c.loop-j.j < cols_of p.graph = omega arith in
-    rw (c.loop-j.invariant.known_lanes, c.loop-j.invariant.known_long, c.requires.lanes.known_lanes, c.requires.lanes.known_long) (mul-le-mul_right p.z (omega (arith, below)))
+    rw (c.loop-j.invariant.alike.known_lanes, c.loop-j.invariant.alike.known_long, c.requires.lanes.known_lanes, c.requires.lanes.known_long) (mul-le-mul_right p.z (omega (arith, below)))
 
 pub lacking-lane-requires-clause-rotation : goal.lacking-lane-requires-clause-rotation
-lacking-lane-requires-clause-rotation c = rw (c.loop-j.invariant.known_lanes, c.requires.lanes.known_lanes) c.args.lifted.now.plan.sound.size_some
+lacking-lane-requires-clause-rotation c = rw (c.loop-j.invariant.alike.known_lanes, c.requires.lanes.known_lanes) c.args.lifted.now.plan.sound.size_some
 
 pub lacking-lane-requires-clause-clear : goal.lacking-lane-requires-clause-clear
-lacking-lane-requires-clause-clear c = rw (c.loop-j.invariant.known_lanes, c.requires.lanes.known_lanes) c.read_lane-told.ensures.clear
+lacking-lane-requires-clause-clear c = rw (c.loop-j.invariant.alike.known_lanes, c.requires.lanes.known_lanes) c.read_lane-told.ensures.clear
 
 pub join-requires-then-not-is_blank-clause-clear : goal.join-requires-then-not-is_blank-clause-clear
 join-requires-then-not-is_blank-clause-clear c =
-    rw (c.loop-j.invariant.pending_lanes, c.requires.lanes.pending_lanes) (rw (c.loop-j.invariant.known_lanes, c.requires.lanes.known_lanes) at c.lacking-lane.ensures.clear)
+    rw (c.loop-j.invariant.alike.pending_lanes, c.requires.lanes.pending_lanes) (rw (c.loop-j.invariant.alike.known_lanes, c.requires.lanes.known_lanes) at c.lacking-lane.ensures.clear)
 
 pub join-requires-then-not-is_blank-2-clause-clear : goal.join-requires-then-not-is_blank-2-clause-clear
 join-requires-then-not-is_blank-2-clause-clear c =
     let z = c.args.lifted.now.plan.z in
-    rw (c.loop-j.invariant.bits_lanes, c.requires.lanes.bits_lanes) (c.common-bits.ensures.clear z (rw (c.loop-j.invariant.known_lanes, c.requires.lanes.known_lanes) at c.lacking-lane.ensures.clear))
+    rw (c.loop-j.invariant.alike.bits_lanes, c.requires.lanes.bits_lanes) (c.common-bits.ensures.clear z (rw (c.loop-j.invariant.alike.known_lanes, c.requires.lanes.known_lanes) at c.lacking-lane.ensures.clear))
 
 -- none of what is new was fresh
 pub join-requires-then-not-is_blank-clause-fresh : goal.join-requires-then-not-is_blank-clause-fresh
@@ -43,15 +43,15 @@ join-requires-then-not-is_blank-clause-fresh c =
     let H = bit c.args.heard.now.items in
     let V = bit c.args.values.now.items in
     let inv = c.loop-j.invariant in
-    let known_lanes : now.known.lanes ≡ z = inv.known_lanes ∙ c.requires.lanes.known_lanes in
+    let known_lanes : now.known.lanes ≡ z = inv.alike.known_lanes ∙ c.requires.lanes.known_lanes in
     let lacks = rw known_lanes at c.lacking-lane.ensures.bits in
     let marks = lane_new z j some old now H V inv c.read_lane-told.result c.lacking-lane.result c.read_lane-told.ensures.bits lacks in
-    rw (inv.pending_lanes, c.requires.lanes.pending_lanes) (told_fresh z j some old now H V inv c.requires.lanes.within c.lacking-lane.result marks)
+    rw (inv.alike.pending_lanes, c.requires.lanes.pending_lanes) (told_fresh z j some old now H V inv c.requires.lanes.within c.lacking-lane.result marks)
 
 pub join-requires-then-not-is_blank-clause-counted : goal.join-requires-then-not-is_blank-clause-counted
 join-requires-then-not-is_blank-clause-counted c =
-    let clear = rw (c.loop-j.invariant.known_lanes, c.requires.lanes.known_lanes) at c.lacking-lane.ensures.clear in
-    rw (c.loop-j.invariant.pending_lanes, c.requires.lanes.pending_lanes) (c.lane_count.ensures.marked c.args.lifted.now.plan.z clear)
+    let clear = rw (c.loop-j.invariant.alike.known_lanes, c.requires.lanes.known_lanes) at c.lacking-lane.ensures.clear in
+    rw (c.loop-j.invariant.alike.pending_lanes, c.requires.lanes.pending_lanes) (c.lane_count.ensures.marked c.args.lifted.now.plan.z clear)
 
 -- the next column is given
 pub loop-j-preserved : goal.loop-j-preserved
@@ -64,9 +64,9 @@ loop-j-preserved c =
     let H = bit c.args.heard.now.items in
     let V = bit c.args.values.now.items in
     let inv = c.loop-j.invariant in
-    let known_lanes : now.known.lanes ≡ z = inv.known_lanes ∙ c.requires.lanes.known_lanes in
-    let bits_lanes : now.bits.lanes ≡ z = inv.bits_lanes ∙ c.requires.lanes.bits_lanes in
-    let pending_lanes : now.pending.lanes ≡ z = inv.pending_lanes ∙ c.requires.lanes.pending_lanes in
+    let known_lanes : now.known.lanes ≡ z = inv.alike.known_lanes ∙ c.requires.lanes.known_lanes in
+    let bits_lanes : now.bits.lanes ≡ z = inv.alike.bits_lanes ∙ c.requires.lanes.bits_lanes in
+    let pending_lanes : now.pending.lanes ≡ z = inv.alike.pending_lanes ∙ c.requires.lanes.pending_lanes in
     let lacks = rw known_lanes at c.lacking-lane.ensures.bits in
     let marks = lane_new z j some old now H V inv c.read_lane-told.result c.lacking-lane.result c.read_lane-told.ensures.bits lacks in
     elim c.if-not-is_blank.branch [
@@ -77,7 +77,7 @@ loop-j-preserved c =
           rw w.self-is
           (told_next z j some old now H V inv (record { known = w.join.new.self; bits = w.join-then-not-is_blank-2.new.self; pending = w.join-then-not-is_blank.new.self; order = now.order })
           c.lacking-lane.result w.common-bits.result w.read_lane.result marks w.common-bits.ensures.bits w.read_lane.ensures.bits known pending bits refl
-          w.join.ensures.long w.join-then-not-is_blank-2.ensures.long w.join-then-not-is_blank.ensures.long w.join.ensures.lanes w.join-then-not-is_blank-2.ensures.lanes w.join-then-not-is_blank.ensures.lanes)
+          (record { known_long = w.join.ensures.long; bits_long = w.join-then-not-is_blank-2.ensures.long; pending_long = w.join-then-not-is_blank.ensures.long; known_lanes = w.join.ensures.lanes; bits_lanes = w.join-then-not-is_blank-2.ensures.lanes; pending_lanes = w.join-then-not-is_blank.ensures.lanes }))
       | else-not-is_blank w ↦
           rw w.self-is (told_skip z j some old now H V inv c.lacking-lane.result marks (c.is_blank.ensures w.if-not-is_blank.false))
     ]

@@ -1,5 +1,5 @@
-use Rattle.std.proofs.Common.{◌≡◌, ℕ, ◌==◌, ◌&&◌, ◌||◌, Bool, true, false, not, refl, sym, ap, ◌∙◌, inl, inr}
-use Rattle.std.proofs.lemmas.Bool.{cases_eq, eqb-true, ne_eqb, false≢true}
+use Rattle.std.proofs.Common.{◌≡◌, ℕ, ◌==◌, ◌||◌, true, refl, sym, ap, ◌∙◌, arith}
+use Rattle.std.proofs.lemmas.Bool.{eqb-true}
 use Rattle.nr_bitvec.specs.Bit.{bit}
 use Rattle.nr_peel.specs.StateInside.{lifted_checks}
 use Rattle.nr_peel.proofs.LaneStepFacts.{outside}
@@ -28,17 +28,6 @@ join-requires-then-not-get-clause-counted c =
 pub join-requires-then-value-clause-clear : goal.join-requires-then-value-clause-clear
 join-requires-then-value-clause-clear c = rw c.requires.lanes.bits_lanes (one_clear c.args.lifted.now.plan.z c.args.pos c.one_marked-lane.result c.args.lifted.now.plan.sound.size_some c.one_marked-lane.ensures)
 
--- a bit that is one
-with_one : (m v : Bool) → v ≡ true → m ≡ (m && v)
-with_one true v e = sym e
-with_one false v e = refl
-
--- a bit that is zero
-with_zero : (b m v : Bool) → v ≡ false → b ≡ (b || (m && v))
-with_zero true m v e = refl
-with_zero false true v e = sym e
-with_zero false false v e = refl
-
 pub returns-then-value : goal.returns-then-value
 returns-then-value c =
     let z = c.args.lifted.now.plan.z in
@@ -51,8 +40,8 @@ returns-then-value c =
     let bits = rw lanes.bits_lanes at c.join-then-value.ensures.joined in
     one_told (lifted_checks c.args.lifted.now) pos c.args.value old lanes (record { known = c.join.new.self; bits = c.join-then-value.new.self; pending = c.join-then-not-get.new.self; order = old.order })
     (sym c.get.ensures ∙ c.if-not-get.true) (λ p. known p ∙ ap (λ b. bit old.known.items p || b) (marks p)) (λ p. pending p ∙ ap (λ b. bit old.pending.items p || b) (marks p))
-    (λ p. bits p ∙ ap (λ b. bit old.bits.items p || b) (marks p ∙ with_one (pos == p) c.args.value c.if-value.true)) refl
-    c.join.ensures.long c.join-then-value.ensures.long c.join-then-not-get.ensures.long c.join.ensures.lanes c.join-then-value.ensures.lanes c.join-then-not-get.ensures.lanes
+    (λ p. grind (arith, bits p, marks p, c.if-value.true)) refl
+    (record { known_long = c.join.ensures.long; bits_long = c.join-then-value.ensures.long; pending_long = c.join-then-not-get.ensures.long; known_lanes = c.join.ensures.lanes; bits_lanes = c.join-then-value.ensures.lanes; pending_lanes = c.join-then-not-get.ensures.lanes })
 
 pub returns-else-value : goal.returns-else-value
 returns-else-value c =
@@ -65,26 +54,8 @@ returns-else-value c =
     let pending = rw lanes.pending_lanes at c.join-then-not-get.ensures.joined in
     one_told (lifted_checks c.args.lifted.now) pos c.args.value old lanes (record { known = c.join.new.self; bits = old.bits; pending = c.join-then-not-get.new.self; order = old.order })
     (sym c.get.ensures ∙ c.if-not-get.true) (λ p. known p ∙ ap (λ b. bit old.known.items p || b) (marks p)) (λ p. pending p ∙ ap (λ b. bit old.pending.items p || b) (marks p))
-    (λ p. with_zero (bit old.bits.items p) (pos == p) c.args.value c.if-value.false) refl
-    c.join.ensures.long refl c.join-then-not-get.ensures.long c.join.ensures.lanes refl c.join-then-not-get.ensures.lanes
-
-none_new : (K : ℕ → Bool) (pos p : ℕ) → K pos ≡ true → ((pos == p) && not (K p)) ≡ false
-none_new K pos p known = elim (cases_eq pos p) [
-  | inl e ↦ ap (λ b. (pos == p) && not b) (ap K (sym e) ∙ known) ∙ not_both (pos == p)
-  | inr apart ↦ ap (λ b. b && not (K p)) (ne_eqb pos p apart)
-]
-  where
-    not_both : (b : Bool) → (b && not true) ≡ false
-    not_both true = refl
-    not_both false = refl
-
-or_none : (a b : Bool) → b ≡ false → a ≡ (a || b)
-or_none true b e = refl
-or_none false b e = sym e
-
-or_known : (a b : Bool) → a ≡ true → a ≡ (a || b)
-or_known true b e = refl
-or_known false b e = absurd (false≢true e)
+    (λ p. grind (arith, c.if-value.false)) refl
+    (record { known_long = c.join.ensures.long; bits_long = refl; pending_long = c.join-then-not-get.ensures.long; known_lanes = c.join.ensures.lanes; bits_lanes = refl; pending_lanes = c.join-then-not-get.ensures.lanes })
 
 -- a position that was known
 pub returns-else-not-get : goal.returns-else-not-get
@@ -93,13 +64,11 @@ returns-else-not-get c =
     let K = bit old.known.items in
     let pos = c.args.pos in
     let known : K pos ≡ true = sym c.get.ensures ∙ c.if-not-get.false in
+    let same : (p : ℕ) → (pos == p) ≡ true → K p ≡ true = λ p e. ap K (sym (eqb-true pos p e)) ∙ known in
     record {
-      known = λ p. elim (cases_eq pos p) [
-        | inl e ↦ or_known (K p) (pos == p) (ap K (sym e) ∙ known)
-        | inr apart ↦ or_none (K p) (pos == p) (ne_eqb pos p apart)
-      ];
-      pending = λ p. or_none (bit old.pending.items p) ((pos == p) && not (K p)) (none_new K pos p known);
-      bits = λ p. or_none (bit old.bits.items p) (((pos == p) && not (K p)) && c.args.value) (ap (λ b. b && c.args.value) (none_new K pos p known));
+      known = λ p. grind (arith, same p);
+      pending = λ p. grind (arith, same p);
+      bits = λ p. grind (arith, same p);
       order = refl;
       lanes = c.requires.lanes;
     }

@@ -6,8 +6,9 @@ use Rattle.nr_lifting.proofs.LaneBitFacts.{marked-le}
 use Rattle.nr_peel.specs.Peeling.{left_of}
 use Rattle.nr_peel.specs.declared.lifted.Lifted.{Lifted}
 use Rattle.nr_peel.proofs.FillerFacts.{fillers_fit}
-use Rattle.nr_peel.proofs.RemainingFacts.{info_rotations, left_column, left_end, left_most}
+use Rattle.nr_peel.proofs.RemainingFacts.{info_rotations, left_column, left_end}
 use Rattle.nr_peel.proofs.bit_parallel.lanes.Lanes.left.Goals as goal
+use Rattle.nr_peel.proofs.LeftPositionFacts.{left_and_known}
 
 -- an information column lies in the word
 column_fits : (l : Lifted) (j : ℕ) → j < l.plan.k / l.plan.z → (j + 1) * l.plan.z ≤ cols_of l.plan.graph * l.plan.z
@@ -41,8 +42,7 @@ overflow_add-left c =
     let known = c.args.self.now.known.items in
     let fits : (c.loop-j.j + 1) * p.z ≤ length known = rw c.requires.lanes.known_long (column_fits c.args.lifted.now c.loop-j.j c.loop-j-test.true) in
     let below : (c.loop-j.j + 1) * p.z ≤ info_cols_of p.graph * p.z = mul-le-mul_right p.z (omega (arith, c.loop-j-test.true, info_rotations p.z p.k (info_cols_of p.graph) p.sound.size_some p.sound.columns)) in
-    let most : left_of (c.loop-j.j * p.z) known ≤ c.loop-j.j * p.z = left_most known (c.loop-j.j * p.z) (omega (arith, fits)) in
-    omega (arith, c.loop-j.invariant, most, below, p.sound.columns, p.sound.k_most, p.sound.size_most)
+    omega (arith, c.loop-j.invariant, left_and_known (c.loop-j.j * p.z) known (omega (arith, fits)), below, p.sound.columns, p.sound.k_most, p.sound.size_most)
 
 pub returns : goal.returns
 returns c =

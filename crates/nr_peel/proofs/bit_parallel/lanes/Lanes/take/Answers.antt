@@ -84,7 +84,7 @@ returns-then-not-is_blank c =
       order =
           c.push_lane.ensures.steps
           ∙ ap (λ xs. c.args.self.now.order.items ++ xs)
-          (steps_same (rotated_step z e.row e.col c.rotation-rotation.result) (rotated_step z e.row e.col (v % z)) (is_set c.lacking-lane.result) u z (λ t _. ap (λ n. rotated_step z e.row e.col n t) c.rotation-rotation.ensures.value) (λ t _. lane t));
+          (steps_same (rotated_step z e.row e.col c.rotation-rotation.result) (rotated_step z e.row e.col (v % z)) (is_set c.lacking-lane.result) u z (λ t _ _. ap (λ n. rotated_step z e.row e.col n t) c.rotation-rotation.ensures.value) (λ t _. lane t));
       capacity = c.push_lane.ensures.capacity;
       known_long = c.join.ensures.long;
       pending_long = c.join-then-not-is_blank.ensures.long;

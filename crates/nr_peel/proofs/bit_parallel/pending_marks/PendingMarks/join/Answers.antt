@@ -1,14 +1,13 @@
-use Rattle.std.proofs.Common.{◌+◌, ◌*◌, length, arith}
+use Rattle.std.proofs.Common.{◌+◌, ◌*◌, arith}
 use Rattle.nr_bitvec.specs.Bit.{bit}
 use Rattle.nr_lifting.specs.Rings.{is_set}
 use Rattle.nr_lifting.proofs.LaneBitFacts.{marked-le}
-use Rattle.nr_peel.proofs.DueBlockFacts.{block_low, marks_join}
+use Rattle.nr_peel.proofs.DueBlockFacts.{marks_low, marks_join}
 use Rattle.nr_peel.proofs.bit_parallel.pending_marks.PendingMarks.join.Goals as goal
 
 pub bounds-self-inside-j : goal.bounds-self-inside-j
 bounds-self-inside-j c =
-    let block = rw (← c.self.view_is) at c.requires.block in
-    block_low c.args.j (length c.self.inside.rings.items) 68 c.self.inside.rings.lanes block c.self.invariant.few c.self.invariant.some
+    marks_low c.self.inside.rings c.self.inside.columns c.args.j c.self.invariant (rw (← c.self.view_is) at c.requires.block)
 
 pub overflow_cast-more : goal.overflow_cast-more
 overflow_cast-more c =
@@ -28,5 +27,5 @@ invariant_of-self c =
     let block = rw (← c.self.view_is) at c.requires.block in
     let fresh = rw (← c.self.view_is) at c.requires.fresh in
     let counted = rw (← c.self.view_is) at c.requires.counted in
-    let low = block_low c.args.j (length c.self.inside.rings.items) 68 c.self.inside.rings.lanes block c.self.invariant.few c.self.invariant.some in
+    let low = marks_low c.self.inside.rings c.self.inside.columns c.args.j c.self.invariant block in
     marks_join c.self.inside.rings c.join.new.self c.self.inside.columns c.args.j c.args.count (is_set c.args.lane.now) c.self.invariant (omega arith) c.join.ensures.lanes c.join.ensures.long c.join.ensures.joined fresh counted

@@ -1,9 +1,10 @@
 use Rattle.std.proofs.Common.{◌+◌, ◌*◌, ◌<◌, ◌≤◌, ap, ◌∙◌, arith}
 use Rattle.std.proofs.Math.Nat.{mul-le-mul_right}
 use Rattle.nr_graphpick.specs.Graph.{cols_of}
-use Rattle.nr_peel.proofs.GainedFacts.{counted_most, gained_column, is_gained}
+use Rattle.nr_peel.proofs.GainedFacts.{gained_column, is_gained, counted_marked}
 use Rattle.nr_peel.proofs.StartFacts.{size_most}
 use Rattle.nr_peel.proofs.bit_parallel.sweep_peeler.SweepPeeler.gained.Goals as goal
+use Rattle.nr_lifting.proofs.LaneBitFacts.{marked-le}
 
 pub loop-j-preserved : goal.loop-j-preserved
 loop-j-preserved c =
@@ -18,7 +19,8 @@ loop-j-preserved c =
 pub overflow_add-gained : goal.overflow_add-gained
 overflow_add-gained c =
     let p = c.args.lifted.now.plan in
+    let test = is_gained c.args.self.now.sweep.lanes.known.items c.args.self.now.given.items in
     let below : c.loop-j.j < cols_of p.graph = omega arith in
     let within : c.loop-j.j * p.z ≤ cols_of p.graph * p.z = mul-le-mul_right p.z (omega (arith, below)) in
     let whole : cols_of p.graph * p.z ≤ 68 * 384 = size_most c.args.lifted.now in
-    omega (arith, c.loop-j.invariant, within, whole, c.lane_count-gained.ensures.few, counted_most (is_gained c.args.self.now.sweep.lanes.known.items c.args.self.now.given.items) (c.loop-j.j * p.z))
+    omega (arith, c.loop-j.invariant, within, whole, c.lane_count-gained.ensures.few, counted_marked test (c.loop-j.j * p.z), marked-le test (c.loop-j.j * p.z))
