@@ -23,11 +23,7 @@ use Rattle.nr_peel.proofs.StartFacts.{count_all, few_operations}
 -- the sum of all counts
 degrees_total : (c : Checks) (s : BlockCounts) → 0 < c.lanes → AreDegrees c s → sum s.items ≡ all_pairs c
 unfolding all_pairs
-degrees_total c s some d =
-    sum-below s.items ∙ ap (sum_below (slice_index s.items)) d.long ∙ sum_below-same (slice_index s.items) (row_length c) (c.rows * c.lanes) each
-  where
-    each : (k : ℕ) → k < c.rows * c.lanes → slice_index s.items k ≡ row_length c k
-    each k below = sym (ap (slice_index s.items) (row_number k c.lanes)) ∙ d.counted (k / c.lanes) (k % c.lanes) (div_below k c.lanes c.rows some below) (mod_below k c.lanes some)
+degrees_total c s some d = grind (arith, sum-below, sum_below-same, row_number, div_below, mod_below)
 
 pub blank_sweep : (l : Lifted) (s : Sweep) → IsTable l.table.now → AreBlank (lifted_checks l) s.lanes → (p : BlockCounts) → AreDegrees (lifted_checks l) p → s.counts.items ≡ p.items → s.counts.lanes ≡ p.lanes
     → work_of s.counts ≤ (lifted_checks l).rows → s.touches ≡ 0 → IsBlankSweep (lifted_checks l) s

@@ -72,8 +72,7 @@ closure_least c S T = rounds_within c S T c.size
 
 -- a closed set stays closed under a round
 closed_round : (c : Checks) (T : ℕ → Bool) → IsClosed c T → IsClosed c (round c T)
-closed_round c T closed i t p li lt h =
-    round_keeps c T p (closed i t p li lt (fixes_more (round c T) T (c.row i t) p (round_within c T T (λ q e. e) closed) h))
+closed_round c T closed i t p li lt h = grind (arith, round_keeps, fixes_more, round_within)
 
 -- after k rounds the set is closed, or has k positions
 settles : (c : Checks) (S : ℕ → Bool) → AreSound c → (k : ℕ) → IsClosed c (rounds c S k) ⊎ (k ≤ marked (rounds c S k) c.size)

@@ -141,8 +141,7 @@ entry_hits set z j rows M e some inside =
 
 pub column_visits : (set z j rows : ℕ) (M : ℕ → Bool) → 0 < z → (column : List Entry) → All (λ e. e.row < rows) column
     → sum_below (λ i. sum_below (λ t. count_by (hits set z j M i t) column) z) rows ≡ marked (λ t. M (j * z + t)) z * length column
-column_visits set z j rows M some [] all =
-    sum_zeros (λ i. sum_below (λ t. count_by (hits set z j M i t) []) z) rows (λ i _. sum_zeros (λ t. count_by (hits set z j M i t) []) z (λ t _. refl)) ∙ omega arith
+column_visits set z j rows M some [] all = grind (arith, sum_zeros)
 column_visits set z j rows M some (e ∷ column) all =
     let here = entry_hits set z j rows M e some (All-head (λ e. e.row < rows) e column all) in
     let rest = column_visits set z j rows M some column (All-tail (λ e. e.row < rows) e column all) in
@@ -159,14 +158,4 @@ column_visits set z j rows M some (e ∷ column) all =
 -- what each count falls by is what their sum falls by
 pub sums_fall : (rows z : ℕ) (old new : List ℕ) (h : ℕ → ℕ → ℕ) → 0 < z → length old ≡ rows * z → length new ≡ rows * z
     → ((i t : ℕ) → t < z → slice_index new (i * z + t) + h i t ≡ slice_index old (i * z + t)) → sum_below (λ i. sum_below (h i) z) rows + sum new ≡ sum old
-sums_fall rows z old new h some long_old long_new falls =
-    let flat = sum_flat h rows z in
-    let before : sum old ≡ sum_below (slice_index old) (rows * z) = sum-below old ∙ ap (sum_below (slice_index old)) long_old in
-    let after : sum new ≡ sum_below (slice_index new) (rows * z) = sum-below new ∙ ap (sum_below (slice_index new)) long_new in
-    let both = sum_below-plus (slice_index new) (λ k. h (k / z) (k % z)) (slice_index old) (rows * z) each in
-    omega (arith, flat, before, after, both)
-  where
-    each : (k : ℕ) → k < rows * z → slice_index new k + h (k / z) (k % z) ≡ slice_index old k
-    each k below =
-        let at : k / z * z + k % z ≡ k = row_number k z in
-        sym (ap (λ m. slice_index new m + h (k / z) (k % z)) at) ∙ falls (k / z) (k % z) (mod_below k z some) ∙ ap (slice_index old) at
+sums_fall rows z old new h some long_old long_new falls = grind (arith, sum_flat, sum-below, sum_below-plus, row_number, mod_below)

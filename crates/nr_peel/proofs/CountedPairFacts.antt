@@ -1,4 +1,5 @@
 -- Pairs of a row and a known position of it, by the rows' counters.
+use Rattle.std.proofs.lemmas.Bool.Decides.{nat_tests}
 use Rattle.std.proofs.Common.{◌≡◌, ℕ, ◌+◌, ◌*◌, ◌/◌, ◌%◌, ◌<◌, ◌≤◌, ◌==◌, Bool, true, false, not, cond, List, [], ◌∷◌, length, take, refl, sym, ap, ◌∙◌, arith}
 use Rattle.std.specs.Prelude.{zero, suc, count_by, slice_index, sum}
 use Rattle.std.proofs.lemmas.Bool.{eqb-true}
@@ -20,10 +21,7 @@ count_both p [] = refl
 count_both p (x ∷ xs) = grind (arith, count_by-cons (λ x. not (p x)) x xs, count_by-cons p x xs, count_both p xs)
 
 pub sum_below-append : (g : ℕ → ℕ) (a b : ℕ) → sum_below g (a + b) ≡ sum_below g a + sum_below (λ j. g (a + j)) b
-sum_below-append g a zero = ap (sum_below g) (add_none a) ∙ omega arith
-  where
-    add_none : (a : ℕ) → a + 0 ≡ a
-    add_none a = omega arith
+sum_below-append g a zero = grind arith
 sum_below-append g a (suc b) = ap (sum_below g) (add_next a b) ∙ omega (arith, sum_below-append g a b)
   where
     add_next : (a b : ℕ) → a + suc b ≡ suc (a + b)
@@ -31,10 +29,7 @@ sum_below-append g a (suc b) = ap (sum_below g) (add_next a b) ∙ omega (arith,
 
 -- rows and lanes, numbered through
 pub sum_flat : (f : ℕ → ℕ → ℕ) (rows lanes : ℕ) → sum_below (λ i. sum_below (f i) lanes) rows ≡ sum_below (λ k. f (k / lanes) (k % lanes)) (rows * lanes)
-sum_flat f zero lanes = ap (sum_below (λ k. f (k / lanes) (k % lanes))) (none lanes)
-  where
-    none : (n : ℕ) → 0 ≡ 0 * n
-    none n = omega arith
+sum_flat f zero lanes = grind arith
 sum_flat f (suc rows) lanes =
     let g = λ (k : ℕ). f (k / lanes) (k % lanes) in
     let tail = sum_below-same (f rows) (λ j. f ((rows * lanes + j) / lanes) ((rows * lanes + j) % lanes)) lanes (λ j lt. same j lt) in
@@ -85,14 +80,4 @@ module _ (c : Checks) (known : List Bool) (counts : List ℕ) (pos : 0 < c.lanes
 
   pub spent_known : spent_pairs c counts ≤ pairs_in c (bit known)
   unfolding spent_pairs
-  spent_known =
-      let flat = pairs_flat in
-      let le = sum_below-le (λ k. cond (slice_index counts k == 0) (row_length c k) 0) (λ k. count_by (bit known) (c.row (k / c.lanes) (k % c.lanes))) (c.rows * c.lanes) each in
-      omega (arith, flat, le)
-    where
-      each : (k : ℕ) → k < c.rows * c.lanes → cond (slice_index counts k == 0) (row_length c k) 0 ≤ count_by (bit known) (c.row (k / c.lanes) (k % c.lanes))
-      each k lt = go (slice_index counts k == 0) refl
-        where
-          go : (b : Bool) → (slice_index counts k == 0) ≡ b → cond b (row_length c k) 0 ≤ count_by (bit known) (c.row (k / c.lanes) (k % c.lanes))
-          go true e = omega (arith, counted_at k lt, eqb-true (slice_index counts k) 0 e)
-          go false e = omega arith
+  spent_known = grind (arith, nat_tests, pairs_flat, sum_below-le, counted_at, eqb-true)

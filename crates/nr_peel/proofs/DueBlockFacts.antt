@@ -1,4 +1,5 @@
 -- Which row blocks are due, and which columns have gained something.
+use Rattle.std.proofs.lemmas.Bool.Decides.{nat_tests}
 use Rattle.std.proofs.Common.{◌≡◌, ◌≢◌, ℕ, ◌+◌, ◌*◌, ◌/◌, ◌%◌, ◌<◌, ◌≤◌, ◌==◌, ◌&&◌, ◌||◌, Bool, true, false, not, cond, List, length, set, replicate, refl, sym, ap, ◌∙◌, inl, inr, arith}
 use Rattle.std.specs.Prelude.{slice_index}
 use Rattle.std.proofs.Math.Nat.{mul-le-mul_right}
@@ -35,12 +36,7 @@ due_more due i below = omega (arith, sum_by-set (λ (b : Bool). cond {A = ℕ} b
 
 -- a block that lies among m blocks is one of them
 block_low : (i n m z : ℕ) → (i + 1) * z ≤ n → n ≤ m * z → 0 < z → i < m
-block_low i n m z fits few some = elim (cases_lt i m) [
-  | inl below ↦ below
-  | inr past ↦
-      let wide : (m + 1) * z ≤ (i + 1) * z = mul-le-mul_right z (omega (arith, past)) in
-      absurd (omega (arith, wide, fits, few, some))
-]
+block_low i n m z fits few some = grind (arith, nat_tests, cases_lt, mul-le-mul_right)
 
 pub kept_low : (p : BlockCounts) (due : List Bool) (i : ℕ) → AreKept p due → (i + 1) * p.lanes ≤ length p.items → i < 46
 kept_low p due i kept block = block_low i (length p.items) 46 p.lanes block kept.few kept.some
@@ -52,14 +48,7 @@ marks_low r columns j marks block = block_low j (length r.items) 68 r.lanes bloc
 
 -- at first all are due
 pub kept_new : (p : BlockCounts) (due : List Bool) (rows : ℕ) → 0 < p.lanes → rows ≤ 46 → length p.items ≡ rows * p.lanes → ((h : ℕ) → h < rows → bit due h ≡ true) → AreKept p due
-kept_new p due rows some few long all = record {
-  some = some;
-  few = omega (arith, long, mul-le-mul_right p.lanes few);
-  settled = λ k clear one. elim (cases_lt k (rows * p.lanes)) [
-    | inl below ↦ true≢false (sym (all (k / p.lanes) (div_below k p.lanes rows some below)) ∙ clear)
-    | inr past ↦ absurd (omega (arith, one, get_or_past p.items k 0 (omega (arith, long, past))))
-  ];
-}
+kept_new p due rows some few long all = grind (arith, nat_tests, mul-le-mul_right, cases_lt, div_below, get_or_past)
 
 -- a block whose counts fell is due
 pub kept_lower : (a d : BlockCounts) (due : List Bool) (i : ℕ) (M : ℕ → Bool) → AreKept a due → i < length due → d.lanes ≡ a.lanes → length d.items ≡ length a.items
@@ -126,12 +115,7 @@ marks_set a d columns j n old within lanes long same count = record {
 }
   where
     counted : (i : ℕ) → slice_index (set columns j n) i ≡ marked (λ t. bit d.items (i * a.lanes + t)) a.lanes
-    counted i = elim (cases_eq i j) [
-      | inl here ↦ ap (slice_index (set columns j n)) here ∙ get_or-set_same columns j n 0 within ∙ count ∙ ap (λ h. marked (λ t. bit d.items (h * a.lanes + t)) a.lanes) (sym here)
-      | inr other ↦
-          get_or-set_other columns j i n 0 other ∙ old.counted i
-          ∙ marked-same (λ t. bit a.items (i * a.lanes + t)) (λ t. bit d.items (i * a.lanes + t)) a.lanes (λ t below. sym (same i t other below))
-    ]
+    counted i = grind (arith, cases_eq, get_or-set_same, get_or-set_other, marked-same)
 
 pub marks_join : (a d : BlockBits) (columns : List ℕ) (j n : ℕ) (M : ℕ → Bool) → ArePendingMarks a columns → j < length columns → d.lanes ≡ a.lanes → length d.items ≡ length a.items
     → ((p : ℕ) → bit d.items p ≡ (bit a.items p || lane_marks a.lanes j M p)) → ((p : ℕ) → lane_marks a.lanes j M p ≡ true → bit a.items p ≡ false) → n ≡ marked M a.lanes → ArePendingMarks d (set columns j (slice_index columns j + n))
@@ -180,14 +164,11 @@ some_entry l K counts i block counted some = elim (cases_lt 0 (length es)) [
     es = row_of (entries_in l.plan.graph l.table.now) i
 
     few : (t : ℕ) → t < l.plan.z → slice_index counts (i * l.plan.z + t) ≤ length es
-    few t below =
-        omega (arith, counted i t block below, count_by-le-length (λ p. not (K p)) ((lifted_checks l).row i t), length-map es (λ (e : Entry). one_at l.plan.z t e.col (value_in l.plan.set e)))
+    few t below = grind (arith, counted, count_by-le-length, length-map, es)
 
 -- two operations an entry, and one for the look, are at most three a visit
 pub search_cost : (rows d : ℕ) → 0 < rows → 0 < d → 1 + 2 * d ≤ 3 * (rows * d)
-search_cost rows d some long =
-    let more : 1 * d ≤ rows * d = mul-le-mul_right d some in
-    omega (arith, more, long)
+search_cost rows d some long = grind (arith, mul-le-mul_right)
 
 pub one_at_most : (b : Bool) → cond {A = ℕ} b 1 0 ≤ 1
 one_at_most true = omega arith

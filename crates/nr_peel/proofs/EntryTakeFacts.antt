@@ -1,4 +1,5 @@
 -- The entries of a row of blocks, one after another: its rows fix the positions that they have alone to fix.
+use Rattle.std.proofs.lemmas.Bool.Decides.{nat_tests}
 use Rattle.std.proofs.Common.{◌≡◌, ℕ, zero, suc, ◌+◌, ◌*◌, ◌%◌, ◌<◌, ◌≤◌, ◌==◌, ◌&&◌, Bool, true, false, not, cond, if◌then◌else◌, List, [], length, get_or, take, refl, sym, ap, ◌∙◌, arith, length-append}
 use Rattle.std.specs.Prelude.{count_by, slice_index}
 use Rattle.std.proofs.lemmas.Bool.{and_parts, eqb-true, true≢false, false≢true, or_parts, not-true}
@@ -96,11 +97,7 @@ module _ (l : Lifted) (i : ℕ) (ones : List ℕ) (a : Lanes) (table : IsTable l
 
   -- no more than the rows of the lane
   lacking_most : (n : ℕ) → lacking_in K set z row ones n ≤ marked (is_set ones) z
-  lacking_most n = sum_marked (is_set ones) (λ t. if is_set ones t then count_by (λ p. not (K p)) (take n (positions set z t row)) else 0) z (λ t below. go t below (is_set ones t) refl)
-    where
-      go : (t : ℕ) → t < z → (b : Bool) → is_set ones t ≡ b → (if b then count_by (λ p. not (K p)) (take n (positions set z t row)) else 0) ≤ (if b then 1 else 0)
-      go t below false e = omega arith
-      go t below true e = omega (arith, one t below e, sum_by-take-le (λ p. cond (not (K p)) 1 0) (positions set z t row) n)
+  lacking_most n = grind (arith, sum_marked, sum_by-take-le)
 
   module _ (n : ℕ) (m : Lanes) (within_row : n < length row) (so_far : IsTaking l i ones n a m) where
     abbrev e : Entry
@@ -206,5 +203,4 @@ module _ (l : Lifted) (i : ℕ) (ones : List ℕ) (a : Lanes) (table : IsTable l
 pub ones_counted : (l : Lifted) (i : ℕ) (counts ones : List ℕ) (a : Lanes) → i < (lifted_checks l).rows → CountsOf (lifted_checks l) (counted_in a) counts
     → ((t : ℕ) → t < l.plan.z → is_set ones t ≡ has_count 1 counts (i * l.plan.z + t))
     → (t : ℕ) → t < l.plan.z → is_set ones t ≡ true → count_by (λ p. not (counted_in a p)) ((lifted_checks l).row i t) ≡ 1
-ones_counted l i counts ones a block counted are t below set =
-    sym (counted i t block below) ∙ eqb-true (slice_index counts (i * l.plan.z + t)) 1 (sym (are t below) ∙ set)
+ones_counted l i counts ones a block counted are t below set = grind (arith, nat_tests, eqb-true)

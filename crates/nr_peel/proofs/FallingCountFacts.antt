@@ -28,14 +28,7 @@ pub record HasFallen (c : Checks) (F : ℕ → Bool) (j : ℕ) (old now : List �
   pub long : length now ≡ c.rows * c.lanes
 
 pub fallen_none : (c : Checks) (old : List ℕ) (pending : List Bool) → length old ≡ c.rows * c.lanes → HasFallen c (bit pending) 0 old old pending 0
-fallen_none c old pending long =
-    let none : (p : ℕ) → nat_lt (p / c.lanes) 0 ≡ false = λ p. le-ltb (p / c.lanes) 0 (omega arith) in
-    record {
-      falls = λ i t _ _. omega (arith, count_none (below_column c.lanes (bit pending) 0) (λ p. grind (arith, none p)) (c.row i t));
-      left = λ p. grind (arith, none p);
-      visited = omega arith;
-      long = long;
-    }
+fallen_none c old pending long = grind (arith, nat_tests, le-ltb, count_none, below_column)
 
 -- what is left past one column more
 left_bits : (a : Bool) (n j : ℕ) → ((a && not (nat_lt n j)) && not (n == j)) ≡ (a && not (nat_lt n (j + 1)))
@@ -97,9 +90,7 @@ module _ (es : List Entry) (set z rows cols : ℕ) (some : 0 < z) where
         empty t below = marked_zero (λ t. bit pending (j * z + t)) z count t below
 
         here : (p : ℕ) → (p / z == j) ≡ true → bit pending p ≡ false
-        here p e =
-            let column : p / z ≡ j = eqb-true (p / z) j e in
-            sym (ap (bit pending) (ap (λ m. m * z + p % z) (sym column) ∙ row_number p z)) ∙ empty (p % z) (mod_below p z some)
+        here p e = grind (arith, nat_tests, eqb-true, row_number, empty, mod_below)
 
         and_not : (a b : Bool) → (b ≡ true → a ≡ false) → (a && not b) ≡ a
         and_not false b k = refl
@@ -107,36 +98,18 @@ module _ (es : List Entry) (set z rows cols : ℕ) (some : 0 < z) where
         and_not true true k = sym (k refl)
 
         nothing : (p : ℕ) → in_column z (from_column z F j) j p ≡ false
-        nothing p = ap (λ b. b && (p / z == j)) (sym (h.left p)) ∙ no_both (bit pending p) (p / z == j) (here p)
-          where
-            no_both : (a b : Bool) → (b ≡ true → a ≡ false) → (a && b) ≡ false
-            no_both false b k = refl
-            no_both true false k = refl
-            no_both true true k = k refl
+        nothing p = grind (arith, nat_tests, here)
 
   -- when all columns are taken
   module _ (start : List Bool) (old now : List ℕ) (pending : List Bool) (visits : ℕ) (long : length start ≡ cols * z) (h : HasFallen c (bit start) cols old now pending visits) where
     low : (p : ℕ) → bit start p ≡ true → nat_lt (p / z) cols ≡ true
-    low p e = elim (cases_lt p (cols * z)) [
-      | inl below ↦ lt-ltb (p / z) cols (div_below p z cols some below)
-      | inr past ↦ absurd (different (sym e ∙ get_or_past start p false (omega (arith, long, past))))
-    ]
+    low p e = grind (arith, nat_tests, cases_lt, lt-ltb, div_below, get_or_past)
       where
         different : true ≡ false → ⊥
         different e = cc
 
     pub fallen_all : (i t : ℕ) → i < rows → t < z → slice_index now (i * z + t) + count_by (bit start) (row_at es set z i t) ≡ slice_index old (i * z + t)
-    fallen_all i t row below =
-        let same = count_alike (below_column z (bit start) cols) (bit start) (λ p. whole (bit start p) (nat_lt (p / z) cols) (low p)) (row_at es set z i t) in
-        omega (arith, same, h.falls i t row below)
-      where
-        whole : (a b : Bool) → (a ≡ true → b ≡ true) → (a && b) ≡ a
-        whole false b k = refl
-        whole true b k = k refl
+    fallen_all i t row below = grind (arith, nat_tests, count_alike, below_column, low)
 
     pub fallen_clear : (p : ℕ) → bit pending p ≡ false
-    fallen_clear p = h.left p ∙ nothing (bit start p) (nat_lt (p / z) cols) (low p)
-      where
-        nothing : (a b : Bool) → (a ≡ true → b ≡ true) → (a && not b) ≡ false
-        nothing false b k = refl
-        nothing true b k = ap not (k refl)
+    fallen_clear p = grind (arith, nat_tests, low)

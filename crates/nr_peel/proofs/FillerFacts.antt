@@ -23,16 +23,11 @@ info_below Two = omega arith
 
 -- the fillers are positions
 pub fillers_fit : (l : Lifted) → l.plan.k ≤ cols_of l.plan.graph * l.plan.z
-fillers_fit l =
-    let fits : info_cols_of l.plan.graph * l.plan.z ≤ cols_of l.plan.graph * l.plan.z = mul-le-mul_right l.plan.z (info_below l.plan.graph) in
-    omega (arith, l.plan.sound.columns, fits)
+fillers_fit l = grind (arith, mul-le-mul_right, info_below)
 
 -- a list of one value
 pub get_or-same : {X : Type 0} (n p : ℕ) (x : X) → get_or (replicate n x) p x ≡ x
-get_or-same {X} n p x = elim (cases_lt p n) [
-  | inl below ↦ get_or-replicate n p x x below
-  | inr past ↦ get_or_past (replicate n x) p x (omega (arith, length-replicate {A = X} n x, past))
-]
+get_or-same {X} n p x = grind (arith, nat_tests, cases_lt, get_or-replicate, get_or_past, length-replicate)
 
 -- one filler more
 pub filler_more : (kdash n q : ℕ) → kdash ≤ n → (filler kdash n q || (n == q)) ≡ filler kdash (n + 1) q
@@ -42,21 +37,15 @@ pub filler_none : (kdash q : ℕ) → filler kdash kdash q ≡ false
 filler_none kdash q = grind (arith, nat_tests)
 
 pub fillers_are : (kdash k size : ℕ) (xs : List Bool) → length xs ≡ size → ((q : ℕ) → bit xs q ≡ filler kdash k q) → xs ≡ map (filler kdash k) (range_with_len 0 size)
-fillers_are kdash k size xs long each = same_lists xs (map (filler kdash k) (range_with_len 0 size)) (long ∙ sym (length-map-range_with_len (filler kdash k) 0 size))
-    (λ i d lt. let lt' : i < size = omega (arith, long) in
-    get_or_default xs i d false lt ∙ each i ∙ sym (get_or-map-range_with_len (filler kdash k) 0 size i i d lt' (omega arith)))
+fillers_are kdash k size xs long each = grind (arith, same_lists, length-map-range_with_len, get_or_default, get_or-map-range_with_len)
 
 pub fillers_long : (c : Checks) (p : Numbers) → length (fillers c p) ≡ c.size
 fillers_long c p = length-map-range_with_len (filler p.kdash p.k) 0 c.size
 
 -- the marks are at fillers alone
 pub fillers_within : (c : Checks) (p : Numbers) → Within (bit (fillers c p)) (filler p.kdash p.k)
-fillers_within c p q h = elim (cases_lt q c.size) [
-  | inl below ↦ sym (get_or-map-range_with_len (filler p.kdash p.k) 0 c.size q q false below (omega arith)) ∙ h
-  | inr past ↦ absurd (true≢false (sym h ∙ get_or_past (fillers c p) q false (omega (arith, fillers_long c p, past))))
-]
+fillers_within c p q h = grind (arith, nat_tests, cases_lt, get_or-map-range_with_len, get_or_past, fillers_long)
 
 -- each filler is marked
 pub fillers_there : (c : Checks) (p : Numbers) (q : ℕ) → p.kdash ≤ q → q < p.k → p.k ≤ c.size → bit (fillers c p) q ≡ true
-fillers_there c p q low below fits =
-    get_or-map-range_with_len (filler p.kdash p.k) 0 c.size q q false (omega (arith, below, fits)) (omega arith) ∙ and_from (nat_le p.kdash q) (nat_lt q p.k) (le-leb p.kdash q low) (lt-ltb q p.k below)
+fillers_there c p q low below fits = grind (arith, nat_tests, get_or-map-range_with_len, and_from, le-leb, lt-ltb)

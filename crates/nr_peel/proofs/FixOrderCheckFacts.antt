@@ -1,4 +1,5 @@
 -- The check of a fix order, step by step.
+use Rattle.std.proofs.lemmas.Bool.Decides.{nat_tests}
 use Rattle.std.proofs.Common.{◌≡◌, ◌≢◌, ℕ, ◌+◌, ◌<◌, ◌==◌, ◌||◌, ◌&&◌, nat_lt, Bool, true, false, cond, List, [], ◌∷◌, ◌++◌, length, get_or, set, take, refl, sym, ap, ◌∙◌, arith}
 use Rattle.std.specs.Prelude.{zero, suc}
 use Rattle.std.specs.List.{list_all}
@@ -15,9 +16,7 @@ use Rattle.nr_peel.proofs.TieFacts.{bit-mark}
 
 -- nor is one that its row doesn't fix
 pub accepts_without : (c : Checks) (S : ℕ → Bool) (s : Fix) → fixes S (c.row s.row s.lane) s.pos ≡ false → accepts c S s ≡ false
-accepts_without c S s h = and_right (nat_lt s.row c.rows) (nat_lt s.lane c.lanes && (nat_lt s.pos c.size && fixes S (c.row s.row s.lane) s.pos))
-    (and_right (nat_lt s.lane c.lanes) (nat_lt s.pos c.size && fixes S (c.row s.row s.lane) s.pos)
-    (and_right (nat_lt s.pos c.size) (fixes S (c.row s.row s.lane) s.pos) h))
+accepts_without c S s h = grind (arith, nat_tests, and_right)
 
 -- what the positions of a row show so far of a step
 pub record IsWeighed (K : ℕ → Bool) (ps : List ℕ) (pos : ℕ) (there : Bool) (n : ℕ) : Type 0 where
@@ -43,12 +42,7 @@ module _ (K : ℕ → Bool) (ps : List ℕ) (pos : ℕ) (there : Bool) (n : ℕ)
 
 -- an unknown position beside the step's own
 pub weighed_out : (K : ℕ → Bool) (ps : List ℕ) (pos n : ℕ) → n < length ps → get_or ps n 0 ≢ pos → K (get_or ps n 0) ≡ false → fixes K ps pos ≡ false
-weighed_out K ps pos n lt ne out = and_right (stands pos ps) (list_all (λ q. (q == pos) || K q) ps)
-    (list_all_at (λ q. (q == pos) || K q) ps n 0 lt (both (get_or ps n 0 == pos) (K (get_or ps n 0)) (false_from_ne_true (get_or ps n 0 == pos) (λ h. ne (eqb-true (get_or ps n 0) pos h))) out))
-  where
-    both : (a b : Bool) → a ≡ false → b ≡ false → (a || b) ≡ false
-    both true b h k = h
-    both false b h k = k
+weighed_out K ps pos n lt ne out = grind (arith, nat_tests, and_right, list_all_at, false_from_ne_true, eqb-true)
 
 -- the steps so far
 pub record IsJudged (c : Checks) (S : ℕ → Bool) (steps : List Fix) (known : List Bool) (n : ℕ) : Type 0 where
@@ -57,15 +51,7 @@ pub record IsJudged (c : Checks) (S : ℕ → Bool) (steps : List Fix) (known : 
 
 -- accepting asks only which positions are in the set
 pub accepts_alike : (c : Checks) (S T : ℕ → Bool) (s : Fix) → ((p : ℕ) → S p ≡ T p) → accepts c S s ≡ accepts c T s
-accepts_alike c S T s same =
-    ap (λ b. nat_lt s.row c.rows && (nat_lt s.lane c.lanes && (nat_lt s.pos c.size && (stands s.pos (c.row s.row s.lane) && b)))) (all (c.row s.row s.lane))
-  where
-    all : (xs : List ℕ) → list_all (λ q. (q == s.pos) || S q) xs ≡ list_all (λ q. (q == s.pos) || T q) xs
-    all [] = refl
-    all (x ∷ xs) = both (x == s.pos) (S x) (T x) _ _ (same x) (all xs)
-      where
-        both : (a b d u v : Bool) → b ≡ d → u ≡ v → ((a || b) && u) ≡ ((a || d) && v)
-        both a b d u v e f = cc
+accepts_alike c S T s same = grind (arith, nat_tests)
 
 pub judged_more : (c : Checks) (S : ℕ → Bool) (steps : List Fix) (known : List Bool) (n : ℕ) (s : Fix) → IsJudged c S steps known n → n < length steps → s ≡ get_or steps n s
     → s.pos < length known → accepts c (bit known) s ≡ true → IsJudged c S steps (set known s.pos true) (n + 1)
@@ -87,9 +73,7 @@ judged_more c S steps known n s j lt is inside ok =
 pub refused_here : (c : Checks) (S : ℕ → Bool) (steps : List Fix) (n : ℕ) (s : Fix) → all_accepted c S (take n steps) ≡ true → n < length steps → s ≡ get_or steps n s → accepts c (after_steps c S (take n steps)) s ≡ false
     → all_accepted c S steps ≡ false × ((p : ℕ) → after_steps c S steps p ≡ after_steps c S (take n steps) p)
 refused_here c S [] n s all lt is bad = absurd (omega arith)
-refused_here c S (x ∷ steps) zero s all lt is bad =
-    let e : accepts c S x ≡ false = ap (accepts c S) (sym is) ∙ bad in
-    (and_left (accepts c S x) (all_accepted c (with_position S x.pos) steps) e, λ p. ap (λ b. cond b (after_steps c (with_position S x.pos) steps) S p) e)
+refused_here c S (x ∷ steps) zero s all lt is bad = grind (arith, and_left)
 refused_here c S (x ∷ steps) (suc n) s all lt is bad =
     let parts = and_parts (accepts c S x) (all_accepted c (with_position S x.pos) (take n steps)) all in
     let same : cond (accepts c S x) (after_steps c (with_position S x.pos) (take n steps)) S ≡ after_steps c (with_position S x.pos) (take n steps) = ap (λ b. cond b (after_steps c (with_position S x.pos) (take n steps)) S) parts.0 in

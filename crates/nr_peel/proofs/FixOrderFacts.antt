@@ -1,4 +1,6 @@
 -- Steps that are accepted in turn: where they lead, from a larger set, and one step more.
+use Rattle.std.proofs.lemmas.Bool.Decides.{nat_tests}
+use Rattle.std.proofs.Common.{arith}
 use Rattle.std.proofs.Common.{◌≡◌, ℕ, ◌<◌, ◌==◌, nat_lt, ◌||◌, ◌&&◌, Bool, true, false, cond, List, [], ◌∷◌, ◌++◌, length, take, refl, sym, ap, ◌∙◌, ⊎_elim, append_assoc, append-nil}
 use Rattle.std.proofs.Math.Seq.{take-append_seam}
 use Rattle.std.proofs.lemmas.Bool.{and_parts, and_from, or_cases, or_left, or_right, ltb-true, lt-ltb, eqb-true}
@@ -18,27 +20,17 @@ pub record IsAcceptedStep (c : Checks) (S : ℕ → Bool) (s : Fix) : Type 0 whe
   pub fixed : fixes S (c.row s.row s.lane) s.pos ≡ true
 
 pub accepted_says : (c : Checks) (S : ℕ → Bool) (s : Fix) → accepts c S s ≡ true → IsAcceptedStep c S s
-accepted_says c S s h =
-    let f = fixes S (c.row s.row s.lane) s.pos in
-    let one = and_parts (nat_lt s.row c.rows) (nat_lt s.lane c.lanes && (nat_lt s.pos c.size && f)) h in
-    let two = and_parts (nat_lt s.lane c.lanes) (nat_lt s.pos c.size && f) one.1 in
-    let three = and_parts (nat_lt s.pos c.size) f two.1 in
-    record { row = ltb-true s.row c.rows one.0; lane = ltb-true s.lane c.lanes two.0; pos = ltb-true s.pos c.size three.0; fixed = three.1 }
+accepted_says c S s h = grind (arith, nat_tests, and_parts, ltb-true)
 
 pub step_accepted : (c : Checks) (S : ℕ → Bool) (s : Fix) → s.row < c.rows → s.lane < c.lanes → s.pos < c.size → fixes S (c.row s.row s.lane) s.pos ≡ true → accepts c S s ≡ true
-step_accepted c S s r l p f =
-    and_from (nat_lt s.row c.rows) (nat_lt s.lane c.lanes && (nat_lt s.pos c.size && fixes S (c.row s.row s.lane) s.pos)) (lt-ltb s.row c.rows r)
-    (and_from (nat_lt s.lane c.lanes) (nat_lt s.pos c.size && fixes S (c.row s.row s.lane) s.pos) (lt-ltb s.lane c.lanes l)
-    (and_from (nat_lt s.pos c.size) (fixes S (c.row s.row s.lane) s.pos) (lt-ltb s.pos c.size p) f))
+step_accepted c S s r l p f = grind (arith, nat_tests, and_from, lt-ltb)
 
 pub with_within : (S T : ℕ → Bool) (p : ℕ) → Within S T → Within (with_position S p) (with_position T p)
 with_within S T p within q h = ⊎_elim (λ s. or_left (T q) (p == q) (within q s)) (λ e. or_right (T q) (p == q) e) (or_cases (S q) (p == q) h)
 
 -- a larger set accepts as well
 pub accepts_more : (c : Checks) (S T : ℕ → Bool) (s : Fix) → Within S T → accepts c S s ≡ true → accepts c T s ≡ true
-accepts_more c S T s within h =
-    let a = accepted_says c S s h in
-    step_accepted c T s a.row a.lane a.pos (fixes_more S T (c.row s.row s.lane) s.pos within a.fixed)
+accepts_more c S T s within h = grind (arith, accepted_says, step_accepted, fixes_more)
 
 pub all_accepted_within : (c : Checks) (S T : ℕ → Bool) (ss : List Fix) → Within S T → all_accepted c S ss ≡ true → all_accepted c T ss ≡ true
 all_accepted_within c S T [] within h = refl
@@ -68,11 +60,7 @@ steps_stay c S ss sound = steps_within c S S ss sound (closure_keeps c S)
 
 -- after steps that were all accepted, their positions are added
 pub after_accepted : (c : Checks) (S : ℕ → Bool) (ss : List Fix) (p : ℕ) → all_accepted c S ss ≡ true → after_steps c S ss p ≡ (S p || is_fixed_by ss p)
-after_accepted c S [] p h = or_none (S p)
-  where
-    or_none : (b : Bool) → b ≡ (b || false)
-    or_none true = refl
-    or_none false = refl
+after_accepted c S [] p h = grind arith
 after_accepted c S (s ∷ ss) p h =
     let parts = and_parts (accepts c S s) (all_accepted c (with_position S s.pos) ss) h in
     step (accepts c S s) parts.0 ∙ after_accepted c (with_position S s.pos) ss p parts.1 ∙ regroup (S p) (s.pos == p) (is_fixed_by ss p)
@@ -94,16 +82,8 @@ all_accepted-push c S (x ∷ ss) s h k =
     (all_accepted-push c (with_position S x.pos) ss s parts.1 (sym (ap (λ T. accepts c T s) same) ∙ k))
 
 pub is_fixed_by-push : (ss : List Fix) (s : Fix) (p : ℕ) → is_fixed_by (ss ++ s ∷ []) p ≡ (is_fixed_by ss p || (s.pos == p))
-is_fixed_by-push [] s p = or_false (s.pos == p)
-  where
-    or_false : (b : Bool) → (b || false) ≡ b
-    or_false true = refl
-    or_false false = refl
-is_fixed_by-push (x ∷ ss) s p = ap (λ b. (x.pos == p) || b) (is_fixed_by-push ss s p) ∙ regroup (x.pos == p) (is_fixed_by ss p) (s.pos == p)
-  where
-    regroup : (a b d : Bool) → (a || (b || d)) ≡ ((a || b) || d)
-    regroup true b d = refl
-    regroup false b d = refl
+is_fixed_by-push [] s p = grind (arith, nat_tests)
+is_fixed_by-push (x ∷ ss) s p = grind (arith, nat_tests, is_fixed_by-push ss s p)
 
 -- ---- steps that go on
 

@@ -44,15 +44,7 @@ pub record AreTold (z : ℕ) (N V : ℕ → Bool) (j : ℕ) (old now : Lanes) : 
   pub alike : AreAlike old now
 
 pub told_none : (z : ℕ) (N V : ℕ → Bool) (s : Lanes) → AreTold z N V 0 s s
-told_none z N V s =
-    let none : (p : ℕ) → nat_lt (p / z) 0 ≡ false = λ p. le-ltb (p / z) 0 (omega arith) in
-    record {
-      known = λ p. grind (arith, none p);
-      pending = λ p. grind (arith, none p);
-      bits = λ p. grind (arith, none p);
-      order = refl;
-      alike = record { known_long = refl; bits_long = refl; pending_long = refl; known_lanes = refl; bits_lanes = refl; pending_lanes = refl };
-    }
+told_none z N V s = grind (arith, nat_tests, le-ltb)
 
 -- a test of one column more
 more_bits : (a f : Bool) (n j : ℕ) → ((a || (f && nat_lt n j)) || (f && (n == j))) ≡ (a || (f && nat_lt n (j + 1)))
@@ -108,26 +100,16 @@ module _ (z j : ℕ) (some : 0 < z) (old now : Lanes) (H V : ℕ → Bool) (h : 
   }
     where
       valued : (p : ℕ) → lane_marks z j (is_set both) p ≡ (in_column z N j p && V p)
-      valued p =
-          let here : (p / z == j) ≡ true → is_set told (p % z) ≡ V p = λ e. told_is (p % z) (mod_below p z some) ∙ ap V (place_is p e) in
-          grind (arith, both_is (p % z), marks p, here)
+      valued p = grind (arith, nat_tests, mod_below, place_is)
 
   -- none of what is new in the column is fresh
   pub told_fresh : Within (bit old.pending.items) (bit old.known.items) → (lane : List ℕ) → ((p : ℕ) → lane_marks z j (is_set lane) p ≡ in_column z N j p)
       → (p : ℕ) → lane_marks z j (is_set lane) p ≡ true → bit now.pending.items p ≡ false
-  told_fresh within lane marks p set =
-      let past : (p / z == j) ≡ true → nat_lt (p / z) j ≡ false = λ e. le-ltb (p / z) j (omega (arith, eqb-true (p / z) j e)) in
-      grind (arith, marks p, h.pending p, within p, past)
+  told_fresh within lane marks p set = grind (arith, nat_tests, le-ltb, eqb-true)
 
   -- a column in which nothing is new
   pub told_skip : (lane : List ℕ) → ((p : ℕ) → lane_marks z j (is_set lane) p ≡ in_column z N j p) → ((t : ℕ) → is_set lane t ≡ false) → AreTold z N V (j + 1) old now
-  told_skip lane marks none = record {
-    known = λ p. grind (arith, h.known p, nothing p, more_bits (bit old.known.items p) (N p) (p / z) j);
-    pending = λ p. grind (arith, h.pending p, nothing p, more_bits (bit old.pending.items p) (N p) (p / z) j);
-    bits = λ p. grind (arith, h.bits p, nothing p, more_bits (bit old.bits.items p) (N p && V p) (p / z) j);
-    order = h.order;
-    alike = h.alike;
-  }
+  told_skip lane marks none = grind (arith, more_bits)
     where
       nothing : (p : ℕ) → in_column z N j p ≡ false
       nothing p = grind (arith, marks p, none (p % z))
@@ -136,16 +118,7 @@ module _ (z j : ℕ) (some : 0 < z) (old now : Lanes) (H V : ℕ → Bool) (h : 
 
 pub told_lanes : (c : Checks) (N V : ℕ → Bool) (old now : Lanes) → AreLanes c old → ((p : ℕ) → bit now.known.items p ≡ (bit old.known.items p || N p)) → ((p : ℕ) → bit now.pending.items p ≡ (bit old.pending.items p || N p))
     → ((p : ℕ) → bit now.bits.items p ≡ (bit old.bits.items p || (N p && V p))) → AreAlike old now → AreLanes c now
-told_lanes c N V old now lanes known pending bits alike = record {
-  known_long = alike.known_long ∙ lanes.known_long;
-  bits_long = alike.bits_long ∙ lanes.bits_long;
-  pending_long = alike.pending_long ∙ lanes.pending_long;
-  known_lanes = alike.known_lanes ∙ lanes.known_lanes;
-  bits_lanes = alike.bits_lanes ∙ lanes.bits_lanes;
-  pending_lanes = alike.pending_lanes ∙ lanes.pending_lanes;
-  blank = λ p e. grind (arith, known p, bits p, lanes.blank p);
-  within = λ p e. grind (arith, known p, pending p, lanes.within p);
-}
+told_lanes c N V old now lanes known pending bits alike = grind arith
 
 -- when all columns are given
 pub told_all : (c : Checks) (z cols : ℕ) (heard : List Bool) (V : ℕ → Bool) (old now : Lanes) → 0 < z → c.size ≡ cols * z → length heard ≡ c.size → AreLanes c old
@@ -159,10 +132,7 @@ told_all c z cols heard V old now some size long lanes h = record {
 }
   where
     low : (p : ℕ) → bit heard p ≡ true → nat_lt (p / z) cols ≡ true
-    low p e = elim (cases_lt p (cols * z)) [
-      | inl below ↦ lt-ltb (p / z) cols (div_below p z cols some below)
-      | inr past ↦ absurd (true≢false (sym e ∙ get_or_past heard p false (omega (arith, long, size, past))))
-    ]
+    low p e = grind (arith, nat_tests, cases_lt, lt-ltb, div_below, get_or_past)
 
     all : (p : ℕ) → below_column z (news (bit heard) old) cols p ≡ news (bit heard) old p
     all p = grind (arith, low p)

@@ -1,4 +1,5 @@
 -- Marks that are joined, a word of 64 at a time.
+use Rattle.std.proofs.lemmas.Bool.Decides.{nat_tests}
 use Rattle.std.proofs.Common.{◌≡◌, ℕ, ◌+◌, ◌-◌, ◌<◌, ◌≤◌, ◌==◌, ◌||◌, Bool, false, List, length, refl, sym, ap, ◌∙◌, inl, inr, arith}
 use Rattle.std.specs.Int.{bit_at}
 use Rattle.std.specs.Int.RustNames.{bit_or}
@@ -43,9 +44,4 @@ joined_next at count next now old more a b h few whole read others within before
     ]
 
 pub joined_all : (n : ℕ) (now old more : List Bool) → length more ≡ length old → length old ≤ n → AreJoined n now old more → (p : ℕ) → bit now p ≡ (bit old p || bit more p)
-joined_all n now old more same all h p = elim (cases_lt p (length old)) [
-  | inl below ↦ h.done p (omega (arith, below, all)) below
-  | inr past ↦
-      get_or_past now p false (omega (arith, h.long, past))
-      ∙ sym (ap (λ v. v || bit more p) (get_or_past old p false past) ∙ get_or_past more p false (omega (arith, same, past)))
-]
+joined_all n now old more same all h p = grind (arith, nat_tests, cases_lt, get_or_past)

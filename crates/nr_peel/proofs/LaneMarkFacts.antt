@@ -1,4 +1,5 @@
 -- Lanes of rows, and the positions that they mark in a block.
+use Rattle.std.proofs.lemmas.Bool.Decides.{nat_tests}
 use Rattle.std.proofs.Common.{◌≡◌, ℕ, ◌+◌, ◌-◌, ◌*◌, ◌/◌, ◌%◌, ◌^◌, ◌<◌, ◌≤◌, ◌==◌, ◌&&◌, ◌||◌, Bool, true, false, not, List, ◌++◌, get_or, set, replicate, refl, sym, ap, ◌∙◌, inl, inr, arith}
 use Rattle.std.specs.Int.{bit_at, w64}
 use Rattle.std.specs.Int.RustNames.{bit_or}
@@ -69,12 +70,7 @@ module _ (z j v : ℕ) (some : 0 < z) where
   rotated_marks marks lane u rotated is p = ap (λ n. (p / z == j) && (n == 1)) (rotated (p % z) (mod_below p z some)) ∙ turned_marks lane u is p
 
   pub marks_none : (u : ℕ → Bool) (a : Bool) (p : ℕ) → ((t : ℕ) → u t ≡ false) → a ≡ (a || marks_of z j v u p)
-  marks_none u a p none = sym (ap (λ b. a || ((p / z == j) && b)) (none (unrotate z v (p % z))) ∙ plain a (p / z == j))
-    where
-      plain : (a b : Bool) → (a || (b && false)) ≡ a
-      plain true b = refl
-      plain false true = refl
-      plain false false = refl
+  marks_none u a p none = grind (arith, nat_tests)
 
 -- the lane that marks one row
 pub one_marked : (row : ℕ) → row < 384 → (t : ℕ) → is_set (set (replicate 6 0) (row / 64) (bit_or (get_or (replicate 6 0) (row / 64) 0) (1 * 2 ^ (row % 64) % 2 ^ 64))) t ≡ (row == t)

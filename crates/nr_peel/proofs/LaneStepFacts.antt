@@ -1,4 +1,5 @@
 -- What a row of blocks fixes in the block of one entry.
+use Rattle.std.proofs.lemmas.Bool.Decides.{nat_tests}
 use Rattle.std.proofs.Common.{◌≡◌, ℕ, ◌+◌, ◌-◌, ◌*◌, ◌/◌, ◌%◌, ◌<◌, ◌≤◌, ◌==◌, ◌&&◌, ◌||◌, Bool, true, false, not, List, refl, sym, ap, ◌∙◌, ⊎_elim, arith}
 use Rattle.std.specs.Prelude.{count_by}
 use Rattle.std.proofs.lemmas.Bool.{and_parts, and_from, or_cases, eqb-true, eq-eqb, true≢false, false_from_ne_true, cases_eq, not-true, or_parts}
@@ -85,10 +86,7 @@ module _ (z j v : ℕ) (some : 0 < z) (u : ℕ → Bool) where
 
 -- a position that a row marks since it isn't in a set
 pub mark_missing : (z j v : ℕ) → 0 < z → (ones : List ℕ) (K : ℕ → Bool) (p : ℕ) → marks_of z j v (lacks z j v ones K) p ≡ true → K p ≡ false
-mark_missing z j v some ones K p h =
-    let t = unrotate z v (p % z) in
-    let parts = and_parts (p / z == j) (lacks z j v ones K t) h in
-    sym (ap K (place_of_mark z j v some (lacks z j v ones K) p parts.0)) ∙ not-true (K (one_at z t j v)) (and_parts (is_set ones t) (not (K (one_at z t j v))) parts.1).1
+mark_missing z j v some ones K p h = grind (arith, nat_tests, and_parts, place_of_mark, not-true)
 
 -- a set that is within another has none of what that lacks
 pub outside : (P K : ℕ → Bool) → Within P K → (p : ℕ) → K p ≡ false → P p ≡ false

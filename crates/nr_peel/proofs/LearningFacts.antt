@@ -42,25 +42,11 @@ module _ (c : Checks) (H V : ℕ → Bool) (a d : Lanes) (lanes : AreLanes c a) 
 
   -- what is known is reached from the positions that were given and those that are
   heard_reaches : (G F : ℕ → Bool) → ((p : ℕ) → F p ≡ (G p || H p)) → Reaches c G a → Reaches c F d
-  heard_reaches G F more r = record {
-    accepted = ap (λ v. all_accepted c F v.items) h.order ∙ all_accepted_within c G F a.order.items (λ p e. more p ∙ or_left (G p) (H p) e) r.accepted;
-    reached = λ p. grind (arith, h.known p, r.reached p, more p, ap (λ v. is_fixed_by v.items p) h.order);
-  }
+  heard_reaches G F more r = grind (arith, all_accepted_within, or_left)
 
 -- the counts are in order before they follow
 pub heard_held : (c : Checks) (H V : ℕ → Bool) (a d : Sweep) → IsHeld c a → Hears c H V a.lanes d.lanes → d.counts ≡ a.counts → d.touches ≡ a.touches → IsHeld c d
-heard_held c H V a d held h counts touches = record {
-  lanes = h.lanes;
-  counts_lanes = ap (λ v. v.lanes) counts ∙ held.counts_lanes;
-  counts_long = ap (λ v. length v.items) counts ∙ held.counts_long;
-  counted = rw counts (counts_same c (counted_in a.lanes) (counted_in d.lanes) a.counts.items held.counted (heard_counted c H V a.lanes d.lanes held.lanes h));
-  order_few = omega (arith, held.order_few, ap (λ v. length v.items) h.order, ap (λ v. marked (has_count 0 v.items) (c.rows * c.lanes)) counts);
-  order_room = omega (arith, held.order_room, ap (λ v. vec_capacity v) h.order);
-  least = rw (h.order, counts, touches) held.least;
-  most = rw (counts, touches) held.most;
-  worked = rw (counts, touches) held.worked;
-  small = held.small;
-}
+heard_held c H V a d held h counts touches = grind (arith, counts_same, heard_counted)
 
 module _ (l : Lifted) (new : SweepPeeler) (held : IsHeld (lifted_checks l) new.sweep) (none_pending : HasNonePending new.sweep.lanes) (settled : (k : ℕ) → slice_index new.sweep.counts.items k ≢ 1)
     (counted : new.left ≡ left_of l.plan.kdash new.sweep.lanes.known.items) (table : IsTable l.table.now) where

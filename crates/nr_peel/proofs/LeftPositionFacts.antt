@@ -1,4 +1,5 @@
 -- What is left: the positions that aren't known, and what shows that all or not all are.
+use Rattle.std.proofs.lemmas.Bool.Decides.{nat_tests}
 use Rattle.std.proofs.Common.{◌≡◌, ◌≢◌, ℕ, ◌+◌, ◌<◌, ◌≤◌, ◌==◌, nat_lt, Bool, true, false, not, cond, List, [], ◌∷◌, ◌++◌, length, get_or, refl, sym, ap, ◌∙◌, ⊎_elim, arith}
 use Rattle.std.specs.Prelude.{zero, suc, count_by, slice_index}
 use Rattle.std.specs.List.{filter, range_with_len}
@@ -51,10 +52,7 @@ pub all_left : (n : ℕ) (known : List Bool) → n ≤ length known → ((p : �
 all_left n known le out = omega (arith, left_and_known n known le, no_marks (bit known) n out)
 
 pub whole_order : (s : Peeling) → IsPeeled s → s.numbers.kdash ≤ length s.known → left_of s.numbers.kdash s.known ≡ 0 → IsFixOrder (checks_for s) s.numbers.kdash (bit s.given) s.order
-whole_order s h le none = record {
-  accepted = h.accepted;
-  complete = λ p lt. after_accepted (checks_for s) (bit s.given) s.order p h.accepted ∙ sym (h.reached p) ∙ none_left s.numbers.kdash s.known le none p lt;
-}
+whole_order s h le none = grind (arith, after_accepted, none_left)
 
 -- a filter of numbers that follow one another
 module _ (keeps : ℕ → Bool) where
@@ -63,17 +61,7 @@ module _ (keeps : ℕ → Bool) where
 
   kept_stands : (a n p : ℕ) → stands p (kept_from a n) ≡ true → (a ≤ p) × (p < a + n) × (keeps p ≡ true)
   kept_stands a zero p h = absurd (false≢true h)
-  kept_stands a (suc n) p h = go (keeps a) refl h (kept_stands (a + 1) n p)
-    where
-      later : (a + 1 ≤ p) × (p < a + 1 + n) × (keeps p ≡ true) → (a ≤ p) × (p < a + suc n) × (keeps p ≡ true)
-      later r = (omega (arith, r.0), omega (arith, r.1), r.2)
-
-      go : (b : Bool) → keeps a ≡ b → stands p (cond b (a ∷ kept_from (a + 1) n) (kept_from (a + 1) n)) ≡ true → (stands p (kept_from (a + 1) n) ≡ true → (a + 1 ≤ p) × (p < a + 1 + n) × (keeps p ≡ true)) → (a ≤ p) × (p < a + suc n) × (keeps p ≡ true)
-      go false e k ih = later (ih k)
-      go true e k ih = ⊎_elim
-          (λ q. let at : a ≡ p = eqb-true a p q in (omega arith, omega arith, ap keeps (sym at) ∙ e))
-          (λ r. later (ih r))
-          (or_cases (a == p) (stands p (kept_from (a + 1) n)) k)
+  kept_stands a (suc n) p h = grind (arith, nat_tests, kept_stands (a + 1) n p, eqb-true, or_cases)
 
   stands_kept : (a n p : ℕ) → a ≤ p → p < a + n → keeps p ≡ true → stands p (kept_from a n) ≡ true
   stands_kept a zero p low high k = absurd (omega arith)
@@ -86,23 +74,11 @@ module _ (keeps : ℕ → Bool) where
   -- each is at or above the first number, and they ascend
   kept_low : (a n i : ℕ) → i < length (kept_from a n) → a ≤ slice_index (kept_from a n) i
   kept_low a zero i lt = absurd (omega arith)
-  kept_low a (suc n) i lt = go (keeps a) i lt (kept_low (a + 1) n)
-    where
-      go : (b : Bool) (i : ℕ) → i < length (cond b (a ∷ kept_from (a + 1) n) (kept_from (a + 1) n)) → ((i : ℕ) → i < length (kept_from (a + 1) n) → a + 1 ≤ slice_index (kept_from (a + 1) n) i) → a ≤ slice_index (cond b (a ∷ kept_from (a + 1) n) (kept_from (a + 1) n)) i
-      go false i l ih = omega (arith, ih i l)
-      go true zero l ih = omega arith
-      go true (suc i) l ih = omega (arith, ih i (omega arith))
+  kept_low a (suc n) i lt = grind (arith, kept_low (a + 1) n)
 
   kept_rises : (a n i j : ℕ) → i < j → j < length (kept_from a n) → slice_index (kept_from a n) i < slice_index (kept_from a n) j
   kept_rises a zero i j lt l = absurd (omega arith)
-  kept_rises a (suc n) i j lt l = go (keeps a) i j lt l (kept_rises (a + 1) n)
-    where
-      go : (b : Bool) (i j : ℕ) → i < j → j < length (cond b (a ∷ kept_from (a + 1) n) (kept_from (a + 1) n)) → ((i j : ℕ) → i < j → j < length (kept_from (a + 1) n) → slice_index (kept_from (a + 1) n) i < slice_index (kept_from (a + 1) n) j)
-          → slice_index (cond b (a ∷ kept_from (a + 1) n) (kept_from (a + 1) n)) i < slice_index (cond b (a ∷ kept_from (a + 1) n) (kept_from (a + 1) n)) j
-      go false i j lt l ih = ih i j lt l
-      go true i zero lt l ih = absurd (omega arith)
-      go true zero (suc j) lt l ih = omega (arith, kept_low (a + 1) n j (omega arith))
-      go true (suc i) (suc j) lt l ih = ih i j (omega arith) (omega arith)
+  kept_rises a (suc n) i j lt l = grind (arith, kept_rises (a + 1) n, kept_low)
 
 -- a member of a list, by its place
 pub stands_at : (xs : List ℕ) (i : ℕ) → i < length xs → stands (slice_index xs i) xs ≡ true
@@ -147,9 +123,7 @@ module _ (s : Peeling) (h : IsPeeled s) (sound : AreSound (checks_for s)) where
 
   -- a position is a member where it is not in the closure
   same_member : (p : ℕ) → p < length s.known → stands p (unknown_in s.known) ≡ not (closure (checks_for s) (bit s.given) p)
-  same_member p below = same_truth (stands p (unknown_in s.known)) (not (closure (checks_for s) (bit s.given) p))
-      (λ m. ap not (sym (h.closed p) ∙ (unknown_member p m).1))
-      (λ e. unknown_stands p below (h.closed p ∙ not-true (closure (checks_for s) (bit s.given) p) e))
+  same_member p below = grind (arith, same_truth, unknown_member, unknown_stands, not-true)
 
   pub stuck_stops : s.numbers.kdash ≤ length s.known → left_of s.numbers.kdash s.known ≢ 0 → IsStoppingSet (checks_for s) s.numbers.kdash (bit s.given) (unknown_in s.known)
   stuck_stops le some =

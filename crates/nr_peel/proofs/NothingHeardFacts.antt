@@ -1,5 +1,6 @@
 -- With nothing received no position below K' is fixed. The fillers, with the extension positions whose row has fillers
 -- alone beside them, are a closed set.
+use Rattle.std.proofs.lemmas.Bool.Decides.{nat_tests}
 use Rattle.std.proofs.Common.{◌≡◌, ◌≢◌, ℕ, ◌+◌, ◌*◌, ◌%◌, ◌<◌, ◌≤◌, ◌==◌, nat_le, nat_lt, ◌||◌, ◌&&◌, Bool, true, false, cond, List, [], ◌∷◌, length, map, refl, sym, ap, ◌∙◌, suc, zero, ⊎_elim, inl, inr, arith}
 use Rattle.std.specs.Prelude.{◌⊎◌}
 use Rattle.std.specs.List.{list_all, filter}
@@ -41,16 +42,7 @@ all_places set z t es = map (λ e. one_at z t e.col (value_in set e)) es
 
 tail_stands : (set z t from p : ℕ) (es : List Entry) → stands p (places_of z t (pairs set (filter (λ e. nat_le from e.col) es))) ≡ true → stands p (all_places set z t es) ≡ true
 tail_stands set z t from p [] h = h
-tail_stands set z t from p (e ∷ es) h = go (nat_le from e.col) h (tail_stands set z t from p es)
-  where
-    at : Bool
-    at = one_at z t e.col (value_in set e) == p
-
-    go : (b : Bool) → stands p (places_of z t (pairs set (cond b (e ∷ filter (λ e. nat_le from e.col) es) (filter (λ e. nat_le from e.col) es)))) ≡ true
-        → (stands p (places_of z t (pairs set (filter (λ e. nat_le from e.col) es))) ≡ true → stands p (all_places set z t es) ≡ true) → (at || stands p (all_places set z t es)) ≡ true
-    go false k ih = or_right at (stands p (all_places set z t es)) (ih k)
-    go true k ih = ⊎_elim (λ a. or_left at (stands p (all_places set z t es)) a) (λ r. or_right at (stands p (all_places set z t es)) (ih r))
-        (or_cases at (stands p (places_of z t (pairs set (filter (λ e. nat_le from e.col) es)))) k)
+tail_stands set z t from p (e ∷ es) h = grind (arith, nat_tests, tail_stands set z t from p es, or_right, or_left, or_cases)
 
 stands_tail : (set z t from p : ℕ) → 0 < z → (es : List Entry) → stands p (all_places set z t es) ≡ true → (p < from * z) ⊎ (stands p (places_of z t (pairs set (filter (λ e. nat_le from e.col) es))) ≡ true)
 stands_tail set z t from p pos [] h = absurd (false≢true h)
@@ -88,13 +80,7 @@ module _ (es : List Entry) (set z n rows kdash : ℕ) where
   reach q = fill q || any_below (λ i. any_below (λ t. owns q i t) z) rows
 
   fill_below : (p : ℕ) → fill p ≡ true → p < n * z
-  fill_below p h = go (and_parts (nat_le kdash p) (nat_lt p (n * z)) h)
-    where
-      go : (nat_le kdash p ≡ true) × (nat_lt p (n * z) ≡ true) → p < n * z
-      go h = ltb_says p (n * z) h.1
-        where
-          ltb_says : (a b : ℕ) → nat_lt a b ≡ true → a < b
-          ltb_says a b h = leb-true (suc a) b h
+  fill_below p h = grind (arith, nat_tests, and_parts, leb-true)
 
   fill_from : (p : ℕ) → fill p ≡ true → kdash ≤ p
   fill_from p h = leb-true kdash p (and_parts (nat_le kdash p) (nat_lt p (n * z)) h).0
@@ -136,23 +122,10 @@ module _ (es : List Entry) (set z n rows kdash : ℕ) where
 
   -- no position of the first parity columns is reached
   core_out : (q : ℕ) → n * z ≤ q → q < (n + 4) * z → reach q ≡ true → ⊥
-  core_out q low high h = ⊎_elim (λ f. absurd (omega (arith, fill_below q f))) far (reached_by q h)
-    where
-      far : Reaches q → ⊥
-      far r =
-          let late = r.late in
-          let own = r.own in
-          let more : (n + 4) * z ≤ (n + r.row) * z = mul-le-mul_right z (omega arith) in
-          absurd (omega (arith, more, own))
+  core_out q low high h = grind (arith, fill_below, reached_by, mul-le-mul_right)
 
   place_zero : (t j : ℕ) → t < z → one_at z t j 0 ≡ j * z + t
-  place_zero t j lt = ap (λ m. j * z + m) (small t lt)
-    where
-      small : (t : ℕ) → t < z → (t + 0 % z) % z ≡ t
-      small t lt = ap (λ m. (t + m) % z) (zero-mod z) ∙ ap (λ m. m % z) (add-zero t) ∙ mod-eq_of_lt lt
-        where
-          add-zero : (t : ℕ) → t + 0 ≡ t
-          add-zero t = omega arith
+  place_zero t j lt = grind (arith, nat_tests, zero-mod, mod-eq_of_lt)
 
   -- a row with two parity positions in the first four parity columns fixes nothing
   two_out : 0 < z → (i t p : ℕ) → t < z → (x y : ℕ × ℕ) (xs : List (ℕ × ℕ)) → tail_of es set n i ≡ x ∷ y ∷ xs → n ≤ x.0 → x.0 < y.0 → y.0 < n + 4
@@ -204,14 +177,7 @@ module _ (es : List Entry) (set z n rows kdash : ℕ) where
 
       -- such a position that is reached is a filler
       low_fill : (q : ℕ) → q < (n + 4) * z → reach q ≡ true → fill q ≡ true
-      low_fill q l h = ⊎_elim (λ e. e) far (reached_by q h)
-        where
-          far : Reaches q → fill q ≡ true
-          far r =
-              let late = r.late in
-              let own = r.own in
-              let more : (n + 4) * z ≤ (n + r.row) * z = mul-le-mul_right z (omega arith) in
-              absurd (omega (arith, more, own))
+      low_fill q l h = grind (arith, reached_by, mul-le-mul_right)
 
       own : p ≡ x → reach p ≡ true
       own e = ap reach e ∙ reach_own i t late li lt (all row (λ q h. h) (ap (λ q. list_all (λ r. (r == q) || reach r) row) (sym e) ∙ parts.1))
@@ -289,13 +255,7 @@ module _ (es : List Entry) (set z n rows kdash : ℕ) where
 
   -- a position before the fillers is not reached
   low_out : kdash ≤ n * z → (p : ℕ) → p < kdash → reach p ≡ true → ⊥
-  low_out held p low h = ⊎_elim (λ f. absurd (omega (arith, fill_from p f))) far (reached_by p h)
-    where
-      far : Reaches p → ⊥
-      far r =
-          let own = r.own in
-          let more : n * z ≤ (n + r.row) * z = mul-le-mul_right z (omega arith) in
-          absurd (omega (arith, more, own))
+  low_out held p low h = grind (arith, fill_from, reached_by, mul-le-mul_right)
 
 pub nothing_fixed : AcceptedHasShape → (t : Entries) (g : Graph) (b : ℕ) (p : Numbers) (q : ℕ) → IsTable t → 0 < length (entries_in g t) → IsSound g b p → p.set < 8
     → q < p.kdash → closure (block_checks t g p) (filler p.kdash p.k) q ≡ false

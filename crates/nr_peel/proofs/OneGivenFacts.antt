@@ -1,4 +1,5 @@
 -- One position that is given.
+use Rattle.std.proofs.lemmas.Bool.Decides.{nat_tests}
 use Rattle.std.proofs.Common.{◌≡◌, ℕ, ◌+◌, ◌*◌, ◌/◌, ◌%◌, ◌<◌, ◌==◌, ◌&&◌, ◌||◌, Bool, true, false, List, sym, ap, ◌∙◌, arith}
 use Rattle.std.proofs.lemmas.Bool.{and_from, and_parts, eqb-true, eq-eqb, ne_eqb}
 use Rattle.std.proofs.lemmas.Nat.{mod_below}
@@ -16,19 +17,7 @@ use Rattle.nr_peel.proofs.GivenLaneFacts.{digit_is, told_lanes, AreAlike}
 
 -- the lane of its row marks the position alone
 pub one_marks : (z pos p : ℕ) (lane : List ℕ) → ((t : ℕ) → is_set lane t ≡ (pos % z == t)) → lane_marks z (pos / z) (is_set lane) p ≡ (pos == p)
-one_marks z pos p lane is = ap (λ b. (p / z == pos / z) && b) (is (p % z)) ∙ same_truth ((p / z == pos / z) && (pos % z == p % z)) (pos == p) to from
-  where
-    to : ((p / z == pos / z) && (pos % z == p % z)) ≡ true → (pos == p) ≡ true
-    to h =
-        let parts = and_parts (p / z == pos / z) (pos % z == p % z) h in
-        let block : p / z ≡ pos / z = eqb-true (p / z) (pos / z) parts.0 in
-        let row : pos % z ≡ p % z = eqb-true (pos % z) (p % z) parts.1 in
-        eq-eqb pos p (sym (row_number pos z) ∙ ap (λ m. m * z + pos % z) (sym block) ∙ ap (λ m. p / z * z + m) row ∙ row_number p z)
-
-    from : (pos == p) ≡ true → ((p / z == pos / z) && (pos % z == p % z)) ≡ true
-    from h =
-        let at : pos ≡ p = eqb-true pos p h in
-        and_from (p / z == pos / z) (pos % z == p % z) (eq-eqb (p / z) (pos / z) (ap (λ m. m / z) (sym at))) (eq-eqb (pos % z) (p % z) (ap (λ m. m % z) at))
+one_marks z pos p lane is = grind (arith, nat_tests, same_truth, and_parts, eqb-true, eq-eqb, row_number, and_from)
 
 -- its lane has no row past the block's
 pub one_clear : (z pos : ℕ) (lane : List ℕ) → 0 < z → ((t : ℕ) → is_set lane t ≡ (pos % z == t)) → IsClear lane z
@@ -38,13 +27,7 @@ module _ (c : Checks) (pos : ℕ) (value : Bool) (old : Lanes) (lanes : AreLanes
   -- a position that wasn't known
   pub one_told : (now : Lanes) → bit old.known.items pos ≡ false → ((p : ℕ) → bit now.known.items p ≡ (bit old.known.items p || (pos == p))) → ((p : ℕ) → bit now.pending.items p ≡ (bit old.pending.items p || (pos == p)))
       → ((p : ℕ) → bit now.bits.items p ≡ (bit old.bits.items p || ((pos == p) && value))) → now.order ≡ old.order → AreAlike old now → Hears c (λ p. pos == p) (λ p. value) old now
-  one_told now out known pending bits order alike = record {
-    known = known;
-    pending = λ p. grind (arith, pending p, new p);
-    bits = λ p. grind (arith, bits p, new p);
-    order = order;
-    lanes = told_lanes c (λ p. pos == p) (λ p. value) old now lanes known pending bits alike;
-  }
+  one_told now out known pending bits order alike = grind (arith, nat_tests, told_lanes)
     where
       new : (p : ℕ) → (pos == p) ≡ true → bit old.known.items p ≡ false
       new p e = ap (bit old.known.items) (sym (eqb-true pos p e)) ∙ out

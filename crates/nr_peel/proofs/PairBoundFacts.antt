@@ -1,4 +1,5 @@
 -- There are no more pairs of a row and a position of it than the lifting size times the entries of the base graph.
+use Rattle.std.proofs.lemmas.Bool.Decides.{nat_tests}
 use Rattle.std.proofs.Common.{◌≡◌, ℕ, ◌+◌, ◌*◌, ◌≤◌, ◌==◌, Bool, true, false, cond, List, [], ◌∷◌, length, refl, arith}
 use Rattle.std.specs.Prelude.{zero, suc, count_by}
 use Rattle.std.proofs.lemmas.Bool.{eqb-true}
@@ -20,19 +21,11 @@ use Rattle.nr_peel.proofs.PairSumFacts.{sum_below-le, sum_below-plus}
 -- a row number is met once at most
 none_met : (r n : ℕ) → n ≤ r → sum_below (λ i. cond (r == i) 1 0) n ≡ 0
 none_met r zero le = refl
-none_met r (suc n) le = go (r == n) refl (none_met r n (omega arith))
-  where
-    go : (b : Bool) → (r == n) ≡ b → sum_below (λ i. cond (r == i) 1 0) n ≡ 0 → sum_below (λ i. cond (r == i) 1 0) n + cond b 1 0 ≡ 0
-    go true e ih = absurd (omega (arith, eqb-true r n e))
-    go false e ih = omega (arith, ih)
+none_met r (suc n) le = grind (arith, nat_tests, none_met r n (omega arith), eqb-true)
 
 one_met : (r n : ℕ) → sum_below (λ i. cond (r == i) 1 0) n ≤ 1
 one_met r zero = omega arith
-one_met r (suc n) = go (r == n) refl (one_met r n)
-  where
-    go : (b : Bool) → (r == n) ≡ b → sum_below (λ i. cond (r == i) 1 0) n ≤ 1 → sum_below (λ i. cond (r == i) 1 0) n + cond b 1 0 ≤ 1
-    go true e ih = omega (arith, none_met r n (omega (arith, eqb-true r n e)))
-    go false e ih = omega (arith, ih)
+one_met r (suc n) = grind (arith, nat_tests, one_met r n, none_met, eqb-true)
 
 nothing : (n : ℕ) → sum_below (λ i. 0) n ≡ 0
 nothing zero = refl

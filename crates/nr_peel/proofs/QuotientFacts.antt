@@ -6,14 +6,10 @@ use Rattle.std.proofs.lemmas.Nat.{div-add-mod', mod_below}
 
 -- with D = z m + e, the product of q z + r and m + 1 is at least q D, and below (q + 1) D
 low : (z m e q r : ℕ) → e < z → q * (z * m + e) ≤ (q * z + r) * (m + 1)
-low z m e q r small =
-    let fits : q * e ≤ q * z = mul-le-mul_left q (omega (arith, small)) in
-    omega (arith, fits)
+low z m e q r small = grind (arith, mul-le-mul_left)
 
 high : (z m e q r : ℕ) → r < z → q * z + r < m → (q * z + r) * (m + 1) < (q + 1) * (z * m + e)
-high z m e q r below short =
-    let fits : (r + 1) * m ≤ z * m = mul-le-mul_right m (omega (arith, below)) in
-    omega (arith, fits, short)
+high z m e q r below short = grind (arith, mul-le-mul_right)
 
 between : (q x : ℕ) → q * 4294967296 ≤ x → x < (q + 1) * 4294967296 → x / 4294967296 ≡ q
 between q x h k = omega (arith, h, k)

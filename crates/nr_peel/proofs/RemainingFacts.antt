@@ -11,8 +11,7 @@ use Rattle.nr_peel.proofs.MarkedFacts.{marked_all}
 
 -- the bits of a lane are those of its block
 pub lane_marked : (known : List Bool) (z j : ℕ) (lane : List ℕ) → ((t : ℕ) → t < z → is_set lane t ≡ bit known (j * z + (t + 0) % z)) → marked (is_set lane) z ≡ marked (λ t. bit known (j * z + t)) z
-lane_marked known z j lane is =
-    marked-same (is_set lane) (λ t. bit known (j * z + t)) z (λ t below. is t below ∙ ap (λ m. bit known (j * z + m)) (mod_low (t + 0) z (omega (arith, below)) ∙ omega arith))
+lane_marked known z j lane is = grind (arith, marked-same, mod_low)
 
 -- a column more
 pub left_column : (known : List Bool) (z j count : ℕ) (lane : List ℕ) → (j + 1) * z ≤ length known → ((t : ℕ) → t < z → is_set lane t ≡ bit known (j * z + (t + 0) % z)) → count ≡ marked (is_set lane) z
@@ -32,6 +31,4 @@ left_end known kdash k low fits all =
     omega (arith, left_and_known k known fits, left_and_known kdash known (omega (arith, low, fits)), more, whole)
 
 pub info_rotations : (z k info : ℕ) → 0 < z → k ≡ info * z → k / z ≡ info
-info_rotations z k info some is =
-    let plain : k ≡ info * z + 0 = omega (arith, is) in
-    ap (λ m. m / z) plain ∙ div-mul-add info z 0 some
+info_rotations z k info some is = grind (arith, div-mul-add)

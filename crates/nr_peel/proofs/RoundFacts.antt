@@ -34,10 +34,7 @@ any_below-same f g (suc n) h = both (any_below f n) (any_below g n) (f n) (g n) 
     both a b d e p q = cc
 
 pub any_below-more : (f : ℕ → Bool) (n : ℕ) → any_below f (n + 1) ≡ (any_below f n || f n)
-any_below-more f n = ap (any_below f) (next n)
-  where
-    next : (n : ℕ) → n + 1 ≡ suc n
-    next n = omega arith
+any_below-more f n = grind arith
 
 or_false : (a b : Bool) → b ≡ false → (a || b) ≡ a
 or_false true b h = refl
@@ -82,17 +79,7 @@ one_fixes S row p one there out =
     (cases_eq p r.pos)
 
 one_is_fixed : (S : ℕ → Bool) (row : List ℕ) (p : ℕ) → IsDistinctRow row → S p ≡ false → (lacks_one S row && stands p row) ≡ fixes S row p
-one_is_fixed S row p distinct out = same_truth (lacks_one S row && stands p row) (fixes S row p) there back
-  where
-    there : (lacks_one S row && stands p row) ≡ true → fixes S row p ≡ true
-    there h =
-        let parts = and_parts (lacks_one S row) (stands p row) h in
-        one_fixes S row p (eqb-true (count_by (λ q. not (S q)) row) 1 parts.0) parts.1 out
-
-    back : fixes S row p ≡ true → (lacks_one S row && stands p row) ≡ true
-    back f =
-        let parts = and_parts (stands p row) (list_all (λ q. (q == p) || S q) row) f in
-        and_from (lacks_one S row) (stands p row) (eq-eqb (count_by (λ q. not (S q)) row) 1 (fixed_counted S p row out f ∙ stands_once p row distinct parts.0)) parts.0
+one_is_fixed S row p distinct out = grind (arith, nat_tests, same_truth, and_parts, one_fixes, eqb-true, and_from, eq-eqb, fixed_counted, stands_once)
 
 -- a position stands in a row of a row of blocks that has one position outside a set
 abbrev pub is_completed : Checks → (ℕ → Bool) → ℕ → ℕ → Bool
@@ -114,8 +101,7 @@ module _
   counted_some = any_below-same (counts_one tally) (λ t. lacks_one (bit known) ((lifted_checks l).row i t)) l.plan.z counted_row
 
   pub counted_marks : (p : ℕ) → is_counted_once l es tally p ≡ is_completed (lifted_checks l) (bit known) p i
-  counted_marks p = any_below-same (λ t. counts_one tally t && stands p (row_in l es t)) (λ t. lacks_one (bit known) ((lifted_checks l).row i t) && stands p ((lifted_checks l).row i t)) l.plan.z
-      (λ t lt. ap (λ b. b && stands p (row_in l es t)) (counted_row t lt) ∙ ap (λ (r : List Entry). lacks_one (bit known) ((lifted_checks l).row i t) && stands p (row_in l r t)) es_is)
+  counted_marks p = grind (arith, any_below-same, counted_row)
 
 -- marking each row with one unknown position is a round
 -- at a position outside the set
@@ -126,11 +112,7 @@ out_marks c S p sound out = ap (λ b. S p || b) (any_below-same (is_completed c 
     (λ t lt. one_is_fixed S (c.row i t) p (sound.distinct i t li lt) out)))
 
 pub round_marks : (c : Checks) (S : ℕ → Bool) (p : ℕ) → AreSound c → (S p || any_below (is_completed c S p) c.rows) ≡ round c S p
-round_marks c S p sound = by_mark (S p) refl
-  where
-    by_mark : (b : Bool) → S p ≡ b → (S p || any_below (is_completed c S p) c.rows) ≡ round c S p
-    by_mark true e = or_left (S p) (any_below (is_completed c S p) c.rows) e ∙ sym (round_keeps c S p e)
-    by_mark false e = out_marks c S p sound e
+round_marks c S p sound = grind (arith, or_left, round_keeps, out_marks)
 
 -- a round with such a row marks a new position
 pub round_grows : (c : Checks) (S T : ℕ → Bool) → AreSound c → some_lacks_one c S ≡ true → ((p : ℕ) → T p ≡ round c S p) → marked S c.size < marked T c.size

@@ -64,31 +64,13 @@ module _ (c : Checks) (b d : Sweep) (lanes : AreLanes c b.lanes) (caught : Catch
   bits_same p = ap (λ r. bit r.items p) caught.bits
 
   pub caught_lanes : AreLanes c d.lanes
-  caught_lanes = record {
-    known_long = ap (λ r. length r.items) caught.known ∙ lanes.known_long;
-    bits_long = ap (λ r. length r.items) caught.bits ∙ lanes.bits_long;
-    pending_long = caught.pending_long ∙ lanes.pending_long;
-    known_lanes = ap (λ r. r.lanes) caught.known ∙ lanes.known_lanes;
-    bits_lanes = ap (λ r. r.lanes) caught.bits ∙ lanes.bits_lanes;
-    pending_lanes = caught.pending_lanes ∙ lanes.pending_lanes;
-    blank = λ p e. bits_same p ∙ lanes.blank p (sym (known_same p) ∙ e);
-    within = λ p e. absurd (true≢false (sym e ∙ caught.none_pending p));
-  }
+  caught_lanes = grind (arith, bits_same, known_same)
 
   pub caught_counted : CountsOf c (counted_in d.lanes) d.counts.items
   caught_counted = counts_same c (bit d.lanes.known.items) (counted_in d.lanes) d.counts.items caught.counted (λ p. grind (arith, caught.none_pending p))
 
   pub caught_keeps : Keeps c b.lanes d.lanes
-  caught_keeps = record {
-    known = λ p e. known_same p ∙ e;
-    bits = λ p e. bits_same p;
-    words = λ w meets has p e. has p (sym (known_same p) ∙ e) ∙ sym (bits_same p);
-    reaches = λ G r. record {
-      accepted = ap (λ v. all_accepted c G v.items) caught.order ∙ r.accepted;
-      reached = λ p. known_same p ∙ r.reached p ∙ ap (λ v. G p || is_fixed_by v.items p) (sym caught.order);
-    };
-    order = rw caught.order (goes_none b.lanes.order.items);
-  }
+  caught_keeps = grind (arith, known_same, bits_same, goes_none)
 
 pub keeps_then : (c : Checks) (a b d : Lanes) → Keeps c a b → Keeps c b d → Keeps c a d
 keeps_then c a b d one two = record {
@@ -101,18 +83,7 @@ keeps_then c a b d one two = record {
 
 -- the counts catch up where the state is in order
 pub caught_held : (c : Checks) (a d : Sweep) → IsHeld c a → CatchesUp c a d → IsHeld c d
-caught_held c a d h caught = record {
-  lanes = caught_lanes c a d h.lanes caught;
-  counts_lanes = caught.counts_lanes ∙ h.counts_lanes;
-  counts_long = caught.counts_long ∙ h.counts_long;
-  counted = caught_counted c a d h.lanes caught;
-  order_few = omega (arith, ap (λ v. length v.items) caught.order, h.order_few, zeros_more a.counts.items d.counts.items (c.rows * c.lanes) caught.falls);
-  order_room = omega (arith, ap (λ v. vec_capacity v) caught.order, h.order_room);
-  least = omega (arith, caught.visits, h.least, ap (λ v. step_pairs c v.items) caught.order);
-  most = omega (arith, caught.visits, h.most, spent_more c a.counts.items d.counts.items caught.falls);
-  worked = omega (arith, caught.worked, caught.visited, h.worked);
-  small = h.small;
-}
+caught_held c a d h caught = grind (arith, caught_lanes, caught_counted, zeros_more, spent_more)
 
 -- ---- the row half
 
@@ -188,18 +159,7 @@ module _ (c : Checks) (some : 0 < c.lanes) (a b : Sweep) (h : IsHeld c a) (sough
     zeros_rise = zeros_gain c a.counts.items d.counts.items falls down
 
     pub round_held : IsHeld c d
-    round_held = record {
-      lanes = caught_lanes c b d sought.fixes.lanes caught;
-      counts_lanes = caught.counts_lanes ∙ lanes ∙ h.counts_lanes;
-      counts_long = caught.counts_long ∙ ap length counts ∙ h.counts_long;
-      counted = caught_counted c b d sought.fixes.lanes caught;
-      order_few = omega (arith, ap (λ v. length v.items) caught.order, steps_long, sought.few, h.order_few, zeros_rise);
-      order_room = omega (arith, ap (λ v. vec_capacity v) caught.order, sought.fixes.capacity, h.order_room);
-      least = omega (arith, caught.visits, touches, ap sum counts, h.least, ap (λ v. step_pairs c v.items) caught.order, steps_searched);
-      most = omega (arith, caught.visits, touches, ap sum counts, h.most, spent_searched c a.counts.items d.counts.items falls down);
-      worked = omega (arith, caught.worked, caught.visited, touches, worked, h.worked);
-      small = h.small;
-    }
+    round_held = grind (arith, caught_lanes, caught_counted, steps_long, zeros_rise, steps_searched, spent_searched, falls, down)
 
     pub round_keeps : Keeps c a.lanes d.lanes
     round_keeps = keeps_then c a.lanes b.lanes d.lanes (fixes_keep c a.lanes b.lanes sought.fixes) (caught_keeps c b d sought.fixes.lanes caught)
@@ -218,18 +178,7 @@ module _ (c : Checks) (some : 0 < c.lanes) (a b : Sweep) (h : IsHeld c a) (sough
         empty (x ∷ xs) e = absurd (omega (arith, e))
 
     pub stop_held : IsHeld c b
-    stop_held = record {
-      lanes = sought.fixes.lanes;
-      counts_lanes = lanes ∙ h.counts_lanes;
-      counts_long = ap length counts ∙ h.counts_long;
-      counted = sought_counted;
-      order_few = rw counts (omega (arith, steps_long, sought.few, none, h.order_few));
-      order_room = omega (arith, sought.fixes.capacity, h.order_room);
-      least = rw counts (omega (arith, touches, h.least, steps_searched));
-      most = rw counts (omega (arith, touches, searched_none c a.counts.items none, h.most));
-      worked = omega (arith, touches, worked, h.worked);
-      small = h.small;
-    }
+    stop_held = grind (arith, sought_counted, steps_long, steps_searched, searched_none)
 
     pub stop_pending : HasNonePending a.lanes → HasNonePending b.lanes
     stop_pending pending p = sought.fixes.pending p ∙ ap (λ x. x || is_fixed_by sought.fixes.steps p) (pending p) ∙ ap (λ ss. is_fixed_by ss p) no_steps

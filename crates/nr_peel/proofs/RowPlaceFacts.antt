@@ -1,4 +1,5 @@
 -- Where a position's rows are: a row by its number, and its lane by a rotation.
+use Rattle.std.proofs.lemmas.Bool.Decides.{nat_tests}
 use Rattle.std.proofs.Common.{◌≡◌, ℕ, ◌+◌, ◌-◌, ◌*◌, ◌/◌, ◌%◌, ◌<◌, ◌≤◌, ◌==◌, ◌&&◌, true, sym, ap, ◌∙◌, ⊎_elim, arith}
 use Rattle.std.proofs.lemmas.Bool.{and_parts, and_from, eqb-true, eq-eqb, cases_lt}
 use Rattle.std.proofs.lemmas.Nat.{mod_below, div-add-mod'}
@@ -13,45 +14,18 @@ pub mod_low : (s z : ℕ) → s < z → s % z ≡ s
 mod_low s z lt = mod-eq_of_lt lt
 
 pub mod_high : (s z : ℕ) → z ≤ s → s < 2 * z → s % z ≡ s - z
-mod_high s z le lt =
-    let e : s ≡ z + (s - z) = omega arith in
-    let low : s - z < z = omega arith in
-    ap (λ n. n % z) e ∙ add-mod_left z (s - z) ∙ mod-eq_of_lt low
+mod_high s z le lt = grind (arith, nat_tests, add-mod_left, mod-eq_of_lt)
 
 -- a lane turned one way and back
 rotate_back : (z w t u : ℕ) → w < z → t < z → (t + w) % z ≡ u → (u + (z - w)) % z ≡ t
-rotate_back z w t u wl tl e = ⊎_elim low high (cases_lt (t + w) z)
-  where
-    low : t + w < z → (u + (z - w)) % z ≡ t
-    low l =
-        let u_is : u ≡ t + w = sym e ∙ mod_low (t + w) z l in
-        mod_high (u + (z - w)) z (omega arith) (omega arith) ∙ omega arith
-
-    high : z ≤ t + w → (u + (z - w)) % z ≡ t
-    high le =
-        let u_is : u ≡ t + w - z = sym e ∙ mod_high (t + w) z le (omega arith) in
-        mod_low (u + (z - w)) z (omega arith) ∙ omega arith
+rotate_back z w t u wl tl e = grind (arith, nat_tests, cases_lt, mod_low, mod_high)
 
 rotate_there : (z w t u : ℕ) → w < z → u < z → (u + (z - w)) % z ≡ t → (t + w) % z ≡ u
-rotate_there z w t u wl ul e = ⊎_elim low high (cases_lt (u + (z - w)) z)
-  where
-    low : u + (z - w) < z → (t + w) % z ≡ u
-    low l =
-        let t_is : t ≡ u + (z - w) = sym e ∙ mod_low (u + (z - w)) z l in
-        mod_high (t + w) z (omega arith) (omega arith) ∙ omega arith
-
-    high : z ≤ u + (z - w) → (t + w) % z ≡ u
-    high le =
-        let t_is : t ≡ u + (z - w) - z = sym e ∙ mod_high (u + (z - w)) z le (omega arith) in
-        mod_low (t + w) z (omega arith) ∙ omega arith
+rotate_there z w t u wl ul e = grind (arith, nat_tests, cases_lt, mod_low, mod_high)
 
 -- a lane that falls on another, and back
 pub rotate-eqb : (z v t u : ℕ) → t < z → u < z → (((t + v % z) % z) == u) ≡ (unrotate z v u == t)
-rotate-eqb z v t u tl ul =
-    let wl = mod_below v z (omega arith) in
-    same_truth (((t + v % z) % z) == u) (unrotate z v u == t)
-    (λ h. eq-eqb (unrotate z v u) t (rotate_back z (v % z) t u wl tl (eqb-true ((t + v % z) % z) u h)))
-    (λ h. eq-eqb ((t + v % z) % z) u (rotate_there z (v % z) t u wl ul (eqb-true (unrotate z v u) t h)))
+rotate-eqb z v t u tl ul = grind (arith, nat_tests, mod_below, same_truth, eq-eqb, rotate_back, eqb-true, rotate_there)
 
 -- an entry's place is a position where its column and its lane are the position's
 pub place-eqb : (z t col v p : ℕ) → t < z → (one_at z t col v == p) ≡ ((col == p / z) && (unrotate z v (p % z) == t))
@@ -83,6 +57,4 @@ pub row_number : (k z : ℕ) → k / z * z + k % z ≡ k
 row_number k z = div-add-mod' k z
 
 pub place_fits : (z t : ℕ) (e : Entry) (v size : ℕ) → t < z → (e.col + 1) * z ≤ size → one_at z t e.col v < size
-place_fits z t e v size lt le =
-    let small = mod_below (t + v % z) z (omega arith) in
-    omega arith
+place_fits z t e v size lt le = grind (arith, mod_below)

@@ -24,10 +24,7 @@ count_more p xs i d lt = sum_by_more (λ x. cond (p x) 1 0) xs i d lt
 -- tests that agree count alike
 pub count_alike : {X : Type 0} (p q : X → Bool) → ((x : X) → p x ≡ q x) → (xs : List X) → count_by p xs ≡ count_by q xs
 count_alike p q h [] = refl
-count_alike p q h (x ∷ xs) = count_by-cons p x xs ∙ both (p x) (q x) (count_by p xs) (count_by q xs) (h x) (count_alike p q h xs) ∙ sym (count_by-cons q x xs)
-  where
-    both : (a b : Bool) (m n : ℕ) → a ≡ b → m ≡ n → cond a 1 0 + m ≡ cond b 1 0 + n
-    both a b m n e f = cc
+count_alike p q h (x ∷ xs) = grind (arith, count_by-cons, count_alike p q h xs)
 
 -- and those that agree at the positions of a row count alike there
 pub count_where : (p q : ℕ → Bool) (xs : List ℕ) → ((x : ℕ) → stands x xs ≡ true → p x ≡ q x) → count_by p xs ≡ count_by q xs
@@ -47,11 +44,7 @@ not_not b = grind arith
 -- nothing passes where nothing is counted
 pub none_counted : {X : Type 0} (p : X → Bool) (xs : List X) → count_by p xs ≡ 0 → list_all (λ x. not (p x)) xs ≡ true
 none_counted p [] h = refl
-none_counted {X} p (x ∷ xs) h = go (p x) refl (none_counted p xs)
-  where
-    go : (b : Bool) → p x ≡ b → (count_by p xs ≡ 0 → list_all (λ y. not (p y)) xs ≡ true) → (not b && list_all (λ y. not (p y)) xs) ≡ true
-    go true e ih = absurd (omega (arith, count_yes p x xs e))
-    go false e ih = ih (sym (count_no p x xs e) ∙ h)
+none_counted {X} p (x ∷ xs) h = grind (arith, none_counted p xs, count_yes, count_no)
 
 -- a position stands in a row where it is counted there
 pub stands_counted : (p : ℕ) (row : List ℕ) → stands p row ≡ true → 0 < times_in p row

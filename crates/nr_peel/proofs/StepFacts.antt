@@ -1,4 +1,5 @@
 -- Steps of the rows that a lane marks.
+use Rattle.std.proofs.lemmas.Bool.Decides.{nat_tests}
 use Rattle.std.proofs.Common.{◌≡◌, ◌≢◌, ℕ, zero, suc, ◌+◌, ◌-◌, ◌*◌, ◌/◌, ◌%◌, ◌^◌, ◌<◌, ◌≤◌, ◌==◌, Bool, true, false, if◌then◌else◌, List, [], ◌∷◌, ◌++◌, length, get_or, refl, sym, ap, ◌∙◌, inl, inr, arith, add-one, append_assoc, length-append}
 use Rattle.std.proofs.lemmas.Bool.{cases_eq, cases_lt, eq-eqb, eqb-true}
 use Rattle.std.proofs.lemmas.Nat.{mod_below, pow_pos, shr_split}
@@ -38,10 +39,7 @@ steps_same step step' u v (suc n) is same =
 
 -- those of the rows from row a on come after the others
 pub steps_append : (step : ℕ → Fix) (u : ℕ → Bool) (a b : ℕ) → steps_below step u (a + b) ≡ steps_below step u a ++ steps_below (λ j. step (a + j)) (λ j. u (a + j)) b
-steps_append step u a zero = ap (steps_below step u) (plain a) ∙ sym (append-nil (steps_below step u a))
-  where
-    plain : (a : ℕ) → a + 0 ≡ a
-    plain a = omega arith
+steps_append step u a zero = grind (arith, append-nil)
 steps_append step u a (suc b) =
     ap (steps_below step u) (next a b)
     ∙ ap (λ xs. xs ++ (if u (a + b) then step (a + b) ∷ [] else [])) (steps_append step u a b)
@@ -53,11 +51,7 @@ steps_append step u a (suc b) =
 -- as many as rows are marked
 pub steps_count : (step : ℕ → Fix) (u : ℕ → Bool) (n : ℕ) → length (steps_below step u n) ≡ marked u n
 steps_count step u zero = refl
-steps_count step u (suc n) = length-append (steps_below step u n) (if u n then step n ∷ [] else []) ∙ ap (λ m. m + length (if u n then step n ∷ [] else [])) (steps_count step u n) ∙ ap (λ m. marked u n + m) (one (u n))
-  where
-    one : (b : Bool) → length (if b then step n ∷ [] else []) ≡ (if b then 1 else 0)
-    one true = refl
-    one false = refl
+steps_count step u (suc n) = grind (arith, length-append, steps_count step u n)
 
 -- one marked row more
 pub steps_next : (step : ℕ → Fix) (u : ℕ → Bool) (n : ℕ) → u n ≡ true → steps_below step u (n + 1) ≡ steps_below step u n ++ step n ∷ []
@@ -85,17 +79,11 @@ join_steps new now old xs ys zs added before whole = added ∙ ap (λ l. l ++ ys
 -- ---- the numbers of steps
 
 same_fix : (r t p r' t' p' : ℕ) → r ≡ r' → t ≡ t' → p ≡ p' → ◌≡◌ {A = Fix} (record { row = r; lane = t; pos = p }) (record { row = r'; lane = t'; pos = p' })
-same_fix r t p r' t' p' row lane place =
-    ap (λ n. record { row = n; lane = t; pos = p }) row ∙ ap (λ n. record { row = r'; lane = n; pos = p }) lane ∙ ap (λ n. record { row = r'; lane = t'; pos = n }) place
+same_fix r t p r' t' p' row lane place = grind arith
 
 -- the step b rows after that of a number
 pub along_after : (i lane pos b : ℕ) → i < 2 ^ 16 → lane + b < 2 ^ 16 → step_along (step_number i lane pos) b ≡ step_after i lane pos b
-along_after i lane pos b small short =
-    let n = step_number i lane pos + b * (2 ^ 16 + 2 ^ 32) in
-    let row : n % 2 ^ 16 ≡ i = omega (arith, small) in
-    let at : n / 2 ^ 16 % 2 ^ 16 ≡ lane + b = omega (arith, small, short) in
-    let place : n / 2 ^ 32 ≡ pos + b = omega (arith, small, short) in
-    same_fix (n % 2 ^ 16) (n / 2 ^ 16 % 2 ^ 16) (n / 2 ^ 32) i (lane + b) (pos + b) row at place
+along_after i lane pos b small short = grind (arith, same_fix)
 
 -- ---- the bits of a word, one after another
 
@@ -116,20 +104,10 @@ module _ (rest b : ℕ) (set : bit_at rest b ≡ 1) (before : (i : ℕ) → i < 
   less_is = omega (arith, rest_is, pow_pos b)
 
   pub lowest_lost : bit_at (bit_and rest (rest - 1)) b ≡ 0
-  lowest_lost =
-      let gone : bit_at (rest - 1) b ≡ 0 = ap (λ n. bit_at n b) less_is ∙ bit_at_cat_low (rest / 2 ^ suc b) (suc b) (2 ^ b - 1) b (omega arith) ∙ bit_at_ones_above b b (omega arith) in
-      omega (arith, bit_at_and rest (rest - 1) b, gone)
+  lowest_lost = grind (arith, less_is, bit_at_cat_low, bit_at_ones_above, bit_at_and)
 
   pub others_kept : (j : ℕ) → j ≢ b → bit_at (bit_and rest (rest - 1)) j ≡ bit_at rest j
-  others_kept j apart = elim (cases_lt j b) [
-    | inl below ↦ omega (arith, bit_at_and rest (rest - 1) j, before j below)
-    | inr above ↦
-        let q = rest / 2 ^ suc b in
-        let small : 2 ^ b < 2 ^ suc b = omega (arith, pow-suc 2 b, pow_pos b) in
-        let now = ap (λ n. bit_at n j) less_is ∙ bit_at_cat_high q (suc b) (2 ^ b - 1) j (omega (arith, small)) (omega (arith, above, apart)) in
-        let was = ap (λ n. bit_at n j) (sym rest_is) ∙ bit_at_cat_high q (suc b) (2 ^ b) j small (omega (arith, above, apart)) in
-        omega (arith, bit_at_and rest (rest - 1) j, now, was)
-  ]
+  others_kept j apart = grind (arith, nat_tests, cases_lt, bit_at_and, pow-suc, pow_pos, less_is, bit_at_cat_high, rest_is)
 
 -- the step of a word's lowest bit comes before the others'
 pub lowest_first : (step : ℕ → Fix) (rest : ℕ) → 0 < rest → rest < 2 ^ 64

@@ -1,4 +1,5 @@
 -- What the steps of marked rows fix, and from what sets they are accepted.
+use Rattle.std.proofs.lemmas.Bool.Decides.{nat_tests}
 use Rattle.std.proofs.Common.{◌≡◌, ℕ, zero, suc, ◌<◌, ◌==◌, ◌||◌, ◌&&◌, Bool, true, false, if◌then◌else◌, [], ◌∷◌, ◌++◌, refl, ap, ◌∙◌, arith}
 use Rattle.std.proofs.lemmas.Bool.{or_left}
 use Rattle.std.proofs.lemmas.List.{append-nil}
@@ -13,18 +14,7 @@ use Rattle.nr_peel.proofs.FixOrderFacts.{accepts_more, after_accepted, all_accep
 -- a position is fixed where some marked row's step has it
 pub steps_fix : (step : ℕ → Fix) (u : ℕ → Bool) (q n : ℕ) → is_fixed_by (steps_below step u n) q ≡ any_below (λ t. u t && ((step t).pos == q)) n
 steps_fix step u q zero = refl
-steps_fix step u q (suc n) =
-    list_any-append (λ s. s.pos == q) (steps_below step u n) (if u n then step n ∷ [] else [])
-    ∙ ap (λ b. b || is_fixed_by (if u n then step n ∷ [] else []) q) (steps_fix step u q n)
-    ∙ ap (λ b. any_below (λ t. u t && ((step t).pos == q)) n || b) (one (u n))
-  where
-    none : (b : Bool) → (b || false) ≡ b
-    none true = refl
-    none false = refl
-
-    one : (b : Bool) → is_fixed_by (if b then step n ∷ [] else []) q ≡ (b && ((step n).pos == q))
-    one true = none ((step n).pos == q)
-    one false = refl
+steps_fix step u q (suc n) = grind (arith, nat_tests, list_any-append, steps_fix step u q n)
 
 -- steps that a set accepts, each by itself, are accepted in turn from it and from any larger set
 pub steps_accepted : (c : Checks) (K S : ℕ → Bool) (step : ℕ → Fix) (u : ℕ → Bool) (n : ℕ) → Within K S → ((t : ℕ) → t < n → u t ≡ true → accepts c K (step t) ≡ true)

@@ -31,6 +31,4 @@ step_pairs-alike c step u d (suc n) h =
     more false = omega (arith, step_pairs-none c)
 
 pub step_pairs-join : (c : Checks) (xs ys zs : List Fix) (d : ℕ) → zs ≡ xs ++ ys → step_pairs c xs ≡ length xs * d → step_pairs c ys ≡ length ys * d → step_pairs c zs ≡ length zs * d
-step_pairs-join c xs ys zs d e one two =
-    let long : length zs ≡ length xs + length ys = ap length e ∙ length-append xs ys in
-    ap (step_pairs c) e ∙ step_pairs-append c xs ys ∙ omega (arith, one, two, ap (λ n. n * d) long)
+step_pairs-join c xs ys zs d e one two = grind (arith, length-append, step_pairs-append)

@@ -109,8 +109,7 @@ pub counted_same : (c : Checks) (K : ℕ → Bool) (a d : Lanes) → Fixes c K a
 counted_same c K a d f p = grind (arith, f.known p, f.pending p, f.missing p)
 
 pub counts_still : (c : Checks) (K : ℕ → Bool) (counts : List ℕ) (a d : Lanes) → Fixes c K a d → CountsOf c (counted_in a) counts → CountsOf c (counted_in d) counts
-counts_still c K counts a d f counted i t block lane =
-    counted i t block lane ∙ count_alike (λ p. not (counted_in a p)) (λ p. not (counted_in d p)) (λ p. ap not (sym (counted_same c K a d f p))) (c.row i t)
+counts_still c K counts a d f counted i t block lane = grind (arith, count_alike, counted_same)
 
 pub known_more : (c : Checks) (K : ℕ → Bool) (a d : Lanes) → Fixes c K a d → Within (bit a.known.items) (bit d.known.items)
 known_more c K a d f p k = f.known p ∙ or_left (bit a.known.items p) (is_fixed_by f.steps p) k

@@ -25,8 +25,7 @@ use Rattle.nr_peel.proofs.CodewordFacts.{done_is_closure}
 
 -- where no position is fresh, the counts know of all that is known
 pub all_counted : (c : Checks) (s : Lanes) (counts : List ℕ) → HasNonePending s → CountsOf c (counted_in s) counts → CountsOf c (bit s.known.items) counts
-all_counted c s counts none counted i t block lane =
-    counted i t block lane ∙ count_alike (λ p. not (counted_in s p)) (λ p. not (bit s.known.items p)) (λ p. grind (arith, none p)) (c.row i t)
+all_counted c s counts none counted i t block lane = grind (arith, count_alike)
 
 -- what is known is the closure of what was given
 reached_closed : (c : Checks) (given : List Bool) (s : Sweep) → AreSound c → Reaches c (bit given) s.lanes → CountsOf c (bit s.lanes.known.items) s.counts.items

@@ -1,4 +1,5 @@
 -- The entries of an accepted table: in range, and no column twice in a row; so the parity checks are sound.
+use Rattle.std.proofs.lemmas.Bool.Decides.{nat_tests}
 use Rattle.std.proofs.Common.{◌≡◌, ℕ, ◌+◌, ◌*◌, ◌/◌, ◌%◌, ◌<◌, ◌≤◌, ◌==◌, Bool, true, false, cond, List, [], ◌∷◌, length, map, refl, sym, ap, ◌∙◌, ⊎_elim, inl, inr, arith}
 use Rattle.std.specs.Prelude.{◌⊎◌, count_by, All}
 use Rattle.std.proofs.lemmas.Bool.{or_cases, eqb-true, eq-eqb, ne_eqb, false≢true}
@@ -24,11 +25,7 @@ pub record IsGrid (es : List Entry) (rows cols : ℕ) : Type 0 where
   pub ascending : Ascending 0 es
 
 pub table_grid : (t : Entries) (g : Graph) → IsTable t → IsGrid (entries_in g t) (rows_of g) (cols_of g)
-table_grid t One table = record {
-  in_rows = All-weaker (IsInRange One) (λ e. e.row < 46) (λ e h. h.row) t.one table.one_in_range;
-  in_cols = All-weaker (IsInRange One) (λ e. e.col < 68) (λ e h. h.col) t.one table.one_in_range;
-  ascending = table.one;
-}
+table_grid t One table = grind arith
 table_grid t Two table = record {
   in_rows = All-weaker (IsInRange Two) (λ e. e.row < 42) (λ e h. h.row) t.two table.two_in_range;
   in_cols = All-weaker (IsInRange Two) (λ e. e.col < 52) (λ e h. h.col) t.two table.two_in_range;
@@ -42,11 +39,7 @@ columns_at es i j = count_by (λ e. e.col == j) (row_of es i)
 -- no entry of ascending entries stands below the least place
 none_below : (es : List Entry) (low i j : ℕ) → Ascending low es → 68 * i + j < low → columns_at es i j ≡ 0
 none_below [] low i j up lt = refl
-none_below (e ∷ es) low i j up lt = go (e.row == i) refl (none_below es (accepted.entry_place e + 1) i j up.2 (omega arith))
-  where
-    go : (b : Bool) → (e.row == i) ≡ b → columns_at es i j ≡ 0 → count_by (λ x. x.col == j) (cond b (e ∷ row_of es i) (row_of es i)) ≡ 0
-    go false f ih = ih
-    go true f ih = count_no (λ (x : Entry). x.col == j) e (row_of es i) (ne_eqb e.col j (λ same. absurd (omega (arith, eqb-true e.row i f)))) ∙ ih
+none_below (e ∷ es) low i j up lt = grind (arith, nat_tests, none_below es (accepted.entry_place e + 1) i j up.2 (omega arith), count_no, ne_eqb, eqb-true)
 
 pub column_once : (es : List Entry) (low i j : ℕ) → Ascending low es → columns_at es i j ≤ 1
 column_once [] low i j up = omega arith
@@ -65,34 +58,19 @@ column_once (e ∷ es) low i j up = go (e.row == i) refl (column_once es (accept
 -- A row has at most 68 entries: from place `low` on, as many as there are columns left.
 rows_short_from : (es : List Entry) (low i : ℕ) → Ascending low es → (length (row_of es i) ≡ 0) ⊎ (length (row_of es i) + low ≤ 68 * i + 68)
 rows_short_from [] low i up = inl refl
-rows_short_from (e ∷ es) low i up = go (e.row == i) refl (rows_short_from es (accepted.entry_place e + 1) i up.2)
-  where
-    go : (b : Bool) → (e.row == i) ≡ b → (length (row_of es i) ≡ 0) ⊎ (length (row_of es i) + (accepted.entry_place e + 1) ≤ 68 * i + 68)
-        → (length (cond b (e ∷ row_of es i) (row_of es i)) ≡ 0) ⊎ (length (cond b (e ∷ row_of es i) (row_of es i)) + low ≤ 68 * i + 68)
-    go true f (inl none) = inr (omega (arith, eqb-true e.row i f))
-    go true f (inr some) = inr (omega arith)
-    go false f (inl none) = inl none
-    go false f (inr some) = inr (omega arith)
+rows_short_from (e ∷ es) low i up = grind (arith, nat_tests, rows_short_from es (accepted.entry_place e + 1) i up.2, eqb-true)
 
 -- what a row has from its own first place on
 rows_short_at : (es : List Entry) (low i : ℕ) → Ascending low es → length (row_of es i) ≤ 68
 rows_short_at [] low i up = omega arith
-rows_short_at (e ∷ es) low i up = go (e.row == i) refl (rows_short_at es (accepted.entry_place e + 1) i up.2) (rows_short_from es (accepted.entry_place e + 1) i up.2)
-  where
-    go : (b : Bool) → (e.row == i) ≡ b → length (row_of es i) ≤ 68 → (length (row_of es i) ≡ 0) ⊎ (length (row_of es i) + (accepted.entry_place e + 1) ≤ 68 * i + 68) → length (cond b (e ∷ row_of es i) (row_of es i)) ≤ 68
-    go true f le (inl none) = omega arith
-    go true f le (inr some) = omega (arith, eqb-true e.row i f)
-    go false f le rest = le
+rows_short_at (e ∷ es) low i up = grind (arith, nat_tests, rows_short_at es (accepted.entry_place e + 1) i up.2, rows_short_from, eqb-true)
 
 pub rows_short : (t : Entries) (g : Graph) (i : ℕ) → IsTable t → length (row_of (entries_in g t) i) ≤ 68
 rows_short t g i table = rows_short_at (entries_in g t) 0 i (table_grid t g table).ascending
 
 -- the column and the lane of a place
 pub place_below : (z t col v cols : ℕ) → 0 < z → col < cols → one_at z t col v < cols * z
-place_below z t col v cols pos lt =
-    let near = mod_below (t + v % z) z pos in
-    let fits : (col + 1) * z ≤ cols * z = mul-le-mul_right z (omega arith) in
-    omega arith
+place_below z t col v cols pos lt = grind (arith, mod_below, mul-le-mul_right)
 
 pub place_column : (z t col v : ℕ) → 0 < z → one_at z t col v / z ≡ col
 place_column z t col v pos = div-mul-add col z ((t + v % z) % z) (mod_below (t + v % z) z pos)

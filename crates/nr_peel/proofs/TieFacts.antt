@@ -17,10 +17,7 @@ use Rattle.std.proofs.lemmas.Bool.Decides.{nat_tests}
 
 -- marks with one more
 pub bit-mark : (xs : List Bool) (p : ℕ) → p < length xs → (q : ℕ) → bit (set xs p true) q ≡ with_position (bit xs) p q
-bit-mark xs p lt q = elim (cases_eq q p) [
-  | inl e ↦ grind (arith, nat_tests, ap (bit (set xs p true)) e ∙ get_or-set_same xs p true false lt)
-  | inr ne ↦ grind (arith, nat_tests, get_or-set_other xs p q true false ne)
-]
+bit-mark xs p lt q = grind (arith, nat_tests, cases_eq, get_or-set_same, get_or-set_other)
 
 module _ (t : Entries) (g : Graph) (n : Numbers) (table : IsTable t) (pos : 0 < n.z) where
   pub column_rows : (j : ℕ) → All (λ e. (e.row + 1) * n.z ≤ rows_of g * n.z) (column_of (entries_in g t) j)

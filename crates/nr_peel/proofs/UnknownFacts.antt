@@ -1,4 +1,5 @@
 -- The positions that aren't known, listed word by word.
+use Rattle.std.proofs.lemmas.Bool.Decides.{nat_tests}
 use Rattle.std.proofs.Common.{◌≡◌, ℕ, zero, suc, ◌+◌, ◌-◌, ◌<◌, ◌≤◌, ◌==◌, Bool, true, false, not, cond, List, [], ◌∷◌, ◌++◌, refl, sym, ap, ◌∙◌, arith, append_assoc}
 use Rattle.std.specs.Int.{bit_at}
 use Rattle.std.specs.List.{filter, range_with_len}
@@ -22,20 +23,14 @@ module _ (keeps : ℕ → Bool) where
 
   -- one that is kept, and one that isn't, behind other numbers
   pub kept_in : (now old : List ℕ) (a n : ℕ) → now ≡ old ++ filter keeps (range_with_len a n) → keeps (a + n) ≡ true → now ++ (a + n) ∷ [] ≡ old ++ filter keeps (range_with_len a (n + 1))
-  kept_in now old a n is keep =
-      ap (λ l. l ++ (a + n) ∷ []) is ∙ append_assoc old (kept a n) ((a + n) ∷ [])
-      ∙ ap (λ l. old ++ l) (ap (λ b. kept a n ++ cond b ((a + n) ∷ []) []) (sym keep) ∙ sym (kept_on a n))
+  kept_in now old a n is keep = grind (arith, append_assoc, kept_on)
 
   pub kept_out : (now old : List ℕ) (a n : ℕ) → now ≡ old ++ filter keeps (range_with_len a n) → keeps (a + n) ≡ false → now ≡ old ++ filter keeps (range_with_len a (n + 1))
-  kept_out now old a n is drop =
-      is ∙ ap (λ l. old ++ l) (sym (append-nil (kept a n)) ∙ ap (λ b. kept a n ++ cond b ((a + n) ∷ []) []) (sym drop) ∙ sym (kept_on a n))
+  kept_out now old a n is drop = grind (arith, append-nil, kept_on)
 
   -- those of n numbers more
   pub kept_parts : (a n : ℕ) → filter keeps (range_with_len 0 (a + n)) ≡ filter keeps (range_with_len 0 a) ++ filter keeps (range_with_len a n)
-  kept_parts a zero = ap (kept 0) (plain a) ∙ sym (append-nil (kept 0 a))
-    where
-      plain : (a : ℕ) → a + 0 ≡ a
-      plain a = omega arith
+  kept_parts a zero = grind (arith, append-nil)
   kept_parts a (suc n) =
       ap (kept 0) (step a n) ∙ kept_more keeps (a + n) ∙ ap (λ l. l ++ cond (keeps (a + n)) ((a + n) ∷ []) []) (kept_parts a n)
       ∙ append_assoc (kept 0 a) (kept a n) (cond (keeps (a + n)) ((a + n) ∷ []) []) ∙ ap (λ l. kept 0 a ++ l) (sym (kept_on a n) ∙ ap (kept a) (next n))
@@ -64,18 +59,13 @@ abbrev pub is_missing : ℕ → ℕ → ℕ → Bool
 is_missing word start p = not (bit_at word (p - start) == 1)
 
 missing_at : (word start j : ℕ) → is_missing word start (start + j) ≡ not (bit_at word j == 1)
-missing_at word start j = ap (λ m. not (bit_at word m == 1)) (back start j)
-  where
-    back : (a j : ℕ) → a + j - a ≡ j
-    back a j = omega arith
+missing_at word start j = grind (arith, nat_tests)
 
 pub missing_where : (word start j : ℕ) → bit_at word j ≡ 0 → is_missing word start (start + j) ≡ true
 missing_where word start j is = missing_at word start j ∙ ap (λ (n : ℕ). not (n == 1)) is
 
 pub marked_where : (word start j : ℕ) → 0 < bit_at word j → is_missing word start (start + j) ≡ false
-marked_where word start j some =
-    let one : bit_at word j ≡ 1 = omega (arith, some, bit_at-lt word j) in
-    missing_at word start j ∙ ap (λ (n : ℕ). not (n == 1)) one
+marked_where word start j some = grind (arith, nat_tests, bit_at-lt, missing_at)
 
 -- a full word marks all
 pub full_missing : (start count : ℕ) → count ≤ 64 → filter (is_missing 18446744073709551615 start) (range_with_len start count) ≡ []
@@ -86,12 +76,4 @@ full_missing start count few =
 pub listed_more : (known : List Bool) (items : List ℕ) (at count word : ℕ) → ((j : ℕ) → j < count → (bit_at word j == 1) ≡ bit known (at + j))
     → items ≡ filter (λ p. not (bit known p)) (range_with_len 0 at) ++ filter (is_missing word at) (range_with_len at count)
     → items ≡ filter (λ p. not (bit known p)) (range_with_len 0 (at + count))
-listed_more known items at count word marks is =
-    is
-    ∙ ap (λ l. filter (λ p. not (bit known p)) (range_with_len 0 at) ++ l) (kept_same (is_missing word at) (λ p. not (bit known p)) at count here)
-    ∙ sym (kept_parts (λ p. not (bit known p)) at count)
-  where
-    here : (p : ℕ) → at ≤ p → p < at + count → is_missing word at p ≡ not (bit known p)
-    here p low below =
-        let split : at + (p - at) ≡ p = omega (arith, low) in
-        ap not (marks (p - at) (omega (arith, low, below)) ∙ ap (bit known) split)
+listed_more known items at count word marks is = grind (arith, kept_same, kept_parts)

@@ -2,21 +2,14 @@ use Rattle.std.proofs.Common.{◌≡◌, ◌+◌, ◌*◌, ◌/◌, ◌%◌, ap,
 use Rattle.std.proofs.lemmas.Nat.{div-add-mod'}
 use Rattle.nr_peel.proofs.QuotientFacts.{quotient}
 use Rattle.nr_peel.proofs.lifted.remainder.Goals as goal
+use Rattle.nr_peel.proofs.lifted.remainder.Goals.{After-from}
+
+whole : (c : After-from) → c.from.result * c.args.reciprocal / 4294967296 ≡ c.args.value / c.args.z
+whole c =
+    ap (λ n. n * c.args.reciprocal / 4294967296) c.from.ensures ∙ ap (λ n. c.args.value * n / 4294967296) c.requires.inverse ∙ quotient c.args.value c.args.z c.requires.some c.requires.few (omega arith)
 
 pub overflow_sub-result : goal.overflow_sub-result
-overflow_sub-result c =
-    let v = c.args.value in
-    let z = c.args.z in
-    let whole : c.from.result * c.args.reciprocal / 4294967296 ≡ v / z =
-    ap (λ n. n * c.args.reciprocal / 4294967296) c.from.ensures ∙ ap (λ n. v * n / 4294967296) c.requires.inverse ∙ quotient v z c.requires.some c.requires.few (omega arith) in
-    let parts : v / z * z + v % z ≡ v = div-add-mod' v z in
-    rw whole (omega (arith, c.from-2.ensures, parts))
+overflow_sub-result c = rw (whole (goal.at.overflow_sub-result c).After-from) (omega (arith, c.from-2.ensures, div-add-mod' c.args.value c.args.z))
 
 pub returns : goal.returns
-returns c =
-    let v = c.args.value in
-    let z = c.args.z in
-    let whole : c.from.result * c.args.reciprocal / 4294967296 ≡ v / z =
-    ap (λ n. n * c.args.reciprocal / 4294967296) c.from.ensures ∙ ap (λ n. v * n / 4294967296) c.requires.inverse ∙ quotient v z c.requires.some c.requires.few (omega arith) in
-    let parts : v / z * z + v % z ≡ v = div-add-mod' v z in
-    rw whole (omega (arith, c.from-2.ensures, parts))
+returns c = rw (whole (goal.at.returns c).After-from) (omega (arith, c.from-2.ensures, div-add-mod' c.args.value c.args.z))

@@ -1,4 +1,4 @@
-use Rattle.std.proofs.Common.{◌≡◌, ◌≤◌, ◌*◌, length, refl, sym, ap, ◌∙◌, arith}
+use Rattle.std.proofs.Common.{◌≡◌, ◌≤◌, ◌*◌, length, refl, sym, ap, ◌∙◌, arith, ◌+◌, ◌<◌, ◌^◌}
 use Rattle.std.proofs.Math.Nat.{mul-le-mul_right}
 use Rattle.nr_bitvec.specs.Bit.{bit}
 use Rattle.nr_graphpick.specs.Graph.{cols_of, rows_of}
@@ -8,7 +8,7 @@ use Rattle.nr_peel.specs.StateInside.{lifted_checks}
 use Rattle.nr_peel.proofs.FallingCountFacts.{column_inside, fallen_all, fallen_clear, fallen_enough, fallen_next, fallen_none, fallen_skip}
 use Rattle.nr_peel.proofs.TieFacts.{column_rows}
 use Rattle.nr_peel.proofs.bit_parallel.lowering.lower_all.Goals as goal
-use Rattle.nr_peel.proofs.bit_parallel.lowering.lower_all.Goals.{else-count-ne0, then-count-ne0}
+use Rattle.nr_peel.proofs.bit_parallel.lowering.lower_all.Goals.{After-from, else-count-ne0, then-count-ne0}
 
 pub loop-j-init : goal.loop-j-init
 loop-j-init c = record {
@@ -37,39 +37,24 @@ lower_column-requires-clause-enough c =
 pub lower_column-requires-clause-room : goal.lower_column-requires-clause-room
 lower_column-requires-clause-room c = omega (arith, c.loop-j.invariant.worked, c.loop-j.invariant.fallen.visited, c.requires.roomy)
 
-pub overflow_mul-visits : goal.overflow_mul-visits
-overflow_mul-visits c =
+-- the visits so far, and those of this column
+visits_fit : (c : After-from) → c.loop-j.visits + c.from.result * length c.column-column.result.now < 2 ^ 64
+visits_fit c =
     let l = c.args.lifted.now in
     let g = l.plan.graph in
-    let z = l.plan.z in
     let es = entries_in g l.table.now in
-    let j = c.loop-j.j in
-    let lanes : c.loop-j.pending.lanes ≡ z = c.loop-j.invariant.pending_lanes ∙ c.requires.pending_lanes in
-    let falls = rw (c.column-column.ensures, c.rings.ensures) at c.lower_column.ensures.falls in
-    let cleared = rw lanes at c.clear.ensures.cleared in
-    let count = rw lanes at c.count-count.ensures in
-    let next = fallen_next es l.plan.set z (rows_of g) (cols_of g) l.plan.sound.size_some (bit c.args.pending.now.items) j c.args.counts.now.items c.loop-j.counts.items c.loop-j.pending.items c.loop-j.visits c.loop-j.invariant.fallen
+    let lanes : c.loop-j.pending.lanes ≡ l.plan.z = c.loop-j.invariant.pending_lanes ∙ c.requires.pending_lanes in
+    let next = fallen_next es l.plan.set l.plan.z (rows_of g) (cols_of g) l.plan.sound.size_some (bit c.args.pending.now.items) c.loop-j.j c.args.counts.now.items c.loop-j.counts.items c.loop-j.pending.items c.loop-j.visits c.loop-j.invariant.fallen
     c.lower_column.new.counts.items c.clear.new.self.items c.count-count.result
-    (column_inside l.table.now g j c.requires.table) c.requires.counts_long c.lower_column.ensures.long falls cleared count in
-    let product : c.from.result * length c.column-column.result.now ≡ c.count-count.result * length (column_of es j) = rw (c.from.ensures, c.column-column.ensures) refl in
+    (column_inside l.table.now g c.loop-j.j c.requires.table) c.requires.counts_long c.lower_column.ensures.long (rw (c.column-column.ensures, c.rings.ensures) at c.lower_column.ensures.falls) (rw lanes at c.clear.ensures.cleared) (rw lanes at c.count-count.ensures) in
+    let product : c.from.result * length c.column-column.result.now ≡ c.count-count.result * length (column_of es c.loop-j.j) = rw (c.from.ensures, c.column-column.ensures) refl in
     omega (arith, next.visited, product, c.requires.few)
 
+pub overflow_mul-visits : goal.overflow_mul-visits
+overflow_mul-visits c = omega (arith, visits_fit (goal.at.overflow_mul-visits c).After-from)
+
 pub overflow_add-visits : goal.overflow_add-visits
-overflow_add-visits c =
-    let l = c.args.lifted.now in
-    let g = l.plan.graph in
-    let z = l.plan.z in
-    let es = entries_in g l.table.now in
-    let j = c.loop-j.j in
-    let lanes : c.loop-j.pending.lanes ≡ z = c.loop-j.invariant.pending_lanes ∙ c.requires.pending_lanes in
-    let falls = rw (c.column-column.ensures, c.rings.ensures) at c.lower_column.ensures.falls in
-    let cleared = rw lanes at c.clear.ensures.cleared in
-    let count = rw lanes at c.count-count.ensures in
-    let next = fallen_next es l.plan.set z (rows_of g) (cols_of g) l.plan.sound.size_some (bit c.args.pending.now.items) j c.args.counts.now.items c.loop-j.counts.items c.loop-j.pending.items c.loop-j.visits c.loop-j.invariant.fallen
-    c.lower_column.new.counts.items c.clear.new.self.items c.count-count.result
-    (column_inside l.table.now g j c.requires.table) c.requires.counts_long c.lower_column.ensures.long falls cleared count in
-    let product : c.from.result * length c.column-column.result.now ≡ c.count-count.result * length (column_of es j) = rw (c.from.ensures, c.column-column.ensures) refl in
-    omega (arith, next.visited, product, c.requires.few)
+overflow_add-visits c = omega (arith, visits_fit (goal.at.overflow_add-visits c).After-from)
 
 -- the next column is taken
 pub loop-j-preserved : goal.loop-j-preserved
@@ -114,13 +99,11 @@ returns-clause-falls c =
     let l = c.args.lifted.now in
     let g = l.plan.graph in
     let last : c.loop-j.j ≡ cols_of g = omega (arith, c.loop-j-test.false, c.loop-j.auto.j-end, c.cols-j-end.ensures) in
-    let fallen = rw last at c.loop-j.invariant.fallen in
-    fallen_all (entries_in g l.table.now) l.plan.set l.plan.z (rows_of g) (cols_of g) l.plan.sound.size_some c.args.pending.now.items c.args.counts.now.items c.loop-j.counts.items c.loop-j.pending.items c.loop-j.visits c.requires.pending_long fallen
+    fallen_all (entries_in g l.table.now) l.plan.set l.plan.z (rows_of g) (cols_of g) l.plan.sound.size_some c.args.pending.now.items c.args.counts.now.items c.loop-j.counts.items c.loop-j.pending.items c.loop-j.visits c.requires.pending_long (rw last at c.loop-j.invariant.fallen)
 
 pub returns-clause-cleared : goal.returns-clause-cleared
 returns-clause-cleared c =
     let l = c.args.lifted.now in
     let g = l.plan.graph in
     let last : c.loop-j.j ≡ cols_of g = omega (arith, c.loop-j-test.false, c.loop-j.auto.j-end, c.cols-j-end.ensures) in
-    let fallen = rw last at c.loop-j.invariant.fallen in
-    fallen_clear (entries_in g l.table.now) l.plan.set l.plan.z (rows_of g) (cols_of g) l.plan.sound.size_some c.args.pending.now.items c.args.counts.now.items c.loop-j.counts.items c.loop-j.pending.items c.loop-j.visits c.requires.pending_long fallen
+    fallen_clear (entries_in g l.table.now) l.plan.set l.plan.z (rows_of g) (cols_of g) l.plan.sound.size_some c.args.pending.now.items c.args.counts.now.items c.loop-j.counts.items c.loop-j.pending.items c.loop-j.visits c.requires.pending_long (rw last at c.loop-j.invariant.fallen)

@@ -1,4 +1,4 @@
-use Rattle.std.proofs.Common.{◌≡◌, ◌<◌, refl, ◌∙◌, arith}
+use Rattle.std.proofs.Common.{◌≡◌, ◌<◌, refl, ◌∙◌, arith, ℕ}
 use Rattle.std.proofs.Math.Nat.{mul-le-mul_right}
 use Rattle.nr_bitvec.specs.Bit.{bit}
 use Rattle.nr_graphpick.specs.Graph.{cols_of}
@@ -6,7 +6,9 @@ use Rattle.nr_peel.specs.Hearing.{news}
 use Rattle.nr_peel.specs.StateInside.{lifted_checks}
 use Rattle.nr_peel.proofs.GivenLaneFacts.{lane_new, told_all, told_fresh, told_next, told_none, told_skip}
 use Rattle.nr_peel.proofs.bit_parallel.lanes.Lanes.hear.Goals as goal
-use Rattle.nr_peel.proofs.bit_parallel.lanes.Lanes.hear.Goals.{else-not-is_blank, then-not-is_blank}
+use Rattle.nr_peel.proofs.bit_parallel.lanes.Lanes.hear.Goals.{After-lacking-lane, else-not-is_blank, then-not-is_blank}
+use Rattle.nr_lifting.specs.Rings.{is_set, lane_marks}
+use Rattle.nr_peel.proofs.ColumnFacts.{in_column}
 
 pub loop-j-init : goal.loop-j-init
 loop-j-init c = told_none c.args.lifted.now.plan.z (news (bit c.args.heard.now.items) c.args.self.now) (bit c.args.values.now.items) c.args.self.now
@@ -16,6 +18,12 @@ lacking-lane-requires-clause-block c =
     let p = c.args.lifted.now.plan in
     let below : c.loop-j.j < cols_of p.graph = omega arith in
     rw (c.loop-j.invariant.alike.known_lanes, c.loop-j.invariant.alike.known_long, c.requires.lanes.known_lanes, c.requires.lanes.known_long) (mul-le-mul_right p.z (omega (arith, below)))
+
+-- the lane of a column's positions that are given and aren't known
+new_marks : (c : After-lacking-lane) → (p : ℕ) → lane_marks c.args.lifted.now.plan.z c.loop-j.j (is_set c.lacking-lane.result) p ≡ in_column c.args.lifted.now.plan.z (news (bit c.args.heard.now.items) c.args.self.now) c.loop-j.j p
+new_marks c =
+    lane_new c.args.lifted.now.plan.z c.loop-j.j c.args.lifted.now.plan.sound.size_some c.args.self.now c.loop-j.self (bit c.args.heard.now.items) (bit c.args.values.now.items) c.loop-j.invariant c.read_lane-told.result c.lacking-lane.result
+    c.read_lane-told.ensures.bits (rw (c.loop-j.invariant.alike.known_lanes, c.requires.lanes.known_lanes) at c.lacking-lane.ensures.bits)
 
 pub lacking-lane-requires-clause-rotation : goal.lacking-lane-requires-clause-rotation
 lacking-lane-requires-clause-rotation c = rw (c.loop-j.invariant.alike.known_lanes, c.requires.lanes.known_lanes) c.args.lifted.now.plan.sound.size_some
@@ -35,18 +43,10 @@ join-requires-then-not-is_blank-2-clause-clear c =
 -- none of what is new was fresh
 pub join-requires-then-not-is_blank-clause-fresh : goal.join-requires-then-not-is_blank-clause-fresh
 join-requires-then-not-is_blank-clause-fresh c =
-    let z = c.args.lifted.now.plan.z in
-    let j = c.loop-j.j in
-    let some = c.args.lifted.now.plan.sound.size_some in
-    let old = c.args.self.now in
-    let now = c.loop-j.self in
-    let H = bit c.args.heard.now.items in
-    let V = bit c.args.values.now.items in
     let inv = c.loop-j.invariant in
-    let known_lanes : now.known.lanes ≡ z = inv.alike.known_lanes ∙ c.requires.lanes.known_lanes in
-    let lacks = rw known_lanes at c.lacking-lane.ensures.bits in
-    let marks = lane_new z j some old now H V inv c.read_lane-told.result c.lacking-lane.result c.read_lane-told.ensures.bits lacks in
-    rw (inv.alike.pending_lanes, c.requires.lanes.pending_lanes) (told_fresh z j some old now H V inv c.requires.lanes.within c.lacking-lane.result marks)
+    rw (inv.alike.pending_lanes, c.requires.lanes.pending_lanes)
+    (told_fresh c.args.lifted.now.plan.z c.loop-j.j c.args.lifted.now.plan.sound.size_some c.args.self.now c.loop-j.self (bit c.args.heard.now.items) (bit c.args.values.now.items) inv c.requires.lanes.within c.lacking-lane.result
+    (new_marks (goal.at.join-requires-then-not-is_blank-clause-fresh c).After-lacking-lane))
 
 pub join-requires-then-not-is_blank-clause-counted : goal.join-requires-then-not-is_blank-clause-counted
 join-requires-then-not-is_blank-clause-counted c =
@@ -67,8 +67,7 @@ loop-j-preserved c =
     let known_lanes : now.known.lanes ≡ z = inv.alike.known_lanes ∙ c.requires.lanes.known_lanes in
     let bits_lanes : now.bits.lanes ≡ z = inv.alike.bits_lanes ∙ c.requires.lanes.bits_lanes in
     let pending_lanes : now.pending.lanes ≡ z = inv.alike.pending_lanes ∙ c.requires.lanes.pending_lanes in
-    let lacks = rw known_lanes at c.lacking-lane.ensures.bits in
-    let marks = lane_new z j some old now H V inv c.read_lane-told.result c.lacking-lane.result c.read_lane-told.ensures.bits lacks in
+    let marks = new_marks (goal.at.loop-j-preserved c).After-lacking-lane in
     elim c.if-not-is_blank.branch [
       | then-not-is_blank w ↦
           let known = rw known_lanes at w.join.ensures.joined in

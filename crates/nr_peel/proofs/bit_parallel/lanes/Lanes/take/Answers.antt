@@ -8,15 +8,21 @@ use Rattle.nr_peel.proofs.LaneMarkFacts.{lacking, marks_none, no_steps, rotated_
 use Rattle.nr_peel.proofs.LaneStepFacts.{mark_missing, outside}
 use Rattle.nr_peel.proofs.StepFacts.{steps_same}
 use Rattle.nr_peel.proofs.bit_parallel.lanes.Lanes.take.Goals as goal
+use Rattle.nr_peel.proofs.bit_parallel.lanes.Lanes.take.Goals.{After-lacking-lane}
 
 -- what the lane of missing positions is
+lane_is : (c : After-lacking-lane) → (t : ℕ) → is_set c.lacking-lane.result t ≡ lacks c.args.lifted.now.plan.z c.args.entry.now.col (value_in c.args.lifted.now.plan.set c.args.entry.now) c.args.ones.now (bit c.args.self.now.known.items) t
+lane_is c =
+    let l = c.args.lifted.now in
+    let e = c.args.entry.now in
+    lacking l.plan.z e.col (value_in l.plan.set e) (omega (arith, c.rotation-rotation.ensures.small)) c.args.ones.now c.lacking-lane.result (bit c.args.self.now.known.items) c.requires.clear (rw c.requires.same at c.lacking-lane.ensures.clear)
+    (rw (c.requires.same, c.from-col.ensures, c.rotation-rotation.ensures.value) at c.lacking-lane.ensures.bits)
+
 pub push_lane-requires-clause-room : goal.push_lane-requires-clause-room
 push_lane-requires-clause-room c =
     let l = c.args.lifted.now in
     let e = c.args.entry.now in
-    let read = rw (c.requires.same, c.from-col.ensures, c.rotation-rotation.ensures.value) at c.lacking-lane.ensures.bits in
-    let lane_clear = rw c.requires.same at c.lacking-lane.ensures.clear in
-    let lane = lacking l.plan.z e.col (value_in l.plan.set e) (omega (arith, c.rotation-rotation.ensures.small)) c.args.ones.now c.lacking-lane.result (bit c.args.self.now.known.items) c.requires.clear lane_clear read in
+    let lane = lane_is (goal.at.push_lane-requires-clause-room c).After-lacking-lane in
     omega (arith, c.requires.room, marked-same (is_set c.lacking-lane.result) (lacks l.plan.z e.col (value_in l.plan.set e) c.args.ones.now (bit c.args.self.now.known.items)) l.plan.z (λ t _. lane t))
 
 pub lacking-lane-requires-clause-clear : goal.lacking-lane-requires-clause-clear
@@ -44,9 +50,7 @@ join-requires-then-not-is_blank-clause-fresh c =
     let some : 0 < z = omega (arith, c.rotation-rotation.ensures.small) in
     let K = bit c.args.self.now.known.items in
     let u = lacks z e.col v c.args.ones.now K in
-    let read = rw (c.requires.same, c.from-col.ensures, c.rotation-rotation.ensures.value) at c.lacking-lane.ensures.bits in
-    let lane_clear = rw c.requires.same at c.lacking-lane.ensures.clear in
-    let lane = lacking z e.col v some c.args.ones.now c.lacking-lane.result K c.requires.clear lane_clear read in
+    let lane = lane_is (goal.at.join-requires-then-not-is_blank-clause-fresh c).After-lacking-lane in
     let rotated : IsRotated z c.rotate_lane-marks.result c.lacking-lane.result ((z - v % z) % z) = rw (sym c.rotation-rotation.ensures.value) (rw c.turned_back-back.ensures.value at c.rotate_lane-marks.ensures.rotated) in
     let marks = rotated_marks z e.col v some c.rotate_lane-marks.result c.lacking-lane.result u rotated lane in
     rw (c.requires.same_pending, c.from-col.ensures) (λ p set. outside (bit c.args.self.now.pending.items) K c.requires.within p (mark_missing z e.col v some c.args.ones.now K p (sym (marks p) ∙ set)))
@@ -67,9 +71,7 @@ returns-then-not-is_blank c =
     let some : 0 < z = omega (arith, c.rotation-rotation.ensures.small) in
     let K = bit c.args.self.now.known.items in
     let u = lacks z e.col v c.args.ones.now K in
-    let read = rw (c.requires.same, c.from-col.ensures, c.rotation-rotation.ensures.value) at c.lacking-lane.ensures.bits in
-    let lane_clear = rw c.requires.same at c.lacking-lane.ensures.clear in
-    let lane = lacking z e.col v some c.args.ones.now c.lacking-lane.result K c.requires.clear lane_clear read in
+    let lane = lane_is (goal.at.returns-then-not-is_blank c).After-lacking-lane in
     let marks_rotated : IsRotated z c.rotate_lane-marks.result c.lacking-lane.result ((z - v % z) % z) = rw (sym c.rotation-rotation.ensures.value) (rw c.turned_back-back.ensures.value at c.rotate_lane-marks.ensures.rotated) in
     let marks = rotated_marks z e.col v some c.rotate_lane-marks.result c.lacking-lane.result u marks_rotated lane in
     let both : (t : ℕ) → is_set c.common-set.result t ≡ (u t && is_set c.args.sums.now t) = λ t. c.common-set.ensures.bits t ∙ ap (λ b. b && is_set c.args.sums.now t) (lane t) in
@@ -103,9 +105,7 @@ returns-else-not-is_blank c =
     let some : 0 < z = omega (arith, c.rotation-rotation.ensures.small) in
     let K = bit c.args.self.now.known.items in
     let u = lacks z e.col v c.args.ones.now K in
-    let read = rw (c.requires.same, c.from-col.ensures, c.rotation-rotation.ensures.value) at c.lacking-lane.ensures.bits in
-    let lane_clear = rw c.requires.same at c.lacking-lane.ensures.clear in
-    let lane = lacking z e.col v some c.args.ones.now c.lacking-lane.result K c.requires.clear lane_clear read in
+    let lane = lane_is (goal.at.returns-else-not-is_blank c).After-lacking-lane in
     let none : (t : ℕ) → u t ≡ false = λ t. sym (lane t) ∙ c.is_blank.ensures c.if-not-is_blank.false t in
     let unset : (t : ℕ) → (u t && is_set c.args.sums.now t) ≡ false = λ t. ap (λ b. b && is_set c.args.sums.now t) (none t) in
     record {

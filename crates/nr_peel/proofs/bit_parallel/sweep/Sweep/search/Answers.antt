@@ -12,6 +12,7 @@ use Rattle.nr_peel.specs.Sweeps.{AreSought, CountsOf, IsBlockSought, counted_in,
 use Rattle.nr_peel.proofs.TableGridFacts.{rows_short}
 use Rattle.nr_peel.proofs.SweepStepFacts.{counts_still, next_block, pairs_all, some_more, sought_more, sought_room, sought_start, visits_more, visits_within}
 use Rattle.nr_peel.proofs.bit_parallel.sweep.Sweep.search.Goals as goal
+use Rattle.nr_peel.proofs.bit_parallel.sweep.Sweep.search.Goals.{After-row, After-search_block-rows}
 
 pub loop-i-init : goal.loop-i-init
 loop-i-init c =
@@ -66,20 +67,24 @@ overflow_mul-self c =
     let few : c.from.result ≤ 384 = omega (arith, c.from.ensures, c.search_block-rows.ensures.few) in
     omega (arith, mul-le c.from.result (length c.row.result.now) 384 68 few (omega (arith, short, ap length c.row.ensures)))
 
+-- how many rows have one unknown position, and how many visits these are
+found_are : (c : After-search_block-rows) → c.search_block-rows.result ≡ marked (λ t. has_count 1 c.args.self.now.counts.items (c.loop-i.i * c.args.lifted.now.plan.z + t)) c.args.lifted.now.plan.z
+found_are c = c.search_block-rows.ensures.rows ∙ ap (λ (p : List ℕ). marked (λ t. has_count 1 p (c.loop-i.i * c.args.lifted.now.plan.z + t)) c.args.lifted.now.plan.z) c.loop-i.invariant.counts
+
+visits_are : (c : After-row) → c.from.result * length c.row.result.now
+    ≡ marked (λ t. has_count 1 c.args.self.now.counts.items (c.loop-i.i * c.args.lifted.now.plan.z + t)) c.args.lifted.now.plan.z * length (row_of (entries_in c.args.lifted.now.plan.graph c.args.lifted.now.table.now) c.loop-i.i)
+visits_are c =
+    rw (c.from.ensures, c.row.ensures) (ap (λ m. m * length (row_of (entries_in c.args.lifted.now.plan.graph c.args.lifted.now.table.now) c.loop-i.i)) (c.search_block-rows.ensures.rows
+    ∙ ap (λ (p : List ℕ). marked (λ t. has_count 1 p (c.loop-i.i * c.args.lifted.now.plan.z + t)) c.args.lifted.now.plan.z) c.loop-i.invariant.counts))
+
 pub overflow_add-self : goal.overflow_add-self
 overflow_add-self c =
     let l = c.args.lifted.now in
     let ck = lifted_checks l in
-    let a = c.args.self.now in
-    let z = l.plan.z in
+    let counts = c.args.self.now.counts.items in
     let i = c.loop-i.i in
-    let inv = c.loop-i.invariant in
-    let rows : c.from.result ≡ marked (λ t. has_count 1 a.counts.items (i * z + t)) z =
-    c.from.ensures ∙ c.search_block-rows.ensures.rows ∙ ap (λ (p : List ℕ). marked (λ t. has_count 1 p (i * z + t)) z) inv.counts in
-    let visits : c.from.result * length c.row.result.now ≡ marked (λ t. has_count 1 a.counts.items (i * z + t)) z * length (row_of (entries_in l.plan.graph l.table.now) i) =
-    ap (λ m. m * length c.row.result.now) rows ∙ ap (λ (es : List Entry). marked (λ t. has_count 1 a.counts.items (i * z + t)) z * length es) c.row.ensures in
-    let fits : (i + 1) * z ≤ ck.rows * z = mul-le-mul_right z (omega (arith, c.loop-i-test.true, c.rows-i-end.ensures)) in
-    omega (arith, visits, visits_more l a.counts.items i, visits_within ck a.counts.items ((i + 1) * z) (ck.rows * z) fits, pairs_all ck a.counts.items, inv.touches, c.requires.few)
+    let fits : (i + 1) * l.plan.z ≤ ck.rows * l.plan.z = mul-le-mul_right l.plan.z (omega (arith, c.loop-i-test.true, c.rows-i-end.ensures)) in
+    omega (arith, visits_are (goal.at.overflow_add-self c).After-row, visits_more l counts i, visits_within ck counts ((i + 1) * l.plan.z) (ck.rows * l.plan.z) fits, pairs_all ck counts, c.loop-i.invariant.touches, c.requires.few)
 
 pub loop-i-preserved : goal.loop-i-preserved
 loop-i-preserved c =
@@ -91,16 +96,13 @@ loop-i-preserved c =
     let inv = c.loop-i.invariant in
     let block : IsBlockSought ck a.counts.items i c.loop-i.self.lanes c.search_block-rows.new.self =
     subst (λ (p : List ℕ). IsBlockSought ck p i c.loop-i.self.lanes c.search_block-rows.new.self) inv.counts c.search_block-rows.ensures.sought in
-    let found : c.search_block-rows.result ≡ marked (λ t. has_count 1 a.counts.items (i * z + t)) z =
-    c.search_block-rows.ensures.rows ∙ ap (λ (p : List ℕ). marked (λ t. has_count 1 p (i * z + t)) z) inv.counts in
-    let visits : c.from.result * length c.row.result.now ≡ marked (λ t. has_count 1 a.counts.items (i * z + t)) z * length (row_of (entries_in l.plan.graph l.table.now) i) =
-    ap (λ m. m * length c.row.result.now) (c.from.ensures ∙ found) ∙ ap (λ (es : List Entry). marked (λ t. has_count 1 a.counts.items (i * z + t)) z * length es) c.row.ensures in
+    let found = found_are (goal.at.loop-i-preserved c).After-search_block-rows in
     record {
       sought = sought_more ck a.counts.items i a.lanes c.loop-i.self.lanes c.search_block-rows.new.self inv.sought block;
       counts = c.search_block-rows.ensures.counts ∙ inv.counts;
       lanes = c.search_block-rows.ensures.lanes ∙ inv.lanes;
       worked = omega (arith, inv.worked, c.search_block-rows.ensures.worked, ap (λ m. m * length (row_of (entries_in l.plan.graph l.table.now) i)) found, visits_more l a.counts.items i);
-      touches = omega (arith, visits, visits_more l a.counts.items i, inv.touches);
+      touches = omega (arith, visits_are (goal.at.loop-i-preserved c).After-row, visits_more l a.counts.items i, inv.touches);
       found =
           some_more c.loop-i.found (marked (has_count 1 a.counts.items) (i * z)) c.search_block-rows.result inv.found
           ∙ ap (λ m. nat_lt 0 (marked (has_count 1 a.counts.items) (i * z) + m)) found
