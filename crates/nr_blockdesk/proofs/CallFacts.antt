@@ -1,6 +1,6 @@
 -- What calls on sixteen processes leave of each of them.
 use Rattle.std.proofs.Common.{◌≡◌, ℕ, ◌<◌, ◌==◌, Bool, true, false, cond, Ok, Err, Option, Some, None, Result, option_map, List, [], ◌∷◌, ◌++◌, length, filter, get_or, replicate, IsOk, OnErr, OnOk, IfOk, refl, sym, ap, subst, ◌∙◌, ⊎_elim}
-use Rattle.std.proofs.lemmas.Bool.{cases_eq, cond-true, cond-false, eq-eqb, ne_eqb}
+use Rattle.std.proofs.lemmas.Bool.{cases_eq, cond-false, eq-eqb, ne_eqb}
 use Rattle.std.proofs.lemmas.List.{get_or-replicate, get_or-set_same, get_or-set_other}
 use Rattle.nr_shifttable.specs.Accepted.{Entries}
 use Rattle.nr_blockdesk.specs.Calls.{Call, HadMemory, Holds, IsAfter, ProcessesAreApart, Round, after_call, answer_after, begin, begun_as, taken_as, is_on, round_after, round_from, take, taken}
@@ -61,18 +61,13 @@ module _ (s : ProcessesView) (p : ℕ) (r : ReceiverView) (calls : List Call) (c
   step-own : length s.places ≡ 16 → p < 16
       → Holds (Some r) (after_call s.table s.settings p (round_after s.table s.settings p calls) call)
       → (q : ℕ) → q ≡ p → Holds (process (with_process s p r) q) (round_after s.table s.settings q (calls ++ call ∷ []))
-  step-own long low here q is =
-      subst (λ n. Holds (process (with_process s p r) n) (round_after s.table s.settings n (calls ++ call ∷ []))) (sym is)
-      (subst (λ o. Holds o (round_after s.table s.settings p (calls ++ call ∷ []))) (sym (process-own s p r long low))
-      (subst (λ o. Holds (Some r) o) (sym (round-more s.table s.settings p None calls call)) here))
+  step-own long low here q is = rw (is, process-own s p r long low, round-more s.table s.settings p None calls call) here
 
   step-other : ((q : ℕ) → (q ≡ p → ⊥) → is_on q call ≡ false) → IsAfter s calls
       → (q : ℕ) → q < 16 → (q ≡ p → ⊥) → Holds (process (with_process s p r) q) (round_after s.table s.settings q (calls ++ call ∷ []))
   step-other others before q low apart =
-      let same = round-more s.table s.settings q None calls call
-      ∙ call-apart s.table s.settings q (round_after s.table s.settings q calls) call (others q apart) in
-      subst (λ o. Holds o (round_after s.table s.settings q (calls ++ call ∷ []))) (sym (process-other s p q r apart))
-      (subst (λ o. Holds (process s q) o) (sym same) (before q low))
+      rw (process-other s p q r apart, round-more s.table s.settings q None calls call, call-apart s.table s.settings q (round_after s.table s.settings q calls) call (others q apart))
+      (before q low)
 
   step : length s.places ≡ 16 → p < 16 → ((q : ℕ) → (q ≡ p → ⊥) → is_on q call ≡ false)
       → Holds (Some r) (after_call s.table s.settings p (round_after s.table s.settings p calls) call)
@@ -84,24 +79,18 @@ module _ (s : ProcessesView) (p : ℕ) (r : ReceiverView) (calls : List Call) (c
 stays : (s : ProcessesView) (calls : List Call) (call : Call)
     → ((q : ℕ) → q < 16 → after_call s.table s.settings q (round_after s.table s.settings q calls) call ≡ round_after s.table s.settings q calls)
     → IsAfter s calls → IsAfter s (calls ++ call ∷ [])
-stays s calls call same before =
-    λ q low. subst (λ o. Holds (process s q) o) (sym (round-more s.table s.settings q None calls call ∙ same q low)) (before q low)
+stays s calls call same before = λ q low. rw (round-more s.table s.settings q None calls call, same q low) (before q low)
 
 -- `begin` of process p.
 module _ (s : ProcessesView) (p a : ℕ) (calls : List Call) where
   begin-accepted : (t : ProcessesView) → length s.places ≡ 16 → p < 16 → BeginsAt s t p a → IsAfter s calls → IsAfter t (calls ++ begin p a ∷ [])
   begin-accepted t long low begins before =
-      let round = round_after s.table s.settings p calls in
-      let fresh = cond-true (p == p) (begun_as (link_said s.table s.settings a) round) round (eq-eqb p p refl)
-      ∙ ap (λ said. begun_as said round) begins.said in
-      let here : Holds (Some begins.receiver) (after_call s.table s.settings p round (begin p a)) =
-      subst (λ o. Holds (Some begins.receiver) o) (sym fresh) (refl, begins.empty) in
-      subst (λ v. IsAfter v (calls ++ begin p a ∷ [])) (sym begins.has)
-      (step s p begins.receiver calls (begin p a) long low (λ q apart. ne_eqb p q (λ is. apart (sym is))) here before)
+      let here : Holds (Some begins.receiver) (after_call s.table s.settings p (round_after s.table s.settings p calls) (begin p a)) =
+      rw (eq-eqb p p refl, begins.said) (refl, begins.empty) in
+      rw begins.has (step s p begins.receiver calls (begin p a) long low (λ q apart. ne_eqb p q (λ is. apart (sym is))) here before)
 
   begin-refused : (e : DeskFault) → link_said s.table s.settings a ≡ Err e → IsAfter s calls → IsAfter s (calls ++ begin p a ∷ [])
-  begin-refused e said before =
-      stays s calls (begin p a) (λ q low. ap (λ o. cond (p == q) (begun_as o (round_after s.table s.settings q calls)) (round_after s.table s.settings q calls)) said ∙ both (p == q) (round_after s.table s.settings q calls)) before
+  begin-refused e said before = stays s calls (begin p a) (λ q low. rw said (both (p == q) (round_after s.table s.settings q calls))) before
     where
       both : (b : Bool) (o : Option Round) → cond b o o ≡ o
       both true o = refl
@@ -112,8 +101,7 @@ pub begin-after : (s t : ProcessesView) (p a : ℕ) (result : Result (Unit {0}) 
     → HadMemory result → (calls : List Call) → IsAfter s calls → IsAfter t (calls ++ begin p a ∷ [])
 begin-after s t p a (Ok done) long low refused begins kept had = λ calls before. begin-accepted s p a calls t long low begins before
 begin-after s t p a (Err e) long low refused begins kept had =
-    λ calls before. subst (λ v. IsAfter v (calls ++ begin p a ∷ [])) (sym kept)
-    (begin-refused s p a calls e (⊎_elim (λ memory. absurd (had memory)) (λ said. said) refused) before)
+    λ calls before. rw kept (begin-refused s p a calls e (⊎_elim (λ memory. absurd (had memory)) (λ said. said) refused) before)
 
 -- The round that a receiver holds.
 record HasRound (r : ReceiverView) (o : Option Round) : Type 0 where
@@ -142,42 +130,27 @@ module _ (s t : ProcessesView) (p : ℕ) (x : Reception) (calls : List Call) (lo
       → after_call s.table s.settings p (round_after s.table s.settings p calls) (take p x)
       ≡ Some (record { link = has.round.link; list = has.round.list ++ x ∷ [] })
   after-taken answer takes has =
-      let round = round_after s.table s.settings p calls in
-      let ok : IsOk (reception_said has.round.link x) = subst (λ l. IsOk (reception_said l x)) has.link takes.takes.refused in
-      cond-true (p == p) (option_map (taken x) round) round (eq-eqb p p refl)
-      ∙ ap (option_map (taken x)) has.is
-      ∙ ap Some (heard-ok (reception_said has.round.link x) x has.round ok)
+      rw (eq-eqb p p refl, has.is) (ap Some (heard-ok (reception_said has.round.link x) x has.round (rw (← has.link) takes.takes.refused)))
 
   take-accepted : (answer : Outcome) → length s.places ≡ 16 → (takes : TakesAt s t p x (Ok answer)) → IsAfter t (calls ++ take p x ∷ [])
   take-accepted answer long takes =
       let has = round-taken (Ok answer) takes in
-      let link : takes.after.link ≡ has.round.link = takes.takes.link ∙ has.link in
-      let heard : IsRecordOf takes.before.link has.round.list takes.before.heard =
-      subst (λ l. IsRecordOf l has.round.list takes.before.heard) (sym has.link) has.heard in
-      let longer : IsRecordOf has.round.link (has.round.list ++ x ∷ []) takes.after.heard =
-      subst (λ l. IsRecordOf l (has.round.list ++ x ∷ []) takes.after.heard) has.link (takes.takes.heard has.round.list heard) in
+      let heard : IsRecordOf takes.before.link has.round.list takes.before.heard = subst (λ l. IsRecordOf l has.round.list takes.before.heard) (sym has.link) has.heard in
+      let longer : IsRecordOf has.round.link (has.round.list ++ x ∷ []) takes.after.heard = rw (← has.link) (takes.takes.heard has.round.list heard) in
       let here : Holds (Some takes.after) (after_call s.table s.settings p (round_after s.table s.settings p calls) (take p x)) =
-      subst (λ o. Holds (Some takes.after) o) (sym (after-taken answer takes has)) (link, longer) in
-      subst (λ v. IsAfter v (calls ++ take p x ∷ [])) (sym takes.has)
-      (step s p takes.after calls (take p x) long low (λ q apart. ne_eqb p q (λ is. apart (sym is))) here before)
+      rw (after-taken answer takes has) (takes.takes.link ∙ has.link, longer) in
+      rw takes.has (step s p takes.after calls (take p x) long low (λ q apart. ne_eqb p q (λ is. apart (sym is))) here before)
 
   take-refused : (e : DeskFault) → (e ≡ fault.Memory → ⊥) → (takes : TakesAt s t p x (Err e)) → IsAfter s (calls ++ take p x ∷ [])
   take-refused e had takes =
       let has = round-taken (Err e) takes in
       let said : reception_said takes.before.link x ≡ Err e = ⊎_elim (λ memory. absurd (had memory)) (λ said. said) takes.takes.refused in
-      let refused : reception_said has.round.link x ≡ Err e = subst (λ l. reception_said l x ≡ Err e) has.link said in
-      stays s calls (take p x) (λ q _. ⊎_elim (here has refused q) (apart q) (cases_eq q p)) before
+      stays s calls (take p x) (λ q _. ⊎_elim (here has (rw (← has.link) said) q) (apart q) (cases_eq q p)) before
     where
       here : (has : HasRound takes.before (round_after s.table s.settings p calls)) → reception_said has.round.link x ≡ Err e
           → (q : ℕ) → q ≡ p
           → after_call s.table s.settings q (round_after s.table s.settings q calls) (take p x) ≡ round_after s.table s.settings q calls
-      here has refused q is =
-          let round = round_after s.table s.settings p calls in
-          subst (λ n. after_call s.table s.settings n (round_after s.table s.settings n calls) (take p x) ≡ round_after s.table s.settings n calls) (sym is)
-          (cond-true (p == p) (option_map (taken x) round) round (eq-eqb p p refl)
-          ∙ ap (option_map (taken x)) has.is
-          ∙ ap (λ said. Some (taken_as said x has.round)) refused
-          ∙ sym has.is)
+      here has refused q is = rw (is, eq-eqb p p refl, has.is, refused) refl
 
       apart : (q : ℕ) → (q ≡ p → ⊥)
           → after_call s.table s.settings q (round_after s.table s.settings q calls) (take p x) ≡ round_after s.table s.settings q calls
@@ -187,18 +160,14 @@ module _ (s t : ProcessesView) (p : ℕ) (x : Reception) (calls : List Call) (lo
   take-answers answer takes =
       let has = round-taken (Ok answer) takes in
       let outcome : Option Round → Option Verdict = option_map (λ round. outcome_of round.link round.list) in
-      let heard : IsRecordOf takes.before.link has.round.list takes.before.heard =
-      subst (λ l. IsRecordOf l has.round.list takes.before.heard) (sym has.link) has.heard in
       ap outcome (round-more s.table s.settings p None calls (take p x) ∙ after-taken answer takes has)
-      ∙ ap (λ l. Some (outcome_of l (has.round.list ++ x ∷ []))) (sym has.link)
-      ∙ ap Some (sym (takes.takes.outcome has.round.list heard))
+      ∙ rw (← has.link) (ap Some (sym (takes.takes.outcome has.round.list (subst (λ l. IsRecordOf l has.round.list takes.before.heard) (sym has.link) has.heard))))
 
 pub take-after : (s t : ProcessesView) (p : ℕ) (x : Reception) (result : Result Outcome DeskFault) → length s.places ≡ 16 → p < 16
     → TakesAt s t p x result → OnErr result (t ≡ s) → HadMemory result
     → (calls : List Call) → IsAfter s calls → IsAfter t (calls ++ take p x ∷ [])
 take-after s t p x (Ok answer) long low takes kept had = λ calls before. take-accepted s t p x calls low before answer long takes
-take-after s t p x (Err e) long low takes kept had =
-    λ calls before. subst (λ v. IsAfter v (calls ++ take p x ∷ [])) (sym kept) (take-refused s t p x calls low before e had takes)
+take-after s t p x (Err e) long low takes kept had = λ calls before. rw kept (take-refused s t p x calls low before e had takes)
 
 pub take-answer : (s t : ProcessesView) (p : ℕ) (x : Reception) (result : Result Outcome DeskFault) → p < 16 → TakesAt s t p x result
     → IfOk result (λ answer. (calls : List Call) → IsAfter s calls → answer_after s p (calls ++ take p x ∷ []) ≡ Some (verdict answer))

@@ -1,33 +1,32 @@
 -- What a record decides, and the one transport block that may explain it.
-use Rattle.std.proofs.Common.{◌≡◌, ℕ, zero, suc, ◌+◌, ◌-◌, ◌*◌, ◌/◌, ◌%◌, ◌<◌, ◌≤◌, ◌==◌, ◌||◌, ◌&&◌, nat_lt, nat_le, Bool, true, false, not, cond, List, [], ◌∷◌, ◌++◌, length, get_or, map, take, replicate, All, refl, sym, ap, subst, ◌∙◌, ⊎_elim, length-append, arith}
-use Rattle.std.specs.Prelude.{Option, Some, None, count_by, unwrap_or}
+use Rattle.std.proofs.Common.{◌≡◌, ℕ, ◌+◌, ◌-◌, ◌*◌, ◌/◌, ◌%◌, ◌<◌, ◌≤◌, ◌==◌, ◌||◌, ◌&&◌, nat_lt, nat_le, Bool, true, false, not, cond, List, [], length, get_or, map, take, replicate, All, refl, sym, ap, subst, ◌∙◌, ⊎_elim, length-append, arith}
+use Rattle.std.specs.Prelude.{Option, Some, None, count_by, sum, unwrap_or}
 use Rattle.std.specs.List.{find, list_all, range_with_len}
 use Rattle.std.proofs.lemmas.Bool.{cases_lt}
 use Rattle.std.proofs.lemmas.Bool.Decides.{nat_tests}
-use Rattle.std.proofs.lemmas.List.{get_or_append_left, get_or_default, get_or_past, same_lists}
-use Rattle.std.proofs.lemmas.List.Elements.{All-append}
-use Rattle.std.proofs.lemmas.List.FromFn.{get_or-map-range_with_len, length-map-range_with_len}
-use Rattle.std.proofs.lemmas.List.Sums.{sum_by-cons}
+use Rattle.std.proofs.lemmas.List.{get_or-map, get_or-take, length-map, length-take-le, get_or_append_left, get_or_default, get_or_past, same_lists}
+use Rattle.std.proofs.lemmas.List.FromFn.{fill_by_all, get_or-map-range_with_len, length-map-range_with_len}
+use Rattle.std.proofs.lemmas.List.Folds.{list_all-map}
+use Rattle.std.proofs.lemmas.List.Sums.{sum-map}
 use Rattle.std.proofs.lemmas.Nat.{mod_below}
+use Rattle.std.proofs.Math.Bool.{and-false}
 use Rattle.std.proofs.Math.Nat.{div-lt_iff_lt-mul, mod-add-div, mul_comm}
 use Rattle.nr_bitvec.specs.Bit.{bit}
 use Rattle.nr_crcattach.specs.Attachment.{BlocksLengthen, attached, block_poly, attached_length}
 use Rattle.nr_crcattach.specs.Crc.{crc_of, degree, high_first}
 use Rattle.nr_graphpick.specs.Graph.{cols_of}
 use Rattle.nr_harqbuf.specs.Record.{HeardBits, first_at, first_heard, is_heard, record_of}
-use Rattle.nr_graphpick.specs.declared.Graph.{Graph}
 use Rattle.nr_ldpcenc.specs.Codeword.{codeword, filler}
 use Rattle.nr_ldpcenc.specs.Rows.{Checks, Meets, block_checks}
 use Rattle.nr_segment.specs.Plan.{word_size, IsSound, Numbers, PlansAreSound}
 use Rattle.nr_ratematch.specs.Selection.{Circular}
-use Rattle.nr_shifttable.specs.Accepted.{Entries}
 use Rattle.nr_peel.specs.Closure.{closure}
 use Rattle.nr_peel.specs.Peeling.{AgreesWith, IsStarted, Peeling, checks_for, left_of}
 use Rattle.nr_segment.specs.CodeBlock.{CodeBlocksAreLong, code_bits, part_of, share}
 use Rattle.nr_blockdesk.specs.Explains.{Explains, Reception, explains}
 use Rattle.nr_blockdesk.specs.Heard.{IsRecordOf, heard_of, heard_record, hearings}
 use Rattle.nr_blockdesk.specs.Link.{IsBlock, IsLink, Link, WordsArePlain, word}
-use Rattle.nr_blockdesk.specs.Outcome.{ExplainedBy, all_fixed, blocks_of, contradiction, fixed, given, left, open_still, outcome_of, verdict_on}
+use Rattle.nr_blockdesk.specs.Outcome.{ExplainedBy, all_fixed, blocks_of, contradiction, fixed, given, left, outcome_of, verdict_on}
 use Rattle.nr_blockdesk.specs.ReceiverLaws.{DeliveredIsOnly, ExplainedIsDelivered, ExplainsByRecord}
 use Rattle.nr_blockdesk.specs.Receiving.{peeling_of, verdict}
 use Rattle.nr_blockdesk.specs.ReceivingInside.{Fits, IsDecided, IsDesk, IsRead, IsSized, IsTied}
@@ -37,34 +36,24 @@ use Rattle.nr_blockdesk.proofs.ClosureDecisionFacts.{every_fixed}
 use Rattle.nr_blockdesk.proofs.EncodingFacts.{code-shared, k-fits, part-inside}
 use Rattle.nr_blockdesk.proofs.HearingFacts.{same-checks}
 use Rattle.nr_blockdesk.proofs.RecordFacts.{none_heard}
-use Rattle.nr_blockdesk.proofs.ReceptionFacts.{one-all}
+use Rattle.nr_blockdesk.proofs.ReceptionFacts.{none-of}
 
 -- an outcome that a record decides is that of each list of which it is the record
 pub outcome-of_record : ExplainsByRecord → ExplainedIsDelivered → DeliveredIsOnly → (link : Link) (list : List Reception)
     (records : List HeardBits) (o : Outcome) → IsLink link → IsRecordOf link list records → IsDecided link records o
     → verdict o ≡ outcome_of link list
 unfolding outcome_of
-outcome-of_record by_record delivers only link list records outcome.Open is of decided =
-    sym (ap (λ b. cond b (verdict_on (find (explains link list) (blocks_of link.a))) open_still)
-    (ap (λ (l : List HeardBits). all_fixed link l) (sym of.same) ∙ decided))
+outcome-of_record by_record delivers only link list records outcome.Open is of decided = rw (← of.same, decided) refl
 outcome-of_record by_record delivers only link list records (outcome.Delivered b) is of decided =
-    let all : all_fixed link (heard_record link list) ≡ true = ap (λ (l : List HeardBits). all_fixed link l) (sym of.same) ∙ decided.0 in
-    let by : ExplainedBy link (heard_record link list) b.items = subst (λ (l : List HeardBits). ExplainedBy link l b.items) of.same decided.2 in
-    sym (delivers link list b.items is of.accepted decided.1 ((by_record link list b.items is of.accepted decided.1).1 by) all)
-outcome-of_record by_record delivers only link list records outcome.Contradiction is of decided = go (find (explains link list) (blocks_of link.a)) refl
+    let all : all_fixed link (heard_record link list) ≡ true = rw (← of.same) decided.0 in
+    sym (delivers link list b.items is of.accepted decided.1 ((by_record link list b.items is of.accepted decided.1).1 (rw (← of.same) decided.2)) all)
+outcome-of_record by_record delivers only link list records outcome.Contradiction is of decided = rw (← of.same, decided.0) (go (find (explains link list) (blocks_of link.a)) refl)
   where
-    all : all_fixed link (heard_record link list) ≡ true
-    all = ap (λ (l : List HeardBits). all_fixed link l) (sym of.same) ∙ decided.0
-
-    go : (o : Option (List Bool)) → find (explains link list) (blocks_of link.a) ≡ o
-        → contradiction ≡ cond (all_fixed link (heard_record link list)) (verdict_on (find (explains link list) (blocks_of link.a))) open_still
-    go None e =
-        sym (ap (λ b. cond b (verdict_on (find (explains link list) (blocks_of link.a))) open_still) all ∙ ap verdict_on e)
+    go : (o : Option (List Bool)) → find (explains link list) (blocks_of link.a) ≡ o → contradiction ≡ verdict_on (find (explains link list) (blocks_of link.a))
+    go None e = rw e refl
     go (Some x) e =
-        let one = only link list x is of.accepted
-        (ap (λ b. cond b (verdict_on (find (explains link list) (blocks_of link.a))) open_still) all ∙ ap verdict_on e) in
-        absurd (decided.1 x one.is_block (subst (λ (l : List HeardBits). ExplainedBy link l x) (sym of.same)
-        ((by_record link list x is of.accepted one.is_block).0 one.explains)))
+        let one = only link list x is of.accepted (rw (← of.same, decided.0, e) refl) in
+        absurd (decided.1 x one.is_block (rw of.same ((by_record link list x is of.accepted one.is_block).0 one.explains)))
 
 -- what a peeler knows is what its code block's record fixes
 pub known-fixed : (link : Link) (s : HeardBits) (p : Peeling) → IsTied link s p → (k : ℕ) → bit p.known k ≡ fixed link s k
@@ -74,23 +63,16 @@ known-fixed link s p tied k =
     ∙ ap (λ (c : Checks). closure c (bit p.given) k) (same-checks link s p tied)
     ∙ ap (λ (g : ℕ → Bool). closure (block_checks link.table link.graph link.plan) g k) sets
 
-count-cons : {X : Type 0} (t : X → Bool) (x : X) (xs : List X) → count_by t (x ∷ xs) ≡ cond (t x) 1 0 + count_by t xs
-count-cons t x xs = sum_by-cons (λ y. cond (t y) 1 0) x xs
-
-count-first : (bits : List Bool) (q : ℕ → Bool) (n a : ℕ) → n ≤ length bits → ((k : ℕ) → k < n → bit bits k ≡ q (a + k))
-    → count_by (λ b. not b) (take n bits) ≡ count_by (λ k. not (q k)) (range_with_len a n)
-count-first bits q zero a within each = refl
-count-first [] q (suc n) a within each = absurd (omega (arith, within))
-count-first (b ∷ bs) q (suc n) a within each =
-    let start : a + 0 ≡ a = omega arith in
-    let first : b ≡ q a = each 0 (omega arith) ∙ ap q start in
-    count-cons (λ b. not b) b (take n bs)
-    ∙ ap (λ b. cond (not b) 1 0 + count_by (λ b. not b) (take n bs)) first
-    ∙ ap (λ k. cond (not (q a)) 1 0 + k) (count-first bs q n (a + 1) (omega (arith, within)) next)
-    ∙ sym (count-cons (λ k. not (q k)) a (range_with_len (a + 1) n))
-  where
-    next : (k : ℕ) → k < n → bit bs k ≡ q (a + 1 + k)
-    next k inside = let on : a + suc k ≡ a + 1 + k = omega arith in each (suc k) (omega (arith, inside)) ∙ ap q on
+-- a list of tests against the numbers that they are of
+count-first : (bits : List Bool) (q : ℕ → Bool) (n : ℕ) → n ≤ length bits → ((k : ℕ) → k < n → bit bits k ≡ q k)
+    → count_by (λ b. not b) (take n bits) ≡ count_by (λ k. not (q k)) (range_with_len 0 n)
+count-first bits q n within each =
+    let f : Bool → ℕ = λ b. cond (not b) 1 0 in
+    let long = length-take-le n bits within in
+    sym (sum-map f (take n bits))
+    ∙ ap sum (fill_by_all (λ k. f (q k)) (map f (take n bits)) n 0 (length-map (take n bits) f ∙ long)
+    (λ k below. get_or-map f (take n bits) k false 0 (omega (arith, long, below)) ∙ ap f (get_or-take n bits k false below ∙ each k below)))
+    ∙ sum-map (λ k. f (q k)) (range_with_len 0 n)
 
 pub sound-of : PlansAreSound → (link : Link) → IsLink link → IsSound link.graph (attached_length link.a) link.plan
 sound-of sound link is = sound link.graph (attached_length link.a) link.plan is.planned
@@ -105,37 +87,22 @@ left-known sound link s p is tied =
     let long = tied.peeled.known_long in
     let within : link.plan.kdash ≤ length p.known = omega (arith, sane.held, fits, size, long) in
     ap (λ (n : Numbers). left_of n.kdash p.known) tied.numbers
-    ∙ count-first p.known (fixed link s) link.plan.kdash 0 within each
-  where
-    each : (k : ℕ) → k < link.plan.kdash → bit p.known k ≡ fixed link s (0 + k)
-    each k inside = let none : k ≡ 0 + k = omega arith in known-fixed link s p tied k ∙ ap (λ j. fixed link s j) none
+    ∙ count-first p.known (fixed link s) link.plan.kdash within (λ k inside. known-fixed link s p tied k)
 
-all-range : {X : Type 0} (p : X → Bool) (q : ℕ → Bool) (xs : List X) (a : ℕ) (d : X) → ((k : ℕ) → k < length xs → p (get_or xs k d) ≡ q (a + k))
-    → list_all p xs ≡ list_all q (range_with_len a (length xs))
-all-range p q [] a d each = refl
-all-range p q (x ∷ xs) a d each =
-    let start : a + 0 ≡ a = omega arith in
-    ap (λ b. b && list_all p xs) (each 0 (omega arith) ∙ ap q start)
-    ∙ ap (λ b. q a && b) (all-range p q xs (a + 1) d next)
-  where
-    next : (k : ℕ) → k < length xs → p (get_or xs k d) ≡ q (a + 1 + k)
-    next k inside = let on : a + suc k ≡ a + 1 + k = omega arith in each (suc k) (omega (arith, inside)) ∙ ap q on
+all-range : {X : Type 0} (p : X → Bool) (q : ℕ → Bool) (xs : List X) (d : X) → ((k : ℕ) → k < length xs → p (get_or xs k d) ≡ q k)
+    → list_all p xs ≡ list_all q (range_with_len 0 (length xs))
+all-range p q xs d each =
+    sym (list_all-map (λ b. b) p xs)
+    ∙ ap (list_all (λ b. b)) (fill_by_all q (map p xs) (length xs) false (length-map xs p) (λ k below. get_or-map p xs k d false below ∙ each k below))
+    ∙ list_all-map (λ b. b) q (range_with_len 0 (length xs))
 
 -- each peeler knows all exactly where all is fixed
 pub all-known : PlansAreSound → (link : Link) (records : List HeardBits) (peelers : List Peeling) → IsLink link → IsDesk link records peelers
     → list_all (λ (p : Peeling). left_of p.numbers.kdash p.known == 0) peelers ≡ all_fixed link records
 all-known sound link records peelers is desk =
-    all-range (λ (p : Peeling). left_of p.numbers.kdash p.known == 0) (λ r. left link records r == 0) peelers 0
-    (record { table = link.table; graph = link.graph; numbers = link.plan; given = []; known = []; bits = []; order = []; touches = 0; lanes = 0 }) each
+    all-range (λ (p : Peeling). left_of p.numbers.kdash p.known == 0) (λ r. left link records r == 0) peelers (none-of link)
+    (λ k inside. ap (λ n. n == 0) (left-known sound link (heard_of records k) (peeling_of link peelers k) is (desk.tied k (rw (← desk.peelings) inside))))
     ∙ ap (λ n. list_all (λ r. left link records r == 0) (range_with_len 0 n)) desk.peelings
-  where
-    each : (k : ℕ) → k < length peelers
-        → (left_of (peeling_of link peelers k).numbers.kdash (peeling_of link peelers k).known == 0) ≡ (left link records (0 + k) == 0)
-    each k inside =
-        let none : k ≡ 0 + k = omega arith in
-        let tied = desk.tied k (subst (λ n. k < n) desk.peelings inside) in
-        ap (λ n. n == 0) (left-known sound link (heard_of records k) (peeling_of link peelers k) is tied)
-        ∙ ap (λ j. left link records j == 0) none
 
 -- each transport block that explains a list has the bits that the peelers know by its record
 pub known-bits : WordsArePlain → ExplainsByRecord → (link : Link) (records : List HeardBits) (peelers : List Peeling)
@@ -198,7 +165,7 @@ candidate-only sound plain blocks codes link records peelers bits is desk all ma
         ∙ sym (is-word.begins k there)
         ∙ agrees
         ∙ sym (known-value (bit p.known k) (bit p.bits k) known)
-        ∙ sym (read i inside (record { table = link.table; graph = link.graph; numbers = link.plan; given = []; known = []; bits = []; order = []; touches = 0; lanes = 0 }))
+        ∙ sym (read i inside (none-of link))
 
     at : (i : ℕ) (d : Bool) → i < length y → get_or y i d ≡ get_or bits i d
     at i d inside =
@@ -210,7 +177,7 @@ pub peeler-at : (link : Link) (records : List HeardBits) (peelers : List Peeling
     → r < link.plan.c → get_or peelers r d ≡ peeling_of link peelers r
 peeler-at link records peelers desk r d block =
     get_or_default peelers r d
-    (record { table = link.table; graph = link.graph; numbers = link.plan; given = []; known = []; bits = []; order = []; touches = 0; lanes = 0 })
+    (none-of link)
     (omega (arith, desk.peelings, block))
 
 pub peeler-size : (link : Link) (records : List HeardBits) (peelers : List Peeling) → IsDesk link records peelers → (r : ℕ) (d : Peeling)
@@ -230,30 +197,22 @@ pub sized-of : (link : Link) (records : List HeardBits) (peelers : List Peeling)
     → (r : ℕ) (d : Peeling) → r < length records
     → IsSized (cols_of link.buffer.graph * link.buffer.z) (heard_of records r) (get_or peelers r d)
 sized-of link records peelers is desk r d inside =
-    let block : r < link.plan.c = subst (λ n. r < n) desk.stores inside in
-    let size : word_size link.graph link.plan ≡ cols_of link.buffer.graph * link.buffer.z =
-    sym (ap (λ (b : Circular). cols_of b.graph * b.z) is.buffered) in
-    record {
-      stored = (desk.tied r block).long ∙ size;
-      peeled = peeler-size link records peelers desk r d block ∙ size;
-    }
+    let block : r < link.plan.c = rw (← desk.stores) inside in
+    let size : word_size link.graph link.plan ≡ cols_of link.buffer.graph * link.buffer.z = sym (ap (λ (b : Circular). cols_of b.graph * b.z) is.buffered) in
+    record { stored = (desk.tied r block).long ∙ size; peeled = peeler-size link records peelers desk r d block ∙ size }
 
 -- what was compared is what explains
 pub explained-by : (link : Link) (records same : List HeardBits) (l block : List Bool) → same ≡ records → l ≡ attached block
     → ((r : ℕ) → r < link.plan.c → Fits (heard_of same r) (bit (codeword link.table link.graph link.plan (code_bits link.plan l r))))
     → ExplainedBy link records block
 unfolding word
-explained-by link records same l block same-is l-is fits r inside =
-    subst (λ (s : List HeardBits). Fits (heard_of s r) (bit (codeword link.table link.graph link.plan (code_bits link.plan (attached block) r)))) same-is
-    (subst (λ (b : List Bool). Fits (heard_of same r) (bit (codeword link.table link.graph link.plan (code_bits link.plan b r)))) l-is (fits r inside))
+explained-by link records same l block same-is l-is fits r inside = rw (← same-is, ← l-is) (fits r inside)
 
 pub explained-to : (link : Link) (records same : List HeardBits) (l block : List Bool) → same ≡ records → l ≡ attached block
     → ExplainedBy link records block
     → (r : ℕ) → r < link.plan.c → Fits (heard_of same r) (bit (codeword link.table link.graph link.plan (code_bits link.plan l r)))
 unfolding word
-explained-to link records same l block same-is l-is by r inside =
-    subst (λ (s : List HeardBits). Fits (heard_of s r) (bit (codeword link.table link.graph link.plan (code_bits link.plan l r)))) (sym same-is)
-    (subst (λ (b : List Bool). Fits (heard_of records r) (bit (codeword link.table link.graph link.plan (code_bits link.plan b r)))) (sym l-is) (by r inside))
+explained-to link records same l block same-is l-is by r inside = rw (same-is, l-is) (by r inside)
 
 -- a new store and a new peeler
 pub started-tied : PlansAreSound → (link : Link) (s : HeardBits) (p : Peeling) → IsLink link → IsStarted link.table link.graph link.plan p
@@ -273,10 +232,7 @@ started-tied sound link s p is start s-is = record {
     N = word_size link.graph link.plan
 
     checks : checks_for p ≡ block_checks link.table link.graph link.plan
-    checks =
-        ap (λ (t : Entries). block_checks t p.graph p.numbers) start.table
-        ∙ ap (λ (g : Graph). block_checks link.table g p.numbers) start.graph
-        ∙ ap (λ (n : Numbers). block_checks link.table link.graph n) start.numbers
+    checks = rw (start.table, start.graph, start.numbers) refl
 
     fill : ℕ → Bool
     fill = filler link.plan.kdash link.plan.k
@@ -293,17 +249,12 @@ started-tied sound link s p is start s-is = record {
         ∙ ⊎_elim
         (λ (low : k < N). get_or-map-range_with_len fill 0 N k k false low (omega arith))
         (λ (high : N ≤ k).
-        let sane = sound-of sound link is in
-        let fits = k-fits link.graph link.plan sane.columns in
+        let fits = k-fits link.graph link.plan (sound-of sound link is).columns in
         let past : nat_lt k link.plan.k ≡ false = grind (arith, nat_tests, fits, high) in
         get_or_past (map fill (range_with_len 0 N)) k false (omega (arith, length-map-range_with_len fill 0 N, high))
         ∙ sym (ap (λ b. nat_le link.plan.kdash k && b) past ∙ and-false (nat_le link.plan.kdash k)))
         (cases_lt k N)
         ∙ sym (ap (λ b. b || fill k) (none k))
-      where
-        and-false : (b : Bool) → (b && false) ≡ false
-        and-false true = refl
-        and-false false = refl
 
 pub desk-new : PlansAreSound → (link : Link) (S : List HeardBits) (P : List Peeling) → IsLink link → length S ≡ link.plan.c → length P ≡ link.plan.c
     → All (λ s. s ≡ record_of (word_size link.graph link.plan) []) S → All (IsStarted link.table link.graph link.plan) P → IsDesk link S P
@@ -311,7 +262,7 @@ desk-new sound link S P is stores peelers empty started = record {
   stores = stores;
   peelings = peelers;
   tied = λ r block. started-tied sound link (heard_of S r) (peeling_of link P r) is
-      (started r (record { table = link.table; graph = link.graph; numbers = link.plan; given = []; known = []; bits = []; order = []; touches = 0; lanes = 0 })
+      (started r (none-of link)
       (omega (arith, peelers, block)))
       (empty r (record { first = []; clash = false }) (omega (arith, stores, block)));
 }
@@ -331,6 +282,3 @@ record-new link S stores empty = record {
     at : (k : ℕ) (d : HeardBits) → k < length S → get_or S k d ≡ get_or (map f (range_with_len 0 link.plan.c)) k d
     at k d inside =
         empty k d inside ∙ sym (get_or-map-range_with_len f 0 link.plan.c k k d (subst (λ n. k < n) stores inside) (omega arith))
-
-pub all-push : {X : Type 0} (P : X → Type 0) (xs : List X) (x : X) → All P xs → P x → All P (xs ++ x ∷ [])
-all-push P xs x all one = All-append P xs (x ∷ []) all (one-all P x one)

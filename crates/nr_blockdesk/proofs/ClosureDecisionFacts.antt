@@ -1,10 +1,10 @@
 -- What the closures decide: which transport blocks can explain a list of receptions.
-use Rattle.std.proofs.Common.{◌≡◌, ℕ, zero, suc, ◌+◌, ◌<◌, ◌≤◌, ◌==◌, ◌||◌, Bool, true, false, not, cond, List, ◌∷◌, length, map, get_or, take, refl, sym, ap, subst, ◌∙◌, ⊎_elim, arith}
+use Rattle.std.proofs.Common.{◌≡◌, ℕ, zero, suc, ◌+◌, ◌<◌, ◌≤◌, ◌==◌, ◌||◌, Bool, true, false, not, cond, List, ◌∷◌, length, map, get_or, take, refl, sym, ap, subst, ◌∙◌, arith}
 use Rattle.std.specs.Prelude.{Option, Some, None, count_by}
 use Rattle.std.specs.List.{range_with_len}
-use Rattle.std.proofs.lemmas.Bool.{cases_eq, eqb-true}
+use Rattle.std.proofs.lemmas.Bool.{eq-eqb, eqb-true, not-false}
 use Rattle.std.proofs.lemmas.List.{get_or_default, same_lists}
-use Rattle.std.proofs.lemmas.List.Sums.{sum_by-cons}
+use Rattle.std.proofs.lemmas.List.Folds.{sum_by-zero}
 use Rattle.std.proofs.Math.Seq.{take-append_seam}
 use Rattle.nr_bitvec.specs.Bit.{bit}
 use Rattle.nr_crcattach.specs.Attachment.{BlocksLengthen, attached, block_poly, attached_length}
@@ -45,25 +45,13 @@ explainers-agree sound agree plain by_record link list x y r is accepted whole-x
     (sound link.table link.graph link.plan is.table some) plain-x.meets plain-y.meets
     (given_agree link s (bit (word link x r)) (bit (word link y r)) by-x.1 by-y.1 plain-x plain-y)
 
-first-none : (b : Bool) (k : ℕ) → cond b 1 0 + k ≡ 0 → b ≡ false
-first-none true k e = absurd (omega (arith, e))
-first-none false k e = refl
-
-rest-none : (b : Bool) (k : ℕ) → cond b 1 0 + k ≡ 0 → k ≡ 0
-rest-none true k e = absurd (omega (arith, e))
-rest-none false k e = omega (arith, e)
-
 count_none : (t : ℕ → Bool) (a n : ℕ) → count_by t (range_with_len a n) ≡ 0 → (m : ℕ) → a ≤ m → m < a + n → t m ≡ false
-count_none t a zero none m low high = absurd (omega arith)
-count_none t a (suc n) none m low high =
-    let sum : cond (t a) 1 0 + count_by t (range_with_len (a + 1) n) ≡ 0 =
-    sym (sum_by-cons (λ x. cond (t x) 1 0) a (range_with_len (a + 1) n)) ∙ none in
-    ⊎_elim (λ here. ap t here ∙ first-none (t a) _ sum)
-    (λ there. count_none t (a + 1) n (rest-none (t a) _ sum) m (omega arith) (omega arith)) (cases_eq m a)
-
-not-false : (b : Bool) → not b ≡ false → b ≡ true
-not-false true e = refl
-not-false false e = cc e
+count_none t a n none m low high =
+    go (t m) (range_each (λ x. cond (t x) 1 0 == 0) a n (sym (sum_by-zero (λ x. cond (t x) 1 0) (range_with_len a n)) ∙ eq-eqb _ 0 none) m low high)
+  where
+    go : (b : Bool) → (cond b 1 0 == 0) ≡ true → b ≡ false
+    go true e = cc e
+    go false e = refl
 
 -- where all are fixed, each position below K' is
 pub every_fixed : (link : Link) (records : List HeardBits) → all_fixed link records ≡ true → (r : ℕ) → r < link.plan.c

@@ -7,6 +7,7 @@ use Rattle.std.proofs.lemmas.List.{get_or-append_right, get_or-drop, get_or-repl
 use Rattle.nr_bitvec.proofs.PackedListFacts.{bit-low_first}
 use Rattle.nr_bitvec.specs.Bit.{bit}
 use Rattle.nr_bitvec.specs.BitList.{low_first}
+use Rattle.nr_crcattach.proofs.RemainderFacts.{length-high_first}
 use Rattle.nr_crcattach.specs.Crc.{crc_of, high_first}
 use Rattle.nr_crcattach.specs.declared.Poly.TheVariants.{B24}
 use Rattle.nr_graphpick.specs.Graph.{cols_of, info_cols_of}
@@ -16,11 +17,6 @@ use Rattle.nr_peel.specs.Peeling.{Peeling}
 use Rattle.nr_segment.specs.CodeBlock.{code_bits, code_block, part_of, share, shared_bits}
 use Rattle.nr_segment.specs.Plan.{Numbers}
 use Rattle.nr_blockdesk.specs.ReceivingInside.{IsRead, known_bit}
-
-length-high_first : (n v : ℕ) → length (high_first n v) ≡ n
-unfolding high_first
-length-high_first zero v = refl
-length-high_first (suc n) v = ap suc (length-high_first n v)
 
 bit-high_first : (n v k : ℕ) → k < n → bit (high_first n v) k ≡ (bit_at v (n - 1 - k) == 1)
 unfolding high_first

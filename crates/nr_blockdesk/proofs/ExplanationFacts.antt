@@ -1,9 +1,10 @@
 -- Which transport blocks explain a list of receptions, seen code block by code block.
-use Rattle.std.proofs.Common.{◌≡◌, ℕ, suc, ◌+◌, ◌<◌, ◌≤◌, ◌==◌, Bool, true, false, cond, List, [], ◌∷◌, length, All, refl, sym, ap, ◌∙◌, arith}
+use Rattle.std.proofs.Common.{◌≡◌, ℕ, ◌+◌, ◌<◌, ◌≤◌, ◌==◌, Bool, true, false, cond, List, [], ◌∷◌, length, All, refl, sym, ap, ◌∙◌, arith}
 use Rattle.std.specs.Prelude.{Option, Some, None, option_map}
 use Rattle.std.specs.Bool.{beq}
 use Rattle.std.specs.List.{filter_map, list_all, range_with_len}
 use Rattle.std.proofs.lemmas.Bool.{and_from, and_parts, eqb-true, eq-eqb}
+use Rattle.std.proofs.lemmas.List.Elements.{All-head, All-tail}
 use Rattle.nr_bitvec.specs.Bit.{bit}
 use Rattle.nr_harqbuf.specs.Record.{Observation}
 use Rattle.nr_blockdesk.specs.Explains.{Explains, Reception, agrees, all_agree, explains, heard_at}
@@ -83,13 +84,6 @@ fits-agree c t places w bits are owned fit =
         let one = range_each (λ k. holds_if (fits (w q)) (hearing_at t places q k)) 0 (length places) all m low high in
         ap (agrees (heard_at places m)) (are m inside) ∙ place-part_masks w q (position_at t m) (heard_at places m) one
 
--- what is true of all is true of the first, and of the others
-pub all-first : {X : Type 0} (P : X → Type 0) (x : X) (xs : List X) → All P (x ∷ xs) → P x
-all-first P x xs all = all 0 x (omega arith)
-
-pub all-others : {X : Type 0} (P : X → Type 0) (x : X) (xs : List X) → All P (x ∷ xs) → All P xs
-all-others P x xs all = λ k d inside. all (suc k) d (omega arith)
-
 -- a list of receptions
 abbrev pub IsOf : Link → (ℕ → ℕ → Bool) → List Bool → Reception → Type 0
 IsOf link w block x = AreOf (matching link x.tx) w (sent link x.tx block) (length x.heard)
@@ -104,8 +98,8 @@ explained-fits link w block [] are explained r = refl
 explained-fits link w block (x ∷ xs) are explained r =
     let both = and_parts (all_agree x.heard (sent link x.tx block)) (explains link xs block) explained in
     flat_all (hearings_in link r) (fits (w r)) (x ∷ xs)
-    ∙ and_from _ _ (agree-fits (matching link x.tx) x.heard w (sent link x.tx block) (all-first (IsOf link w block) x xs are) both.0 r)
-    (sym (flat_all (hearings_in link r) (fits (w r)) xs) ∙ explained-fits link w block xs (all-others (IsOf link w block) x xs are) both.1 r)
+    ∙ and_from _ _ (agree-fits (matching link x.tx) x.heard w (sent link x.tx block) (All-head (IsOf link w block) x xs are) both.0 r)
+    (sym (flat_all (hearings_in link r) (fits (w r)) xs) ∙ explained-fits link w block xs (All-tail (IsOf link w block) x xs are) both.1 r)
 
 pub fits-explained : (link : Link) (w : ℕ → ℕ → Bool) (block : List Bool) (list : List Reception) → All (IsOf link w block) list
     → All (IsOwned link) list → ((r : ℕ) → r < link.plan.c → list_all (fits (w r)) (hearings link list r) ≡ true)
@@ -116,6 +110,6 @@ fits-explained link w block (x ∷ xs) are owned fit =
     let both = λ (r : ℕ) (inside : r < link.plan.c). and_parts _ _ (sym (flat_all (hearings_in link r) (fits (w r)) (x ∷ xs)) ∙ fit r inside) in
     and_from _ _
     (fits-agree link.plan.c (matching link x.tx) x.heard w (sent link x.tx block)
-    (all-first (IsOf link w block) x xs are) (all-first (IsOwned link) x xs owned) (λ r inside. (both r inside).0))
-    (fits-explained link w block xs (all-others (IsOf link w block) x xs are) (all-others (IsOwned link) x xs owned)
+    (All-head (IsOf link w block) x xs are) (All-head (IsOwned link) x xs owned) (λ r inside. (both r inside).0))
+    (fits-explained link w block xs (All-tail (IsOf link w block) x xs are) (All-tail (IsOwned link) x xs owned)
     (λ r inside. flat_all (hearings_in link r) (fits (w r)) xs ∙ (both r inside).1))

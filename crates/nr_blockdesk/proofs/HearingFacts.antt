@@ -1,21 +1,18 @@
 -- What hearing does to a code block's store and its peeler.
-use Rattle.std.proofs.Common.{◌≡◌, ◌≢◌, ℕ, zero, suc, ◌+◌, ◌<◌, ◌≤◌, ◌||◌, ◌&&◌, Bool, true, false, not, cond, List, [], ◌∷◌, ◌++◌, length, get_or, set, refl, sym, ap, subst, ◌∙◌, ⊎_elim, append_assoc, arith}
+use Rattle.std.proofs.Common.{◌≡◌, ◌≢◌, ℕ, ◌+◌, ◌<◌, ◌≤◌, ◌||◌, ◌&&◌, Bool, true, false, not, cond, List, [], ◌∷◌, ◌++◌, length, get_or, set, refl, sym, ap, ◌∙◌, ⊎_elim, append_assoc, arith}
 use Rattle.std.specs.Prelude.{Option, Some, None, option_map}
 use Rattle.std.specs.Bool.{beq}
 use Rattle.std.specs.List.{cons_option, filter_map, range_with_len}
-use Rattle.std.proofs.lemmas.Bool.{cases_eq, true≢false}
+use Rattle.std.proofs.lemmas.Bool.{cases_eq, or_parts, true≢false}
 use Rattle.std.proofs.lemmas.Grind.{get_or-set_at}
-use Rattle.std.proofs.lemmas.List.{get_or-set_other, get_or_read}
+use Rattle.std.proofs.lemmas.List.{append-nil, get_or-set_other, get_or-set_same, get_or_read}
 use Rattle.std.proofs.lemmas.List.Elements.{filter_map-append}
 use Rattle.nr_bitvec.specs.Bit.{bit}
-use Rattle.nr_graphpick.specs.declared.Graph.{Graph}
 use Rattle.nr_harqbuf.specs.Record.{HasFirsts, HeardBits, Observation, RecordContinues, differs, first_at, is_heard, record_of, with_hearing}
 use Rattle.nr_interleave.specs.Interleaving.{seat_of}
 use Rattle.nr_ldpcenc.specs.Rows.{block_checks}
-use Rattle.nr_segment.specs.Plan.{Numbers}
 use Rattle.nr_peel.specs.Peeling.{Peeling, checks_for}
 use Rattle.nr_ratematch.specs.Selection.{Circular, place_of}
-use Rattle.nr_shifttable.specs.Accepted.{Entries}
 use Rattle.nr_blockdesk.specs.Explains.{heard_at}
 use Rattle.nr_blockdesk.specs.Heard.{heard_of}
 use Rattle.nr_blockdesk.specs.Hearing.{heard_bit}
@@ -23,18 +20,7 @@ use Rattle.nr_blockdesk.specs.Link.{Link}
 use Rattle.nr_blockdesk.specs.ReceivingInside.{AllAgree, Fits, HearsPart, IsTied, Agrees, part_hearing, part_hearings, word_at}
 use Rattle.nr_blockdesk.specs.declared.heard.Heard.{Heard}
 use Rattle.nr_transmission.specs.declared.tx.Tx.{Tx}
-
--- a range in two parts
-pub range-split : (a n k : ℕ) → range_with_len a (n + k) ≡ range_with_len a n ++ range_with_len (a + n) k
-range-split a zero k =
-    let none : 0 + k ≡ k = omega arith in
-    let start : a ≡ a + 0 = omega arith in
-    ap (λ m. range_with_len a m) none ∙ ap (λ b. range_with_len b k) start
-range-split a (suc n) k =
-    let longer : suc n + k ≡ suc (n + k) = omega arith in
-    let next : a + 1 + n ≡ a + suc n = omega arith in
-    ap (λ m. range_with_len a m) longer
-    ∙ ap (λ xs. a ∷ xs) (range-split (a + 1) n k ∙ ap (λ b. range_with_len (a + 1) n ++ range_with_len b k) next)
+use Rattle.nr_blockdesk.proofs.RangeTestFacts.{range-split}
 
 -- what one place more tells
 part-more : (b : Circular) (tx : Tx) (heard : List Heard) (m : ℕ)
@@ -46,16 +32,12 @@ part-more b tx heard m =
     ∙ filter_map-append f (range_with_len 0 m) (range_with_len (0 + m) 1)
     ∙ ap (λ k. filter_map f (range_with_len 0 m) ++ cons_option (f k) []) last
 
-nothing-more : (xs : List Observation) → xs ++ [] ≡ xs
-nothing-more [] = refl
-nothing-more (x ∷ xs) = ap (λ ys. x ∷ ys) (nothing-more xs)
-
 pub part-none : (b : Circular) (tx : Tx) (heard : List Heard) (m : ℕ) → heard_bit (heard_at heard m) ≡ None
     → part_hearings b tx heard (m + 1) ≡ part_hearings b tx heard m
 part-none b tx heard m none =
     part-more b tx heard m
     ∙ ap (λ o. part_hearings b tx heard m ++ cons_option (option_map (λ v. (place_of b tx.rv (seat_of tx.qm (length heard) m), v)) o) []) none
-    ∙ nothing-more (part_hearings b tx heard m)
+    ∙ append-nil (part_hearings b tx heard m)
 
 pub part-some : (b : Circular) (tx : Tx) (heard : List Heard) (m pos : ℕ) (v : Bool) → heard_bit (heard_at heard m) ≡ Some v
     → pos ≡ place_of b tx.rv (seat_of tx.qm (length heard) m)
@@ -96,10 +78,6 @@ firsts-before s t pos v w unheard firsts has k b is = ⊎_elim
     (ap (λ (xs : List (Option Bool)). get_or xs k None) firsts ∙ get_or-set_other s.first pos k (Some v) None there ∙ is))
     (cases_eq k pos)
 
-or-none : (a b : Bool) → (a || b) ≡ false → (a ≡ false) × (b ≡ false)
-or-none true b e = cc e
-or-none false b e = (refl, e)
-
 pub same-bit : (a b : Bool) → not (beq a b) ≡ false → a ≡ b
 same-bit true true e = refl
 same-bit true false e = cc e
@@ -109,9 +87,6 @@ same-bit false false e = refl
 pub beq-self : (b : Bool) → beq b b ≡ true
 beq-self true = refl
 beq-self false = refl
-
-some-same : (a b : Bool) → Some a ≡ Some b → a ≡ b
-some-same a b e = cc e
 
 -- a word fits a record with one hearing more exactly where it fits the record and has the bit
 module _ (s : HeardBits) (pos : ℕ) (v : Bool) (w : ℕ → Bool) (inside : pos < length s.first) where
@@ -125,7 +100,7 @@ module _ (s : HeardBits) (pos : ℕ) (v : Bool) (w : ℕ → Bool) (inside : pos
       ∙ get_or-set_at s.first pos k (Some v) None here inside
 
   pub fits-before : Fits (with_hearing s (pos, v)) w → Fits s w
-  fits-before fits = ((or-none s.clash (differs (first_at s pos) v) (sym clash-more ∙ fits.0)).0, go (is_heard (first_at s pos)) refl)
+  fits-before fits = ((or_parts s.clash (differs (first_at s pos) v) (sym clash-more ∙ fits.0)).0, go (is_heard (first_at s pos)) refl)
     where
       go : (b : Bool) → is_heard (first_at s pos) ≡ b → HasFirsts s w
       go true e = λ k b is. fits.1 k b (ap (λ (xs : List (Option Bool)). get_or xs k None) (first-kept s pos v e) ∙ is)
@@ -140,7 +115,7 @@ module _ (s : HeardBits) (pos : ℕ) (v : Bool) (w : ℕ → Bool) (inside : pos
           let first : first_at (with_hearing s (pos, v)) pos ≡ Some a =
           ap (λ (xs : List (Option Bool)). get_or xs pos None) (first-kept s pos v (ap is_heard e)) ∙ e in
           let same : not (beq a v) ≡ false =
-          ap (λ o. differs o v) (sym e) ∙ (or-none s.clash (differs (first_at s pos) v) (sym clash-more ∙ fits.0)).1 in
+          ap (λ o. differs o v) (sym e) ∙ (or_parts s.clash (differs (first_at s pos) v) (sym clash-more ∙ fits.0)).1 in
           fits.1 pos a first ∙ same-bit a v same
 
   pub fits-more : Fits s w → w pos ≡ v → Fits (with_hearing s (pos, v)) w
@@ -150,7 +125,7 @@ module _ (s : HeardBits) (pos : ℕ) (v : Bool) (w : ℕ → Bool) (inside : pos
       go None e = (
         clash-more ∙ ap (λ b. b || differs (first_at s pos) v) fits.0 ∙ ap (λ o. differs o v) e,
         λ k b is. ⊎_elim
-            (λ (here : k ≡ pos). ap w here ∙ has ∙ some-same v b (sym (first-now (ap is_heard e) k here) ∙ is))
+            (λ (here : k ≡ pos). ap w here ∙ has ∙ cc (first-now (ap is_heard e) k here, is))
             (λ (there : k ≢ pos). fits.1 k b
             (sym (ap (λ (xs : List (Option Bool)). get_or xs k None) (first-set s pos v (ap is_heard e))
             ∙ get_or-set_other s.first pos k (Some v) None there) ∙ is))
@@ -181,45 +156,17 @@ all-tell-more part_masks one words w S₀ S r s t inside w-is s-is tells all = g
     nothing : HeardBits
     nothing = record { first = []; clash = false }
 
-    here : (k : ℕ) → k ≡ r → Fits t (bit w) → Fits (heard_of (set S r t) k) (bit (word_at words k))
-    here k e fits =
-        subst (λ (h : HeardBits). Fits h (bit (word_at words k))) (sym (get_or-set_at S r k t nothing e inside))
-        (subst (λ (x : List Bool). Fits t (bit x)) (w-is ∙ ap (λ j. word_at words j) (sym e)) fits)
-
-    here-too : Fits (heard_of (set S r t) r) (bit (word_at words r)) → Fits t (bit w)
-    here-too fits =
-        subst (λ (x : List Bool). Fits t (bit x)) (sym w-is)
-        (subst (λ (h : HeardBits). Fits h (bit (word_at words r))) (get_or-set_at S r r t nothing refl inside) fits)
-
     go : (part_masks one : Bool) → Agrees one (bit w) s t → AllAgree part_masks r words S₀ S → AllAgree (part_masks && one) (r + 1) words S₀ (set S r t)
-    go false one tells all = λ each. all (λ k below.
-        let other : k ≢ r = λ e. omega (arith, e, below) in
-        subst (λ (h : HeardBits). Fits h (bit (word_at words k))) (get_or-set_other S r k t nothing other) (each k (omega arith)))
-    go true false tells all = λ each. tells (here-too (each r (omega arith)))
+    go false one tells all = λ each. all (λ k below. rw (← get_or-set_other S r k t nothing (λ e. omega (arith, e, below))) (each k (omega arith)))
+    go true false tells all = λ each. tells (rw (w-is, ← get_or-set_same S r t nothing inside) (each r (omega arith)))
     go true true tells all = λ k below fits. ⊎_elim
-        (λ (e : k ≡ r). here k e (tells (subst (λ (h : HeardBits). Fits h (bit w)) (sym s-is)
-        (subst (λ (x : List Bool). Fits (heard_of S₀ r) (bit x)) (sym w-is)
-        (subst (λ j. Fits (heard_of S₀ j) (bit (word_at words j))) e fits)))))
-        (λ (e : k ≢ r). subst (λ (h : HeardBits). Fits h (bit (word_at words k))) (sym (get_or-set_other S r k t nothing e))
-        (all k (omega (arith, below, e)) fits))
+        (λ (e : k ≡ r). rw (e, get_or-set_same S r t nothing inside, ← w-is) (tells (rw (s-is, w-is, ← e) fits)))
+        (λ (e : k ≢ r). rw (get_or-set_other S r k t nothing e) (all k (omega (arith, below, e)) fits))
         (cases_eq k r)
 
 -- the code of a peeler that is tied
 pub same-checks : (link : Link) (s : HeardBits) (p : Peeling) → IsTied link s p → checks_for p ≡ block_checks link.table link.graph link.plan
-same-checks link s p tied =
-    ap (λ (t : Entries). block_checks t p.graph p.numbers) tied.table
-    ∙ ap (λ (g : Graph). block_checks link.table g p.numbers) tied.graph
-    ∙ ap (λ (n : Numbers). block_checks link.table link.graph n) tied.numbers
-
--- a part that was received, in other words
-pub hears-same : (b : Circular) (tx : Tx) (part part' : List Heard) (s s' t t' : HeardBits) (p p' q q' : Peeling)
-    → part ≡ part' → s ≡ s' → p ≡ p' → t ≡ t' → q ≡ q' → HearsPart b tx part s p t q → HearsPart b tx part' s' p' t' q'
-hears-same b tx part part' s s' t t' p p' q q' e1 e2 e3 e4 e5 hears =
-    subst (λ x. HearsPart b tx part' s' p' t' x) e5
-    (subst (λ x. HearsPart b tx part' s' p' x q) e4
-    (subst (λ x. HearsPart b tx part' s' x t q) e3
-    (subst (λ x. HearsPart b tx part' x p t q) e2
-    (subst (λ x. HearsPart b tx x s p t q) e1 hears))))
+same-checks link s p tied = rw (tied.table, tied.graph, tied.numbers) refl
 
 -- one code block more has received its part
 pub done-more : (b : Circular) (tx : Tx) (pieces : ℕ → List Heard) (S₀ S : List HeardBits) (P₀ P : List Peeling) (r : ℕ)
@@ -230,25 +177,15 @@ pub done-more : (b : Circular) (tx : Tx) (pieces : ℕ → List Heard) (S₀ S :
     → ((k : ℕ) (d : Peeling) → r ≤ k → get_or P k d ≡ get_or P₀ k d)
     → (k : ℕ) (d : Peeling) → k < r + 1
     → HearsPart b tx (pieces k) (heard_of S₀ k) (get_or P₀ k d) (heard_of (set S r t) k) (get_or (set P r q) k d)
-done-more b tx pieces S₀ S P₀ P r part s t p q in-S in-P part-is s-is p-is hears done later later_p k d below = ⊎_elim here there (cases_eq k r)
+done-more b tx pieces S₀ S P₀ P r part s t p q in-S in-P part-is s-is p-is hears done later later_p k d below = ⊎_elim
+    (λ (e : k ≡ r).
+    rw (e, get_or-set_same S r t nothing in-S, get_or-set_same P r q d in-P, ← part-is, ← later r (omega arith), ← later_p r d (omega arith),
+    ← get_or_read S r s in-S s-is nothing, ← get_or_read P r p in-P p-is d) hears)
+    (λ (e : k ≢ r). rw (get_or-set_other S r k t nothing e, get_or-set_other P r k q d e) (done k d (omega (arith, below, e))))
+    (cases_eq k r)
   where
     nothing : HeardBits
     nothing = record { first = []; clash = false }
-
-    here : k ≡ r → HearsPart b tx (pieces k) (heard_of S₀ k) (get_or P₀ k d) (heard_of (set S r t) k) (get_or (set P r q) k d)
-    here e = hears-same b tx part (pieces k) s (heard_of S₀ k) t (heard_of (set S r t) k) p (get_or P₀ k d) q (get_or (set P r q) k d)
-        (part-is ∙ ap pieces (sym e))
-        (get_or_read S r s in-S s-is nothing ∙ later r (omega arith) ∙ ap (λ j. heard_of S₀ j) (sym e))
-        (get_or_read P r p in-P p-is d ∙ later_p r d (omega arith) ∙ ap (λ j. get_or P₀ j d) (sym e))
-        (sym (get_or-set_at S r k t nothing e in-S))
-        (sym (get_or-set_at P r k q d e in-P))
-        hears
-
-    there : k ≢ r → HearsPart b tx (pieces k) (heard_of S₀ k) (get_or P₀ k d) (heard_of (set S r t) k) (get_or (set P r q) k d)
-    there e = hears-same b tx (pieces k) (pieces k) (heard_of S₀ k) (heard_of S₀ k) (heard_of S k) (heard_of (set S r t) k)
-        (get_or P₀ k d) (get_or P₀ k d) (get_or P k d) (get_or (set P r q) k d)
-        refl refl refl (sym (get_or-set_other S r k t nothing e)) (sym (get_or-set_other P r k q d e))
-        (done k d (omega (arith, below, e)))
 
 pub later-kept : (S₀ S : List HeardBits) (r : ℕ) (t : HeardBits) → ((k : ℕ) → r ≤ k → heard_of S k ≡ heard_of S₀ k)
     → (k : ℕ) → r + 1 ≤ k → heard_of (set S r t) k ≡ heard_of S₀ k

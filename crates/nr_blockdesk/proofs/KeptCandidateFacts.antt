@@ -1,5 +1,5 @@
 -- What a receiver keeps of the one transport block that may explain what was received.
-use Rattle.std.proofs.Common.{◌≡◌, ◌≢◌, ℕ, ◌+◌, ◌<◌, Bool, true, false, List, [], ◌++◌, length, set, take, refl, sym, ap, subst, ◌∙◌, ⊎_elim, length-append, arith}
+use Rattle.std.proofs.Common.{◌≡◌, ◌≢◌, ℕ, ◌+◌, ◌<◌, Bool, true, false, List, [], length, set, take, refl, sym, ap, subst, ◌∙◌, ⊎_elim, length-append, arith}
 use Rattle.std.proofs.lemmas.Bool.{cases_eq}
 use Rattle.std.proofs.lemmas.Grind.{get_or-set_at}
 use Rattle.std.proofs.lemmas.List.{get_or-set_other, length-set}
@@ -85,11 +85,4 @@ kept-read link records list bits words list-is whole by only coded = record {
 -- what was received agrees with the words or not, of the receiver's own lists
 pub part_masks-of : (agreed : Bool) (c : ℕ) (words words₁ : List (List Bool)) (S S₁ T : List HeardBits) → words₁ ≡ words → S₁ ≡ S → length S ≡ c
     → AllAgree agreed (length S₁) words₁ S₁ T → AllAgree agreed c words S T
-part_masks-of agreed c words words₁ S S₁ T words-is S-is many tells =
-    subst (λ n. AllAgree agreed n words S T) many
-    (subst (λ (l : List HeardBits). AllAgree agreed (length l) words l T) S-is
-    (subst (λ (l : List (List Bool)). AllAgree agreed (length S₁) l S₁ T) words-is tells))
-
--- what is written back to the whole of a list
-pub written : {X : Type 0} (n : ℕ) (xs ys : List X) → length xs ≡ n → take n (xs ++ ys) ≡ xs
-written n xs ys long = ap (λ k. take k (xs ++ ys)) (sym long) ∙ take-append_seam xs ys
+part_masks-of agreed c words words₁ S S₁ T words-is S-is many tells = rw (← many, ← S-is, ← words-is) tells

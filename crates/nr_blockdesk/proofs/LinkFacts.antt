@@ -2,19 +2,15 @@
 use Rattle.std.proofs.Common.{◌≡◌, ℕ, ◌==◌, Bool, true, false, cond, Option, Some, None, Result, Ok, Err, length, subst, refl, sym, ap, ◌∙◌}
 use Rattle.nr_crcattach.specs.Attachment.{BlocksLengthen, attached, attached_length}
 use Rattle.nr_graphpick.specs.declared.Graph.{Graph}
-use Rattle.nr_graphpick.specs.declared.PickFault.{PickFault}
 use Rattle.nr_graphpick.specs.Graph.{picked}
 use Rattle.nr_refusal.specs.Refusal.{◌>>=◌, with_fault}
 use Rattle.nr_ldpcenc.specs.Codeword.{CodewordsArePlain}
-use Rattle.nr_ratematch.specs.declared.fault.RmFault.{RmFault}
 use Rattle.nr_ratematch.specs.declared.fault.RmFault.TheVariants.{NoBuffer}
 use Rattle.nr_ratematch.specs.Selection.{BuffersAreCircular, Circular, buffer_said, circular_of, reference_size}
-use Rattle.nr_segment.specs.CodeBlock.{CodeBlocksAreLong, numbers}
-use Rattle.nr_segment.specs.declared.numbers.Plan.{Plan}
+use Rattle.nr_segment.specs.CodeBlock.{CodeBlocksAreLong}
 use Rattle.nr_segment.specs.Plan.{Numbers, plan_of}
-use Rattle.nr_segment.specs.declared.numbers.SegFault.{SegFault}
 use Rattle.nr_shifttable.specs.Accepted.{Entries, has_graph}
-use Rattle.nr_blockdesk.specs.Link.{IsLink, Link, LinksAreSound, WordsArePlain, demanded, is_size, link_of, link_said, word}
+use Rattle.nr_blockdesk.specs.Link.{IsLink, Link, LinksAreSound, WordsArePlain, demanded, is_size, link_said, word}
 use Rattle.nr_transmission.specs.declared.settings.Settings.{Settings}
 use Rattle.nr_transmission.specs.declared.fault.DeskFault.{DeskFault}
 use Rattle.nr_transmission.specs.declared.fault.DeskFault.TheVariants as fault
@@ -90,43 +86,6 @@ words-plain blocks codes plain link block r is whole inside =
     let b : length (attached block) ≡ attached_length link.a = blocks block ∙ ap attached_length whole in
     plain link.table link.graph (attached_length link.a) link.plan _ is.table is.there is.planned
     (codes link.graph (attached_length link.a) link.plan (attached block) r is.planned b inside)
-
--- what is said of a link, step by step
-pub said-size : (table : Entries) (settings : Settings) (a : ℕ) → is_size a ≡ false
-    → link_said table settings a ≡ Err fault.Size
-unfolding link_said
-said-size table settings a size = rw size
-
-pub said-pick : (table : Entries) (settings : Settings) (a : ℕ) (e : PickFault) → is_size a ≡ true
-    → picked a settings.rate2048 ≡ Err e → link_said table settings a ≡ Err (fault.Pick e)
-unfolding link_said
-said-pick table settings a e size picks = rw (size, picks)
-
-pub said-seg : (table : Entries) (settings : Settings) (a : ℕ) (graph : Graph) (e : SegFault) → is_size a ≡ true
-    → picked a settings.rate2048 ≡ Ok graph → plan_of graph (attached_length a) ≡ Err e
-    → link_said table settings a ≡ Err (fault.Seg e)
-unfolding link_said
-said-seg table settings a graph e size picks plans = rw (size, picks, plans)
-
-pub said-graph : (table : Entries) (settings : Settings) (a : ℕ) (graph : Graph) (p : Numbers) → is_size a ≡ true
-    → picked a settings.rate2048 ≡ Ok graph → plan_of graph (attached_length a) ≡ Ok p → has_graph graph table ≡ false
-    → link_said table settings a ≡ Err fault.Graph
-unfolding link_said
-said-graph table settings a graph p size picks plans there = rw (size, picks, plans, there)
-
-pub said-buffer : (table : Entries) (settings : Settings) (a : ℕ) (graph : Graph) (p : Numbers) (e : RmFault)
-    → is_size a ≡ true → picked a settings.rate2048 ≡ Ok graph → plan_of graph (attached_length a) ≡ Ok p
-    → has_graph graph table ≡ true → buffer_said graph p settings.lbrm ≡ Err e
-    → link_said table settings a ≡ Err (fault.Rm e)
-unfolding link_said
-said-buffer table settings a graph p e size picks plans there keeps = rw (size, picks, plans, there, keeps)
-
-pub said-link : (table : Entries) (settings : Settings) (a : ℕ) (p : Plan) (b : Circular) → is_size a ≡ true
-    → picked a settings.rate2048 ≡ Ok p.graph → plan_of p.graph (attached_length a) ≡ Ok (numbers p)
-    → has_graph p.graph table ≡ true → buffer_said p.graph (numbers p) settings.lbrm ≡ Ok b
-    → link_said table settings a ≡ Ok (link_of table p a b)
-unfolding link_said
-said-link table settings a p b size picks plans there keeps = rw (size, picks, plans, there, keeps)
 
 -- nothing that is said of a link is `Memory`
 err-same : {X : Type 0} {x y : DeskFault} → ◌≡◌ {A = Result X DeskFault} (Err x) (Err y) → x ≡ y

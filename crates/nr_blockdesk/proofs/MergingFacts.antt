@@ -3,7 +3,7 @@ use Rattle.std.proofs.Common.{◌≡◌, ℕ, ◌<◌, ◌≤◌, ◌==◌, ◌|
 use Rattle.std.specs.Prelude.{◌↔◌, IsTrue, Option, Some, None}
 use Rattle.std.specs.Bool.{beq}
 use Rattle.std.specs.List.{list_any, range_with_len}
-use Rattle.std.proofs.lemmas.Bool.{and_from, and_parts, cases_lt, eq-eqb, false_from_ne_true, false≢true, or_from, or_parts, true≢false}
+use Rattle.std.proofs.lemmas.Bool.{and_from, and_parts, cases_lt, eq-eqb, false_from_ne_true, false≢true, not-true, or_from, or_parts, true≢false}
 use Rattle.std.proofs.lemmas.List.{get_or-replicate, get_or_past, length-replicate}
 use Rattle.std.proofs.lemmas.List.FromFn.{get_or-map-range_with_len, length-map-range_with_len}
 use Rattle.std.proofs.lemmas.List.Folds.{list_any_at}
@@ -56,12 +56,6 @@ empty-bit xs n p is = ap (λ l. bit l p) is ∙ elim (cases_lt p n) [
 abbrev joined : Option Bool → Bool → Bool → Option Bool
 joined old h part_masks = cond (is_heard old) old (cond h (Some part_masks) None)
 
-some-is : (a b : Bool) → Some a ≡ Some b → a ≡ b
-some-is a b e = cc e
-
-none-is : (b : Bool) → None ≡ Some b → ⊥
-none-is b e = cc e
-
 -- words against a record before and after all that is told was received
 module _ (s : HeardBits) (heard value : List Bool) (long : length heard ≡ length s.first) where
   first-is : (p : ℕ) → first_at (merged s heard value) p ≡ joined (first_at s p) (bit heard p) (bit value p)
@@ -88,10 +82,7 @@ module _ (s : HeardBits) (heard value : List Bool) (long : length heard ≡ leng
   first-old p b is = first-is p ∙ ap (λ o. joined o (bit heard p) (bit value p)) is
 
   first-new : (p : ℕ) → is_heard (first_at s p) ≡ false → bit heard p ≡ true → first_at (merged s heard value) p ≡ Some (bit value p)
-  first-new p unheard part_masks =
-      first-is p
-      ∙ ap (λ t. cond t (first_at s p) (cond (bit heard p) (Some (bit value p)) None)) unheard
-      ∙ ap (λ h. cond h (Some (bit value p)) None) part_masks
+  first-new p unheard part_masks = rw (first-is p, unheard, part_masks) refl
 
   quiet : (merged s heard value).clash ≡ false → (p : ℕ) → bit heard p ≡ true → differs (first_at s p) (bit value p) ≡ false
   quiet calm p part_masks =
@@ -122,26 +113,20 @@ module _ (s : HeardBits) (heard value : List Bool) (long : length heard ≡ leng
   fits-bits w fits p part_masks = go (first_at s p) refl
     where
       go : (o : Option Bool) → first_at s p ≡ o → w p ≡ bit value p
-      go None e = fits.1 p (bit value p) (first-new p (ap is_heard e) part_masks)
-      go (Some a) e =
-          let same : not (beq a (bit value p)) ≡ false = ap (λ o. differs o (bit value p)) (sym e) ∙ quiet fits.0 p part_masks in
-          fits.1 p a (first-old p a e) ∙ same-bit a (bit value p) same
+      go None e = fits.1 p (bit value p) (first-new p (rw e refl) part_masks)
+      go (Some a) e = fits.1 p a (first-old p a e) ∙ same-bit a (bit value p) (rw e at (quiet fits.0 p part_masks))
 
   fits-all : (w : ℕ → Bool) → Fits s w → ((p : ℕ) → bit heard p ≡ true → w p ≡ bit value p) → Fits (merged s heard value) w
   fits-all w fits has = (silent fits.0 (λ p part_masks. agree p part_masks (first_at s p) refl), λ p b is. firsts p b is (first_at s p) (bit heard p) refl refl)
     where
       agree : (p : ℕ) → bit heard p ≡ true → (o : Option Bool) → first_at s p ≡ o → differs (first_at s p) (bit value p) ≡ false
-      agree p part_masks None e = ap (λ o. differs o (bit value p)) e
-      agree p part_masks (Some a) e =
-          ap (λ o. differs o (bit value p)) e
-          ∙ ap (λ b. not (beq b (bit value p))) (sym (fits.1 p a e) ∙ has p part_masks)
-          ∙ ap not (beq-self (bit value p))
+      agree p part_masks None e = rw e refl
+      agree p part_masks (Some a) e = rw (e, ← fits.1 p a e, has p part_masks, beq-self (bit value p)) refl
 
       firsts : (p : ℕ) (b : Bool) → first_at (merged s heard value) p ≡ Some b → (o : Option Bool) (h : Bool) → first_at s p ≡ o → bit heard p ≡ h → w p ≡ b
-      firsts p b is (Some a) h e f = fits.1 p a e ∙ some-is a b (sym (first-old p a e) ∙ is)
-      firsts p b is None true e f = has p f ∙ some-is (bit value p) b (sym (first-new p (ap is_heard e) f) ∙ is)
-      firsts p b is None false e f =
-          absurd (none-is b (sym (first-is p ∙ ap (λ o. joined o (bit heard p) (bit value p)) e ∙ ap (λ h. joined None h (bit value p)) f) ∙ is))
+      firsts p b is (Some a) h e f = fits.1 p a e ∙ cc (first-old p a e, is)
+      firsts p b is None true e f = has p f ∙ cc (first-new p (rw e refl) f, is)
+      firsts p b is None false e f = cc (rw (e, f) at (first-is p), is)
 
   pub tells-merged : (agreed : Bool) (word : List Bool) → IsTrue agreed ↔ ((p : ℕ) → bit heard p ≡ true → bit word p ≡ bit value p)
       → Agrees agreed (bit word) s (merged s heard value)
@@ -163,7 +148,7 @@ module _ (s : HeardBits) (heard value : List Bool) (long : length heard ≡ leng
     marks = λ p. are p ∙ same (is_heard (first_at s p)) (bit heard p) ∙ ap (λ b. b && not (is_heard (first_at s p))) (sym (marks p));
     bits = λ p is.
         let parts = and_parts (bit heard p) (not (is_heard (first_at s p))) (sym (are p) ∙ is) in
-        first-new p (unheard (is_heard (first_at s p)) parts.1) parts.0;
+        first-new p (not-true (is_heard (first_at s p)) parts.1) parts.0;
     kept = first-old;
     long = long-is;
   }
@@ -173,7 +158,3 @@ module _ (s : HeardBits) (heard value : List Bool) (long : length heard ≡ leng
       same true false = refl
       same false true = refl
       same false false = refl
-
-      unheard : (a : Bool) → not a ≡ true → a ≡ false
-      unheard true e = absurd (false≢true e)
-      unheard false e = refl

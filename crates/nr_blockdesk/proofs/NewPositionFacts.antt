@@ -1,9 +1,10 @@
 -- What is received from one record of a code block to a later one: marks of the positions that are new, and their bits.
-use Rattle.std.proofs.Common.{◌≡◌, ◌≢◌, ℕ, ◌<◌, ◌||◌, ◌&&◌, Bool, true, false, not, List, length, get_or, set, refl, sym, ap, subst, ◌∙◌, ⊎_elim}
+use Rattle.std.proofs.Common.{◌≡◌, ◌≢◌, ℕ, ◌<◌, ◌||◌, ◌&&◌, Bool, true, false, not, List, length, set, refl, sym, ap, subst, ◌∙◌, ⊎_elim}
 use Rattle.std.specs.Prelude.{Option, Some, None}
 use Rattle.std.proofs.lemmas.Bool.{cases_eq, true≢false}
 use Rattle.std.proofs.lemmas.Grind.{get_or-set_at}
 use Rattle.std.proofs.lemmas.List.{get_or-set_other, length-set}
+use Rattle.std.proofs.Math.Bool.{or-false}
 use Rattle.nr_bitvec.specs.Bit.{bit}
 use Rattle.nr_harqbuf.specs.Record.{HasFirsts, HeardBits, first_at, is_heard}
 use Rattle.nr_ldpcenc.specs.Codeword.{filler}
@@ -16,23 +17,16 @@ use Rattle.nr_blockdesk.proofs.HearingFacts.{same-checks}
 
 -- a position that was received before
 pub news-again : (s t u : HeardBits) (marks value : List Bool) → u.first ≡ t.first → IsNews s t marks value → IsNews s u marks value
-news-again s t u marks value same news =
-    let at : (p : ℕ) → first_at u p ≡ first_at t p = λ p. ap (λ (xs : List (Option Bool)). get_or xs p None) same in
-    record {
-      marks = λ p. news.marks p ∙ ap (λ o. is_heard o && not (is_heard (first_at s p))) (sym (at p));
-      bits = λ p is. at p ∙ news.bits p is;
-      kept = λ p b is. at p ∙ news.kept p b is;
-      long = ap length same ∙ news.long;
-    }
+news-again s t u marks value same news = record { marks = rw same news.marks; bits = rw same news.bits; kept = rw same news.kept; long = rw same news.long }
 
 -- one that was not
 module _ (s t u : HeardBits) (marks value : List Bool) (pos : ℕ) (v : Bool) (inside : pos < length t.first) (marked : pos < length marks) (valued : pos < length value)
     (unheard : is_heard (first_at t pos) ≡ false) (firsts : u.first ≡ set t.first pos (Some v)) (news : IsNews s t marks value) where
   here : (p : ℕ) → p ≡ pos → first_at u p ≡ Some v
-  here p e = ap (λ (xs : List (Option Bool)). get_or xs p None) firsts ∙ get_or-set_at t.first pos p (Some v) None e inside
+  here p e = rw (firsts, get_or-set_at t.first pos p (Some v) None e inside) refl
 
   there : (p : ℕ) → p ≢ pos → first_at u p ≡ first_at t p
-  there p ne = ap (λ (xs : List (Option Bool)). get_or xs p None) firsts ∙ get_or-set_other t.first pos p (Some v) None ne
+  there p ne = rw (firsts, get_or-set_other t.first pos p (Some v) None ne) refl
 
   -- it was not received at first either
   lacked : (o : Option Bool) → first_at s pos ≡ o → is_heard o ≡ false
@@ -42,19 +36,18 @@ module _ (s t u : HeardBits) (marks value : List Bool) (pos : ℕ) (v : Bool) (i
   pub news-more : IsNews s u (set marks pos true) (set value pos v)
   news-more = record {
     marks = λ p. ⊎_elim
-        (λ (e : p ≡ pos). get_or-set_at marks pos p true false e marked
-        ∙ sym (ap (λ o. is_heard o && not (is_heard (first_at s p))) (here p e) ∙ ap not (ap (λ j. is_heard (first_at s j)) e ∙ lacked (first_at s pos) refl)))
-        (λ (ne : p ≢ pos). get_or-set_other marks pos p true false ne ∙ news.marks p ∙ ap (λ o. is_heard o && not (is_heard (first_at s p))) (sym (there p ne)))
+        (λ (e : p ≡ pos). rw (get_or-set_at marks pos p true false e marked, here p e, e, lacked (first_at s pos) refl) refl)
+        (λ (ne : p ≢ pos). rw (get_or-set_other marks pos p true false ne, there p ne) (news.marks p))
         (cases_eq p pos);
     bits = λ p is. ⊎_elim
-        (λ (e : p ≡ pos). here p e ∙ ap Some (sym (get_or-set_at value pos p v false e valued)))
-        (λ (ne : p ≢ pos). there p ne ∙ news.bits p (sym (get_or-set_other marks pos p true false ne) ∙ is) ∙ ap Some (sym (get_or-set_other value pos p v false ne)))
+        (λ (e : p ≡ pos). rw (here p e, get_or-set_at value pos p v false e valued) refl)
+        (λ (ne : p ≢ pos). rw (there p ne, get_or-set_other value pos p v false ne) (news.bits p (rw (get_or-set_other marks pos p true false ne) at is)))
         (cases_eq p pos);
     kept = λ p b is. ⊎_elim
         (λ (e : p ≡ pos). absurd (true≢false (sym (ap is_heard (ap (first_at s) (sym e) ∙ is)) ∙ lacked (first_at s pos) refl)))
         (λ (ne : p ≢ pos). there p ne ∙ news.kept p b is)
         (cases_eq p pos);
-    long = ap length firsts ∙ length-set t.first pos (Some v) ∙ news.long;
+    long = rw (firsts, length-set) news.long;
   }
 
 -- store and peeler after the news were learned, or where there was none
@@ -63,7 +56,7 @@ module _ (s t : HeardBits) (marks value : List Bool) (news : IsNews s t marks va
   firsts-before w has k b is = has k b (news.kept k b is)
 
   given-is : (k : ℕ) → (given link s k || bit marks k) ≡ given link t k
-  given-is k = ap (λ m. given link s k || m) (news.marks k) ∙ go (first_at s k) refl
+  given-is k = rw (news.marks k) (go (first_at s k) refl)
     where
       join : (b f : Bool) → (f || (b && true)) ≡ (b || f)
       join true true = refl
@@ -71,16 +64,9 @@ module _ (s t : HeardBits) (marks value : List Bool) (news : IsNews s t marks va
       join false true = refl
       join false false = refl
 
-      or-none : (b : Bool) → (true || b) ≡ true
-      or-none b = refl
-
       go : (o : Option Bool) → first_at s k ≡ o → (given link s k || (is_heard (first_at t k) && not (is_heard (first_at s k)))) ≡ given link t k
-      go None e =
-          ap (λ o. (is_heard o || filler link.plan.kdash link.plan.k k) || (is_heard (first_at t k) && not (is_heard o))) e
-          ∙ join (is_heard (first_at t k)) (filler link.plan.kdash link.plan.k k)
-      go (Some a) e =
-          ap (λ o. (is_heard o || filler link.plan.kdash link.plan.k k) || (is_heard (first_at t k) && not (is_heard o))) e
-          ∙ sym (ap (λ o. is_heard o || filler link.plan.kdash link.plan.k k) (news.kept k a e))
+      go None e = rw e (join (is_heard (first_at t k)) (filler link.plan.kdash link.plan.k k))
+      go (Some a) e = rw (e, news.kept k a e) refl
 
   pub tied-still : ((k : ℕ) → bit marks k ≡ false) → IsTied link t p
   tied-still none = record {
@@ -88,14 +74,10 @@ module _ (s t : HeardBits) (marks value : List Bool) (news : IsNews s t marks va
     graph = tied.graph;
     numbers = tied.numbers;
     long = news.long ∙ tied.long;
-    positions = λ k. tied.positions k ∙ plain (given link s k) ∙ ap (λ m. given link s k || m) (sym (none k)) ∙ given-is k;
+    positions = λ k. tied.positions k ∙ sym (or-false (given link s k)) ∙ ap (λ m. given link s k || m) (sym (none k)) ∙ given-is k;
     words = λ w plain has. tied.words w plain (firsts-before w has);
     peeled = tied.peeled;
   }
-    where
-      plain : (b : Bool) → b ≡ (b || false)
-      plain true = refl
-      plain false = refl
 
   pub tied-news : (q : Peeling) → IsSameCode p q → GivesAll (bit marks) p q → KeepsAllWords (bit marks) (bit value) p q → IsPeeled q → IsTied link t q
   tied-news q same gives words peeled = record {

@@ -3,11 +3,10 @@ use Rattle.std.proofs.Common.{◌≡◌, ◌≢◌, ◌⊎◌, inl, inr, ℕ, ze
 use Rattle.std.specs.Prelude.{Option, Some, None, count_by, option_map}
 use Rattle.std.specs.List.{find, list_all, range_with_len}
 use Rattle.std.specs.Option.{option_or}
-use Rattle.std.proofs.lemmas.Bool.{and_parts, cases_lt, eqb-true, false_from_ne_true, true≢false}
+use Rattle.std.proofs.lemmas.Bool.{and_parts, cases_lt, eqb-true, false_from_ne_true, not-true, true≢false}
 use Rattle.std.proofs.lemmas.Grind.{flat_map-append}
 use Rattle.std.proofs.lemmas.List.{get_or_append_left}
-use Rattle.std.proofs.lemmas.List.Folds.{find-append, list_all-append}
-use Rattle.std.proofs.lemmas.List.Sums.{sum_by-cons}
+use Rattle.std.proofs.lemmas.List.Folds.{find-append, list_all-append, sum_by-zero}
 use Rattle.nr_harqbuf.specs.Record.{HeardBits, Observation, first_at, first_heard, is_heard, record_of}
 use Rattle.nr_ldpcenc.specs.Codeword.{filler}
 use Rattle.nr_ldpcenc.specs.Rows.{block_checks}
@@ -40,22 +39,13 @@ failing t a (suc n) none = go (failing t (a + 1) n) (t a) refl
         (at.0, omega (arith, at.1), omega (arith, at.2), at.3)
 
 counted : (t : ℕ → Bool) (a n : ℕ) → (count_by t (range_with_len a n) == 0) ≡ false → (m : ℕ) × (a ≤ m) × (m < a + n) × (t m ≡ true)
-counted t a zero none = absurd (true≢false none)
-counted t a (suc n) none = go (counted t (a + 1) n) (t a) refl
+counted t a n none =
+    let at = failing (λ x. cond (t x) 1 0 == 0) a n (sym (sum_by-zero (λ x. cond (t x) 1 0) (range_with_len a n)) ∙ none) in
+    (at.0, at.1, at.2, go (t at.0) at.3)
   where
-    go : ((count_by t (range_with_len (a + 1) n) == 0) ≡ false → (m : ℕ) × (a + 1 ≤ m) × (m < a + 1 + n) × (t m ≡ true))
-        → (b : Bool) → t a ≡ b → (m : ℕ) × (a ≤ m) × (m < a + suc n) × (t m ≡ true)
-    go later true e = (a, omega arith, omega arith, e)
-    go later false e =
-        let first : ◌≡◌ {A = ℕ} (cond (t a) 1 0) 0 = ap (λ b. cond b 1 0) e in
-        let whole = sum_by-cons (λ x. cond (t x) 1 0) a (range_with_len (a + 1) n) in
-        let same : count_by t (range_with_len (a + 1) n) ≡ count_by t (range_with_len a (suc n)) = omega (arith, first, whole) in
-        let at = later (ap (λ k. k == 0) same ∙ none) in
-        (at.0, omega (arith, at.1), omega (arith, at.2), at.3)
-
-not-true : (b : Bool) → not b ≡ true → b ≡ false
-not-true true e = cc e
-not-true false e = refl
+    go : (b : Bool) → (cond b 1 0 == 0) ≡ false → b ≡ true
+    go true e = refl
+    go false e = cc e
 
 -- where each position below K' is fixed none is left
 none_left : (link : Link) (records : List HeardBits)
@@ -107,9 +97,7 @@ module _ (only : DeliveredIsOnly) (delivers : ExplainedIsDelivered) (link : Link
   opens-where : IsOneLeft link list → outcome_of link list ≡ open_still
   unfolding outcome_of
   opens-where one =
-      ap (λ b. cond b (verdict_on found) open_still)
-      (false_from_ne_true (all_fixed link (heard_record link list))
-      (λ all. true≢false (sym (fixed-each all one.block one.position one.inside one.below) ∙ one.left)))
+      rw (false_from_ne_true (all_fixed link (heard_record link list)) (λ all. true≢false (sym (fixed-each all one.block one.position one.inside one.below) ∙ one.left))) refl
 
   contradicts-when : outcome_of link list ≡ contradiction → AreAllFixed link list × NoneExplains link list
   unfolding outcome_of
@@ -120,10 +108,10 @@ module _ (only : DeliveredIsOnly) (delivers : ExplainedIsDelivered) (link : Link
 
   contradicts-where : AreAllFixed link list × NoneExplains link list → outcome_of link list ≡ contradiction
   unfolding outcome_of
-  contradicts-where both = go found refl
+  contradicts-where both = rw (none_left link (heard_record link list) both.0) (go found refl)
     where
-      go : (o : Option (List Bool)) → found ≡ o → cond (all_fixed link (heard_record link list)) (verdict_on found) open_still ≡ contradiction
-      go None e = ap (λ b. cond b (verdict_on found) open_still) (none_left link (heard_record link list) both.0) ∙ ap verdict_on e
+      go : (o : Option (List Bool)) → found ≡ o → verdict_on found ≡ contradiction
+      go None e = rw e refl
       go (Some x) e =
           let passes = find_passes (explains link list) (is_long link.a) (blocks_of link.a) x (blocks_long link.a) e in
           absurd (both.1 x (eqb-true (length x) link.a passes.1, passes.0))
@@ -134,9 +122,6 @@ module _ (only : DeliveredIsOnly) (delivers : ExplainedIsDelivered) (link : Link
     opens = (opens-when, opens-where);
     contradicts = (contradicts-when, contradicts-where);
   }
-
-pub outcomes-exact : DeliveredIsOnly → ExplainedIsDelivered → OutcomesAreExact
-outcomes-exact only delivers link list is accepted = exact-one only delivers link list is accepted
 
 -- a position that was received stays received
 found-more : (o p : Option Observation) → is_heard (option_map (λ h. h.1) o) ≡ true → is_heard (option_map (λ h. h.1) (option_or o p)) ≡ true

@@ -1,26 +1,39 @@
 -- Tests of each number of a range, and of each thing that some of them give.
-use Rattle.std.proofs.Common.{◌≡◌, ℕ, zero, suc, ◌+◌, ◌<◌, ◌≤◌, ◌&&◌, Bool, true, List, [], ◌∷◌, length, get_or, flat_map, refl, ap, ◌∙◌, ⊎_elim, arith}
+use Rattle.std.proofs.Common.{◌≡◌, ℕ, zero, suc, ◌+◌, ◌-◌, ◌<◌, ◌≤◌, ◌&&◌, Bool, true, List, [], ◌∷◌, length, get_or, flat_map, ◌++◌, refl, sym, ap, ◌∙◌, arith}
 use Rattle.std.specs.Prelude.{Option, Some, None}
 use Rattle.std.specs.List.{cons_option, list_all, filter_map, range_with_len}
-use Rattle.std.proofs.lemmas.Bool.{and_from, and_parts, cases_eq}
 use Rattle.std.proofs.lemmas.List.Folds.{list_all-append}
+use Rattle.std.proofs.lemmas.List.FromFn.{get_or-range_with_len, length-range_with_len}
+use Rattle.std.proofs.lemmas.List.Sums.{AllPass-from_list_all, list_all-from_AllPass}
 
 -- a test holds of a thing, if there is one
 abbrev pub holds_if : {X : Type 0} → (X → Bool) → Option X → Bool
 holds_if p None = true
 holds_if p (Some x) = p x
 
+-- a range in two parts
+pub range-split : (a n k : ℕ) → range_with_len a (n + k) ≡ range_with_len a n ++ range_with_len (a + n) k
+range-split a zero k =
+    let none : 0 + k ≡ k = omega arith in
+    let start : a ≡ a + 0 = omega arith in
+    ap (λ m. range_with_len a m) none ∙ ap (λ b. range_with_len b k) start
+range-split a (suc n) k =
+    let longer : suc n + k ≡ suc (n + k) = omega arith in
+    let next : a + 1 + n ≡ a + suc n = omega arith in
+    ap (λ m. range_with_len a m) longer
+    ∙ ap (λ xs. a ∷ xs) (range-split (a + 1) n k ∙ ap (λ b. range_with_len (a + 1) n ++ range_with_len b k) next)
+
 pub range_all : (p : ℕ → Bool) (a n : ℕ) → ((m : ℕ) → a ≤ m → m < a + n → p m ≡ true) → list_all p (range_with_len a n) ≡ true
-range_all p a zero each = refl
-range_all p a (suc n) each =
-    and_from (p a) (list_all p (range_with_len (a + 1) n)) (each a (omega arith) (omega arith))
-    (range_all p (a + 1) n (λ m low high. each m (omega arith) (omega arith)))
+range_all p a n each =
+    list_all-from_AllPass p (range_with_len a n) (λ k d below.
+    let inside : k < n = omega (arith, length-range_with_len a n, below) in
+    ap p (get_or-range_with_len a n k d inside) ∙ each (a + k) (omega arith) (omega (arith, inside)))
 
 pub range_each : (p : ℕ → Bool) (a n : ℕ) → list_all p (range_with_len a n) ≡ true → (m : ℕ) → a ≤ m → m < a + n → p m ≡ true
-range_each p a zero all m low high = absurd (omega arith)
-range_each p a (suc n) all m low high =
-    let both = and_parts (p a) (list_all p (range_with_len (a + 1) n)) all in
-    ⊎_elim (λ here. ap p here ∙ both.0) (λ there. range_each p (a + 1) n both.1 m (omega arith) (omega arith)) (cases_eq m a)
+range_each p a n all m low high =
+    let inside : m - a < n = omega (arith, low, high) in
+    let at : a + (m - a) ≡ m = omega (arith, low) in
+    ap p (sym (get_or-range_with_len a n (m - a) 0 inside ∙ at)) ∙ AllPass-from_list_all p (range_with_len a n) all (m - a) 0 (omega (arith, length-range_with_len a n, inside))
 
 cons_all : {X : Type 0} (p : X → Bool) (o : Option X) (xs : List X) (b : Bool) → list_all p xs ≡ b
     → list_all p (cons_option o xs) ≡ (holds_if p o && b)
@@ -37,6 +50,4 @@ flat_all f p [] = refl
 flat_all f p (x ∷ xs) = list_all-append p (f x) (flat_map f xs) ∙ ap (λ b. list_all p (f x) && b) (flat_all f p xs)
 
 pub all-at : {X : Type 0} (p : X → Bool) (xs : List X) (k : ℕ) (d : X) → list_all p xs ≡ true → k < length xs → p (get_or xs k d) ≡ true
-all-at p [] k d all inside = absurd (omega arith)
-all-at p (x ∷ xs) zero d all inside = (and_parts (p x) (list_all p xs) all).0
-all-at p (x ∷ xs) (suc k) d all inside = all-at p xs k d (and_parts (p x) (list_all p xs) all).1 (omega arith)
+all-at p xs k d all inside = AllPass-from_list_all p xs all k d inside

@@ -1,11 +1,11 @@
 -- What a reception tells of each code block, and the record of one reception more.
-use Rattle.std.proofs.Common.{◌≡◌, ℕ, zero, suc, ◌+◌, ◌-◌, ◌<◌, ◌≤◌, ◌==◌, Bool, true, false, cond, List, [], ◌∷◌, ◌++◌, length, get_or, take, drop, flat_map, All, refl, sym, ap, subst, ◌∙◌, arith}
+use Rattle.std.proofs.Common.{◌≡◌, ℕ, zero, suc, ◌+◌, ◌-◌, ◌<◌, ◌≤◌, ◌==◌, Bool, true, false, cond, List, [], ◌∷◌, ◌++◌, length, get_or, take, drop, flat_map, refl, sym, ap, subst, ◌∙◌, arith}
 use Rattle.std.specs.Prelude.{Option, None, Ok, Err, option_map, sum, slice_index}
 use Rattle.std.specs.List.{cons_option, filter_map, range_with_len}
 use Rattle.std.proofs.lemmas.Bool.{eqb-true, eq-eqb}
 use Rattle.std.proofs.lemmas.Grind.{flat_map-append}
-use Rattle.std.proofs.lemmas.List.{get_or-drop, get_or-take, get_or_default, length-drop, length-take-le, same_lists}
-use Rattle.std.proofs.lemmas.List.Elements.{All-append, filter_map-append}
+use Rattle.std.proofs.lemmas.List.{append-nil, get_or-drop, get_or-take, get_or_default, length-drop, length-take-le, same_lists}
+use Rattle.std.proofs.lemmas.List.Elements.{All-push, filter_map-append}
 use Rattle.std.proofs.lemmas.List.FromFn.{length-map-range_with_len}
 use Rattle.std.proofs.lemmas.List.Sums.{sum_by_more_le}
 use Rattle.nr_cbconcat.specs.Concatenation.{IsOwner, PlacesHaveOneOwner, owner_of}
@@ -18,14 +18,13 @@ use Rattle.nr_blockdesk.specs.Explains.{IsAccepted, Reception, heard_at, recepti
 use Rattle.nr_blockdesk.specs.Heard.{IsRecordOf, hearing_at, heard_of, heard_record, hearings, hearings_in}
 use Rattle.nr_blockdesk.specs.Hearing.{heard_bit}
 use Rattle.nr_blockdesk.specs.Link.{IsLink, Link, demanded}
-use Rattle.nr_blockdesk.specs.Receiving.{peeling_of}
-use Rattle.nr_blockdesk.specs.ReceivingInside.{HearsPart, IsDesk, IsTied, part_hearing, part_hearings, piece}
+use Rattle.nr_blockdesk.specs.ReceivingInside.{HearsPart, IsDesk, part_hearing, part_hearings, piece}
 use Rattle.nr_blockdesk.specs.Sent.{AcceptedAreMatched, IsMatched, RateMatching, PartsAreAt, block_at, matching, position_at, tx_said, tx_said_of}
 use Rattle.nr_transmission.specs.declared.fault.DeskFault.TheVariants as fault
 use Rattle.nr_blockdesk.specs.declared.heard.Heard.{Heard}
 use Rattle.nr_blockdesk.specs.declared.heard.Heard.TheVariants as kind
 use Rattle.nr_transmission.specs.declared.tx.Tx.{Tx}
-use Rattle.nr_blockdesk.proofs.HearingFacts.{range-split}
+use Rattle.nr_blockdesk.proofs.RangeTestFacts.{range-split}
 use Rattle.nr_blockdesk.proofs.LinkFacts.{bind-ok, never-bind, never-demanded}
 use Rattle.nr_blockdesk.proofs.SenderFacts.{tx-never_memory}
 use Rattle.nr_blockdesk.proofs.RecordFacts.{record-at}
@@ -53,11 +52,7 @@ same-part_masks f g a b (suc n) each =
         ap f left ∙ each (suc k) (omega arith) ∙ ap g right
 
 nothing-before : (xs ys : List Observation) → xs ≡ [] → ys ≡ [] → (zs : List Observation) → xs ++ (zs ++ ys) ≡ zs
-nothing-before xs ys front back zs = ap (λ l. l ++ (zs ++ ys)) front ∙ ap (λ l. zs ++ l) back ∙ go zs
-  where
-    go : (zs : List Observation) → zs ++ [] ≡ zs
-    go [] = refl
-    go (z ∷ zs) = ap (λ l. z ∷ l) (go zs)
+nothing-before xs ys front back zs = rw (front, back, append-nil) refl
 
 -- what the places of one code block tell
 pub piece-part_masks : PartsAreAt → PlacesHaveOneOwner → (t : RateMatching) (tx : Tx) (heard : List Heard) (r : ℕ) → t.rv ≡ tx.rv → t.qm ≡ tx.qm
@@ -158,16 +153,7 @@ hearings-part_masks parts owners matched link tx lengths heard r is said whole b
 
 hearings-more : (link : Link) (list : List Reception) (x : Reception) (r : ℕ) → hearings link (list ++ x ∷ []) r ≡ hearings link list r ++ hearings_in link r x
 unfolding hearings
-hearings-more link list x r =
-    flat_map-append (hearings_in link r) list (x ∷ []) ∙ ap (λ hs. flat_map (hearings_in link r) list ++ hs) (go (hearings_in link r x))
-  where
-    go : (zs : List Observation) → zs ++ [] ≡ zs
-    go [] = refl
-    go (z ∷ zs) = ap (λ l. z ∷ l) (go zs)
-
-pub one-all : {X : Type 0} (P : X → Type 0) (x : X) → P x → All P (x ∷ [])
-one-all P x is zero d inside = is
-one-all P x is (suc k) d inside = absurd (omega (arith, inside))
+hearings-more link list x r = flat_map-append (hearings_in link r) list (x ∷ []) ∙ ap (λ hs. flat_map (hearings_in link r) list ++ hs) (append-nil (hearings_in link r x))
 
 length-record : (link : Link) (list : List Reception) → length (heard_record link list) ≡ link.plan.c
 unfolding heard_record
@@ -179,7 +165,7 @@ pub record-taken : PartsAreAt → PlacesHaveOneOwner → AcceptedAreMatched → 
     → tx_said link tx ≡ Ok lengths → length heard ≡ tx.g → length S' ≡ link.plan.c → AreHeard link tx lengths heard S P S' P'
     → (list : List Reception) → IsRecordOf link list S → IsRecordOf link (list ++ reception tx heard ∷ []) S'
 record-taken parts owners matched link tx lengths heard S S' P P' is desk accepted said whole many hears list of = record {
-  accepted = All-append (IsAccepted link) list (x ∷ []) of.accepted (one-all (IsAccepted link) x accepted);
+  accepted = All-push (IsAccepted link) list x of.accepted accepted;
   same = same_lists S' (heard_record link longer) (many ∙ sym (length-record link longer)) at;
 }
   where
@@ -217,15 +203,8 @@ record-taken parts owners matched link tx lengths heard S S' P P' is desk accept
 -- and stores and peelers belong together again
 pub desk-taken : (link : Link) (tx : Tx) (lengths : List ℕ) (heard : List Heard) (S S' : List HeardBits) (P P' : List Peeling)
     → IsDesk link S P → length S' ≡ link.plan.c → length P' ≡ link.plan.c → AreHeard link tx lengths heard S P S' P' → IsDesk link S' P'
-desk-taken link tx lengths heard S S' P P' desk stores peelers hears = record {
-  stores = stores;
-  peelings = peelers;
-  tied = tied;
-}
-  where
-    tied : (r : ℕ) → r < link.plan.c → IsTied link (heard_of S' r) (peeling_of link P' r)
-    tied r block =
-        (hears r (none-of link) block).tied link (desk.tied r block)
+desk-taken link tx lengths heard S S' P P' desk stores peelers hears =
+    record { stores = stores; peelings = peelers; tied = λ r block. (hears r (none-of link) block).tied link (desk.tied r block) }
 
 -- what was said of a reception was said of its transmission
 pub tx-from : (link : Link) (x : Reception) (es : List ℕ) → reception_said link x ≡ Ok es → tx_said link x.tx ≡ Ok es
@@ -248,10 +227,7 @@ pub parts-are : (link : Link) (tx : Tx) (es es' : List ℕ) (heard : List Heard)
     → HearsPart link.buffer tx (piece es' heard r) (heard_of S₁ r) (get_or P₁ r d) (heard_of S' r) (get_or P' r d))
     → AreHeard link tx es heard S P S' P'
 parts-are link tx es es' heard S S₁ S' P P₁ P' es-is S-is P-is many parts r d block =
-    subst (λ (l : List ℕ). HearsPart link.buffer tx (piece l heard r) (heard_of S r) (get_or P r d) (heard_of S' r) (get_or P' r d)) es-is
-    (subst (λ (l : List HeardBits). HearsPart link.buffer tx (piece es' heard r) (heard_of l r) (get_or P r d) (heard_of S' r) (get_or P' r d)) S-is
-    (subst (λ (l : List Peeling). HearsPart link.buffer tx (piece es' heard r) (heard_of S₁ r) (get_or l r d) (heard_of S' r) (get_or P' r d)) P-is
-    (parts r d (subst (λ (l : List HeardBits). r < length l) (sym S-is) (subst (λ n. r < n) (sym many) block)))))
+    rw (← es-is, ← S-is, ← P-is) (parts r d (rw (S-is, many) block))
 
 -- the record after a reception that was taken
 pub all-taken : PartsAreAt → PlacesHaveOneOwner → AcceptedAreMatched → (link : Link) (tx : Tx) (es : List ℕ) (heard : List Heard)

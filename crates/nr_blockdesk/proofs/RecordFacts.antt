@@ -6,6 +6,7 @@ use Rattle.std.specs.Option.{is_some}
 use Rattle.std.proofs.lemmas.Bool.{and_from, cases_lt, eqb-true}
 use Rattle.std.proofs.lemmas.Bool.Decides.{nat_tests}
 use Rattle.std.proofs.lemmas.List.{get_or_past}
+use Rattle.std.proofs.lemmas.List.Elements.{All-head, All-tail}
 use Rattle.std.proofs.lemmas.List.FromFn.{get_or-map-range_with_len, length-map-range_with_len}
 use Rattle.nr_bitvec.specs.Bit.{bit}
 use Rattle.nr_graphpick.specs.Graph.{cols_of}
@@ -19,7 +20,7 @@ use Rattle.nr_blockdesk.specs.Outcome.{ExplainedBy}
 use Rattle.nr_blockdesk.specs.ReceiverLaws.{ExplainsByRecord}
 use Rattle.nr_blockdesk.specs.Sent.{AcceptedAreMatched, IsMatched, RateMatching, SentBitsAreAt, block_at, matching, position_at, sent, tx_said}
 use Rattle.nr_transmission.specs.declared.fault.DeskFault.TheVariants as fault
-use Rattle.nr_blockdesk.proofs.ExplanationFacts.{IsOf, IsOwned, all-first, all-others, explained-fits, fits, fits-explained}
+use Rattle.nr_blockdesk.proofs.ExplanationFacts.{IsOf, IsOwned, explained-fits, fits, fits-explained}
 use Rattle.nr_blockdesk.proofs.LinkFacts.{bind-ok, demanded-ok}
 use Rattle.nr_blockdesk.proofs.RangeTestFacts.{all-at, flat_all, given_all, holds_if, range_all}
 
@@ -106,9 +107,9 @@ unfolding hearings
 below-all matched at link [] r is accepted = refl
 below-all matched at link (x ∷ xs) r is accepted =
     flat_all (hearings_in link r) (is_below (word_size link.graph link.plan)) (x ∷ xs)
-    ∙ and_from _ _ (below-in matched at link r x is (all-first (IsAccepted link) x xs accepted))
+    ∙ and_from _ _ (below-in matched at link r x is (All-head (IsAccepted link) x xs accepted))
     (sym (flat_all (hearings_in link r) (is_below (word_size link.graph link.plan)) xs)
-    ∙ below-all matched at link xs r is (all-others (IsAccepted link) x xs accepted))
+    ∙ below-all matched at link xs r is (All-tail (IsAccepted link) x xs accepted))
 
 pub hearings-below : AcceptedAreMatched → SentBitsAreAt → (link : Link) (list : List Reception) (r : ℕ) → IsLink link
     → All (IsAccepted link) list → All (λ (h : Observation). h.0 < word_size link.graph link.plan) (hearings link list r)

@@ -1,19 +1,17 @@
 -- What a search through all lists of n bits finds.
-use Rattle.std.proofs.Common.{◌≡◌, ℕ, zero, suc, ◌==◌, Bool, true, false, cond, List, [], ◌∷◌, length, flat_map, refl, sym, ap, ◌∙◌, arith}
+use Rattle.std.proofs.Common.{◌≡◌, ℕ, zero, suc, ◌==◌, Bool, true, false, cond, List, [], ◌∷◌, length, get_or, flat_map, refl, sym, ap, ◌∙◌, arith}
 use Rattle.std.specs.Prelude.{Option, Some, None}
 use Rattle.std.specs.List.{find, list_all}
 use Rattle.std.proofs.lemmas.Bool.{and_from, and_parts, eqb-true, eq-eqb}
+use Rattle.std.proofs.lemmas.List.Sums.{AllPass-from_list_all, list_all-from_AllPass}
 use Rattle.nr_blockdesk.specs.Outcome.{blocks_of}
 use Rattle.nr_blockdesk.proofs.RangeTestFacts.{flat_all}
-
-some_same : {X : Type 0} (x y : X) → Some x ≡ Some y → x ≡ y
-some_same x y e = cc e
 
 first_found : {X : Type 0} (t q : X → Bool) (y x : X) (o : Option X) → q y ≡ true
     → (o ≡ Some x → (t x ≡ true) × (q x ≡ true)) → (b : Bool) → t y ≡ b → cond b (Some y) o ≡ Some x
     → (t x ≡ true) × (q x ≡ true)
 first_found t q y x o held later true e found =
-    let is : y ≡ x = some_same y x found in
+    let is : y ≡ x = cc in
     (ap t (sym is) ∙ e, ap q (sym is) ∙ held)
 first_found t q y x o held later false e found = later found
 
@@ -39,10 +37,7 @@ doubled-long n bits long =
     and_from _ _ first (and_from _ _ second refl)
 
 all_then : {X : Type 0} (q p : X → Bool) (xs : List X) → ((x : X) → q x ≡ true → p x ≡ true) → list_all q xs ≡ true → list_all p xs ≡ true
-all_then q p [] then all = refl
-all_then q p (x ∷ xs) then all =
-    let both = and_parts (q x) (list_all q xs) all in
-    and_from (p x) (list_all p xs) (then x both.0) (all_then q p xs then both.1)
+all_then q p xs then all = list_all-from_AllPass p xs (λ k d inside. then (get_or xs k d) (AllPass-from_list_all q xs all k d inside))
 
 -- each of all lists of n bits has n bits
 pub blocks_long : (n : ℕ) → list_all (is_long n) (blocks_of n) ≡ true

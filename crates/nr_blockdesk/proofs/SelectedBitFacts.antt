@@ -1,13 +1,15 @@
 -- What words tell of selected bits is what their places tell one by one.
-use Rattle.std.proofs.Common.{◌≡◌, ℕ, zero, suc, ◌+◌, ◌-◌, ◌%◌, ◌<◌, ◌≤◌, ◌==◌, ◌||◌, ◌&&◌, Bool, true, false, nat_le, nat_lt, List, [], ◌∷◌, length, take, drop, refl, sym, ap, ◌∙◌, ⊎_elim, arith}
+use Rattle.std.proofs.Common.{◌≡◌, ℕ, ◌+◌, ◌-◌, ◌%◌, ◌<◌, ◌≤◌, ◌==◌, ◌||◌, ◌&&◌, Bool, true, false, nat_le, nat_lt, List, [], ◌∷◌, length, take, drop, refl, sym, ap, ◌∙◌, arith}
 use Rattle.std.specs.Prelude.{Option, Some, None, option_map}
 use Rattle.std.specs.Bool.{beq}
 use Rattle.std.specs.Int.{bit_at}
 use Rattle.std.specs.List.{cons_option, filter_map, list_any, range_with_len}
-use Rattle.std.proofs.lemmas.Bool.{and_from, and_parts, cases_eq, eq-eqb, eqb-true, false≢true, le-leb, lt-ltb, leb-true, ltb-true, or_left, or_right}
+use Rattle.std.proofs.lemmas.Bool.{and_from, and_parts, eq-eqb, eqb-true, le-leb, lt-ltb, leb-true, ltb-true}
+use Rattle.std.proofs.lemmas.Bool.Decides.{same_from_decides}
 use Rattle.std.proofs.lemmas.List.{get_or-drop, get_or-take, length-drop, length-take-le}
-use Rattle.std.proofs.lemmas.List.Folds.{list_any-append}
-use Rattle.std.proofs.Math.Bool.{or_assoc}
+use Rattle.std.proofs.lemmas.List.Folds.{Any-from_list_any, list_any-append, list_any_at}
+use Rattle.std.proofs.lemmas.List.FromFn.{get_or-range_with_len, length-range_with_len}
+use Rattle.std.proofs.Math.Bool.{and-false, or-false, or_assoc}
 use Rattle.nr_bitvec.specs.Bit.{bit}
 use Rattle.nr_harqbuf.specs.Masks.{says, word_says}
 use Rattle.nr_harqbuf.specs.Record.{Observation, heard_as}
@@ -21,23 +23,15 @@ use Rattle.nr_blockdesk.specs.Marks.{heards_from}
 use Rattle.nr_blockdesk.specs.ReceivingInside.{part_hearing, part_hearings}
 use Rattle.nr_blockdesk.specs.declared.heard.Heard.{Heard}
 use Rattle.nr_transmission.specs.declared.tx.Tx.{Tx}
-use Rattle.nr_blockdesk.proofs.HearingFacts.{range-split}
+use Rattle.nr_blockdesk.proofs.RangeTestFacts.{range-split}
 use Rattle.nr_blockdesk.proofs.MarkFacts.{heard-at, length-heards, tells-marked}
 use Rattle.nr_blockdesk.proofs.SentPlaceFacts.{bit-interleaved, length-interleaved}
 
--- two tests are one where each follows from the other
-same_test : (a b : Bool) → (a ≡ true → b ≡ true) → (b ≡ true → a ≡ true) → a ≡ b
-same_test true b f g = sym (f refl)
-same_test false true f g = g refl
-same_test false false f g = refl
-
 -- a number of a range passes a test
 pub found : (f : ℕ → Bool) (a n k : ℕ) → a ≤ k → k < a + n → f k ≡ true → list_any f (range_with_len a n) ≡ true
-found f a zero k low high is = absurd (omega (arith, low, high))
-found f a (suc n) k low high is = ⊎_elim
-    (λ (here : k ≡ a). or_left (f a) (list_any f (range_with_len (a + 1) n)) (sym (ap f here) ∙ is))
-    (λ there. or_right (f a) (list_any f (range_with_len (a + 1) n)) (found f (a + 1) n k (omega (arith, low, there)) (omega (arith, high)) is))
-    (cases_eq k a)
+found f a n k low high is =
+    let inside : k - a < n = omega (arith, low, high) in
+    list_any_at f (range_with_len a n) (k - a) 0 (omega (arith, length-range_with_len a n, inside)) (ap f (get_or-range_with_len a n (k - a) 0 inside ∙ omega (arith, low)) ∙ is)
 
 pub record IsFound (f : ℕ → Bool) (a n : ℕ) : Type 0 where
   pub at : ℕ
@@ -46,15 +40,11 @@ pub record IsFound (f : ℕ → Bool) (a n : ℕ) : Type 0 where
   pub is : f at ≡ true
 
 pub find_it : (f : ℕ → Bool) (a n : ℕ) → list_any f (range_with_len a n) ≡ true → IsFound f a n
-find_it f a zero any = absurd (false≢true any)
-find_it f a (suc n) any = go (f a) refl any (λ later. find_it f (a + 1) n later)
-  where
-    go : (b : Bool) → f a ≡ b → (b || list_any f (range_with_len (a + 1) n)) ≡ true
-        → (list_any f (range_with_len (a + 1) n) ≡ true → IsFound f (a + 1) n) → IsFound f a (suc n)
-    go true e any later = record { at = a; low = omega arith; high = omega arith; is = e }
-    go false e any later =
-        let r = later any in
-        record { at = r.at; low = omega (arith, r.low); high = omega (arith, r.high); is = r.is }
+find_it f a n any =
+    let it = Any-from_list_any f (range_with_len a n) any in
+    let inside : it.0 < n = omega (arith, length-range_with_len a n, it.2) in
+    let at : a + it.0 ≡ it.1 = sym (get_or-range_with_len a n it.0 it.1 inside) ∙ it.3 in
+    record { at = it.1; low = omega (arith, at); high = omega (arith, at, inside); is = it.4 }
 
 -- a range in two parts
 any-more : (f : ℕ → Bool) (a n k : ℕ) → list_any f (range_with_len a (n + k)) ≡ (list_any f (range_with_len a n) || list_any f (range_with_len (a + n) k))
@@ -92,7 +82,7 @@ module _ (b : Circular) (rv : ℕ) (marks bits : List Bool) (k position count no
 
   pub word-tells : (p : ℕ) (v : Bool)
       → word_says position count now word p v ≡ list_any (bit_says b rv marks bits p v) (range_with_len k count)
-  word-tells p v = same_test (word_says position count now word p v) (list_any (bit_says b rv marks bits p v) (range_with_len k count)) forth back
+  word-tells p v = same_from_decides {P = list_any (bit_says b rv marks bits p v) (range_with_len k count) ≡ true} _ _ (forth, back) (λ e. e, λ e. e)
     where
       forth : word_says position count now word p v ≡ true → list_any (bit_says b rv marks bits p v) (range_with_len k count) ≡ true
       forth said =
@@ -143,11 +133,7 @@ any-part_masks f p v (n ∷ ns) = cons_any p v (f n) (filter_map f ns) (list_any
 
 part_masks-at : (p q : ℕ) (v : Bool) (o : Option Bool) → told_by p v (option_map (λ b. (q, b)) o) ≡ ((q == p) && tells o v)
 unfolding told_by
-part_masks-at p q v None = go (q == p)
-  where
-    go : (b : Bool) → false ≡ (b && false)
-    go true = refl
-    go false = refl
+part_masks-at p q v None = sym (and-false (q == p))
 part_masks-at p q v (Some b) = refl
 
 -- bits that interleave to the marks and bits of a part say what its places tell
@@ -206,9 +192,8 @@ module _ (b : Circular) (tx : Tx) (marks bits chosen chosen-too : List Bool) (fr
       ≡ heard_as (part_hearings b tx (heards_from marks bits from n) (length (heards_from marks bits from n))) p v
   unfolding heard_as
   says-part p v =
-      same_test (list_any (bit_says b tx.rv chosen chosen-too p v) (range_with_len 0 (length chosen-too))) (list_any (by_place p v) (range_with_len 0 (length places))) (forth p v) (back p v)
+      same_from_decides {P = list_any (by_place p v) (range_with_len 0 (length places)) ≡ true} _ _ (forth p v, back p v) (λ e. e, λ e. e)
       ∙ sym (any-part_masks (part_hearing b tx places) p v (range_with_len 0 (length places)))
 
 pub none-more : (a : Bool) → a ≡ (a || false)
-none-more true = refl
-none-more false = refl
+none-more a = sym (or-false a)

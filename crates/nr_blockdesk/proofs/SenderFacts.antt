@@ -1,12 +1,11 @@
--- What a sender's codewords are, and what is said of a transmission, step by step.
-use Rattle.std.proofs.Common.{◌≡◌, ℕ, ◌*◌, ◌%◌, ◌<◌, ◌≤◌, nat_le, Bool, true, false, Result, Ok, Err, IsOk, List, [], length, sum, slice_index_or, All, subst, refl, sym, ap, ◌∙◌, arith}
+-- What a sender's codewords are, and what is said of a transmission.
+use Rattle.std.proofs.Common.{◌≡◌, ℕ, ◌*◌, ◌%◌, ◌<◌, nat_le, Bool, Result, Ok, Err, IsOk, List, [], length, sum, slice_index_or, All, subst, refl, sym, ap, ◌∙◌, arith}
 use Rattle.std.proofs.lemmas.Bool.Decides.{nat_tests}
 use Rattle.std.proofs.lemmas.List.FromFn.{get_or-map-range_with_len, length-map-range_with_len}
 use Rattle.nr_graphpick.specs.Graph.{cols_of}
 use Rattle.nr_refusal.specs.Refusal.{◌>>=◌}
 use Rattle.nr_ratematch.specs.Lengths.{IsShared, LengthsAreShared, lengths_said, scheduled}
 use Rattle.nr_ratematch.specs.Selection.{Circular}
-use Rattle.nr_ratematch.specs.declared.fault.RmFault.{RmFault}
 use Rattle.nr_blockdesk.specs.Link.{IsBlock, IsLink, Link, WordsArePlain, demanded, word}
 use Rattle.nr_blockdesk.specs.Inside.{words_of}
 use Rattle.nr_blockdesk.specs.Sent.{AcceptedAreMatched, AcceptedSendAll, answered, matching, matching_of, sent, sent_of, sent_said, tx_said, tx_said_of}
@@ -31,22 +30,7 @@ words-long plain link block is whole = λ r d inside.
     ∙ (plain link block r is whole here).long
     ∙ ap (λ (b : Circular). cols_of b.graph * b.z) (sym is.buffered)
 
--- what is said of a transmission, step by step
-pub said-rv : (c : ℕ) (tx : Tx) → 3 < tx.rv → tx_said_of c tx ≡ Err fault.Rv
-unfolding tx_said_of
-said-rv c tx more = let above : nat_le tx.rv 3 ≡ false = grind (arith, nat_tests) in rw above
-
-pub said-lengths : (c : ℕ) (tx : Tx) (lengths : List ℕ) → tx.rv ≤ 3
-    → lengths_said (scheduled tx.mask) c tx.g tx.qm tx.nl ≡ Ok lengths → tx_said_of c tx ≡ Ok lengths
-unfolding tx_said_of
-said-lengths c tx lengths less said = let below : nat_le tx.rv 3 ≡ true = grind (arith, nat_tests) in rw (below, said)
-
-pub said-fault : (c : ℕ) (tx : Tx) (e : RmFault) → tx.rv ≤ 3
-    → lengths_said (scheduled tx.mask) c tx.g tx.qm tx.nl ≡ Err e → tx_said_of c tx ≡ Err (fault.Rm e)
-unfolding tx_said_of
-said-fault c tx e less said = let below : nat_le tx.rv 3 ≡ true = grind (arith, nat_tests) in rw (below, said)
-
--- none of that is `Memory`
+-- nothing that is said of a transmission is `Memory`
 pub tx-never_memory : (c : ℕ) (tx : Tx) → tx_said_of c tx ≡ Err fault.Memory → ⊥
 unfolding tx_said_of
 tx-never_memory c tx =

@@ -9,6 +9,7 @@ use Rattle.nr_bitvec.specs.Bit.{bit}
 use Rattle.nr_cbconcat.specs.Concatenation.{PlacesHaveOneOwner, owner_of}
 use Rattle.nr_interleave.specs.Interleaving.{SeatsAreSeating, interleaved, seat_of}
 use Rattle.nr_ratematch.specs.Selection.{Circular, PlacesAreSent, place_of, selected}
+use Rattle.nr_blockdesk.proofs.RangeTestFacts.{range-split}
 use Rattle.nr_blockdesk.specs.Sent.{RateMatching, PartsAreAt, SentBitsAreAt, SentIsLong, block_sent, position_at, sent_of}
 
 pub length-selected : (b : Circular) (word : List Bool) (rv e : ℕ) → length (selected b word rv e) ≡ e
@@ -40,20 +41,12 @@ bit-block_sent t word e p inside seat =
     ∙ ap (λ n. bit bits (seat_of t.qm n p)) long
     ∙ bit-selected t.buffer word t.rv e (seat_of t.qm e p) seat
 
--- one number more
-range_more : (a n : ℕ) → range_with_len a (n + 1) ≡ range_with_len a n ++ (a + n) ∷ []
-range_more a zero = let last : a ≡ a + 0 = omega arith in ap (λ x. x ∷ []) last
-range_more a (suc n) =
-    let longer : suc n + 1 ≡ suc (n + 1) = omega arith in
-    let last : a + 1 + n ≡ a + suc n = omega arith in
-    rw longer (ap (λ xs. a ∷ xs) (range_more (a + 1) n ∙ ap (λ x. range_with_len (a + 1) n ++ x ∷ []) last))
-
 -- one piece more
 pieces-more : (f : ℕ → List Bool) (n : ℕ) → flat_map f (range_with_len 0 n) ++ f n ≡ flat_map f (range_with_len 0 (n + 1))
 pieces-more f n =
     let last : 0 + n ≡ n = omega arith in
     flat_map_more f [] (range_with_len 0 n) n
-    ∙ ap (λ rs. flat_map f rs) (sym (range_more 0 n ∙ ap (λ x. range_with_len 0 n ++ x ∷ []) last))
+    ∙ ap (λ rs. flat_map f rs) (sym (range-split 0 n 1 ∙ ap (λ x. range_with_len 0 n ++ x ∷ []) last))
 
 length-pieces : (f : ℕ → List Bool) (lengths : List ℕ) (n : ℕ) → ((r : ℕ) → length (f r) ≡ slice_index lengths r)
     → n ≤ length lengths → length (flat_map f (range_with_len 0 n)) ≡ sum (take n lengths)

@@ -3,7 +3,7 @@ use Rattle.std.specs.Prelude.{◌≡◌, ◌⊎◌, ℕ, Result, Ok, Err, IsOk, 
 use Rattle.nr_harqbuf.specs.Record.{HeardBits}
 use Rattle.nr_peel.specs.Peeling.{Peeling}
 use Rattle.nr_blockdesk.specs.Link.{Link}
-use Rattle.nr_blockdesk.specs.Outcome.{Verdict, contradiction, delivered, given, open_still}
+use Rattle.nr_blockdesk.specs.Outcome.{Verdict, contradiction, delivered, open_still}
 use Rattle.nr_blockdesk.specs.declared.outcome.Outcome.{Outcome}
 use Rattle.nr_blockdesk.specs.declared.outcome.Outcome.TheVariants as outcome
 

@@ -1,10 +1,10 @@
-use Rattle.std.proofs.Common.{◌≡◌, ℕ, ◌+◌, ◌<◌, ◌≤◌, [], false, length, take, get_or, refl, sym, ap, ◌∙◌, arith}
+use Rattle.std.proofs.Common.{◌≡◌, ℕ, ◌+◌, ◌<◌, ◌≤◌, [], false, length, take, get_or, sym, ap, ◌∙◌, arith}
 use Rattle.std.specs.Prelude.{sum, slice_index}
 use Rattle.std.proofs.lemmas.List.{get_or_read, length-set}
 use Rattle.std.proofs.lemmas.List.Sums.{sum_by_more, sum_by_more_le}
 use Rattle.nr_blockdesk.specs.Marks.{heards, heards_from}
 use Rattle.nr_blockdesk.specs.ReceivingInside.{HearsPart, piece}
-use Rattle.nr_blockdesk.proofs.HearingFacts.{all-tell-more, done-more, hears-same, later-kept, peelers-kept}
+use Rattle.nr_blockdesk.proofs.HearingFacts.{all-tell-more, done-more, later-kept, peelers-kept}
 use Rattle.nr_blockdesk.proofs.MarkFacts.{piece-heards}
 use Rattle.nr_blockdesk.proofs.hearing.hear.Goals as goal
 
@@ -27,8 +27,7 @@ loop-r-preserved c =
     let s = c.index-stores-r.result in
     let p = c.index-peelers-r.result in
     let hears : HearsPart c.args.buffer.now c.args.tx.now part s p c.hear_part-agreed.new.store c.hear_part-agreed.new.peeler =
-    hears-same c.args.buffer.now c.args.tx.now part part (get_or S r s) s c.hear_part-agreed.new.store c.hear_part-agreed.new.store (get_or P r p) p c.hear_part-agreed.new.peeler c.hear_part-agreed.new.peeler
-    refl (sym c.index-stores-r.is) (sym c.index-peelers-r.is) refl refl c.hear_part-agreed.ensures.hears in
+    rw (c.index-stores-r.is, c.index-peelers-r.is) c.hear_part-agreed.ensures.hears in
     let worded : r < length c.args.words.now = omega (arith, c.requires.words.many, c.requires.shared.counted, c.loop-r-test.true) in
     record {
       from =

@@ -1,5 +1,4 @@
-use Rattle.std.proofs.Common.{◌≡◌, ℕ, ◌+◌, ◌*◌, ◌<◌, ◌≤◌, Bool, true, false, not, Some, None, ◌&&◌, ◌++◌, List, length, set, sym, ap, subst, ◌∙◌, arith}
-use Rattle.std.specs.Bool.{beq}
+use Rattle.std.proofs.Common.{◌≡◌, ℕ, ◌+◌, ◌*◌, ◌<◌, ◌≤◌, Bool, false, not, Some, None, ◌++◌, List, length, refl, sym, ap, ◌∙◌, arith}
 use Rattle.std.proofs.lemmas.Bool.{true≢false}
 use Rattle.std.proofs.lemmas.List.{length-set}
 use Rattle.nr_bitvec.specs.Bit.{bit}
@@ -11,10 +10,8 @@ use Rattle.nr_blockdesk.specs.Explains.{heard_at}
 use Rattle.nr_blockdesk.specs.Hearing.{heard_bit}
 use Rattle.nr_blockdesk.specs.Marks.{place_heard}
 use Rattle.nr_blockdesk.specs.Inside.{heards_of}
-use Rattle.nr_blockdesk.specs.ReceivingInside.{Fits, IsNews, Agrees, part_hearings}
-use Rattle.nr_blockdesk.specs.Telling.{AreEmpty}
+use Rattle.nr_blockdesk.specs.ReceivingInside.{Fits, Agrees, part_hearings}
 use Rattle.nr_blockdesk.specs.declared.part.Part.{Part}
-use Rattle.nr_blockdesk.specs.declared.part_masks.PartMasks.{PartMasks}
 use Rattle.nr_transmission.specs.declared.tx.Tx.{Tx}
 use Rattle.nr_blockdesk.proofs.HearingFacts.{first-kept, first-set, fits-before, part-none, part-some, recorded-more, tells-more}
 use Rattle.nr_blockdesk.proofs.MarkFacts.{heard-at, length-heards, some-marked}
@@ -32,10 +29,8 @@ loop-m-preserved c =
     let places = heards_of part in
     let H = part.heard.now.items in
     let V = part.value.now.items in
-    let at = part.from + c.loop-m.m in
-    let here : heard_at places c.loop-m.m ≡ place_heard (bit part.heard.now.items (part.from + c.loop-m.m)) (bit part.value.now.items (part.from + c.loop-m.m)) =
-    heard-at H V part.from part.count c.loop-m.m c.loop-m-test.true in
     let m = c.loop-m.m in
+    let here : heard_at places m ≡ place_heard (bit H (part.from + m)) (bit V (part.from + m)) = heard-at H V part.from part.count m c.loop-m-test.true in
     let s : HeardBits = c.loop-m.store in
     let inv = c.loop-m.invariant in
     let s₀ : HeardBits = c.args.store.now in
@@ -45,64 +40,55 @@ loop-m-preserved c =
       | then-get w ↦
           let pos : ℕ = w.place-pos.result in
           let v : Bool = w.get-bit.result in
-          let part_masks : heard_bit (heard_at places m) ≡ Some v =
-          ap heard_bit here ∙ ap (λ a. heard_bit (place_heard a (bit V at))) (sym c.get.ensures ∙ w.if-get.true) ∙ some-marked (bit V at) ∙ ap Some (sym w.get-bit.ensures) in
-          let at : pos ≡ place_of b tx.rv (seat_of tx.qm (length places) m) = w.place-pos.ensures.value ∙ ap (place_of b tx.rv) (w.seat.ensures.value ∙ ap (λ n. seat_of tx.qm n m) (sym (length-heards H V part.from part.count))) in
+          let part_masks : heard_bit (heard_at places m) ≡ Some v = rw (here, ← c.get.ensures, w.if-get.true, some-marked (bit V (part.from + m)), w.get-bit.ensures) refl in
+          let at : pos ≡ place_of b tx.rv (seat_of tx.qm (length places) m) = rw (w.place-pos.ensures.value, w.seat.ensures.value, length-heards H V part.from part.count) refl in
           let store-is : c.if-get.store ≡ with_hearing s (pos, v) = w.store-is ∙ w.hear.ensures in
           let inside : pos < length s.first = omega (arith, w.place-pos.ensures.sent.coded, inv.news.long, c.requires.sized.stored) in
-          record {
-            recorded = λ hs e. recorded-more c.record_continues.ensures n hs (part_hearings b tx places m) (part_hearings b tx places (m + 1)) s c.if-get.store pos v
-                (omega (arith, inside, inv.news.long)) (inv.recorded hs e) store-is (part-some b tx places m pos v part_masks at);
-            news = elim w.if-is_none.branch [
-              | then-is_none u ↦
-                  let unheard : is_heard (first_at s pos) ≡ false =
-                  ap is_heard (sym w.heard.ensures) ∙ heard-some w.heard.result ∙ w.is_none.ensures ∙ ap not u.if-is_none.true in
-                  let heard-is : c.if-get.part_masks.heard.items ≡ set c.loop-m.part_masks.heard.items pos true = ap (λ (t : PartMasks). t.heard.items) (w.part_masks-is ∙ u.part_masks-is) ∙ u.set.ensures.items in
-                  let value-is : c.if-get.part_masks.value.items ≡ set c.loop-m.part_masks.value.items pos v = ap (λ (t : PartMasks). t.value.items) (w.part_masks-is ∙ u.part_masks-is) ∙ u.set-then-is_none.ensures.items in
-                  subst (λ (l : List Bool). IsNews s₀ c.if-get.store c.if-get.part_masks.heard.items l) (sym value-is)
-                  (subst (λ (l : List Bool). IsNews s₀ c.if-get.store l (set c.loop-m.part_masks.value.items pos v)) (sym heard-is)
-                  (news-more s₀ s c.if-get.store c.loop-m.part_masks.heard.items c.loop-m.part_masks.value.items pos v inside
-                  (omega (arith, w.place-pos.ensures.sent.coded, inv.marks)) (omega (arith, w.place-pos.ensures.sent.coded, inv.bits)) unheard
-                  (ap (λ (h : HeardBits). h.first) store-is ∙ first-set s pos v unheard) inv.news))
-              | else-is_none u ↦
-                  let known : is_heard (first_at s pos) ≡ true =
-                  ap is_heard (sym w.heard.ensures) ∙ heard-some w.heard.result ∙ w.is_none.ensures ∙ ap not u.if-is_none.false in
-                  subst (λ (t : PartMasks). IsNews s₀ c.if-get.store t.heard.items t.value.items) (sym (w.part_masks-is ∙ u.part_masks-is))
+          let recorded : (hs : List Observation) → s₀ ≡ record_of n hs → c.if-get.store ≡ record_of n (hs ++ part_hearings b tx places (m + 1)) =
+          λ hs e. recorded-more c.record_continues.ensures n hs (part_hearings b tx places m) (part_hearings b tx places (m + 1)) s c.if-get.store pos v
+          (omega (arith, inside, inv.news.long)) (inv.recorded hs e) store-is (part-some b tx places m pos v part_masks at) in
+          let fewer : (f : ℕ → Bool) → Fits c.if-get.store f → Fits s₀ f = λ f fits. inv.fewer f (fits-before s pos v f inside (rw (← store-is) fits)) in
+          let agreed : Agrees c.if-get.agreed heard-word s₀ c.if-get.store =
+          rw (w.agreed-is, w.get-then-get.ensures, store-is) (tells-more s pos v heard-word inside c.loop-m.agreed s₀ inv.part_masks) in
+          let heard-is : is_heard (first_at s pos) ≡ not w.is_none.result = ap is_heard (sym w.heard.ensures) ∙ heard-some w.heard.result ∙ w.is_none.ensures in
+          elim w.if-is_none.branch [
+            | then-is_none u ↦
+                let unheard : is_heard (first_at s pos) ≡ false = heard-is ∙ ap not u.if-is_none.true in
+                record {
+                  recorded = recorded;
+                  news = rw (w.part_masks-is, u.part_masks-is, u.set.ensures.items, u.set-then-is_none.ensures.items)
+                      (news-more s₀ s c.if-get.store c.loop-m.part_masks.heard.items c.loop-m.part_masks.value.items pos v inside
+                      (omega (arith, w.place-pos.ensures.sent.coded, inv.marks)) (omega (arith, w.place-pos.ensures.sent.coded, inv.bits)) unheard
+                      (ap (λ (h : HeardBits). h.first) store-is ∙ first-set s pos v unheard) inv.news);
+                  marks = rw (w.part_masks-is, u.part_masks-is, u.set.ensures.items, length-set) inv.marks;
+                  bits = rw (w.part_masks-is, u.part_masks-is, u.set-then-is_none.ensures.items, length-set) inv.bits;
+                  none = λ e. absurd (true≢false (sym (w.any-is ∙ u.any-is) ∙ e));
+                  fewer = fewer;
+                  part_masks = agreed;
+                }
+            | else-is_none u ↦ record {
+              recorded = recorded;
+              news = rw (w.part_masks-is, u.part_masks-is)
                   (news-again s₀ s c.if-get.store c.loop-m.part_masks.heard.items c.loop-m.part_masks.value.items
-                  (ap (λ (h : HeardBits). h.first) store-is ∙ first-kept s pos v known) inv.news)
-            ];
-            marks = elim w.if-is_none.branch [
-              | then-is_none u ↦ ap (λ (t : PartMasks). length t.heard.items) (w.part_masks-is ∙ u.part_masks-is) ∙ ap length u.set.ensures.items ∙ length-set c.loop-m.part_masks.heard.items pos true ∙ inv.marks
-              | else-is_none u ↦ ap (λ (t : PartMasks). length t.heard.items) (w.part_masks-is ∙ u.part_masks-is) ∙ inv.marks
-            ];
-            bits = elim w.if-is_none.branch [
-              | then-is_none u ↦ ap (λ (t : PartMasks). length t.value.items) (w.part_masks-is ∙ u.part_masks-is) ∙ ap length u.set-then-is_none.ensures.items ∙ length-set c.loop-m.part_masks.value.items pos v ∙ inv.bits
-              | else-is_none u ↦ ap (λ (t : PartMasks). length t.value.items) (w.part_masks-is ∙ u.part_masks-is) ∙ inv.bits
-            ];
-            none = elim w.if-is_none.branch [
-              | then-is_none u ↦ λ e. absurd (true≢false (sym (w.any-is ∙ u.any-is) ∙ e))
-              | else-is_none u ↦ λ e. subst (AreEmpty (cols_of b.graph * b.z)) (sym (w.part_masks-is ∙ u.part_masks-is)) (inv.none (sym (w.any-is ∙ u.any-is) ∙ e))
-            ];
-            fewer = λ f fits. inv.fewer f (fits-before s pos v f inside (subst (λ (h : HeardBits). Fits h f) store-is fits));
-            part_masks = subst (λ b. Agrees b heard-word s₀ c.if-get.store)
-                (sym (w.agreed-is ∙ ap (λ b. c.loop-m.agreed && beq b v) w.get-then-get.ensures))
-                (subst (λ (h : HeardBits). Agrees (c.loop-m.agreed && beq (heard-word pos) v) heard-word s₀ h) (sym store-is)
-                (tells-more s pos v heard-word inside c.loop-m.agreed s₀ inv.part_masks));
-          }
+                  (ap (λ (h : HeardBits). h.first) store-is ∙ first-kept s pos v (heard-is ∙ ap not u.if-is_none.false)) inv.news);
+              marks = rw (w.part_masks-is, u.part_masks-is) inv.marks;
+              bits = rw (w.part_masks-is, u.part_masks-is) inv.bits;
+              none = rw (w.part_masks-is, u.part_masks-is, w.any-is, u.any-is) inv.none;
+              fewer = fewer;
+              part_masks = agreed;
+            }
+          ]
       | else-get w ↦
-          let none : heard_bit (heard_at places m) ≡ None =
-          ap heard_bit here ∙ ap (λ a. heard_bit (place_heard a (bit V at))) (sym c.get.ensures ∙ w.if-get.false) in
-          record {
-            recorded = λ hs e. w.store-is ∙ inv.recorded hs e ∙ ap (λ l. record_of n (hs ++ l)) (sym (part-none b tx places m none));
-            news = subst (λ (t : PartMasks). IsNews s₀ c.if-get.store t.heard.items t.value.items) (sym w.part_masks-is)
-                (subst (λ (h : HeardBits). IsNews s₀ h c.loop-m.part_masks.heard.items c.loop-m.part_masks.value.items) (sym w.store-is) inv.news);
-            marks = ap (λ (t : PartMasks). length t.heard.items) w.part_masks-is ∙ inv.marks;
-            bits = ap (λ (t : PartMasks). length t.value.items) w.part_masks-is ∙ inv.bits;
-            none = λ e. subst (AreEmpty (cols_of b.graph * b.z)) (sym w.part_masks-is) (inv.none (sym w.any-is ∙ e));
-            fewer = λ f fits. inv.fewer f (subst (λ (h : HeardBits). Fits h f) w.store-is fits);
-            part_masks = subst (λ b. Agrees b heard-word s₀ c.if-get.store) (sym w.agreed-is)
-                (subst (λ (h : HeardBits). Agrees c.loop-m.agreed heard-word s₀ h) (sym w.store-is) inv.part_masks);
-          }
+          let none : heard_bit (heard_at places m) ≡ None = rw (here, ← c.get.ensures, w.if-get.false) refl in
+          rw (w.store-is, w.part_masks-is, w.any-is, w.agreed-is) (record {
+            recorded = λ hs e. rw (part-none b tx places m none) (inv.recorded hs e);
+            news = inv.news;
+            marks = inv.marks;
+            bits = inv.bits;
+            none = inv.none;
+            fewer = inv.fewer;
+            part_masks = inv.part_masks;
+          })
     ]
 
 -- the record with all places of the part
@@ -117,27 +103,23 @@ recorded-whole b tx part m s₀ s least most recorded hs e =
     recorded hs e ∙ ap (λ k. record_of (length s₀.first) (hs ++ part_hearings b tx (heards_of part) k)) all
 
 pub returns-then-any-clause-hears : goal.returns-then-any-clause-hears
-returns-then-any-clause-hears c =
-    let s₀ : HeardBits = c.args.store.now in
-    record {
-      recorded = recorded-whole c.args.buffer.now c.args.tx.now c.args.part.now c.loop-m.m s₀ c.loop-m.store
-          (omega (arith, c.loop-m-test.false)) c.loop-m.auto.m-end c.loop-m.invariant.recorded;
-      tied = λ link tied. c.learn_masks.ensures.tied link s₀ c.loop-m.store c.loop-m.invariant.news tied;
-      fewer = c.loop-m.invariant.fewer;
-      visited = c.learn_masks.ensures.visited;
-    }
+returns-then-any-clause-hears c = record {
+  recorded = recorded-whole c.args.buffer.now c.args.tx.now c.args.part.now c.loop-m.m c.args.store.now c.loop-m.store
+      (omega (arith, c.loop-m-test.false)) c.loop-m.auto.m-end c.loop-m.invariant.recorded;
+  tied = λ link tied. c.learn_masks.ensures.tied link c.args.store.now c.loop-m.store c.loop-m.invariant.news tied;
+  fewer = c.loop-m.invariant.fewer;
+  visited = c.learn_masks.ensures.visited;
+}
 
 -- where nothing is new, store and peeler belong together as before
 pub returns-else-any-clause-hears : goal.returns-else-any-clause-hears
 returns-else-any-clause-hears c =
-    let s₀ : HeardBits = c.args.store.now in
     let t = c.loop-m.part_masks in
-    let empty = c.loop-m.invariant.none c.if-any.false in
     record {
-      recorded = recorded-whole c.args.buffer.now c.args.tx.now c.args.part.now c.loop-m.m s₀ c.loop-m.store
+      recorded = recorded-whole c.args.buffer.now c.args.tx.now c.args.part.now c.loop-m.m c.args.store.now c.loop-m.store
           (omega (arith, c.loop-m-test.false)) c.loop-m.auto.m-end c.loop-m.invariant.recorded;
-      tied = λ link tied. tied-still s₀ c.loop-m.store t.heard.items t.value.items c.loop-m.invariant.news link c.args.peeler.now tied
-          (λ k. empty-bit t.heard.items (cols_of c.args.buffer.now.graph * c.args.buffer.now.z) k empty.marks);
+      tied = λ link tied. tied-still c.args.store.now c.loop-m.store t.heard.items t.value.items c.loop-m.invariant.news link c.args.peeler.now tied
+          (λ k. empty-bit t.heard.items (cols_of c.args.buffer.now.graph * c.args.buffer.now.z) k (c.loop-m.invariant.none c.if-any.false).marks);
       fewer = c.loop-m.invariant.fewer;
       visited = omega arith;
     }

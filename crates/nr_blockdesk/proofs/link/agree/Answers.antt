@@ -1,57 +1,41 @@
-use Rattle.std.proofs.Common.{◌≡◌, Ok, sym, ap, ◌∙◌}
-use Rattle.nr_graphpick.specs.declared.Graph.{Graph}
-use Rattle.nr_segment.specs.CodeBlock.{numbers}
-use Rattle.nr_segment.specs.Plan.{plan_of}
-use Rattle.nr_shifttable.specs.Accepted.{has_graph}
-use Rattle.nr_blockdesk.proofs.LinkFacts.{said-buffer, said-graph, said-link, said-pick, said-seg, said-size}
+use Rattle.std.proofs.Common.{◌≡◌, Ok, refl}
+use Rattle.nr_blockdesk.specs.Link.{link_of, link_said}
+use Rattle.nr_blockdesk.proofs.link.agree.Goals.{In-Ok-new}
 use Rattle.nr_blockdesk.proofs.link.agree.Goals as goal
 
 pub returns-then-not-is_whole-clause-said : goal.returns-then-not-is_whole-clause-said
-returns-then-not-is_whole-clause-said c =
-    said-size c.args.table.now c.args.settings c.args.a (sym c.is_whole.ensures ∙ c.if-not-is_whole.true)
+unfolding link_said
+returns-then-not-is_whole-clause-said c = rw (← c.is_whole.ensures, c.if-not-is_whole.true) refl
 
 pub returns-in-Err-clause-said : goal.returns-in-Err-clause-said
-returns-in-Err-clause-said c =
-    said-pick c.args.table.now c.args.settings c.args.a c.in-Err.fault (sym c.is_whole.ensures ∙ c.if-not-is_whole.false)
-    (sym c.in-Err.ensures)
+unfolding link_said
+returns-in-Err-clause-said c = rw (← c.is_whole.ensures, c.if-not-is_whole.false, ← c.in-Err.ensures) refl
 
 pub returns-in-Err-plan-clause-said : goal.returns-in-Err-plan-clause-said
+unfolding link_said
 returns-in-Err-plan-clause-said c =
-    said-seg c.args.table.now c.args.settings c.args.a c.in-Ok.graph c.in-Err-plan.fault
-    (sym c.is_whole.ensures ∙ c.if-not-is_whole.false) (sym c.in-Ok.ensures)
-    (ap (plan_of c.in-Ok.graph) (sym c.attached_len.ensures) ∙ c.in-Err-plan.ensures.refused)
+    rw (← c.is_whole.ensures, c.if-not-is_whole.false, ← c.in-Ok.ensures, ← c.attached_len.ensures, c.in-Err-plan.ensures.refused) refl
 
 pub returns-then-not-has-clause-said : goal.returns-then-not-has-clause-said
+unfolding link_said
 returns-then-not-has-clause-said c =
-    said-graph c.args.table.now c.args.settings c.args.a c.in-Ok.graph (numbers c.in-Ok-plan.plan)
-    (sym c.is_whole.ensures ∙ c.if-not-is_whole.false) (sym c.in-Ok.ensures)
-    (ap (plan_of c.in-Ok.graph) (sym c.attached_len.ensures) ∙ c.in-Ok-plan.ensures.planned)
-    (sym c.has.ensures.value ∙ c.if-not-has.true)
+    rw (← c.is_whole.ensures, c.if-not-is_whole.false, ← c.in-Ok.ensures, ← c.attached_len.ensures, c.in-Ok-plan.ensures.planned, ← c.has.ensures.value, c.if-not-has.true) refl
+
+said : (c : In-Ok-new) → link_said c.args.table.now c.args.settings c.args.a ≡ Ok (link_of c.args.table.now c.in-Ok-plan.plan c.args.a c.in-Ok-new.buffer)
+unfolding link_said
+said c =
+    rw (← c.is_whole.ensures, c.if-not-is_whole.false, ← c.in-Ok.ensures, ← c.attached_len.ensures, c.in-Ok-plan.ensures.planned, ← c.has.ensures.value,
+    c.if-not-has.false, ← c.in-Ok-plan.ensures.for_these.0, ← c.in-Ok-new.ensures) refl
 
 pub returns-in-Ok-new-clause-said : goal.returns-in-Ok-new-clause-said
-returns-in-Ok-new-clause-said c =
-    let same : c.in-Ok-plan.plan.graph ≡ c.in-Ok.graph = c.in-Ok-plan.ensures.for_these.0 in
-    said-link c.args.table.now c.args.settings c.args.a c.in-Ok-plan.plan c.in-Ok-new.buffer
-    (sym c.is_whole.ensures ∙ c.if-not-is_whole.false) (sym c.in-Ok.ensures ∙ ap Ok (sym same))
-    (ap (plan_of c.in-Ok-plan.plan.graph) (sym (c.in-Ok-plan.ensures.for_these.1 ∙ c.attached_len.ensures)) ∙ c.in-Ok-plan.plan.planned)
-    (ap (λ (g : Graph). has_graph g c.args.table.now) same ∙ sym c.has.ensures.value ∙ c.if-not-has.false)
-    (sym c.in-Ok-new.ensures)
+returns-in-Ok-new-clause-said c = said (goal.at.returns-in-Ok-new-clause-said c).In-Ok-new
 
 pub returns-in-Ok-new-clause-link : goal.returns-in-Ok-new-clause-link
 returns-in-Ok-new-clause-link c =
-    let same : c.in-Ok-plan.plan.graph ≡ c.in-Ok.graph = c.in-Ok-plan.ensures.for_these.0 in
-    c.links_are_sound.ensures c.args.table.now c.args.settings c.args.a _ c.has.ensures.table
-    (said-link c.args.table.now c.args.settings c.args.a c.in-Ok-plan.plan c.in-Ok-new.buffer
-    (sym c.is_whole.ensures ∙ c.if-not-is_whole.false) (sym c.in-Ok.ensures ∙ ap Ok (sym same))
-    (ap (plan_of c.in-Ok-plan.plan.graph) (sym (c.in-Ok-plan.ensures.for_these.1 ∙ c.attached_len.ensures)) ∙ c.in-Ok-plan.plan.planned)
-    (ap (λ (g : Graph). has_graph g c.args.table.now) same ∙ sym c.has.ensures.value ∙ c.if-not-has.false)
-    (sym c.in-Ok-new.ensures))
+    c.links_are_sound.ensures c.args.table.now c.args.settings c.args.a _ c.has.ensures.table (said (goal.at.returns-in-Ok-new-clause-link c).In-Ok-new)
 
 pub returns-in-Err-new-clause-said : goal.returns-in-Err-new-clause-said
+unfolding link_said
 returns-in-Err-new-clause-said c =
-    let same : c.in-Ok-plan.plan.graph ≡ c.in-Ok.graph = c.in-Ok-plan.ensures.for_these.0 in
-    said-buffer c.args.table.now c.args.settings c.args.a c.in-Ok-plan.plan.graph (numbers c.in-Ok-plan.plan) c.in-Err-new.fault
-    (sym c.is_whole.ensures ∙ c.if-not-is_whole.false) (sym c.in-Ok.ensures ∙ ap Ok (sym same))
-    (ap (plan_of c.in-Ok-plan.plan.graph) (sym (c.in-Ok-plan.ensures.for_these.1 ∙ c.attached_len.ensures)) ∙ c.in-Ok-plan.plan.planned)
-    (ap (λ (g : Graph). has_graph g c.args.table.now) same ∙ sym c.has.ensures.value ∙ c.if-not-has.false)
-    (sym c.in-Err-new.ensures)
+    rw (← c.is_whole.ensures, c.if-not-is_whole.false, ← c.in-Ok.ensures, ← c.attached_len.ensures, c.in-Ok-plan.ensures.planned, ← c.has.ensures.value,
+    c.if-not-has.false, ← c.in-Ok-plan.ensures.for_these.0, ← c.in-Err-new.ensures) refl

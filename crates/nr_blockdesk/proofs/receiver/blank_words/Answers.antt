@@ -2,7 +2,7 @@ use Rattle.std.proofs.Common.{◌≡◌, ◌+◌, [], ◌∷◌, false, length, 
 use Rattle.std.proofs.lemmas.List.{length-replicate}
 use Rattle.nr_segment.specs.Plan.{word_size}
 use Rattle.nr_segment.specs.CodeBlock.{numbers}
-use Rattle.nr_blockdesk.proofs.CandidateFacts.{all-push}
+use Rattle.std.proofs.lemmas.List.Elements.{All-push}
 use Rattle.nr_blockdesk.proofs.receiver.blank_words.Goals as goal
 
 pub loop-preserved : goal.loop-preserved
@@ -15,7 +15,7 @@ loop-preserved c =
       words = record {
         many = ap length c.push_reserved.ensures.items ∙ length-append c.loop.words.items (blank ∷ []) ∙ ap (λ k. k + 1) inv.words.many;
         long = subst (All (λ w. length w ≡ n)) (sym c.push_reserved.ensures.items)
-            (all-push (λ w. length w ≡ n) c.loop.words.items blank inv.words.long (ap length c.in_ok-new.ensures ∙ length-replicate n false));
+            (All-push (λ w. length w ≡ n) c.loop.words.items blank inv.words.long (ap length c.in_ok-new.ensures ∙ length-replicate n false));
       };
       room = omega (arith, inv.room, c.push_reserved.ensures.capacity);
     }

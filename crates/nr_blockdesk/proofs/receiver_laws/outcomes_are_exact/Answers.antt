@@ -1,5 +1,5 @@
-use Rattle.nr_blockdesk.proofs.OutcomeExactFacts.{outcomes-exact}
+use Rattle.nr_blockdesk.proofs.OutcomeExactFacts.{exact-one}
 use Rattle.nr_blockdesk.proofs.receiver_laws.outcomes_are_exact.Goals as goal
 
 pub returns : goal.returns
-returns c = outcomes-exact c.delivered_is_only.ensures c.explained_is_delivered.ensures
+returns c = exact-one c.delivered_is_only.ensures c.explained_is_delivered.ensures

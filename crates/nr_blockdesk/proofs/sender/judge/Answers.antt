@@ -1,14 +1,16 @@
-use Rattle.std.proofs.Common.{arith}
-use Rattle.nr_blockdesk.proofs.SenderFacts.{said-fault, said-lengths, said-rv}
+use Rattle.std.proofs.Common.{refl, arith}
+use Rattle.std.proofs.lemmas.Bool.{le-leb, lt-leb}
+use Rattle.nr_blockdesk.specs.Sent.{tx_said_of}
 use Rattle.nr_blockdesk.proofs.sender.judge.Goals as goal
 
 pub returns-then-tx-gt3-clause-said : goal.returns-then-tx-gt3-clause-said
-returns-then-tx-gt3-clause-said c = said-rv c.args.plan.now.c c.args.tx.now c.if-tx-gt3.true
+unfolding tx_said_of
+returns-then-tx-gt3-clause-said c = rw (lt-leb c.args.tx.now.rv 3 c.if-tx-gt3.true) refl
 
 pub returns-in-Ok-clause-said : goal.returns-in-Ok-clause-said
-returns-in-Ok-clause-said c =
-    said-lengths c.args.plan.now.c c.args.tx.now c.in-Ok.lengths.items (omega arith) c.in-Ok.ensures.said
+unfolding tx_said_of
+returns-in-Ok-clause-said c = rw (le-leb c.args.tx.now.rv 3 (omega arith), c.in-Ok.ensures.said) refl
 
 pub returns-in-Err-clause-said : goal.returns-in-Err-clause-said
-returns-in-Err-clause-said c =
-    said-fault c.args.plan.now.c c.args.tx.now c.in-Err.fault (omega arith) c.in-Err.ensures.said
+unfolding tx_said_of
+returns-in-Err-clause-said c = rw (le-leb c.args.tx.now.rv 3 (omega arith), c.in-Err.ensures.said) refl

@@ -1,28 +1,31 @@
-use Rattle.std.proofs.Common.{◌≡◌, ◌*◌, ◌<◌, ◌≤◌, [], ◌∷◌, ◌++◌, inr, ℕ, Bool, true, Ok, Err, List, length, get_or, drop, take, refl, subst, sym, ap, ◌∙◌, arith}
+use Rattle.std.proofs.Common.{◌≡◌, ◌*◌, ◌<◌, ◌≤◌, [], ◌∷◌, ◌++◌, inr, ℕ, Bool, Err, List, length, drop, take, subst, sym, ap, ◌∙◌, arith}
 use Rattle.std.proofs.lemmas.Result.{err_from_is_err_and}
 use Rattle.std.specs.Prelude.{IsOk, Result, slice_index}
+use Rattle.std.proofs.lemmas.List.{take_at}
 use Rattle.std.specs.Vec.{vec_len}
 use Rattle.nr_graphpick.specs.Graph.{cols_of}
 use Rattle.nr_harqbuf.specs.Record.{HeardBits}
 use Rattle.nr_peel.specs.Peeling.{Peeling}
 use Rattle.nr_ratematch.specs.Selection.{Circular}
+use Rattle.nr_blockdesk.specs.Outcome.{outcome_of}
 use Rattle.nr_blockdesk.specs.Explains.{Reception, hearing_said_of, reception, reception_said_of}
 use Rattle.nr_blockdesk.specs.Marks.{heards, reception_by}
+use Rattle.nr_blockdesk.specs.declared.heard.Heard.{Heard}
 use Rattle.nr_blockdesk.specs.declared.outcome.Outcome.{Outcome}
 use Rattle.nr_transmission.specs.declared.fault.DeskFault.{DeskFault}
-use Rattle.nr_transmission.specs.declared.fault.DeskFault.TheVariants as fault
 use Rattle.nr_transmission.specs.declared.tx.Tx.{Tx}
 use Rattle.nr_blockdesk.proofs.MarkFacts.{length-heards, room-less}
-use Rattle.nr_blockdesk.specs.Heard.{IsRecordOf, heard_of}
-use Rattle.nr_blockdesk.specs.Link.{link_of}
-use Rattle.nr_blockdesk.specs.Receiving.{ReceiverView, RefusesAs, peeling_of}
-use Rattle.nr_blockdesk.specs.ReceivingInside.{AllAgree, IsDesk, IsSized, Stands, is_consistent}
+use Rattle.nr_blockdesk.specs.Heard.{IsRecordOf}
+use Rattle.nr_blockdesk.specs.Link.{Link, link_of}
+use Rattle.nr_blockdesk.specs.Receiving.{ReceiverView, peeling_of, verdict}
+use Rattle.nr_blockdesk.specs.ReceivingInside.{IsDecided}
 use Rattle.nr_blockdesk.specs.Telling.{AreEmpty}
 use Rattle.nr_blockdesk.proofs.CandidateFacts.{outcome-of_record, sized-of}
-use Rattle.nr_blockdesk.proofs.KeptCandidateFacts.{stands-after, part_masks-of, written}
+use Rattle.nr_blockdesk.proofs.KeptCandidateFacts.{stands-after, part_masks-of}
 use Rattle.nr_blockdesk.proofs.LinkFacts.{no-memory}
 use Rattle.nr_blockdesk.proofs.ReceptionFacts.{AreHeard, all-taken, desk-taken, none-of, parts-are, reception-never_memory}
 use Rattle.nr_blockdesk.proofs.receiver.Receiver.take_marks.Goals as goal
+use Rattle.nr_blockdesk.proofs.receiver.Receiver.take_marks.Goals.{After-hear-agreed, In_err-lengths, In_ok-lengths}
 
 -- what was said of the lists, of the reception
 said-by : (c : ℕ) (tx : Tx) (marks bits : List Bool) (n : ℕ) (said : Result (List ℕ) DeskFault) → n ≡ length marks
@@ -30,270 +33,150 @@ said-by : (c : ℕ) (tx : Tx) (marks bits : List Bool) (n : ℕ) (said : Result 
 said-by c tx marks bits n said long is =
     ap (hearing_said_of c tx) (length-heards marks bits 0 (length marks) ∙ sym long) ∙ is
 
+refused : (c : In_err-lengths) → reception_said_of c.self.inside.plan.c (reception_by c.args.tx.now c.args.heard.now.items c.args.value.now.items)
+    ≡ Err c.in_err-lengths.field-0.0
+refused c = said-by c.self.inside.plan.c c.args.tx.now c.args.heard.now.items c.args.value.now.items c.len.result _ c.len.ensures.value c.in_err-lengths.ensures.said
+
+accepted : (c : In_ok-lengths) → IsOk (reception_said_of c.self.inside.plan.c (reception_by c.args.tx.now c.args.heard.now.items c.args.value.now.items))
+accepted c = rw (said-by c.self.inside.plan.c c.args.tx.now c.args.heard.now.items c.args.value.now.items c.len.result _ c.len.ensures.value c.in_ok-lengths.ensures.said)
+
 pub returns-in_err-lengths-clause-refused : goal.returns-in_err-lengths-clause-refused
 returns-in_err-lengths-clause-refused c =
     let p = err_from_is_err_and c.from_residual.result c.from_residual.ensures.1 in
-    let plan = c.self.inside.plan in
-    let H = c.args.heard.now.items in
-    let V = c.args.value.now.items in
-    let said : reception_said_of plan.c (reception_by c.args.tx.now H V) ≡ Err c.in_err-lengths.field-0.0 =
-    said-by plan.c c.args.tx.now H V c.len.result (Err c.in_err-lengths.field-0.0) c.len.ensures.value c.in_err-lengths.ensures.said in
-    let is : c.from_residual.result ≡ Err c.in_err-lengths.field-0.0 = p.1 ∙ ap Err p.2 in
-    rw (← c.self.view_is)
-    (subst (λ (r : Result Outcome DeskFault). RefusesAs fault.Memory r (reception_said_of plan.c (reception_by c.args.tx.now H V))) (sym is) (inr said))
+    rw (← c.self.view_is, p.1, p.2) (inr (refused (goal.at.returns-in_err-lengths-clause-refused c).In_err-lengths))
 
 pub returns-in_err-lengths-clause-judged : goal.returns-in_err-lengths-clause-judged
 returns-in_err-lengths-clause-judged c =
     let p = err_from_is_err_and c.from_residual.result c.from_residual.ensures.1 in
-    let plan = c.self.inside.plan in
-    let H = c.args.heard.now.items in
-    let V = c.args.value.now.items in
-    let x = reception_by c.args.tx.now c.args.heard.now.items c.args.value.now.items in
     rw (← c.self.view_is)
-    (no-memory (reception_said_of c.self.inside.plan.c x) c.from_residual.result c.in_err-lengths.field-0.0 (p.1 ∙ ap Err p.2)
-    (said-by plan.c c.args.tx.now H V c.len.result (Err c.in_err-lengths.field-0.0) c.len.ensures.value c.in_err-lengths.ensures.said)
-    (reception-never_memory c.self.inside.plan.c x))
-
--- it was accepted
-accepted-by : (c : ℕ) (tx : Tx) (marks bits : List Bool) (n : ℕ) (lengths : List ℕ) → n ≡ length marks
-    → hearing_said_of c tx n ≡ Ok lengths → IsOk (reception_said_of c (reception_by tx marks bits))
-accepted-by c tx marks bits n lengths long is =
-    subst (λ (said : Result (List ℕ) DeskFault). IsOk said) (sym (said-by c tx marks bits n (Ok lengths) long is)) refl
+    (no-memory _ c.from_residual.result _ (p.1 ∙ ap Err p.2) (refused (goal.at.returns-in_err-lengths-clause-judged c).In_err-lengths)
+    (reception-never_memory c.self.inside.plan.c (reception_by c.args.tx.now c.args.heard.now.items c.args.value.now.items)))
 
 pub returns-in_err-list-clause-judged : goal.returns-in_err-list-clause-judged
-returns-in_err-list-clause-judged c = λ memory.
-    rw (← c.self.view_is)
-    (accepted-by c.self.inside.plan.c c.args.tx.now c.args.heard.now.items c.args.value.now.items c.len.result c.in_ok-lengths.lengths.items c.len.ensures.value c.in_ok-lengths.ensures.said)
+returns-in_err-list-clause-judged c = λ memory. rw (← c.self.view_is) (accepted (goal.at.returns-in_err-list-clause-judged c).In_ok-lengths)
 
 pub returns-in_err-selected-clause-judged : goal.returns-in_err-selected-clause-judged
-returns-in_err-selected-clause-judged c = λ memory.
-    rw (← c.self.view_is)
-    (accepted-by c.self.inside.plan.c c.args.tx.now c.args.heard.now.items c.args.value.now.items c.len.result c.in_ok-lengths.lengths.items c.len.ensures.value c.in_ok-lengths.ensures.said)
+returns-in_err-selected-clause-judged c = λ memory. rw (← c.self.view_is) (accepted (goal.at.returns-in_err-selected-clause-judged c).In_ok-lengths)
 
 pub returns-clause-refused : goal.returns-clause-refused
-returns-clause-refused c =
-    rw (← c.self.view_is)
-    (accepted-by c.self.inside.plan.c c.args.tx.now c.args.heard.now.items c.args.value.now.items c.len.result c.in_ok-lengths.lengths.items c.len.ensures.value c.in_ok-lengths.ensures.said)
+returns-clause-refused c = rw (← c.self.view_is) (accepted (goal.at.returns-clause-refused c).In_ok-lengths)
 
 pub returns-clause-judged : goal.returns-clause-judged
-returns-clause-judged c = λ memory.
-    rw (← c.self.view_is)
-    (accepted-by c.self.inside.plan.c c.args.tx.now c.args.heard.now.items c.args.value.now.items c.len.result c.in_ok-lengths.lengths.items c.len.ensures.value c.in_ok-lengths.ensures.said)
+returns-clause-judged c = λ memory. rw (← c.self.view_is) (accepted (goal.at.returns-clause-judged c).In_ok-lengths)
 
 pub returns-clause-err : goal.returns-clause-err
 returns-clause-err c = tt
 
 pub hear-agreed-requires-clause-room : goal.hear-agreed-requires-clause-room
 hear-agreed-requires-clause-room c = λ r inside.
-    let lengths = c.in_ok-lengths.lengths.items in
-    let below : r < length c.deref.result.now = subst (λ (l : List ℕ). r < length l) (c.deref-2.ensures.0 ∙ sym c.deref.ensures.0) inside in
-    let few : slice_index c.deref-2.result.now r ≤ c.longest.result =
-    subst (λ (l : List ℕ). slice_index l r ≤ c.longest.result) (c.deref.ensures.0 ∙ sym c.deref-2.ensures.0) (c.longest.ensures.all r below) in
+    let below : r < length c.deref.result.now = rw (c.deref.ensures.0, ← c.deref-2.ensures.0) inside in
+    let few : slice_index c.deref-2.result.now r ≤ c.longest.result = rw (c.deref-2.ensures.0, ← c.deref.ensures.0) (c.longest.ensures.all r below) in
     room-less c.longest.result (slice_index c.deref-2.result.now r) c.in_ok-selected.selected few c.in_ok-selected.ensures
 
 pub hear-agreed-requires-clause-sized : goal.hear-agreed-requires-clause-sized
 hear-agreed-requires-clause-sized c = λ r d inside.
     let s = c.self.inside in
     let inv = c.self.invariant in
-    let link = link_of s.table.now s.plan s.a s.buffer in
-    let stores = c.deref_mut.ensures.value in
-    let size = cols_of s.buffer.graph * s.buffer.z in
-    subst (λ (l : List HeardBits). IsSized size (heard_of l r) (get_or c.deref_mut-2.result.now r d)) (sym stores)
-    (subst (λ (l : List Peeling). IsSized size (heard_of s.stores.items r) (get_or l r d)) (sym c.deref_mut-2.ensures.value)
-    (sized-of link s.stores.items s.peelers.items inv.is_link inv.desk r d (subst (λ (l : List HeardBits). r < length l) stores inside)))
+    rw (c.deref_mut.ensures.value, c.deref_mut-2.ensures.value)
+    (sized-of (link_of s.table.now s.plan s.a s.buffer) s.stores.items s.peelers.items inv.is_link inv.desk r d (rw c.deref_mut.ensures.value at inside))
+
+-- once all code blocks have received their parts
+module _ (c : After-hear-agreed) where
+  abbrev link : Link
+  link = link_of c.self.inside.table.now c.self.inside.plan c.self.inside.a c.self.inside.buffer
+
+  abbrev places : List Heard
+  places = heards c.args.heard.now.items c.args.value.now.items
+
+  abbrev S : List HeardBits
+  S = c.self.inside.stores.items
+
+  abbrev P : List Peeling
+  P = c.self.inside.peelers.items
+
+  abbrev S' : List HeardBits
+  S' = c.hear-agreed.new.stores
+
+  abbrev P' : List Peeling
+  P' = c.hear-agreed.new.peelers
+
+  are : AreHeard link c.args.tx.now c.in_ok-lengths.lengths.items places S P S' P'
+  are =
+      parts-are link c.args.tx.now c.in_ok-lengths.lengths.items c.deref-2.result.now places S c.deref_mut.result.now S' P c.deref_mut-2.result.now P'
+      c.deref-2.ensures.0 c.deref_mut.ensures.value c.deref_mut-2.ensures.value c.self.invariant.desk.stores c.hear-agreed.ensures.parts
+
+  many : length S' ≡ length S
+  many = c.hear-agreed.ensures.stores ∙ ap length c.deref_mut.ensures.value
+
+  peeled : length P' ≡ length P
+  peeled = c.hear-agreed.ensures.peelers ∙ ap length c.deref_mut-2.ensures.value
+
+  kept : take (vec_len c.self.inside.stores) (S' ++ drop (length S') S) ≡ S'
+  kept = take_at S' (drop (length S') S) (vec_len c.self.inside.stores) (omega (arith, many))
+
+  kept-too : take (vec_len c.self.inside.peelers) (P' ++ drop (length P') P) ≡ P'
+  kept-too = take_at P' (drop (length P') P) (vec_len c.self.inside.peelers) (omega (arith, peeled))
+
+  recorded : (list : List Reception) → IsRecordOf link list S → IsRecordOf link (list ++ reception c.args.tx.now places ∷ []) S'
+  recorded list of =
+      let long : c.len.result ≡ length places = c.len.ensures.value ∙ sym (length-heards c.args.heard.now.items c.args.value.now.items 0 (length c.args.heard.now.items)) in
+      all-taken c.parts_are_at.ensures c.places_have_one_owner.ensures c.accepted_are_matched.ensures link c.args.tx.now c.in_ok-lengths.lengths.items places S S' P P'
+      c.self.invariant.is_link c.self.invariant.desk (rw (← long) c.in_ok-lengths.ensures.said) (sym long ∙ c.in_ok-lengths.ensures.whole) many are list of
+
+  outcome : (answer : Outcome) → IsDecided link (take (vec_len c.self.inside.stores) (S' ++ drop (length S') S)) answer
+      → (list : List Reception) → IsRecordOf link list S → verdict answer ≡ outcome_of link (list ++ reception c.args.tx.now places ∷ [])
+  outcome answer decided list of =
+      outcome-of_record c.explains_by_record.ensures c.explained_is_delivered.ensures c.delivered_is_only.ensures link (list ++ reception c.args.tx.now places ∷ [])
+      S' answer c.self.invariant.is_link (recorded list of) (rw kept at decided)
 
 pub invariant_of-self : goal.invariant_of-self
 invariant_of-self c =
     let s = c.self.inside in
     let inv = c.self.invariant in
-    let link = link_of s.table.now s.plan s.a s.buffer in
-    let tx = c.args.tx.now in
-    let places = heards c.args.heard.now.items c.args.value.now.items in
-    let es = c.in_ok-lengths.lengths.items in
-    let S : List HeardBits = s.stores.items in
-    let P : List Peeling = s.peelers.items in
-    let S' : List HeardBits = c.hear-agreed.new.stores in
-    let P' : List Peeling = c.hear-agreed.new.peelers in
-    let are : AreHeard link tx es places S P S' P' =
-    parts-are link tx es c.deref-2.result.now places S c.deref_mut.result.now S' P c.deref_mut-2.result.now P'
-    c.deref-2.ensures.0 c.deref_mut.ensures.value c.deref_mut-2.ensures.value inv.desk.stores c.hear-agreed.ensures.parts in
-    let many : length S' ≡ length S = c.hear-agreed.ensures.stores ∙ ap length c.deref_mut.ensures.value in
-    let peeled : length P' ≡ length P = c.hear-agreed.ensures.peelers ∙ ap length c.deref_mut-2.ensures.value in
-    let stores-whole : length S' ≡ vec_len s.stores = omega (arith, many) in
-    let peelers-whole : length P' ≡ vec_len s.peelers = omega (arith, peeled) in
-    let kept : take (vec_len s.stores) (S' ++ drop (length S') S) ≡ S' = written (vec_len s.stores) S' (drop (length S') S) stores-whole in
-    let part_masks : is_consistent s.candidate_state ≡ true → AllAgree c.hear-agreed.result s.plan.c s.words.items S S' =
-    λ asked. part_masks-of c.hear-agreed.result s.plan.c s.words.items c.deref-3.result.now S c.deref_mut.result.now S' c.deref-3.ensures.value c.deref_mut.ensures.value
-    inv.desk.stores (c.hear-agreed.ensures.agreed (c.is_consistent.ensures ∙ asked)) in
-    let kept-too : take (vec_len s.peelers) (P' ++ drop (length P') P) ≡ P' = written (vec_len s.peelers) P' (drop (length P') P) peelers-whole in
+    let h = (goal.at.invariant_of-self c).After-hear-agreed in
     record {
       is_link = inv.is_link;
       whole = inv.whole;
-      desk = subst (λ (l : List HeardBits). IsDesk link l (take (vec_len s.peelers) (P' ++ drop (length P') P))) (sym kept)
-          (subst (λ (l : List Peeling). IsDesk link S' l) (sym kept-too)
-          (desk-taken link tx es places S S' P P' inv.desk (many ∙ inv.desk.stores) (peeled ∙ inv.desk.peelings) are));
+      desk = rw (kept h, kept-too h) (desk-taken (link h) c.args.tx.now c.in_ok-lengths.lengths.items (places h) (S h) (S' h) (P h) (P' h) inv.desk
+          (many h ∙ inv.desk.stores) (peeled h ∙ inv.desk.peelings) (are h));
       room = inv.room;
       sized = inv.sized;
-      stands = subst (λ (l : List HeardBits). Stands link l s.block.items s.words.items c.after-self-inside.result) (sym kept)
-          (subst (Stands link S' s.block.items s.words.items) (sym c.after-self-inside.ensures)
-          (stands-after link S S' (λ r w block. (are r (none-of link) block).fewer w) s.block.items s.words.items c.hear-agreed.result s.candidate_state
-          part_masks inv.stands));
+      stands = rw (kept h, c.after-self-inside.ensures)
+          (stands-after (link h) (S h) (S' h) (λ r w block. (are h r (none-of (link h)) block).fewer w) s.block.items s.words.items c.hear-agreed.result s.candidate_state
+          (λ asked. part_masks-of c.hear-agreed.result s.plan.c s.words.items c.deref-3.result.now (S h) c.deref_mut.result.now (S' h) c.deref-3.ensures.value c.deref_mut.ensures.value
+          inv.desk.stores (c.hear-agreed.ensures.agreed (c.is_consistent.ensures ∙ asked))) inv.stands);
       empty = subst (λ n. AreEmpty n c.hear-agreed.new.part_masks) (ap (λ (b : Circular). cols_of b.graph * b.z) inv.is_link.buffered)
           c.hear-agreed.ensures.empty;
     }
 
 pub returns-clause-heard : goal.returns-clause-heard
 returns-clause-heard c =
-    let s = c.self.inside in
-    let inv = c.self.invariant in
-    let link = link_of s.table.now s.plan s.a s.buffer in
-    let tx = c.args.tx.now in
-    let places = heards c.args.heard.now.items c.args.value.now.items in
-    let es = c.in_ok-lengths.lengths.items in
-    let S : List HeardBits = s.stores.items in
-    let P : List Peeling = s.peelers.items in
-    let S' : List HeardBits = c.hear-agreed.new.stores in
-    let P' : List Peeling = c.hear-agreed.new.peelers in
-    let are : AreHeard link tx es places S P S' P' =
-    parts-are link tx es c.deref-2.result.now places S c.deref_mut.result.now S' P c.deref_mut-2.result.now P'
-    c.deref-2.ensures.0 c.deref_mut.ensures.value c.deref_mut-2.ensures.value inv.desk.stores c.hear-agreed.ensures.parts in
-    let many : length S' ≡ length S = c.hear-agreed.ensures.stores ∙ ap length c.deref_mut.ensures.value in
-    let peeled : length P' ≡ length P = c.hear-agreed.ensures.peelers ∙ ap length c.deref_mut-2.ensures.value in
-    let stores-whole : length S' ≡ vec_len s.stores = omega (arith, many) in
-    let peelers-whole : length P' ≡ vec_len s.peelers = omega (arith, peeled) in
-    let kept : take (vec_len s.stores) (S' ++ drop (length S') S) ≡ S' = written (vec_len s.stores) S' (drop (length S') S) stores-whole in
-    let x = reception tx places in
-    let long : c.len.result ≡ length places = c.len.ensures.value ∙ sym (length-heards c.args.heard.now.items c.args.value.now.items 0 (length c.args.heard.now.items)) in
-    let said : hearing_said_of link.plan.c tx (length places) ≡ Ok es = subst (λ n. hearing_said_of link.plan.c tx n ≡ Ok es) long c.in_ok-lengths.ensures.said in
-    let whole : length places ≡ tx.g = sym long ∙ c.in_ok-lengths.ensures.whole in
-    let part_masks = λ (list : List Reception) (of : IsRecordOf link list S).
-    all-taken c.parts_are_at.ensures c.places_have_one_owner.ensures c.accepted_are_matched.ensures link tx es places S S' P P'
-    inv.is_link inv.desk said whole many are list of in
+    let h = (goal.at.returns-clause-heard c).After-hear-agreed in
     rw (← c.self.view_is)
-    (λ list of. subst (λ (l : List HeardBits). IsRecordOf link (list ++ x ∷ []) l)
-    (sym (ap (λ (v : ReceiverView). v.heard) c.answer.ensures.same ∙ kept)) (part_masks list of))
+    (λ list of. subst (λ (l : List HeardBits). IsRecordOf (link h) (list ++ reception c.args.tx.now (places h) ∷ []) l)
+    (sym (ap (λ (v : ReceiverView). v.heard) c.answer.ensures.same ∙ kept h)) (recorded h list of))
 
 pub returns-clause-outcome : goal.returns-clause-outcome
 returns-clause-outcome c =
-    let s = c.self.inside in
-    let inv = c.self.invariant in
-    let link = link_of s.table.now s.plan s.a s.buffer in
-    let tx = c.args.tx.now in
-    let places = heards c.args.heard.now.items c.args.value.now.items in
-    let es = c.in_ok-lengths.lengths.items in
-    let S : List HeardBits = s.stores.items in
-    let P : List Peeling = s.peelers.items in
-    let S' : List HeardBits = c.hear-agreed.new.stores in
-    let P' : List Peeling = c.hear-agreed.new.peelers in
-    let are : AreHeard link tx es places S P S' P' =
-    parts-are link tx es c.deref-2.result.now places S c.deref_mut.result.now S' P c.deref_mut-2.result.now P'
-    c.deref-2.ensures.0 c.deref_mut.ensures.value c.deref_mut-2.ensures.value inv.desk.stores c.hear-agreed.ensures.parts in
-    let many : length S' ≡ length S = c.hear-agreed.ensures.stores ∙ ap length c.deref_mut.ensures.value in
-    let peeled : length P' ≡ length P = c.hear-agreed.ensures.peelers ∙ ap length c.deref_mut-2.ensures.value in
-    let stores-whole : length S' ≡ vec_len s.stores = omega (arith, many) in
-    let peelers-whole : length P' ≡ vec_len s.peelers = omega (arith, peeled) in
-    let kept : take (vec_len s.stores) (S' ++ drop (length S') S) ≡ S' = written (vec_len s.stores) S' (drop (length S') S) stores-whole in
-    let x = reception tx places in
-    let long : c.len.result ≡ length places = c.len.ensures.value ∙ sym (length-heards c.args.heard.now.items c.args.value.now.items 0 (length c.args.heard.now.items)) in
-    let said : hearing_said_of link.plan.c tx (length places) ≡ Ok es = subst (λ n. hearing_said_of link.plan.c tx n ≡ Ok es) long c.in_ok-lengths.ensures.said in
-    let whole : length places ≡ tx.g = sym long ∙ c.in_ok-lengths.ensures.whole in
-    let part_masks = λ (list : List Reception) (of : IsRecordOf link list S).
-    all-taken c.parts_are_at.ensures c.places_have_one_owner.ensures c.accepted_are_matched.ensures link tx es places S S' P P'
-    inv.is_link inv.desk said whole many are list of in
-    let outcome = λ (list : List Reception) (of : IsRecordOf link list S).
-    outcome-of_record c.explains_by_record.ensures c.explained_is_delivered.ensures c.delivered_is_only.ensures link (list ++ x ∷ [])
-    (take (vec_len s.stores) (S' ++ drop (length S') S)) c.answer.result inv.is_link
-    (subst (λ (l : List HeardBits). IsRecordOf link (list ++ x ∷ []) l) (sym kept) (part_masks list of)) c.answer.ensures.decided in
-    rw (← c.self.view_is) (λ list of. outcome list of)
+    rw (← c.self.view_is) (outcome (goal.at.returns-clause-outcome c).After-hear-agreed c.answer.result c.answer.ensures.decided)
 
 pub returns-clause-only_one : goal.returns-clause-only_one
 returns-clause-only_one c =
-    let s = c.self.inside in
-    let inv = c.self.invariant in
-    let link = link_of s.table.now s.plan s.a s.buffer in
-    let tx = c.args.tx.now in
-    let places = heards c.args.heard.now.items c.args.value.now.items in
-    let es = c.in_ok-lengths.lengths.items in
-    let S : List HeardBits = s.stores.items in
-    let P : List Peeling = s.peelers.items in
-    let S' : List HeardBits = c.hear-agreed.new.stores in
-    let P' : List Peeling = c.hear-agreed.new.peelers in
-    let are : AreHeard link tx es places S P S' P' =
-    parts-are link tx es c.deref-2.result.now places S c.deref_mut.result.now S' P c.deref_mut-2.result.now P'
-    c.deref-2.ensures.0 c.deref_mut.ensures.value c.deref_mut-2.ensures.value inv.desk.stores c.hear-agreed.ensures.parts in
-    let many : length S' ≡ length S = c.hear-agreed.ensures.stores ∙ ap length c.deref_mut.ensures.value in
-    let peeled : length P' ≡ length P = c.hear-agreed.ensures.peelers ∙ ap length c.deref_mut-2.ensures.value in
-    let stores-whole : length S' ≡ vec_len s.stores = omega (arith, many) in
-    let peelers-whole : length P' ≡ vec_len s.peelers = omega (arith, peeled) in
-    let kept : take (vec_len s.stores) (S' ++ drop (length S') S) ≡ S' = written (vec_len s.stores) S' (drop (length S') S) stores-whole in
-    let x = reception tx places in
-    let long : c.len.result ≡ length places = c.len.ensures.value ∙ sym (length-heards c.args.heard.now.items c.args.value.now.items 0 (length c.args.heard.now.items)) in
-    let said : hearing_said_of link.plan.c tx (length places) ≡ Ok es = subst (λ n. hearing_said_of link.plan.c tx n ≡ Ok es) long c.in_ok-lengths.ensures.said in
-    let whole : length places ≡ tx.g = sym long ∙ c.in_ok-lengths.ensures.whole in
-    let part_masks = λ (list : List Reception) (of : IsRecordOf link list S).
-    all-taken c.parts_are_at.ensures c.places_have_one_owner.ensures c.accepted_are_matched.ensures link tx es places S S' P P'
-    inv.is_link inv.desk said whole many are list of in
-    let outcome = λ (list : List Reception) (of : IsRecordOf link list S).
-    outcome-of_record c.explains_by_record.ensures c.explained_is_delivered.ensures c.delivered_is_only.ensures link (list ++ x ∷ [])
-    (take (vec_len s.stores) (S' ++ drop (length S') S)) c.answer.result inv.is_link
-    (subst (λ (l : List HeardBits). IsRecordOf link (list ++ x ∷ []) l) (sym kept) (part_masks list of)) c.answer.ensures.decided in
+    let h = (goal.at.returns-clause-only_one c).After-hear-agreed in
     rw (← c.self.view_is)
-    (λ list y z of e whole explained.
-    (c.delivered_is_only.ensures link (list ++ x ∷ []) y inv.is_link (part_masks list of).accepted (sym (outcome list of) ∙ e)).only z whole explained)
+    (λ list y z of e whole explained. (c.delivered_is_only.ensures (link h) (list ++ reception c.args.tx.now (places h) ∷ []) y c.self.invariant.is_link (recorded h list of).accepted
+    (sym (outcome h c.answer.result c.answer.ensures.decided list of) ∙ e)).only z whole explained)
 
 pub returns-clause-no_contradiction : goal.returns-clause-no_contradiction
 returns-clause-no_contradiction c =
-    let s = c.self.inside in
-    let inv = c.self.invariant in
-    let link = link_of s.table.now s.plan s.a s.buffer in
-    let tx = c.args.tx.now in
-    let places = heards c.args.heard.now.items c.args.value.now.items in
-    let es = c.in_ok-lengths.lengths.items in
-    let S : List HeardBits = s.stores.items in
-    let P : List Peeling = s.peelers.items in
-    let S' : List HeardBits = c.hear-agreed.new.stores in
-    let P' : List Peeling = c.hear-agreed.new.peelers in
-    let are : AreHeard link tx es places S P S' P' =
-    parts-are link tx es c.deref-2.result.now places S c.deref_mut.result.now S' P c.deref_mut-2.result.now P'
-    c.deref-2.ensures.0 c.deref_mut.ensures.value c.deref_mut-2.ensures.value inv.desk.stores c.hear-agreed.ensures.parts in
-    let many : length S' ≡ length S = c.hear-agreed.ensures.stores ∙ ap length c.deref_mut.ensures.value in
-    let peeled : length P' ≡ length P = c.hear-agreed.ensures.peelers ∙ ap length c.deref_mut-2.ensures.value in
-    let stores-whole : length S' ≡ vec_len s.stores = omega (arith, many) in
-    let peelers-whole : length P' ≡ vec_len s.peelers = omega (arith, peeled) in
-    let kept : take (vec_len s.stores) (S' ++ drop (length S') S) ≡ S' = written (vec_len s.stores) S' (drop (length S') S) stores-whole in
-    let x = reception tx places in
-    let long : c.len.result ≡ length places = c.len.ensures.value ∙ sym (length-heards c.args.heard.now.items c.args.value.now.items 0 (length c.args.heard.now.items)) in
-    let said : hearing_said_of link.plan.c tx (length places) ≡ Ok es = subst (λ n. hearing_said_of link.plan.c tx n ≡ Ok es) long c.in_ok-lengths.ensures.said in
-    let whole : length places ≡ tx.g = sym long ∙ c.in_ok-lengths.ensures.whole in
-    let part_masks = λ (list : List Reception) (of : IsRecordOf link list S).
-    all-taken c.parts_are_at.ensures c.places_have_one_owner.ensures c.accepted_are_matched.ensures link tx es places S S' P P'
-    inv.is_link inv.desk said whole many are list of in
-    let outcome = λ (list : List Reception) (of : IsRecordOf link list S).
-    outcome-of_record c.explains_by_record.ensures c.explained_is_delivered.ensures c.delivered_is_only.ensures link (list ++ x ∷ [])
-    (take (vec_len s.stores) (S' ++ drop (length S') S)) c.answer.result inv.is_link
-    (subst (λ (l : List HeardBits). IsRecordOf link (list ++ x ∷ []) l) (sym kept) (part_masks list of)) c.answer.ensures.decided in
+    let h = (goal.at.returns-clause-no_contradiction c).After-hear-agreed in
     rw (← c.self.view_is)
-    (λ list y of whole explained e.
-    c.explained_never_contradicts.ensures link (list ++ x ∷ []) y whole explained (sym (outcome list of) ∙ e))
+    (λ list y of whole explained e. c.explained_never_contradicts.ensures (link h) (list ++ reception c.args.tx.now (places h) ∷ []) y whole explained
+    (sym (outcome h c.answer.result c.answer.ensures.decided list of) ∙ e))
 
 pub returns-clause-visits : goal.returns-clause-visits
 returns-clause-visits c =
-    let s = c.self.inside in
-    let inv = c.self.invariant in
-    let link = link_of s.table.now s.plan s.a s.buffer in
-    let tx = c.args.tx.now in
-    let places = heards c.args.heard.now.items c.args.value.now.items in
-    let es = c.in_ok-lengths.lengths.items in
-    let S : List HeardBits = s.stores.items in
-    let P : List Peeling = s.peelers.items in
-    let S' : List HeardBits = c.hear-agreed.new.stores in
-    let P' : List Peeling = c.hear-agreed.new.peelers in
-    let are : AreHeard link tx es places S P S' P' =
-    parts-are link tx es c.deref-2.result.now places S c.deref_mut.result.now S' P c.deref_mut-2.result.now P'
-    c.deref-2.ensures.0 c.deref_mut.ensures.value c.deref_mut-2.ensures.value inv.desk.stores c.hear-agreed.ensures.parts in
-    let peeled : length P' ≡ length P = c.hear-agreed.ensures.peelers ∙ ap length c.deref_mut-2.ensures.value in
-    let peelers-whole : length P' ≡ vec_len s.peelers = omega (arith, peeled) in
-    let kept-too : take (vec_len s.peelers) (P' ++ drop (length P') P) ≡ P' = written (vec_len s.peelers) P' (drop (length P') P) peelers-whole in
+    let h = (goal.at.returns-clause-visits c).After-hear-agreed in
     rw (← c.self.view_is)
-    (λ r block. subst (λ (l : List Peeling). (peeling_of link P r).touches ≤ (peeling_of link l r).touches)
-    (sym (ap (λ (v : ReceiverView). v.peelings) c.answer.ensures.same ∙ kept-too)) (are r (none-of link) block).visited)
+    (λ r block. subst (λ (l : List Peeling). (peeling_of (link h) (P h) r).touches ≤ (peeling_of (link h) l r).touches)
+    (sym (ap (λ (v : ReceiverView). v.peelings) c.answer.ensures.same ∙ kept-too h)) (are h r (none-of (link h)) block).visited)

@@ -1,7 +1,5 @@
-use Rattle.std.proofs.Common.{◌≡◌, ◌*◌, Ok, Err, length, All, subst, refl, sym, ap, ◌∙◌}
+use Rattle.std.proofs.Common.{◌≡◌, Ok, Err, length, refl, sym, ap, ◌∙◌}
 use Rattle.std.proofs.lemmas.Result.{err_from_is_err_and}
-use Rattle.nr_graphpick.specs.Graph.{cols_of}
-use Rattle.nr_ratematch.specs.Lengths.{IsShared}
 use Rattle.nr_blockdesk.specs.Link.{link_of}
 use Rattle.nr_blockdesk.specs.Sent.{tx_said, tx_said_of}
 use Rattle.nr_blockdesk.proofs.LinkFacts.{no-memory}
@@ -17,19 +15,14 @@ returns-in_err-lengths-clause-judged c =
 pub send_words-requires-clause-long : goal.send_words-requires-clause-long
 send_words-requires-clause-long c =
     let s = c.self.inside in
-    let link = link_of s.table.now s.plan (length s.block.items) s.buffer in
-    subst (All (λ w. length w ≡ cols_of link.buffer.graph * link.buffer.z))
-    (sym (c.deref.ensures.value ∙ c.self.invariant.encoded))
-    (words-long c.words_are_plain.ensures link s.block.items c.self.invariant.is_link refl)
+    rw (c.deref.ensures.value, c.self.invariant.encoded)
+    (words-long c.words_are_plain.ensures (link_of s.table.now s.plan (length s.block.items) s.buffer) s.block.items c.self.invariant.is_link refl)
 
 pub send_words-requires-clause-shared : goal.send_words-requires-clause-shared
 send_words-requires-clause-shared c =
     let s = c.self.inside in
-    let link = link_of s.table.now s.plan (length s.block.items) s.buffer in
-    let count : length c.deref.result.now ≡ s.plan.c =
-    ap length (c.deref.ensures.value ∙ c.self.invariant.encoded) ∙ length-words link s.block.items in
-    subst (λ n. IsShared n c.args.tx.now.g c.args.tx.now.qm c.deref-2.result.now) (sym count)
-    (subst (IsShared s.plan.c c.args.tx.now.g c.args.tx.now.qm) (sym c.deref-2.ensures.0) c.in_ok-lengths.ensures.shared)
+    rw (c.deref-2.ensures.0, c.deref.ensures.value, c.self.invariant.encoded, length-words (link_of s.table.now s.plan (length s.block.items) s.buffer) s.block.items)
+    c.in_ok-lengths.ensures.shared
 
 pub returns-in-Ok-clause-said : goal.returns-in-Ok-clause-said
 returns-in-Ok-clause-said c =

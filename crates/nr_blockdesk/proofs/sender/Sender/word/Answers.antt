@@ -4,41 +4,36 @@ use Rattle.nr_ldpcenc.specs.Codeword.{IsCodeword}
 use Rattle.nr_blockdesk.specs.Link.{code_bits_of, link_of, word}
 use Rattle.nr_blockdesk.specs.Sent.{SenderView}
 use Rattle.nr_blockdesk.proofs.SenderFacts.{length-words, word-at}
+use Rattle.nr_blockdesk.proofs.sender.Sender.word.Goals.{After-index}
 use Rattle.nr_blockdesk.proofs.sender.Sender.word.Goals as goal
 
 pub index-requires : goal.index-requires
 index-requires c =
     let s = c.self.inside in
-    let link = link_of s.table.now s.plan (length s.block.items) s.buffer in
-    let count = ap (λ (v : SenderView). v.link.plan.c) c.self.view_is in
-    let many = ap length c.self.invariant.encoded ∙ length-words link s.block.items in
-    omega (arith, count, many, c.requires)
+    let many = ap length c.self.invariant.encoded ∙ length-words (link_of s.table.now s.plan (length s.block.items) s.buffer) s.block.items in
+    omega (arith, ap (λ (v : SenderView). v.link.plan.c) c.self.view_is, many, c.requires)
 
-pub returns-clause-value : goal.returns-clause-value
-returns-clause-value c =
+inside : (c : After-index) → c.args.r < c.self.inside.plan.c
+inside c = omega (arith, ap (λ (v : SenderView). v.link.plan.c) c.self.view_is, c.requires)
+
+value : (c : After-index) → c.index.result.now
+    ≡ word (link_of c.self.inside.table.now c.self.inside.plan (length c.self.inside.block.items) c.self.inside.buffer) c.self.inside.block.items c.args.r
+value c =
     let s = c.self.inside in
     let link = link_of s.table.now s.plan (length s.block.items) s.buffer in
-    let count : s.plan.c ≡ c.args.self.now.link.plan.c = ap (λ (v : SenderView). v.link.plan.c) c.self.view_is in
-    let here : c.args.r < s.plan.c = omega (arith, count, c.requires) in
     let many : length s.words.items ≡ s.plan.c = ap length c.self.invariant.encoded ∙ length-words link s.block.items in
-    rw (← c.self.view_is)
-    (c.index.ensures
-    ∙ get_or_default s.words.items c.args.r c.index.result.now [] (omega (arith, many, here))
+    c.index.ensures
+    ∙ get_or_default s.words.items c.args.r c.index.result.now [] (omega (arith, many, inside c))
     ∙ ap (λ ws. slice_index_or ws c.args.r []) c.self.invariant.encoded
-    ∙ word-at link s.block.items c.args.r [] here)
+    ∙ word-at link s.block.items c.args.r [] (inside c)
+
+pub returns-clause-value : goal.returns-clause-value
+returns-clause-value c = rw (← c.self.view_is) (value (goal.at.returns-clause-value c).After-index)
 
 pub returns-clause-meets : goal.returns-clause-meets
 returns-clause-meets c =
     let s = c.self.inside in
+    let at = (goal.at.returns-clause-meets c).After-index in
     let link = link_of s.table.now s.plan (length s.block.items) s.buffer in
-    let count : s.plan.c ≡ c.args.self.now.link.plan.c = ap (λ (v : SenderView). v.link.plan.c) c.self.view_is in
-    let here : c.args.r < s.plan.c = omega (arith, count, c.requires) in
-    let many : length s.words.items ≡ s.plan.c = ap length c.self.invariant.encoded ∙ length-words link s.block.items in
-    let value : c.index.result.now ≡ word link s.block.items c.args.r =
-    c.index.ensures
-    ∙ get_or_default s.words.items c.args.r c.index.result.now [] (omega (arith, many, here))
-    ∙ ap (λ ws. slice_index_or ws c.args.r []) c.self.invariant.encoded
-    ∙ word-at link s.block.items c.args.r [] here in
-    rw (← c.self.view_is)
-    (subst (IsCodeword link.table link.graph link.plan (code_bits_of link s.block.items c.args.r)) (sym value)
-    (c.words_are_plain.ensures link s.block.items c.args.r c.self.invariant.is_link refl here))
+    rw (← c.self.view_is) (subst (IsCodeword link.table link.graph link.plan (code_bits_of link s.block.items c.args.r)) (sym (value at))
+    (c.words_are_plain.ensures link s.block.items c.args.r c.self.invariant.is_link refl (inside at)))
