@@ -4,7 +4,7 @@ use Rattle.std.specs.Prelude.{Option, Some, None, count_by, sum, unwrap_or}
 use Rattle.std.specs.List.{find, list_all, range_with_len}
 use Rattle.std.proofs.lemmas.Bool.{cases_lt}
 use Rattle.std.proofs.lemmas.Bool.Decides.{nat_tests}
-use Rattle.std.proofs.lemmas.List.{get_or-map, get_or-take, length-map, length-take-le, get_or_append_left, get_or_default, get_or_past, same_lists}
+use Rattle.std.proofs.lemmas.List.{ext_get_or, get_or-map, get_or-take, length-map, length-take-le, get_or_append_left, get_or_default, get_or_past, same_lists}
 use Rattle.std.proofs.lemmas.List.FromFn.{fill_by_all, get_or-map-range_with_len, length-map-range_with_len}
 use Rattle.std.proofs.lemmas.List.Folds.{list_all-map}
 use Rattle.std.proofs.lemmas.List.Sums.{sum-map}
@@ -124,32 +124,23 @@ pub candidate-only : PlansAreSound → WordsArePlain → BlocksLengthen → Code
     → all_fixed link records ≡ true → length bits ≡ link.a
     → ((i : ℕ) → i < link.a → IsRead link.plan peelers bits i)
     → (y : List Bool) → IsBlock link y → ExplainedBy link records y → y ≡ bits
-candidate-only sound plain blocks codes link records peelers bits is desk all many read y whole by = same_lists y bits (whole ∙ sym many) at
+candidate-only sound plain blocks codes link records peelers bits is desk all many read y whole by = ext_get_or false y bits (whole ∙ sym many) one
   where
-    sane : IsSound link.graph (attached_length link.a) link.plan
-    sane = sound-of sound link is
-
-    s : ℕ
-    s = share link.plan
-
-    b-long : length (attached y) ≡ attached_length link.a
-    b-long = blocks y ∙ ap attached_length whole
-
-    check-long : length y ≤ length (attached y)
-    check-long = omega (arith, length-append y (high_first (degree (block_poly y)) (crc_of (block_poly y) y)))
-
-    one : (i : ℕ) → i < link.a → bit y i ≡ bit bits i
-    one i inside =
+    one : (i : ℕ) → i < length y → bit y i ≡ bit bits i
+    one i below =
+        let sane = sound-of sound link is in
+        let check : List Bool = high_first (degree (block_poly y)) (crc_of (block_poly y) y) in
+        let b-long : length (attached y) ≡ attached_length link.a = blocks y ∙ ap attached_length whole in
+        let s : ℕ = share link.plan in
         let r : ℕ = i / s in
         let k : ℕ = i % s in
         let some : 0 < s = omega (arith, sane.checked) in
         let total : link.plan.c * s ≡ attached_length link.a = sane.shared in
-        let low : i < link.plan.c * s = omega (arith, total, b-long, check-long, whole, inside) in
+        let low : i < link.plan.c * s = omega (arith, total, b-long, length-append y check, below) in
         let block : r < link.plan.c = (div-lt_iff_lt-mul {k = s} {x = i} {y = link.plan.c} some).1 low in
-        let below : k < s = mod_below i s some in
-        let there : k < link.plan.kdash = omega (arith, below) in
-        let end = part-inside link.plan.c s r block in
-        let fits : part_of link.plan r 0 + s ≤ length (attached y) = omega (arith, end, total, b-long) in
+        let rest : k < s = mod_below i s some in
+        let there : k < link.plan.kdash = omega (arith, rest) in
+        let fits : part_of link.plan r 0 + s ≤ length (attached y) = omega (arith, part-inside link.plan.c s r block, total, b-long) in
         let place : i ≡ part_of link.plan r k = sym (mod-add-div i s) ∙ omega (arith, mul_comm s (i / s)) in
         let code : length (code_bits link.plan (attached y) r) ≡ link.plan.kdash =
         codes link.graph (attached_length link.a) link.plan (attached y) r is.planned b-long block in
@@ -157,20 +148,14 @@ candidate-only sound plain blocks codes link records peelers bits is desk all ma
         let tied = desk.tied r block in
         let known : bit p.known k ≡ true = known-fixed link (heard_of records r) p tied k ∙ every_fixed link records all r block k there in
         let is-word = plain link y r is whole block in
-        let agrees : bit (word link y r) k ≡ bit p.bits k = tied.words (bit (word link y r)) is-word.plain (by r block).1 k known in
-        sym (get_or_append_left y (high_first (degree (block_poly y)) (crc_of (block_poly y) y)) false i (omega (arith, whole, inside)))
+        sym (get_or_append_left y check false i below)
         ∙ ap (bit (attached y)) place
-        ∙ code-shared link.plan (attached y) r k fits below
+        ∙ code-shared link.plan (attached y) r k fits rest
         ∙ get_or_append_left (code_bits link.plan (attached y) r) (replicate (link.plan.k - link.plan.kdash) false) false k (omega (arith, code, there))
         ∙ sym (is-word.begins k there)
-        ∙ agrees
+        ∙ tied.words (bit (word link y r)) is-word.plain (by r block).1 k known
         ∙ sym (known-value (bit p.known k) (bit p.bits k) known)
-        ∙ sym (read i inside (none-of link))
-
-    at : (i : ℕ) (d : Bool) → i < length y → get_or y i d ≡ get_or bits i d
-    at i d inside =
-        let low : i < link.a = subst (λ n. i < n) whole inside in
-        get_or_default y i d false inside ∙ one i low ∙ get_or_default bits i false d (omega (arith, many, low))
+        ∙ sym (read i (rw (← whole) below) (none-of link))
 
 -- what the peeler of a code block has, wherever it is read
 pub peeler-at : (link : Link) (records : List HeardBits) (peelers : List Peeling) → IsDesk link records peelers → (r : ℕ) (d : Peeling)

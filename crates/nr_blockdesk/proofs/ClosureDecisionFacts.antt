@@ -1,9 +1,9 @@
 -- What the closures decide: which transport blocks can explain a list of receptions.
-use Rattle.std.proofs.Common.{◌≡◌, ℕ, zero, suc, ◌+◌, ◌<◌, ◌≤◌, ◌==◌, ◌||◌, Bool, true, false, not, cond, List, ◌∷◌, length, map, get_or, take, refl, sym, ap, subst, ◌∙◌, arith}
+use Rattle.std.proofs.Common.{◌≡◌, ℕ, zero, suc, ◌+◌, ◌<◌, ◌≤◌, ◌==◌, ◌||◌, Bool, true, false, not, cond, List, length, map, take, refl, sym, ap, subst, ◌∙◌, arith}
 use Rattle.std.specs.Prelude.{Option, Some, None, count_by}
 use Rattle.std.specs.List.{range_with_len}
 use Rattle.std.proofs.lemmas.Bool.{eq-eqb, eqb-true, not-false}
-use Rattle.std.proofs.lemmas.List.{get_or_default, same_lists}
+use Rattle.std.proofs.lemmas.List.{ext_get_or}
 use Rattle.std.proofs.lemmas.List.Folds.{sum_by-zero}
 use Rattle.std.proofs.Math.Seq.{take-append_seam}
 use Rattle.nr_bitvec.specs.Bit.{bit}
@@ -64,10 +64,7 @@ every_fixed link records all r inside p low =
 
 map-same : {X : Type 0} (f g : ℕ → X) (a n : ℕ) → ((m : ℕ) → a ≤ m → m < a + n → f m ≡ g m) → map f (range_with_len a n) ≡ map g (range_with_len a n)
 map-same f g a zero each = refl
-map-same f g a (suc n) each =
-    let first : f a ≡ g a = each a (omega arith) (omega arith) in
-    let rest = map-same f g (a + 1) n (λ m low high. each m (omega arith) (omega arith)) in
-    ap (λ x. x ∷ map f (range_with_len (a + 1) n)) first ∙ ap (λ xs. g a ∷ xs) rest
+map-same f g a (suc n) each = rw (each a (omega arith) (omega arith), map-same f g (a + 1) n (λ m low high. each m (omega arith) (omega arith))) refl
 
 -- transport blocks whose code blocks are the same are the same
 pub blocks_make : BlocksLengthen → JoinUndoesCut → (link : Link) (x y : List Bool) → IsLink link
@@ -98,17 +95,9 @@ words_make blocks joins codes plain link x y is whole-x whole-y same = blocks_ma
         (blocks block ∙ ap attached_length whole) inside
 
     each : (r : ℕ) → r < link.plan.c → code_bits_of link x r ≡ code_bits_of link y r
-    each r inside = same_lists (code_bits_of link x r) (code_bits_of link y r) (kept x r whole-x inside ∙ sym (kept y r whole-y inside)) at
-      where
-        at : (k : ℕ) (d : Bool) → k < length (code_bits_of link x r) → get_or (code_bits_of link x r) k d ≡ get_or (code_bits_of link y r) k d
-        at k d low =
-            let below : k < link.plan.kdash = subst (λ n. k < n) (kept x r whole-x inside) low in
-            let low-y : k < length (code_bits_of link y r) = subst (λ n. k < n) (sym (kept y r whole-y inside)) below in
-            get_or_default (code_bits_of link x r) k d false low
-            ∙ sym ((plain link x r is whole-x inside).begins k below)
-            ∙ same r k inside below
-            ∙ (plain link y r is whole-y inside).begins k below
-            ∙ get_or_default (code_bits_of link y r) k false d low-y
+    each r inside = ext_get_or false (code_bits_of link x r) (code_bits_of link y r) (kept x r whole-x inside ∙ sym (kept y r whole-y inside)) (λ k low.
+        let below : k < link.plan.kdash = rw (← kept x r whole-x inside) low in
+        sym ((plain link x r is whole-x inside).begins k below) ∙ same r k inside below ∙ (plain link y r is whole-y inside).begins k below)
 
 pub one-explains : BlocksLengthen → JoinUndoesCut → CodeBlocksAreLong → WordsArePlain
     → ExplainersAgree → OneExplains

@@ -38,16 +38,11 @@ place-tells w q r p h true-there = go (q == r) refl
   where
     go : (b : Bool) → (q == r) ≡ b → holds_if (fits (w r)) (cond b (option_map (λ v. (p, v)) (heard_bit h)) None) ≡ true
     go false e = refl
-    go true e =
-        let same : q ≡ r = eqb-true q r e in
-        own (w r) p (heard_bit h) ∙ sym (agrees-is h (w r p)) ∙ ap (λ k. agrees h (w k p)) (sym same) ∙ true-there
+    go true e = rw (own (w r) p (heard_bit h), ← agrees-is h (w r p), ← eqb-true q r e) true-there
 
 place-part_masks : (w : ℕ → ℕ → Bool) (q p : ℕ) (h : Heard)
     → holds_if (fits (w q)) (cond (q == q) (option_map (λ b. (p, b)) (heard_bit h)) None) ≡ true → agrees h (w q p) ≡ true
-place-part_masks w q p h fit =
-    let same : (q == q) ≡ true = eq-eqb q q refl in
-    agrees-is h (w q p) ∙ sym (own (w q) p (heard_bit h))
-    ∙ ap (λ b. holds_if (fits (w q)) (cond b (option_map (λ v. (p, v)) (heard_bit h)) None)) (sym same) ∙ fit
+place-part_masks w q p h fit = rw (agrees-is h (w q p), ← own (w q) p (heard_bit h)) (rw (eq-eqb q q refl) at fit)
 
 -- the bits sent are those of the words
 abbrev pub AreOf : RateMatching → (ℕ → ℕ → Bool) → List Bool → ℕ → Type 0

@@ -1,11 +1,11 @@
 -- What two lists of bits say was received, place by place and piece by piece.
-use Rattle.std.proofs.Common.{◌≡◌, ℕ, ◌+◌, ◌-◌, ◌<◌, ◌≤◌, ◌==◌, ◌&&◌, ◌++◌, inl, inr, Bool, true, false, List, length, get_or, take, drop, refl, sym, ap, ◌∙◌, arith}
+use Rattle.std.proofs.Common.{◌≡◌, ℕ, ◌+◌, ◌-◌, ◌<◌, ◌≤◌, ◌==◌, ◌&&◌, ◌++◌, inl, inr, Bool, true, false, List, length, take, drop, refl, sym, ap, ◌∙◌, arith}
 use Rattle.std.specs.Prelude.{Some, sum, slice_index}
 use Rattle.std.specs.Bool.{beq}
 use Rattle.std.specs.Int.{bit_at}
 use Rattle.std.proofs.lemmas.Bool.{cases_lt}
-use Rattle.std.proofs.lemmas.List.{get_or-append_right, get_or-drop, get_or-take, get_or_append_left, get_or_default, length-drop, length-take-le, same_lists}
-use Rattle.std.proofs.lemmas.List.FromFn.{get_or-map-range_with_len, length-map-range_with_len}
+use Rattle.std.proofs.lemmas.List.{get_or-append_right, get_or-drop, get_or-take, get_or_append_left, ext_get_or, length-drop, length-take-le}
+use Rattle.std.proofs.lemmas.List.FromFn.{fill_by_all, get_or-map-range_with_len, length-map-range_with_len}
 use Rattle.std.proofs.lemmas.List.Sums.{sum_by_more_le}
 use Rattle.nr_bitvec.proofs.PackedListFacts.{bit-low_first}
 use Rattle.nr_bitvec.specs.Bit.{bit}
@@ -23,14 +23,10 @@ pub length-heards : (marks bits : List Bool) (from n : ℕ) → length (heards_f
 unfolding heards_from
 length-heards marks bits from n = length-map-range_with_len (λ m. place_heard (bit marks m) (bit bits m)) from n
 
-place-heard : (marks bits : List Bool) (from n m : ℕ) (d : Heard) → m < n
-    → get_or (heards_from marks bits from n) m d ≡ place_heard (bit marks (from + m)) (bit bits (from + m))
-unfolding heards_from
-place-heard marks bits from n m d inside = get_or-map-range_with_len (λ m. place_heard (bit marks m) (bit bits m)) from n m (from + m) d inside refl
-
 pub heard-at : (marks bits : List Bool) (from n m : ℕ) → m < n
     → heard_at (heards_from marks bits from n) m ≡ place_heard (bit marks (from + m)) (bit bits (from + m))
-heard-at marks bits from n m inside = place-heard marks bits from n m heard.Erased inside
+unfolding heards_from
+heard-at marks bits from n m inside = get_or-map-range_with_len (λ m. place_heard (bit marks m) (bit bits m)) from n m (from + m) heard.Erased inside refl
 
 -- what a mark and a bit say
 pub tells-marked : (mark b v : Bool) → tells (heard_bit (place_heard mark b)) v ≡ (mark && beq b v)
@@ -53,28 +49,19 @@ piece-heards marks bits lengths r together inside =
     let long : length all ≡ length marks = length-heards marks bits 0 (length marks) in
     let one : length (heards_from marks bits start e) ≡ e = length-heards marks bits start e in
     let cut : length (take e (drop start all)) ≡ e = length-take-le e (drop start all) (omega (arith, length-drop start all, most, together, long)) in
-    same_lists (heards_from marks bits start e) (take e (drop start all)) (one ∙ sym cut)
-    (λ k d below.
+    ext_get_or heard.Erased (heards_from marks bits start e) (take e (drop start all)) (one ∙ sym cut)
+    (λ k below.
     let low : k < e = omega (arith, below, one) in
     let none : 0 + (start + k) ≡ start + k = omega arith in
-    place-heard marks bits start e k d low
-    ∙ ap (λ m. place_heard (bit marks m) (bit bits m)) (sym none)
-    ∙ sym (get_or-take e (drop start all) k d low ∙ get_or-drop start all k d
-    ∙ place-heard marks bits 0 (length marks) (start + k) d (omega (arith, low, most, together))))
+    rw (heard-at marks bits start e k low, get_or-take e (drop start all) k heard.Erased low, get_or-drop start all k heard.Erased,
+    heard-at marks bits 0 (length marks) (start + k) (omega (arith, low, most, together)), none) refl)
 
 -- lists whose marks and bits are these places
 pub heards-are : (marks bits : List Bool) (places : List Heard) → length marks ≡ length places
     → ((m : ℕ) → m < length places → place_heard (bit marks m) (bit bits m) ≡ heard_at places m) → heards marks bits ≡ places
+unfolding heards_from
 heards-are marks bits places long are =
-    let all : length (heards marks bits) ≡ length marks = length-heards marks bits 0 (length marks) in
-    same_lists (heards marks bits) places (all ∙ long)
-    (λ k d below.
-    let low : k < length marks = omega (arith, below, all) in
-    let none : 0 + k ≡ k = omega arith in
-    place-heard marks bits 0 (length marks) k d low
-    ∙ ap (λ m. place_heard (bit marks m) (bit bits m)) none
-    ∙ are k (omega (arith, low, long))
-    ∙ get_or_default places k heard.Erased d (omega (arith, low, long)))
+    sym (fill_by_all (λ m. place_heard (bit marks m) (bit bits m)) places (length marks) heard.Erased (sym long) (λ k below. sym (are k (omega (arith, below, long)))))
 
 -- words of marks and bits at the end of two lists
 pub heards-more : (places : List Heard) (marks bits : List Bool) (n wide now word : ℕ) → length marks ≡ n → length bits ≡ n

@@ -47,15 +47,13 @@ never-contradicts link list y whole explained e =
 
 pub explained-delivered : OneExplains → ExplainedIsDelivered
 unfolding outcome_of
-explained-delivered one link list y is accepted whole explained all = go (find (explains link list) (blocks_of link.a)) refl
+explained-delivered one link list y is accepted whole explained all = rw all (go (find (explains link list) (blocks_of link.a)) refl)
   where
-    go : (o : Option (List Bool)) → find (explains link list) (blocks_of link.a) ≡ o
-        → cond (all_fixed link (heard_record link list)) (verdict_on (find (explains link list) (blocks_of link.a))) open_still ≡ delivered y
+    go : (o : Option (List Bool)) → find (explains link list) (blocks_of link.a) ≡ o → verdict_on (find (explains link list) (blocks_of link.a)) ≡ delivered y
     go None e = absurd (true≢false (sym explained ∙ none_passes link.a (explains link list) e y whole))
     go (Some x) e =
         let passes = find_passes (explains link list) (is_long link.a) (blocks_of link.a) x (blocks_long link.a) e in
-        let same : x ≡ y = one link list x y is accepted (eqb-true (length x) link.a passes.1) whole passes.0 explained all in
-        ap (λ b. cond b (verdict_on (find (explains link list) (blocks_of link.a))) open_still) all ∙ ap verdict_on e ∙ ap delivered same
+        rw (e, one link list x y is accepted (eqb-true (length x) link.a passes.1) whole passes.0 explained all) refl
 
 arrived-agrees : (mark b : Bool) → agrees (arrived_bit mark b) b ≡ true
 arrived-agrees true b = refl

@@ -1,25 +1,22 @@
 -- What a reception tells of each code block, and the record of one reception more.
-use Rattle.std.proofs.Common.{◌≡◌, ℕ, zero, suc, ◌+◌, ◌-◌, ◌<◌, ◌≤◌, ◌==◌, Bool, true, false, cond, List, [], ◌∷◌, ◌++◌, length, get_or, take, drop, flat_map, refl, sym, ap, subst, ◌∙◌, arith}
-use Rattle.std.specs.Prelude.{Option, None, Ok, Err, option_map, sum, slice_index}
+use Rattle.std.proofs.Common.{◌≡◌, ℕ, zero, suc, ◌+◌, ◌-◌, ◌<◌, ◌≤◌, ◌==◌, Bool, true, false, List, [], ◌∷◌, ◌++◌, length, get_or, take, drop, flat_map, refl, sym, ap, subst, ◌∙◌, arith}
+use Rattle.std.specs.Prelude.{Option, None, Ok, Err, sum, slice_index}
 use Rattle.std.specs.List.{cons_option, filter_map, range_with_len}
 use Rattle.std.proofs.lemmas.Bool.{eqb-true, eq-eqb}
 use Rattle.std.proofs.lemmas.Grind.{flat_map-append}
-use Rattle.std.proofs.lemmas.List.{append-nil, get_or-drop, get_or-take, get_or_default, length-drop, length-take-le, same_lists}
+use Rattle.std.proofs.lemmas.List.{append-nil, get_or-drop, get_or-take, ext_get_or, length-drop, length-take-le}
 use Rattle.std.proofs.lemmas.List.Elements.{All-push, filter_map-append}
 use Rattle.std.proofs.lemmas.List.FromFn.{length-map-range_with_len}
 use Rattle.std.proofs.lemmas.List.Sums.{sum_by_more_le}
-use Rattle.nr_cbconcat.specs.Concatenation.{IsOwner, PlacesHaveOneOwner, owner_of}
+use Rattle.nr_cbconcat.specs.Concatenation.{PlacesHaveOneOwner, owner_of}
 use Rattle.nr_harqbuf.specs.Record.{HeardBits, Observation, record_of}
-use Rattle.nr_interleave.specs.Interleaving.{seat_of}
 use Rattle.nr_segment.specs.Plan.{word_size}
 use Rattle.nr_peel.specs.Peeling.{Peeling}
-use Rattle.nr_ratematch.specs.Selection.{place_of}
-use Rattle.nr_blockdesk.specs.Explains.{IsAccepted, Reception, heard_at, reception, reception_said, reception_said_of}
+use Rattle.nr_blockdesk.specs.Explains.{IsAccepted, Reception, reception, reception_said, reception_said_of}
 use Rattle.nr_blockdesk.specs.Heard.{IsRecordOf, hearing_at, heard_of, heard_record, hearings, hearings_in}
-use Rattle.nr_blockdesk.specs.Hearing.{heard_bit}
 use Rattle.nr_blockdesk.specs.Link.{IsLink, Link, demanded}
 use Rattle.nr_blockdesk.specs.ReceivingInside.{HearsPart, IsDesk, part_hearing, part_hearings, piece}
-use Rattle.nr_blockdesk.specs.Sent.{AcceptedAreMatched, IsMatched, RateMatching, PartsAreAt, block_at, matching, position_at, tx_said, tx_said_of}
+use Rattle.nr_blockdesk.specs.Sent.{AcceptedAreMatched, IsMatched, RateMatching, PartsAreAt, block_at, matching, tx_said, tx_said_of}
 use Rattle.nr_transmission.specs.declared.fault.DeskFault.TheVariants as fault
 use Rattle.nr_blockdesk.specs.declared.heard.Heard.{Heard}
 use Rattle.nr_blockdesk.specs.declared.heard.Heard.TheVariants as kind
@@ -61,14 +58,11 @@ pub piece-part_masks : PartsAreAt → PlacesHaveOneOwner → (t : RateMatching) 
     ≡ part_hearings t.buffer tx (piece t.lengths heard r) (length (piece t.lengths heard r))
 piece-part_masks parts owners t tx heard r rv qm together block =
     ap (λ n. filter_map f (range_with_len 0 n)) all
-    ∙ ap (filter_map f) (range-split 0 start (e + rest))
-    ∙ filter_map-append f (range_with_len 0 start) (range_with_len (0 + start) (e + rest))
-    ∙ ap (λ ms. filter_map f (range_with_len 0 start) ++ filter_map f ms) (range-split (0 + start) e rest)
-    ∙ ap (λ hs. filter_map f (range_with_len 0 start) ++ hs) (filter_map-append f (range_with_len (0 + start) e) (range_with_len (0 + start + e) rest))
-    ∙ nothing-before (filter_map f (range_with_len 0 start)) (filter_map f (range_with_len (0 + start + e) rest))
+    ∙ rw (range-split 0 start (e + rest), filter_map-append f, range-split (0 + start) e rest, filter_map-append f)
+    (nothing-before (filter_map f (range_with_len 0 start)) (filter_map f (range_with_len (0 + start + e) rest))
     (none-part_masks f 0 start (λ m low high. outside m (omega (arith, high, all)) (λ from. omega (arith, high, from.0))))
     (none-part_masks f (0 + start + e) rest (λ m low high. outside m (omega (arith, high, all)) (λ from. omega (arith, low, from.1))))
-    (filter_map f (range_with_len (0 + start) e))
+    (filter_map f (range_with_len (0 + start) e)))
     ∙ same-part_masks f g (0 + start) 0 e inside
     ∙ ap (λ n. filter_map g (range_with_len 0 n)) (sym long)
   where
@@ -103,7 +97,7 @@ piece-part_masks parts owners t tx heard r rv qm together block =
     outside m within out = go (block_at t m == r) refl
       where
         go : (b : Bool) → (block_at t m == r) ≡ b → f m ≡ None
-        go false own = ap (λ b. cond b (option_map (λ v. (position_at t m, v)) (heard_bit (heard_at heard m))) None) own
+        go false own = rw own refl
         go true own =
             let one = (owners t.lengths m (omega (arith, within, together))).owner in
             let is : block_at t m ≡ r = eqb-true (block_at t m) r own in
@@ -115,20 +109,9 @@ piece-part_masks parts owners t tx heard r rv qm together block =
     inside : (k : ℕ) → k < e → f (0 + start + k) ≡ g (0 + k)
     inside k below =
         let zeros : 0 + start + k ≡ start + k = omega arith in
-        let none : k ≡ 0 + k = omega arith in
-        let owner : IsOwner t.lengths (start + k) r k = record { block = block; inside = below; joined = refl } in
-        let both = parts t (start + k) r k owner in
-        let there : position_at t (start + k) ≡ place_of t.buffer tx.rv (seat_of tx.qm (length pc) k) =
-        both.1 ∙ ap (λ v. place_of t.buffer v (seat_of t.qm e k)) rv ∙ ap (λ q. place_of t.buffer tx.rv (seat_of q e k)) qm
-        ∙ ap (λ n. place_of t.buffer tx.rv (seat_of tx.qm n k)) (sym long) in
-        let heard-there : heard_at heard (start + k) ≡ heard_at pc k =
-        sym (get_or-take e (drop start heard) k kind.Erased below ∙ get_or-drop start heard k kind.Erased) in
-        ap f zeros
-        ∙ ap (λ b. cond b (option_map (λ v. (position_at t (start + k), v)) (heard_bit (heard_at heard (start + k)))) None)
-        (eq-eqb (block_at t (start + k)) r both.0)
-        ∙ ap (λ p. option_map (λ v. (p, v)) (heard_bit (heard_at heard (start + k)))) there
-        ∙ ap (λ h. option_map (λ v. (place_of t.buffer tx.rv (seat_of tx.qm (length pc) k), v)) (heard_bit h)) heard-there
-        ∙ ap g none
+        let none : 0 + k ≡ k = omega arith in
+        let both = parts t (start + k) r k (record { block = block; inside = below; joined = refl }) in
+        rw (zeros, none, eq-eqb (block_at t (start + k)) r both.0, both.1, rv, qm, long, get_or-take e (drop start heard) k kind.Erased below, get_or-drop start heard k kind.Erased) refl
 
 -- the peeler that stands for none
 abbrev pub none-of : Link → Peeling
@@ -159,59 +142,43 @@ length-record : (link : Link) (list : List Reception) → length (heard_record l
 unfolding heard_record
 length-record link list = length-map-range_with_len (λ r. record_of (word_size link.graph link.plan) (hearings link list r)) 0 link.plan.c
 
--- so the record is that of the longer list
-pub record-taken : PartsAreAt → PlacesHaveOneOwner → AcceptedAreMatched → (link : Link) (tx : Tx) (lengths : List ℕ) (heard : List Heard)
-    (S S' : List HeardBits) (P P' : List Peeling) → IsLink link → IsDesk link S P → IsAccepted link (reception tx heard)
-    → tx_said link tx ≡ Ok lengths → length heard ≡ tx.g → length S' ≡ link.plan.c → AreHeard link tx lengths heard S P S' P'
-    → (list : List Reception) → IsRecordOf link list S → IsRecordOf link (list ++ reception tx heard ∷ []) S'
-record-taken parts owners matched link tx lengths heard S S' P P' is desk accepted said whole many hears list of = record {
-  accepted = All-push (IsAccepted link) list x of.accepted accepted;
-  same = same_lists S' (heard_record link longer) (many ∙ sym (length-record link longer)) at;
-}
-  where
-    x : Reception
-    x = reception tx heard
-
-    longer : List Reception
-    longer = list ++ x ∷ []
-
-    N : ℕ
-    N = word_size link.graph link.plan
-
-    nothing : HeardBits
-    nothing = record { first = []; clash = false }
-
-    here : (r : ℕ) → r < link.plan.c → heard_of S' r ≡ heard_of (heard_record link longer) r
-    here r block =
-        let tied = desk.tied r block in
-        let hs : List Observation = hearings link list r in
-        let before : heard_of S r ≡ record_of (length (heard_of S r).first) hs =
-        ap (λ (l : List HeardBits). heard_of l r) of.same ∙ record-at link list r block ∙ ap (λ n. record_of n hs) (sym tied.long) in
-        (hears r (none-of link) block).recorded hs before
-        ∙ ap (λ n. record_of n (hs ++ part_hearings link.buffer tx (piece lengths heard r) (length (piece lengths heard r)))) tied.long
-        ∙ ap (λ l. record_of N (hs ++ l)) (sym (hearings-part_masks parts owners matched link tx lengths heard r is said whole block))
-        ∙ ap (λ l. record_of N l) (sym (hearings-more link list x r))
-        ∙ sym (record-at link longer r block)
-
-    at : (k : ℕ) (d : HeardBits) → k < length S' → get_or S' k d ≡ get_or (heard_record link longer) k d
-    at k d inside =
-        let block : k < link.plan.c = subst (λ n. k < n) many inside in
-        get_or_default S' k d nothing inside
-        ∙ here k block
-        ∙ get_or_default (heard_record link longer) k nothing d (subst (λ n. k < n) (sym (length-record link longer)) block)
-
--- and stores and peelers belong together again
-pub desk-taken : (link : Link) (tx : Tx) (lengths : List ℕ) (heard : List Heard) (S S' : List HeardBits) (P P' : List Peeling)
-    → IsDesk link S P → length S' ≡ link.plan.c → length P' ≡ link.plan.c → AreHeard link tx lengths heard S P S' P' → IsDesk link S' P'
-desk-taken link tx lengths heard S S' P P' desk stores peelers hears =
-    record { stores = stores; peelings = peelers; tied = λ r block. (hears r (none-of link) block).tied link (desk.tied r block) }
-
 -- what was said of a reception was said of its transmission
 pub tx-from : (link : Link) (x : Reception) (es : List ℕ) → reception_said link x ≡ Ok es → tx_said link x.tx ≡ Ok es
 tx-from link x es said =
     let first = bind-ok (tx_said link x.tx) _ es said in
     let second = bind-ok (demanded fault.Length (length x.heard == x.tx.g)) _ es first.2 in
     first.1 ∙ second.2
+
+-- so the record after a reception that was taken is that of the longer list
+pub all-taken : PartsAreAt → PlacesHaveOneOwner → AcceptedAreMatched → (link : Link) (tx : Tx) (es : List ℕ) (heard : List Heard)
+    (S S' : List HeardBits) (P P' : List Peeling) → IsLink link → IsDesk link S P → reception_said link (reception tx heard) ≡ Ok es
+    → length heard ≡ tx.g → length S' ≡ length S → AreHeard link tx es heard S P S' P'
+    → (list : List Reception) → IsRecordOf link list S → IsRecordOf link (list ++ reception tx heard ∷ []) S'
+all-taken parts owners matched link tx es heard S S' P P' is desk said whole many hears list of = record {
+  accepted = All-push (IsAccepted link) list x of.accepted (es, said);
+  same = ext_get_or (record { first = []; clash = false }) S' (heard_record link (list ++ x ∷ [])) (length-is ∙ sym (length-record link (list ++ x ∷ [])))
+      (λ r inside. here r (rw (← length-is) inside));
+}
+  where
+    x : Reception
+    x = reception tx heard
+
+    length-is : length S' ≡ link.plan.c
+    length-is = many ∙ desk.stores
+
+    here : (r : ℕ) → r < link.plan.c → heard_of S' r ≡ heard_of (heard_record link (list ++ x ∷ [])) r
+    here r block =
+        let long = (desk.tied r block).long in
+        let before : heard_of S r ≡ record_of (length (heard_of S r).first) (hearings link list r) =
+        rw long (ap (λ (l : List HeardBits). heard_of l r) of.same ∙ record-at link list r block) in
+        rw (record-at link (list ++ x ∷ []) r block, hearings-more link list x r,
+        hearings-part_masks parts owners matched link tx es heard r is (tx-from link x es said) whole block, ← long) ((hears r (none-of link) block).recorded (hearings link list r) before)
+
+-- and stores and peelers belong together again
+pub desk-taken : (link : Link) (tx : Tx) (lengths : List ℕ) (heard : List Heard) (S S' : List HeardBits) (P P' : List Peeling)
+    → IsDesk link S P → length S' ≡ link.plan.c → length P' ≡ link.plan.c → AreHeard link tx lengths heard S P S' P' → IsDesk link S' P'
+desk-taken link tx lengths heard S S' P P' desk stores peelers hears =
+    record { stores = stores; peelings = peelers; tied = λ r block. (hears r (none-of link) block).tied link (desk.tied r block) }
 
 -- nothing that is said of a reception is `Memory`
 pub reception-never_memory : (c : ℕ) (x : Reception) → reception_said_of c x ≡ Err fault.Memory → ⊥
@@ -228,12 +195,3 @@ pub parts-are : (link : Link) (tx : Tx) (es es' : List ℕ) (heard : List Heard)
     → AreHeard link tx es heard S P S' P'
 parts-are link tx es es' heard S S₁ S' P P₁ P' es-is S-is P-is many parts r d block =
     rw (← es-is, ← S-is, ← P-is) (parts r d (rw (S-is, many) block))
-
--- the record after a reception that was taken
-pub all-taken : PartsAreAt → PlacesHaveOneOwner → AcceptedAreMatched → (link : Link) (tx : Tx) (es : List ℕ) (heard : List Heard)
-    (S S' : List HeardBits) (P P' : List Peeling) → IsLink link → IsDesk link S P → reception_said link (reception tx heard) ≡ Ok es
-    → length heard ≡ tx.g → length S' ≡ length S → AreHeard link tx es heard S P S' P'
-    → (list : List Reception) → IsRecordOf link list S → IsRecordOf link (list ++ reception tx heard ∷ []) S'
-all-taken parts owners matched link tx es heard S S' P P' is desk said whole many hears list of =
-    record-taken parts owners matched link tx es heard S S' P P' is desk (es, said)
-    (tx-from link (reception tx heard) es said) whole (many ∙ desk.stores) hears list of

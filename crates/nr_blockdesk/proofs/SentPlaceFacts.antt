@@ -1,10 +1,10 @@
 -- The bits sent, code block by code block, and whose bit stands at each place of them.
 use Rattle.std.proofs.Common.{◌≡◌, ℕ, suc, zero, ◌+◌, ◌%◌, ◌<◌, ◌≤◌, Bool, false, List, [], ◌∷◌, ◌++◌, length, flat_map, sum, take, get_or, slice_index, refl, sym, ◌∙◌, ap, subst, arith}
 use Rattle.std.specs.List.{range_with_len}
-use Rattle.std.proofs.lemmas.List.{flat_map_more, length-append, map-id, take_all}
-use Rattle.std.proofs.lemmas.List.Concat.{get_or-flat_map}
-use Rattle.std.proofs.lemmas.List.FromFn.{length-range_with_len, get_or-range_with_len, length-map-range_with_len, get_or-map-range_with_len, take-map-range_with_len}
-use Rattle.std.proofs.lemmas.List.Sums.{sum_by_more, sum_by_more_le}
+use Rattle.std.proofs.lemmas.List.{flat_map_more, get_or-take, length-take-le, map-id, take_all}
+use Rattle.std.proofs.lemmas.List.Concat.{get_or-flat_map, length-flat_map}
+use Rattle.std.proofs.lemmas.List.FromFn.{fill_by_all, length-range_with_len, get_or-range_with_len, length-map-range_with_len, get_or-map-range_with_len, take-map-range_with_len}
+use Rattle.std.proofs.lemmas.List.Sums.{sum-map, sum_by_more_le}
 use Rattle.nr_bitvec.specs.Bit.{bit}
 use Rattle.nr_cbconcat.specs.Concatenation.{PlacesHaveOneOwner, owner_of}
 use Rattle.nr_interleave.specs.Interleaving.{SeatsAreSeating, interleaved, seat_of}
@@ -35,11 +35,8 @@ length-block_sent t word e = length-interleaved t.qm (selected t.buffer word t.r
 bit-block_sent : (t : RateMatching) (word : List Bool) (e p : ℕ) → p < e → seat_of t.qm e p < e
     → bit (block_sent t word e) p ≡ bit word (place_of t.buffer t.rv (seat_of t.qm e p))
 bit-block_sent t word e p inside seat =
-    let bits : List Bool = selected t.buffer word t.rv e in
-    let long : length bits ≡ e = length-selected t.buffer word t.rv e in
-    bit-interleaved t.qm bits p (subst (λ n. p < n) (sym long) inside)
-    ∙ ap (λ n. bit bits (seat_of t.qm n p)) long
-    ∙ bit-selected t.buffer word t.rv e (seat_of t.qm e p) seat
+    let long : length (selected t.buffer word t.rv e) ≡ e = length-selected t.buffer word t.rv e in
+    rw (bit-interleaved t.qm (selected t.buffer word t.rv e) p (omega (arith, long, inside)), long, bit-selected t.buffer word t.rv e (seat_of t.qm e p) seat) refl
 
 -- one piece more
 pieces-more : (f : ℕ → List Bool) (n : ℕ) → flat_map f (range_with_len 0 n) ++ f n ≡ flat_map f (range_with_len 0 (n + 1))
@@ -50,15 +47,9 @@ pieces-more f n =
 
 length-pieces : (f : ℕ → List Bool) (lengths : List ℕ) (n : ℕ) → ((r : ℕ) → length (f r) ≡ slice_index lengths r)
     → n ≤ length lengths → length (flat_map f (range_with_len 0 n)) ≡ sum (take n lengths)
-length-pieces f lengths zero long within = refl
-length-pieces f lengths (suc n) long within =
-    let before = length-pieces f lengths n long (omega arith) in
-    let joined = ap length (sym (pieces-more f n)) ∙ length-append (flat_map f (range_with_len 0 n)) (f n) in
-    let added = sum_by_more (λ (x : ℕ). x) lengths n 0 (omega arith) in
-    let more : length (flat_map f (range_with_len 0 (n + 1))) ≡ sum (take (n + 1) lengths) =
-    joined ∙ ap (λ k. k + length (f n)) before ∙ ap (λ k. sum (take n lengths) + k) (long n) ∙ sym added in
-    let next : n + 1 ≡ suc n = omega arith in
-    subst (λ k. length (flat_map f (range_with_len 0 k)) ≡ sum (take k lengths)) next more
+length-pieces f lengths n long within =
+    length-flat_map f (range_with_len 0 n) ∙ sym (sum-map (λ r. length (f r)) (range_with_len 0 n))
+    ∙ ap sum (sym (fill_by_all (λ r. length (f r)) (take n lengths) n 0 (length-take-le n lengths within) (λ k low. get_or-take n lengths k 0 low ∙ sym (long k))))
 
 -- the bits sent of the first n code blocks
 abbrev pub front_sent : RateMatching → (ℕ → List Bool) → ℕ → List Bool
@@ -107,10 +98,7 @@ bit-sent t words r p block inside =
     ∙ ap (λ q. bit (f q) p) at
   where
     take-range : (c r : ℕ) → r ≤ c → take r (range_with_len 0 c) ≡ range_with_len 0 r
-    take-range c r within =
-        ap (λ xs. take r xs) (sym (map-id (range_with_len 0 c)))
-        ∙ take-map-range_with_len (λ (x : ℕ). x) 0 c r within
-        ∙ map-id (range_with_len 0 r)
+    take-range c r within = simp map-id at (take-map-range_with_len (λ (x : ℕ). x) 0 c r within)
 
 pub sent-at : PlacesHaveOneOwner → PlacesAreSent → SeatsAreSeating → SentBitsAreAt
 unfolding position_at
@@ -139,18 +127,12 @@ parts-at owners t m r p owner =
     )
 
 -- codewords that are the same send the same
-front-same : (t : RateMatching) (f g : ℕ → List Bool) (n : ℕ) → ((r : ℕ) → r < n → f r ≡ g r) → front_sent t f n ≡ front_sent t g n
-front-same t f g zero same = refl
-front-same t f g (suc n) same =
-    let before = front-same t f g n (λ r less. same r (omega arith)) in
-    let more : front_sent t f (n + 1) ≡ front_sent t g (n + 1) =
-    sym (front-more t f n)
-    ∙ ap (λ xs. xs ++ block_sent t (f n) (slice_index t.lengths n)) before
-    ∙ ap (λ w. front_sent t g n ++ block_sent t w (slice_index t.lengths n)) (same n (omega arith))
-    ∙ front-more t g n in
-    let next : n + 1 ≡ suc n = omega arith in
-    subst (λ k. front_sent t f k ≡ front_sent t g k) next more
+flat-same : (f g : ℕ → List Bool) (a n : ℕ) → ((r : ℕ) → r < a + n → f r ≡ g r) → flat_map f (range_with_len a n) ≡ flat_map g (range_with_len a n)
+flat-same f g a zero each = refl
+flat-same f g a (suc n) each = rw (each a (omega arith), flat-same f g (a + 1) n (λ r low. each r (omega arith))) refl
 
 pub sent-same : (t : RateMatching) (f g : ℕ → List Bool) → ((r : ℕ) → r < length t.lengths → f r ≡ g r) → sent_of t f ≡ sent_of t g
 unfolding sent_of
-sent-same t f g same = front-same t f g (length t.lengths) same
+sent-same t f g same =
+    flat-same (λ r. block_sent t (f r) (slice_index t.lengths r)) (λ r. block_sent t (g r) (slice_index t.lengths r)) 0 (length t.lengths)
+    (λ r low. ap (λ w. block_sent t w (slice_index t.lengths r)) (same r (omega arith)))

@@ -1,18 +1,18 @@
 -- The record of a list of hearings, merged with the masks of more of them, is the record of all.
-use Rattle.std.proofs.Common.{◌≡◌, ℕ, ◌<◌, ◌==◌, ◌&&◌, ◌||◌, Bool, true, false, not, cond, List, ◌++◌, length, get_or, refl, sym, ap, ◌∙◌, arith}
+use Rattle.std.proofs.Common.{◌≡◌, ℕ, ◌<◌, ◌==◌, ◌&&◌, ◌||◌, Bool, true, false, not, cond, List, ◌++◌, get_or, refl, sym, ap, ◌∙◌, arith}
 use Rattle.std.specs.Prelude.{Option, Some, None, All, map}
 use Rattle.std.specs.Bool.{beq}
 use Rattle.std.specs.List.{list_any, range_with_len}
 use Rattle.std.proofs.lemmas.Bool.{false_from_ne_true, and_parts, and_from, eqb-true}
-use Rattle.std.proofs.lemmas.List.{same_lists}
+use Rattle.std.proofs.lemmas.Bool.Decides.{same_from_decides}
 use Rattle.std.proofs.lemmas.List.Folds.{list_any-append, list_any_at}
-use Rattle.std.proofs.lemmas.List.FromFn.{get_or-map-range_with_len, length-map-range_with_len, length-range_with_len}
+use Rattle.std.proofs.lemmas.List.FromFn.{fill_by_all, get_or-map-range_with_len, length-map-range_with_len, length-range_with_len}
 use Rattle.nr_bitvec.specs.Bit.{bit}
 use Rattle.nr_harqbuf.specs.Masks.{AreMasks, first_merged, differs_at, merged, RecordMerges}
 use Rattle.nr_harqbuf.specs.Positions.{kept_at}
-use Rattle.nr_harqbuf.specs.Record.{HeardBits, Observation, first_at, first_heard, is_heard, differs, record_of, clashes}
+use Rattle.nr_harqbuf.specs.Record.{Observation, first_at, first_heard, is_heard, differs, record_of, clashes}
 use Rattle.nr_harqbuf.proofs.MergedStoreFacts.{in_range}
-use Rattle.nr_harqbuf.proofs.RecordLaws.{record_of-at, first_heard-append, beq_true, beq_same, same_truth, Passes, one_passes, heard_there, heard_here, first_is_heard, first_there, some_differs, clashes-differs, differs-before}
+use Rattle.nr_harqbuf.proofs.RecordLaws.{record_of-at, first_heard-append, beq_true, beq_same, Passes, one_passes, heard_there, heard_here, first_is_heard, first_there, some_differs, clashes-differs, differs-before}
 
 none_some : {A : Type 0} {a : A} → None ≡ Some a → ⊥
 none_some h = cc
@@ -62,7 +62,7 @@ differs-marked n hs more heard value masks p b lt marked is =
 -- some marked bit differs where some hearing does
 differs-masked : (n : ℕ) (hs more : List Observation) (heard value : List Bool) → All (λ h. h.0 < n) more → AreMasks more heard value
     → list_any (differs_at (record_of n hs) heard value) (range_with_len 0 n) ≡ some_differs (hs ++ more) more
-differs-masked n hs more heard value inside masks = same_truth (list_any (differs_at (record_of n hs) heard value) (range_with_len 0 n)) (some_differs (hs ++ more) more) up down
+differs-masked n hs more heard value inside masks = same_from_decides {P = some_differs (hs ++ more) more ≡ true} _ _ (up, down) (λ e. e, λ e. e)
   where
     up : list_any (differs_at (record_of n hs) heard value) (range_with_len 0 n) ≡ true → some_differs (hs ++ more) more ≡ true
     up h = at_one r.index (omega (arith, r.below, length-range_with_len 0 n)) (ap (differs_at (record_of n hs) heard value) (sym (in_range n r.index 0 (omega (arith, r.below, length-range_with_len 0 n)))) ∙ r.passes)
@@ -92,32 +92,18 @@ differs-masked n hs more heard value inside masks = same_truth (list_any (differ
 
 pub record-merges : RecordMerges
 unfolding merged
-record-merges n hs more heard value inside masks = both _ _ _ _ firsts clash
+record-merges n hs more heard value inside masks = rw (length-map-range_with_len (first_heard hs) 0 n, firsts, clash) refl
   where
-    both : (a b : List (Option Bool)) (s t : Bool) → a ≡ b → s ≡ t → ◌≡◌ {A = HeardBits} (record { first = a; clash = s }) (record { first = b; clash = t })
-    both a b s t e f = cc
+    firsts : map (first_merged (record_of n hs) heard value) (range_with_len 0 n) ≡ map (first_heard (hs ++ more)) (range_with_len 0 n)
+    firsts = fill_by_all (first_heard (hs ++ more)) (map (first_merged (record_of n hs) heard value) (range_with_len 0 n)) n None
+        (length-map-range_with_len (first_merged (record_of n hs) heard value) 0 n)
+        (λ p lt. get_or-map-range_with_len (first_merged (record_of n hs) heard value) 0 n p p None lt (omega arith) ∙ merged-first n hs more heard value masks p lt)
 
-    count : ℕ
-    count = length (map (first_heard hs) (range_with_len 0 n))
-
-    long : count ≡ n
-    long = length-map-range_with_len (first_heard hs) 0 n
-
-    firsts : map (first_merged (record_of n hs) heard value) (range_with_len 0 count) ≡ map (first_heard (hs ++ more)) (range_with_len 0 n)
-    firsts = same_lists (map (first_merged (record_of n hs) heard value) (range_with_len 0 count)) (map (first_heard (hs ++ more)) (range_with_len 0 n))
-        (length-map-range_with_len (first_merged (record_of n hs) heard value) 0 count ∙ long ∙ sym (length-map-range_with_len (first_heard (hs ++ more)) 0 n))
-        (λ p d h.
-        let below : p < count = omega (arith, h, length-map-range_with_len (first_merged (record_of n hs) heard value) 0 count) in
-        let lt : p < n = omega (arith, below, long) in
-        get_or-map-range_with_len (first_merged (record_of n hs) heard value) 0 count p p d below (omega arith) ∙ merged-first n hs more heard value masks p lt
-        ∙ sym (get_or-map-range_with_len (first_heard (hs ++ more)) 0 n p p d lt (omega arith)))
-
-    or_both : (a b c e : Bool) → a ≡ b → c ≡ e → (a || c) ≡ (b || e)
-    or_both a b c e f g = cc
-
-    clash : (clashes hs || list_any (differs_at (record_of n hs) heard value) (range_with_len 0 count)) ≡ clashes (hs ++ more)
-    clash =
-        ap (λ k. clashes hs || list_any (differs_at (record_of n hs) heard value) (range_with_len 0 k)) long
-        ∙ or_both (clashes hs) (some_differs (hs ++ more) hs) (list_any (differs_at (record_of n hs) heard value) (range_with_len 0 n)) (some_differs (hs ++ more) more)
-        (clashes-differs hs ∙ sym (differs-before hs more)) (differs-masked n hs more heard value inside masks)
-        ∙ sym (clashes-differs (hs ++ more) ∙ list_any-append (λ (x : Observation). differs (first_heard (hs ++ more) x.0) x.1) hs more)
+    clash : (clashes hs || list_any (differs_at (record_of n hs) heard value) (range_with_len 0 n)) ≡ clashes (hs ++ more)
+    clash = rw (
+      clashes-differs hs,
+      ← differs-before hs more,
+      differs-masked n hs more heard value inside masks,
+      clashes-differs (hs ++ more),
+      list_any-append (λ (x : Observation). differs (first_heard (hs ++ more) x.0) x.1) hs more,
+    ) refl

@@ -1,11 +1,11 @@
 -- The record of a store whose lists are merged with all that masks say.
 use Rattle.std.proofs.Common.{◌≡◌, ℕ, ◌<◌, ◌≤◌, ◌&&◌, ◌||◌, inl, inr, Bool, true, false, not, cond, List, length, get_or, refl, ap, sym, ◌∙◌, arith}
-use Rattle.std.specs.Prelude.{Option, Some, None, map}
+use Rattle.std.specs.Prelude.{Some, None, map}
 use Rattle.std.specs.List.{list_any, range_with_len}
 use Rattle.std.proofs.lemmas.Bool.{cases_lt, false_from_ne_true, true≢false, or_from, or_parts}
-use Rattle.std.proofs.lemmas.List.{get_or_past, same_lists}
+use Rattle.std.proofs.lemmas.List.{get_or_past}
 use Rattle.std.proofs.lemmas.List.Folds.{list_any_at, list_any_none}
-use Rattle.std.proofs.lemmas.List.FromFn.{get_or-map-range_with_len, length-map-range_with_len, length-range_with_len, get_or-range_with_len}
+use Rattle.std.proofs.lemmas.List.FromFn.{fill_by_all, length-range_with_len, get_or-range_with_len}
 use Rattle.nr_bitvec.specs.Bit.{bit}
 use Rattle.nr_harqbuf.specs.Masks.{merged, first_merged, differs_at}
 use Rattle.nr_harqbuf.specs.Positions.{kept, kept_at}
@@ -77,11 +77,8 @@ same_falsehood true true f g = refl
 
 pub merged-done : (old : Lists) (bits : List Bool) (new : Lists) (k : ℕ) → IsMerged k old bits new → k ≡ length old.heard → record_in new ≡ merged (record_in old) old.marks bits
 unfolding merged
-merged-done old bits new k m whole = both _ _ _ _ firsts clash
+merged-done old bits new k m whole = rw (firsts, clash) refl
   where
-    both : (a b : List (Option Bool)) (s t : Bool) → a ≡ b → s ≡ t → ◌≡◌ {A = HeardBits} (record { first = a; clash = s }) (record { first = b; clash = t })
-    both a b s t e f = cc
-
     count : ℕ
     count = length (kept old.heard old.value)
 
@@ -96,12 +93,8 @@ merged-done old bits new k m whole = both _ _ _ _ firsts clash
         ∙ ap (λ o. cond (is_heard o) o (kept_at old.marks bits p)) (sym (kept-at old.heard old.value p))
 
     firsts : kept new.heard new.value ≡ map (first_merged (record_in old) old.marks bits) (range_with_len 0 count)
-    firsts = same_lists (kept new.heard new.value) (map (first_merged (record_in old) old.marks bits) (range_with_len 0 count))
-        (length-kept new.heard new.value ∙ m.heard_long ∙ sym (length-map-range_with_len (first_merged (record_in old) old.marks bits) 0 count ∙ long))
-        (λ p d h.
-        let lt : p < length old.heard = omega (arith, h, length-kept new.heard new.value, m.heard_long) in
-        get_or-map-range_with_len (kept_at new.heard new.value) 0 (length new.heard) p p d (omega (arith, lt, m.heard_long)) (omega arith) ∙ first p lt
-        ∙ sym (get_or-map-range_with_len (first_merged (record_in old) old.marks bits) 0 count p p d (omega (arith, lt, long)) (omega arith)))
+    firsts = fill_by_all (first_merged (record_in old) old.marks bits) (kept new.heard new.value) count None (length-kept new.heard new.value ∙ m.heard_long ∙ sym long)
+        (λ p lt. kept-at new.heard new.value p ∙ first p (omega (arith, lt, long)))
 
     differ : (p : ℕ) → differs_at (record_in old) old.marks bits p ≡ clashes_at (at_position old p) (bit bits p)
     differ p = ap (λ o. bit old.marks p && differs o (bit bits p)) (kept-at old.heard old.value p) ∙ clash_bits (bit old.heard p) (bit old.value p) (bit old.marks p) (bit bits p)

@@ -3,11 +3,14 @@ use Rattle.std.proofs.Common.{◌≡◌, ◌≢◌, ℕ, ◌<◌, ◌==◌, ◌|
 use Rattle.std.specs.Prelude.{Option, Some, None, map, option_map, suc, zero}
 use Rattle.std.specs.Bool.{beq}
 use Rattle.std.specs.List.{range_with_len, find, list_any, list_all}
-use Rattle.std.proofs.lemmas.Bool.{cases_eq, cases_lt, eqb-true, eq-eqb, ne_eqb, and_parts, and_from, false_from_ne_true, true_from_ne_false, false≢true, true≢false, or_left, or_right}
-use Rattle.std.proofs.lemmas.List.{get_or-set_same, get_or-set_other, get_or_past, length-set, same_lists}
-use Rattle.std.proofs.lemmas.List.FromFn.{get_or-map-range_with_len, length-map-range_with_len}
-use Rattle.std.proofs.lemmas.List.Folds.{list_any-append, list_any_at, list_all_at}
-use Rattle.nr_harqbuf.specs.Record.{HeardBits, Observation, HasFirsts, first_at, first_heard, heard_as, is_heard, differs, with_hearing, record_of, clashes, RecordContinues, FitsByRecord}
+use Rattle.std.proofs.lemmas.Bool.{cases_eq, cases_lt, eqb-true, eq-eqb, ne_eqb, and_parts, and_from, false_from_ne_true, false≢true, true≢false, or_left, or_right}
+use Rattle.std.proofs.lemmas.List.{get_or-set_same, get_or-set_other, get_or_default, get_or_past, length-set}
+use Rattle.std.proofs.lemmas.List.FromFn.{fill_by_all, get_or-map-range_with_len, length-map-range_with_len}
+use Rattle.std.proofs.lemmas.Bool.Decides.{same_from_decides}
+use Rattle.std.proofs.lemmas.List.Elements.{All-from_get_or}
+use Rattle.std.proofs.lemmas.List.Folds.{Any-from_list_any, list_any-append, list_any_at}
+use Rattle.std.proofs.lemmas.List.Sums.{AllPass-from_list_all, list_all-from_AllPass}
+use Rattle.nr_harqbuf.specs.Record.{Observation, HasFirsts, first_at, first_heard, heard_as, is_heard, differs, with_hearing, record_of, clashes, RecordContinues, FitsByRecord}
 
 -- what a record holds at a position
 pub record_of-at : (n : ℕ) (hs : List Observation) (p : ℕ) → p < n → first_at (record_of n hs) p ≡ first_heard hs p
@@ -46,14 +49,6 @@ pub beq_same : (a : Bool) → beq a a ≡ true
 beq_same true = refl
 beq_same false = refl
 
-pub same_truth : (a b : Bool) → (a ≡ true → b ≡ true) → (b ≡ true → a ≡ true) → a ≡ b
-same_truth true b f g = sym (f refl)
-same_truth false true f g = g refl
-same_truth false false f g = refl
-
-none : Observation
-none = (0, false)
-
 -- an element that passes
 pub record Passes {X : Type 0} (p : X → Bool) (xs : List X) (d : X) : Type 0 where
   pub index : ℕ
@@ -61,12 +56,9 @@ pub record Passes {X : Type 0} (p : X → Bool) (xs : List X) (d : X) : Type 0 w
   pub passes : p (get_or xs index d) ≡ true
 
 pub one_passes : {X : Type 0} (p : X → Bool) (xs : List X) (d : X) → list_any p xs ≡ true → Passes p xs d
-one_passes p [] d h = absurd (false≢true h)
-one_passes {X} p (x ∷ xs) d h = go (p x) refl h (λ k. one_passes p xs d k)
-  where
-    go : (b : Bool) → p x ≡ b → (b || list_any p xs) ≡ true → (list_any p xs ≡ true → Passes p xs d) → Passes p (x ∷ xs) d
-    go true e k ih = record { index = 0; below = omega arith; passes = e }
-    go false e k ih = let r = ih k in record { index = suc r.index; below = omega arith; passes = r.passes }
+one_passes p xs d h =
+    let it = Any-from_list_any p xs h in
+    record { index = it.0; below = it.2; passes = ap p (get_or_default xs it.0 d it.1 it.2 ∙ it.3) ∙ it.4 }
 
 -- a position was received with a bit where some hearing says so
 pub heard_there : (hs : List Observation) (p : ℕ) (b : Bool) → heard_as hs p b ≡ true → Passes (λ (h : Observation). (h.0 == p) && beq h.1 b) hs (0, false)
@@ -124,7 +116,7 @@ not_differs false = refl
 
 pub clashes-differs : (hs : List Observation) → clashes hs ≡ some_differs hs hs
 unfolding clashes
-clashes-differs hs = same_truth (list_any (λ (h : Observation). heard_as hs h.0 (not h.1)) hs) (some_differs hs hs) down up
+clashes-differs hs = same_from_decides {P = some_differs hs hs ≡ true} _ _ (down, up) (λ e. e, λ e. e)
   where
     down : list_any (λ (h : Observation). heard_as hs h.0 (not h.1)) hs ≡ true → some_differs hs hs ≡ true
     down h = at_one (one_passes (λ (x : Observation). heard_as hs x.0 (not x.1)) hs (0, false) h)
@@ -211,56 +203,32 @@ clashes-push hs h =
 pub record-continues : RecordContinues
 unfolding with_hearing
 record-continues n hs h lt =
-    let at : first_at (record_of n hs) h.0 ≡ first_heard hs h.0 = record_of-at n hs h.0 lt in
-    let clash-is : (clashes hs || differs (first_at (record_of n hs) h.0) h.1) ≡ clashes (hs ++ h ∷ []) = ap (λ o. clashes hs || differs o h.1) at ∙ sym (clashes-push hs h) in
-    let first-is = ap (λ o. cond (is_heard o) (map (first_heard hs) (range_with_len 0 n)) (set (map (first_heard hs) (range_with_len 0 n)) h.0 (Some h.1))) at ∙ firsts in
-    both _ _ _ _ first-is clash-is
+    rw (record_of-at n hs h.0 lt, go (first_heard hs h.0) refl, ← clashes-push hs h) refl
   where
-    both : (a b : List (Option Bool)) (s t : Bool) → a ≡ b → s ≡ t → ◌≡◌ {A = HeardBits} (record { first = a; clash = s }) (record { first = b; clash = t })
-    both a b s t e f = cc
+    M : List (Option Bool)
+    M = map (first_heard hs) (range_with_len 0 n)
 
-    firsts : cond (is_heard (first_heard hs h.0)) (map (first_heard hs) (range_with_len 0 n)) (set (map (first_heard hs) (range_with_len 0 n)) h.0 (Some h.1)) ≡ map (first_heard (hs ++ h ∷ [])) (range_with_len 0 n)
-    firsts = go (first_heard hs h.0) refl
+    long : length M ≡ n
+    long = length-map-range_with_len (first_heard hs) 0 n
+
+    rng : (k : ℕ) → k < n → get_or M k None ≡ first_heard hs k
+    rng k l = get_or-map-range_with_len (first_heard hs) 0 n k k None l (omega arith)
+
+    other : (k : ℕ) → k ≢ h.0 → first_heard hs k ≡ first_heard (hs ++ h ∷ []) k
+    other k ne = rw (first_heard-push hs h k, ne_eqb h.0 k (λ e. ne (sym e))) (kept (first_heard hs k))
       where
-        rng : (f : ℕ → Option Bool) (k : ℕ) (d : Option Bool) → k < n → get_or (map f (range_with_len 0 n)) k d ≡ f k
-        rng f k d l = get_or-map-range_with_len f 0 n k k d l (omega arith)
+        kept : (o : Option Bool) → o ≡ cond (is_heard o) o None
+        kept None = refl
+        kept (Some a) = refl
 
-        long : (f : ℕ → Option Bool) → length (map f (range_with_len 0 n)) ≡ n
-        long f = length-map-range_with_len f 0 n
-
-        other : (k : ℕ) → k ≢ h.0 → first_heard (hs ++ h ∷ []) k ≡ first_heard hs k
-        other k ne = first_heard-push hs h k ∙ ap (λ t. cond (is_heard (first_heard hs k)) (first_heard hs k) (cond t (Some h.1) None)) (ne_eqb h.0 k (λ e. ne (sym e))) ∙ go (first_heard hs k)
-          where
-            go : (o : Option Bool) → cond (is_heard o) o None ≡ o
-            go None = refl
-            go (Some a) = refl
-
-        go : (o : Option Bool) → first_heard hs h.0 ≡ o → cond (is_heard o) (map (first_heard hs) (range_with_len 0 n)) (set (map (first_heard hs) (range_with_len 0 n)) h.0 (Some h.1)) ≡ map (first_heard (hs ++ h ∷ [])) (range_with_len 0 n)
-        go (Some a) e = same_lists (map (first_heard hs) (range_with_len 0 n)) (map (first_heard (hs ++ h ∷ [])) (range_with_len 0 n)) (long (first_heard hs) ∙ sym (long (first_heard (hs ++ h ∷ []))))
-            (λ k d l. let l' : k < n = omega (arith, long (first_heard hs)) in rng (first_heard hs) k d l' ∙ same k ∙ sym (rng (first_heard (hs ++ h ∷ [])) k d l'))
-          where
-            same : (k : ℕ) → first_heard hs k ≡ first_heard (hs ++ h ∷ []) k
-            same k = ⊎_elim (λ (q : k ≡ h.0). rw q (e ∙ sym (first_stays hs (h ∷ []) h.0 a e))) (λ ne. sym (other k ne)) (cases_eq k h.0)
-        go None e = same_lists (set (map (first_heard hs) (range_with_len 0 n)) h.0 (Some h.1)) (map (first_heard (hs ++ h ∷ [])) (range_with_len 0 n)) (length-set (map (first_heard hs) (range_with_len 0 n)) h.0 (Some h.1) ∙ long (first_heard hs) ∙ sym (long (first_heard (hs ++ h ∷ []))))
-            (λ k d l. let l' : k < n = omega (arith, long (first_heard hs), length-set (map (first_heard hs) (range_with_len 0 n)) h.0 (Some h.1)) in each k d l')
-          where
-            here : first_heard (hs ++ h ∷ []) h.0 ≡ Some h.1
-            here = first_heard-push hs h h.0 ∙ ap (λ o. cond (is_heard o) o (cond (h.0 == h.0) (Some h.1) None)) e ∙ ap (λ t. cond t (Some h.1) None) (eq-eqb h.0 h.0 refl)
-
-            each : (k : ℕ) (d : Option Bool) → k < n → get_or (set (map (first_heard hs) (range_with_len 0 n)) h.0 (Some h.1)) k d ≡ get_or (map (first_heard (hs ++ h ∷ [])) (range_with_len 0 n)) k d
-            each k d l = ⊎_elim
-                (λ (q : k ≡ h.0). let l' : h.0 < length (map (first_heard hs) (range_with_len 0 n)) = omega (arith, long (first_heard hs)) in
-                rw q (get_or-set_same (map (first_heard hs) (range_with_len 0 n)) h.0 (Some h.1) d l' ∙ sym (rng (first_heard (hs ++ h ∷ [])) h.0 d lt ∙ here)))
-                (λ (ne : k ≢ h.0). get_or-set_other (map (first_heard hs) (range_with_len 0 n)) h.0 k (Some h.1) d ne ∙ rng (first_heard hs) k d l ∙ sym (rng (first_heard (hs ++ h ∷ [])) k d l ∙ other k ne))
-                (cases_eq k h.0)
-
--- a word agrees at each hearing
-all_from : {X : Type 0} (p : X → Bool) (xs : List X) (d : X) → ((i : ℕ) → i < length xs → p (get_or xs i d) ≡ true) → list_all p xs ≡ true
-all_from p [] d h = refl
-all_from p (x ∷ xs) d h = and_from (p x) (list_all p xs) (h 0 (omega arith)) (all_from p xs d (λ i lt. h (suc i) (omega arith)))
-
-all_at : {X : Type 0} (p : X → Bool) (xs : List X) (d : X) (i : ℕ) → list_all p xs ≡ true → i < length xs → p (get_or xs i d) ≡ true
-all_at p xs d i h lt = true_from_ne_false (p (get_or xs i d)) (λ e. true≢false (sym h ∙ list_all_at p xs i d lt e))
+    go : (o : Option Bool) → first_heard hs h.0 ≡ o → cond (is_heard (first_heard hs h.0)) M (set M h.0 (Some h.1)) ≡ map (first_heard (hs ++ h ∷ [])) (range_with_len 0 n)
+    go (Some a) e = rw e (fill_by_all (first_heard (hs ++ h ∷ [])) M n None long
+        (λ k l. rng k l ∙ ⊎_elim (λ (q : k ≡ h.0). rw (q, e, first_stays hs (h ∷ []) h.0 a e) refl) (λ ne. other k ne) (cases_eq k h.0)))
+    go None e = rw e (fill_by_all (first_heard (hs ++ h ∷ [])) (set M h.0 (Some h.1)) n None (length-set M h.0 (Some h.1) ∙ long)
+        (λ k l. ⊎_elim
+        (λ (q : k ≡ h.0). rw (q, get_or-set_same M h.0 (Some h.1) None (omega (arith, long, lt)), first_heard-push hs h h.0, e, eq-eqb h.0 h.0 refl) refl)
+        (λ (ne : k ≢ h.0). get_or-set_other M h.0 k (Some h.1) None ne ∙ rng k l ∙ other k ne)
+        (cases_eq k h.0)))
 
 pub fits-by_record : FitsByRecord
 fits-by_record w n hs below = (there, back)
@@ -273,7 +241,7 @@ fits-by_record w n hs below = (there, back)
         let r = heard_there hs p b h in
         let y = get_or hs r.index (0, false) in
         let parts = and_parts (y.0 == p) (beq y.1 b) r.passes in
-        let fits : w y.0 ≡ y.1 = beq_true (w y.0) y.1 (all_at (λ (h : Observation). beq (w h.0) h.1) hs (0, false) r.index all r.below) in
+        let fits : w y.0 ≡ y.1 = beq_true (w y.0) y.1 (AllPass-from_list_all (λ (h : Observation). beq (w h.0) h.1) hs all r.index (0, false) r.below) in
         ap w (sym (eqb-true y.0 p parts.0)) ∙ fits ∙ beq_true y.1 b parts.1
 
     there : list_all (λ (h : Observation). beq (w h.0) h.1) hs ≡ true → (clashes hs ≡ false) × HasFirsts (record_of n hs) w
@@ -286,7 +254,7 @@ fits-by_record w n hs below = (there, back)
             let x = get_or hs r.index (0, false) in
             let d : differs (Some f.bit) x.1 ≡ true = sym (ap (λ o. differs o x.1) f.is) ∙ r.passes in
             let first : w x.0 ≡ f.bit = heard_agrees all x.0 f.bit (first_is_heard hs x.0 f.bit f.is) in
-            let own : w x.0 ≡ x.1 = beq_true (w x.0) x.1 (all_at (λ (h : Observation). beq (w h.0) h.1) hs (0, false) r.index all r.below) in
+            let own : w x.0 ≡ x.1 = beq_true (w x.0) x.1 (AllPass-from_list_all (λ (h : Observation). beq (w h.0) h.1) hs all r.index (0, false) r.below) in
             unlike x.1 (sym own ∙ first ∙ differs_not f.bit x.1 d)
           where
             unlike : (b : Bool) → b ≡ not b → ⊥
@@ -303,7 +271,7 @@ fits-by_record w n hs below = (there, back)
             none_some h = cc
 
     back : (clashes hs ≡ false) × HasFirsts (record_of n hs) w → list_all (λ (h : Observation). beq (w h.0) h.1) hs ≡ true
-    back h = all_from (λ (x : Observation). beq (w x.0) x.1) hs (0, false) each
+    back h = list_all-from_AllPass (λ (x : Observation). beq (w x.0) x.1) hs (All-from_get_or (λ (x : Observation). beq (w x.0) x.1 ≡ true) hs (0, false) each)
       where
         each : (i : ℕ) → i < length hs → beq (w (get_or hs i (0, false)).0) (get_or hs i (0, false)).1 ≡ true
         each i lt =

@@ -1,14 +1,14 @@
-use Rattle.std.proofs.Common.{◌≡◌, ◌≢◌, ℕ, ◌<◌, [], Bool, false, List, length, sym, ap, subst, ◌∙◌, ⊎_elim, arith}
+use Rattle.std.proofs.Common.{◌≡◌, ◌≢◌, ℕ, ◌<◌, [], Bool, false, List, length, ⊎_elim, arith}
 use Rattle.std.proofs.lemmas.Bool.{cases_eq}
 use Rattle.std.proofs.lemmas.List.{get_or_read}
 use Rattle.nr_bitvec.specs.Bit.{bit}
-use Rattle.nr_harqbuf.specs.Record.{HeardBits}
 use Rattle.nr_ldpcenc.specs.Codeword.{codeword}
 use Rattle.nr_segment.specs.Plan.{word_size}
 use Rattle.nr_segment.specs.CodeBlock.{code_bits, numbers}
 use Rattle.nr_blockdesk.specs.Heard.{heard_of}
 use Rattle.nr_blockdesk.specs.ReceivingInside.{Fits}
 use Rattle.nr_blockdesk.proofs.KeptCandidateFacts.{words-more, words-set}
+use Rattle.nr_blockdesk.proofs.encoder.explains.Goals.{After-index-stores-r}
 use Rattle.nr_blockdesk.proofs.encoder.explains.Goals as goal
 
 pub encode_into-requires-clause-long : goal.encode_into-requires-clause-long
@@ -18,43 +18,33 @@ encode_into-requires-clause-long c =
     let inside : r < length c.loop-r.words = omega (arith, inv.words.many, c.loop-r-test.true) in
     inv.words.long r c.index-words-r.result inside
 
+stored : (c : After-index-stores-r) → c.index-stores-r.result ≡ heard_of c.args.stores.now c.loop-r.r
+stored c =
+    get_or_read c.args.stores.now c.loop-r.r c.index-stores-r.result (omega (arith, c.requires.all, c.loop-r-test.true)) c.index-stores-r.is (record { first = []; clash = false })
+
 pub agrees-requires : goal.agrees-requires
 agrees-requires c =
-    let elem = c.index-stores-r.result in
-    let r = c.loop-r.r in
-    let inside : r < length c.args.stores.now = omega (arith, c.requires.all, c.loop-r-test.true) in
-    ap (λ (s : HeardBits). length s.first) (get_or_read c.args.stores.now r elem inside c.index-stores-r.is (record { first = []; clash = false }))
-    ∙ c.requires.stored r c.loop-r-test.true
-    ∙ sym c.encode_into.ensures.long
+    rw (stored (goal.at.agrees-requires c).After-index-stores-r, c.encode_into.ensures.long) (c.requires.stored c.loop-r.r c.loop-r-test.true)
 
 pub returns-then-not-agrees-clause-misfits : goal.returns-then-not-agrees-clause-misfits
 returns-then-not-agrees-clause-misfits c = λ _ all.
-    let elem = c.index-stores-r.result in
-    let r = c.loop-r.r in
-    let inside : r < length c.args.stores.now = omega (arith, c.requires.all, c.loop-r-test.true) in
-    let is : elem ≡ heard_of c.args.stores.now r = get_or_read c.args.stores.now r elem inside c.index-stores-r.is (record { first = []; clash = false }) in
     c.agrees.ensures.misfits c.if-not-agrees.true
-    (subst (λ s. Fits s (bit c.encode_into.new.word)) (sym is)
-    (subst (λ w. Fits (heard_of c.args.stores.now r) (bit w)) (sym c.encode_into.ensures.encoded) (all r c.loop-r-test.true)))
+    (rw (stored (goal.at.returns-then-not-agrees-clause-misfits c).After-index-stores-r, c.encode_into.ensures.encoded) (all c.loop-r.r c.loop-r-test.true))
 
 pub loop-r-preserved : goal.loop-r-preserved
 loop-r-preserved c =
-    let elem = c.index-stores-r.result in
     let r = c.loop-r.r in
     let plan = c.args.plan.now in
-    let inside : r < length c.args.stores.now = omega (arith, c.requires.all, c.loop-r-test.true) in
-    let is : elem ≡ heard_of c.args.stores.now r = get_or_read c.args.stores.now r elem inside c.index-stores-r.is (record { first = []; clash = false }) in
-    let fits = c.agrees.ensures.fits c.if-not-agrees.false in
     let coded : ℕ → List Bool = λ q. codeword c.args.table.now plan.graph (numbers plan) (code_bits (numbers plan) c.args.attached.now.items q) in
     let one : Fits (heard_of c.args.stores.now r) (bit (coded r)) =
-    subst (λ w. Fits (heard_of c.args.stores.now r) (bit w)) c.encode_into.ensures.encoded (subst (λ s. Fits s (bit c.encode_into.new.word)) is fits) in
+    rw (← stored (goal.at.loop-r-preserved c).After-index-stores-r, ← c.encode_into.ensures.encoded) (c.agrees.ensures.fits c.if-not-agrees.false) in
     record {
       words = words-set plan.c (word_size plan.graph (numbers plan)) c.loop-r.words r c.encode_into.new.word c.loop-r.invariant.words c.loop-r-test.true
           c.encode_into.ensures.long;
       encoded = words-more c.loop-r.words r c.encode_into.new.word coded (omega (arith, c.loop-r.invariant.words.many, c.loop-r-test.true))
           c.encode_into.ensures.encoded c.loop-r.invariant.encoded;
       fits = λ q below. ⊎_elim
-          (λ (here : q ≡ r). subst (λ k. Fits (heard_of c.args.stores.now k) (bit (coded k))) (sym here) one)
+          (λ (here : q ≡ r). rw here one)
           (λ (there : q ≢ r). c.loop-r.invariant.fits q (omega (arith, below, there)))
           (cases_eq q r);
     }
