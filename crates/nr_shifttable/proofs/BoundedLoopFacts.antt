@@ -1,12 +1,16 @@
 -- Loops that test each number below a bound.
-use Rattle.std.proofs.Common.{◌≡◌, ℕ, zero, suc, ◌<◌, Bool, false, subst, arith, ⊎_elim}
-use Rattle.std.proofs.lemmas.Bool.{and_left, and_right, cases_eq}
+use Rattle.std.proofs.Common.{◌≡◌, ℕ, ◌<◌, Bool, true, false, ◌&&◌, refl, arith}
+use Rattle.std.specs.Bool.{Decides}
+use Rattle.std.proofs.lemmas.Bool.{both_ways, false_from_ne_true}
+use Rattle.std.proofs.lemmas.Bool.Decides.{Decides-below_and}
 use Rattle.nr_shifttable.specs.Accepted.{each_below}
+
+flips : (a b : Bool) → (a && b) ≡ (b && a)
+flips a b = grind arith
+
+pub each_below-tells : (n : ℕ) (test : ℕ → Bool) → Decides (each_below n test) ((k : ℕ) → k < n → test k ≡ true)
+each_below-tells n test = Decides-below_and test (λ k. test k ≡ true) (λ m. each_below m test) (λ k. ((λ h. h), (λ h. h))) refl (λ m. flips (each_below m test) (test m)) n
 
 -- a number fails the test
 pub each_below-not : (n k : ℕ) (test : ℕ → Bool) → k < n → test k ≡ false → each_below n test ≡ false
-each_below-not zero k test lt fails = absurd (omega arith)
-each_below-not (suc n) k test lt fails = ⊎_elim
-    (λ e. and_right (each_below n test) (test n) (subst (λ i. test i ≡ false) e fails))
-    (λ ne. and_left (each_below n test) (test n) (each_below-not n k test (omega arith) fails))
-    (cases_eq k n)
+each_below-not n k test lt fails = false_from_ne_true (each_below n test) (λ all. both_ways (test k) fails ((each_below-tells n test).0 all k lt))

@@ -11,29 +11,7 @@ use Rattle.nr_shifttable.proofs.ParityShapeFacts.{accepted-has_shape}
 
 -- of three bits two of which are equal, the third is the sum
 third-sum : (f : ℕ → Bool) (a b c : ℕ) → (a ≡ b) ⊎ ((b ≡ c) ⊎ (a ≡ c)) → plus (f a) (plus (f b) (f c)) ≡ f (third_of a b c)
-third-sum f a b c two = by_tests (a == b) (a == c) refl refl
-  where
-    cancel_first : (x y z : Bool) → x ≡ y → plus x (plus y z) ≡ z
-    cancel_first x y z e = grind arith
-
-    cancel_outer : (x y z : Bool) → x ≡ z → plus x (plus y z) ≡ y
-    cancel_outer x y z e = grind arith
-
-    cancel_last : (x y z : Bool) → y ≡ z → plus x (plus y z) ≡ x
-    cancel_last x y z e = grind arith
-
-    differ : (x y : ℕ) → x ≡ y → (x == y) ≡ false → ⊥
-    differ x y e h = grind (arith, nat_tests)
-
-    last_agree : (a ≡ b) ⊎ ((b ≡ c) ⊎ (a ≡ c)) → (a == b) ≡ false → (a == c) ≡ false → b ≡ c
-    last_agree (inl e) h k = absurd (differ a b e h)
-    last_agree (inr (inl e)) h k = e
-    last_agree (inr (inr e)) h k = absurd (differ a c e k)
-
-    by_tests : (x y : Bool) → (a == b) ≡ x → (a == c) ≡ y → plus (f a) (plus (f b) (f c)) ≡ f (third_of a b c)
-    by_tests true y h k = rw h (cancel_first (f a) (f b) (f c) (ap f (eqb-true a b h)))
-    by_tests false true h k = rw (h, k) (cancel_outer (f a) (f b) (f c) (ap f (eqb-true a c k)))
-    by_tests false false h k = rw (h, k) (cancel_last (f a) (f b) (f c) (ap f (last_agree two h k)))
+third-sum f a b c two = grind (arith, nat_tests, eqb-true)
 
 -- the diagonal's zeros cancel, with the first parity column in row 1 or in row 2
 diagonal : (a b c p q r : Bool) → plus a (plus p (plus b (plus p (plus q (plus q (plus r (plus c (plus r false)))))))) ≡ plus a (plus b c)

@@ -20,9 +20,7 @@ blank-behind b xs blank h = list_all-append is_blank xs (b ∷ []) ∙ ap (λ x.
 -- a blank at the end of a field is left out
 pub last-blank : (xs : List ℕ) (b : ℕ) → is_blank b ≡ true → to_last_mark (xs ++ b ∷ []) ≡ to_last_mark xs
 last-blank [] b h = rw h refl
-last-blank (x ∷ xs) b h =
-    ap (λ t. cond t [] (x ∷ to_last_mark (xs ++ b ∷ []))) (blank-behind b (x ∷ xs) true h ∙ and-true (list_all is_blank (x ∷ xs)))
-    ∙ ap (λ ys. cond (list_all is_blank (x ∷ xs)) [] (x ∷ ys)) (last-blank xs b h)
+last-blank (x ∷ xs) b h = grind (arith, blank-behind, and-true, last-blank xs b h)
 
 and-false : (b : Bool) → (b && false) ≡ false
 and-false true = refl
@@ -31,9 +29,7 @@ and-false false = refl
 -- another octet at the end stays, and all before it
 pub last-mark : (xs : List ℕ) (b : ℕ) → is_blank b ≡ false → to_last_mark (xs ++ b ∷ []) ≡ xs ++ b ∷ []
 last-mark [] b h = rw h refl
-last-mark (x ∷ xs) b h =
-    ap (λ t. cond t [] (x ∷ to_last_mark (xs ++ b ∷ []))) (blank-behind b (x ∷ xs) false h ∙ and-false (list_all is_blank (x ∷ xs)))
-    ∙ ap (λ ys. x ∷ ys) (last-mark xs b h)
+last-mark (x ∷ xs) b h = grind (arith, blank-behind, and-false, last-mark xs b h)
 
 -- the test of each octet is std's recursion
 digits-told : (ds : List ℕ) → list_all is_ascii_digit ds ≡ all_ascii_digits ds

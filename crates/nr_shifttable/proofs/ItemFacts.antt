@@ -5,13 +5,13 @@ use Rattle.std.specs.List.{list_all}
 use Rattle.std.specs.Result.{OkIff, result_ok}
 use Rattle.std.proofs.lemmas.Bool.{lt-ltb}
 use Rattle.std.proofs.lemmas.List.{append-nil, drop_all, drop_more, get_or-drop, length-drop, take_all, take_more, take_more_set}
+use Rattle.std.proofs.lemmas.Option.{same_Some}
 use Rattle.std.proofs.lemmas.Result.{OkIff-at_ok}
 use Rattle.csv.specs.Records.{field_at}
 use Rattle.csv.proofs.RecordFacts.{field-there}
 use Rattle.nr_shifttable.specs.Fields.{short_number, stripped}
 use Rattle.nr_shifttable.specs.Items.{is_header, item_of, items_from, short_numbers, with_item}
 use Rattle.nr_shifttable.specs.Records.{Record}
-use Rattle.nr_shifttable.proofs.RecordFacts.{some-same}
 use Rattle.nr_refusal.specs.Refusal.{◌>>=◌}
 use Rattle.nr_shifttable.specs.declared.entry.Item.{Item}
 use Rattle.nr_shifttable.specs.declared.fault.TableFault.{TableFault}
@@ -20,7 +20,7 @@ use Rattle.nr_shifttable.specs.declared.fault.TableFault.{TableFault}
 pub header-some : (r : Record) (f : List ℕ) → Some f ≡ field_at r 0 → bytes_eq (stripped f) (codes "graph") ≡ is_header r
 unfolding field_at
 header-some [] f e = cc e
-header-some (g ∷ gs) f e = ap (λ x. bytes_eq (stripped x) (codes "graph")) (some-same e)
+header-some (g ∷ gs) f e = ap (λ x. bytes_eq (stripped x) (codes "graph")) (same_Some f g e)
 
 pub header-none : (r : Record) → ◌≡◌ {A = Option (List ℕ)} None (field_at r 0) → false ≡ is_header r
 unfolding field_at
@@ -32,7 +32,7 @@ pub numbers-from : (r : Record) (i : ℕ) (f : List ℕ) → Some f ≡ field_at
     → short_numbers (drop i r) ≡ option_and_then (λ n. option_map (λ ns. n ∷ ns) (short_numbers (drop (i + 1) r))) (short_number (stripped f))
 unfolding field_at
 numbers-from [] i f e = cc e
-numbers-from (g ∷ gs) zero f e = rw (some-same e) refl
+numbers-from (g ∷ gs) zero f e = rw (same_Some f g e) refl
 numbers-from (g ∷ gs) (suc i) f e = let next : suc i + 1 ≡ suc (i + 1) = omega arith in rw next (numbers-from gs i f e)
 
 -- the numbers so far, and those of the fields left
@@ -69,7 +69,7 @@ no-field r i lt e = field-there r i lt (sym e)
 
 -- what a conversion to 16 bits says where it returns a number
 pub converted : {E : Type 0} (r : Result ℕ E) (x v : ℕ) → OkIff r (x < 65536) x → Some v ≡ result_ok r → (x < 65536) × (v ≡ x)
-converted {E} (Ok y) x v h e = let k = OkIff-at_ok {E = E} (Ok y) (x < 65536) x y h refl in (k.0, some-same e ∙ k.1)
+converted {E} (Ok y) x v h e = let k = OkIff-at_ok {E = E} (Ok y) (x < 65536) x y h refl in (k.0, same_Some v y e ∙ k.1)
 converted (Err e) x v h q = cc q
 
 abbrev short : ℕ → Bool
@@ -101,15 +101,12 @@ values-all numbers values i h k all front =
 pub items-more : (k : ℕ) (items more : List Item) (before rest : List Record) (r : Record) (found : Option Item) (all : Result (List Item) TableFault)
     → before ≡ r ∷ rest → item_of k items r ≡ Ok found → more ≡ with_item items found → items_from k items before ≡ all → items_from (k + 1) more rest ≡ all
 unfolding items_from
-items-more k items more before rest r found all b e m h =
-    ap (λ l. items_from (k + 1) l rest) m ∙ sym (ap (λ o. o >>= λ found. items_from (k + 1) (with_item items found) rest) e)
-    ∙ sym (ap (items_from k items) b) ∙ h
+items-more k items more before rest r found all b e m h = grind arith
 
 pub items-fault : (k : ℕ) (items : List Item) (before rest : List Record) (r : Record) (e : TableFault) (all : Result (List Item) TableFault)
     → before ≡ r ∷ rest → item_of k items r ≡ Err e → items_from k items before ≡ all → all ≡ Err e
 unfolding items_from
-items-fault k items before rest r e all b f h =
-    sym h ∙ ap (items_from k items) b ∙ ap (λ o. o >>= λ found. items_from (k + 1) (with_item items found) rest) f
+items-fault k items before rest r e all b f h = grind arith
 
 -- behind the last record the items are all
 pub items-end : (k : ℕ) (items : List Item) (before : List Record) (all : Result (List Item) TableFault) → before ≡ [] → items_from k items before ≡ all → all ≡ Ok items

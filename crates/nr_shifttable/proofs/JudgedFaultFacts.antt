@@ -1,4 +1,6 @@
 -- The faults that judging a text's records and their table returns: neither a failed read nor too long a text.
+use Rattle.std.proofs.lemmas.Bool.Decides.{nat_tests}
+use Rattle.std.proofs.Common.{arith}
 use Rattle.std.proofs.Common.{◌≡◌, ℕ, ◌+◌, ◌==◌, Bool, true, false, cond, not, ◌&&◌, ◌<◌, ◌⊎◌, inl, inr, List, [], ◌∷◌, length, refl, sym, subst}
 use Rattle.std.specs.Prelude.{Option, Some, None, Result, Ok, Err, IsErrOf, IfSome}
 use Rattle.std.proofs.lemmas.Bool.{lt-ltb}
@@ -44,12 +46,7 @@ judged-fault false e f p q = q
 
 item-judged : (k : ℕ) (earlier : List Item) (r : Record) → IsJudged (item_of k earlier r)
 unfolding item_of
-item-judged k earlier r =
-    judged-if (not (length r == 11)) _ _ (judged-fault (k == 1) fault.Fields (fault.Csv k) refl refl)
-    (judged-if ((k == 1) && is_header r) _ _ tt
-    (judged-bind (or_fault (fault.Number k) (short_numbers r)) _ (judged-or (fault.Number k) (short_numbers r) refl) (λ numbers.
-    judged-bind (or_fault (fault.Range k) (item_of_numbers numbers)) _ (judged-or (fault.Range k) (item_of_numbers numbers) refl) (λ found.
-    judged-if (has_place earlier found) _ _ refl tt))))
+item-judged k earlier r = grind (arith, nat_tests, judged-if, judged-fault, judged-bind, judged-or)
 
 pub items-judged : (k : ℕ) (items : List Item) (rs : List Record) → IsJudged (items_from k items rs)
 unfolding items_from
@@ -58,17 +55,11 @@ items-judged k items (r ∷ rs) = judged-bind (item_of k items r) _ (item-judged
 
 graph-judged : (g : Graph) (es : List Entry) → IsJudged (graph_checked g es)
 unfolding graph_checked
-graph-judged g es =
-    judged-if (length es == 0) _ _ tt
-    (judged-if (not (core_ok (info_cols_of g) es)) _ _ refl
-    (judged-if (not (extension_ok (info_cols_of g) (rows_of g) es)) _ _ refl
-    (judged-if (not (rows_present (rows_of g) es)) _ _ refl tt)))
+graph-judged g es = grind (arith, nat_tests, judged-if)
 
 pub accepted-judged : (t : Entries) → IsJudged (accepted t)
 unfolding accepted
-accepted-judged t =
-    judged-if ((length t.one == 0) && (length t.two == 0)) _ _ refl
-    (judged-bind (graph_checked One t.one) _ (graph-judged One t.one) (λ _. judged-bind (graph_checked Two t.two) _ (graph-judged Two t.two) (λ _. tt)))
+accepted-judged t = grind (arith, nat_tests, judged-if, judged-bind, graph-judged)
 
 -- nor does a call return such a fault that gives what is said so
 pub fault-judged : {Y : Type 0} (e : TableFault) (said : Result Y TableFault) → (e ≡ fault.Memory) ⊎ (said ≡ Err e) → IsJudged said → is_of_octets e ≡ false
@@ -80,10 +71,7 @@ gives-judged view (Ok x) said gives judged = tt
 gives-judged view (Err e) said gives judged = fault-judged e said gives judged
 
 pub judged-not : {X : Type 0} (r : Result X TableFault) (f : TableFault) → IsJudged r → is_of_octets f ≡ true → IsErrOf r f → ⊥
-judged-not r f judged outer is = clash (is_of_octets f) outer (subst IsJudged is judged)
-  where
-    clash : (b : Bool) → b ≡ true → b ≡ false → ⊥
-    clash b p q = cc
+judged-not r f judged outer is = grind arith
 
 -- a text over the limit is said to be too long
 pub too_long-said : {X : Type 0} (o : Option (List ℕ)) (view : X → Entries) → IfSome o (λ all. 4194304 < length all)

@@ -1,9 +1,10 @@
 -- Items in ascending order are the items of their table, and entries that a caller kept say what their items say.
+use Rattle.std.proofs.lemmas.Bool.Decides.{nat_tests}
 use Rattle.std.proofs.Common.{◌≡◌, ℕ, zero, suc, ◌+◌, ◌-◌, ◌*◌, ◌<◌, ◌≤◌, ◌==◌, nat_lt, Bool, true, false, cond, not, ◌&&◌, ◌||◌, List, [], ◌∷◌, ◌++◌, length, get_or, take, drop, map, refl, sym, ap, subst, ◌∙◌, append_assoc, arith}
 use Rattle.std.specs.Prelude.{Result, Ok, Err}
 use Rattle.std.specs.List.{All, filter, fold}
 use Rattle.std.specs.List.Sorted.{IsPartitionedBy, IsPartitionPoint}
-use Rattle.std.proofs.lemmas.Bool.{eqb-true, ltb-true, ltb-false, lt-ltb, le-ltb}
+use Rattle.std.proofs.lemmas.Bool.{and_parts, eqb-true, ltb-true, ltb-false, lt-ltb, le-ltb}
 use Rattle.std.proofs.lemmas.List.{append-nil, get_or-map, length-map}
 use Rattle.std.proofs.lemmas.List.Elements.{All-nil, All-cons, All-head, All-tail, All-push, All-weaker}
 use Rattle.nr_graphpick.specs.declared.Graph.{Graph}
@@ -20,7 +21,7 @@ use Rattle.nr_shifttable.specs.Items.{graph_eq}
 use Rattle.nr_shifttable.specs.Listed.{item_key, is_of_graph, graph_number, kept_of, names_graph, item_kept, is_placed, places_from, places_said, entries_said, item_in_graph, items_listed, kept_listed}
 use Rattle.nr_shifttable.specs.Orders.{key_of}
 use Rattle.nr_refusal.specs.Refusal.{◌>>=◌}
-use Rattle.nr_shifttable.proofs.ItemLaws.{both-true}
+use Rattle.nr_shifttable.proofs.ParityShapeFacts.{accepted-parts}
 use Rattle.nr_shifttable.proofs.SliceFacts.{filter_within}
 
 -- each item is within its base graph and past those before it, and the first is not below `past`
@@ -32,24 +33,12 @@ Ascend past (x ∷ xs) = (is_of_graph x ≡ true) × (past ≤ item_key x) × As
 pub said-ascend : (k past : ℕ) (es : List KeptEntry) → places_from k past es ≡ Ok tt → Ascend past (map item_kept es)
 unfolding places_from
 said-ascend k past [] said = tt
-said-ascend k past (e ∷ es) said = by (is_placed e) (nat_lt (item_key (item_kept e)) past) refl refl said (said-ascend (k + 1) (item_key (item_kept e) + 1) es)
-  where
-    by : (within below : Bool) → is_placed e ≡ within → nat_lt (item_key (item_kept e)) past ≡ below
-        → cond (not within) (Err (fault.Range k)) (cond below (Err (fault.Order k)) (places_from (k + 1) (item_key (item_kept e) + 1) es)) ≡ Ok tt
-        → (places_from (k + 1) (item_key (item_kept e) + 1) es ≡ Ok tt → Ascend (item_key (item_kept e) + 1) (map item_kept es)) → Ascend past (item_kept e ∷ map item_kept es)
-    by false below a b said next = cc said
-    by true true a b said next = cc said
-    by true false a b said next = ((both-true (names_graph e) (is_of_graph (item_kept e)) a).1, ltb-false (item_key (item_kept e)) past b, next said)
+said-ascend k past (e ∷ es) said = grind (arith, nat_tests, said-ascend (k + 1) (item_key (item_kept e) + 1) es, and_parts, ltb-false)
 
 pub ascend-said : (k past : ℕ) (items : List Item) → Ascend past items → places_from k past (map kept_of items) ≡ Ok tt
 unfolding places_from
 ascend-said k past [] up = refl
-ascend-said k past (x ∷ xs) up = by x.graph x.entry up (ascend-said (k + 1) (item_key x + 1) xs up.2)
-  where
-    by : (g : Graph) (e : Entry) → Ascend past (record { graph = g; entry = e } ∷ xs) → places_from (k + 1) (key_of g e.row e.col + 1) (map kept_of xs) ≡ Ok tt
-        → places_from k past (kept_of (record { graph = g; entry = e }) ∷ map kept_of xs) ≡ Ok tt
-    by One e up rest = let above = le-ltb (key_of One e.row e.col) past up.1 in rw (up.0, above) rest
-    by Two e up rest = let above = le-ltb (key_of Two e.row e.col) past up.1 in rw (up.0, above) rest
+ascend-said k past (x ∷ xs) up = grind (arith, nat_tests, ascend-said (k + 1) (item_key x + 1) xs up.2, le-ltb)
 
 -- An item is that of what is kept of it. What is kept is that of its item, where its base graph is 1 or 2.
 item-back : (g : Graph) (e : Entry) → item_kept (kept_of (record { graph = g; entry = e })) ≡ record { graph = g; entry = e }
@@ -58,36 +47,15 @@ item-back Two e = refl
 
 pub items-back : (xs : List Item) → map item_kept (map kept_of xs) ≡ xs
 items-back [] = refl
-items-back (x ∷ xs) =
-    let first : item_kept (kept_of x) ≡ x = item-back x.graph x.entry in
-    let rest : map item_kept (map kept_of xs) ≡ xs = items-back xs in
-    cc
+items-back (x ∷ xs) = grind (arith, item-back, items-back xs)
 
 kept-back : (e : KeptEntry) → names_graph e ≡ true → kept_of (item_kept e) ≡ e
-kept-back e has = ap numbered (number (e.graph == 1) (e.graph == 2) refl refl has)
-  where
-    numbered : ℕ → KeptEntry
-    numbered = λ g. record { graph = g; entry = e.entry }
-
-    number : (one two : Bool) → (e.graph == 1) ≡ one → (e.graph == 2) ≡ two → (one || two) ≡ true → graph_number (cond one One Two) ≡ e.graph
-    number true two a b has = sym (eqb-true e.graph 1 a)
-    number false true a b has = sym (eqb-true e.graph 2 b)
-    number false false a b has = cc has
+kept-back e has = grind (arith, nat_tests, eqb-true)
 
 all-back : (k past : ℕ) (es : List KeptEntry) → places_from k past es ≡ Ok tt → map kept_of (map item_kept es) ≡ es
 unfolding places_from
 all-back k past [] said = refl
-all-back k past (e ∷ es) said = by (is_placed e) (nat_lt (item_key (item_kept e)) past) refl said (all-back (k + 1) (item_key (item_kept e) + 1) es)
-  where
-    by : (within below : Bool) → is_placed e ≡ within
-        → cond (not within) (Err (fault.Range k)) (cond below (Err (fault.Order k)) (places_from (k + 1) (item_key (item_kept e) + 1) es)) ≡ Ok tt
-        → (places_from (k + 1) (item_key (item_kept e) + 1) es ≡ Ok tt → map kept_of (map item_kept es) ≡ es) → kept_of (item_kept e) ∷ map kept_of (map item_kept es) ≡ e ∷ es
-    by false below a said next = cc said
-    by true true a said next = cc said
-    by true false a said next =
-        let first : kept_of (item_kept e) ≡ e = kept-back e (both-true (names_graph e) (is_of_graph (item_kept e)) a).0 in
-        let rest : map kept_of (map item_kept es) ≡ es = next said in
-        cc
+all-back k past (e ∷ es) said = grind (arith, nat_tests, all-back (k + 1) (item_key (item_kept e) + 1) es, kept-back, and_parts)
 
 -- an insertion past all entries goes behind them
 with_entry-last : (acc : List Entry) (e : Entry) → All (λ x. entry_place x < entry_place e) acc → with_entry acc e ≡ acc ++ e ∷ []
@@ -112,20 +80,12 @@ fold-same low es up = fold-last low [] es (All-nil (λ x. entry_place x < low)) 
 
 -- the keys of base graph 1 are below those of base graph 2
 low-key : (r c : ℕ) → (nat_lt r 46 && nat_lt c 68) ≡ true → 68 * r + c < 4096
-low-key r c room =
-    let both = both-true (nat_lt r 46) (nat_lt c 68) room in
-    let a = ltb-true r 46 both.0 in
-    let b = ltb-true c 68 both.1 in
-    omega arith
+low-key r c room = grind (arith, nat_tests, and_parts, ltb-true)
 
 -- past them no item is one of it
 no-ones : (past : ℕ) (items : List Item) → Ascend past items → 4096 ≤ past → entries_for One items ≡ []
 no-ones past [] up far = refl
-no-ones past (x ∷ xs) up far = by x.graph x.entry up (let le = up.1 in no-ones (item_key x + 1) xs up.2 (omega arith))
-  where
-    by : (g : Graph) (e : Entry) → Ascend past (record { graph = g; entry = e } ∷ xs) → entries_for One xs ≡ [] → entries_for One (record { graph = g; entry = e } ∷ xs) ≡ []
-    by One e up next = let short = low-key e.row e.col up.0 in let le = up.1 in absurd (omega arith)
-    by Two e up next = next
+no-ones past (x ∷ xs) up far = grind (arith, no-ones (item_key x + 1) xs up.2 (omega arith), low-key)
 
 -- past them all items are of base graph 2, so no item of base graph 1 stands behind one of base graph 2
 all-twos : (past : ℕ) (items : List Item) → Ascend past items → 4096 ≤ past → All (λ x. graph_eq x.graph One ≡ false) items
@@ -159,11 +119,7 @@ ones-first past (x ∷ xs) up = by x.graph x.entry up (ones-first (item_key x + 
 
 -- entries that were kept are of base graph 1 by their number
 one-is : (e : KeptEntry) → graph_eq (item_kept e).graph One ≡ (e.graph == 1)
-one-is e = by (e.graph == 1)
-  where
-    by : (one : Bool) → graph_eq (cond one One Two) One ≡ one
-    by true = refl
-    by false = refl
+one-is e = grind (arith, nat_tests)
 
 pub kept-ones-first : (es : List KeptEntry) → Ascend 0 (map item_kept es) → IsPartitionedBy (λ e. e.graph == 1) es
 kept-ones-first es up i j d le lt is =
@@ -176,23 +132,11 @@ kept-ones-first es up i j d le lt is =
 
 ones-of : (es : List KeptEntry) → entries_for One (map item_kept es) ≡ map (λ (e : KeptEntry). e.entry) (filter (λ e. e.graph == 1) es)
 ones-of [] = refl
-ones-of (e ∷ es) = by (e.graph == 1) (ones-of es)
-  where
-    by : (one : Bool) → entries_for One (map item_kept es) ≡ map (λ (e : KeptEntry). e.entry) (filter (λ x. x.graph == 1) es)
-        → map (λ i. i.entry) (cond (graph_eq (cond one One Two) One) (item_in_graph (cond one One Two) e.entry ∷ filter (λ x. graph_eq x.graph One) (map item_kept es)) (filter (λ x. graph_eq x.graph One) (map item_kept es)))
-        ≡ map (λ (e : KeptEntry). e.entry) (cond one (e ∷ filter (λ x. x.graph == 1) es) (filter (λ x. x.graph == 1) es))
-    by true rest = ap (λ l. e.entry ∷ l) rest
-    by false rest = rest
+ones-of (e ∷ es) = grind (arith, nat_tests, ones-of es)
 
 twos-of : (es : List KeptEntry) → entries_for Two (map item_kept es) ≡ map (λ (e : KeptEntry). e.entry) (filter (λ e. not (e.graph == 1)) es)
 twos-of [] = refl
-twos-of (e ∷ es) = by (e.graph == 1) (twos-of es)
-  where
-    by : (one : Bool) → entries_for Two (map item_kept es) ≡ map (λ (e : KeptEntry). e.entry) (filter (λ x. not (x.graph == 1)) es)
-        → map (λ i. i.entry) (cond (graph_eq (cond one One Two) Two) (item_in_graph (cond one One Two) e.entry ∷ filter (λ x. graph_eq x.graph Two) (map item_kept es)) (filter (λ x. graph_eq x.graph Two) (map item_kept es)))
-        ≡ map (λ (e : KeptEntry). e.entry) (cond (not one) (e ∷ filter (λ x. not (x.graph == 1)) es) (filter (λ x. not (x.graph == 1)) es))
-    by true rest = rest
-    by false rest = ap (λ l. e.entry ∷ l) rest
+twos-of (e ∷ es) = grind (arith, nat_tests, twos-of es)
 
 module _ (es : List KeptEntry) (k : ℕ) (within : k ≤ length es) (point : IsPartitionPoint (λ e. (e.graph == 1) ≡ true) (λ e. (e.graph == 1) ≡ false) es k) where
   -- where those of base graph 1 end, the entries of both are parted
@@ -204,24 +148,12 @@ module _ (es : List KeptEntry) (k : ℕ) (within : k ≤ length es) (point : IsP
       ∙ sym (ones-of es)
 
   pub twos-are : map (λ (e : KeptEntry). e.entry) (take (length es - k) (drop k es)) ≡ entries_for Two (map item_kept es)
-  twos-are = ap (map (λ (e : KeptEntry). e.entry))
-      (filter_within (λ e. not (e.graph == 1)) es k (length es) within (omega arith)
-      (λ i d a b. ap not (point.0 i d a b)) (λ i d a b. ap not (point.1 i d a b)) (λ i d a b. absurd (omega arith)))
-      ∙ sym (twos-of es)
+  twos-are = grind (arith, nat_tests, filter_within, twos-of)
 
 -- the entries of both base graphs, with their base graphs, are the items
 pub items-are : (past : ℕ) (items : List Item) → Ascend past items → map (item_in_graph One) (entries_for One items) ++ map (item_in_graph Two) (entries_for Two items) ≡ items
 items-are past [] up = refl
-items-are past (x ∷ xs) up = by x.graph x.entry up (items-are (item_key x + 1) xs up.2)
-  where
-    by : (g : Graph) (e : Entry) → Ascend past (record { graph = g; entry = e } ∷ xs) → map (item_in_graph One) (entries_for One xs) ++ map (item_in_graph Two) (entries_for Two xs) ≡ xs
-        → map (item_in_graph One) (entries_for One (record { graph = g; entry = e } ∷ xs)) ++ map (item_in_graph Two) (entries_for Two (record { graph = g; entry = e } ∷ xs)) ≡ record { graph = g; entry = e } ∷ xs
-    by One e up next = ap (λ l. item_in_graph One e ∷ l) next
-    by Two e up next =
-        let none = no-ones (4096 + 68 * e.row + e.col + 1) xs up.2 (omega arith) in
-        let twos : List Item = map (item_in_graph Two) (entries_for Two xs) in
-        ap (λ l. map (item_in_graph One) l ++ (item_in_graph Two e ∷ twos)) none
-        ∙ ap (λ l. item_in_graph Two e ∷ l) (ap (λ l. map (item_in_graph One) l ++ twos) (sym none) ∙ next)
+items-are past (x ∷ xs) up = grind (arith, items-are (item_key x + 1) xs up.2, no-ones)
 
 -- the entries that they give to each base graph ascend
 pub ones-ascend : (low past : ℕ) (items : List Item) → Ascend past items → low ≤ past → Ascending low (entries_for One items)
@@ -230,7 +162,7 @@ ones-ascend low past (x ∷ xs) up le = by x.graph x.entry up (λ l h. ones-asce
   where
     by : (g : Graph) (e : Entry) → Ascend past (record { graph = g; entry = e } ∷ xs) → ((l : ℕ) → l ≤ key_of g e.row e.col + 1 → Ascending l (entries_for One xs))
         → (4096 ≤ key_of g e.row e.col + 1 → entries_for One xs ≡ []) → Ascending low (entries_for One (record { graph = g; entry = e } ∷ xs))
-    by One e up next none = let first = up.1 in (omega arith, ltb-true e.col 68 (both-true (nat_lt e.row 46) (nat_lt e.col 68) up.0).1, next (entry_place e + 1) (omega arith))
+    by One e up next none = let first = up.1 in (omega arith, ltb-true e.col 68 (and_parts (nat_lt e.row 46) (nat_lt e.col 68) up.0).1, next (entry_place e + 1) (omega arith))
     by Two e up next none = subst (Ascending low) (sym (none (omega arith))) tt
 
 pub twos-ascend : (low past : ℕ) (items : List Item) → Ascend past items → low ≤ past - 4096 → Ascending low (entries_for Two items)
@@ -244,7 +176,7 @@ twos-ascend low past (x ∷ xs) up le =
     by One e up same next = same
     by Two e up same next =
         let first = up.1 in
-        let short = ltb-true e.col 52 (both-true (nat_lt e.row 42) (nat_lt e.col 52) up.0).1 in
+        let short = ltb-true e.col 52 (and_parts (nat_lt e.row 42) (nat_lt e.col 52) up.0).1 in
         (omega arith, omega arith, next (omega arith))
 
 -- so their table is these entries
@@ -263,21 +195,8 @@ ascend-listed items up =
     ∙ ap (λ l. map (item_in_graph One) (entries_for One items) ++ map (item_in_graph Two) l) twos
     ∙ items-are 0 items up
 
--- what is accepted is what was judged
-accepted-same : (t u : Entries) → accepted t ≡ Ok u → t ≡ u
-unfolding accepted
-accepted-same t u e = by ((length t.one == 0) && (length t.two == 0)) (graph_checked One t.one) (graph_checked Two t.two) e
-  where
-    by : (none : Bool) (one two : Result (Unit {0}) TableFault) → cond none (Err Empty) (one >>= λ _. two >>= λ _. Ok t) ≡ Ok u → t ≡ u
-    by true one two e = cc e
-    by false (Err d) two e = cc e
-    by false (Ok x) (Err d) e = cc e
-    by false (Ok x) (Ok y) e = cc e
-
 pub kept-listed : (es : List KeptEntry) (t : Entries) → places_said es ≡ Ok tt → accepted (table_of (map item_kept es)) ≡ Ok t → kept_listed t ≡ es
-kept-listed es t said judged =
-    ap (map kept_of) (ap items_listed (sym (accepted-same (table_of (map item_kept es)) t judged)) ∙ ascend-listed (map item_kept es) (said-ascend 1 0 es said))
-    ∙ all-back 1 0 es said
+kept-listed es t said judged = grind (arith, accepted-parts, ascend-listed, said-ascend, all-back)
 
 -- and back: the entries of a base graph in ascending order, with their base graph, ascend as items
 ascend-from : (low past : ℕ) (items : List Item) → low ≤ past → Ascend past items → Ascend low items
@@ -329,10 +248,7 @@ twos-listed (e ∷ es) fs = twos-listed es fs
 
 -- so what a table lists is that table
 listed-table : (t : Entries) → IsTable t → table_of (items_listed t) ≡ t
-listed-table t table =
-    let ones = ap (fold with_entry []) (ones-listed t.one t.two) ∙ fold-same 0 t.one table.one in
-    let twos = ap (fold with_entry []) (twos-listed t.one t.two) ∙ fold-same 0 t.two table.two in
-    λ i. record { one = ones i; two = twos i }
+listed-table t table = grind (arith, ones-listed, fold-same, twos-listed)
 
 pub listed-kept : (t : Entries) → IsTable t → entries_said (kept_listed t) ≡ Ok t
 unfolding entries_said

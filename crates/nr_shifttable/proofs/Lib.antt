@@ -1,5 +1,4 @@
 mod SliceBoundFacts
-mod AscendingEntryFacts
 mod FeedFacts
 mod FieldFacts
 mod ItemFacts

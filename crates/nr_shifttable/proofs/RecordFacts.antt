@@ -1,6 +1,8 @@
 -- How the reads of a reader, one after another, give the records of its text.
+use Rattle.std.proofs.lemmas.Bool.Decides.{nat_tests}
 use Rattle.std.proofs.Common.{◌≡◌, ℕ, ◌+◌, ◌-◌, ◌<◌, ◌≤◌, zero, suc, List, [], ◌∷◌, ◌++◌, length, Option, Some, None, Bool, Bor, true, false, cond, not, drop, take, refl, ap, sym, ◌∙◌, arith, add-one}
 use Rattle.std.specs.Prelude.{◌==◌, ◌&&◌, ◌||◌, Result, Ok, Err, is_ok, IfOk, MatchResult}
+use Rattle.std.proofs.lemmas.Option.{same_Some}
 use Rattle.csv.specs.Machine.{Read, ends_at_end, field_after, fields_after, is_end, next_record, step}
 use Rattle.csv.proofs.ReadFacts.{rows-end, rows-more}
 use Rattle.csv.specs.Reading.{Reached, ReadRecord, ReadsOn, Ready, default_config, has_failed, reader_trim, records_from, records_next, strip_bom}
@@ -12,10 +14,6 @@ use Rattle.csv.specs.declared.reader.Reader.{Reader}
 use Rattle.csv.specs.declared.reader.Trim.TheVariants as trim
 use Rattle.nr_shifttable.specs.Records.{Record, records_left, rows_before_end, text_left}
 use Rattle.nr_shifttable.specs.Inside.{IsPlainReader}
-
--- what is in an option is determined
-pub some-same : {X : Type 0} {x y : X} → Some x ≡ Some y → x ≡ y
-some-same e = cc e
 
 -- what the machine does with an octet of a field, by what the octet is: a comma, a line's end, a carriage return
 abbrev in_field_by : Bool → Bool → Bool → State × Action
@@ -45,20 +43,7 @@ copy-between false p more h = more h
 
 -- an octet that ends a record leaves the machine between two records
 pub step-between : (s : State) (c : ℕ) → is_end (step default_config s c).1 ≡ true → ends_at_end (step default_config s c).0 ≡ false
-step-between s c h = go s h
-  where
-    field : is_end (in_field_by (c == 44) ((c == 13) || (c == 10)) (c == 13)).1 ≡ true → ends_at_end (in_field_by (c == 44) ((c == 13) || (c == 10)) (c == 13)).0 ≡ false
-    field = field-between (c == 44) ((c == 13) || (c == 10)) (c == 13)
-
-    go : (s : State) → is_end (step default_config s c).1 ≡ true → ends_at_end (step default_config s c).0 ≡ false
-    go st.StartRecord h = skip-between ((c == 13) || (c == 10)) st.StartRecord _ (start-between (c == 34) _ field) h
-    go st.StartField h = start-between (c == 34) _ field h
-    go st.InField h = field h
-    go st.InQuoted h = skip-between (c == 34) st.AfterQuote _ (λ e. cc e) h
-    go st.InEscape h = cc h
-    go st.AfterQuote h = copy-between (c == 34) _ field h
-    go st.InComment h = skip-between (c == 10) st.StartRecord _ (λ e. cc e) h
-    go st.AfterCr h = skip-between (c == 10) st.StartRecord _ (skip-between ((c == 13) || (c == 10)) st.StartRecord _ (start-between (c == 34) _ field)) h
+step-between s c h = grind (arith, nat_tests, field-between, skip-between, start-between, copy-between)
 
 -- what is left behind a record: the machine between two records, and no more text than behind its first octet
 pub record Behind (text : List ℕ) (p : Read) : Type 0 where
@@ -66,17 +51,14 @@ pub record Behind (text : List ℕ) (p : Read) : Type 0 where
   pub less : length p.2 ≤ length text - 1
 
 last-behind : (b : Bool) (fields : Record) (p : Read) → cond b (Some (fields, st.StartRecord, [])) None ≡ Some p → Behind [] p
-last-behind true fields p e = record {
-  between = ap (λ (r : Read). ends_at_end r.1) (sym (some-same e));
-  less = omega (arith, ap (λ (r : Read). length r.2) (some-same e));
-}
+last-behind true fields p e = grind (arith, same_Some)
 last-behind false fields p e = cc e
 
 step-behind : (b : Bool) (s : State) (c : ℕ) (fields : Record) (rest : List ℕ) (more : Option Read) (p : Read) → is_end (step default_config s c).1 ≡ b
     → cond b (Some (fields, (step default_config s c).0, rest)) more ≡ Some p → (more ≡ Some p → Behind rest p) → Behind (c ∷ rest) p
 step-behind true s c fields rest more p b e next = record {
-  between = ap (λ (r : Read). ends_at_end r.1) (sym (some-same e)) ∙ step-between s c b;
-  less = omega (arith, ap (λ (r : Read). length r.2) (some-same e));
+  between = ap (λ (r : Read). ends_at_end r.1) (sym (same_Some _ p e)) ∙ step-between s c b;
+  less = omega (arith, ap (λ (r : Read). length r.2) (same_Some _ p e));
 }
 step-behind false s c fields rest more p b e next = let q : Behind rest p = next e in record {
   between = q.between;
@@ -143,11 +125,7 @@ unfolding strip_bom
 strip-length [] = omega arith
 strip-length (a ∷ []) = omega arith
 strip-length (a ∷ b ∷ []) = omega arith
-strip-length (a ∷ b ∷ c ∷ rest) = by ((a == 239) && (b == 187) && (c == 191))
-  where
-    by : (mark : Bool) → length (cond mark rest (a ∷ b ∷ c ∷ rest)) ≤ length (a ∷ b ∷ c ∷ rest)
-    by true = omega arith
-    by false = omega arith
+strip-length (a ∷ b ∷ c ∷ rest) = grind (arith, nat_tests)
 
 -- a reader over octets in memory that has not failed knows what it has left
 text-known : (r : Reader (Bor (List ℕ))) → has_failed r ≡ false → (text : List ℕ) × (text_left r ≡ Some text)
@@ -188,10 +166,7 @@ reads-one a b fields plain read on alive =
 
 -- a read that found none was at the end
 pub reads-none : (a b : Reader (Bor (List ℕ))) (fields : Record) → IsPlainReader a → ReadRecord (λ s. Some s.now) a b false fields → rows_before_end false a ≡ []
-reads-none a b fields plain read =
-    let known = text-known a plain.alive in
-    let none : next_record default_config a.state [] [] known.0 ≡ None = rows-end (λ (s : Bor (List ℕ)). Some s.now) a b fields default_config known.0 plain.config known.1 read in
-    rw known.1 (left-none a.state known.0 none)
+reads-none a b fields plain read = grind (arith, text-known, rows-end, left-none)
 
 -- A read's result, with another error in the place of its own: what was left is the record and what is left now, or
 -- nothing; and where there was a record, the reader goes on.
@@ -200,9 +175,7 @@ pub row-read : {E F : Type 0} (Q : E → Type 0) (a b : Reader (Bor (List ℕ)))
     → IfOk r (λ found. reader_trim a ≡ trim.None → Ready a → ReadRecord (λ s. Some s.now) a b found fields)
     → IfOk r (λ _. has_failed b ≡ has_failed a) → IfOk r (λ found. found ≡ true → ReadsOn a b)
     → IfOk s (λ found. found ≡ true → IsPlainReader b) × IfOk s (λ found. rows_before_end false a ≡ cond found (fields ∷ rows_before_end false b) [])
-row-read Q a b fields (Ok true) s m v plain read alive on =
-    let one = reads-one a b fields plain (read plain.trim plain.ready) (on refl) alive in
-    (rw m (λ h. one.1), rw m one.0)
+row-read Q a b fields (Ok true) s m v plain read alive on = grind (arith, reads-one)
 row-read Q a b fields (Ok false) s m v plain read alive on = (rw m (λ h. cc h), rw m (reads-none a b fields plain (read plain.trim plain.ready)))
 row-read Q a b fields (Err e) (Ok y) m v plain read alive on = cc v
 row-read Q a b fields (Err e) (Err d) m v plain read alive on = (tt, tt)

@@ -1,46 +1,75 @@
 -- The order of a file's records: what they write does not depend on it, but for the header.
-use Rattle.std.proofs.Common.{◌≡◌, ℕ, ◌+◌, ◌≤◌, Bool, true, false, cond, List, [], ◌∷◌, length, map, refl, sym, ap, subst, ◌∙◌, arith}
-use Rattle.std.specs.Prelude.{Option, Some, None, Result, Ok, Err, IsOk, is_ok, All, option_and_then}
-use Rattle.std.specs.List.{IsDistinct, AllByRecursion, fold, sum_by}
+use Rattle.std.proofs.lemmas.Bool.Decides.{nat_tests}
+use Rattle.std.proofs.Common.{◌≡◌, ℕ, ◌+◌, ◌<◌, ◌≤◌, Bool, true, false, cond, List, [], ◌∷◌, length, get_or, map, refl, sym, ap, subst, ◌∙◌, arith}
+use Rattle.std.specs.Prelude.{Option, Some, None, Result, Ok, Err, IfSome, IsOk, is_ok, All, option_and_then}
+use Rattle.std.specs.List.{IsDistinct, fold, sum_by}
 use Rattle.std.specs.List.Sorted.{IsPermutation}
-use Rattle.std.proofs.lemmas.List.Elements.{All-nil}
+use Rattle.std.proofs.lemmas.List.{get_or-map, length-map}
+use Rattle.std.proofs.lemmas.List.Elements.{All-cons, All-map, All-tail, recursion_from_All}
 use Rattle.std.proofs.lemmas.List.Sorted.{All-permutation, IsPermutation-sym, IsPermutation-map, sum_by-IsPermutation}
 use Rattle.std.proofs.lemmas.List.Sums.{sum_by-cons}
-use Rattle.std.proofs.lemmas.Map.Keys.{IsDistinct-IsPermutation, IsDistinct-from_apart, apart_from_distinct}
+use Rattle.std.proofs.lemmas.Map.Keys.{IsDistinct-IsPermutation, IsDistinct-cons, IsDistinct-from_apart, IsDistinct-tail, apart_from_distinct}
 use Rattle.std.proofs.lemmas.Bool.{le-ltb}
 use Rattle.nr_graphpick.specs.declared.Graph.{Graph}
 use Rattle.nr_graphpick.specs.declared.Graph.TheVariants.{One, Two}
 use Rattle.nr_shifttable.specs.Accepted.{Entries, entries_for, with_entry, table_of, table_said, accepted}
-use Rattle.nr_shifttable.specs.Items.{is_header, item_of_numbers, items_from, items_said, same_place}
+use Rattle.nr_shifttable.specs.Items.{Apart, is_header, item_of_numbers, items_from, items_said, same_place}
 use Rattle.nr_shifttable.specs.Records.{Record, records_of}
 use Rattle.nr_shifttable.specs.RecordOrder.{RecordsMayMove, has_header}
 use Rattle.nr_shifttable.specs.Written.{IsWritten, item_written, without_header}
 use Rattle.nr_shifttable.specs.declared.entry.Item.{Item}
 use Rattle.nr_shifttable.specs.declared.fault.TableFault.{TableFault}
 use Rattle.nr_shifttable.specs.declared.fault.TableFault.TheVariants.{TooLong}
-use Rattle.nr_shifttable.proofs.ItemLaws.{OfWritten, bind-ok, header-numbers, if-ok, items-apart, items-from_written, items-inside, written-from_items}
-use Rattle.nr_shifttable.proofs.EntryOrderFacts.{GivesEntry, gives_themselves, same_entries, same_place-flips}
+use Rattle.nr_shifttable.proofs.ItemLaws.{bind-ok, header-numbers, if-ok, items-apart, items-inside}
+use Rattle.nr_shifttable.proofs.EntryOrderFacts.{GivesEntry, entries_for-has, same_entries, same_place-flips}
 use Rattle.nr_shifttable.proofs.WrittenItemFacts.{items-are_written}
 
+-- what all records write, the header with them
+abbrev writes : List Record → List (Option Item)
+writes records = map item_written records
+
+abbrev with_header : Bool → List (Option Item) → List (Option Item)
+with_header b os = cond b (None ∷ os) os
+
+-- all records write what those behind the header write, with nothing in front for the header
+writes-header : (records : List Record) → writes records ≡ with_header (has_header records) (writes (without_header records))
+writes-header [] = refl
+writes-header (r ∷ rs) = grind (arith, header-numbers)
+
+writes-are : (records : List Record) (items : List Item) → IsWritten records items → writes records ≡ with_header (has_header records) (map Some items)
+writes-are records items w = writes-header records ∙ ap (with_header (has_header records)) w.written
+
+-- what holds of all items holds of what all records write, and back
+written-all : (P : Item → Type 0) (b : Bool) (items : List Item) → All P items → All (λ o. IfSome o P) (with_header b (map Some items))
+written-all P false items all = All-map (λ o. IfSome o P) Some items all
+written-all P true items all = All-cons (λ o. IfSome o P) None (map Some items) tt (All-map (λ o. IfSome o P) Some items all)
+
+all-from_some : (P : Item → Type 0) (items : List Item) → All (λ o. IfSome o P) (map Some items) → All P items
+all-from_some P items all k d lt = subst (λ o. IfSome o P) (get_or-map Some items k d None lt) (all k None (omega (arith, length-map items Some)))
+
+all-from_written : (P : Item → Type 0) (b : Bool) (items : List Item) → All (λ o. IfSome o P) (with_header b (map Some items)) → All P items
+all-from_written P false items all = all-from_some P items all
+all-from_written P true items all = all-from_some P items (All-tail (λ o. IfSome o P) None (map Some items) all)
+
 -- what holds of all items of a file holds of those of a file with the same records
-moved-items : (P : Item → Type 0) (records others : List Record) (items more : List Item) → IsPermutation records others → items_from 1 [] records ≡ Ok items → items_from 1 [] others ≡ Ok more → All P more → All P items
-moved-items P records others items more moved is others_is all =
-    items-from_written P 1 [] records items is
-    (All-permutation (OfWritten P) others records (IsPermutation-sym records others moved) (written-from_items P 1 [] others more others_is all))
-    (All-nil P)
+moved-items : (P : Item → Type 0) (records others : List Record) (items more : List Item) → IsPermutation records others → IsWritten records items → IsWritten others more → All P more → All P items
+moved-items P records others items more moved w v all =
+    all-from_written P (has_header records) items
+    (subst (All (λ o. IfSome o P)) (writes-are records items w)
+    (All-permutation (λ o. IfSome o P) (writes others) (writes records) (IsPermutation-sym (writes records) (writes others) (IsPermutation-map item_written records others moved))
+    (subst (All (λ o. IfSome o P)) (sym (writes-are others more v)) (written-all P (has_header others) more all))))
 
 -- one base graph's entries
 moved-entries : (g : Graph) (records others : List Record) (items more : List Item) → IsPermutation records others → items_from 1 [] records ≡ Ok items → items_from 1 [] others ≡ Ok more → fold with_entry [] (entries_for g items) ≡ fold with_entry [] (entries_for g more)
 moved-entries g records others items more moved is others_is =
-    same_entries g items more (items-apart 1 records items is) (items-apart 1 others more others_is) (items-inside 1 records items is) (items-inside 1 others more others_is)
-    (moved-items (GivesEntry g more) records others items more moved is others_is (gives_themselves g more))
-    (moved-items (GivesEntry g items) others records more items (IsPermutation-sym records others moved) others_is is (gives_themselves g items))
+    let w = (items-are_written records items).0 is in
+    let v = (items-are_written others more).0 others_is in
+    same_entries g items more w.apart v.apart (items-inside 1 records items is) (items-inside 1 others more others_is)
+    (moved-items (GivesEntry g more) records others items more moved w v (entries_for-has g more))
+    (moved-items (GivesEntry g items) others records more items (IsPermutation-sym records others moved) v w (entries_for-has g items))
 
 pub moved-table : (records others : List Record) (items more : List Item) → IsPermutation records others → items_from 1 [] records ≡ Ok items → items_from 1 [] others ≡ Ok more → table_of items ≡ table_of more
-moved-table records others items more moved is others_is = λ i. record {
-  one = moved-entries One records others items more moved is others_is i;
-  two = moved-entries Two records others items more moved is others_is i;
-}
+moved-table records others items more moved is others_is = cc (moved-entries One records others items more moved is others_is, moved-entries Two records others items more moved is others_is)
 
 -- two records write items at one place
 abbrev both_place : Option Item → Option Item → Bool
@@ -69,62 +98,23 @@ none-missing [] = refl
 none-missing (x ∷ items) = none-missing items
 
 -- items at places of their own, as what records write, and back
-distinct-written : (items : List Item) → IsDistinct same_place items → IsDistinct both_place (map Some items)
-unfolding IsDistinct
-distinct-written [] h = tt
-distinct-written (x ∷ items) h = (others items h.0, distinct-written items h.1)
-  where
-    others : (ys : List Item) → AllByRecursion (λ y. same_place x y ≡ false) ys → AllByRecursion (λ o. both_place (Some x) o ≡ false) (map Some ys)
-    others [] k = tt
-    others (y ∷ ys) k = (k.0, others ys k.1)
+distinct-some : (items : List Item) → Apart items → IsDistinct both_place (map Some items)
+distinct-some items apart = IsDistinct-from_apart both_place (map Some items) (λ i j d less lt.
+    let none : Item = record { graph = One; entry = record { row = 0; col = 0; values = [] } } in
+    let within : j < length items = omega (arith, length-map items Some) in
+    rw (get_or-map Some items i none d (omega arith), get_or-map Some items j none d within) (apart i j none less within))
 
-written-distinct : (items : List Item) → IsDistinct both_place (map Some items) → IsDistinct same_place items
-unfolding IsDistinct
-written-distinct [] h = tt
-written-distinct (x ∷ items) h = (others items h.0, written-distinct items h.1)
-  where
-    others : (ys : List Item) → AllByRecursion (λ o. both_place (Some x) o ≡ false) (map Some ys) → AllByRecursion (λ y. same_place x y ≡ false) ys
-    others [] k = tt
-    others (y ∷ ys) k = (k.0, others ys k.1)
+distinct-written : (b : Bool) (items : List Item) → Apart items → IsDistinct both_place (with_header b (map Some items))
+distinct-written false items apart = distinct-some items apart
+distinct-written true items apart = IsDistinct-cons both_place None (map Some items) (recursion_from_All (λ o. both_place None o ≡ false) (map Some items) (λ k d lt. refl)) (distinct-some items apart)
 
-distinct-header : (os : List (Option Item)) → IsDistinct both_place os → IsDistinct both_place (None ∷ os)
-unfolding IsDistinct
-distinct-header os h = (others os, h)
-  where
-    others : (ps : List (Option Item)) → AllByRecursion (λ o. both_place None o ≡ false) ps
-    others [] = tt
-    others (o ∷ ps) = (refl, others ps)
+some-distinct : (items : List Item) → IsDistinct both_place (map Some items) → Apart items
+some-distinct items far i j d less lt =
+    rw (get_or-map Some items i d None (omega arith), get_or-map Some items j d None lt) at (apart_from_distinct both_place (map Some items) i j None far less (omega (arith, length-map items Some)))
 
-header-distinct : (o : Option Item) (os : List (Option Item)) → IsDistinct both_place (o ∷ os) → IsDistinct both_place os
-unfolding IsDistinct
-header-distinct o os h = h.1
-
--- what all records write, the header with them
-abbrev writes : List Record → List (Option Item)
-writes records = map item_written records
-
-abbrev with_header : Bool → List (Option Item) → List (Option Item)
-with_header b os = cond b (None ∷ os) os
-
-header-writes : (r : Record) → is_header r ≡ true → item_written r ≡ None
-header-writes r header = ap (option_and_then item_of_numbers) (header-numbers r header)
-
--- all records write what those behind the header write, with nothing in front for the header
-writes-header : (records : List Record) → writes records ≡ with_header (has_header records) (writes (without_header records))
-writes-header [] = refl
-writes-header (r ∷ rs) = by (is_header r) refl
-  where
-    by : (b : Bool) → is_header r ≡ b → writes (r ∷ rs) ≡ with_header (is_header r) (writes (without_header (r ∷ rs)))
-    by true header = rw (header, header-writes r header) refl
-    by false plain = rw plain refl
-
-distinct-with : (b : Bool) (os : List (Option Item)) → IsDistinct both_place os → IsDistinct both_place (with_header b os)
-distinct-with true os h = distinct-header os h
-distinct-with false os h = h
-
-with-distinct : (b : Bool) (os : List (Option Item)) → IsDistinct both_place (with_header b os) → IsDistinct both_place os
-with-distinct true os h = header-distinct None os h
-with-distinct false os h = h
+written-distinct : (b : Bool) (items : List Item) → IsDistinct both_place (with_header b (map Some items)) → Apart items
+written-distinct false items far = some-distinct items far
+written-distinct true items far = some-distinct items (IsDistinct-tail both_place None (map Some items) far)
 
 count-with : (b : Bool) (os : List (Option Item)) → sum_by nothing (with_header b os) ≡ cond b 1 0 + sum_by nothing os
 count-with true os = sum_by-cons nothing None os
@@ -133,53 +123,35 @@ count-with false os = omega arith
 -- how many records write nothing, where the others write these items
 count-missing : (records : List Record) (items : List Item) → IsWritten records items → sum_by nothing (writes records) ≡ cond (has_header records) 1 0
 count-missing records items w =
-    ap (sum_by nothing) (writes-header records ∙ ap (with_header (has_header records)) w.written)
-    ∙ count-with (has_header records) (map Some items)
-    ∙ ap (λ n. cond (has_header records) 1 0 + n) (none-missing items)
-    ∙ plus_nothing (cond (has_header records) 1 0)
-  where
-    plus_nothing : (n : ℕ) → n + 0 ≡ n
-    plus_nothing n = omega arith
+    let all = ap (sum_by nothing) (writes-are records items w) in
+    omega (arith, all, count-with (has_header records) (map Some items), none-missing items)
 
 -- records in another order write items too, with the header in front of both or of neither
-pub moved-written : (records others : List Record) (items : List Item) → IsPermutation records others → has_header records ≡ has_header others → IsWritten records items
+moved-written : (records others : List Record) (items : List Item) → IsPermutation records others → has_header records ≡ has_header others → IsWritten records items
     → (more : List Item) × IsWritten others more
 moved-written records others items moved same w =
     let moves : IsPermutation (writes records) (writes others) = IsPermutation-map item_written records others moved in
-    let kept : sum_by nothing (writes others) ≡ cond (has_header others) 1 0 =
-    sum_by-IsPermutation nothing (writes records) (writes others) moves ∙ count-missing records items w ∙ ap (λ b. cond b 1 0) same in
-    let split : sum_by nothing (writes others) ≡ cond (has_header others) 1 0 + sum_by nothing (writes (without_header others)) =
-    ap (sum_by nothing) (writes-header others) ∙ count-with (has_header others) (writes (without_header others)) in
-    let more = all-written (writes (without_header others)) (rest (cond (has_header others) 1 0) _ _ kept split) in
-    let apart : IsDistinct both_place (writes records) =
-    subst (IsDistinct both_place) (sym (writes-header records ∙ ap (with_header (has_header records)) w.written))
-    (distinct-with (has_header records) (map Some items) (distinct-written items (IsDistinct-from_apart same_place items w.apart))) in
-    let others_apart : IsDistinct both_place (with_header (has_header others) (writes (without_header others))) =
-    subst (IsDistinct both_place) (writes-header others) (IsDistinct-IsPermutation both_place both_place-flips (writes records) (writes others) moves apart) in
-    let items_apart : IsDistinct same_place more.0 =
-    written-distinct more.0 (subst (IsDistinct both_place) more.1 (with-distinct (has_header others) (writes (without_header others)) others_apart)) in (
+    let kept = sum_by-IsPermutation nothing (writes records) (writes others) moves ∙ count-missing records items w ∙ ap (λ b. cond b 1 0) same in
+    let split = ap (sum_by nothing) (writes-header others) ∙ count-with (has_header others) (writes (without_header others)) in
+    let more = all-written (writes (without_header others)) (omega (arith, kept, split)) in
+    let far = IsDistinct-IsPermutation both_place both_place-flips (writes records) (writes others) moves
+    (subst (IsDistinct both_place) (sym (writes-are records items w)) (distinct-written (has_header records) items w.apart)) in (
       more.0,
       record {
         eleven = All-permutation (λ r. length r ≡ 11) records others moved w.eleven;
         written = more.1;
-        apart = λ i j d less lt. apart_from_distinct same_place more.0 i j d items_apart less lt;
+        apart = written-distinct (has_header others) more.0 (subst (IsDistinct both_place) (writes-header others ∙ ap (with_header (has_header others)) more.1) far);
       },
     )
-  where
-    rest : (h n all : ℕ) → all ≡ h → all ≡ h + n → n ≡ 0
-    rest h n all e f = omega arith
 
 -- the header stands in front of both or of neither, where both write items
-pub moved-header : (records others : List Record) (items more : List Item) → IsPermutation records others → IsWritten records items → IsWritten others more → has_header records ≡ has_header others
+moved-header : (records others : List Record) (items more : List Item) → IsPermutation records others → IsWritten records items → IsWritten others more → has_header records ≡ has_header others
 moved-header records others items more moved w v =
     same (has_header records) (has_header others)
     (sym (count-missing records items w) ∙ sym (sum_by-IsPermutation nothing (writes records) (writes others) (IsPermutation-map item_written records others moved)) ∙ count-missing others more v)
   where
     same : (b c : Bool) → ◌≡◌ {A = ℕ} (cond b 1 0) (cond c 1 0) → b ≡ c
-    same true true e = refl
-    same false false e = refl
-    same true false e = absurd (omega arith)
-    same false true e = absurd (omega arith)
+    same b c e = grind arith
 
 -- of two texts
 ok-is : (r : Result (List Item) TableFault) → IsOk r → (items : List Item) × (r ≡ Ok items)
@@ -203,12 +175,7 @@ module _ (text other : List ℕ) (moved : IsPermutation (records_of text) (recor
 
   whole-moved : length text ≤ 4194304 → length other ≤ 4194304 → IsOk (items_said text) → table_said text ≡ table_said other
   unfolding table_said
-  whole-moved short other_short ok =
-      let items = ok-is (items_said text) ok in
-      let more = moved-said items.0 items.1 in
-      let here = le-ltb 4194304 (length text) short in
-      let there = le-ltb 4194304 (length other) other_short in
-      rw (here, there, items.1, more.1) (ap accepted more.2)
+  whole-moved short other_short ok = grind (arith, nat_tests, ok-is, moved-said, le-ltb)
 
   accepted-moved : length text ≤ 4194304 → length other ≤ 4194304 → (t : Entries) → table_said text ≡ Ok t → table_said other ≡ Ok t
   accepted-moved short other_short t said = sym (whole-moved short other_short (said-ok text t said)) ∙ said

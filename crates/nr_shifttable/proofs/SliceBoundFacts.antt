@@ -29,10 +29,7 @@ module _ (key : Entry → ℕ) (es : List Entry) (i start stop : ℕ) (low : IsS
 -- one start more
 pub starts-more : (key : Entry → ℕ) (es : List Entry) (starts : List ℕ) (i start : ℕ) → i < length starts → IsStart key es i start
     → ((k : ℕ) → k < i → IsStart key es k (slice_index starts k)) → (k : ℕ) → k < i + 1 → IsStart key es k (slice_index (set starts i start) k)
-starts-more key es starts i start room here before =
-    below_more (λ k. IsStart key es k (slice_index (set starts i start) k)) i
-    (λ k lt. let ne : k ≢ i = omega arith in subst (IsStart key es k) (sym (get_or-set_other starts i k start 0 ne)) (before k lt))
-    (subst (IsStart key es i) (sym (get_or-set_same starts i start 0 room)) here)
+starts-more key es starts i start room here before = grind (arith, below_more, get_or-set_other, get_or-set_same)
 
 -- a start is found where all before it are below the key, and the entry at it is not
 pub start-from : (key : Entry → ℕ) (es : List Entry) (i start : ℕ) → start ≤ length es → IsNonDecreasingBy key es
@@ -61,17 +58,11 @@ within-more key es i n room before e here k d a b = below_more (λ j. key (get_o
 
 -- what is before the start of a key is below the next key
 pub start-before : (key : Entry → ℕ) (es : List Entry) (i start : ℕ) → IsStart key es i start → AllWithin (λ e. key e < i + 1) es 0 start
-start-before key es i start is k d a b = below (key (get_or es k d)) (is.point.0 k d a b)
-  where
-    below : (a : ℕ) → nat_lt a i ≡ true → a < i + 1
-    below a h = let lt : a < i = ltb-true a i h in omega arith
+start-before key es i start is k d a b = grind (arith, nat_tests, ltb-true)
 
 -- past the last row or column no entry stands
 pub no_row : (es : List Entry) (i : ℕ) → 46 ≤ i → All (λ e. e.row < 46) es → row_of es i ≡ []
-no_row es i past below = filter_none (λ e. e.row == i) es (λ k d lt. other (get_or es k d).row i past (below k d lt))
-  where
-    other : (a i : ℕ) → 46 ≤ i → a < 46 → (a == i) ≡ false
-    other a i past below = grind (arith, nat_tests)
+no_row es i past below = grind (arith, nat_tests, filter_none, below)
 
 pub no_column : (es : List Entry) (j : ℕ) → 68 ≤ j → Ascending 0 es → column_of es j ≡ []
 no_column es j past up = filter_none (λ e. e.col == j) es (λ k d lt. other (get_or es k d).col j past (ascending-narrow 0 es up k d lt))

@@ -77,10 +77,7 @@ module _ {X : Type 0} (n : X → ℕ) (xs : List X) (i start stop : ℕ) where
   pub slice_of_key : start ≤ stop → stop ≤ length xs → IsPartitionPoint (λ y. nat_lt (n y) i ≡ true) (λ y. nat_lt (n y) i ≡ false) xs start
       → IsPartitionPoint (λ y. nat_le (n y) i ≡ true) (λ y. nat_le (n y) i ≡ false) xs stop
       → take (stop - start) (drop start xs) ≡ filter (λ y. n y == i) xs
-  slice_of_key order within low high = filter_within (λ y. n y == i) xs start stop order within
-      (λ k d a b. not_equal_below (n (get_or xs k d)) (low.0 k d a b))
-      (λ k d a b. equal_between (n (get_or xs k d)) (low.1 k d a (omega arith)) (high.0 k d (omega arith) b))
-      (λ k d a b. not_equal_above (n (get_or xs k d)) (high.1 k d a b))
+  slice_of_key order within low high = grind (arith, nat_tests, filter_within, not_equal_below, equal_between, not_equal_above)
 
 -- the elements from a key on are the slice from the first of them
 module _ {X : Type 0} (n : X → ℕ) (xs : List X) (i start : ℕ) where
@@ -92,7 +89,4 @@ module _ {X : Type 0} (n : X → ℕ) (xs : List X) (i start : ℕ) where
 
   pub slice_from_key : start ≤ length xs → IsPartitionPoint (λ y. nat_lt (n y) i ≡ true) (λ y. nat_lt (n y) i ≡ false) xs start
       → take (length xs - start) (drop start xs) ≡ filter (λ y. nat_le i (n y)) xs
-  slice_from_key within low = filter_within (λ y. nat_le i (n y)) xs start (length xs) within (omega arith)
-      (λ k d a b. not_at_or_above (n (get_or xs k d)) (low.0 k d a b))
-      (λ k d a b. at_or_above (n (get_or xs k d)) (low.1 k d a b))
-      (λ k d a b. absurd (omega arith))
+  slice_from_key within low = grind (arith, nat_tests, filter_within, not_at_or_above, at_or_above)

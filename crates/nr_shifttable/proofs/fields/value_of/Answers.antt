@@ -10,13 +10,7 @@ overflow_mul-value c =
     omega arith
 
 pub overflow_add-value : goal.overflow_add-value
-overflow_add-value c =
-    let digit : Digit c.args.digits.now c.loop-digit.digit-index c.loop-digit.value =
-    one-digit c.args.digits.now c.loop-digit.digit-index c.loop-digit.value c.requires.digits c.requires.few (omega arith) c.loop-digit.invariant in
-    omega arith
+overflow_add-value c = grind (arith, one-digit)
 
 pub loop-digit-preserved : goal.loop-digit-preserved
-loop-digit-preserved c =
-    let digit : Digit c.args.digits.now c.loop-digit.digit-index c.loop-digit.value =
-    one-digit c.args.digits.now c.loop-digit.digit-index c.loop-digit.value c.requires.digits c.requires.few (omega arith) c.loop-digit.invariant in
-    rw (digit.more, c.from.ensures) refl
+loop-digit-preserved c = grind (arith, one-digit)

@@ -1,4 +1,5 @@
 -- The first field is the word `graph`, or there is none.
+use Rattle.std.proofs.Common.{arith}
 use Rattle.std.proofs.Common.{ap, ◌∙◌}
 use Rattle.std.specs.Prelude.{bytes_eq, codes}
 use Rattle.csv.specs.Records.{fields_of}
@@ -6,9 +7,7 @@ use Rattle.nr_shifttable.proofs.ItemFacts.{header-some, header-none}
 use Rattle.nr_shifttable.proofs.items.is_header.Goals as goal
 
 pub returns-in-Some : goal.returns-in-Some
-returns-in-Some c =
-    c.eq.ensures ∙ ap (bytes_eq c.stripped.result.now) c.as_slice.ensures ∙ ap (λ f. bytes_eq f (codes "graph")) c.stripped.ensures
-    ∙ header-some (fields_of c.args.row.now) c.in-Some.field.now c.in-Some.ensures.value
+returns-in-Some c = grind (arith, header-some)
 
 pub returns-in-None : goal.returns-in-None
 returns-in-None c = header-none (fields_of c.args.row.now) c.in-None.ensures.value

@@ -18,17 +18,7 @@ returns-in_err-found c =
     rw (p.1, p.2) (inr said)
 
 pub loop-items-preserved : goal.loop-items-preserved
-loop-items-preserved c =
-    let before = when_true _ _ c.if-branch.true c.in_ok-next.ensures.next in
-    let judged = ap (λ (items : List Item). item_of (c.loop-items.number + 1) items (fields_of c.next.new.row)) (sym c.deref.ensures.value) ∙ sym c.item_of.ensures in
-    record {
-      said = items-more (c.loop-items.number + 1) c.loop-items.items.items c.add.new.items.items c.loop-items.records c.next.new.self (fields_of c.next.new.row)
-          c.in_ok-found.found _ before (judged ∙ c.in_ok-found.was) c.in_ok-past.ensures.ok c.loop-items.invariant.said;
-      before = c.in_ok-past.ensures.past;
-      few = omega (arith, ap length before);
-    }
+loop-items-preserved c = grind (arith, when_true, items-more)
 
 pub returns : goal.returns
-returns c =
-    let end = when_false _ _ c.if-branch.false c.in_ok-next.ensures.next in
-    items-end (c.loop-items.number + 1) c.loop-items.items.items c.loop-items.records _ end.0 c.loop-items.invariant.said
+returns c = grind (arith, when_false, items-end)

@@ -1,7 +1,7 @@
 use Rattle.std.proofs.Common.{[], arith}
 use Rattle.nr_shifttable.specs.declared.entry.Entry.{Entry}
 use Rattle.nr_shifttable.proofs.SliceBoundFacts.{start-from, within-more}
-use Rattle.nr_shifttable.proofs.AscendingEntryFacts.{rows_rise}
+use Rattle.nr_shifttable.proofs.RowOrderFacts.{rows_rise}
 use Rattle.nr_shifttable.proofs.starts.row_start.Goals as goal
 
 pub loop-start-preserved : goal.loop-start-preserved
@@ -10,8 +10,7 @@ loop-start-preserved c =
 
 pub returns-then-row-from : goal.returns-then-row-from
 returns-then-row-from c =
-    start-from (λ (e : Entry). e.row) c.args.entries.now c.args.row c.loop-start.start (omega arith) (rows_rise 0 c.args.entries.now c.requires.order) c.loop-start.invariant (record { row = 0; col = 0; values = [] }) (λ _. omega arith)
+    start-from (λ (e : Entry). e.row) c.args.entries.now c.args.row c.loop-start.start (omega arith) (rows_rise c.args.entries.now c.requires.order) c.loop-start.invariant (record { row = 0; col = 0; values = [] }) (λ _. omega arith)
 
 pub returns : goal.returns
-returns c =
-    start-from (λ (e : Entry). e.row) c.args.entries.now c.args.row _ (omega arith) (rows_rise 0 c.args.entries.now c.requires.order) (λ k d a b. c.loop-start.invariant k d a (omega arith)) (record { row = 0; col = 0; values = [] }) (λ lt. absurd (omega arith))
+returns c = grind (arith, start-from, rows_rise)

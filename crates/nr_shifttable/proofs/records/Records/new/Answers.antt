@@ -10,5 +10,4 @@ unfolding records_left
 returns-clause-records c = rw (c.from_reader-reader.ensures.state, c.from_reader-reader.ensures.source) refl
 
 pub returns-clause-few : goal.returns-clause-few
-returns-clause-few c = rw (c.from_reader-reader.ensures.state, c.from_reader-reader.ensures.source)
-    (omega (arith, records-few st.StartRecord (strip_bom c.args.text.now) refl, strip-length c.args.text.now))
+returns-clause-few c = grind (arith, records-few, strip-length)

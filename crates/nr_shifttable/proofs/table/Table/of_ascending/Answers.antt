@@ -30,7 +30,4 @@ pub of_sorted-requires-clause-twos : goal.of_sorted-requires-clause-twos
 of_sorted-requires-clause-twos c = subst (All (IsInRange Two)) (sym (c.in_ok-two.ensures ∙ c.ones_in-ones.ensures.twos)) (entries_for-range Two (map item_kept c.args.entries.now) (All-map IsInside item_kept c.args.entries.now c.requires.in_range))
 
 pub returns-clause-said : goal.returns-clause-said
-returns-clause-said c =
-    let one = c.in_ok-one.ensures ∙ c.ones_in-ones.ensures.ones in
-    let two = c.in_ok-two.ensures ∙ c.ones_in-ones.ensures.twos in
-    subst (λ t. Gives Memory (λ u. u) c.of_sorted.result (accepted t)) (sym (parted-table (map item_kept c.args.entries.now) c.in_ok-one.one c.in_ok-two.two (said-ascend 1 0 c.args.entries.now c.requires.ascending) one two)) c.of_sorted.ensures.said
+returns-clause-said c = grind (arith, parted-table, said-ascend)

@@ -9,22 +9,13 @@ use Rattle.nr_shifttable.proofs.JudgedFaultFacts.{items-judged, accepted-judged,
 use Rattle.nr_shifttable.proofs.table.Table.of_text.Goals as goal
 
 pub returns-in_err-items-clause-judged : goal.returns-in_err-items-clause-judged
-returns-in_err-items-clause-judged c =
-    let p = err_from_is_err_and c.from_residual.result c.from_residual.ensures.1 in
-    let judged = fault-judged c.in_err-items.field-0.0 (items_from 1 [] (records_of c.args.text.now)) c.in_err-items.ensures.said (items-judged 1 [] (records_of c.args.text.now)) in
-    rw (p.1, p.2) (judged-not (Err c.in_err-items.field-0.0) Read judged refl)
+returns-in_err-items-clause-judged c = grind (arith, err_from_is_err_and, fault-judged, items-judged, judged-not)
 
 pub returns-in_err-items-clause-long : goal.returns-in_err-items-clause-long
-returns-in_err-items-clause-long c =
-    let p = err_from_is_err_and c.from_residual.result c.from_residual.ensures.1 in
-    let judged = fault-judged c.in_err-items.field-0.0 (items_from 1 [] (records_of c.args.text.now)) c.in_err-items.ensures.said (items-judged 1 [] (records_of c.args.text.now)) in
-    rw (p.1, p.2) (λ is. absurd (judged-not (Err c.in_err-items.field-0.0) TooLong judged refl is), λ long. absurd (omega arith))
+returns-in_err-items-clause-long c = grind (arith, err_from_is_err_and, fault-judged, items-judged, judged-not)
 
 pub returns-clause-judged : goal.returns-clause-judged
-returns-clause-judged c =
-    judged-not c.from_items.result Read (gives-judged (λ (t : Entries). t) c.from_items.result (accepted (table_of c.deref.result.now)) c.from_items.ensures.said (accepted-judged (table_of c.deref.result.now))) refl
+returns-clause-judged c = grind (arith, judged-not, gives-judged, accepted-judged)
 
 pub returns-clause-long : goal.returns-clause-long
-returns-clause-long c =
-    let judged = gives-judged (λ (t : Entries). t) c.from_items.result (accepted (table_of c.deref.result.now)) c.from_items.ensures.said (accepted-judged (table_of c.deref.result.now)) in
-    (λ is. absurd (judged-not c.from_items.result TooLong judged refl is), λ long. absurd (omega arith))
+returns-clause-long c = grind (arith, gives-judged, accepted-judged, judged-not)
