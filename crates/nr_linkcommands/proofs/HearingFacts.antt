@@ -1,4 +1,5 @@
 -- What is received of a transmission, place by place and word by word.
+use Rattle.std.proofs.lemmas.Bool.Decides.{nat_tests}
 use Rattle.std.proofs.Common.{◌≡◌, ℕ, zero, suc, ◌+◌, ◌-◌, ◌%◌, ◌^◌, ◌<◌, ◌==◌, inl, inr, not, Bool, true, false, List, ◌++◌, length, map, ap, sym, refl, ◌∙◌, arith, length-append}
 use Rattle.std.specs.Int.{bit_at, bit_not, w64}
 use Rattle.std.specs.Int.RustNames.{bit_xor}
@@ -32,21 +33,15 @@ pub bit-firsts : (f : ℕ → Bool) (n m : ℕ) → m < n → bit (firsts f n) m
 bit-firsts f n m below = get_or-map-range_with_len f 0 n m m false below (omega arith)
 
 pub firsts-as : (f g : ℕ → Bool) (n : ℕ) → ((m : ℕ) → m < n → f m ≡ g m) → firsts f n ≡ firsts g n
-firsts-as f g n same =
-    same_from_bits (firsts f n) (firsts g n) (length-firsts f n ∙ sym (length-firsts g n))
-    (λ m below. let inside : m < n = omega (arith, below, length-firsts f n) in bit-firsts f n m inside ∙ same m inside ∙ sym (bit-firsts g n m inside))
+firsts-as f g n same = grind (arith, same_from_bits, length-firsts, bit-firsts)
 
 -- where nothing is erased every place is marked
 pub none-erased : (e : Erasure) (n : ℕ) → e ≡ erasure.Named places.Nothing → firsts (is_named places.All) n ≡ firsts (λ m. not (bit (erased_of e n) m)) n
-none-erased e n is = firsts-as (is_named places.All) (λ m. not (bit (erased_of e n) m)) n
-    (λ m below. sym (ap (λ k. not (bit (erased_of k n) m)) is ∙ ap not (bit-firsts (λ _. false) n m below)))
+none-erased e n is = grind (arith, firsts-as, bit-firsts)
 
 -- where nothing is flipped the bits are as they were
 pub none-flipped : (p : Places) (bits : List Bool) → p ≡ places.Nothing → bits ≡ firsts (λ m. is_named p m ⊕ bit bits m) (length bits)
-none-flipped p bits is =
-    let f : ℕ → Bool = λ m. is_named p m ⊕ bit bits m in
-    same_from_bits bits (firsts f (length bits)) (sym (length-firsts f (length bits)))
-    (λ m below. sym (bit-firsts f (length bits) m below ∙ ap (λ k. is_named k m ⊕ bit bits m) is))
+none-flipped p bits is = grind (arith, same_from_bits, length-firsts, bit-firsts)
 
 -- a word more
 pub firsts-more : (f : ℕ → Bool) (n wide next word : ℕ) (old new : List Bool) → new ≡ old ++ low_first wide word
@@ -89,9 +84,7 @@ xor-tested (suc (suc a)) b r small _ is = absurd (omega (arith, small))
 xor-tested a (suc (suc b)) r _ small is = absurd (omega (arith, small))
 
 pub xor-marked : (x y j : ℕ) (f b : Bool) → (bit_at x j == 1) ≡ f → (bit_at y j == 1) ≡ b → (bit_at (bit_xor x y) j == 1) ≡ (f ⊕ b)
-xor-marked x y j f b is is-too =
-    xor-tested (bit_at x j) (bit_at y j) (bit_at (bit_xor x y) j) (bit_at-lt x j) (bit_at-lt y j) (bit_at_xor x y j)
-    ∙ ap (λ k. k ⊕ (bit_at y j == 1)) is ∙ ap (λ k. f ⊕ k) is-too
+xor-marked x y j f b is is-too = grind (arith, nat_tests, xor-tested, bit_at-lt, bit_at_xor)
 
 -- what a mark of a place that is not erased and a bit say
 place-arrives : (e b : Bool) → place_heard (not e) b ≡ arrived_bit e b
@@ -104,20 +97,4 @@ pub heard-all : (x : Transmission) (bits heard value : List Bool) (count : ℕ) 
     → heard ≡ firsts (λ m. not (bit (erased_of x.erasure count) m)) count
     → value ≡ firsts (λ m. is_named x.flip m ⊕ bit bits m) (length bits) → heards heard value ≡ heard_through x bits
 unfolding heards_from heard_through
-heard-all x bits heard value count whole marks are =
-    let n : ℕ = length bits in
-    let erased : List Bool = erased_of x.erasure n in
-    let marked : heard ≡ firsts (λ m. not (bit erased m)) n = marks ∙ ap (λ k. firsts (λ m. not (bit (erased_of x.erasure k) m)) k) whole in
-    let long : length heard ≡ n = ap length marked ∙ length-firsts (λ m. not (bit erased m)) n in
-    let told : length (heards heard value) ≡ length heard = length-map-range_with_len (λ m. place_heard (bit heard m) (bit value m)) 0 (length heard) in
-    let all : length (heard_through x bits) ≡ n = length-map-range_with_len (arrives_at x erased bits) 0 n in
-    same_lists (heards heard value) (heard_through x bits) (told ∙ long ∙ sym all)
-    (λ m d below.
-    let inside : m < n = omega (arith, below, told, long) in
-    get_or-map-range_with_len (λ k. place_heard (bit heard k) (bit value k)) 0 (length heard) m m d (omega (arith, inside, long)) (omega arith)
-    ∙ ap (λ l. place_heard (bit l m) (bit value m)) marked
-    ∙ ap (λ b. place_heard b (bit value m)) (bit-firsts (λ k. not (bit erased k)) n m inside)
-    ∙ ap (λ l. place_heard (not (bit erased m)) (bit l m)) are
-    ∙ ap (λ b. place_heard (not (bit erased m)) b) (bit-firsts (λ k. is_named x.flip k ⊕ bit bits k) n m inside)
-    ∙ place-arrives (bit erased m) (is_named x.flip m ⊕ bit bits m)
-    ∙ sym (get_or-map-range_with_len (arrives_at x erased bits) 0 n m m d inside (omega arith)))
+heard-all x bits heard value count whole marks are = grind (arith, length-firsts, length-map-range_with_len, same_lists, get_or-map-range_with_len, bit-firsts, place-arrives)

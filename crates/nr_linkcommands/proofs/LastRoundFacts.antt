@@ -27,5 +27,4 @@ last-more ended schedule p =
 
 -- what the slot of a process has received
 pub holds-round : (senders : List SenderView) (schedule later : List Transmission) (slots : List Slot) (p : ℕ) (slot : Slot) → p < length slots → slot ≡ get_or slots p slot → HoldRounds senders schedule later slots → HoldsRound (goes_on p later) senders (round_of p schedule) slot
-holds-round senders schedule later slots p slot within is held =
-    subst (HoldsRound (goes_on p later) senders (round_of p schedule)) (sym (is ∙ get_or_default slots p slot empty_slot within)) (held p within)
+holds-round senders schedule later slots p slot within is held = grind (arith, get_or_default)

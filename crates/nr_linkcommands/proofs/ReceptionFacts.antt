@@ -33,10 +33,7 @@ heard-long x bits = length-map-range_with_len (arrives_at x (erased_of x.erasure
 
 -- a reception of G places of an accepted transmission is accepted
 said-whole : (link : Link) (tx : Tx) (places : List Heard) (lengths : List ℕ) → tx_said link tx ≡ Ok lengths → length places ≡ tx.g → reception_said link (reception tx places) ≡ Ok lengths
-said-whole link tx places lengths said whole =
-    let tested : (length places == tx.g) ≡ true = grind (arith, nat_tests) in
-    ap (λ (r : Result (List ℕ) DeskFault). r >>= λ es. demanded fault.Length (length places == tx.g) >>= λ all. Ok es) said
-    ∙ ap (λ b. demanded fault.Length b >>= λ all. Ok lengths) tested
+said-whole link tx places lengths said whole = grind (arith, nat_tests)
 
 -- what is received of one transmission, by what is said of it
 of_said : (sender : SenderView) (x : Transmission) (said : Result (List ℕ) DeskFault) → tx_said sender.link x.tx ≡ said → received_of sender x ≡ received_if x (said >>= λ lengths. Ok (sent sender.link x.tx sender.block))
@@ -79,30 +76,17 @@ arrived-agrees false false = refl
 
 place-agrees : (x : Transmission) (bits : List Bool) (m : ℕ) → m < length bits → is_named x.flip m ≡ false → agrees (heard_at (heard_through x bits) m) (bit bits m) ≡ true
 unfolding heard_through
-place-agrees x bits m within steady =
-    let erased = erased_of x.erasure (length bits) in
-    ap (λ (h : Heard). agrees h (bit bits m)) (get_or-map-range_with_len (arrives_at x erased bits) 0 (length bits) m m heard.Erased within (omega arith))
-    ∙ ap (λ f. agrees (arrived_bit (bit erased m) (f ⊕ bit bits m)) (bit bits m)) steady
-    ∙ arrived-agrees (bit erased m) (bit bits m)
+place-agrees x bits m within steady = grind (arith, get_or-map-range_with_len, arrived-agrees)
 
 all-agree : (x : Transmission) (bits : List Bool) → length bits ≡ x.tx.g → OnlyErases x → all_agree (heard_through x bits) bits ≡ true
-all-agree x bits long steady =
-    all-all (λ m. agrees (heard_at (heard_through x bits) m) (bit bits m)) 0 (length (heard_through x bits))
-    (λ m low high. place-agrees x bits m (omega (arith, high, heard-long x bits)) (steady m (omega (arith, high, heard-long x bits, long))))
+all-agree x bits long steady = grind (arith, all-all, place-agrees, heard-long)
 
 -- so the sender's block explains it
 abbrev explained : SenderView → List Reception → Bool
 explained sender list = list_all (λ (x : Reception). all_agree x.heard (sent sender.link x.tx sender.block)) list
 
 one-explained : AcceptedSendAll → (sender : SenderView) (x : Transmission) → OnlyErases x → explained sender (received_of sender x) ≡ true
-one-explained all sender x steady = go (tx_said sender.link x.tx) refl
-  where
-    go : (said : Result (List ℕ) DeskFault) → tx_said sender.link x.tx ≡ said → explained sender (received_of sender x) ≡ true
-    go (Ok lengths) is =
-        let bits = sent sender.link x.tx sender.block in
-        ap (explained sender) (of_said sender x (Ok lengths) is)
-        ∙ ap (λ b. b && true) (all-agree x bits (sent-long all sender x lengths is) steady)
-    go (Err e) is = ap (explained sender) (of_said sender x (Err e) is)
+one-explained all sender x steady = grind (arith, of_said, all-agree, sent-long)
 
 all-explained : AcceptedSendAll → (sender : SenderView) (xs : List Transmission) → All OnlyErases xs → explained sender (received sender xs) ≡ true
 all-explained all sender [] steady = refl

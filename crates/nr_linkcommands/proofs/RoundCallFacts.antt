@@ -50,8 +50,7 @@ taken-all table settings p q link list (x ∷ xs) own accepted =
 taken-none : (table : Entries) (settings : Settings) (p q : ℕ) (o : Option Round) (xs : List Reception) → (q == p) ≡ false → round_from table settings p o (map (calls.take q) xs) ≡ o
 unfolding round_from
 taken-none table settings p q o [] other = refl
-taken-none table settings p q o (x ∷ xs) other =
-    ap (λ b. round_from table settings p (cond b (option_map (taken x) o) o) (map (calls.take q) xs)) other ∙ taken-none table settings p q o xs other
+taken-none table settings p q o (x ∷ xs) other = grind (arith, taken-none table settings p q o xs other)
 
 -- the calls of one transmission
 abbrev calls_in : SenderView → Transmission → Bool → List Call
@@ -59,9 +58,7 @@ calls_in sender x fresh = cond fresh (calls.begin x.process (length sender.block
 
 other-calls : (table : Entries) (settings : Settings) (p : ℕ) (o : Option Round) (sender : SenderView) (x : Transmission) (fresh : Bool) → (x.process == p) ≡ false → round_from table settings p o (calls_in sender x fresh) ≡ o
 unfolding round_from
-other-calls table settings p o sender x true other =
-    ap (λ b. round_from table settings p (cond b (begun_as (link_said table settings (length sender.block)) o) o) (map (calls.take x.process) (received_of sender x))) other
-    ∙ taken-none table settings p x.process o (received_of sender x) other
+other-calls table settings p o sender x true other = grind (arith, taken-none)
 other-calls table settings p o sender x false other = taken-none table settings p x.process o (received_of sender x) other
 
 -- a fresh one begins the round of its process
@@ -105,26 +102,11 @@ module _ (all : AcceptedSendAll) (table : Entries) (settings : Settings) (sender
       → (mine ≡ true → fresh ≡ false → fresh_block round ≡ Some x.block)
       → round_from table settings p (round_given senders round) (calls_in sender x fresh) ≡ round_given senders (cond mine (cond fresh (x ∷ []) (round ++ x ∷ [])) round)
   turn round sender x false fresh mine is there linked goes_on = other-calls table settings p (round_given senders round) sender x fresh mine
-  turn round sender x true true mine is there linked goes_on =
-      fresh-calls table settings p (round_given senders round) sender x mine linked (one_received-accepted all sender x)
-      ∙ ap (λ o. given_if o (x ∷ [])) (sym there)
-  turn round sender x true false mine is there linked goes_on =
-      going-on table settings p senders sender x round mine there (goes_on refl refl) (one_received-accepted all sender x)
+  turn round sender x true true mine is there linked goes_on = grind (arith, fresh-calls, one_received-accepted)
+  turn round sender x true false mine is there linked goes_on = grind (arith, going-on, one_received-accepted)
 
   agree-more : (before : List Transmission) (sender : SenderView) (x : Transmission) → sender_of senders x ≡ Some sender → link_said table settings (length sender.block) ≡ Ok sender.link → GoesOn before x → Agree before → Agree (before ++ x ∷ [])
-  agree-more before sender x there linked goes_on agree =
-      let by : Transmission → List Call = λ y. calls_by (sender_of senders y) y in
-      let calls_more : calls_of senders (before ++ x ∷ []) ≡ calls_of senders before ++ calls_in sender x x.fresh =
-      flat_map-append by before (x ∷ [])
-      ∙ ap (λ cs. calls_of senders before ++ cs) (append-nil (calls_by (sender_of senders x) x) ∙ ap (λ o. calls_by o x) there) in
-      ap (round_after table settings p) calls_more
-      ∙ from-append table settings p None (calls_of senders before) (calls_in sender x x.fresh)
-      ∙ ap (λ o. round_from table settings p o (calls_in sender x x.fresh)) agree
-      ∙ turn (round_of p before) sender x (x.process == p) x.fresh refl refl there linked
-      (λ mine stale.
-      let number : x.process ≡ p = grind (arith, nat_tests) in
-      subst (λ q. fresh_block (round_of q before) ≡ Some x.block) number (goes_on stale))
-      ∙ ap (round_given senders) (sym (round-more p before x))
+  agree-more before sender x there linked goes_on agree = grind (arith, nat_tests, flat_map-append, append-nil, from-append, turn, round-more)
 
   agree-taken : (xs : List Transmission) (d : Transmission) → All (λ (sender : SenderView). link_said table settings (length sender.block) ≡ Ok sender.link) senders → All (HasBlock (length senders)) xs → EachGoesOn xs → (i : ℕ) → i ≤ length xs → Agree (take i xs)
   unfolding since_fresh round_from

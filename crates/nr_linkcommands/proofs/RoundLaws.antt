@@ -12,49 +12,22 @@ use Rattle.nr_files.proofs.RoundFacts.{of_process-more}
 
 own-own : (p : ℕ) (xs : List Transmission) → of_process p (of_process p xs) ≡ of_process p xs
 own-own p [] = refl
-own-own p (x ∷ xs) = go (x.process == p) refl (own-own p xs)
-  where
-    go : (b : Bool) → (x.process == p) ≡ b → of_process p (of_process p xs) ≡ of_process p xs → of_process p (cond b (x ∷ of_process p xs) (of_process p xs)) ≡ cond b (x ∷ of_process p xs) (of_process p xs)
-    go true is same = ap (λ t. cond t (x ∷ of_process p (of_process p xs)) (of_process p (of_process p xs))) is ∙ ap (λ ys. x ∷ ys) same
-    go false is same = same
+own-own p (x ∷ xs) = grind (arith, nat_tests, own-own p xs)
 
 round-own : (p q : ℕ) (xs : List Transmission) → q ≡ p → round_of q (of_process p xs) ≡ round_of q xs
 round-own p q xs is = ap (λ n. round_of n (of_process p xs)) is ∙ ap since_fresh (own-own p xs) ∙ ap (λ n. round_of n xs) (sym is)
 
 turn-own : (words : Words) (senders : List SenderView) (p : ℕ) (before : List Transmission) (x : Transmission) → x.process ≡ p → turn_lines words senders (of_process p before) x ≡ turn_lines words senders before x
-turn-own words senders p before x is =
-    ap (λ round. cond x.fresh (round_lines words senders x.process round) [] ++ said_if words (sender_of senders x) (cond x.fresh [] round) x)
-    (round-own p x.process before is)
+turn-own words senders p before x is = grind (arith, round-own)
 
 turns-own : (words : Words) (senders : List SenderView) (p : ℕ) (before xs : List Transmission) → filter (is_about p) (turns words senders before xs) ≡ turns words senders (of_process p before) (of_process p xs)
 unfolding turns
 turns-own words senders p before [] = refl
-turns-own words senders p before (x ∷ xs) =
-    go (filter (is_about p) (turns words senders (before ++ x ∷ []) xs)) (x.process == p) refl (turns-own words senders p (before ++ x ∷ []) xs)
-  where
-    next : (b : Bool) → (x.process == p) ≡ b → of_process p (before ++ x ∷ []) ≡ cond b (of_process p before ++ x ∷ []) (of_process p before)
-    next b is = of_process-more p before x ∙ ap (λ t. cond t (of_process p before ++ x ∷ []) (of_process p before)) is
-
-    go : (later : List Piece) (b : Bool) → (x.process == p) ≡ b → later ≡ turns words senders (of_process p (before ++ x ∷ [])) (of_process p xs)
-        → cond b ((x.process, turn_lines words senders before x) ∷ later) later ≡ turns words senders (of_process p before) (cond b (x ∷ of_process p xs) (of_process p xs))
-    go later true is so_far =
-        let same : x.process ≡ p = grind (arith, nat_tests) in
-        ap (λ (l : List ℕ). (x.process, l) ∷ later) (sym (turn-own words senders p before x same))
-        ∙ ap (λ (ys : List Piece). (x.process, turn_lines words senders (of_process p before) x) ∷ ys)
-        (so_far ∙ ap (λ b. turns words senders b (of_process p xs)) (next true is))
-    go later false is so_far = so_far ∙ ap (λ b. turns words senders b (of_process p xs)) (next false is)
+turns-own words senders p before (x ∷ xs) = grind (arith, nat_tests, turns-own words senders p (before ++ x ∷ []) xs, of_process-more, turn-own)
 
 last-own : (words : Words) (senders : List SenderView) (p : ℕ) (schedule : List Transmission) (qs : List ℕ) → filter (is_about p) (map (λ q. (q, round_lines words senders q (round_of q schedule))) qs) ≡ filter (is_about p) (map (λ q. (q, round_lines words senders q (round_of q (of_process p schedule)))) qs)
 last-own words senders p schedule [] = refl
-last-own words senders p schedule (q ∷ qs) = go _ _ (q == p) refl (last-own words senders p schedule qs)
-  where
-    go : (these those : List Piece) (b : Bool) → (q == p) ≡ b → these ≡ those
-        → cond b ((q, round_lines words senders q (round_of q schedule)) ∷ these) these ≡ cond b ((q, round_lines words senders q (round_of q (of_process p schedule))) ∷ those) those
-    go these those true is same =
-        let number : q ≡ p = grind (arith, nat_tests) in
-        ap (λ (r : List Transmission). (q, round_lines words senders q r) ∷ these) (sym (round-own p q schedule number))
-        ∙ ap (λ (ys : List Piece). (q, round_lines words senders q (round_of q (of_process p schedule))) ∷ ys) same
-    go these those false is same = same
+last-own words senders p schedule (q ∷ qs) = grind (arith, nat_tests, last-own words senders p schedule qs, round-own)
 
 pub lines_are_own : LinesAreOwn
 lines_are_own words senders schedule p =

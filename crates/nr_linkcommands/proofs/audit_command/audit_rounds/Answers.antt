@@ -16,11 +16,7 @@ returns-in_err-follow-clause-text g c =
     (sym (with_text-nil _)) c.in_err-follow.ensures.text
 
 pub returns-clause-text : goal.returns-clause-text
-returns-clause-text g c =
-    let senders = c.args.ready.now.senders.items in
-    let schedule = c.args.ready.now.inputs.now.schedule.transmissions.items in
-    rw (flat_map-append (λ (piece : Piece). piece.1) (turns audit_words senders [] schedule) (last_rounds audit_words senders schedule))
-    (writes_last _ _ _ c.end_all.result (pieces_joined (turns audit_words senders [] schedule)) (pieces_joined (last_rounds audit_words senders schedule)) c.in_ok-follow.ensures.text c.end_all.ensures.text)
+returns-clause-text g c = grind (arith, flat_map-append, writes_last)
 
 pub follow-requires : goal.follow-requires
 follow-requires g c = λ k. ((refl, tt), (c.requires.puts, (rw c.requires.by_process at c.args.ready.now.timetable.placed, tt)))

@@ -10,9 +10,7 @@ use Rattle.nr_commands.proofs.WrittenLemmas.{with_text-append, writes_behind}
 use Rattle.nr_linkcommands.proofs.audit_command.write_codes.Goals as goal
 
 pub code_line-requires : goal.code_line-requires
-code_line-requires g c =
-    let count = ap (λ (n : Numbers). n.c) c.plan.ensures.numbers in
-    omega (arith, count, c.loop-r-test.true)
+code_line-requires g c = grind arith
 
 pub returns-in_err-put_line-clause-text : goal.returns-in_err-put_line-clause-text
 returns-in_err-put_line-clause-text g c =
@@ -36,6 +34,4 @@ loop-r-preserved g c =
     }
 
 pub returns-clause-text : goal.returns-clause-text
-returns-clause-text g c =
-    let all : c.loop-r.r ≡ c.args.receiver.now.link.plan.c = omega (arith, ap (λ (n : Numbers). n.c) c.plan.ensures.numbers) in
-    rw all at c.loop-r.invariant.written
+returns-clause-text g c = grind arith

@@ -10,12 +10,7 @@ returns-in-Nothing c =
     IfOk-weaker c.try_clone.result _ _ (λ value is. is ∙ none-flipped c.args.flip.now c.args.bits.now.items c.in-Nothing.is) c.try_clone.ensures
 
 pub loop-i-init : goal.loop-i-init
-loop-i-init c =
-    let none : min (64 * 0) c.len-count.result ≡ 0 = omega arith in
-    record {
-      so_far = c.in_ok-value.ensures.items ∙ ap (λ k. firsts (λ m. is_named c.args.flip.now m ⊕ bit c.args.bits.now.items m) k) (sym none);
-      room = omega (arith, c.in_ok-value.ensures.room);
-    }
+loop-i-init c = grind (arith, firsts)
 
 pub loop-i-preserved : goal.loop-i-preserved
 loop-i-preserved c =
@@ -39,6 +34,4 @@ loop-i-preserved c =
     }
 
 pub returns : goal.returns
-returns c =
-    let all : min (64 * c.loop-i.i) c.len-count.result ≡ length c.args.bits.now.items = omega (arith, c.loop-i-test.false, c.div_ceil-i-end.ensures, c.len-count.ensures.value) in
-    c.loop-i.invariant.so_far ∙ ap (λ k. firsts (λ m. is_named c.args.flip.now m ⊕ bit c.args.bits.now.items m) k) all
+returns c = grind (arith, firsts)

@@ -1,10 +1,10 @@
+use Rattle.std.proofs.Common.{arith}
 use Rattle.std.proofs.Common.{◌∙◌, length, ap, sym}
 use Rattle.nr_linkcommands.proofs.HearingFacts.{heard-all, length-firsts}
 use Rattle.nr_linkcommands.proofs.link.heard_through.Goals as goal
 
 pub returns-clause-both : goal.returns-clause-both
-returns-clause-both c =
-    ap length c.in_ok-value.ensures ∙ length-firsts _ _ ∙ sym c.len.ensures.value ∙ sym (length-firsts _ _) ∙ sym (ap length c.in_ok-heard.ensures)
+returns-clause-both c = grind (arith, length-firsts)
 
 pub returns-clause-same : goal.returns-clause-same
 returns-clause-same c =

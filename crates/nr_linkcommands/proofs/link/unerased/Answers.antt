@@ -11,12 +11,7 @@ returns-in-Nothing c =
     IfOk-weaker c.named.result _ _ (λ marks is. is ∙ none-erased c.args.erasure.now c.args.count (c.in-Named.is ∙ ap erasure.Named c.in-Nothing.is)) c.named.ensures
 
 pub loop-i-init : goal.loop-i-init
-loop-i-init c =
-    let none : min (64 * 0) c.args.count ≡ 0 = omega arith in
-    record {
-      so_far = c.in_ok-heard.ensures.items ∙ ap (λ k. firsts (λ m. not (bit (erased_of c.args.erasure.now c.args.count) m)) k) (sym none);
-      room = omega (arith, c.in_ok-heard.ensures.room);
-    }
+loop-i-init c = grind (arith, firsts)
 
 pub loop-i-preserved : goal.loop-i-preserved
 loop-i-preserved c =
@@ -32,6 +27,4 @@ loop-i-preserved c =
     }
 
 pub returns : goal.returns
-returns c =
-    let all : min (64 * c.loop-i.i) c.args.count ≡ c.args.count = omega (arith, c.loop-i-test.false, c.div_ceil-i-end.ensures) in
-    c.loop-i.invariant.so_far ∙ ap (λ k. firsts (λ m. not (bit (erased_of c.args.erasure.now c.args.count) m)) k) all
+returns c = grind (arith, firsts)

@@ -1,3 +1,4 @@
+use Rattle.std.proofs.Common.{arith}
 use Rattle.std.proofs.Common.{[], List, ℕ, codes, refl, sym}
 use Rattle.std.proofs.lemmas.Result.{err_from_is_err_and}
 use Rattle.nr_linkcommands.specs.RunLines.{last_line}
@@ -15,8 +16,4 @@ returns-in_err-totals-clause-text g c = λ schedule held.
     (sym (with_text-nil _)) (c.in_err-totals.ensures.text schedule held)
 
 pub returns-clause-text : goal.returns-clause-text
-returns-clause-text g c = λ schedule held.
-    let outcomes : List ℕ = outcome_lines 1 c.args.ready.now.senders.items schedule in
-    let last : List ℕ = last_line (codes "blocks") (totals_from no_totals 1 c.args.ready.now.senders.items schedule) in
-    let text = rw (c.in_ok-totals.ensures.totals schedule held) at (c.put_line.ensures.text _ (last_line-some _ _) c.last_line.ensures) in
-    writes_last _ _ _ c.put_line.result outcomes last (c.in_ok-totals.ensures.text schedule held) text
+returns-clause-text g c = grind (arith, codes, last_line-some, writes_last)

@@ -1,7 +1,6 @@
+use Rattle.std.proofs.Common.{arith}
 use Rattle.std.proofs.Common.{◌≡◌, true}
 use Rattle.nr_linkcommands.proofs.audit_command.AuditCommandText.write.Goals as goal
 
 pub returns-then-ready-clause-text : goal.returns-then-ready-clause-text
-returns-then-ready-clause-text g c =
-    let by : c.args.ready.now.inputs.now.schedule.by_process ≡ true = cc in
-    rw by c.audit_rounds.ensures.text
+returns-then-ready-clause-text g c = grind arith

@@ -1,3 +1,4 @@
+use Rattle.std.proofs.Common.{arith}
 use Rattle.std.proofs.Common.{sym}
 use Rattle.nr_files.specs.Rounds.{continued}
 use Rattle.nr_linkcommands.specs.RoundTexts.{sender_of}
@@ -6,7 +7,4 @@ use Rattle.nr_commands.proofs.WrittenLemmas.{with_text-nil}
 use Rattle.nr_linkcommands.proofs.audit_command.AuditRoundsWalk.transmit.Goals as goal
 
 pub returns-clause-text : goal.returns-clause-text
-returns-clause-text g c = λ before ended of keeps.
-    let senders = c.args.ready.now.senders.items in
-    let x = c.args.transmission.now in
-    rw (unsaid (sender_of senders x) (continued before x) x) (sym (with_text-nil _))
+returns-clause-text g c = grind (arith, unsaid, with_text-nil)

@@ -1,3 +1,4 @@
+use Rattle.std.proofs.lemmas.Bool.Decides.{nat_tests}
 use Rattle.std.proofs.Common.{◌≡◌, ◌==◌, false, ap, sym, ◌∙◌, arith}
 use Rattle.std.proofs.lemmas.Result.{IfOk-weaker}
 use Rattle.nr_blockdesk.specs.Heard.{heard_of}
@@ -23,17 +24,4 @@ returns-then-left-eq0 c =
     ∙ sym (audit_line-order c.args.number link records c.args.r none)) c.order_line.ensures
 
 pub returns : goal.returns
-returns c =
-    let link = c.args.receiver.now.link in
-    let records = c.args.receiver.now.heard in
-    let of : IsPeelerOf link (heard_of records c.args.r) c.peeler-peeler.result.now = record {
-      table = c.peeler-peeler.ensures.table;
-      graph = c.peeler-peeler.ensures.graph;
-      numbers = c.peeler-peeler.ensures.numbers;
-      positions = c.peeler-peeler.ensures.given;
-      peeled = c.peeler-peeler.ensures.peeled;
-    } in
-    let some : (left link records c.args.r == 0) ≡ false = grind arith in
-    IfOk-weaker c.stuck_line.result _ _
-    (λ line is. is ∙ ap (stuck_line c.args.number c.args.r) (c.deref.ensures.value ∙ c.in_ok-positions.ensures.value ∙ unknown-unfixed link (heard_of records c.args.r) c.peeler-peeler.result.now of)
-    ∙ sym (audit_line-stuck c.args.number link records c.args.r some)) c.stuck_line.ensures
+returns c = grind (arith, nat_tests, unknown-unfixed, audit_line-stuck)

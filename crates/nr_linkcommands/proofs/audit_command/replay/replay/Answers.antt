@@ -1,12 +1,8 @@
+use Rattle.std.proofs.Common.{arith}
 use Rattle.std.proofs.Common.{[], subst}
 use Rattle.nr_blockdesk.specs.Heard.{IsRecordOf}
 use Rattle.nr_blockdesk.specs.Link.{Link}
 use Rattle.nr_linkcommands.proofs.audit_command.replay.replay.Goals as goal
 
 pub replay_all-requires : goal.replay_all-requires
-replay_all-requires c =
-    let receiver = c.in_ok-receiver.receiver in
-    record {
-      link = c.in_ok-receiver.ensures.link;
-      heard = subst (λ (l : Link). IsRecordOf l [] receiver.heard) c.in_ok-receiver.ensures.link c.in_ok-receiver.ensures.empty;
-    }
+replay_all-requires c = grind arith

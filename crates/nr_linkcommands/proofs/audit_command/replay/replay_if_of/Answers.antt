@@ -15,8 +15,4 @@ returns-then-transmission-process c =
     λ list has. heard_same c.args.sender.now list (received c.args.sender.now (of_process c.args.process (x ∷ []))) c.args.receiver.now (received-other c.args.process c.args.sender.now x other) has
 
 pub returns : goal.returns
-returns c =
-    let x = c.args.transmission.now in
-    let mine : (x.process == c.args.process) ≡ true = grind (arith, nat_tests) in
-    subst (λ (more : List Reception). OnOk c.replay_one.result ((list : List Reception) → HasHeard c.args.sender.now list c.args.receiver.now → HasHeard c.args.sender.now (list ++ more) c.replay_one.new.receiver))
-    (sym (received-own c.args.process c.args.sender.now x mine)) c.replay_one.ensures
+returns c = grind (arith, nat_tests, received-own)

@@ -1,3 +1,4 @@
+use Rattle.std.proofs.Common.{arith}
 use Rattle.std.proofs.Common.{◌++◌, ◌∷◌, [], ◌∙◌, List, subst, sym}
 use Rattle.nr_blockdesk.specs.Explains.{IsAccepted, Reception, reception}
 use Rattle.nr_blockdesk.specs.Heard.{IsRecordOf}
@@ -11,27 +12,13 @@ use Rattle.nr_linkcommands.proofs.RunLineFacts.{received_of-refused, received_of
 use Rattle.nr_linkcommands.proofs.audit_command.replay.replay_one.Goals as goal
 
 pub receive-requires-clause-both : goal.receive-requires-clause-both
-receive-requires-clause-both c =
-    let made : IsExchanged c.args.sender.now c.args.transmission.now c.in-Ok.exchange = rw c.in-Ok.is at c.in_ok-exchange.ensures.made in
-    made.both
+receive-requires-clause-both c = grind arith
 
 pub receive-requires-clause-accepted : goal.receive-requires-clause-accepted
-receive-requires-clause-accepted c =
-    let x = c.args.transmission.now in
-    let made : IsExchanged c.args.sender.now x c.in-Ok.exchange = rw c.in-Ok.is at c.in_ok-exchange.ensures.made in
-    subst (λ (l : Link). IsAccepted l (reception_of x.tx c.in-Ok.exchange.arrival)) (sym c.requires) made.accepted
+receive-requires-clause-accepted c = grind arith
 
 pub returns-in_ok-receive-in-Ok : goal.returns-in_ok-receive-in-Ok
-returns-in_ok-receive-in-Ok c = λ list has.
-    let sender = c.args.sender.now in
-    let x = c.args.transmission.now in
-    let made : IsExchanged sender x c.in-Ok.exchange = rw c.in-Ok.is at c.in_ok-exchange.ensures.made in
-    let after = (rw has.link at c.in_ok-receive-in-Ok.ensures.heard) list has.heard in
-    subst (λ (more : List Reception). HasHeard sender (list ++ more) c.receive.new.receiver) (sym (received_of-sent sender x c.in-Ok.exchange.bits.items made.sent))
-    (record {
-      link = c.receive.ensures.link ∙ has.link;
-      heard = subst (λ (l : List Heard). IsRecordOf sender.link (list ++ reception x.tx l ∷ []) c.receive.new.receiver.heard) made.heard after;
-    })
+returns-in_ok-receive-in-Ok c = grind (arith, received_of-sent)
 
 pub returns-in-Err : goal.returns-in-Err
 returns-in-Err c = λ list has.

@@ -3,9 +3,4 @@ use Rattle.nr_files.specs.Schedule.{IsTimetable, timetable_by}
 use Rattle.nr_linkcommands.proofs.ready.Ready.new.Goals as goal
 
 pub invariant_of-result : goal.invariant_of-result
-invariant_of-result c =
-    let inputs = c.args.inputs.now in
-    record {
-      few = omega (arith, c.in_ok-senders.ensures.each, inputs.few);
-      timetable = subst (λ n. IsTimetable n (timetable_by inputs.schedule)) (sym c.in_ok-senders.ensures.each) inputs.timetable;
-    }
+invariant_of-result c = grind arith

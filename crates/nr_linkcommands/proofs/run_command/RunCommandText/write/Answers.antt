@@ -20,12 +20,7 @@ returns-in_err-rounds-clause-text g c =
 
 pub follow-requires : goal.follow-requires
 unfolding rounds_counted
-follow-requires g c =
-    let schedule = c.args.ready.now.inputs.now.schedule in
-    let senders : c.len.result ≡ length c.args.ready.now.senders.items = omega arith in
-    let count : length c.in_ok-rounds.rounds.slots.items ≡ cond schedule.by_process 16 (length c.args.ready.now.senders.items + 1) =
-    ap length c.in_ok-rounds.ensures.slots ∙ length-replicate {A = Slot} c.slot_count-slots.result empty_slot ∙ (rw senders at c.slot_count-slots.ensures) in
-    λ k. ((refl, tt), (c.requires.puts, (placed-in schedule.by_process (length c.args.ready.now.senders.items) _ schedule.transmissions.items c.args.ready.now.timetable.placed c.args.ready.now.timetable.named count, record { held = rw c.in_ok-rounds.ensures.slots (rounds-first c.args.ready.now.senders.items schedule.transmissions.items c.slot_count-slots.result); counted = c.in_ok-rounds.ensures.totals; within = rw c.in_ok-rounds.ensures.totals none-within })))
+follow-requires g c = grind (arith, length-replicate, placed-in, rounds-first, none-within)
 
 pub returns-in_err-follow-clause-text : goal.returns-in_err-follow-clause-text
 returns-in_err-follow-clause-text g c =
@@ -36,10 +31,7 @@ returns-in_err-follow-clause-text g c =
     (sym (with_text-nil _)) c.in_err-follow.ensures.text
 
 pub returns-then-by_process-clause-text : goal.returns-then-by_process-clause-text
-returns-then-by_process-clause-text g c =
-    let senders = c.args.ready.now.senders.items in
-    let schedule = c.args.ready.now.inputs.now.schedule.transmissions.items in
-    rw c.if-by_process.true (writes_last _ _ _ c.write_rounds.result (pieces_joined (turns run_words senders [] schedule)) (run_ends true senders schedule) c.in_ok-follow.ensures.text c.write_rounds.ensures.text)
+returns-then-by_process-clause-text g c = grind (arith, writes_last)
 
 pub returns-clause-text : goal.returns-clause-text
 returns-clause-text g c =

@@ -1,3 +1,4 @@
+use Rattle.std.proofs.Common.{arith}
 use Rattle.std.proofs.Common.{Err, Ok, ◌++◌, [], ◌∷◌, List, ℕ, ap, sym, ◌∙◌}
 use Rattle.std.proofs.lemmas.List.{append-nil}
 use Rattle.std.proofs.lemmas.Result.{err_from_is_err_and}
@@ -15,19 +16,13 @@ use Rattle.nr_commands.proofs.WrittenLemmas.{with_text-append, with_text-nil, wr
 use Rattle.nr_linkcommands.proofs.run_command.transmission.send_and_receive.Goals as goal
 
 pub next_state-requires-clause-both : goal.next_state-requires-clause-both
-next_state-requires-clause-both g c =
-    let made : IsExchanged c.args.sender.now c.args.transmission.now c.in-Ok.exchange = rw c.in-Ok.is at c.in_ok-exchange.ensures.made in
-    made.both
+next_state-requires-clause-both g c = grind arith
 
 pub next_state-requires-clause-accepted : goal.next_state-requires-clause-accepted
-next_state-requires-clause-accepted g c =
-    let made : IsExchanged c.args.sender.now c.args.transmission.now c.in-Ok.exchange = rw c.in-Ok.is at c.in_ok-exchange.ensures.made in
-    made.accepted
+next_state-requires-clause-accepted g c = grind arith
 
 pub returns-in_err-exchange-clause-text : goal.returns-in_err-exchange-clause-text
-returns-in_err-exchange-clause-text g c = λ list holds.
-    let p = err_from_is_err_and c.from_residual.result c.from_residual.ensures.1 in
-    writes_none _ _ p.0 _ p.1 p.2 (lines_of-some c.args.sender.now list c.args.transmission.now)
+returns-in_err-exchange-clause-text g c = grind (arith, err_from_is_err_and, writes_none, lines_of-some)
 
 pub returns-in_err-put_line-in-Ok-clause-text : goal.returns-in_err-put_line-in-Ok-clause-text
 returns-in_err-put_line-in-Ok-clause-text g c = λ list holds.
@@ -76,11 +71,7 @@ returns-in_ok-write_left-in-Ok-clause-text g c = λ list holds.
     ∙ with_text-append _ (sent_line x.number x.block bits) lines ∙ ap (with_text (g.O.Sink.written c.args.out.now)) (sym whole)
 
 pub returns-in_ok-write_left-in-Ok-clause-held : goal.returns-in_ok-write_left-in-Ok-clause-held
-returns-in_ok-write_left-in-Ok-clause-held g c = λ list holds.
-    let x = c.args.transmission.now in
-    let made : IsExchanged c.args.sender.now x c.in-Ok.exchange = rw c.in-Ok.is at c.in_ok-exchange.ensures.made in
-    let is = rw (c.take.ensures.value, made.heard) at c.in_ok-after-in-Ok.ensures list holds in
-    rw (received_of-sent c.args.sender.now x c.in-Ok.exchange.bits.items made.sent) is
+returns-in_ok-write_left-in-Ok-clause-held g c = grind (arith, received_of-sent)
 
 pub returns-in-Err-clause-text : goal.returns-in-Err-clause-text
 returns-in-Err-clause-text g c = λ list holds.
@@ -88,6 +79,4 @@ returns-in-Err-clause-text g c = λ list holds.
     rw (lines_of-refused c.args.sender.now list c.args.transmission.now c.in-Err.fault said) (c.put_line-in-Err.ensures.text _ (answer_line-some _ _ (Err c.in-Err.fault)) c.refused_line.ensures)
 
 pub returns-in-Err-clause-held : goal.returns-in-Err-clause-held
-returns-in-Err-clause-held g c = on_ok-any c.put_line-in-Err.result (λ list holds.
-    let said = rw c.in-Err.is at c.in_ok-exchange.ensures.made in
-    rw (received_of-refused c.args.sender.now c.args.transmission.now c.in-Err.fault said, append-nil list) holds)
+returns-in-Err-clause-held g c = grind (arith, on_ok-any, received_of-refused, append-nil)
