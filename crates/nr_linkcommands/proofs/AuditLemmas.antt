@@ -1,9 +1,8 @@
 -- The text of `audit`, line by line.
-use Rattle.std.proofs.Common.{◌≡◌, ℕ, zero, suc, ◌+◌, ◌<◌, ◌==◌, ◌&&◌, Bool, true, false, not, if◌then◌else◌, List, [], ◌∷◌, ◌++◌, All, length, take, drop, flat_map, get_or, codes, ap, sym, subst, ◌∙◌, arith, append_assoc, length-append, cond}
+use Rattle.std.proofs.Common.{◌≡◌, ℕ, ◌+◌, ◌<◌, ◌==◌, ◌&&◌, Bool, true, false, not, if◌then◌else◌, List, [], ◌∷◌, ◌++◌, All, length, take, get_or, ap, sym, subst, ◌∙◌, arith, length-append, cond}
 use Rattle.std.proofs.lemmas.Grind.{flat_map-append}
 use Rattle.std.proofs.lemmas.List.{append-nil, take_more}
 use Rattle.std.proofs.lemmas.List.Elements.{filter-append}
-use Rattle.std.specs.Fmt.{decimal}
 use Rattle.std.specs.List.{count_by, filter, range_with_len}
 use Rattle.nr_crcattach.specs.Attachment.{attached_length}
 use Rattle.nr_bitvec.specs.Bit.{bit}
@@ -20,15 +19,14 @@ use Rattle.nr_blockdesk.specs.Link.{IsLink, Link}
 use Rattle.nr_blockdesk.specs.Outcome.{fixed, given, left}
 use Rattle.nr_blockdesk.specs.Receiving.{ReceiverView}
 use Rattle.nr_blockdesk.specs.Sent.{SenderView}
-use Rattle.nr_linkcommands.specs.AuditText.{audit_lines, audit_of}
+use Rattle.nr_linkcommands.specs.AuditText.{audit_of}
 use Rattle.nr_linkcommands.specs.Inside.{HasHeard}
-use Rattle.nr_linkcommands.specs.AuditLines.{audit_block, audit_line, order_line, position_word, steps_of, stuck_line, unfixed}
+use Rattle.nr_linkcommands.specs.AuditLines.{audit_block, audit_line, order_line, steps_of, stuck_line, unfixed}
 use Rattle.nr_files.specs.Rounds.{IsOfBlock, of_process}
 use Rattle.nr_linkcommands.specs.RunText.{received, received_of}
 use Rattle.nr_files.specs.declared.schedule.Transmission.{Transmission}
 use Rattle.nr_files.proofs.BlockRoundFacts.{own-block}
 use Rattle.nr_linkcommands.proofs.RunLineFacts.{some-lines}
-use Rattle.nr_commands.proofs.WrittenLemmas.{some_at_end}
 
 -- the line of a code block that is fixed, and of one that is not
 pub audit_line-order : (n : ℕ) (link : Link) (records : List HeardBits) (r : ℕ) → left link records r ≡ 0
@@ -44,22 +42,13 @@ audit_line-stuck n link records r some =
     ap (λ (b : Bool). if b then order_line n r (steps_of link (heard_of records r)) else stuck_line n r (unfixed link (heard_of records r))) some
 
 -- a line is not empty
-order_line-some : (n r steps : ℕ) → 0 < length (order_line n r steps)
-unfolding order_line
-order_line-some n r steps = some_at_end (codes "order " ++ decimal n ++ codes " " ++ decimal r ++ codes " " ++ decimal steps)
-
-stuck_line-some : (n r : ℕ) (positions : List ℕ) → 0 < length (stuck_line n r positions)
-unfolding stuck_line
-stuck_line-some n r positions =
-    some_at_end (codes "stuck " ++ decimal n ++ codes " " ++ decimal r ++ codes " " ++ decimal (length positions) ++ flat_map position_word positions)
-
 audit_line-some : (n : ℕ) (link : Link) (records : List HeardBits) (r : ℕ) → 0 < length (audit_line n link records r)
-unfolding audit_line
+unfolding audit_line order_line stuck_line
 audit_line-some n link records r = go (left link records r == 0)
   where
     go : (b : Bool) → 0 < length (if b then order_line n r (steps_of link (heard_of records r)) else stuck_line n r (unfixed link (heard_of records r)))
-    go true = order_line-some n r (steps_of link (heard_of records r))
-    go false = stuck_line-some n r (unfixed link (heard_of records r))
+    go true = simp length-append (omega arith)
+    go false = simp length-append (omega arith)
 
 -- the peeler of a code block: its positions are given by the record of what was received
 pub record IsPeelerOf (link : Link) (s : HeardBits) (p : Peeling) : Type 0 where
@@ -102,45 +91,6 @@ pub unknown-unfixed : (link : Link) (s : HeardBits) (p : Peeling) → IsPeelerOf
 unknown-unfixed link s p of =
     ap (λ (f : ℕ → Bool). filter (λ k. not (f k)) (range_with_len 0 (length p.known))) (same_known link s p of)
     ∙ ap (λ (n : ℕ). filter (λ k. not (fixed link s k)) (range_with_len 0 n)) (of.peeled.known_long ∙ same_size link s p of)
-
--- the lines of the blocks before the one at index i, its own, and those behind it
-pub audit_lines-parts : (schedule : List Transmission) (n : ℕ) (senders : List SenderView) (i : ℕ) (sender none : SenderView) → i < length senders → sender ≡ get_or senders i none
-    → audit_lines schedule n senders ≡ (audit_lines schedule n (take i senders) ++ audit_of schedule (i + n) sender) ++ audit_lines schedule (i + n + 1) (drop (i + 1) senders)
-unfolding audit_lines
-audit_lines-parts schedule n [] i sender none within is = absurd (omega (arith, within))
-audit_lines-parts schedule n (x ∷ xs) zero sender none within is =
-    let same : n ≡ 0 + n = omega arith in
-    ap (λ (s : SenderView). audit_of schedule n s ++ audit_lines schedule (n + 1) xs) (sym is)
-    ∙ ap (λ (k : ℕ). audit_of schedule k sender ++ audit_lines schedule (k + 1) xs) same
-audit_lines-parts schedule n (x ∷ xs) (suc i) sender none within is =
-    let next : i + (n + 1) ≡ suc i + n = omega arith in
-    let step : suc i + 1 ≡ suc (i + 1) = omega arith in
-    let first : List ℕ = audit_of schedule n x in
-    let front : List ℕ = audit_lines schedule (n + 1) (take i xs) in
-    let own : List ℕ = audit_of schedule (suc i + n) sender in
-    let rest : List ℕ = audit_lines schedule (suc i + n + 1) (drop (i + 1) xs) in
-    ap (λ (lines : List ℕ). first ++ lines) (audit_lines-parts schedule (n + 1) xs i sender none (omega (arith, within)) is
-    ∙ ap (λ k. (front ++ audit_of schedule k sender) ++ audit_lines schedule (k + 1) (drop (i + 1) xs)) next)
-    ∙ sym (append_assoc first (front ++ own) rest)
-    ∙ ap (λ (lines : List ℕ). lines ++ rest) (sym (append_assoc first front own))
-    ∙ ap (λ (k : ℕ). (first ++ front ++ own) ++ audit_lines schedule (suc i + n + 1) (drop k (x ∷ xs))) (sym step)
-
-pub audit_lines-more : (schedule : List Transmission) (n : ℕ) (senders : List SenderView) (i : ℕ) (sender none : SenderView) → i < length senders → sender ≡ get_or senders i none
-    → audit_lines schedule n (take (i + 1) senders) ≡ audit_lines schedule n (take i senders) ++ audit_of schedule (i + n) sender
-unfolding audit_lines
-audit_lines-more schedule n [] i sender none within is = absurd (omega (arith, within))
-audit_lines-more schedule n (x ∷ xs) zero sender none within is =
-    let same : n ≡ 0 + n = omega arith in
-    append-nil (audit_of schedule n x) ∙ ap (audit_of schedule n) (sym is) ∙ ap (λ (k : ℕ). audit_of schedule k sender) same
-audit_lines-more schedule n (x ∷ xs) (suc i) sender none within is =
-    let next : i + (n + 1) ≡ suc i + n = omega arith in
-    let step : suc i + 1 ≡ suc (i + 1) = omega arith in
-    let first : List ℕ = audit_of schedule n x in
-    let front : List ℕ = audit_lines schedule (n + 1) (take i xs) in
-    ap (λ (k : ℕ). audit_lines schedule n (take k (x ∷ xs))) step
-    ∙ ap (λ (lines : List ℕ). first ++ lines) (audit_lines-more schedule (n + 1) xs i sender none (omega (arith, within)) is
-    ∙ ap (λ k. front ++ audit_of schedule k sender) next)
-    ∙ sym (append_assoc first front (audit_of schedule (suc i + n) sender))
 
 -- what is received of a process with one transmission more: its own, and that of another process
 pub received-next : (p : ℕ) (sender : SenderView) (xs : List Transmission) (i : ℕ) (x none : Transmission) → i < length xs → x ≡ get_or xs i none

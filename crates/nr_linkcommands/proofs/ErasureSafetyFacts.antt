@@ -1,7 +1,7 @@
 -- Over erasures alone a transport block that is handed up is the one sent, of each block and of each round.
-use Rattle.std.proofs.Common.{◌≡◌, ℕ, ◌+◌, Bool, true, false, cond, Result, Ok, Err, IfOk, List, [], ◌∷◌, ◌++◌, All, length, map, ap, sym, subst, refl}
+use Rattle.std.proofs.Common.{◌≡◌, ℕ, ◌+◌, Bool, true, false, cond, Result, Ok, Err, IfOk, List, [], ◌∷◌, ◌++◌, All, length, get_or, map, ap, sym, subst, refl}
 use Rattle.std.specs.Prelude.{◌==◌}
-use Rattle.std.specs.List.{list_any, range_with_len}
+use Rattle.std.specs.List.{range_with_len}
 use Rattle.std.proofs.lemmas.List.Elements.{All-append, All-cons, All-filter, All-head, All-map, All-nil, All-push, All-tail, All-weaker}
 use Rattle.nr_bitvec.specs.BitList.{bits_of}
 use Rattle.nr_refusal.specs.Refusal.{◌>>=◌, with_fault}
@@ -12,12 +12,13 @@ use Rattle.nr_blockdesk.specs.Sent.{AcceptedSendAll, SenderView, sending_said}
 use Rattle.nr_transmission.specs.declared.fault.DeskFault.{DeskFault}
 use Rattle.nr_transmission.specs.declared.settings.Settings.{Settings}
 use Rattle.nr_linkcommands.specs.Inputs.{sender_said, senders_from}
-use Rattle.nr_files.specs.Rounds.{all_rounds, ended_by, ended_rounds, of_process, round_of, since_fresh}
+use Rattle.nr_files.specs.Rounds.{all_rounds, ended_by, ended_rounds, round_of}
 use Rattle.nr_linkcommands.specs.SafeRuns.{ErasuresAloneAreSafe, IsSafeRun, IsSafelyReceived, OnlyErases, RunsAreSafe}
 use Rattle.nr_commands.specs.declared.fault.RunFault.TheVariants.{Desk}
 use Rattle.nr_files.specs.declared.schedule.Transmission.{Transmission}
 use Rattle.nr_linkcommands.proofs.ReceptionFacts.{received-accepted, received-explained}
 use Rattle.nr_files.proofs.RefusalFacts.{holds_then, of_ok}
+use Rattle.nr_linkcommands.proofs.RoundTextFacts.{round-all}
 use Rattle.nr_linkcommands.proofs.RunInputFacts.{link-sized}
 
 -- the link that a sender was said for
@@ -44,19 +45,7 @@ erasures_alone sound all only is_delivered never table settings sender xs is_tab
       found = λ fixed. is_delivered sender.link _ sender.block is_link accepted is_block explained fixed;
     }
 
--- the transmissions of a round, and those of each round, are some of the schedule's
-since-some : (P : Transmission → Type 0) (xs : List Transmission) → All P xs → All P (since_fresh xs)
-unfolding since_fresh
-since-some P [] all = all
-since-some P (x ∷ xs) all = go (list_any (λ y. y.fresh) xs) (since-some P xs (All-tail P x xs all))
-  where
-    go : (b : Bool) → All P (since_fresh xs) → All P (cond b (since_fresh xs) (x ∷ xs))
-    go true more = more
-    go false more = all
-
-round-some : (P : Transmission → Type 0) (p : ℕ) (xs : List Transmission) → All P xs → All P (round_of p xs)
-round-some P p xs all = since-some P (of_process p xs) (All-filter (λ x. x.process == p) P xs all)
-
+-- the transmissions of each round are some of the schedule's
 ended-some : (P : Transmission → Type 0) (before xs : List Transmission) → All P before → All P xs → All (All P) (ended_rounds before xs)
 unfolding ended_rounds
 ended-some P before [] old all = All-nil (All P)
@@ -65,19 +54,15 @@ ended-some P before (x ∷ xs) old all =
     (ended-some P (before ++ x ∷ []) xs (All-push P before x old (All-head P x xs all)) (All-tail P x xs all))
   where
     go : (b : Bool) → All (All P) (cond b (round_of x.process before ∷ []) [])
-    go true = All-cons (All P) (round_of x.process before) [] (round-some P x.process before old) (All-nil (All P))
+    go true = All-cons (All P) (round_of x.process before) [] (round-all P x.process before old) (All-nil (All P))
     go false = All-nil (All P)
-
-each-of : {X : Type 0} (P : X → Type 0) (xs : List X) → ((x : X) → P x) → All P xs
-each-of P [] each = All-nil P
-each-of P (x ∷ xs) each = All-cons P x xs (each x) (each-of P xs each)
 
 rounds-some : (P : Transmission → Type 0) (schedule : List Transmission) → All P schedule → All (All P) (all_rounds schedule)
 rounds-some P schedule all =
     All-append (All P) (ended_rounds [] schedule) (map (λ p. round_of p schedule) (range_with_len 0 16))
     (ended-some P [] schedule (All-nil P) all)
     (All-map (All P) (λ p. round_of p schedule) (range_with_len 0 16)
-    (each-of (λ p. All P (round_of p schedule)) (range_with_len 0 16) (λ p. round-some P p schedule all)))
+    (λ k d within. round-all P (get_or (range_with_len 0 16) k d) schedule all))
 
 -- each sender is what is said of its block
 sender-own : (table : Entries) (settings : Settings) (n : ℕ) (octets : List ℕ) (sender : SenderView) (r : Result Link DeskFault) → link_said table settings (length (bits_of octets)) ≡ r → with_fault (Desk n) (r >>= λ link. Ok (record { link = link; block = bits_of octets })) ≡ Ok sender → sending_said table settings sender.block ≡ Ok sender

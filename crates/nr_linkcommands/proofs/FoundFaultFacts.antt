@@ -1,11 +1,11 @@
 -- Which octets say the fault that a command over four files returns.
-use Rattle.std.proofs.Common.{◌≡◌, ◌≢◌, ℕ, ◌+◌, ◌⊎◌, ⊎_elim, Option, IfSome, Result, Ok, Err, IfErr, IfOk, IsOk, List, length, sym, refl, subst}
+use Rattle.std.proofs.Common.{◌≡◌, ◌≢◌, ℕ, ◌+◌, ◌⊎◌, ⊎_elim, Option, IfSome, Result, Ok, Err, IsErrAnd, IfErr, IfOk, List, length, sym, subst}
 use Rattle.std.proofs.lemmas.Option.{IfSome_then}
 use Rattle.nr_shifttable.specs.Accepted.{Entries, table_said}
 use Rattle.nr_shifttable.specs.declared.fault.TableFault.{TableFault}
 use Rattle.nr_shifttable.specs.declared.fault.TableFault.TheVariants as table_fault
 use Rattle.nr_files.specs.Blocks.{blocks_said}
-use Rattle.nr_commands.specs.Command.{IsBlockFault, Writes}
+use Rattle.nr_commands.specs.Command.{IsBlockFault}
 use Rattle.nr_commands.specs.Faults.{blocks_refusal, schedule_refusal, settings_refusal, table_refusal}
 use Rattle.nr_linkcommands.specs.Inputs.{AreInputsOf, Given, HasNoFault, HaveNoFault, IsFoundIn, OfSaid, Says, senders_from}
 use Rattle.nr_files.specs.Schedule.{schedule_said}
@@ -18,6 +18,7 @@ use Rattle.nr_files.specs.declared.schedule.ScheduleFault.{ScheduleFault}
 use Rattle.nr_files.specs.declared.schedule.ScheduleFault.TheVariants as schedule_fault
 use Rattle.nr_files.specs.declared.settings.SettingsFault.{SettingsFault}
 use Rattle.nr_files.specs.declared.settings.SettingsFault.TheVariants as settings_fault
+use Rattle.nr_linkcommands.proofs.InputLemmas.{by_blocks, by_schedule, by_settings, by_table, no_fault}
 
 -- a count that rises exactly where this fault is returned did not rise
 kept : {E : Type 0} (told e : E) (old new : ℕ) → e ≢ told → ((e ≡ told) × (new ≡ old + 1)) ⊎ ((e ≢ told) × (new ≡ old)) → new ≡ old
@@ -31,31 +32,23 @@ says said memory e file other given = IfSome_then file given (λ octets is. ⊎_
 of_said : {X E : Type 0} (P : X → Type 0) (said : List ℕ → Result X E) (x : X) (file : Option (List ℕ)) → Says said (Ok x) file → P x → OfSaid said file P
 of_said P said x file is holds = IfSome_then file is (λ octets same. subst (λ r. IfOk r P) (sym same) holds)
 
-no_fault : {X E : Type 0} (said : List ℕ → Result X E) (x : X) (file : Option (List ℕ)) → Says said (Ok x) file → HasNoFault said file
-no_fault said x file is = IfSome_then file is (λ octets same. subst IsOk (sym same) refl)
-
 -- the fault of each file
-pub found_table : (e : TableFault) (t s b d : Option (List ℕ)) → IfSome t (λ text. ((◌≡◌ {A = Result Entries TableFault} (Err e) (Err table_fault.Read))) ⊎ ((e ≡ table_fault.Memory) ⊎ (table_said text ≡ Err e))) → IsFoundIn (table_refusal e) t s b d
-found_table table_fault.Memory t s b d said = tt
-found_table e t s b d said = λ other.
-    says table_said table_fault.Memory e t (λ is. cc)
-    (IfSome_then t said (λ text given. ⊎_elim (λ read. absurd (other (cc))) (λ is. is) given))
+pub found_table : {X : Type 0} (r : Result X RunFault) (e : TableFault) (t s b d : Option (List ℕ)) → IsErrAnd r (λ told. told ≡ table_refusal e) → IfSome t (λ text. ((◌≡◌ {A = Result Entries TableFault} (Err e) (Err table_fault.Read))) ⊎ ((e ≡ table_fault.Memory) ⊎ (table_said text ≡ Err e))) → IfErr r (λ fault. IsFoundIn fault t s b d)
+found_table r e t s b d at said = by_table (λ f. IsFoundIn f t s b d) r e at tt (λ wanted other.
+    says table_said table_fault.Memory e t wanted (IfSome_then t said (λ text given. ⊎_elim (λ read. absurd (other (cc))) (λ is. is) given)))
 
-pub found_settings : (e : SettingsFault) (t s b d : Option (List ℕ)) (old new : ℕ) → ((e ≡ settings_fault.Read) × (new ≡ old + 1)) ⊎ ((e ≢ settings_fault.Read) × (new ≡ old)) → (new ≡ old → IfSome s (λ octets. (e ≡ settings_fault.Memory) ⊎ (settings_said octets ≡ Err e))) → IsFoundIn (settings_refusal e) t s b d
-found_settings settings_fault.Memory t s b d old new fails said = tt
-found_settings e t s b d old new fails said = λ other.
-    says settings_said settings_fault.Memory e s (λ is. cc) (said (kept settings_fault.Read e old new other fails))
+pub found_settings : {X : Type 0} (r : Result X RunFault) (e : SettingsFault) (t s b d : Option (List ℕ)) (old new : ℕ) → IsErrAnd r (λ told. told ≡ settings_refusal e) → ((e ≡ settings_fault.Read) × (new ≡ old + 1)) ⊎ ((e ≢ settings_fault.Read) × (new ≡ old)) → (new ≡ old → IfSome s (λ octets. (e ≡ settings_fault.Memory) ⊎ (settings_said octets ≡ Err e))) → IfErr r (λ fault. IsFoundIn fault t s b d)
+found_settings r e t s b d old new at fails said = by_settings (λ f. IsFoundIn f t s b d) r e at tt (λ wanted other.
+    says settings_said settings_fault.Memory e s wanted (said (kept settings_fault.Read e old new other fails)))
 
-pub found_blocks : (e : BlocksFault) (t s b d : Option (List ℕ)) (old new : ℕ) → ((e ≡ blocks_fault.Read) × (new ≡ old + 1)) ⊎ ((e ≢ blocks_fault.Read) × (new ≡ old)) → (new ≡ old → IfSome b (λ octets. (e ≡ blocks_fault.Memory) ⊎ (blocks_said octets ≡ Err e))) → IsFoundIn (blocks_refusal e) t s b d
-found_blocks blocks_fault.Memory t s b d old new fails said = tt
-found_blocks e t s b d old new fails said = λ other.
-    says blocks_said blocks_fault.Memory e b (λ is. cc) (said (kept blocks_fault.Read e old new other fails))
+pub found_blocks : {X : Type 0} (r : Result X RunFault) (e : BlocksFault) (t s b d : Option (List ℕ)) (old new : ℕ) → IsErrAnd r (λ told. told ≡ blocks_refusal e) → ((e ≡ blocks_fault.Read) × (new ≡ old + 1)) ⊎ ((e ≢ blocks_fault.Read) × (new ≡ old)) → (new ≡ old → IfSome b (λ octets. (e ≡ blocks_fault.Memory) ⊎ (blocks_said octets ≡ Err e))) → IfErr r (λ fault. IsFoundIn fault t s b d)
+found_blocks r e t s b d old new at fails said = by_blocks (λ f. IsFoundIn f t s b d) r e at tt (λ wanted other.
+    says blocks_said blocks_fault.Memory e b wanted (said (kept blocks_fault.Read e old new other fails)))
 
-pub found_schedule : (blocks : List (List ℕ)) (e : ScheduleFault) (t s b d : Option (List ℕ)) (old new : ℕ) → ((e ≡ schedule_fault.Read) × (new ≡ old + 1)) ⊎ ((e ≢ schedule_fault.Read) × (new ≡ old)) → Says blocks_said (Ok blocks) b → (new ≡ old → IfSome d (λ octets. (e ≡ schedule_fault.Memory) ⊎ (schedule_said (length blocks) octets ≡ Err e))) → IsFoundIn (schedule_refusal e) t s b d
-found_schedule blocks schedule_fault.Memory t s b d old new fails before said = tt
-found_schedule blocks e t s b d old new fails before said = λ other.
+pub found_schedule : {X : Type 0} (blocks : List (List ℕ)) (r : Result X RunFault) (e : ScheduleFault) (t s b d : Option (List ℕ)) (old new : ℕ) → IsErrAnd r (λ told. told ≡ schedule_refusal e) → ((e ≡ schedule_fault.Read) × (new ≡ old + 1)) ⊎ ((e ≢ schedule_fault.Read) × (new ≡ old)) → Says blocks_said (Ok blocks) b → (new ≡ old → IfSome d (λ octets. (e ≡ schedule_fault.Memory) ⊎ (schedule_said (length blocks) octets ≡ Err e))) → IfErr r (λ fault. IsFoundIn fault t s b d)
+found_schedule blocks r e t s b d old new at fails before said = by_schedule (λ f. IsFoundIn f t s b d) r e at tt (λ wanted other.
     of_said (λ bs. Says (schedule_said (length bs)) (Err e) d) blocks_said blocks b before
-    (says (schedule_said (length blocks)) schedule_fault.Memory e d (λ is. cc) (said (kept schedule_fault.Read e old new other fails)))
+    (says (schedule_said (length blocks)) schedule_fault.Memory e d wanted (said (kept schedule_fault.Read e old new other fails))))
 
 -- files that were read have no fault
 pub none_found : (given : Given) (t s b d : Option (List ℕ)) → AreInputsOf given t s b d → HaveNoFault t s b d
@@ -78,19 +71,3 @@ found_block given (faults.Desk n e) t s b d are of_block said =
           (of_said (λ blocks. senders_from given.table given.settings 1 blocks ≡ Err (faults.Desk n e)) blocks_said given.blocks b are.blocks refused)),
     )
 found_block given e t s b d are of_block said = absurd (of_block (λ is. cc))
-
--- the fault of a call that writes, once the files were read
-pub found_written : {X : Type 0} (r : Result X RunFault) (old new : Option (List ℕ)) (text : List ℕ) (given : Given) (t s b d : Option (List ℕ)) → AreInputsOf given t s b d → Writes old new r text → IfErr r (λ e. IsFoundIn e t s b d)
-found_written (Ok x) old new text given t s b d are writes = tt
-found_written (Err faults.Write) old new text given t s b d are writes = none_found given t s b d are
-found_written (Err faults.Memory) old new text given t s b d are writes = tt
-found_written (Err e) old new text given t s b d are writes = absurd writes
-
--- if a fault is found in the four files, so is that of a result that is this fault
-pub found_err : {X : Type 0} (r : Result X RunFault) (exit e : RunFault) (t s b d : Option (List ℕ)) → r ≡ Err exit → exit ≡ e → IsFoundIn e t s b d → IfErr r (λ fault. IsFoundIn fault t s b d)
-found_err r exit e t s b d is same found = rw (is, same) found
-
--- what holds where a result is Ok
-pub sound_ok : {X E : Type 0} (r : Result X E) (given : Given) (t s b d : Option (List ℕ)) → AreInputsOf given t s b d → IfOk r (λ x. HaveNoFault t s b d)
-sound_ok (Ok x) given t s b d are = none_found given t s b d are
-sound_ok (Err e) given t s b d are = tt

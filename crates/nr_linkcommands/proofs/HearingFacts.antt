@@ -15,7 +15,7 @@ use Rattle.nr_bitvec.specs.BitList.{low_first}
 use Rattle.nr_blockdesk.specs.Marks.{heards, heards_from, place_heard}
 use Rattle.nr_blockdesk.specs.ReceiverLaws.{arrived_bit}
 use Rattle.nr_files.specs.Erasures.{erased_of, is_named}
-use Rattle.nr_linkcommands.specs.Hearing.{arrives_at, heard_through}
+use Rattle.nr_linkcommands.specs.Hearing.{heard_through}
 use Rattle.nr_files.specs.declared.erasure.Erasure.{Erasure}
 use Rattle.nr_files.specs.declared.erasure.Erasure.TheVariants as erasure
 use Rattle.nr_files.specs.declared.erasure.Places.{Places}

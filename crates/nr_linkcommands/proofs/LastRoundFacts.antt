@@ -1,10 +1,10 @@
 -- The rounds that no transmission ends, one process after the other.
-use Rattle.std.proofs.Common.{◌≡◌, ℕ, ◌+◌, ◌<◌, List, [], ◌∷◌, ◌++◌, length, flat_map, get_or, map, ap, ◌∙◌, refl, sym, subst, arith, append_assoc}
+use Rattle.std.proofs.Common.{◌≡◌, ℕ, ◌+◌, ◌<◌, List, [], ◌∷◌, ◌++◌, length, flat_map, get_or, map, ap, ◌∙◌, refl, sym, arith, append_assoc}
 use Rattle.std.specs.List.{range_with_len}
 use Rattle.std.proofs.lemmas.List.FromFn.{map-range_with_len_more}
 use Rattle.std.proofs.lemmas.List.{get_or_default}
 use Rattle.nr_blockdesk.specs.Sent.{SenderView}
-use Rattle.nr_linkcommands.specs.Ends.{HoldRounds, HoldsRound, goes_on, empty_slot}
+use Rattle.nr_linkcommands.specs.Ends.{HoldRounds, HoldsRound, goes_on}
 use Rattle.nr_linkcommands.specs.RoundTexts.{Words, last_rounds, pieces_joined, round_lines}
 use Rattle.nr_files.specs.Rounds.{round_of}
 use Rattle.nr_linkcommands.specs.declared.run_command.slot.Slot.{Slot}

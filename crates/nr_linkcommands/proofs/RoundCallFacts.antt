@@ -14,7 +14,7 @@ use Rattle.nr_blockdesk.specs.Link.{Link, link_said}
 use Rattle.nr_blockdesk.specs.Sent.{AcceptedSendAll, SenderView, sending_said}
 use Rattle.nr_transmission.specs.declared.settings.Settings.{Settings}
 use Rattle.nr_linkcommands.specs.Inputs.{senders_from}
-use Rattle.nr_linkcommands.specs.RoundCalls.{RoundsAreCalls, calls_by, calls_of, given_if, round_given}
+use Rattle.nr_linkcommands.specs.RoundCalls.{RoundsAreCalls, calls_of, given_if, round_given}
 use Rattle.nr_linkcommands.specs.RoundTexts.{sender_of}
 use Rattle.nr_files.specs.Rounds.{round_of, since_fresh}
 use Rattle.nr_linkcommands.specs.RunText.{received, received_of}

@@ -1,14 +1,12 @@
 -- What each slot has received of the round that its process is in, one transmission after the other.
-use Rattle.std.proofs.Common.{◌≡◌, ℕ, suc, ◌+◌, ◌-◌, ◌<◌, ◌≤◌, ◌==◌, All, Bool, true, false, not, cond, Option, None, Some, List, [], ◌∷◌, ◌++◌, length, take, drop, set, replicate, slice_get, get_or, ap, sym, subst, refl, ◌∙◌, ⊎_elim, arith, append_assoc, length-append}
+use Rattle.std.proofs.Common.{◌≡◌, ℕ, suc, ◌+◌, ◌-◌, ◌<◌, ◌≤◌, ◌==◌, All, Bool, true, false, not, cond, Option, None, Some, List, [], ◌∷◌, ◌++◌, length, take, drop, set, replicate, slice_get, get_or, ap, sym, subst, refl, ◌∙◌, ⊎_elim, arith, append_assoc, length-append, IfSome}
 use Rattle.std.specs.List.{list_any}
-use Rattle.std.specs.Option.{option_map}
 use Rattle.std.proofs.Math.ListN.{length-set}
 use Rattle.std.proofs.lemmas.Bool.{cases_eq}
 use Rattle.std.proofs.lemmas.Bool.Decides.{nat_tests}
 use Rattle.std.proofs.lemmas.Grind.{get_or-set_at}
 use Rattle.std.proofs.lemmas.List.{get_or-replicate, get_or-set_other, length-replicate}
-use Rattle.std.proofs.lemmas.List.Elements.{All-filter, All-head, All-tail}
-use Rattle.std.proofs.lemmas.Option.{slice_get-get_or}
+use Rattle.std.proofs.lemmas.List.Elements.{All-head}
 use Rattle.nr_blockdesk.specs.Explains.{Reception}
 use Rattle.nr_blockdesk.specs.Link.{Link}
 use Rattle.nr_blockdesk.specs.Sent.{SenderView}
@@ -26,24 +24,6 @@ use Rattle.nr_linkcommands.proofs.LastRoundFacts.{holds-round}
 use Rattle.nr_linkcommands.proofs.RoundTextFacts.{continued-more, other-more, received-more, turns-turn}
 use Rattle.nr_linkcommands.proofs.RunLineFacts.{has_received, received-few}
 use Rattle.nr_linkcommands.proofs.RunOutcomeFacts.{outcome_line-some}
-
--- the sender of a block that there is
-pub sender-there : (senders : List SenderView) (x : Transmission) (number : ℕ) (sender : SenderView) → x.block ≡ number → number - 1 < length senders → sender ≡ get_or senders (number - 1) sender → sender_of senders x ≡ Some sender
-sender-there senders x number sender is within at =
-    ap (λ n. slice_get senders (n - 1)) is ∙ slice_get-get_or senders (number - 1) sender within ∙ ap Some (sym at)
-
--- what is so of all transmissions is so of those of a round
-since_fresh-all : (P : Transmission → Type 0) (xs : List Transmission) → All P xs → All P (since_fresh xs)
-unfolding since_fresh
-since_fresh-all P [] all = all
-since_fresh-all P (x ∷ xs) all = go (list_any (λ y. y.fresh) xs) (since_fresh-all P xs (All-tail P x xs all))
-  where
-    go : (b : Bool) → All P (since_fresh xs) → All P (cond b (since_fresh xs) (x ∷ xs))
-    go true later = later
-    go false later = all
-
-round-all : (P : Transmission → Type 0) (p : ℕ) (before : List Transmission) → All P before → All P (round_of p before)
-round-all P p before all = since_fresh-all P (of_process p before) (All-filter (λ x. x.process == p) P before all)
 
 -- a round is no longer than the transmissions
 since_fresh-few : (xs : List Transmission) → length (since_fresh xs) ≤ length xs
@@ -70,55 +50,40 @@ continued-few before x = go x.fresh
     go true = omega arith
     go false = omega (arith, since_fresh-few (of_process x.process before), of_process-few x.process before)
 
--- a round that has a block: its lines, and what counts it
-block-named : (n number : ℕ) (round : List Transmission) → Some number ≡ option_map (λ x. x.block) (slice_get round 0) → All (HasBlock n) round → (1 ≤ number) × (number ≤ n)
-block-named n number [] is all = absurd (cc)
-block-named n number (x ∷ more) is all =
-    let named = All-head (HasBlock n) x more all in
+-- the block that a slot names is one of so many
+pub block-named : (n : ℕ) (senders : List SenderView) (round : List Transmission) (slot : Slot) → HoldsRound false senders round slot → All (HasBlock n) round → IfSome slot.block (λ number. (1 ≤ number) × (number ≤ n))
+block-named n senders [] slot held all = subst (λ (s : Slot). IfSome s.block (λ number. (1 ≤ number) × (number ≤ n))) (sym held) tt
+block-named n senders (x ∷ more) slot held all =
+    subst (λ o. IfSome o (λ number. (1 ≤ number) × (number ≤ n))) (sym held.0) (All-head (HasBlock n) x more all)
+
+-- how the round of a slot that names a block ends: by what was received, its line, and what counts it
+pub record EndsAs (senders : List SenderView) (p number : ℕ) (sender : SenderView) (round : List Transmission) (slot : Slot) : Type 0 where
+  pub held : HoldsSummary sender.link (received sender round) slot.summary
+  pub line : round_lines run_words senders p round ≡ process_words p ++ outcome_line number sender.link (received sender round)
+  pub counted : (t : Totals) → round_counted t senders round ≡ counted t sender.link (received sender round)
+
+pub ends-as : (senders : List SenderView) (p number : ℕ) (sender : SenderView) (round : List Transmission) (slot : Slot) → slot.block ≡ Some number → slice_get senders (number - 1) ≡ Some sender → HoldsRound false senders round slot → EndsAs senders p number sender round slot
+ends-as senders p number sender [] slot named there held = absurd (cc)
+ends-as senders p number sender (x ∷ more) slot named there held =
+    let first = sym held.0 ∙ named in
     let block : x.block ≡ number = cc in
-    (omega (arith, named.0, block), omega (arith, named.1, block))
+    let at : sender_of senders x ≡ Some sender = ap (λ n. slice_get senders (n - 1)) block ∙ there in
+    record {
+      held = (subst (λ (s : Option SenderView). HoldsIf false s (x ∷ more) slot) at held.1).1;
+      line = ap (λ (s : Option SenderView). ended_if run_words p x.block s (x ∷ more)) at
+          ∙ ap (λ n. process_words p ++ outcome_line n sender.link (received sender (x ∷ more))) block;
+      counted = λ t. ap (λ (s : Option SenderView). counted_if t s (x ∷ more)) at;
+    }
 
-pub round-named : (n number p : ℕ) (before : List Transmission) → Some number ≡ option_map (λ x. x.block) (slice_get (round_of p before) 0) → All (HasBlock n) before → (1 ≤ number) × (number - 1 < n)
-round-named n number p before is all =
-    let named = block-named n number (round_of p before) is (round-all (HasBlock n) p before all) in
-    (named.0, omega (arith, named.0, named.1))
+-- a slot that names none is in no round
+pub round-none : (senders : List SenderView) (round : List Transmission) (slot : Slot) → slot.block ≡ None → HoldsRound false senders round slot → round ≡ []
+round-none senders [] slot none held = refl
+round-none senders (x ∷ more) slot none held = absurd (cc)
 
-pub round-held : (senders : List SenderView) (number : ℕ) (sender : SenderView) (round : List Transmission) (slot : Slot) → Some number ≡ option_map (λ x. x.block) (slice_get round 0) → number - 1 < length senders → sender ≡ get_or senders (number - 1) sender → HoldsRound false senders round slot → HoldsSummary sender.link (received sender round) slot.summary
-round-held senders number sender [] slot is within at held = absurd (cc)
-round-held senders number sender (x ∷ more) slot is within at held =
-    let block : x.block ≡ number = cc in
-    let holds : HoldsSlot false sender.link (received sender (x ∷ more)) slot =
-    subst (λ (s : Option SenderView). HoldsIf false s (x ∷ more) slot) (sender-there senders x number sender block within at) held in
-    holds.1
-
-pub round_lines-some : (senders : List SenderView) (p number : ℕ) (sender : SenderView) (round : List Transmission) → Some number ≡ option_map (λ x. x.block) (slice_get round 0) → number - 1 < length senders → sender ≡ get_or senders (number - 1) sender → round_lines run_words senders p round ≡ process_words p ++ outcome_line number sender.link (received sender round)
-round_lines-some senders p number sender [] is within at = absurd (cc)
-round_lines-some senders p number sender (x ∷ more) is within at =
-    let block : x.block ≡ number = cc in
-    ap (λ (s : Option SenderView). ended_if run_words p x.block s (x ∷ more)) (sender-there senders x number sender block within at)
-    ∙ ap (λ n. process_words p ++ outcome_line n sender.link (received sender (x ∷ more))) block
-
-pub round_lines-long : (senders : List SenderView) (p number : ℕ) (sender : SenderView) (round : List Transmission) → Some number ≡ option_map (λ x. x.block) (slice_get round 0) → number - 1 < length senders → sender ≡ get_or senders (number - 1) sender → 0 < length (round_lines run_words senders p round)
-round_lines-long senders p number sender round is within at =
-    let line : List ℕ = outcome_line number sender.link (received sender round) in
-    omega (arith, ap length (round_lines-some senders p number sender round is within at), length-append (process_words p) line, outcome_line-some number sender.link (received sender round))
-
-pub round_counted-some : (t : Totals) (senders : List SenderView) (number : ℕ) (sender : SenderView) (round : List Transmission) → Some number ≡ option_map (λ x. x.block) (slice_get round 0) → number - 1 < length senders → sender ≡ get_or senders (number - 1) sender → round_counted t senders round ≡ counted t sender.link (received sender round)
-round_counted-some t senders number sender [] is within at = absurd (cc)
-round_counted-some t senders number sender (x ∷ more) is within at =
-    let block : x.block ≡ number = cc in
-    ap (λ (s : Option SenderView). counted_if t s (x ∷ more)) (sender-there senders x number sender block within at)
-
--- one that has none is empty
-round-none : (round : List Transmission) → None ≡ option_map (λ x. x.block) (slice_get round 0) → round ≡ []
-round-none [] is = refl
-round-none (x ∷ more) is = absurd (cc)
-
-pub round_lines-none : (senders : List SenderView) (p : ℕ) (round : List Transmission) → None ≡ option_map (λ x. x.block) (slice_get round 0) → round_lines run_words senders p round ≡ []
-round_lines-none senders p round is = ap (round_lines run_words senders p) (round-none round is)
-
-pub round_counted-none : (t : Totals) (senders : List SenderView) (round : List Transmission) → None ≡ option_map (λ x. x.block) (slice_get round 0) → round_counted t senders round ≡ t
-round_counted-none t senders round is = ap (round_counted t senders) (round-none round is)
+-- a line about a round is not empty
+pub round_line-some : (p number : ℕ) (link : Link) (list : List Reception) → 0 < length (process_words p ++ outcome_line number link list)
+round_line-some p number link list =
+    omega (arith, length-append (process_words p) (outcome_line number link list), outcome_line-some number link list)
 
 -- a transmission is of the block of the round that it goes on with
 pub of-continued : (before : List Transmission) (x : Transmission) → (x.fresh ≡ false → IsOfRound (round_of x.process before) x) → IsOfRound (continued before x) x
@@ -141,7 +106,7 @@ goes_on-other p x later other = ap (λ b. cond b (not x.fresh) (goes_on p later)
 holds-by : (senders : List SenderView) (round : List Transmission) (x : Transmission) (sender : SenderView) (slot : Slot) → sender_of senders x ≡ Some sender → IsOfRound round x → HoldsRound true senders round slot → HoldsSlot true sender.link (received sender round) slot
 holds-by senders [] x sender slot there of held = subst (HoldsSlot true sender.link []) (sym held) (refl, refl)
 holds-by senders (y ∷ more) x sender slot there of held =
-    subst (λ (s : Option SenderView). HoldsIf true s (y ∷ more) slot) (ap (λ n. slice_get senders (n - 1)) of ∙ there) held
+    subst (λ (s : Option SenderView). HoldsIf true s (y ∷ more) slot) (ap (λ n. slice_get senders (n - 1)) of ∙ there) held.1
 
 -- where a fresh one forgets what was received
 begun-holds : (senders : List SenderView) (before later : List Transmission) (x : Transmission) (old new : Slot) → new ≡ cond x.fresh empty_slot old → HoldsRound (goes_on x.process (x ∷ later)) senders (round_of x.process before) old → HoldsRound true senders (continued before x) new
@@ -169,13 +134,17 @@ held-over link list None held = tt
 held-over link list (Some state) held = held.same_link
 
 -- and with the transmission
-holds-more : (goes : Bool) (senders : List SenderView) (round : List Transmission) (x : Transmission) (sender : SenderView) (slot : Slot) → sender_of senders x ≡ Some sender → IsOfRound round x → HoldsSlot goes sender.link (received sender round ++ received_of sender x) slot → HoldsRound goes senders (round ++ x ∷ []) slot
-holds-more goes senders [] x sender slot there of holds =
-    subst (λ (s : Option SenderView). HoldsIf goes s (x ∷ []) slot) (sym there)
-    (subst (λ list. HoldsSlot goes sender.link list slot) (sym (received-more sender [] x)) holds)
-holds-more goes senders (y ∷ more) x sender slot there of holds =
-    subst (λ (s : Option SenderView). HoldsIf goes s (y ∷ more ++ x ∷ []) slot) (sym (ap (λ n. slice_get senders (n - 1)) of ∙ there))
-    (subst (λ list. HoldsSlot goes sender.link list slot) (sym (received-more sender (y ∷ more) x)) holds)
+holds-more : (goes : Bool) (senders : List SenderView) (round : List Transmission) (x : Transmission) (sender : SenderView) (slot : Slot) → sender_of senders x ≡ Some sender → IsOfRound round x → slot.block ≡ Some x.block → HoldsSlot goes sender.link (received sender round ++ received_of sender x) slot → HoldsRound goes senders (round ++ x ∷ []) slot
+holds-more goes senders [] x sender slot there of named holds = (
+  named,
+  subst (λ (s : Option SenderView). HoldsIf goes s (x ∷ []) slot) (sym there)
+      (subst (λ list. HoldsSlot goes sender.link list slot) (sym (received-more sender [] x)) holds),
+)
+holds-more goes senders (y ∷ more) x sender slot there of named holds = (
+  named ∙ ap Some (sym of),
+  subst (λ (s : Option SenderView). HoldsIf goes s (y ∷ more ++ x ∷ []) slot) (sym (ap (λ n. slice_get senders (n - 1)) of ∙ there))
+      (subst (λ list. HoldsSlot goes sender.link list slot) (sym (received-more sender (y ∷ more) x)) holds),
+)
 
 -- before any transmission no slot has received anything
 pub rounds-first : (senders : List SenderView) (later : List Transmission) (n : ℕ) → HoldRounds senders [] later (replicate n empty_slot)
@@ -183,13 +152,13 @@ unfolding since_fresh
 rounds-first senders later n = λ p within. get_or-replicate n p empty_slot empty_slot (omega (arith, within, length-replicate {A = Slot} n empty_slot))
 
 -- after a transmission more
-pub rounds-more : (senders : List SenderView) (before later : List Transmission) (x : Transmission) (sender : SenderView) (slots : List Slot) (after : Slot) → IsOfRound (continued before x) x → sender_of senders x ≡ Some sender → x.process < length slots → HoldRounds senders before (x ∷ later) slots
+pub rounds-more : (senders : List SenderView) (before later : List Transmission) (x : Transmission) (sender : SenderView) (slots : List Slot) (after : Slot) → IsOfRound (continued before x) x → sender_of senders x ≡ Some sender → x.process < length slots → after.block ≡ Some x.block → HoldRounds senders before (x ∷ later) slots
     → HoldsSlot (goes_on x.process later) sender.link (received sender (continued before x) ++ received_of sender x) after → HoldRounds senders (before ++ x ∷ []) later (set slots x.process after)
-rounds-more senders before later x sender slots after of there inside held holds = λ p low.
+rounds-more senders before later x sender slots after of there inside named held holds = λ p low.
     ⊎_elim (same p) (other p low) (cases_eq p x.process)
   where
     more : HoldsRound (goes_on x.process later) senders (continued before x ++ x ∷ []) after
-    more = holds-more (goes_on x.process later) senders (continued before x) x sender after there of holds
+    more = holds-more (goes_on x.process later) senders (continued before x) x sender after there of named holds
 
     same : (p : ℕ) → p ≡ x.process → HoldsRound (goes_on p later) senders (round_of p (before ++ x ∷ [])) (get_or (set slots x.process after) p empty_slot)
     same p equal =

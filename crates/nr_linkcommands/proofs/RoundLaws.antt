@@ -1,11 +1,10 @@
 -- The lines of a process are those that its own transmissions have; and the rounds of blocks.
-use Rattle.std.proofs.Common.{◌≡◌, ℕ, Bool, true, false, cond, List, [], ◌∷◌, ◌++◌, map, ap, sym, refl, ◌∙◌, arith}
-use Rattle.std.specs.Prelude.{◌==◌}
+use Rattle.std.proofs.Common.{◌≡◌, ℕ, List, [], ◌∷◌, ◌++◌, map, ap, sym, refl, ◌∙◌, arith}
 use Rattle.std.specs.List.{filter, range_with_len}
 use Rattle.std.proofs.lemmas.Bool.Decides.{nat_tests}
 use Rattle.std.proofs.lemmas.List.Elements.{filter-append}
 use Rattle.nr_blockdesk.specs.Sent.{SenderView}
-use Rattle.nr_linkcommands.specs.RoundTexts.{LinesAreOwn, Piece, Words, is_about, last_rounds, round_lines, said_if, sender_of, turn_lines, turns}
+use Rattle.nr_linkcommands.specs.RoundTexts.{LinesAreOwn, Piece, Words, is_about, last_rounds, round_lines, turn_lines, turns}
 use Rattle.nr_files.specs.Rounds.{of_process, round_of, since_fresh}
 use Rattle.nr_files.specs.declared.schedule.Transmission.{Transmission}
 use Rattle.nr_files.proofs.RoundFacts.{of_process-more}

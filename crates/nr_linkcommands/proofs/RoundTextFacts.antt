@@ -1,23 +1,25 @@
 -- The text over the rounds of processes, one transmission after the other.
-use Rattle.std.proofs.Common.{◌≡◌, ℕ, ◌+◌, ◌-◌, ◌<◌, ◌≤◌, Bool, true, false, cond, List, [], ◌∷◌, ◌++◌, length, take, drop, get_or, ap, sym, refl, ◌∙◌, arith, append_assoc, length-append, length-drop, take_all}
+use Rattle.std.proofs.Common.{◌≡◌, ℕ, All, ◌+◌, ◌-◌, ◌<◌, ◌≤◌, Bool, true, false, cond, List, [], ◌∷◌, ◌++◌, length, take, drop, get_or, ap, sym, refl, ◌∙◌, arith, append_assoc, length-append, length-drop, take_all}
 use Rattle.std.specs.Prelude.{◌==◌}
 use Rattle.std.proofs.lemmas.Bool.Decides.{nat_tests}
 use Rattle.std.proofs.lemmas.Grind.{flat_map-append}
 use Rattle.std.proofs.lemmas.List.{append-nil, drop_more, take_more}
+use Rattle.std.proofs.lemmas.List.Elements.{All-filter, All-tail}
+use Rattle.std.specs.List.{list_any}
 use Rattle.nr_blockdesk.specs.Sent.{SenderView}
 use Rattle.nr_linkcommands.specs.RunText.{received, received_of, round_counted, rounds_counted}
 use Rattle.nr_linkcommands.specs.RoundTexts.{Words, pieces_joined, turn_lines, turns}
-use Rattle.nr_files.specs.Rounds.{continued, ended_by, ended_rounds, round_of}
+use Rattle.nr_files.specs.Rounds.{continued, ended_by, ended_rounds, of_process, round_of, since_fresh}
 use Rattle.nr_linkcommands.specs.declared.run_command.totals.Totals.{Totals}
 use Rattle.nr_files.specs.declared.schedule.Transmission.{Transmission}
 use Rattle.nr_files.proofs.RoundFacts.{round-more}
 
 -- the transmissions before the next one
-pub taken-more : (xs : List Transmission) (i : ℕ) (x : Transmission) → i < length xs → x ≡ get_or xs i x → take (i + 1) xs ≡ take i xs ++ x ∷ []
+pub taken-more : {X : Type 0} (xs : List X) (i : ℕ) (x : X) → i < length xs → x ≡ get_or xs i x → take (i + 1) xs ≡ take i xs ++ x ∷ []
 taken-more xs i x within is = take_more xs i x within ∙ ap (λ y. take i xs ++ y ∷ []) (sym is)
 
 -- the next one and those behind it
-pub left-turn : (xs : List Transmission) (i : ℕ) (x : Transmission) → i < length xs → x ≡ get_or xs i x → drop i xs ≡ x ∷ drop (i + 1) xs
+pub left-turn : {X : Type 0} (xs : List X) (i : ℕ) (x : X) → i < length xs → x ≡ get_or xs i x → drop i xs ≡ x ∷ drop (i + 1) xs
 left-turn xs i x within is = drop_more xs i x within ∙ ap (λ y. y ∷ drop (i + 1) xs) (sym is)
 
 -- all that is behind an index
@@ -35,6 +37,19 @@ turns-turn words senders xs i x within is =
 pub turns-end : (words : Words) (senders : List SenderView) (before xs : List Transmission) → xs ≡ [] → pieces_joined (turns words senders before xs) ≡ []
 unfolding turns
 turns-end words senders before xs is = ap (λ ys. pieces_joined (turns words senders before ys)) is
+
+-- what holds of each transmission holds of each one of a round
+pub round-all : (P : Transmission → Type 0) (p : ℕ) (xs : List Transmission) → All P xs → All P (round_of p xs)
+unfolding since_fresh
+round-all P p xs all = since (of_process p xs) (All-filter (λ x. x.process == p) P xs all)
+  where
+    either : (x : Transmission) (ys : List Transmission) (b : Bool) → All P (x ∷ ys) → All P (since_fresh ys) → All P (cond b (since_fresh ys) (x ∷ ys))
+    either x ys true here later = later
+    either x ys false here later = here
+
+    since : (ys : List Transmission) → All P ys → All P (since_fresh ys)
+    since [] here = here
+    since (y ∷ ys) here = either y ys (list_any (λ z. z.fresh) ys) here (since ys (All-tail P y ys here))
 
 -- the round of a transmission's process once it is made
 pub continued-more : (before : List Transmission) (x : Transmission) → round_of x.process (before ++ x ∷ []) ≡ continued before x ++ x ∷ []

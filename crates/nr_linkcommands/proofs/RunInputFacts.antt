@@ -1,15 +1,10 @@
 -- What `run` works from, and what it says by it.
 use Rattle.std.proofs.Common.{arith}
-use Rattle.std.proofs.Common.{◌≡◌, ℕ, Result, Ok, Err, ap, refl, sym}
-use Rattle.nr_crcattach.specs.Attachment.{attached_length}
-use Rattle.nr_graphpick.specs.Graph.{picked}
-use Rattle.nr_refusal.specs.Refusal.{◌>>=◌, with_fault}
-use Rattle.nr_shifttable.specs.Accepted.{Entries, has_graph}
-use Rattle.nr_ratematch.specs.Selection.{buffer_said}
-use Rattle.nr_segment.specs.Plan.{plan_of}
-use Rattle.nr_blockdesk.specs.Link.{Link, demanded, is_size, link_said}
+use Rattle.std.proofs.Common.{◌≡◌, ℕ, Result, Ok, Err, refl}
+use Rattle.nr_refusal.specs.Refusal.{◌>>=◌}
+use Rattle.nr_shifttable.specs.Accepted.{Entries}
+use Rattle.nr_blockdesk.specs.Link.{Link, link_said}
 use Rattle.nr_transmission.specs.declared.fault.DeskFault.{DeskFault}
-use Rattle.nr_transmission.specs.declared.fault.DeskFault.TheVariants as fault
 use Rattle.nr_transmission.specs.declared.settings.Settings.{Settings}
 
 -- two links that a call returns are one

@@ -1,7 +1,6 @@
 -- What is received of transmissions, and the lines of each.
-use Rattle.std.proofs.Common.{◌≡◌, ℕ, zero, suc, ◌+◌, ◌<◌, ◌≤◌, All, Bool, Option, None, Some, Result, Ok, Err, OnOk, List, [], ◌∷◌, ◌++◌, length, flat_map, get_or, ap, sym, subst, arith, length-append}
+use Rattle.std.proofs.Common.{◌≡◌, ℕ, zero, suc, ◌<◌, ◌≤◌, All, Bool, Option, None, Some, Result, Ok, Err, OnOk, List, [], ◌∷◌, ◌++◌, length, flat_map, get_or, ap, sym, subst, arith, length-append}
 use Rattle.std.specs.List.{range_with_len}
-use Rattle.std.proofs.lemmas.List.{get_or_default}
 use Rattle.std.proofs.lemmas.List.Elements.{All-get_or}
 use Rattle.nr_harqbuf.specs.Record.{HeardBits}
 use Rattle.nr_blockdesk.specs.Explains.{Reception, reception}
@@ -10,13 +9,12 @@ use Rattle.nr_blockdesk.specs.Link.{Link}
 use Rattle.nr_blockdesk.specs.Outcome.{left}
 use Rattle.nr_blockdesk.specs.Sent.{SenderView, sent_said}
 use Rattle.nr_transmission.specs.declared.fault.DeskFault.{DeskFault}
-use Rattle.nr_linkcommands.specs.Ends.{AllHold, HasReceived, HoldsState, HoldsSummary, empty_slot}
+use Rattle.nr_linkcommands.specs.Ends.{HasReceived, HoldsState}
 use Rattle.nr_linkcommands.specs.Hearing.{heard_through}
 use Rattle.nr_linkcommands.specs.RunLines.{left_line, left_lines}
-use Rattle.nr_linkcommands.specs.RunText.{lines_if, lines_of, own, received, received_if, received_of}
+use Rattle.nr_linkcommands.specs.RunText.{lines_if, lines_of, received, received_if, received_of}
 use Rattle.nr_linkcommands.specs.SendLines.{refused_line, sent_line}
 use Rattle.nr_linkcommands.specs.declared.run_command.slot.RxState.{RxState}
-use Rattle.nr_linkcommands.specs.declared.run_command.slot.Slot.{Slot}
 use Rattle.nr_files.specs.declared.schedule.Transmission.{Transmission}
 use Rattle.nr_linkcommands.proofs.RunOutcomeFacts.{left_line-some}
 use Rattle.nr_linkcommands.proofs.SendLemmas.{answer_line-some}
@@ -58,9 +56,7 @@ received_of-refused sender x e is = ap (received_if x) is
 
 -- the lines are not empty
 lines_if-some : (x : Transmission) (link : Link) (list : List Reception) (said : Result (List Bool) DeskFault) → 0 < length (lines_if x link list said)
-lines_if-some x link list (Ok bits) =
-    let some : 0 < length (sent_line x.number x.block bits) = answer_line-some x.number x.block (Ok bits) in
-    omega (arith, some, length-append (sent_line x.number x.block bits) (left_lines x.number x.block link (heard_record link list)))
+lines_if-some x link list (Ok bits) = simp length-append (omega (arith, answer_line-some x.number x.block (Ok bits)))
 lines_if-some x link list (Err e) = answer_line-some x.number x.block (Err e)
 
 pub lines_of-some : (sender : SenderView) (list : List Reception) (x : Transmission) → 0 < length (lines_of sender list x)
@@ -83,8 +79,3 @@ all-at P xs i x all within is = subst P (sym is) (All-get_or P xs i x within all
 pub on_ok-any : {X E : Type 0} {P : Type 0} (r : Result X E) → P → OnOk r P
 on_ok-any (Ok x) p = p
 on_ok-any (Err e) p = tt
-
--- what is kept of a block
-pub holds-at : (senders : List SenderView) (schedule : List Transmission) (slots : List Slot) (i : ℕ) (sender : SenderView) (any : Slot) → i < length senders → sender ≡ get_or senders i sender → i < length slots → AllHold senders schedule slots → HoldsSummary sender.link (received sender (own (i + 1) schedule)) (get_or slots i any).summary
-holds-at senders schedule slots i sender any within at inside held =
-    subst (λ (p : Slot). HoldsSummary sender.link (received sender (own (i + 1) schedule)) p.summary) (sym (get_or_default slots i any empty_slot inside)) (held i sender within at).1

@@ -1,11 +1,10 @@
 -- How transport blocks end: their lines, and their totals.
-use Rattle.std.proofs.Common.{◌≡◌, ◌≢◌, ℕ, zero, suc, ◌+◌, ◌<◌, ◌≤◌, ◌==◌, Bool, true, false, not, cond, ltb, Option, None, Some, Result, Ok, Err, IfOk, List, [], ◌∷◌, ◌++◌, length, drop, get_or, codes, ap, sym, refl, ◌∙◌, arith, length-append}
+use Rattle.std.proofs.Common.{◌≡◌, ◌≢◌, ℕ, zero, suc, ◌+◌, ◌<◌, ◌≤◌, ◌==◌, Bool, true, false, not, cond, ltb, Option, None, Some, List, [], length, codes, ap, sym, refl, ◌∙◌, arith, length-append}
 use mir.Val.{bool_byte}
 use Rattle.std.specs.Prelude.{count_by}
-use Rattle.std.specs.Fmt.{decimal}
 use Rattle.std.specs.List.{find, list_all, range_with_len}
 use Rattle.std.proofs.lemmas.Bool.{true≢false}
-use Rattle.std.proofs.lemmas.List.{drop_all, drop_more, map-id}
+use Rattle.std.proofs.lemmas.List.{map-id}
 use Rattle.std.proofs.lemmas.List.FromFn.{get_or-map-range_with_len, sum_by-map-range_with_len_more}
 use Rattle.std.proofs.lemmas.List.Sums.{sum_by-cons}
 use Rattle.std.proofs.lemmas.Bool.Decides.{nat_tests}
@@ -18,15 +17,12 @@ use Rattle.nr_blockdesk.specs.Outcome.{Verdict, all_fixed, blocks_of, contradict
 use Rattle.nr_blockdesk.specs.ReceiverLaws.{NothingIsOpen}
 use Rattle.nr_blockdesk.specs.Sent.{SenderView}
 use Rattle.nr_linkcommands.specs.Ends.{IsWithin}
-use Rattle.nr_commands.specs.Hex.{hex}
 use Rattle.nr_linkcommands.specs.RunLines.{contradiction_line, delivered_line, last_line, left_line, open_line, outcome_line, outcome_line_by, unfixed_blocks}
-use Rattle.nr_linkcommands.specs.RunText.{counted, counted_by, no_totals, open_counted, outcome_lines, own, received, rounds_counted, run_ends, run_words, text_of_run, totals_from}
-use Rattle.nr_linkcommands.specs.RoundTexts.{last_rounds, pieces_joined, turns}
+use Rattle.nr_linkcommands.specs.RunText.{counted, counted_by, no_totals, open_counted, rounds_counted, run_ends, text_of_run, totals_from}
 use Rattle.nr_files.specs.Rounds.{all_rounds}
 use Rattle.nr_files.specs.Schedule.{Timetable}
 use Rattle.nr_linkcommands.specs.declared.run_command.totals.Totals.{Totals}
 use Rattle.nr_files.specs.declared.schedule.Transmission.{Transmission}
-use Rattle.nr_commands.proofs.WrittenLemmas.{some_at_end}
 
 -- a number that isn't zero is greater than zero
 pub some-tested : (n m : ℕ) → n ≡ m → ltb 0 n ≡ not (m == 0)
@@ -110,48 +106,23 @@ pub unfixed-nothing : NothingIsOpen → (link : Link) → IsLink link → unfixe
 unfixed-nothing nothing link is =
     unfixed-if link (left_by link (record_of (word_size link.graph link.plan) []) == 0) refl (open-unfixed link [] (nothing link is))
 
--- the lines of the blocks from index i on: that of the block there, and those behind it
-pub outcome_lines-turn : (senders : List SenderView) (schedule : List Transmission) (i : ℕ) (sender : SenderView) → i < length senders → sender ≡ get_or senders i sender → outcome_lines (i + 1) (drop i senders) schedule ≡ outcome_line (i + 1) sender.link (received sender (own (i + 1) schedule)) ++ outcome_lines (i + 1 + 1) (drop (i + 1) senders) schedule
-unfolding outcome_lines
-outcome_lines-turn senders schedule i sender h is =
-    ap (λ xs. outcome_lines (i + 1) xs schedule) (drop_more senders i sender h ∙ ap (λ s. s ∷ drop (i + 1) senders) (sym is))
-
-pub outcome_lines-end : (senders : List SenderView) (schedule : List Transmission) (i : ℕ) → length senders ≤ i → outcome_lines (i + 1) (drop i senders) schedule ≡ []
-unfolding outcome_lines
-outcome_lines-end senders schedule i h = ap (λ xs. outcome_lines (i + 1) xs schedule) (drop_all i senders h)
-
--- the totals likewise
-pub totals-turn : (t : Totals) (senders : List SenderView) (schedule : List Transmission) (i : ℕ) (sender : SenderView) → i < length senders → sender ≡ get_or senders i sender → totals_from t (i + 1) (drop i senders) schedule ≡ totals_from (counted t sender.link (received sender (own (i + 1) schedule))) (i + 1 + 1) (drop (i + 1) senders) schedule
-unfolding totals_from
-totals-turn t senders schedule i sender h is =
-    ap (λ xs. totals_from t (i + 1) xs schedule) (drop_more senders i sender h ∙ ap (λ s. s ∷ drop (i + 1) senders) (sym is))
-
-pub totals-end : (t : Totals) (senders : List SenderView) (schedule : List Transmission) (i : ℕ) → length senders ≤ i → totals_from t (i + 1) (drop i senders) schedule ≡ t
-unfolding totals_from
-totals-end t senders schedule i h = ap (λ xs. totals_from t (i + 1) xs schedule) (drop_all i senders h)
-
 -- a line is not empty
 pub left_line-some : (t n r count : ℕ) → 0 < length (left_line t n r count)
 unfolding left_line
-left_line-some t n r count = some_at_end (codes "left " ++ decimal t ++ codes " " ++ decimal n ++ codes " " ++ decimal r ++ codes " " ++ decimal count)
-
-outcome_line_by-some : (n : ℕ) (link : Link) (list : List Reception) (v : Verdict) → 0 < length (outcome_line_by n link list v)
-unfolding delivered_line open_line contradiction_line
-outcome_line_by-some n link list (delivered bits) =
-    some_at_end (codes "block " ++ decimal n ++ codes " delivered tx " ++ decimal (length list) ++ codes " failed 0 of " ++ decimal link.plan.c ++ codes " " ++ hex bits)
-outcome_line_by-some n link list open_still =
-    some_at_end (codes "block " ++ decimal n ++ codes " open tx " ++ decimal (length list) ++ codes " failed " ++ decimal (unfixed_blocks link (heard_record link list)) ++ codes " of " ++ decimal link.plan.c)
-outcome_line_by-some n link list contradiction =
-    some_at_end (codes "block " ++ decimal n ++ codes " contradiction tx " ++ decimal (length list) ++ codes " failed 0 of " ++ decimal link.plan.c)
+left_line-some t n r count = simp length-append (omega arith)
 
 pub outcome_line-some : (n : ℕ) (link : Link) (list : List Reception) → 0 < length (outcome_line n link list)
-outcome_line-some n link list = outcome_line_by-some n link list (outcome_of link list)
+unfolding delivered_line open_line contradiction_line
+outcome_line-some n link list = go (outcome_of link list)
+  where
+    go : (v : Verdict) → 0 < length (outcome_line_by n link list v)
+    go (delivered bits) = simp length-append (omega arith)
+    go open_still = simp length-append (omega arith)
+    go contradiction = simp length-append (omega arith)
 
 pub last_line-some : (name : List ℕ) (t : Totals) → 0 < length (last_line name t)
 unfolding last_line
-last_line-some name t = some_at_end (codes "total " ++ name ++ codes " " ++ decimal t.blocks ++ codes " delivered " ++ decimal t.delivered
-    ++ codes " open " ++ decimal t.open_still ++ codes " contradiction " ++ decimal t.contradiction
-    ++ codes " codeblocks " ++ decimal t.code_blocks ++ codes " failed " ++ decimal t.failed)
+last_line-some name t = simp length-append (omega arith)
 
 -- no block is within any bound
 pub none-within : IsWithin 0 no_totals
@@ -177,24 +148,11 @@ within-more n m t more is = record {
 
 -- what a run says after all transmissions is not empty, and so its text is not
 run_ends-some : (b : Bool) (senders : List SenderView) (schedule : List Transmission) → 0 < length (run_ends b senders schedule)
-run_ends-some true senders schedule =
-    let last : List ℕ = last_line (codes "rounds") (rounds_counted no_totals senders (all_rounds schedule)) in
-    let some : 0 < length last = last_line-some (codes "rounds") (rounds_counted no_totals senders (all_rounds schedule)) in
-    omega (arith, some, length-append (pieces_joined (last_rounds run_words senders schedule)) last)
-run_ends-some false senders schedule =
-    let last : List ℕ = last_line (codes "blocks") (totals_from no_totals 1 senders schedule) in
-    let some : 0 < length last = last_line-some (codes "blocks") (totals_from no_totals 1 senders schedule) in
-    omega (arith, some, length-append (outcome_lines 1 senders schedule) last)
+run_ends-some true senders schedule = simp length-append (omega (arith, last_line-some (codes "rounds") (rounds_counted no_totals senders (all_rounds schedule))))
+run_ends-some false senders schedule = simp length-append (omega (arith, last_line-some (codes "blocks") (totals_from no_totals 1 senders schedule)))
 
 pub text_of_run-some : (senders : List SenderView) (schedule : Timetable) → 0 < length (text_of_run senders schedule)
-text_of_run-some senders schedule =
-    let some : 0 < length (run_ends schedule.by_process senders schedule.transmissions) = run_ends-some schedule.by_process senders schedule.transmissions in
-    omega (arith, some, length-append (pieces_joined (turns run_words senders [] schedule.transmissions)) (run_ends schedule.by_process senders schedule.transmissions))
-
--- what follows from what holds of a result
-pub ok_then : {X E : Type 0} {P Q : X → Type 0} (r : Result X E) → IfOk r P → ((x : X) → P x → Q x) → IfOk r Q
-ok_then (Ok x) holds next = next x holds
-ok_then (Err e) holds next = tt
+text_of_run-some senders schedule = simp length-append (omega (arith, run_ends-some schedule.by_process senders schedule.transmissions))
 
 -- the line of a block of c code blocks: nothing was received
 pub line-none : NothingIsOpen → (n c : ℕ) (link : Link) (list : List Reception) → IsLink link → c ≡ link.plan.c → list ≡ [] → open_line n 0 c c ≡ outcome_line n link list

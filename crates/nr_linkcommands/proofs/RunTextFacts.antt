@@ -1,5 +1,6 @@
 -- A text whose parts are written one after the other, and what is left of it.
-use Rattle.std.proofs.Common.{◌≡◌, ℕ, ◌<◌, List, [], ◌++◌, length, Option, Result, Err, refl, sym, ap, ◌∙◌, append_assoc}
+use Rattle.std.proofs.Common.{◌≡◌, ℕ, suc, ◌+◌, ◌-◌, ◌<◌, ◌≤◌, List, [], ◌++◌, length, flat_map, arith, Option, Result, Err, refl, sym, ap, ◌∙◌, append_assoc}
+use Rattle.std.specs.List.{range_with_len}
 use Rattle.std.proofs.lemmas.List.{append-nil}
 use Rattle.nr_commands.specs.Command.{Stops, Writes}
 use Rattle.nr_commands.specs.Written.{with_text}
@@ -26,6 +27,17 @@ left-more old mid new line rest whole (front, is, before) written = (
 pub left-stopped : {X : Type 0} (old mid new : Option (List ℕ)) (r : Result X RunFault) (exit e : RunFault) (line rest whole : List ℕ) → r ≡ Err exit → exit ≡ e → IsLeft old mid (line ++ rest) whole → Stops mid new e line → Writes old new r whole
 left-stopped old mid new r exit e line rest whole at same (front, is, before) stops =
     writes_behind old mid new r exit e whole front line rest at same (is ∙ sym (append_assoc front line rest)) before stops
+
+-- the lines for the numbers from r on: that for r, and those behind it
+pub range-turn : (f : ℕ → List ℕ) (r c : ℕ) → r < c → flat_map f (range_with_len r (c - r)) ≡ f r ++ flat_map f (range_with_len (r + 1) (c - (r + 1)))
+range-turn f r c below =
+    let more : c - r ≡ suc (c - (r + 1)) = omega arith in
+    ap (λ n. flat_map f (range_with_len r n)) more
+
+pub range-end : (f : ℕ → List ℕ) (r c : ℕ) → c ≤ r → flat_map f (range_with_len r (c - r)) ≡ []
+range-end f r c all =
+    let none : c - r ≡ 0 = omega arith in
+    ap (λ n. flat_map f (range_with_len r n)) none
 
 -- nothing is left
 pub left-last : (old new : Option (List ℕ)) (whole : List ℕ) → IsLeft old new [] whole → new ≡ with_text old whole

@@ -60,7 +60,7 @@ round-holds senders n sender [] slot there all holds = subst (HoldsSlot false se
 round-holds senders n sender (y ∷ more) slot there all holds =
     let first : (y.block == n) ≡ true = All-head (λ (z : Transmission). (z.block == n) ≡ true) y more all in
     let number : y.block ≡ n = grind (arith, nat_tests) in
-    subst (λ (o : Option SenderView). HoldsIf false o (y ∷ more) slot) (ap (λ k. slice_get senders (k - 1)) number ∙ there) holds
+    subst (λ (o : Option SenderView). HoldsIf false o (y ∷ more) slot) (ap (λ k. slice_get senders (k - 1)) number ∙ there) holds.1
 
 -- where no processes are named, slot i + 1 has received the transmissions of block i + 1
 pub blocks-hold : (senders : List SenderView) (schedule : List Transmission) (slots : List Slot) → All IsOfBlock schedule → length slots ≡ length senders + 1 → HoldRounds senders schedule [] slots → AllHold senders schedule (take (length slots - 1) (drop 1 slots))

@@ -50,9 +50,9 @@ abbrev pub HoldsSummary : Link → List Reception → Option RxSummary → Type 
 HoldsSummary link list None = list ≡ []
 HoldsSummary link list (Some summary) = IsSummary link list summary
 
--- a slot in which nothing was received
+-- a slot that is in no round
 abbrev pub empty_slot : Slot
-empty_slot = record { state = None; summary = None }
+empty_slot = record { block = None; state = None; summary = None }
 
 -- A slot has received this list. While later transmissions go on with it, its state has, and nothing is kept;
 -- once none does, it has no receiver.
@@ -71,11 +71,11 @@ abbrev pub HoldsIf : Bool → Option SenderView → List Transmission → Slot �
 HoldsIf goes_on None round slot = Unit {0}
 HoldsIf goes_on (Some sender) round slot = HoldsSlot goes_on sender.link (received sender round) slot
 
--- A slot has received what a round gave, by the block that the round's first transmission names. A slot that is in no
--- round has received nothing.
+-- A slot names the block of its round, which is that of the first transmission, and has received what the round gave. A
+-- slot that is in no round is empty.
 abbrev pub HoldsRound : Bool → List SenderView → List Transmission → Slot → Type 0
 HoldsRound goes_on senders [] slot = slot ≡ empty_slot
-HoldsRound goes_on senders (x ∷ more) slot = HoldsIf goes_on (sender_of senders x) (x ∷ more) slot
+HoldsRound goes_on senders (x ∷ more) slot = (slot.block ≡ Some x.block) × HoldsIf goes_on (sender_of senders x) (x ∷ more) slot
 
 -- whether a later transmission goes on with the round that process p is in: the first that is of p is not fresh
 abbrev pub goes_on : ℕ → List Transmission → Bool

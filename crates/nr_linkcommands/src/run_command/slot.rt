@@ -37,6 +37,8 @@ pub struct RxSummary {
 /// received to the last one.
 #[derive(Drop)]
 pub struct Slot<'t> {
+    /// The transport block of the round that it is in, once a transmission named it.
+    pub block: Option<u32>,
     /// The receiver's state, while later transmissions go on with it.
     pub state: Option<RxState<'t>>,
     /// What is kept of it behind the last one.
@@ -44,18 +46,19 @@ pub struct Slot<'t> {
 }
 
 impl<'t> Slot<'t> {
-    /// A slot in which nothing was received.
+    /// A slot that is in no round.
     pub fn new() -> Slot<'t>
         ensures { result ≡ empty_slot }
     {
         Slot {
+            block: None,
             state: None,
             summary: None,
         }
     }
 }
 
-/// So many slots in which nothing was received.
+/// So many slots that are in no round.
 ///
 /// # Errors
 /// `AllocError` where memory runs out.

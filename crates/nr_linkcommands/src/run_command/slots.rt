@@ -1,11 +1,10 @@
 //! What `run` keeps of the rounds of HARQ processes: their slots, and the totals of those that ended. A slot has a
 //! receiver only as long as later transmissions go on with its round.
 
-ghost use Rattle.std.specs.Prelude.{All, IfOk, false, if◌then◌else◌, length, replicate, ℕ, ◌+◌, ◌<◌, ◌^◌, ◌≡◌};
+ghost use Rattle.std.specs.Prelude.{IfOk, IfSome, List, false, if◌then◌else◌, length, replicate, ℕ, ◌+◌, ◌<◌, ◌^◌, ◌≡◌, ◌≤◌};
 ghost use Rattle.nr_commands.specs.Command.{Writes};
 ghost use Rattle.nr_refusal.specs.Refusal.{FailsAs};
-ghost use Rattle.nr_files.specs.Rounds.{round_of};
-ghost use Rattle.nr_files.specs.Schedule.{HasBlock};
+ghost use Rattle.nr_files.specs.declared.schedule.Transmission.{Transmission};
 ghost use Rattle.nr_linkcommands.specs.Ends.{HoldsRound, IsWithin, KeepsRounds, empty_slot, goes_on};
 ghost use Rattle.nr_linkcommands.specs.RoundTexts.{round_lines};
 ghost use Rattle.nr_linkcommands.specs.RunText.{no_totals, round_counted, run_words};
@@ -17,7 +16,7 @@ use super::transmission::send_and_receive;
 use crate::ready::Ready;
 use crate::schedule_walk::Walk;
 use nr_commands::{RunFault, Sink, put_line};
-use nr_files::{Transmission, round_block};
+use nr_files::Transmission;
 use std::alloc::{AllocError, Global};
 
 /// What a run keeps.
@@ -58,11 +57,11 @@ impl<'t> Walk<'t> for RunSlots<'t> {
         &mut self,
         ready: &Ready<'t>,
         process: u32,
-        before: &[Transmission],
+        _before: &[Transmission],
         out: &mut O,
     ) -> Result<(), RunFault> {
         let slot = &self.slots[process as usize];
-        self.totals = write_round_end(ready, before, process, slot, self.totals, out)?;
+        self.totals = write_round_end(ready, process, slot, self.totals, out)?;
         Ok(())
     }
 
@@ -78,6 +77,7 @@ impl<'t> Walk<'t> for RunSlots<'t> {
         begin_round(transmission.fresh, slot);
         send_and_receive(ready.alloc, sender, &mut slot.state, transmission, out)?;
         close(goes_on(transmission.process, later), slot);
+        slot.block = Some(transmission.block);
         Ok(())
     }
 }
@@ -106,27 +106,28 @@ fn goes_on(process: u32, later: &[Transmission]) -> bool
     false
 }
 
-// Writes the line of the round that a process is in after these transmissions, and counts it, if it is in one.
+// Writes the line of the round that a process's slot is in, and counts it, if it is in one.
 fn write_round_end<O: Sink>(
     ready: &Ready,
-    before: &[Transmission],
     process: u32,
     slot: &Slot,
     totals: Totals,
     out: &mut O,
 ) -> Result<Totals, RunFault>
     requires puts { O.failures out.old < 2 ^ 32 }
-    requires named { All (HasBlock (length ready.now.senders.items)) before.now }
+    requires named { IfSome slot.now.block
+        (λ number. (1 ≤ number) × (number ≤ length ready.now.senders.items)) }
     requires few { IsWithin 65535 totals }
-    requires held { HoldsRound false ready.now.senders.items (round_of process before.now) slot.now }
-    ensures text { Writes (O.written out.old) (O.written out.new) result
-        (round_lines run_words ready.now.senders.items process (round_of process before.now)) }
-    ensures totals { IfOk result
-        (λ t. t ≡ round_counted totals ready.now.senders.items (round_of process before.now)) }
+    ensures text { (round : List Transmission) → HoldsRound false ready.now.senders.items round slot.now
+        → Writes (O.written out.old) (O.written out.new) result
+        (round_lines run_words ready.now.senders.items process round) }
+    ensures totals { IfOk result (λ t. (round : List Transmission)
+        → HoldsRound false ready.now.senders.items round slot.now
+        → t ≡ round_counted totals ready.now.senders.items round) }
     ensures grows { IfOk result (λ t. (n : ℕ) → IsWithin n totals → IsWithin (n + 1) t) }
     ensures put { FailsAs RunFault.Write result (O.failures out.old) (O.failures out.new) }
 {
-    match round_block(process, before) {
+    match slot.block {
         None => Ok(totals),
         Some(number) => {
             let sender = ready.sender(number);

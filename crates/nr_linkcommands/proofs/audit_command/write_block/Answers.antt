@@ -1,7 +1,5 @@
 use Rattle.std.proofs.Common.{arith}
-use Rattle.std.proofs.Common.{[], sym}
-use Rattle.nr_blockdesk.specs.Heard.{heard_record}
-use Rattle.nr_linkcommands.specs.RunText.{own, received}
+use Rattle.std.proofs.Common.{sym}
 use Rattle.std.proofs.lemmas.Result.{err_from_is_err_and}
 use Rattle.nr_linkcommands.proofs.AuditLemmas.{audit_block-some, audit_of-heard}
 use Rattle.nr_commands.proofs.WrittenLemmas.{writes_none}

@@ -1,4 +1,4 @@
-use Rattle.std.proofs.Common.{◌≡◌, ◌+◌, ◌-◌, ◌<◌, ◌++◌, [], List, ℕ, flat_map, ap, ◌∙◌, arith}
+use Rattle.std.proofs.Common.{◌+◌, ◌-◌, ◌<◌, ◌++◌, [], List, ℕ, flat_map, ap, ◌∙◌, arith}
 use Rattle.std.specs.List.{range_with_len}
 use Rattle.std.proofs.lemmas.Result.{err_from_is_err_and}
 use Rattle.nr_segment.specs.Plan.{Numbers}

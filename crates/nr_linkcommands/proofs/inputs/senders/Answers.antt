@@ -3,7 +3,7 @@ use Rattle.std.proofs.lemmas.Grind.{common_steps}
 use Rattle.std.proofs.lemmas.List.{length-map}
 use Rattle.std.proofs.lemmas.Result.{err_from_is_err_and}
 use Rattle.nr_commands.proofs.BlockTextFacts.{octets_at}
-use Rattle.nr_linkcommands.proofs.InputLemmas.{gives-refused, senders_last, senders_turn-err, senders_turn-ok}
+use Rattle.nr_linkcommands.proofs.InputLemmas.{senders_last, senders_turn-err, senders_turn-ok}
 use Rattle.nr_linkcommands.proofs.inputs.senders.Goals as goal
 
 pub returns-in_err-sender-clause-said : goal.returns-in_err-sender-clause-said
@@ -12,7 +12,7 @@ returns-in_err-sender-clause-said c =
     let said = rw c.deref.ensures.value at c.in_err-sender.ensures.said in
     let at = octets_at c.args.inputs.now.blocks.items c.loop-index.index _ (rw c.deref-block-items.ensures.value at c.block-item.is) in
     let more : c.loop-index.index < length (map (λ block. block.items) c.args.inputs.now.blocks.items) = omega (arith, length-map c.args.inputs.now.blocks.items (λ block. block.items)) in
-    gives-refused (λ senders. senders.items) c.from_residual.result p.0 _ _ p.1 p.2
+    rw (p.1, p.2)
     (senders_turn-err _ _ c.loop-index.senders.items c.loop-index.index _ c.block-item.result.items _ _ c.loop-index.invariant.so_far more at said)
 
 pub loop-index-preserved : goal.loop-index-preserved
@@ -28,4 +28,6 @@ loop-index-preserved c =
     }
 
 pub returns-clause-said : goal.returns-clause-said
-returns-clause-said c = grind (arith, length-map, senders_last)
+returns-clause-said c =
+    let none : length (map (λ block. block.items) c.args.inputs.now.blocks.items) ≤ c.loop-index.index = omega (arith, length-map c.args.inputs.now.blocks.items (λ block. block.items)) in
+    sym c.loop-index.invariant.so_far ∙ senders_last _ _ c.loop-index.senders.items c.loop-index.index _ none

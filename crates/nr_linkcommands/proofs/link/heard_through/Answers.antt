@@ -1,5 +1,4 @@
 use Rattle.std.proofs.Common.{arith}
-use Rattle.std.proofs.Common.{◌∙◌, length, ap, sym}
 use Rattle.nr_linkcommands.proofs.HearingFacts.{heard-all, length-firsts}
 use Rattle.nr_linkcommands.proofs.link.heard_through.Goals as goal
 

@@ -1,5 +1,4 @@
 use Rattle.std.proofs.Common.{arith}
-use Rattle.std.proofs.Common.{◌≡◌, true}
 use Rattle.nr_linkcommands.proofs.audit_command.AuditCommandText.write.Goals as goal
 
 pub returns-then-ready-clause-text : goal.returns-then-ready-clause-text

@@ -1,7 +1,4 @@
 use Rattle.std.proofs.Common.{arith}
-use Rattle.std.proofs.Common.{sym}
-use Rattle.nr_files.specs.Rounds.{continued}
-use Rattle.nr_linkcommands.specs.RoundTexts.{sender_of}
 use Rattle.nr_linkcommands.proofs.AuditRoundFacts.{unsaid}
 use Rattle.nr_commands.proofs.WrittenLemmas.{with_text-nil}
 use Rattle.nr_linkcommands.proofs.audit_command.AuditRoundsWalk.transmit.Goals as goal

@@ -1,7 +1,4 @@
 use Rattle.std.proofs.Common.{arith}
-use Rattle.std.proofs.Common.{sym, subst, List}
-use Rattle.nr_blockdesk.specs.Explains.{Reception}
-use Rattle.nr_linkcommands.specs.Inside.{HasHeard}
 use Rattle.nr_linkcommands.proofs.AuditLemmas.{received-next}
 use Rattle.nr_linkcommands.proofs.audit_command.replay.replay_all.Goals as goal
 

@@ -1,8 +1,5 @@
-use Rattle.std.proofs.Common.{◌≡◌, ◌==◌, ◌++◌, ◌∷◌, [], true, false, sym, subst, List, arith}
-use Rattle.std.specs.Prelude.{OnOk}
+use Rattle.std.proofs.Common.{◌≡◌, ◌==◌, ◌∷◌, [], false, arith}
 use Rattle.std.proofs.lemmas.Bool.Decides.{nat_tests}
-use Rattle.nr_blockdesk.specs.Explains.{Reception}
-use Rattle.nr_linkcommands.specs.Inside.{HasHeard}
 use Rattle.nr_files.specs.Rounds.{of_process}
 use Rattle.nr_linkcommands.specs.RunText.{received}
 use Rattle.nr_linkcommands.proofs.AuditLemmas.{heard_same, received-other, received-own}

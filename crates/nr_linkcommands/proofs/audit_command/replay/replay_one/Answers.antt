@@ -1,11 +1,4 @@
 use Rattle.std.proofs.Common.{arith}
-use Rattle.std.proofs.Common.{◌++◌, ◌∷◌, [], ◌∙◌, List, subst, sym}
-use Rattle.nr_blockdesk.specs.Explains.{IsAccepted, Reception, reception}
-use Rattle.nr_blockdesk.specs.Heard.{IsRecordOf}
-use Rattle.nr_blockdesk.specs.Link.{Link}
-use Rattle.nr_blockdesk.specs.declared.heard.Heard.{Heard}
-use Rattle.nr_linkcommands.specs.Inside.{HasHeard}
-use Rattle.nr_linkcommands.specs.Exchanges.{IsExchanged, reception_of}
 use Rattle.nr_linkcommands.specs.RunText.{received_of}
 use Rattle.nr_linkcommands.proofs.AuditLemmas.{heard_same}
 use Rattle.nr_linkcommands.proofs.RunLineFacts.{received_of-refused, received_of-sent}

@@ -1,5 +1,4 @@
-use Rattle.std.proofs.Common.{sym, subst, arith}
-use Rattle.nr_files.specs.Schedule.{IsTimetable, timetable_by}
+use Rattle.std.proofs.Common.{arith}
 use Rattle.nr_linkcommands.proofs.ready.Ready.new.Goals as goal
 
 pub invariant_of-result : goal.invariant_of-result

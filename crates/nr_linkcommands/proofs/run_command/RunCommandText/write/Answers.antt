@@ -1,7 +1,7 @@
-use Rattle.std.proofs.Common.{◌≡◌, ◌+◌, [], All, cond, false, true, length, ap, sym, refl, subst, ◌∙◌, arith}
+use Rattle.std.proofs.Common.{◌≡◌, ◌+◌, [], All, false, length, ap, sym, refl, subst, arith}
 use Rattle.std.proofs.lemmas.List.{length-replicate}
 use Rattle.std.proofs.lemmas.Result.{err_from_is_err_and}
-use Rattle.nr_linkcommands.specs.Ends.{HoldRounds, empty_slot}
+use Rattle.nr_linkcommands.specs.Ends.{HoldRounds}
 use Rattle.nr_linkcommands.specs.RunText.{rounds_counted, run_ends, run_words}
 use Rattle.nr_linkcommands.specs.RoundTexts.{pieces_joined, turns}
 use Rattle.nr_files.specs.Rounds.{IsOfBlock}

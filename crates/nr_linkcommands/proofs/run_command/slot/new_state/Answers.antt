@@ -1,7 +1,4 @@
 use Rattle.std.proofs.Common.{arith}
-use Rattle.std.proofs.Common.{[], refl, subst, sym}
-use Rattle.nr_blockdesk.specs.Heard.{IsRecordOf}
-use Rattle.nr_blockdesk.specs.Link.{Link}
 use Rattle.nr_linkcommands.proofs.run_command.slot.new_state.Goals as goal
 
 pub returns-clause-state : goal.returns-clause-state

@@ -1,7 +1,5 @@
 use Rattle.std.proofs.lemmas.Bool.Decides.{nat_tests}
-use Rattle.std.proofs.Common.{◌≡◌, ◌==◌, cond, not, ap, arith}
-use Rattle.nr_blockdesk.specs.Outcome.{left}
-use Rattle.nr_segment.specs.Plan.{Numbers}
+use Rattle.std.proofs.Common.{arith}
 use Rattle.nr_linkcommands.specs.RunLines.{unfixed_blocks}
 use Rattle.nr_linkcommands.proofs.RunOutcomeFacts.{byte-step, count-next, some-tested, step-few}
 use Rattle.nr_linkcommands.proofs.run_command.slot.unfixed.Goals as goal

@@ -1,6 +1,4 @@
 use Rattle.std.proofs.Common.{arith}
-use Rattle.std.proofs.Common.{ap, ◌∙◌}
-use Rattle.nr_segment.specs.Plan.{Numbers}
 use Rattle.nr_linkcommands.proofs.RunOutcomeFacts.{counted-none}
 use Rattle.nr_linkcommands.proofs.run_command.totals.counted.Goals as goal
 

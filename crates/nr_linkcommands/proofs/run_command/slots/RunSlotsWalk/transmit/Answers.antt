@@ -1,64 +1,66 @@
-use Rattle.std.proofs.Common.{[], Option, sym, refl, ap, arith}
+use Rattle.std.proofs.Common.{List, [], Option, sym, refl, ap, arith, ◌∷◌, true, Bool, false, ℕ}
 use Rattle.std.proofs.lemmas.List.{append-nil}
 use Rattle.std.proofs.lemmas.Result.{err_from_is_err_and}
+use Rattle.nr_blockdesk.specs.Explains.{Reception}
+use Rattle.nr_blockdesk.specs.Link.{Link}
 use Rattle.nr_blockdesk.specs.Sent.{SenderView}
+use Rattle.nr_linkcommands.specs.declared.run_command.slot.Slot.{Slot}
+use Rattle.nr_files.specs.declared.schedule.Transmission.{Transmission}
+use Rattle.nr_linkcommands.specs.Ends.{HoldsSlot, IsOfRound, KeepsRounds}
 use Rattle.nr_linkcommands.specs.RoundTexts.{said_if}
-use Rattle.nr_linkcommands.specs.RunText.{run_words}
+use Rattle.nr_linkcommands.specs.RunText.{received, run_words}
 use Rattle.nr_files.specs.Rounds.{continued}
-use Rattle.nr_linkcommands.proofs.RoundEndFacts.{continued-room, held-over, made-held, rounds-more, sender-there}
+use Rattle.nr_linkcommands.proofs.RoundEndFacts.{continued-room, held-over, made-held, rounds-more}
 use Rattle.nr_commands.proofs.WrittenLemmas.{with_text-nil, writes_behind}
+use Rattle.nr_linkcommands.proofs.run_command.slots.RunSlotsWalk.transmit.Given as given
 use Rattle.nr_linkcommands.proofs.run_command.slots.RunSlotsWalk.transmit.Goals as goal
+use Rattle.nr_linkcommands.proofs.run_command.slots.RunSlotsWalk.transmit.Goals.{After-begin_round}
+
+-- a slot that names another block has received the same
+named : (goes : Bool) (link : Link) (list : List Reception) (slot : Slot) (block : Option ℕ) → HoldsSlot goes link list slot → HoldsSlot goes link list (record slot { block = block })
+named true link list slot block holds = holds
+named false link list slot block holds = holds
+
+-- what the slot has received of the round that the transmission goes on with
+held : (g : given.Over) (c : After-begin_round g) (before : List Transmission) (ended : List (List Transmission)) → IsOfRound (continued before c.args.transmission.now) c.args.transmission.now
+    → KeepsRounds c.args.ready.now.senders.items before (c.args.transmission.now ∷ c.args.later.now) ended c.args.self.now.slots.items c.args.self.now.totals
+    → HoldsSlot true c.sender-sender.result.now.link (received c.sender-sender.result.now (continued before c.args.transmission.now)) c.begin_round.new.slot
+held g c before ended of keeps =
+    made-held c.args.ready.now.senders.items before c.args.later.now ended c.args.transmission.now c.sender-sender.result.now c.args.self.now.slots.items c.args.self.now.totals c.index_mut-slot.result.now c.begin_round.new.slot keeps of c.requires.placed c.index_mut-slot.ensures.value c.begin_round.ensures c.sender-sender.ensures.is
 
 pub send_and_receive-requires-clause-room : goal.send_and_receive-requires-clause-room
 send_and_receive-requires-clause-room g c =
-    let senders = c.args.ready.now.senders.items in
-    let x = c.args.transmission.now in
-    let sender = c.sender-sender.result.now in
-    let there = sender-there senders x x.block sender refl (omega (arith, c.requires.named.0, c.requires.named.1)) c.sender-sender.ensures.at in
     let kept = c.requires.keeps in
-    let held = made-held senders kept.0 c.args.later.now kept.1 x sender c.args.self.now.slots.items c.args.self.now.totals c.index_mut-slot.result.now c.begin_round.new.slot kept.4 kept.3 c.requires.placed c.index_mut-slot.ensures.value c.begin_round.ensures there in
-    continued-room sender kept.0 _ x c.begin_round.new.slot.state (omega (arith, kept.2)) held.0
+    let state = held g (goal.at.send_and_receive-requires-clause-room g c).After-begin_round kept.0 kept.1 kept.3 kept.4 in
+    continued-room c.sender-sender.result.now kept.0 _ c.args.transmission.now c.begin_round.new.slot.state (omega (arith, kept.2)) state.0
 
 pub send_and_receive-requires-clause-same_link : goal.send_and_receive-requires-clause-same_link
 send_and_receive-requires-clause-same_link g c =
-    let senders = c.args.ready.now.senders.items in
-    let x = c.args.transmission.now in
-    let sender = c.sender-sender.result.now in
-    let there = sender-there senders x x.block sender refl (omega (arith, c.requires.named.0, c.requires.named.1)) c.sender-sender.ensures.at in
     let kept = c.requires.keeps in
-    let held = made-held senders kept.0 c.args.later.now kept.1 x sender c.args.self.now.slots.items c.args.self.now.totals c.index_mut-slot.result.now c.begin_round.new.slot kept.4 kept.3 c.requires.placed c.index_mut-slot.ensures.value c.begin_round.ensures there in
-    held-over sender.link _ c.begin_round.new.slot.state held.0
+    let state = held g (goal.at.send_and_receive-requires-clause-same_link g c).After-begin_round kept.0 kept.1 kept.3 kept.4 in
+    held-over c.sender-sender.result.now.link _ c.begin_round.new.slot.state state.0
 
 pub returns-in_err-send_and_receive-clause-text : goal.returns-in_err-send_and_receive-clause-text
 returns-in_err-send_and_receive-clause-text g c = λ before ended of keeps.
-    let senders = c.args.ready.now.senders.items in
     let x = c.args.transmission.now in
-    let sender = c.sender-sender.result.now in
-    let there = sender-there senders x x.block sender refl (omega (arith, c.requires.named.0, c.requires.named.1)) c.sender-sender.ensures.at in
-    let held = made-held senders before c.args.later.now ended x sender c.args.self.now.slots.items c.args.self.now.totals c.index_mut-slot.result.now c.begin_round.new.slot keeps of c.requires.placed c.index_mut-slot.ensures.value c.begin_round.ensures there in
+    let state = held g (goal.at.returns-in_err-send_and_receive-clause-text g c).After-begin_round before ended of keeps in
     let p = err_from_is_err_and c.from_residual.result c.from_residual.ensures.1 in
-    rw (ap (λ (o : Option SenderView). said_if run_words o (continued before x) x) there)
-    (writes_behind _ _ _ c.from_residual.result p.0 _ _ [] _ [] p.1 p.2 (sym (append-nil _)) (sym (with_text-nil _)) (c.in_err-send_and_receive.ensures.text _ held.0))
+    rw (ap (λ (o : Option SenderView). said_if run_words o (continued before x) x) c.sender-sender.ensures.is)
+    (writes_behind _ _ _ c.from_residual.result p.0 _ _ [] _ [] p.1 p.2 (sym (append-nil _)) (sym (with_text-nil _)) (c.in_err-send_and_receive.ensures.text _ state.0))
 
 pub returns-clause-text : goal.returns-clause-text
 returns-clause-text g c = λ before ended of keeps.
-    let senders = c.args.ready.now.senders.items in
     let x = c.args.transmission.now in
-    let sender = c.sender-sender.result.now in
-    let there = sender-there senders x x.block sender refl (omega (arith, c.requires.named.0, c.requires.named.1)) c.sender-sender.ensures.at in
-    let held = made-held senders before c.args.later.now ended x sender c.args.self.now.slots.items c.args.self.now.totals c.index_mut-slot.result.now c.begin_round.new.slot keeps of c.requires.placed c.index_mut-slot.ensures.value c.begin_round.ensures there in
-    rw (ap (λ (o : Option SenderView). said_if run_words o (continued before x) x) there) (c.in_ok-send_and_receive.ensures.text _ held.0)
+    let state = held g (goal.at.returns-clause-text g c).After-begin_round before ended of keeps in
+    rw (ap (λ (o : Option SenderView). said_if run_words o (continued before x) x) c.sender-sender.ensures.is) (c.in_ok-send_and_receive.ensures.text _ state.0)
 
 pub returns-clause-keeps : goal.returns-clause-keeps
 returns-clause-keeps g c = λ before ended of keeps.
-    let senders = c.args.ready.now.senders.items in
     let x = c.args.transmission.now in
-    let sender = c.sender-sender.result.now in
-    let there = sender-there senders x x.block sender refl (omega (arith, c.requires.named.0, c.requires.named.1)) c.sender-sender.ensures.at in
-    let held = made-held senders before c.args.later.now ended x sender c.args.self.now.slots.items c.args.self.now.totals c.index_mut-slot.result.now c.begin_round.new.slot keeps of c.requires.placed c.index_mut-slot.ensures.value c.begin_round.ensures there in
+    let state = held g (goal.at.returns-clause-keeps g c).After-begin_round before ended of keeps in
     record {
-      held = rounds-more senders before c.args.later.now x sender c.args.self.now.slots.items c.close.new.slot of there c.requires.placed keeps.held
-          (rw c.goes_on.ensures at (c.close.ensures _ _ (c.in_ok-send_and_receive.ensures.held _ held.0, held.1)));
+      held = rounds-more c.args.ready.now.senders.items before c.args.later.now x c.sender-sender.result.now c.args.self.now.slots.items _ of c.sender-sender.ensures.is c.requires.placed refl keeps.held
+          (named _ _ _ c.close.new.slot _ (rw c.goes_on.ensures at (c.close.ensures _ _ (c.in_ok-send_and_receive.ensures.held _ state.0, state.1))));
       counted = keeps.counted;
       within = keeps.within;
     }
