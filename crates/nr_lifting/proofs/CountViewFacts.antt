@@ -1,30 +1,25 @@
 -- Counts that bit planes keep, as the list that they are seen as.
-use Rattle.std.proofs.Common.{◌≡◌, ◌≢◌, ℕ, zero, suc, ◌+◌, ◌*◌, ◌/◌, ◌%◌, ◌<◌, ◌≤◌, ◌==◌, ◌&&◌, Bool, true, false, if◌then◌else◌, List, [], length, get_or, set, replicate, refl, sym, ap, ◌∙◌, subst, inl, inr, arith, length-set, get_or-set_same, get_or-set_other}
-use Rattle.std.proofs.Math.Nat.{mul-le-mul_right}
+use Rattle.std.proofs.Common.{◌≡◌, ◌≢◌, ℕ, ◌+◌, ◌*◌, ◌/◌, ◌%◌, ◌<◌, ◌≤◌, ◌==◌, ◌&&◌, Bool, if◌then◌else◌, List, [], length, get_or, set, replicate, sym, ap, ◌∙◌, subst, inl, inr, arith, get_or-set_same, get_or-set_other}
 use Rattle.std.proofs.lemmas.Bool.{cases_lt, cases_eq, eq-eqb, ne_eqb}
-use Rattle.std.proofs.lemmas.Nat.{div-mul-add, mod-mul-add}
-use Rattle.std.proofs.lemmas.List.{get_or_past, get_or-replicate, length-replicate, same_lists, get_or_default}
+use Rattle.std.proofs.lemmas.Bool.Decides.{nat_tests}
+use Rattle.std.proofs.lemmas.Nat.{div-mul-add, mod-mul-add, le-div}
+use Rattle.std.proofs.lemmas.List.{get_or_past, get_or_read, get_or-replicate, length-replicate}
 use Rattle.std.proofs.lemmas.List.FromFn.{length-map-range_with_len}
 use Rattle.nr_bitvec.specs.Packed.{place}
+use Rattle.nr_lifting.specs.Inside.{ArePlanes}
 use Rattle.nr_lifting.specs.Rings.{is_set}
 use Rattle.nr_lifting.specs.Planes.{BlockCounts, block_counts, plane_count, plane_number}
+use Rattle.nr_lifting.proofs.LaneMoveFacts.{digit-true}
 use Rattle.nr_lifting.proofs.LaneViewFacts.{place-lt}
 use Rattle.nr_lifting.proofs.PlaneLaneFacts.{plane_digit, zero_digits}
-use Rattle.nr_lifting.proofs.DoubledLaneFacts.{block_past, view_at, view_past, zero_at}
-
--- no count is in no planes
-none_number : (t : ℕ) → plane_number [] t ≡ 0
-none_number t = refl
+use Rattle.nr_lifting.proofs.DoubledLaneFacts.{block_below, view_is, view_same, zero_at}
 
 module _ (z : ℕ) (some : 0 < z) where
   -- each count of the view, past the end too
   pub count_is : (blocks : List (List (List ℕ))) (k : ℕ) → get_or (block_counts z blocks).items k 0 ≡ plane_count z blocks k
-  count_is blocks k = elim (cases_lt k (length blocks * z)) [
-    | inl below ↦ view_at (plane_count z blocks) (length blocks * z) k 0 below
-    | inr past ↦
-        view_past (plane_count z blocks) (length blocks * z) k 0 past
-        ∙ sym (ap (λ groups. plane_number groups (k % z)) (get_or_past blocks (k / z) [] (block_past k z (length blocks) some past)) ∙ none_number (k % z))
-  ]
+  count_is blocks k =
+      view_is (plane_count z blocks) (length blocks * z) k 0 (λ past.
+      ap (λ groups. plane_number groups (k % z)) (get_or_past blocks (k / z) [] (le-div (length blocks) k z some past)))
 
   pub counts_long : (blocks : List (List (List ℕ))) → length (block_counts z blocks).items ≡ length blocks * z
   counts_long blocks = length-map-range_with_len (plane_count z blocks) 0 (length blocks * z)
@@ -35,17 +30,6 @@ module _ (z : ℕ) (some : 0 < z) where
       count_is blocks (h * z + t)
       ∙ ap (λ i. plane_number (get_or blocks i []) ((h * z + t) % z)) (div-mul-add h z t below)
       ∙ ap (plane_number (get_or blocks h [])) (mod-mul-add h z t below)
-
-  pub counts_within : (blocks : List (List (List ℕ))) (v : BlockCounts) (i : ℕ) → block_counts z blocks ≡ v → (i + 1) * v.lanes ≤ length v.items → i < length blocks
-  counts_within blocks v i e fits = elim (cases_lt i (length blocks)) [
-    | inl h ↦ h
-    | inr past ↦
-        let above : length blocks * z ≤ i * z = mul-le-mul_right z past in
-        absurd (omega (arith, subst (λ (u : BlockCounts). (i + 1) * u.lanes ≤ length u.items) (sym e) fits, counts_long blocks, above, some))
-  ]
-
-  pub counts_set : (blocks : List (List (List ℕ))) (i : ℕ) (groups : List (List ℕ)) → length (block_counts z (set blocks i groups)).items ≡ length (block_counts z blocks).items
-  counts_set blocks i groups = counts_long (set blocks i groups) ∙ ap (λ n. n * z) (length-set blocks i groups) ∙ sym (counts_long blocks)
 
   -- a block is written
   pub written_counts : (blocks : List (List (List ℕ))) (i : ℕ) (groups : List (List ℕ)) → i < length blocks
@@ -68,14 +52,9 @@ module _ (z : ℕ) (some : 0 < z) where
         ∙ sym (ap (λ b. if b then n else get_or (block_counts z blocks).items (h * z + t) 0) (ne_eqb i h (λ e. apart (sym e))))
   ]
 
-  digit : (n : ℕ) (b : Bool) → n < 2 → (n == 1) ≡ b → n ≡ (if b then 1 else 0)
-  digit zero b h e = ap (λ c. if c then 1 else 0) e
-  digit (suc zero) b h e = ap (λ c. if c then 1 else 0) e
-  digit (suc (suc n)) b h e = absurd (omega (arith, h))
-
   -- a place of a lane, as the bit that it stands for
   pub lane_digit : (lane : List ℕ) (B : ℕ → Bool) → ((t : ℕ) → t < z → is_set lane t ≡ B t) → (t : ℕ) → t < z → place lane t ≡ (if B t then 1 else 0)
-  lane_digit lane B are t below = digit (place lane t) (B t) (place-lt lane t) (are t below)
+  lane_digit lane B are t below = grind (arith, nat_tests, place-lt lane t, are t below)
 
   pub lowered_counts : (blocks : List (List (List ℕ))) (i : ℕ) (planes : List (List ℕ)) (lane : List ℕ) (B : ℕ → Bool) → i < length blocks
       → ((t : ℕ) → t < z → plane_number planes t + place lane t ≡ plane_number (get_or blocks i []) t) → ((t : ℕ) → t < z → is_set lane t ≡ B t)
@@ -92,6 +71,16 @@ module _ (z : ℕ) (some : 0 < z) where
         omega (arith, none, kept_counts blocks i planes h apart t below)
   ]
 
+-- where the view has a block there is one; and what is read there
+pub counts_within : {z : ℕ} {mask : List ℕ} {blocks : List (List (List ℕ))} {v : BlockCounts} → ArePlanes z mask blocks → block_counts z blocks ≡ v
+    → (i : ℕ) → (i + 1) * v.lanes ≤ length v.items → i < length blocks
+counts_within {z} {mask} {blocks} {v} are e i fits =
+    block_below (length blocks) z i are.some (subst (λ m. (i + 1) * z ≤ m) (counts_long z are.some blocks) (rw (← e) at fits))
+
+pub counts_read : {z : ℕ} {mask : List ℕ} {blocks : List (List (List ℕ))} {v : BlockCounts} → ArePlanes z mask blocks → block_counts z blocks ≡ v
+    → (i : ℕ) → (i + 1) * v.lanes ≤ length v.items → {planes : List (List ℕ)} → planes ≡ get_or blocks i planes → planes ≡ get_or blocks i []
+counts_read {z} {mask} {blocks} {v} are e i fits {planes} read = get_or_read blocks i planes (counts_within are e i fits) read []
+
 -- blocks of zeros
 module _ (z count v w : ℕ) where
   abbrev zeros : List (List (List ℕ))
@@ -107,15 +96,9 @@ module _ (z count v w : ℕ) where
 
   pub zero_counts : 0 < z → (block_counts z zeros).items ≡ replicate (count * z) 0
   zero_counts some =
-      let long : length (block_counts z zeros).items ≡ count * z = counts_long z some zeros ∙ ap (λ n. n * z) (length-replicate count (replicate v (replicate {A = ℕ} w 0))) in
-      same_lists _ _ (long ∙ sym (length-replicate {A = ℕ} (count * z) 0)) (λ t d below.
-      get_or_default (block_counts z zeros).items t d 0 below ∙ count_is z some zeros t ∙ zero_number (t / z) (t % z)
-      ∙ sym (get_or-replicate (count * z) t 0 d (omega (arith, below, long))))
+      view_same (plane_count z zeros) 0 (length zeros * z) 0 (λ k. zero_number (k / z) (k % z))
+      ∙ ap (λ n. replicate {A = ℕ} (n * z) 0) (length-replicate count (replicate v (replicate {A = ℕ} w 0)))
 
 -- a digit that marks counts of one
 pub marks_one : (d n : ℕ) → d ≡ (if n == 1 then 1 else 0) → (d == 1) ≡ (n == 1)
-marks_one d n e = ap (λ m. m == 1) e ∙ back (n == 1)
-  where
-    back : (b : Bool) → ((if b then 1 else 0) == 1) ≡ b
-    back true = refl
-    back false = refl
+marks_one d n e = ap (λ m. m == 1) e ∙ digit-true (n == 1)

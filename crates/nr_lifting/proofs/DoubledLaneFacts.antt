@@ -1,52 +1,52 @@
 -- Blocks that rings keep, as the list that they are seen as.
-use Rattle.std.proofs.Common.{◌≡◌, ◌≢◌, ℕ, ◌+◌, ◌-◌, ◌*◌, ◌/◌, ◌%◌, ◌^◌, ◌<◌, ◌≤◌, ◌==◌, ◌&&◌, ◌||◌, min, Bool, true, false, not, List, [], ◌∷◌, ◌++◌, length, get_or, set, map, replicate, refl, sym, ap, ◌∙◌, subst, inl, inr, arith, length-set, get_or-set_same, get_or-set_other}
+use Rattle.std.proofs.Common.{zero, suc, ◌≡◌, ◌≢◌, ℕ, ◌+◌, ◌-◌, ◌*◌, ◌/◌, ◌%◌, ◌^◌, ◌<◌, ◌≤◌, ◌==◌, ◌&&◌, ◌||◌, min, Bool, true, false, not, List, [], ◌∷◌, ◌++◌, length, get_or, set, map, replicate, refl, sym, ap, ◌∙◌, subst, inl, inr, arith, length-set, get_or-set_same, get_or-set_other}
 use Rattle.std.specs.List.{range_with_len}
 use Rattle.std.specs.Int.{bit_at}
 use Rattle.std.specs.Int.RustNames.{bit_and}
 use Rattle.std.proofs.Math.Nat.{mul-le-mul_right}
 use Rattle.std.proofs.lemmas.Bool.{cases_lt, cases_eq, eq-eqb, ne_eqb}
-use Rattle.std.proofs.lemmas.Nat.{mod_below, div_below, div-mul-add, mod-mul-add}
+use Rattle.std.proofs.lemmas.Nat.{mod_below, div_below, div-mul-add, mod-mul-add, le-div}
 use Rattle.std.proofs.lemmas.Nat.Bits.{bit_at-zero, shr_and_one}
-use Rattle.std.proofs.lemmas.List.{get_or_past, get_or-replicate, length-replicate, replicate-append-replicate}
+use Rattle.std.proofs.lemmas.List.{get_or_past, get_or_read, get_or-replicate, length-replicate, replicate-append-replicate}
 use Rattle.std.proofs.lemmas.List.FromFn.{length-map-range_with_len, get_or-map-range_with_len}
 use Rattle.nr_bitvec.specs.Bit.{◌⊕◌, bit}
 use Rattle.nr_bitvec.specs.Packed.{place, IsClear}
-use Rattle.nr_bitvec.proofs.PlaceFacts.{same_from_bits}
 use Rattle.nr_lifting.specs.LaneInside.{AddsPlaces}
 use Rattle.nr_lifting.specs.Rings.{BlockBits, IsRing, GainsTwice, IsRotated, block_bits, is_set, lane_marks, ring_bit}
 use Rattle.nr_lifting.specs.Inside.{AreRings, IsMask}
 use Rattle.nr_lifting.proofs.LaneViewFacts.{max_bits, place-lt, place-zeros, rest_bits, sum_bits}
 use Rattle.nr_lifting.proofs.RotationFacts.{mod_small}
 
--- what a function makes of the numbers below n z, by block and lane
-pub view_at : {A : Type 0} (f : ℕ → A) (m k : ℕ) (d : A) → k < m → get_or (map f (range_with_len 0 m)) k d ≡ f k
-view_at f m k d below = get_or-map-range_with_len f 0 m k k d below (omega arith)
-
-pub view_past : {A : Type 0} (f : ℕ → A) (m k : ℕ) (d : A) → m ≤ k → get_or (map f (range_with_len 0 m)) k d ≡ d
-view_past f m k d past = get_or_past (map f (range_with_len 0 m)) k d (omega (arith, length-map-range_with_len f 0 m, past))
-
--- a number past the blocks is of a block past them
-pub block_past : (k z n : ℕ) → 0 < z → n * z ≤ k → n ≤ k / z
-block_past k z n some past = elim (cases_lt (k / z) n) [
-  | inl below ↦
-      let fits : (k / z + 1) * z ≤ n * z = mul-le-mul_right z (omega (arith, below)) in
-      let small : k % z < z = mod_below k z some in
-      absurd (omega (arith, fits, small, past))
-  | inr h ↦ h
+-- what a function makes of the numbers below m, and what it makes of the others where that is the default
+pub view_is : {A : Type 0} (f : ℕ → A) (m k : ℕ) (d : A) → (m ≤ k → f k ≡ d) → get_or (map f (range_with_len 0 m)) k d ≡ f k
+view_is f m k d past = elim (cases_lt k m) [
+  | inl below ↦ get_or-map-range_with_len f 0 m k k d below (omega arith)
+  | inr h ↦ get_or_past (map f (range_with_len 0 m)) k d (omega (arith, length-map-range_with_len f 0 m, h)) ∙ sym (past h)
 ]
+
+-- where that is one value
+pub view_same : {A : Type 0} (f : ℕ → A) (a m : ℕ) (d : A) → ((k : ℕ) → f k ≡ d) → map f (range_with_len a m) ≡ replicate m d
+view_same f a zero d all = refl
+view_same f a (suc m) d all = cc (all a, view_same f (a + 1) m d all)
 
 none_set : (t : ℕ) → is_set [] t ≡ false
 none_set t = ap (λ n. n == 1) (bit_at-zero (t % 64))
 
+-- a block that a view has is one of n
+pub block_below : (n z j : ℕ) → 0 < z → (j + 1) * z ≤ n * z → j < n
+block_below n z j some fits = elim (cases_lt j n) [
+  | inl h ↦ h
+  | inr past ↦
+      let above : n * z ≤ j * z = mul-le-mul_right z past in
+      absurd (omega (arith, fits, above, some))
+]
+
 module _ (z : ℕ) (some : 0 < z) where
   -- each bit of the view, past the end too
   pub bit_is : (rings : List (List ℕ)) (p : ℕ) → bit (block_bits z rings).items p ≡ ring_bit z rings p
-  bit_is rings p = elim (cases_lt p (length rings * z)) [
-    | inl below ↦ view_at (ring_bit z rings) (length rings * z) p false below
-    | inr past ↦
-        view_past (ring_bit z rings) (length rings * z) p false past
-        ∙ sym (ap (λ ring. is_set ring (p % z)) (get_or_past rings (p / z) [] (block_past p z (length rings) some past)) ∙ none_set (p % z))
-  ]
+  bit_is rings p =
+      view_is (ring_bit z rings) (length rings * z) p false (λ past.
+      ap (λ ring. is_set ring (p % z)) (get_or_past rings (p / z) [] (le-div (length rings) p z some past)) ∙ none_set (p % z))
 
   pub long_is : (rings : List (List ℕ)) → length (block_bits z rings).items ≡ length rings * z
   long_is rings = length-map-range_with_len (ring_bit z rings) 0 (length rings * z)
@@ -57,23 +57,6 @@ module _ (z : ℕ) (some : 0 < z) where
       bit_is rings (j * z + t)
       ∙ ap (λ i. is_set (get_or rings i []) ((j * z + t) % z)) (div-mul-add j z t below)
       ∙ ap (is_set (get_or rings j [])) (mod-mul-add j z t below)
-
-  -- a block that the list has is a ring's
-  pub block_in : (rings : List (List ℕ)) (j : ℕ) → (j + 1) * z ≤ length (block_bits z rings).items → j < length rings
-  block_in rings j fits = elim (cases_lt j (length rings)) [
-    | inl h ↦ h
-    | inr past ↦
-        let above : length rings * z ≤ j * z = mul-le-mul_right z past in
-        absurd (omega (arith, fits, long_is rings, above, some))
-  ]
-
-  pub block_within : (rings : List (List ℕ)) (v : BlockBits) (j : ℕ) → block_bits z rings ≡ v → (j + 1) * v.lanes ≤ length v.items → j < length rings
-  block_within rings v j e fits = block_in rings j (subst (λ (u : BlockBits). (j + 1) * u.lanes ≤ length u.items) (sym e) fits)
-
-  pub bit_within : (rings : List (List ℕ)) (v : BlockBits) (p : ℕ) → block_bits z rings ≡ v → p < length v.items → p / z < length rings
-  bit_within rings v p e below =
-      let inside : p < length rings * z = omega (arith, subst (λ (u : BlockBits). p < length u.items) (sym e) below, long_is rings) in
-      div_below p z (length rings) some inside
 
   pub lane_read : (rings : List (List ℕ)) (j rotation : ℕ) (lane : List ℕ) → IsRotated z lane (get_or rings j []) rotation
       → (t : ℕ) → t < z → is_set lane t ≡ bit (block_bits z rings).items (j * z + (t + rotation) % z)
@@ -106,9 +89,6 @@ module _ (z : ℕ) (some : 0 < z) where
   kept_bit : (rings : List (List ℕ)) (j : ℕ) (ring : List ℕ) (p : ℕ) → p / z ≢ j → bit (block_bits z (set rings j ring)).items p ≡ bit (block_bits z rings).items p
   kept_bit rings j ring p apart =
       bit_is (set rings j ring) p ∙ ap (λ r. is_set r (p % z)) (get_or-set_other rings j (p / z) ring [] apart) ∙ sym (bit_is rings p)
-
-  pub long_set : (rings : List (List ℕ)) (j : ℕ) (ring : List ℕ) → length (block_bits z (set rings j ring)).items ≡ length (block_bits z rings).items
-  long_set rings j ring = long_is (set rings j ring) ∙ ap (λ n. n * z) (length-set rings j ring) ∙ sym (long_is rings)
 
   or_none : (a b c : Bool) → b ≡ false → a ≡ (a || (b && c))
   or_none true b c h = refl
@@ -169,6 +149,18 @@ module _ (z : ℕ) (some : 0 < z) where
     mask = are.mask;
   }
 
+-- where the view has a block or a bit, there is a ring; and what is read there
+pub block_within : {z : ℕ} {mask : List ℕ} {rings : List (List ℕ)} {v : BlockBits} → AreRings z mask rings → block_bits z rings ≡ v → (j : ℕ) → (j + 1) * v.lanes ≤ length v.items → j < length rings
+block_within {z} {mask} {rings} {v} are e j fits =
+    block_below (length rings) z j are.some (subst (λ m. (j + 1) * z ≤ m) (long_is z are.some rings) (rw (← e) at fits))
+
+pub bit_within : {z : ℕ} {mask : List ℕ} {rings : List (List ℕ)} {v : BlockBits} → AreRings z mask rings → block_bits z rings ≡ v → (p : ℕ) → p < length v.items → p / z < length rings
+bit_within {z} {mask} {rings} {v} are e p below = div_below p z (length rings) are.some (subst (λ m. p < m) (long_is z are.some rings) (rw (← e) at below))
+
+pub ring_read : {z : ℕ} {mask : List ℕ} {rings : List (List ℕ)} {v : BlockBits} → AreRings z mask rings → block_bits z rings ≡ v → (j : ℕ) → (j + 1) * v.lanes ≤ length v.items
+    → {ring : List ℕ} → ring ≡ get_or rings j ring → ring ≡ get_or rings j []
+ring_read {z} {mask} {rings} {v} are e j fits {ring} read = get_or_read rings j ring (block_within are e j fits) read []
+
 -- rings of zeros
 module _ (z count w : ℕ) where
   abbrev zeros : List (List ℕ)
@@ -192,10 +184,8 @@ module _ (z count w : ℕ) where
 
   pub zero_bits : 0 < z → (block_bits z zeros).items ≡ replicate (count * z) false
   zero_bits some =
-      let long : length (block_bits z zeros).items ≡ count * z = long_is z some zeros ∙ ap (λ n. n * z) (length-replicate count (replicate {A = ℕ} w 0)) in
-      same_from_bits _ _ (long ∙ sym (length-replicate (count * z) false)) (λ t below.
-      bit_is z some zeros t ∙ ap (λ n. n == 1) (zero_at (t / z) (t % z))
-      ∙ sym (get_or-replicate (count * z) t false false (omega (arith, below, long))))
+      view_same (ring_bit z zeros) 0 (length zeros * z) false (λ k. ap (λ n. n == 1) (zero_at (k / z) (k % z)))
+      ∙ ap (λ n. replicate (n * z) false) (length-replicate count (replicate {A = ℕ} w 0))
 
 pub zero_ring : (z w : ℕ) → IsRing z (replicate w 0)
 zero_ring z w t below = place-zeros w (z + t) ∙ sym (place-zeros w t)

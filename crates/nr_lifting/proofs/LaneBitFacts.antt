@@ -1,15 +1,17 @@
 -- Lanes in words, word by word, and how many bits they have.
-use Rattle.std.proofs.Common.{◌≡◌, ℕ, zero, suc, ◌+◌, ◌-◌, ◌*◌, ◌/◌, ◌%◌, ◌^◌, ◌<◌, ◌≤◌, ◌==◌, ◌&&◌, min, Bool, true, false, not, if◌then◌else◌, List, length, get_or, set, refl, sym, ap, ◌∙◌, subst, inl, inr, arith, length-set, get_or-set_same, get_or-set_other}
+use Rattle.std.proofs.Common.{◌≡◌, ℕ, zero, suc, ◌+◌, ◌-◌, ◌*◌, ◌/◌, ◌%◌, ◌^◌, ◌<◌, ◌≤◌, ◌==◌, ◌&&◌, min, Bool, true, false, not, if◌then◌else◌, List, length, get_or, set, refl, sym, ap, ◌∙◌, subst, inl, inr, arith}
 use Rattle.std.proofs.Math.Nat.{pow-suc}
-use Rattle.std.proofs.lemmas.Bool.{cases_lt, cases_eq}
+use Rattle.std.proofs.lemmas.Bool.{cases_lt}
 use Rattle.std.proofs.lemmas.Nat.{div-add-mod', div_below, mod_below, ones_cat, pow_pos}
 use Rattle.std.proofs.lemmas.Nat.Bits.{bit_at_and, bit_at_not, bit_at_xor, bit_at_cat_low}
 use Rattle.std.specs.Int.{bit_at, bit_not, w64}
 use Rattle.std.specs.Int.RustNames.{bit_and, bit_xor, count_ones}
 use Rattle.nr_bitvec.specs.Bit.{◌⊕◌}
 use Rattle.nr_bitvec.specs.Packed.{place, IsClear}
-use Rattle.nr_bitvec.proofs.BitFacts.{place_of, place_past}
+use Rattle.nr_bitvec.proofs.BitFacts.{place_past}
 use Rattle.nr_lifting.specs.Rings.{is_set, marked}
+pub use Rattle.nr_lifting.proofs.LaneWordFacts.{word_bit}
+use Rattle.nr_lifting.proofs.LaneWordFacts.{IsWritten, written_more}
 use Rattle.nr_lifting.proofs.LaneViewFacts.{min_bits, place-lt, rest_bits, sum_bits}
 
 -- The places of the first n words are those that G gives them, and the others are the old ones.
@@ -20,81 +22,62 @@ pub record IsMade (n : ℕ) (G : ℕ → ℕ) (now old : List ℕ) : Type 0 wher
 
 pub made_next : (n : ℕ) (G : ℕ → ℕ) (next now old : List ℕ) (word : ℕ) → IsMade n G now old → n < length now → next ≡ set now n word
     → ((j : ℕ) → j < 64 → bit_at word j ≡ G (64 * n + j)) → IsMade (n + 1) G next old
-made_next n G next now old word h within put are = record {
-  done = λ t below. elim (cases_eq (t / 64) n) [
-    | inl e ↦
-        let split : 64 * n + t % 64 ≡ t = omega (arith, e) in
-        ap (λ ws. place ws t) put ∙ place_of (set now n word) t n (t % 64) (sym split) (omega arith)
-        ∙ ap (λ w. bit_at w (t % 64)) (get_or-set_same now n word 0 within) ∙ are (t % 64) (omega arith) ∙ ap G split
-    | inr apart ↦
-        ap (λ ws. place ws t) put ∙ ap (λ w. bit_at w (t % 64)) (get_or-set_other now n (t / 64) word 0 apart) ∙ h.done t (omega (arith, below, apart))
-  ];
-  kept = λ w above. ap (λ ws. get_or ws w 0) put ∙ get_or-set_other now n w word 0 (λ e. omega (arith, e, above)) ∙ h.kept w (omega (arith, above));
-  long = ap length put ∙ length-set now n word ∙ h.long;
-}
+made_next n G next now old word h within put are =
+    let before : IsWritten (64 * (n + 1)) n G now old = record { done = λ t below _. h.done t below; clear = λ t below past. absurd (omega (arith, below, past)); kept = h.kept; long = h.long; } in
+    let after = written_more (64 * (n + 1)) n G next now old word before within put (λ j short _. are j short) (λ j short past. absurd (omega (arith, short, past))) in
+    record { done = λ t below. after.done t below below; kept = after.kept; long = after.long; }
 
--- the place of a word that is still the old one
-pub word_bit : (n j word : ℕ) (ws : List ℕ) → word ≡ get_or ws n 0 → j < 64 → bit_at word j ≡ place ws (64 * n + j)
-word_bit n j word ws is short = ap (λ w. bit_at w j) is ∙ sym (place_of ws (64 * n + j) n j refl short)
-
--- when all words are made
-whole : (n : ℕ) (G : ℕ → ℕ) (now old : List ℕ) → IsMade n G now old → length old ≤ n → ((t : ℕ) → 64 * n ≤ t → G t ≡ 0) → (t : ℕ) → place now t ≡ G t
-whole n G now old h all none t = elim (cases_lt t (64 * n)) [
+-- when all words are made, and G gives the others what they have
+pub made_whole : (n : ℕ) (G : ℕ → ℕ) (now old : List ℕ) → IsMade n G now old → ((t : ℕ) → 64 * n ≤ t → G t ≡ place old t) → (t : ℕ) → place now t ≡ G t
+made_whole n G now old h rest t = elim (cases_lt t (64 * n)) [
   | inl inside ↦ h.done t inside
-  | inr out ↦ place_past now t (omega (arith, h.long, all, out)) ∙ sym (none t out)
+  | inr out ↦ ap (λ w. bit_at w (t % 64)) (h.kept (t / 64) (omega (arith, out))) ∙ sym (rest t out)
 ]
 
 -- a lane's words and another's, word by word
 module _ (old lane : List ℕ) where
   pub added_bit : (i j w v : ℕ) → w ≡ get_or old i 0 → v ≡ get_or lane i 0 → j < 64 → bit_at (bit_xor w v) j ≡ (place old (64 * i + j) + place lane (64 * i + j)) % 2
-  added_bit i j w v is with short =
-      bit_at_xor w v j ∙ ap (λ m. (m + bit_at v j) % 2) (word_bit i j w old is short) ∙ ap (λ m. (place old (64 * i + j) + m) % 2) (word_bit i j v lane with short)
+  added_bit i j w v is with short = omega (arith, bit_at_xor w v j, word_bit i j w old is short, word_bit i j v lane with short)
 
   pub common_bit : (i j w v : ℕ) → w ≡ get_or old i 0 → v ≡ get_or lane i 0 → j < 64 → bit_at (bit_and w v) j ≡ min (place old (64 * i + j)) (place lane (64 * i + j))
-  common_bit i j w v is with short =
-      bit_at_and w v j ∙ ap (λ m. min m (bit_at v j)) (word_bit i j w old is short) ∙ ap (min (place old (64 * i + j))) (word_bit i j v lane with short)
+  common_bit i j w v is with short = omega (arith, bit_at_and w v j, word_bit i j w old is short, word_bit i j v lane with short)
 
   pub without_bit : (i j w v : ℕ) → w ≡ get_or old i 0 → v ≡ get_or lane i 0 → v < 2 ^ 64 → j < 64
       → bit_at (bit_and w (bit_not w64 v)) j ≡ min (place old (64 * i + j)) (1 - place lane (64 * i + j))
   without_bit i j w v is with fits short =
-      bit_at_and w (bit_not w64 v) j ∙ ap (min (bit_at w j)) (bit_at_not w64 v j fits short) ∙ ap (λ m. min m (1 - bit_at v j)) (word_bit i j w old is short)
-      ∙ ap (λ m. min (place old (64 * i + j)) (1 - m)) (word_bit i j v lane with short)
+      omega (arith, bit_at_and w (bit_not w64 v) j, bit_at_not w64 v j fits short, word_bit i j w old is short, word_bit i j v lane with short)
 
 -- and when all of them are made
 module _ (n : ℕ) (now old lane : List ℕ) (few : length old ≤ n) where
-  none_old : (t : ℕ) → 64 * n ≤ t → place old t ≡ 0
-  none_old t out = place_past old t (omega (arith, few, out))
+  module _ (more : length lane ≤ n) (h : IsMade n (λ t. (place old t + place lane t) % 2) now old) where
+    added : (t : ℕ) → place now t ≡ (place old t + place lane t) % 2
+    added = made_whole n (λ t. (place old t + place lane t) % 2) now old h (λ t out. omega (arith, place_past old t (omega (arith, few, out)), place_past lane t (omega (arith, more, out))))
 
-  module _ (more : length lane ≤ n) where
-    none_lane : (t : ℕ) → 64 * n ≤ t → place lane t ≡ 0
-    none_lane t out = place_past lane t (omega (arith, more, out))
+    pub added_all : (t : ℕ) → is_set now t ≡ is_set old t ⊕ is_set lane t
+    added_all t = ap (λ m. m == 1) (added t) ∙ sum_bits (place old t) (place lane t) (place-lt old t) (place-lt lane t)
 
-    added : IsMade n (λ t. (place old t + place lane t) % 2) now old → (t : ℕ) → place now t ≡ (place old t + place lane t) % 2
-    added h = whole n (λ t. (place old t + place lane t) % 2) now old h few (λ t out. omega (arith, none_old t out, none_lane t out))
+    pub added_clear : (z : ℕ) → IsClear old z → IsClear lane z → IsClear now z
+    added_clear z one other t past = omega (arith, added t, one t past, other t past)
 
-    pub added_all : IsMade n (λ t. (place old t + place lane t) % 2) now old → (t : ℕ) → is_set now t ≡ is_set old t ⊕ is_set lane t
-    added_all h t = ap (λ m. m == 1) (added h t) ∙ sum_bits (place old t) (place lane t) (place-lt old t) (place-lt lane t)
+  module _ (h : IsMade n (λ t. min (place old t) (place lane t)) now old) where
+    both : (t : ℕ) → place now t ≡ min (place old t) (place lane t)
+    both = made_whole n (λ t. min (place old t) (place lane t)) now old h (λ t out. omega (arith, place_past old t (omega (arith, few, out))))
 
-    pub added_clear : IsMade n (λ t. (place old t + place lane t) % 2) now old → (z : ℕ) → IsClear old z → IsClear lane z → IsClear now z
-    added_clear h z one other t past = omega (arith, added h t, one t past, other t past)
+    pub common_all : (t : ℕ) → is_set now t ≡ (is_set old t && is_set lane t)
+    common_all t = ap (λ m. m == 1) (both t) ∙ min_bits (place old t) (place lane t) (place-lt old t) (place-lt lane t)
 
-    pub common_all : IsMade n (λ t. min (place old t) (place lane t)) now old → (t : ℕ) → is_set now t ≡ (is_set old t && is_set lane t)
-    common_all h t =
-        ap (λ m. m == 1) (whole n (λ t. min (place old t) (place lane t)) now old h few (λ t out. omega (arith, none_old t out)) t)
-        ∙ min_bits (place old t) (place lane t) (place-lt old t) (place-lt lane t)
+    pub common_clear : (z : ℕ) → IsClear old z → IsClear now z
+    common_clear z one t past = omega (arith, both t, one t past)
 
-  pub common_clear : IsMade n (λ t. min (place old t) (place lane t)) now old → (z : ℕ) → IsClear old z → IsClear now z
-  common_clear h z one t past =
-      whole n (λ t. min (place old t) (place lane t)) now old h few (λ t out. omega (arith, none_old t out)) t ∙ omega (arith, one t past)
+  module _ (h : IsMade n (λ t. min (place old t) (1 - place lane t)) now old) where
+    less : (t : ℕ) → place now t ≡ min (place old t) (1 - place lane t)
+    less = made_whole n (λ t. min (place old t) (1 - place lane t)) now old h (λ t out. omega (arith, place_past old t (omega (arith, few, out))))
 
-  less : IsMade n (λ t. min (place old t) (1 - place lane t)) now old → (t : ℕ) → place now t ≡ min (place old t) (1 - place lane t)
-  less h = whole n (λ t. min (place old t) (1 - place lane t)) now old h few (λ t out. omega (arith, none_old t out))
+    pub without_all : (t : ℕ) → is_set now t ≡ (is_set old t && not (is_set lane t))
+    without_all t = ap (λ m. m == 1) (less t) ∙ rest_bits (place old t) (place lane t) (place-lt old t) (place-lt lane t)
 
-  pub without_all : IsMade n (λ t. min (place old t) (1 - place lane t)) now old → (t : ℕ) → is_set now t ≡ (is_set old t && not (is_set lane t))
-  without_all h t = ap (λ m. m == 1) (less h t) ∙ rest_bits (place old t) (place lane t) (place-lt old t) (place-lt lane t)
-
-  pub without_clear : IsMade n (λ t. min (place old t) (1 - place lane t)) now old → (z : ℕ) → IsClear old z → IsClear now z
-  without_clear h z one t past = less h t ∙ omega (arith, one t past)
+    pub without_clear : (z : ℕ) → IsClear old z → IsClear now z
+    without_clear z one t past = omega (arith, less t, one t past)
 
 -- ---- counts
 

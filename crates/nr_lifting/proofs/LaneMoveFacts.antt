@@ -1,5 +1,5 @@
 -- A lane that is read from a list of bits, and one that is put into one.
-use Rattle.std.proofs.Common.{◌≡◌, ℕ, ◌+◌, ◌-◌, ◌*◌, ◌<◌, ◌≤◌, ◌==◌, zero, suc, min, Bool, true, false, if◌then◌else◌, List, length, get_or, refl, sym, ap, ◌∙◌, inl, inr, arith}
+use Rattle.std.proofs.Common.{◌≡◌, ℕ, ◌+◌, ◌-◌, ◌*◌, ◌<◌, ◌≤◌, ◌==◌, min, Bool, true, false, if◌then◌else◌, List, length, get_or, refl, sym, ap, ◌∙◌, inl, inr, arith}
 use Rattle.std.proofs.lemmas.Bool.{cases_lt}
 use Rattle.std.specs.Int.{bit_at}
 use Rattle.nr_bitvec.specs.Bit.{bit}
@@ -13,14 +13,9 @@ use Rattle.nr_bitvec.proofs.PlaceFacts.{bit-place}
 abbrev pub digit : Bool → ℕ
 digit b = if b then 1 else 0
 
-digit-true : (b : Bool) → (digit b == 1) ≡ b
+pub digit-true : (b : Bool) → (digit b == 1) ≡ b
 digit-true true = refl
 digit-true false = refl
-
-digit_is : (n : ℕ) (b : Bool) → n < 2 → (n == 1) ≡ b → n ≡ digit b
-digit_is zero b h e = ap digit e
-digit_is (suc zero) b h e = ap digit e
-digit_is (suc (suc n)) b h e = absurd (omega (arith, h))
 
 -- words that have the digits of bits are seen as those bits
 pub view-digit : (z : ℕ) (ws : List ℕ) (t : ℕ) (b : Bool) → IsClear ws z → place ws t ≡ digit b → bit (unpacked z ws) t ≡ b

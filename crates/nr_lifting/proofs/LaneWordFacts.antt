@@ -10,6 +10,10 @@ use Rattle.nr_lifting.specs.LaneInside.{IsLane}
 use Rattle.nr_bitvec.proofs.BitFacts.{place_of, place_past}
 use Rattle.nr_bitvec.proofs.PlaceFacts.{place-set_same, place-set_other}
 
+-- the place of a word that is still the old one
+pub word_bit : (n j word : ℕ) (ws : List ℕ) → word ≡ get_or ws n 0 → j < 64 → bit_at word j ≡ place ws (64 * n + j)
+word_bit n j word ws is short = ap (λ w. bit_at w j) is ∙ sym (place_of ws (64 * n + j) n j refl short)
+
 -- The first i words have the places that G gives them, below place z, and zeros past it; the other words are the old
 -- ones.
 pub record IsWritten (z i : ℕ) (G : ℕ → ℕ) (ws old : List ℕ) : Type 0 where
@@ -41,16 +45,20 @@ written_more z i G next ws old word h within is low high = record {
   long = ap length is ∙ length-set ws i word ∙ h.long;
 }
 
--- when every word is written, the words are a lane's
+-- when every word is written, no place past z is set
+pub written_clear : (z i : ℕ) (G : ℕ → ℕ) (ws old : List ℕ) → IsWritten z i G ws old → length ws ≤ i → IsClear ws z
+written_clear z i G ws old h all t past = elim (cases_lt t (64 * i)) [
+  | inl inside ↦ h.clear t inside past
+  | inr out ↦ place_past ws t (omega (arith, all, out))
+]
+
+-- and the words are a lane's
 pub written_lane : (z i : ℕ) (G : ℕ → ℕ) (ws old : List ℕ) → IsWritten z i G ws old → length old ≤ i
     → 64 * length old < z + 64 → z ≤ 64 * length old → IsLane z (length ws) ws
 written_lane z i G ws old h all above below = record {
   above = omega (arith, h.long, above);
   below = omega (arith, h.long, below);
-  clear = λ t past. elim (cases_lt t (64 * i)) [
-    | inl inside ↦ h.clear t inside past
-    | inr out ↦ place_past ws t (omega (arith, h.long, all, out))
-  ];
+  clear = written_clear z i G ws old h (omega (arith, h.long, all));
 }
 
 -- ---- one word of a sum, and of a count
@@ -59,51 +67,34 @@ written_lane z i G ws old h all above below = record {
 -- past it zeros.
 module _ (z i p now rotated : ℕ) (ws src : List ℕ) (kept : now ≡ get_or ws i 0) (clear : IsClear ws z)
     (is : IsRotatedWord z src i p rotated) (none : (j : ℕ) → z ≤ 64 * i + j → bit_at rotated j ≡ 0) (j : ℕ) (short : j < 64) where
-  pub word_at : bit_at now j ≡ place ws (64 * i + j)
-  word_at = ap (λ n. bit_at n j) kept ∙ sym (place_of ws (64 * i + j) i j refl short)
-
-  word_past : z ≤ 64 * i + j → bit_at now j ≡ 0
-  word_past past = word_at ∙ clear (64 * i + j) past
-
   pub summed_low : 64 * i + j < z → bit_at (bit_xor now rotated) j ≡ (place ws (64 * i + j) + place src ((64 * i + j + p) % z)) % 2
-  summed_low below =
-      bit_at_xor now rotated j ∙ ap (λ n. (n + bit_at rotated j) % 2) word_at ∙ ap (λ n. (place ws (64 * i + j) + n) % 2) (is j short below)
+  summed_low below = omega (arith, bit_at_xor now rotated j, word_bit i j now ws kept short, is j short below)
 
   pub summed_high : z ≤ 64 * i + j → bit_at (bit_xor now rotated) j ≡ 0
-  summed_high past = omega (arith, bit_at_xor now rotated j, word_past past, none j past)
+  summed_high past = omega (arith, bit_at_xor now rotated j, word_bit i j now ws kept short, clear (64 * i + j) past, none j past)
 
   pub joined_low : 64 * i + j < z → bit_at (bit_or now rotated) j ≡ max (place ws (64 * i + j)) (place src ((64 * i + j + p) % z))
-  joined_low below = bit_at_or now rotated j ∙ ap (λ n. max n (bit_at rotated j)) word_at ∙ ap (max (place ws (64 * i + j))) (is j short below)
+  joined_low below = omega (arith, bit_at_or now rotated j, word_bit i j now ws kept short, is j short below)
 
   pub joined_high : z ≤ 64 * i + j → bit_at (bit_or now rotated) j ≡ 0
-  joined_high past = omega (arith, bit_at_or now rotated j, word_past past, none j past)
+  joined_high past = omega (arith, bit_at_or now rotated j, word_bit i j now ws kept short, clear (64 * i + j) past, none j past)
 
   -- with a second lane, whose word gains the places that both have
   module _ (word : ℕ) (more : List ℕ) (other : word ≡ get_or more i 0) (free : IsClear more z) where
-    at_more : bit_at word j ≡ place more (64 * i + j)
-    at_more = ap (λ n. bit_at n j) other ∙ sym (place_of more (64 * i + j) i j refl short)
-
-    bits : bit_at (bit_or word (bit_and now rotated)) j ≡ max (bit_at word j) (min (bit_at now j) (bit_at rotated j))
-    bits = bit_at_or word (bit_and now rotated) j ∙ ap (max (bit_at word j)) (bit_at_and now rotated j)
-
     pub twice_low : 64 * i + j < z → bit_at (bit_or word (bit_and now rotated)) j ≡ max (place more (64 * i + j)) (min (place ws (64 * i + j)) (place src ((64 * i + j + p) % z)))
     twice_low below =
-        bits ∙ ap (λ n. max n (min (bit_at now j) (bit_at rotated j))) at_more
-        ∙ ap (λ n. max (place more (64 * i + j)) (min n (bit_at rotated j))) word_at
-        ∙ ap (λ n. max (place more (64 * i + j)) (min (place ws (64 * i + j)) n)) (is j short below)
+        omega (arith, bit_at_or word (bit_and now rotated) j, bit_at_and now rotated j, word_bit i j word more other short, word_bit i j now ws kept short, is j short below)
 
     pub twice_high : z ≤ 64 * i + j → bit_at (bit_or word (bit_and now rotated)) j ≡ 0
-    twice_high past = omega (arith, bits, at_more, free (64 * i + j) past, none j past)
+    twice_high past =
+        omega (arith, bit_at_or word (bit_and now rotated) j, bit_at_and now rotated j, word_bit i j word more other short, free (64 * i + j) past, none j past)
 
 -- ---- one word of a ring
 
 -- a word of a list, of which the places below place z gain those of another word
 module _ (z k now : ℕ) (old : List ℕ) (more j : ℕ) (short : j < 64) (kept : now ≡ get_or old k 0) where
-  ring_at : bit_at now j ≡ place old (64 * k + j)
-  ring_at = ap (λ n. bit_at n j) kept ∙ sym (place_of old (64 * k + j) k j refl short)
-
   pub ring_low : {gained : ℕ} → bit_at more j ≡ gained → bit_at (bit_or now more) j ≡ max (place old (64 * k + j)) gained
-  ring_low is = bit_at_or now more j ∙ ap (λ n. max n (bit_at more j)) ring_at ∙ ap (max (place old (64 * k + j))) is
+  ring_low is = omega (arith, bit_at_or now more j, word_bit k j now old kept short, is)
 
   pub ring_high : IsClear old z → z ≤ 64 * k + j → bit_at more j ≡ 0 → bit_at (bit_or now more) j ≡ 0
-  ring_high clear past none = omega (arith, bit_at_or now more j, ring_at, clear (64 * k + j) past, none)
+  ring_high clear past none = omega (arith, bit_at_or now more j, word_bit k j now old kept short, clear (64 * k + j) past, none)

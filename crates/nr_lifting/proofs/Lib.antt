@@ -4,10 +4,9 @@ pub mod LaneViewFacts
 pub mod LaneWordFacts
 pub mod SetIndexFacts
 pub mod LaneMoveFacts
-mod BlockPlaceFacts
 mod PlaneCountFacts
 mod PlaneLaneFacts
 mod DoubledLaneFacts
-mod RingSpanFacts
+pub mod RingSpanFacts
 mod RingJoinFacts
 pub mod RotationFacts

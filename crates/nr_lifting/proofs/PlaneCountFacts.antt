@@ -3,9 +3,9 @@ use Rattle.std.proofs.Common.{◌≡◌, ◌≢◌, ℕ, zero, suc, ◌+◌, ◌
 use Rattle.std.proofs.Math.Nat.{pow-suc}
 use Rattle.std.proofs.lemmas.Bool.{cases_eq, cases_lt, ne_eqb}
 use Rattle.std.proofs.lemmas.Nat.{pow_pos}
-use Rattle.std.proofs.lemmas.Nat.Bits.{bit_at-lt, bit_at_and, bit_at_xor, bit_at_not}
+use Rattle.std.proofs.lemmas.Nat.Bits.{bit_at_and, bit_at_not}
 use Rattle.std.specs.Int.{bit_at, bit_not, w64}
-use Rattle.std.specs.Int.RustNames.{bit_and, bit_xor}
+use Rattle.std.specs.Int.RustNames.{bit_and}
 use Rattle.nr_lifting.specs.Planes.{digits_below, number, number_at, Falls}
 
 -- one digit more
@@ -147,43 +147,48 @@ exactly_one n f (suc (suc m)) h k none some = absurd (omega (arith, k))
 pub ones_are : (n : ℕ) (D : ℕ → ℕ) (m : ℕ) → HasMore n D m → D 0 < 2 → m < 2 → min (D 0) (1 - m) ≡ (if digits_below n D == 1 then 1 else 0)
 ones_are n D m h first more = exactly_one (digits_below n D) (D 0) m first more h.none h.some
 
--- ---- words
+-- ---- planes, each with one digit of every count
 
--- digit k of count j of a group
-abbrev pub word_digit : List ℕ → ℕ → ℕ → ℕ
-word_digit group j k = bit_at (get_or group k 0) j
+-- digit k of count t, where plane k has the digit `read (get_or planes k none) t`
+abbrev pub digit_in : {A : Type 0} → (A → ℕ → ℕ) → A → List A → ℕ → ℕ → ℕ
+digit_in read none planes t k = read (get_or planes k none) t
 
--- the first n words have fallen, with borrows from the others
-pub record WordsBorrow (n : ℕ) (now old : List ℕ) (bits borrow : ℕ) : Type 0 where
-  pub digits : (j : ℕ) → j < 64 → Borrows n (word_digit now j) (word_digit old j) (bit_at bits j) (bit_at borrow j)
+-- The first n planes of the counts before count z have fallen, with borrows from the others.
+pub record PlanesBorrow (A : Type 0) (read : A → ℕ → ℕ) (none : A) (z n : ℕ) (now old : List A) (lane borrow : ℕ → ℕ) : Type 0 where
+  pub digits : (t : ℕ) → t < z → Borrows n (digit_in read none now t) (digit_in read none old t) (lane t) (borrow t)
   pub long : length now ≡ length old
+
+module _ (A : Type 0) (read : A → ℕ → ℕ) (none : A) (low : (x : A) (t : ℕ) → read x t < 2) (z n : ℕ) (now old : List A) (lane borrow : ℕ → ℕ) (h : PlanesBorrow A read none z n now old lane borrow) where
+  -- one plane more falls
+  pub planes_more : (next : List A) (left : ℕ → ℕ) (plane : A) → n < length now → ((t : ℕ) → borrow t < 2) → next ≡ set now n plane
+      → ((t : ℕ) → t < z → read plane t ≡ (read (get_or now n none) t + borrow t) % 2)
+      → ((t : ℕ) → t < z → left t ≡ min (borrow t) (1 - read (get_or now n none) t)) → PlanesBorrow A read none z (n + 1) next old lane left
+  planes_more next left plane within high put falls goes = record {
+    digits = λ t below.
+        subst (Borrows (n + 1) (digit_in read none next t) (digit_in read none old t) (lane t)) (sym (goes t below))
+        (borrows_more n (digit_in read none next t) (digit_in read none now t) (digit_in read none old t) (lane t) (borrow t) (digit_in read none now t n)
+        (h.digits t below) refl (low (get_or now n none) t) (high t)
+        (λ k apart. ap (λ ps. digit_in read none ps t k) put ∙ ap (λ p. read p t) (get_or-set_other now n k plane none apart))
+        (ap (λ ps. digit_in read none ps t n) put ∙ ap (λ p. read p t) (get_or-set_same now n plane none within) ∙ falls t below));
+    long = ap length put ∙ length-set now n plane ∙ h.long;
+  }
+
+  -- where no borrow is left, all have fallen
+  pub planes_rest : (m : ℕ) → ((t : ℕ) → t < z → borrow t ≡ 0) → n ≤ m → PlanesBorrow A read none z m now old lane borrow
+  planes_rest m idle within = record {
+    digits = λ t below. borrows_rest n m (digit_in read none now t) (digit_in read none old t) (lane t) (borrow t) (h.digits t below) (idle t below) within;
+    long = h.long;
+  }
+
+  pub planes_all : n ≡ length old → ((t : ℕ) → borrow t < 2) → ((t : ℕ) → t < z → lane t ≤ digits_below (length old) (digit_in read none old t))
+      → (t : ℕ) → t < z → digits_below (length now) (digit_in read none now t) + lane t ≡ digits_below (length old) (digit_in read none old t)
+  planes_all all high enough t below =
+      ap (λ m. digits_below m (digit_in read none now t) + lane t) h.long
+      ∙ borrows_all (length old) (digit_in read none now t) (digit_in read none old t) (lane t) (borrow t) (subst (λ m. Borrows m (digit_in read none now t) (digit_in read none old t) (lane t) (borrow t)) all (h.digits t below)) (λ k. low (get_or now k none) t) (high t) (enough t below)
 
 -- the digits that a word lowers
 pub lowered_digit : (word borrow j : ℕ) → word < 2 ^ 64 → j < 64 → bit_at (bit_and borrow (bit_not w64 word)) j ≡ min (bit_at borrow j) (1 - bit_at word j)
 lowered_digit word borrow j fits short = bit_at_and borrow (bit_not w64 word) j ∙ ap (min (bit_at borrow j)) (bit_at_not w64 word j fits short)
-
--- one word more falls
-pub words_more : (n : ℕ) (next now old : List ℕ) (bits borrow word : ℕ) → WordsBorrow n now old bits borrow → n < length now → word ≡ get_or now n 0 → word < 2 ^ 64
-    → next ≡ set now n (bit_xor word borrow) → WordsBorrow (n + 1) next old bits (bit_and borrow (bit_not w64 word))
-words_more n next now old bits borrow word h within is fits put = record {
-  digits = λ j short.
-      subst (Borrows (n + 1) (word_digit next j) (word_digit old j) (bit_at bits j)) (sym (lowered_digit word borrow j fits short))
-      (borrows_more n (word_digit next j) (word_digit now j) (word_digit old j) (bit_at bits j) (bit_at borrow j) (bit_at word j)
-      (h.digits j short) (ap (λ w. bit_at w j) is) (bit_at-lt word j) (bit_at-lt borrow j)
-      (λ k apart. ap (λ ws. word_digit ws j k) put ∙ ap (λ w. bit_at w j) (get_or-set_other now n k (bit_xor word borrow) 0 apart))
-      (ap (λ ws. word_digit ws j n) put ∙ ap (λ w. bit_at w j) (get_or-set_same now n (bit_xor word borrow) 0 within) ∙ bit_at_xor word borrow j));
-  long = ap length put ∙ length-set now n (bit_xor word borrow) ∙ h.long;
-}
-
-pub words_all : (n : ℕ) (now old : List ℕ) (bits borrow : ℕ) → WordsBorrow n now old bits borrow → n ≡ length old → ((j : ℕ) → j < 64 → bit_at bits j ≤ number old j) → Falls now old bits
-words_all n now old bits borrow h all enough = record {
-  numbers = λ j short.
-      let was : digits_below n (word_digit old j) ≡ number old j = ap (λ m. digits_below m (word_digit old j)) all in
-      ap (λ m. digits_below m (word_digit now j) + bit_at bits j) (h.long ∙ sym all)
-      ∙ borrows_all n (word_digit now j) (word_digit old j) (bit_at bits j) (bit_at borrow j) (h.digits j short) (λ k. bit_at-lt (get_or now k 0) j) (bit_at-lt borrow j) (rw was (enough j short))
-      ∙ was;
-  long = h.long;
-}
 
 -- ---- groups
 

@@ -1,5 +1,5 @@
 -- Counts that are kept plane by plane: lanes that are taken off them, those that are exactly one, and planes that are made.
-use Rattle.std.proofs.Common.{◌≡◌, ℕ, zero, suc, ◌+◌, ◌-◌, ◌*◌, ◌/◌, ◌%◌, ◌^◌, ◌<◌, ◌≤◌, ◌&&◌, not, min, List, [], length, get_or, set, refl, sym, ap, subst, ◌∙◌, inl, inr, arith, length-set, get_or-set_same, get_or-set_other}
+use Rattle.std.proofs.Common.{◌≡◌, ℕ, zero, suc, ◌+◌, ◌-◌, ◌*◌, ◌/◌, ◌%◌, ◌^◌, ◌<◌, ◌≤◌, ◌&&◌, not, min, List, [], get_or, refl, sym, ap, ◌∙◌, inl, inr, arith}
 use Rattle.std.proofs.Math.Nat.{mul_comm}
 use Rattle.std.proofs.lemmas.Bool.{cases_eq}
 use Rattle.std.proofs.lemmas.Nat.{mod-pow-add}
@@ -9,10 +9,10 @@ use Rattle.std.specs.Int.RustNames.{bit_or}
 use Rattle.nr_bitvec.specs.Bit.{◌⊕◌}
 use Rattle.nr_bitvec.specs.Packed.{place}
 use Rattle.nr_bitvec.proofs.OctetListFacts.{same_bit}
-use Rattle.nr_lifting.specs.Planes.{digits_below, plane_number}
+use Rattle.nr_lifting.specs.Planes.{digits_below}
 use Rattle.nr_lifting.specs.Rings.{is_set}
 use Rattle.nr_lifting.proofs.LaneViewFacts.{place-lt, rest_bits, sum_bits}
-use Rattle.nr_lifting.proofs.PlaneCountFacts.{Borrows, below-next, below-same, borrows_all, borrows_more, borrows_none, borrows_rest}
+use Rattle.nr_lifting.proofs.PlaneCountFacts.{below-next, below-same}
 
 -- digit k of count t of a block
 abbrev pub plane_digit : List (List ℕ) → ℕ → ℕ → ℕ
@@ -27,44 +27,6 @@ pub rest_places : (rest lane other : List ℕ) → ((t : ℕ) → is_set rest t 
 rest_places rest lane other bits t =
     same_bit (place rest t) (min (place lane t) (1 - place other t)) (place-lt rest t) (omega (arith, place-lt lane t))
     (bits t ∙ sym (rest_bits (place lane t) (place other t) (place-lt lane t) (place-lt other t)))
-
--- ---- one is taken off
-
--- The first n planes of the counts before count z have fallen, with borrows from the others.
-pub record PlanesBorrow (z n : ℕ) (now old : List (List ℕ)) (lane borrow : ℕ → ℕ) : Type 0 where
-  pub digits : (t : ℕ) → t < z → Borrows n (plane_digit now t) (plane_digit old t) (lane t) (borrow t)
-  pub long : length now ≡ length old
-
--- one plane more falls
-pub planes_more : (z n : ℕ) (next now old : List (List ℕ)) (lane borrow left : ℕ → ℕ) (plane : List ℕ) → PlanesBorrow z n now old lane borrow → n < length now → ((t : ℕ) → borrow t < 2)
-    → next ≡ set now n plane → ((t : ℕ) → t < z → place plane t ≡ (place (get_or now n []) t + borrow t) % 2)
-    → ((t : ℕ) → t < z → left t ≡ min (borrow t) (1 - place (get_or now n []) t)) → PlanesBorrow z (n + 1) next old lane left
-planes_more z n next now old lane borrow left plane h within high put falls goes = record {
-  digits = λ t below.
-      subst (Borrows (n + 1) (plane_digit next t) (plane_digit old t) (lane t)) (sym (goes t below))
-      (borrows_more n (plane_digit next t) (plane_digit now t) (plane_digit old t) (lane t) (borrow t) (plane_digit now t n)
-      (h.digits t below) refl (place-lt (get_or now n []) t) (high t)
-      (λ k apart. ap (λ ps. plane_digit ps t k) put ∙ ap (λ p. place p t) (get_or-set_other now n k plane [] apart))
-      (ap (λ ps. plane_digit ps t n) put ∙ ap (λ p. place p t) (get_or-set_same now n plane [] within) ∙ falls t below));
-  long = ap length put ∙ length-set now n plane ∙ h.long;
-}
-
--- where no borrow is left, all have fallen
-pub planes_rest : (z n m : ℕ) (now old : List (List ℕ)) (lane borrow : ℕ → ℕ) → PlanesBorrow z n now old lane borrow → ((t : ℕ) → borrow t ≡ 0) → n ≤ m
-    → PlanesBorrow z m now old lane borrow
-planes_rest z n m now old lane borrow h none within = record {
-  digits = λ t below. borrows_rest n m (plane_digit now t) (plane_digit old t) (lane t) (borrow t) (h.digits t below) (none t) within;
-  long = h.long;
-}
-
-pub planes_all : (z n : ℕ) (now old : List (List ℕ)) (lane borrow : ℕ → ℕ) → PlanesBorrow z n now old lane borrow → n ≡ length old → ((t : ℕ) → borrow t < 2)
-    → ((t : ℕ) → t < z → lane t ≤ plane_number old t) → (t : ℕ) → t < z → plane_number now t + lane t ≡ plane_number old t
-planes_all z n now old lane borrow h all high enough t below =
-    let was : digits_below n (plane_digit old t) ≡ plane_number old t = ap (λ m. digits_below m (plane_digit old t)) all in
-    ap (λ m. digits_below m (plane_digit now t) + lane t) (h.long ∙ sym all)
-    ∙ borrows_all n (plane_digit now t) (plane_digit old t) (lane t) (borrow t) (h.digits t below) (λ k. place-lt (get_or now k []) t) (high t)
-    (subst (λ m. lane t ≤ m) (sym was) (enough t below))
-    ∙ was
 
 -- the words of a lane so far, joined
 pub joined_words : (i any word : ℕ) (lane : List ℕ) → ((t : ℕ) → t < 64 * i → place lane t ≤ bit_at any (t % 64)) → word ≡ get_or lane i 0

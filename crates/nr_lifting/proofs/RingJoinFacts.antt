@@ -2,14 +2,14 @@
 use Rattle.std.proofs.Common.{◌≡◌, ℕ, ◌+◌, ◌-◌, ◌*◌, ◌/◌, ◌%◌, ◌^◌, ◌<◌, ◌≤◌, if◌then◌else◌, max, nat_lt, List, length, get_or, set, replicate, refl, sym, subst, ap, ◌∙◌, inl, inr, arith}
 use Rattle.std.proofs.lemmas.Bool.{cases_lt, lt-ltb, le-ltb}
 use Rattle.std.proofs.lemmas.Nat.{mod_below}
-use Rattle.std.proofs.lemmas.Nat.Bits.{bit_at_above, bit_at-zero, bit_at_or}
+use Rattle.std.proofs.lemmas.Nat.Bits.{bit_at_above, bit_at_or}
 use Rattle.std.specs.Int.{bit_at}
 use Rattle.std.specs.Int.RustNames.{bit_or}
 use Rattle.nr_bitvec.specs.Packed.{place, IsClear}
 use Rattle.nr_bitvec.proofs.BitFacts.{bit_at_mod, bit_at_shl_low, bit_at_shl_high, bit_at_shr, place_of, place_past}
 use Rattle.nr_bitvec.proofs.PlaceFacts.{place-set_same, place-set_other}
 use Rattle.nr_lifting.specs.Rings.{GainsTwice}
-use Rattle.nr_lifting.proofs.LaneBitFacts.{IsMade, made_next, word_bit}
+use Rattle.nr_lifting.proofs.LaneBitFacts.{IsMade, made_next, made_whole, word_bit}
 use Rattle.nr_lifting.proofs.LaneViewFacts.{place-zeros}
 use Rattle.nr_lifting.proofs.LaneWordFacts.{ring_low}
 use Rattle.nr_lifting.proofs.RotationFacts.{mod_small, twice}
@@ -65,24 +65,13 @@ module _ (z i word : ℕ) (ws : List ℕ) (kept : word ≡ get_or ws i 0) where
 -- the words are joined
 pub once_all : (n : ℕ) (now old ws : List ℕ) → IsMade n (λ t. max (place old t) (place ws t)) now old → length ws ≤ n
     → (t : ℕ) → place now t ≡ max (place old t) (place ws t)
-once_all n now old ws h all t = elim (cases_lt t (64 * n)) [
-  | inl inside ↦ h.done t inside
-  | inr out ↦
-      let kept : place now t ≡ place old t = ap (λ m. bit_at m (t % 64)) (h.kept (t / 64) (omega (arith, out))) in
-      omega (arith, kept, place_past ws t (omega (arith, all, out)))
-]
+once_all n now old ws h all = made_whole n (λ t. max (place old t) (place ws t)) now old h (λ t out. omega (arith, place_past ws t (omega (arith, all, out))))
 
 -- Words that have been joined once, and are where they are moved up by z places. There are six of them.
-module _ (z : ℕ) (now old ws : List ℕ) (few : length ws ≤ 6) where
-  pub moved_all : (n : ℕ) → IsMade n (λ t. max (place old t) (moved z ws t)) now old → z + 384 ≤ 64 * n
-      → (t : ℕ) → place now t ≡ max (place old t) (moved z ws t)
-  moved_all n h enough t = elim (cases_lt t (64 * n)) [
-    | inl inside ↦ h.done t inside
-    | inr out ↦
-        let kept : place now t ≡ place old t = ap (λ m. bit_at m (t % 64)) (h.kept (t / 64) (omega (arith, out))) in
-        let none : moved z ws t ≡ 0 = moved-high z ws t (omega (arith, out, enough)) ∙ place_past ws (t - z) (omega (arith, few, out, enough)) in
-        omega (arith, kept, none)
-  ]
+pub moved_all : (z : ℕ) (now old ws : List ℕ) → length ws ≤ 6 → (n : ℕ) → IsMade n (λ t. max (place old t) (moved z ws t)) now old → z + 384 ≤ 64 * n
+    → (t : ℕ) → place now t ≡ max (place old t) (moved z ws t)
+moved_all z now old ws few n h enough = made_whole n (λ t. max (place old t) (moved z ws t)) now old h (λ t out.
+    omega (arith, moved-high z ws t (omega (arith, out, enough)), place_past ws (t - z) (omega (arith, few, out, enough))))
 
 pub carries_six : (z i : ℕ) (ws : List ℕ) (past : ℕ) → Carries z i ws past → i ≡ 6 → Carries z 6 ws past
 carries_six z i ws past carry six = subst (λ n. Carries z n ws past) six carry
@@ -111,9 +100,9 @@ module _ (z i : ℕ) (next now old ws : List ℕ) (h : IsMade (z / 64 + i) (λ t
             carry.high j high ∙ sym (moved-high z ws t (omega (arith, high)) ∙ place_past ws (t - z) (omega (arith, few, six, high)))
       ]
 
-pub joined_all : (z : ℕ) (new now old ws : List ℕ) → ((t : ℕ) → place new t ≡ max (place now t) (moved z ws t))
-    → ((t : ℕ) → place now t ≡ max (place old t) (place ws t)) → (t : ℕ) → place new t ≡ max (max (place old t) (place ws t)) (moved z ws t)
-joined_all z new now old ws again once t = again t ∙ ap (λ n. max n (moved z ws t)) (once t)
+pub joined_all : (z : ℕ) (new now old ws : List ℕ) (n : ℕ) → IsMade n (λ t. max (place old t) (place ws t)) now old → length ws ≤ n
+    → ((t : ℕ) → place new t ≡ max (place now t) (moved z ws t)) → (t : ℕ) → place new t ≡ max (max (place old t) (place ws t)) (moved z ws t)
+joined_all z new now old ws n h all again t = again t ∙ ap (λ m. max m (moved z ws t)) (once_all n now old ws h all t)
 
 module _ (z : ℕ) (new old ws : List ℕ) (clear : IsClear ws z) (is : (t : ℕ) → place new t ≡ max (max (place old t) (place ws t)) (moved z ws t)) where
   pub gains_twice : GainsTwice z new old ws

@@ -1,12 +1,11 @@
 -- Words that are read from a ring in one piece, and cut by a mask.
-use Rattle.std.proofs.Common.{◌≡◌, ℕ, ◌+◌, ◌-◌, ◌*◌, ◌/◌, ◌%◌, ◌^◌, ◌<◌, ◌≤◌, max, min, List, length, get_or, set, ap, ◌∙◌, inl, inr, arith}
+use Rattle.std.proofs.Common.{◌≡◌, ℕ, ◌+◌, ◌-◌, ◌*◌, ◌/◌, ◌%◌, ◌^◌, ◌<◌, ◌≤◌, max, min, List, get_or, ap, ◌∙◌, inl, inr, arith}
 use Rattle.std.proofs.lemmas.Bool.{cases_lt}
 use Rattle.std.proofs.lemmas.Nat.Bits.{bit_at_above, bit_at_and, bit_at_not, bit_at_or}
 use Rattle.std.specs.Int.{bit_at, bit_not, w64}
 use Rattle.std.specs.Int.RustNames.{bit_and, bit_or}
 use Rattle.nr_bitvec.specs.Packed.{place, IsClear}
 use Rattle.nr_bitvec.proofs.BitFacts.{bit_at_mod, bit_at_shl_low, bit_at_shl_high, bit_at_shr, place_of}
-use Rattle.nr_bitvec.proofs.PlaceFacts.{place-set_same, place-set_other}
 use Rattle.nr_lifting.specs.Inside.{IsMask}
 use Rattle.nr_lifting.specs.Lane.{IsRotatedWord}
 use Rattle.nr_lifting.specs.Rings.{IsRing}
@@ -15,7 +14,7 @@ use Rattle.nr_lifting.proofs.LaneViewFacts.{place-lt}
 use Rattle.nr_lifting.proofs.RotationFacts.{ring-rotated}
 
 -- a word that is moved up by one and then by `up` loses the places past the word
-moved_low : (n up j : ℕ) → up < 64 → j < 64 → j ≤ up → bit_at (n * 2 ^ 1 % 2 ^ 64 * 2 ^ up % 2 ^ 64) j ≡ 0
+pub moved_low : (n up j : ℕ) → up < 64 → j < 64 → j ≤ up → bit_at (n * 2 ^ 1 % 2 ^ 64 * 2 ^ up % 2 ^ 64) j ≡ 0
 moved_low n up j few short low =
     bit_at_mod (n * 2 ^ 1 % 2 ^ 64 * 2 ^ up) 64 j short ∙ elim (cases_lt j up) [
       | inl h ↦ bit_at_shl_low (n * 2 ^ 1 % 2 ^ 64) up j h
@@ -23,7 +22,7 @@ moved_low n up j few short low =
           bit_at_shl_high (n * 2 ^ 1 % 2 ^ 64) up j h ∙ bit_at_mod (n * 2 ^ 1) 64 (j - up) (omega (arith, short)) ∙ bit_at_shl_low n 1 (j - up) (omega (arith, low, h))
     ]
 
-moved_high : (n up j : ℕ) → up < j → j < 64 → bit_at (n * 2 ^ 1 % 2 ^ 64 * 2 ^ up % 2 ^ 64) j ≡ bit_at n (j - (up + 1))
+pub moved_high : (n up j : ℕ) → up < j → j < 64 → bit_at (n * 2 ^ 1 % 2 ^ 64 * 2 ^ up % 2 ^ 64) j ≡ bit_at n (j - (up + 1))
 moved_high n up j high short =
     bit_at_mod (n * 2 ^ 1 % 2 ^ 64 * 2 ^ up) 64 j short
     ∙ bit_at_shl_high (n * 2 ^ 1 % 2 ^ 64) up j (omega (arith, high))
@@ -51,53 +50,39 @@ span_bit ws w turn j fits few short =
           omega (arith, split, first, e, none, more)
     ]
 
--- the first word of a rotation is read
-pub first_reads : (p read : ℕ) (ring : List ℕ) → ((j : ℕ) → j < 64 → bit_at read j ≡ place ring (64 * (p / 64) + p % 64 + j))
-    → (j : ℕ) → j < 64 → bit_at read j ≡ place ring (64 * (p / 64 + 0) + p % 64 + j)
-first_reads p read ring reads j short = reads j short ∙ ap (place ring) (omega arith)
+-- A word that is read from a ring, at word w, has the places of the rotated block below place z.
+module _ (z i p w read : ℕ) (ring : List ℕ) (at : w ≡ p / 64 + i) (reads : (j : ℕ) → j < 64 → bit_at read j ≡ place ring (64 * w + p % 64 + j)) (rotation : p < z) (twice : IsRing z ring) where
+  pub spans : IsRotatedWord z ring i p read
+  spans j short below = reads j short ∙ ap (place ring) (omega (arith, at)) ∙ ring-rotated ring z (64 * i + j) p below rotation twice
 
--- A word that is read from a ring has the places of the rotated block below place z.
-pub spans : (z i p read : ℕ) (ring : List ℕ) → ((j : ℕ) → j < 64 → bit_at read j ≡ place ring (64 * (p / 64 + i) + p % 64 + j))
-    → p < z → IsRing z ring → IsRotatedWord z ring i p read
-spans z i p read ring reads rotation twice j short below =
-    reads j short ∙ ap (place ring) (omega arith) ∙ ring-rotated ring z (64 * i + j) p below rotation twice
+  -- So has it where a mask meets it, and none past place z.
+  module _ (cut : ℕ) (mask : List ℕ) (is : IsMask z mask) (kept : cut ≡ get_or mask i 0) where
+    pub cut_spans : IsRotatedWord z ring i p (bit_and read cut)
+    cut_spans j short below =
+        let whole : bit_at cut j ≡ 1 = word_bit i j cut mask kept short ∙ is.set (64 * i + j) below in
+        omega (arith, bit_at_and read cut j, whole, spans j short below, place-lt ring ((64 * i + j + p) % z))
 
--- So has it where a mask meets it, and none past place z.
-module _ (z i p read cut : ℕ) (ring mask : List ℕ) (is : IsMask z mask) (kept : cut ≡ get_or mask i 0) where
-  pub cut_spans : IsRotatedWord z ring i p read → IsRotatedWord z ring i p (bit_and read cut)
-  cut_spans rotated j short below =
-      let whole : bit_at cut j ≡ 1 = word_bit i j cut mask kept short ∙ is.set (64 * i + j) below in
-      omega (arith, bit_at_and read cut j, whole, rotated j short below, place-lt ring ((64 * i + j + p) % z))
+    pub cut_clear : cut < 2 ^ 64 → (j : ℕ) → z ≤ 64 * i + j → bit_at (bit_and read cut) j ≡ 0
+    cut_clear fits j past = elim (cases_lt j 64) [
+      | inl short ↦ omega (arith, bit_at_and read cut j, word_bit i j cut mask kept short, is.clear (64 * i + j) past)
+      | inr out ↦ omega (arith, bit_at_and read cut j, bit_at_above cut 64 j fits out)
+    ]
 
-  pub cut_clear : cut < 2 ^ 64 → (j : ℕ) → z ≤ 64 * i + j → bit_at (bit_and read cut) j ≡ 0
-  cut_clear fits j past = elim (cases_lt j 64) [
-    | inl short ↦
-        let none : bit_at cut j ≡ 0 = word_bit i j cut mask kept short ∙ is.clear (64 * i + j) past in
-        omega (arith, bit_at_and read cut j, none)
-    | inr out ↦ omega (arith, bit_at_and read cut j, bit_at_above cut 64 j fits out)
-  ]
+  -- A word of a lane loses the bits of the rotated block. Past place z the lane has none, whatever the block's word has there.
+  module _ (now : ℕ) (ws : List ℕ) (kept : now ≡ get_or ws i 0) (j : ℕ) (short : j < 64) where
+    pub less_low : read < 2 ^ 64 → 64 * i + j < z → bit_at (bit_and now (bit_not w64 read)) j ≡ min (place ws (64 * i + j)) (1 - place ring ((64 * i + j + p) % z))
+    less_low fits below = omega (arith, bit_at_and now (bit_not w64 read) j, bit_at_not w64 read j fits short, word_bit i j now ws kept short, spans j short below)
 
--- A word of a lane loses the bits of a rotated block. Past place z the lane has none, whatever the block's word has there.
-module _ (z i p now read : ℕ) (ws ring : List ℕ) (kept : now ≡ get_or ws i 0) (is : IsRotatedWord z ring i p read) (j : ℕ) (short : j < 64) where
-  pub less_low : read < 2 ^ 64 → 64 * i + j < z → bit_at (bit_and now (bit_not w64 read)) j ≡ min (place ws (64 * i + j)) (1 - place ring ((64 * i + j + p) % z))
-  less_low fits below =
-      bit_at_and now (bit_not w64 read) j
-      ∙ ap (min (bit_at now j)) (bit_at_not w64 read j fits short)
-      ∙ ap (λ n. min n (1 - bit_at read j)) (word_bit i j now ws kept short)
-      ∙ ap (λ n. min (place ws (64 * i + j)) (1 - n)) (is j short below)
+    pub less_high : IsClear ws z → z ≤ 64 * i + j → bit_at (bit_and now (bit_not w64 read)) j ≡ 0
+    less_high clear past = omega (arith, bit_at_and now (bit_not w64 read) j, word_bit i j now ws kept short, clear (64 * i + j) past)
 
-  pub less_high : IsClear ws z → z ≤ 64 * i + j → bit_at (bit_and now (bit_not w64 read)) j ≡ 0
-  less_high clear past = omega (arith, bit_at_and now (bit_not w64 read) j, word_bit i j now ws kept short, clear (64 * i + j) past)
+-- A lane whose first word is known, and which ends in it.
+module _ (z word : ℕ) (lane : List ℕ) (first : (t : ℕ) → t < 64 → place lane t ≡ bit_at word t) where
+  pub first_low : (G : ℕ → ℕ) → z ≤ 64 → ((j : ℕ) → j < 64 → 64 * 0 + j < z → bit_at word j ≡ G (64 * 0 + j)) → (t : ℕ) → t < z → place lane t ≡ G t
+  first_low G few low t below = first t (omega (arith, few, below)) ∙ low t (omega (arith, few, below)) (omega (arith, below)) ∙ ap G (omega arith)
 
--- The first word of a lane is written, and the lane ends in it.
-module _ (z : ℕ) (G : ℕ → ℕ) (old : List ℕ) (word : ℕ) (within : 0 < length old) where
-  pub first_low : z ≤ 64 → ((j : ℕ) → j < 64 → 64 * 0 + j < z → bit_at word j ≡ G (64 * 0 + j)) → (t : ℕ) → t < z → place (set old 0 word) t ≡ G t
-  first_low few low t below =
-      let short : t < 64 = omega (arith, few, below) in
-      place-set_same old 0 word t t within (omega arith) short ∙ low t short (omega (arith, below)) ∙ ap G (omega arith)
-
-  pub first_high : IsClear old z → ((j : ℕ) → j < 64 → z ≤ 64 * 0 + j → bit_at word j ≡ 0) → IsClear (set old 0 word) z
-  first_high clear high t past = elim (cases_lt t 64) [
-    | inl short ↦ place-set_same old 0 word t t within (omega arith) short ∙ high t short (omega (arith, past))
-    | inr out ↦ place-set_other old 0 word t (λ e. omega (arith, e, out)) ∙ clear t past
+  pub first_high : ((t : ℕ) → 64 ≤ t → place lane t ≡ 0) → ((j : ℕ) → j < 64 → z ≤ 64 * 0 + j → bit_at word j ≡ 0) → IsClear lane z
+  first_high rest high t past = elim (cases_lt t 64) [
+    | inl short ↦ first t short ∙ high t short (omega (arith, past))
+    | inr out ↦ rest t out
   ]

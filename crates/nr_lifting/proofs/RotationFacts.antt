@@ -13,23 +13,21 @@ mod_small n z h = mod-eq_of_lt h
 pub mod_once : (n z : ℕ) → z ≤ n → n < z + z → n % z ≡ n - z
 mod_once n z h k = mod-eq-sub-mod h ∙ mod_small (n - z) z (omega (arith, h, k))
 
+-- the places of a block and those moved up by its size make up its ring
+pub twice : (ws : List ℕ) (z t first wrapped : ℕ) → t < 2 * z → IsClear ws z
+    → first ≡ place ws t → (t < z → wrapped ≡ 0) → (z ≤ t → wrapped ≡ place ws (t - z)) → max first wrapped ≡ place ws (t % z)
+twice ws z t first wrapped below clear straight low high = elim (cases_lt t z) [
+  | inl h ↦ rw (mod_small t z h) (omega (arith, straight, low h))
+  | inr h ↦ rw (mod_once t z h (omega (arith, below))) (omega (arith, straight, clear t h, high h))
+]
+
 -- The word from the place on and the word of the wrapped places make up the rotated word. Where one has a bit, the
 -- other has a zero.
 pub rotated : (ws : List ℕ) (z t p first wrapped : ℕ) → t < z → p < z → IsClear ws z
     → first ≡ place ws (t + p) → (t < z - p → wrapped ≡ 0) → (z - p ≤ t → wrapped ≡ place ws (t - (z - p)))
     → max first wrapped ≡ place ws ((t + p) % z)
-rotated ws z t p first wrapped below rotation clear straight low high = elim (cases_lt (t + p) z) [
-  | inl h ↦
-      let e : (t + p) % z ≡ t + p = mod_small (t + p) z h in
-      let none : wrapped ≡ 0 = low (omega (arith, h)) in
-      let all : max first wrapped ≡ first = omega (arith, none) in
-      all ∙ straight ∙ sym (ap (place ws) e)
-  | inr h ↦
-      let e : (t + p) % z ≡ t - (z - p) = mod_once (t + p) z h (omega (arith, below, rotation)) ∙ omega (arith, h, rotation) in
-      let none : first ≡ 0 = straight ∙ clear (t + p) h in
-      let all : max first wrapped ≡ wrapped = omega (arith, none) in
-      all ∙ high (omega (arith, h)) ∙ sym (ap (place ws) e)
-]
+rotated ws z t p first wrapped below rotation clear straight low high =
+    twice ws z (t + p) first wrapped (omega (arith, below, rotation)) clear straight (λ h. low (omega (arith, h))) (λ h. high (omega (arith, h)) ∙ ap (place ws) (omega (arith, h, rotation)))
 
 -- in a ring a rotated block stands in one piece
 pub ring-rotated : (ring : List ℕ) (z t p : ℕ) → t < z → p < z → IsRing z ring → place ring (t + p) ≡ place ring ((t + p) % z)
@@ -38,20 +36,6 @@ ring-rotated ring z t p below rotation twice = elim (cases_lt (t + p) z) [
   | inr h ↦
       let split : z + (t + p - z) ≡ t + p = omega (arith, h) in
       sym (ap (place ring) split) ∙ twice (t + p - z) (omega (arith, h, below, rotation)) ∙ sym (ap (place ring) (mod_once (t + p) z h (omega (arith, below, rotation))))
-]
-
--- the places of a block and those moved up by its size make up its ring
-pub twice : (ws : List ℕ) (z t first wrapped : ℕ) → t < 2 * z → IsClear ws z
-    → first ≡ place ws t → (t < z → wrapped ≡ 0) → (z ≤ t → wrapped ≡ place ws (t - z)) → max first wrapped ≡ place ws (t % z)
-twice ws z t first wrapped below clear straight low high = elim (cases_lt t z) [
-  | inl h ↦
-      let none : wrapped ≡ 0 = low h in
-      let all : max first wrapped ≡ first = omega (arith, none) in
-      all ∙ straight ∙ sym (ap (place ws) (mod_small t z h))
-  | inr h ↦
-      let none : first ≡ 0 = straight ∙ clear t h in
-      let all : max first wrapped ≡ wrapped = omega (arith, none) in
-      all ∙ high h ∙ sym (ap (place ws) (mod_once t z h (omega (arith, below))))
 ]
 
 -- a ring that gains a block twice over is one

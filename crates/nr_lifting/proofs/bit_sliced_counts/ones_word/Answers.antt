@@ -1,8 +1,8 @@
-use Rattle.std.proofs.Common.{◌-◌, ◌==◌, if◌then◌else◌, ap, ◌∙◌, arith}
+use Rattle.std.proofs.Common.{◌==◌, if◌then◌else◌, ap, ◌∙◌, arith}
 use Rattle.std.proofs.lemmas.Nat.Bits.{bit_at-lt, bit_at-zero, bit_at_or}
 use Rattle.std.specs.Int.{bit_at}
 use Rattle.nr_lifting.specs.Planes.{digits_below}
-use Rattle.nr_lifting.proofs.PlaneCountFacts.{has_more-first, has_more-next, lowered_digit, ones_are, word_digit}
+use Rattle.nr_lifting.proofs.PlaneCountFacts.{has_more-first, has_more-next, lowered_digit, ones_are, digit_in}
 use Rattle.nr_lifting.proofs.bit_sliced_counts.ones_word.Goals as goal
 
 pub loop-b-init : goal.loop-b-init
@@ -16,5 +16,5 @@ loop-b-preserved g c = λ j.
 pub returns : goal.returns
 returns g c = λ j short.
     lowered_digit c.loop-b.more _ j (omega arith) short
-    ∙ ones_are c.loop-b.b (word_digit c.args.planes.now j) (bit_at c.loop-b.more j) (c.loop-b.invariant j) (bit_at-lt _ j) (bit_at-lt c.loop-b.more j)
-    ∙ ap (λ n. if digits_below n (word_digit c.args.planes.now j) == 1 then 1 else 0) (omega arith)
+    ∙ ones_are c.loop-b.b (digit_in bit_at 0 c.args.planes.now j) (bit_at c.loop-b.more j) (c.loop-b.invariant j) (bit_at-lt _ j) (bit_at-lt c.loop-b.more j)
+    ∙ ap (λ n. if digits_below n (digit_in bit_at 0 c.args.planes.now j) == 1 then 1 else 0) (omega arith)

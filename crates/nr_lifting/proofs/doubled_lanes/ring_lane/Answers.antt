@@ -1,41 +1,28 @@
-use Rattle.std.proofs.Common.{◌<◌, ◌+◌, ◌*◌, ◌%◌, refl, ap, ◌∙◌, inl, inr, arith}
-use Rattle.std.proofs.lemmas.Bool.{cases_lt}
+use Rattle.std.proofs.Common.{◌/◌, ◌+◌, ◌%◌, refl, arith}
 use Rattle.nr_bitvec.specs.Packed.{place}
-use Rattle.nr_bitvec.proofs.BitFacts.{place_past}
-use Rattle.nr_lifting.proofs.LaneWordFacts.{written_more}
-use Rattle.nr_lifting.proofs.RingSpanFacts.{cut_spans, cut_clear, first_reads, spans}
+use Rattle.nr_lifting.proofs.LaneWordFacts.{written_clear, written_more}
+use Rattle.nr_lifting.proofs.RingSpanFacts.{cut_clear, cut_spans, first_low, first_high}
 use Rattle.nr_lifting.proofs.doubled_lanes.ring_lane.Goals as goal
 
 -- one word
 pub returns-then-size-le64-clause-rotated : goal.returns-then-size-le64-clause-rotated
-returns-then-size-le64-clause-rotated c = λ t below.
-    let short : t < 64 = omega (arith, below, c.if-size-le64.true) in
-    let read = spans c.args.size 0 c.args.p c.span.result c.args.ring.now (first_reads c.args.p c.span.result c.args.ring.now c.span.ensures) c.requires.rotation c.requires.ring in
-    c.one_word.ensures.first t short
-    ∙ cut_spans c.args.size 0 c.args.p c.span.result _ c.args.ring.now c.args.mask.now c.requires.mask refl read t short (omega (arith, below))
-    ∙ ap (λ n. place c.args.ring.now ((n + c.args.p) % c.args.size)) (omega arith)
+returns-then-size-le64-clause-rotated c =
+    first_low c.args.size _ _ c.one_word.ensures.first (λ t. place c.args.ring.now ((t + c.args.p) % c.args.size)) c.if-size-le64.true
+    (cut_spans c.args.size 0 c.args.p (c.args.p / 64) c.span.result c.args.ring.now (omega arith) c.span.ensures c.requires.rotation c.requires.ring _ c.args.mask.now c.requires.mask refl)
 
 pub returns-then-size-le64-clause-clear : goal.returns-then-size-le64-clause-clear
-returns-then-size-le64-clause-clear c = λ t past. elim (cases_lt t 64) [
-  | inl short ↦
-      c.one_word.ensures.first t short
-      ∙ cut_clear c.args.size 0 c.args.p c.span.result _ c.args.ring.now c.args.mask.now c.requires.mask refl (omega arith) t (omega (arith, past))
-  | inr out ↦ c.one_word.ensures.rest t out
-]
+returns-then-size-le64-clause-clear c =
+    first_high c.args.size _ _ c.one_word.ensures.first c.one_word.ensures.rest
+    (λ j _ past. cut_clear c.args.size 0 c.args.p (c.args.p / 64) c.span.result c.args.ring.now (omega arith) c.span.ensures c.requires.rotation c.requires.ring _ c.args.mask.now c.requires.mask refl (omega arith) j past)
 
 -- the next word is read
 pub loop-i-preserved : goal.loop-i-preserved
 loop-i-preserved c =
-    let read = spans c.args.size c.loop-i.i c.args.p c.span-in-loop-i.result c.args.ring.now c.span-in-loop-i.ensures c.requires.rotation c.requires.ring in
-    written_more _ _ _ _ _ _ _ c.loop-i.invariant (omega arith) refl
-    (cut_spans c.args.size c.loop-i.i c.args.p c.span-in-loop-i.result _ c.args.ring.now c.args.mask.now c.requires.mask refl read)
-    (λ j _ past. cut_clear c.args.size c.loop-i.i c.args.p c.span-in-loop-i.result _ c.args.ring.now c.args.mask.now c.requires.mask refl (omega arith) j past)
+    written_more _ _ _ _ _ _ _ c.loop-i.invariant (omega arith) refl (cut_spans c.args.size c.loop-i.i c.args.p _ c.span-in-loop-i.result c.args.ring.now refl c.span-in-loop-i.ensures c.requires.rotation c.requires.ring _ c.args.mask.now c.requires.mask refl)
+    (λ j _ past. cut_clear c.args.size c.loop-i.i c.args.p _ c.span-in-loop-i.result c.args.ring.now refl c.span-in-loop-i.ensures c.requires.rotation c.requires.ring _ c.args.mask.now c.requires.mask refl (omega arith) j past)
 
 pub returns-clause-rotated : goal.returns-clause-rotated
 returns-clause-rotated c = λ t below. c.loop-i.invariant.done t (omega (arith, below)) below
 
 pub returns-clause-clear : goal.returns-clause-clear
-returns-clause-clear c = λ t past. elim (cases_lt t (64 * c.loop-i.i)) [
-  | inl inside ↦ c.loop-i.invariant.clear t inside past
-  | inr out ↦ place_past c.loop-i.lane t (omega (arith, c.loop-i.invariant.long, out))
-]
+returns-clause-clear c = written_clear _ _ _ c.loop-i.lane _ c.loop-i.invariant (omega (arith, c.loop-i.invariant.long))

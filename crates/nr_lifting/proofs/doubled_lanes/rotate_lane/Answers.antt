@@ -1,24 +1,18 @@
-use Rattle.std.proofs.Common.{◌<◌, ◌+◌, ◌%◌, replicate, ap, ◌∙◌, inl, inr, arith}
-use Rattle.std.proofs.lemmas.Bool.{cases_lt}
+use Rattle.std.proofs.Common.{◌+◌, ◌%◌, replicate, ◌∙◌, arith}
 use Rattle.nr_bitvec.specs.Packed.{place}
 use Rattle.nr_lifting.proofs.DoubledLaneFacts.{zero_ring, zero_clear}
 use Rattle.nr_lifting.proofs.RingJoinFacts.{ring_of_zeros}
+use Rattle.nr_lifting.proofs.RingSpanFacts.{first_low, first_high}
 use Rattle.nr_lifting.proofs.RotationFacts.{ring-gains}
 use Rattle.nr_lifting.proofs.doubled_lanes.rotate_lane.Goals as goal
 
 -- one word
 pub returns-then-size-le64-clause-rotated : goal.returns-then-size-le64-clause-rotated
-returns-then-size-le64-clause-rotated c = λ t below.
-    let short : t < 64 = omega (arith, below, c.if-size-le64.true) in
-    c.one_word.ensures.first t short
-    ∙ c.rotated_word.ensures.rotated t short (omega (arith, below))
-    ∙ ap (λ n. place c.args.words.now ((n + c.args.p) % c.args.size)) (omega arith)
+returns-then-size-le64-clause-rotated c =
+    first_low c.args.size _ _ c.one_word.ensures.first (λ t. place c.args.words.now ((t + c.args.p) % c.args.size)) c.if-size-le64.true c.rotated_word.ensures.rotated
 
 pub returns-then-size-le64-clause-clear : goal.returns-then-size-le64-clause-clear
-returns-then-size-le64-clause-clear c = λ t past. elim (cases_lt t 64) [
-  | inl short ↦ c.one_word.ensures.first t short ∙ c.rotated_word.ensures.clear t (omega (arith, past))
-  | inr out ↦ c.one_word.ensures.rest t out
-]
+returns-then-size-le64-clause-clear c = first_high c.args.size _ _ c.one_word.ensures.first c.one_word.ensures.rest (λ j _ past. c.rotated_word.ensures.clear j past)
 
 -- several, which a ring is made of
 pub join_twice-requires-clause-ring_clear : goal.join_twice-requires-clause-ring_clear

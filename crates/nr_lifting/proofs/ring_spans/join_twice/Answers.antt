@@ -1,19 +1,17 @@
 use Rattle.std.proofs.Common.{◌+◌, ◌*◌, refl, ap, ◌∙◌, arith}
 use Rattle.nr_lifting.proofs.LaneBitFacts.{made_next, word_bit}
 use Rattle.nr_lifting.proofs.LaneWordFacts.{ring_low}
-use Rattle.nr_lifting.proofs.RingJoinFacts.{carries_more, carries_six, gains_twice, joined_all, joined_word, moved, moved_all, moved_last, moved_next, moved_word, once_all, twice_clear}
+use Rattle.nr_lifting.proofs.RingJoinFacts.{carries_more, carries_six, gains_twice, joined_all, joined_word, moved, moved_all, moved_last, moved_next, moved_word, twice_clear}
 use Rattle.nr_lifting.proofs.ring_spans.join_twice.Goals as goal
 
 -- one word
-pub returns-then-size-le32-clause-joined : goal.returns-then-size-le32-clause-joined
-returns-then-size-le32-clause-joined c =
-    gains_twice c.args.size _ c.args.ring.now c.args.words.now c.requires.clear
-    (joined_word c.args.size c.args.ring.now c.args.words.now c.if-size-le32.true (omega arith) c.requires.clear)
-
-pub returns-then-size-le32-clause-ring_clear : goal.returns-then-size-le32-clause-ring_clear
-returns-then-size-le32-clause-ring_clear c =
-    twice_clear c.args.size _ c.args.ring.now c.args.words.now c.requires.clear
-    (joined_word c.args.size c.args.ring.now c.args.words.now c.if-size-le32.true (omega arith) c.requires.clear) c.requires.ring_clear
+pub returns-then-size-le32 : goal.returns-then-size-le32
+returns-then-size-le32 c =
+    let is = joined_word c.args.size c.args.ring.now c.args.words.now c.if-size-le32.true (omega arith) c.requires.clear in
+    record {
+      joined = gains_twice c.args.size _ c.args.ring.now c.args.words.now c.requires.clear is;
+      ring_clear = twice_clear c.args.size _ c.args.ring.now c.args.words.now c.requires.clear is c.requires.ring_clear;
+    }
 
 -- the next word is moved up
 pub loop-i-preserved : goal.loop-i-preserved
@@ -36,27 +34,22 @@ loop-m-preserved c =
     word_bit c.loop-m.m j _ c.loop-i.up refl short ∙ c.loop-i.invariant.made.done (64 * c.loop-m.m + j) (omega (arith, short)) ∙ ap (moved c.args.size c.args.words.now) (omega arith))
 
 -- what is left over is joined
-pub returns-then-word-lt6-clause-joined : goal.returns-then-word-lt6-clause-joined
-returns-then-word-lt6-clause-joined c =
-    let again = moved_last c.args.size c.loop-m.m _ c.loop-m.ring c.loop-k.ring c.args.words.now c.loop-m.invariant (omega arith) c.loop-i.past (carries_six c.args.size c.loop-i.i c.args.words.now c.loop-i.past c.loop-i.invariant.carry (omega arith)) (omega arith) (omega arith) refl in
-    gains_twice c.args.size _ c.args.ring.now c.args.words.now c.requires.clear
-    (joined_all c.args.size _ c.loop-k.ring c.args.ring.now c.args.words.now again (once_all c.loop-k.k c.loop-k.ring c.args.ring.now c.args.words.now c.loop-k.invariant (omega arith)))
-
-pub returns-then-word-lt6-clause-ring_clear : goal.returns-then-word-lt6-clause-ring_clear
-returns-then-word-lt6-clause-ring_clear c =
-    let again = moved_last c.args.size c.loop-m.m _ c.loop-m.ring c.loop-k.ring c.args.words.now c.loop-m.invariant (omega arith) c.loop-i.past (carries_six c.args.size c.loop-i.i c.args.words.now c.loop-i.past c.loop-i.invariant.carry (omega arith)) (omega arith) (omega arith) refl in
-    twice_clear c.args.size _ c.args.ring.now c.args.words.now c.requires.clear
-    (joined_all c.args.size _ c.loop-k.ring c.args.ring.now c.args.words.now again (once_all c.loop-k.k c.loop-k.ring c.args.ring.now c.args.words.now c.loop-k.invariant (omega arith))) c.requires.ring_clear
+pub returns-then-word-lt6 : goal.returns-then-word-lt6
+returns-then-word-lt6 c =
+    let carry = carries_six c.args.size c.loop-i.i c.args.words.now c.loop-i.past c.loop-i.invariant.carry (omega arith) in
+    let is = joined_all c.args.size _ c.loop-k.ring c.args.ring.now c.args.words.now c.loop-k.k c.loop-k.invariant (omega arith)
+    (moved_last c.args.size c.loop-m.m _ c.loop-m.ring c.loop-k.ring c.args.words.now c.loop-m.invariant (omega arith) c.loop-i.past carry (omega arith) (omega arith) refl) in
+    record {
+      joined = gains_twice c.args.size _ c.args.ring.now c.args.words.now c.requires.clear is;
+      ring_clear = twice_clear c.args.size _ c.args.ring.now c.args.words.now c.requires.clear is c.requires.ring_clear;
+    }
 
 -- there is no word for it where the second copy ends with the ring
-pub returns-else-word-lt6-clause-joined : goal.returns-else-word-lt6-clause-joined
-returns-else-word-lt6-clause-joined c =
-    let again = moved_all c.args.size c.loop-m.ring c.loop-k.ring c.args.words.now (omega arith) _ c.loop-m.invariant (omega arith) in
-    gains_twice c.args.size _ c.args.ring.now c.args.words.now c.requires.clear
-    (joined_all c.args.size _ c.loop-k.ring c.args.ring.now c.args.words.now again (once_all c.loop-k.k c.loop-k.ring c.args.ring.now c.args.words.now c.loop-k.invariant (omega arith)))
-
-pub returns-else-word-lt6-clause-ring_clear : goal.returns-else-word-lt6-clause-ring_clear
-returns-else-word-lt6-clause-ring_clear c =
-    let again = moved_all c.args.size c.loop-m.ring c.loop-k.ring c.args.words.now (omega arith) _ c.loop-m.invariant (omega arith) in
-    twice_clear c.args.size _ c.args.ring.now c.args.words.now c.requires.clear
-    (joined_all c.args.size _ c.loop-k.ring c.args.ring.now c.args.words.now again (once_all c.loop-k.k c.loop-k.ring c.args.ring.now c.args.words.now c.loop-k.invariant (omega arith))) c.requires.ring_clear
+pub returns-else-word-lt6 : goal.returns-else-word-lt6
+returns-else-word-lt6 c =
+    let is = joined_all c.args.size _ c.loop-k.ring c.args.ring.now c.args.words.now c.loop-k.k c.loop-k.invariant (omega arith)
+    (moved_all c.args.size c.loop-m.ring c.loop-k.ring c.args.words.now (omega arith) _ c.loop-m.invariant (omega arith)) in
+    record {
+      joined = gains_twice c.args.size _ c.args.ring.now c.args.words.now c.requires.clear is;
+      ring_clear = twice_clear c.args.size _ c.args.ring.now c.args.words.now c.requires.clear is c.requires.ring_clear;
+    }

@@ -1,7 +1,5 @@
-use Rattle.std.proofs.Common.{◌*◌, refl, inl, inr, arith}
-use Rattle.std.proofs.lemmas.Bool.{cases_lt}
-use Rattle.nr_bitvec.proofs.BitFacts.{place_past}
-use Rattle.nr_lifting.proofs.LaneWordFacts.{written_more}
+use Rattle.std.proofs.Common.{refl, arith}
+use Rattle.nr_lifting.proofs.LaneWordFacts.{written_clear, written_more}
 use Rattle.nr_lifting.proofs.ring_spans.mask_of.Goals as goal
 
 -- the next word is made
@@ -12,8 +10,5 @@ loop-i-preserved c =
 pub returns : goal.returns
 returns c = record {
   set = λ t below. c.loop-i.invariant.done t (omega (arith, below)) below;
-  clear = λ t past. elim (cases_lt t (64 * c.loop-i.i)) [
-    | inl inside ↦ c.loop-i.invariant.clear t inside past
-    | inr out ↦ place_past c.loop-i.mask t (omega (arith, c.loop-i.invariant.long, out))
-  ];
+  clear = written_clear _ _ _ c.loop-i.mask _ c.loop-i.invariant (omega (arith, c.loop-i.invariant.long));
 }

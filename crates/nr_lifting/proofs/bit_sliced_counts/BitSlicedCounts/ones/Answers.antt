@@ -6,11 +6,11 @@ use Rattle.nr_lifting.proofs.CountViewFacts.{count_in, counts_within, marks_one}
 use Rattle.nr_lifting.proofs.bit_sliced_counts.BitSlicedCounts.ones.Goals as goal
 
 pub index-requires : goal.index-requires
-index-requires c = omega (arith, counts_within c.self.inside.size c.self.invariant.some c.self.inside.blocks.items _ c.args.i c.self.view_is c.requires)
+index-requires c = omega (arith, counts_within c.self.invariant c.self.view_is c.args.i c.requires)
 
 pub returns-clause-ones : goal.returns-clause-ones
 returns-clause-ones c =
-    let within = counts_within c.self.inside.size c.self.invariant.some c.self.inside.blocks.items _ c.args.i c.self.view_is c.requires in
+    let within = counts_within c.self.invariant c.self.view_is c.args.i c.requires in
     rw (← c.self.view_is) (λ t below.
     c.common.ensures.bits t ∙ ap (λ n. (n == 1) && is_set c.ones_of.result t) (c.self.invariant.mask.set t below)
     ∙ marks_one _ _ (c.ones_of.ensures t)

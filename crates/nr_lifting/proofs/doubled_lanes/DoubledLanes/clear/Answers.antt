@@ -3,14 +3,14 @@ use Rattle.nr_lifting.proofs.DoubledLaneFacts.{block_within, cleared_bits, rings
 use Rattle.nr_lifting.proofs.doubled_lanes.DoubledLanes.clear.Goals as goal
 
 pub index_mut-requires : goal.index_mut-requires
-index_mut-requires c = omega (arith, block_within c.self.inside.size c.self.invariant.some c.self.inside.rings.items _ c.args.j c.self.view_is c.requires)
+index_mut-requires c = omega (arith, block_within c.self.invariant c.self.view_is c.args.j c.requires)
 
 pub invariant_of-self : goal.invariant_of-self
 invariant_of-self c =
     rings_set c.self.inside.size c.self.invariant.some c.self.inside.mask c.self.inside.rings.items c.args.j (replicate 12 0) c.self.invariant
-    (block_within c.self.inside.size c.self.invariant.some c.self.inside.rings.items _ c.args.j c.self.view_is c.requires) (zero_ring _ 12) (zero_clear _ 12)
+    (block_within c.self.invariant c.self.view_is c.args.j c.requires) (zero_ring _ 12) (zero_clear _ 12)
 
 pub returns-clause-cleared : goal.returns-clause-cleared
 returns-clause-cleared c =
     rw (← c.self.view_is) (cleared_bits c.self.inside.size c.self.invariant.some c.self.inside.rings.items c.args.j 12
-    (block_within c.self.inside.size c.self.invariant.some c.self.inside.rings.items _ c.args.j c.self.view_is c.requires))
+    (block_within c.self.invariant c.self.view_is c.args.j c.requires))

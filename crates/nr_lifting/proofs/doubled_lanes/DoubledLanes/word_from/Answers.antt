@@ -9,7 +9,7 @@ use Rattle.nr_lifting.proofs.DoubledLaneFacts.{bit_in, bit_within, long_is}
 use Rattle.nr_lifting.proofs.doubled_lanes.DoubledLanes.word_from.Goals as goal
 
 pub index-requires : goal.index-requires
-index-requires c = omega (arith, bit_within c.self.inside.size c.self.invariant.some c.self.inside.rings.items _ c.args.p c.self.view_is c.requires)
+index-requires c = omega (arith, bit_within c.self.invariant c.self.view_is c.args.p c.requires)
 
 pub returns-clause-bits : goal.returns-clause-bits
 returns-clause-bits c = λ j below.
@@ -17,7 +17,7 @@ returns-clause-bits c = λ j below.
     let rings = c.self.inside.rings.items in
     let p = c.args.p in
     let t = p % z in
-    let within = bit_within z c.self.invariant.some rings _ p c.self.view_is c.requires in
+    let within = bit_within c.self.invariant c.self.view_is p c.requires in
     let small : t < z = mod_below p z c.self.invariant.some in
     let inside : t + j < z = omega (arith, below, small, c.min.ensures) in
     let few : j < 64 = omega (arith, below, c.min.ensures) in
@@ -33,7 +33,7 @@ returns-clause-inside c =
     let z = c.self.inside.size in
     let rings = c.self.inside.rings.items in
     let p = c.args.p in
-    let within = bit_within z c.self.invariant.some rings _ p c.self.view_is c.requires in
+    let within = bit_within c.self.invariant c.self.view_is p c.requires in
     let small : p % z < z = mod_below p z c.self.invariant.some in
     let blocks : (p / z + 1) * z ≤ length rings * z = mul-le-mul_right z (omega (arith, within)) in
     let split : p / z * z + p % z ≡ p = omega arith in
