@@ -1,60 +1,21 @@
 -- Words that are read across the border of two words, and words that are written into a list one by one.
-use Rattle.std.proofs.Common.{◌≡◌, ℕ, ◌+◌, ◌-◌, ◌*◌, ◌/◌, ◌%◌, ◌^◌, ◌<◌, ◌≤◌, max, List, length, get_or, set, ap, ◌∙◌, inl, inr, arith, length-set}
-use Rattle.std.proofs.lemmas.Bool.{cases_lt, cases_eq}
-use Rattle.std.proofs.lemmas.Nat.Bits.{bit_at_above, bit_at_or}
+use Rattle.std.proofs.Common.{◌≡◌, ℕ, ◌+◌, ◌-◌, ◌*◌, ◌/◌, ◌%◌, ◌^◌, ◌<◌, ◌≤◌, List, length, get_or, set, ap, ◌∙◌, inl, inr, arith, length-set}
+use Rattle.std.proofs.lemmas.Bool.{cases_eq}
 use Rattle.std.specs.Int.{bit_at}
 use Rattle.std.specs.Int.RustNames.{bit_or}
 use Rattle.nr_bitvec.specs.Packed.{place}
-use Rattle.nr_bitvec.proofs.BitFacts.{bit_at_shr, bit_at_shl_low, bit_at_shl_high, bit_at_mod, place_of}
 use Rattle.nr_bitvec.proofs.PlaceFacts.{place-set_same, place-set_other}
+use Rattle.nr_lifting.proofs.RingSpanFacts.{span_bit}
 
 -- `n << 1 << (63 - r)`: a shift by 64 - r, where r is 0 too
 abbrev pub up_by : ℕ → ℕ → ℕ
 up_by n r = n * 2 ^ 1 % 2 ^ 64 * 2 ^ (63 - r) % 2 ^ 64
 
-pub up_low : (n r j : ℕ) → j + r < 64 → bit_at (up_by n r) j ≡ 0
-up_low n r j low = bit_at_mod (n * 2 ^ 1 % 2 ^ 64 * 2 ^ (63 - r)) 64 j (omega (arith, low)) ∙ elim (cases_lt j (63 - r)) [
-  | inl below ↦ bit_at_shl_low (n * 2 ^ 1 % 2 ^ 64) (63 - r) j below
-  | inr past ↦
-      bit_at_shl_high (n * 2 ^ 1 % 2 ^ 64) (63 - r) j past
-      ∙ bit_at_mod (n * 2 ^ 1) 64 (j - (63 - r)) (omega (arith, low))
-      ∙ bit_at_shl_low n 1 (j - (63 - r)) (omega (arith, low, past))
-]
-
-pub up_high : (n r j : ℕ) → r < 64 → j < 64 → 64 ≤ j + r → bit_at (up_by n r) j ≡ bit_at n (j + r - 64)
-up_high n r j h short high =
-    let there : j - (63 - r) - 1 ≡ j + r - 64 = omega (arith, h, high) in
-    bit_at_mod (n * 2 ^ 1 % 2 ^ 64 * 2 ^ (63 - r)) 64 j short
-    ∙ bit_at_shl_high (n * 2 ^ 1 % 2 ^ 64) (63 - r) j (omega (arith, high, short))
-    ∙ bit_at_mod (n * 2 ^ 1) 64 (j - (63 - r)) (omega (arith, short))
-    ∙ bit_at_shl_high n 1 (j - (63 - r)) (omega (arith, h, high))
-    ∙ ap (bit_at n) there
-
--- two words, of which the second is moved up by what the first one lacks
-pub window_two : (ws : List ℕ) (w r j : ℕ) → get_or ws w 0 < 2 ^ 64 → r < 64 → j < 64
-    → bit_at (bit_or (get_or ws w 0 / 2 ^ r) (up_by (get_or ws (w + 1) 0) r)) j ≡ place ws (64 * w + r + j)
-window_two ws w r j fits h short =
-    let low = get_or ws w 0 / 2 ^ r in
-    let up = up_by (get_or ws (w + 1) 0) r in
-    let split : bit_at (bit_or low up) j ≡ max (bit_at low j) (bit_at up j) = bit_at_or low up j in
-    let first : bit_at low j ≡ bit_at (get_or ws w 0) (r + j) = bit_at_shr (get_or ws w 0) r j in
-    elim (cases_lt (r + j) 64) [
-      | inl here ↦
-          let there : place ws (64 * w + r + j) ≡ bit_at (get_or ws w 0) (r + j) = place_of ws (64 * w + r + j) w (r + j) (omega arith) here in
-          let none : bit_at up j ≡ 0 = up_low (get_or ws (w + 1) 0) r j (omega (arith, here)) in
-          omega (arith, split, first, there, none)
-      | inr past ↦
-          let there : place ws (64 * w + r + j) ≡ bit_at (get_or ws (w + 1) 0) (j + r - 64) = place_of ws (64 * w + r + j) (w + 1) (j + r - 64) (omega (arith, past)) (omega (arith, h, short)) in
-          let none : bit_at (get_or ws w 0) (r + j) ≡ 0 = bit_at_above (get_or ws w 0) 64 (r + j) fits past in
-          let some : bit_at up j ≡ bit_at (get_or ws (w + 1) 0) (j + r - 64) = up_high (get_or ws (w + 1) 0) r j h short (omega (arith, past)) in
-          omega (arith, split, first, there, none, some)
-    ]
-
 -- a window of two words that were read, bit by bit
 pub window_read : (ws : List ℕ) (w r a b j : ℕ) → a ≡ get_or ws w 0 → b ≡ get_or ws (w + 1) 0 → get_or ws w 0 < 2 ^ 64 → r < 64 → j < 64
     → bit_at (bit_or (a / 2 ^ r) (up_by b r)) j ≡ place ws (64 * w + r + j)
 window_read ws w r a b j is_low is_up fits h short =
-    (λ i. bit_at (bit_or (is_low i / 2 ^ r) (up_by (is_up i) r)) j) ∙ window_two ws w r j fits h short
+    (λ i. bit_at (bit_or (is_low i / 2 ^ r) (up_by (is_up i) r)) j) ∙ span_bit ws w r j fits h short
 
 -- the k words from word `at` on have the places that G gives them, and no other place is another
 pub record IsPut (at k : ℕ) (G : ℕ → ℕ) (new old : List ℕ) : Type 0 where

@@ -1,9 +1,8 @@
 -- The rows of an accepted base graph: what the four core rows add up to, and where each other row ends.
-use Rattle.std.proofs.Common.{◌≡◌, ℕ, suc, ◌+◌, ◌*◌, ◌%◌, ◌<◌, ◌≤◌, ◌==◌, nat_lt, nat_le, Bool, true, false, inl, inr, ⊎_elim, List, [], ◌∷◌, ◌++◌, map, refl, sym, ap, subst, ◌∙◌, arith}
+use Rattle.std.proofs.Common.{◌≡◌, ℕ, zero, suc, ◌+◌, ◌-◌, ◌*◌, ◌%◌, ◌<◌, ◌≤◌, ◌==◌, nat_le, Bool, true, false, inl, inr, List, [], ◌∷◌, ◌++◌, map, refl, sym, ap, ◌∙◌, arith}
 use Rattle.std.specs.Prelude.{Some, None, option_map, slice_index}
 use Rattle.std.specs.List.{filter, find}
-use Rattle.std.proofs.lemmas.Bool.{cases_eq}
-use Rattle.std.proofs.lemmas.Bool.Decides.{nat_tests}
+use Rattle.std.proofs.lemmas.Bool.{cases_eq, cases_lt, eq-eqb, ne_eqb, lt-ltb, le-ltb, lt-leb, le-leb}
 use Rattle.nr_bitvec.specs.Bit.{◌⊕◌}
 use Rattle.nr_shifttable.specs.declared.entry.Entry.{Entry}
 use Rattle.nr_shifttable.specs.Accepted.{row_of}
@@ -17,49 +16,27 @@ use Rattle.nr_ldpcenc.proofs.RowSumFacts.{row-splits, tail_sum}
 abbrev cell : ℕ → Entry → ℕ × ℕ
 cell set e = (e.col, value_in set e)
 
-test_same : (n : ℕ) → (n == n) ≡ true
-test_same n = grind (arith, nat_tests)
-
-test_above : (n k : ℕ) → 0 < k → (n + k == n) ≡ false
-test_above n k pos = grind (arith, nat_tests)
-
-le_there : (n m : ℕ) → n ≤ m → nat_le n m ≡ true
-le_there n m le = grind (arith, nat_tests)
-
-le_not : (n m : ℕ) → m < n → nat_le n m ≡ false
-le_not n m lt = grind (arith, nat_tests)
-
 -- a value is found among what a row has from its column on
 found : (set n : ℕ) (xs : List Entry)
     → option_map (λ values. slice_index values set) (option_map (λ e. e.values) (find (λ e. e.col == n) xs)) ≡ option_map (λ (c : ℕ × ℕ). c.1) (find (λ (c : ℕ × ℕ). c.0 == n) (map (cell set) (filter (λ e. nat_le n e.col) xs)))
 found set n [] = refl
-found set n (x ∷ xs) = by_column (x.col == n) (nat_le n x.col) refl refl (found set n xs)
-  where
-    at : (c : ℕ) → (c == n) ≡ true → nat_le n c ≡ true
-    at c h = grind (arith, nat_tests)
-
-    by_column : (b d : Bool) → (x.col == n) ≡ b → nat_le n x.col ≡ d
-        → option_map (λ values. slice_index values set) (option_map (λ e. e.values) (find (λ e. e.col == n) xs)) ≡ option_map (λ (c : ℕ × ℕ). c.1) (find (λ (c : ℕ × ℕ). c.0 == n) (map (cell set) (filter (λ e. nat_le n e.col) xs)))
-        → option_map (λ values. slice_index values set) (option_map (λ e. e.values) (find (λ e. e.col == n) (x ∷ xs))) ≡ option_map (λ (c : ℕ × ℕ). c.1) (find (λ (c : ℕ × ℕ). c.0 == n) (map (cell set) (filter (λ e. nat_le n e.col) (x ∷ xs))))
-    by_column true d h k more = rw (at x.col h, h) refl
-    by_column false true h k more = rw (k, h) more
-    by_column false false h k more = rw (k, h) more
+found set n (x ∷ xs) = elim (cases_eq x.col n) [
+  | inl e ↦ rw (le-leb n x.col (omega (arith, e)), eq-eqb x.col n e) refl
+  | inr apart ↦ elim (cases_lt x.col n) [
+    | inl below ↦ rw (lt-leb n x.col below, ne_eqb x.col n apart) (found set n xs)
+    | inr above ↦ rw (le-leb n x.col above, ne_eqb x.col n apart) (found set n xs)
+  ]
+]
 
 -- the value at a column, from what a row has from it on
 shift-found : (es : List Entry) (set n i : ℕ) (cs : List (ℕ × ℕ)) → tail_of es set n i ≡ cs → shift_at es set i n ≡ option_map (λ (c : ℕ × ℕ). c.1) (find (λ (c : ℕ × ℕ). c.0 == n) cs)
 shift-found es set n i cs e = found set n (row_of es i) ∙ ap (λ l. option_map (λ (c : ℕ × ℕ). c.1) (find (λ (c : ℕ × ℕ). c.0 == n) l)) e
 
 shift-some : (es : List Entry) (set n i v : ℕ) (cs : List (ℕ × ℕ)) → tail_of es set n i ≡ (n, v) ∷ cs → shift_at es set i n ≡ Some v
-shift-some es set n i v cs e = shift-found es set n i ((n, v) ∷ cs) e ∙ here
-  where
-    here : option_map (λ (c : ℕ × ℕ). c.1) (find (λ (c : ℕ × ℕ). c.0 == n) ((n, v) ∷ cs)) ≡ Some v
-    here = rw (test_same n) refl
+shift-some es set n i v cs e = shift-found es set n i ((n, v) ∷ cs) e ∙ rw (eq-eqb n n refl)
 
 shift-none : (es : List Entry) (set n i a b : ℕ) → tail_of es set n i ≡ (n + suc a, 0) ∷ (n + suc b, 0) ∷ [] → shift_at es set i n ≡ None
-shift-none es set n i a b e = shift-found es set n i ((n + suc a, 0) ∷ (n + suc b, 0) ∷ []) e ∙ none
-  where
-    none : option_map (λ (c : ℕ × ℕ). c.1) (find (λ (c : ℕ × ℕ). c.0 == n) ((n + suc a, 0) ∷ (n + suc b, 0) ∷ [])) ≡ None
-    none = rw (test_above n (suc a) (omega arith), test_above n (suc b) (omega arith)) refl
+shift-none es set n i a b e = shift-found es set n i ((n + suc a, 0) ∷ (n + suc b, 0) ∷ []) e ∙ rw (ne_eqb (n + suc a) n (omega arith), ne_eqb (n + suc b) n (omega arith))
 
 either-middle : (es : List Entry) (set n b : ℕ) → HasMiddle es set n b → either (shift_at es set 1 n) (shift_at es set 2 n) ≡ b
 either-middle es set n b (inl rows) = rw (shift-some es set n 1 b ((n + 1, 0) ∷ (n + 2, 0) ∷ []) rows.0) refl
@@ -136,67 +113,44 @@ core_rows-add_up es set z n w t adds =
 -- what a row has from a later column on
 later : (set n m : ℕ) (xs : List Entry) → n ≤ m → map (cell set) (filter (λ e. nat_le m e.col) xs) ≡ filter (λ (c : ℕ × ℕ). nat_le m c.0) (map (cell set) (filter (λ e. nat_le n e.col) xs))
 later set n m [] le = refl
-later set n m (x ∷ xs) le = by_column (nat_le m x.col) (nat_le n x.col) refl refl (later set n m xs le)
-  where
-    up : (c : ℕ) → nat_le m c ≡ true → nat_le n c ≡ true
-    up c h = grind (arith, nat_tests)
-
-    by_column : (b d : Bool) → nat_le m x.col ≡ b → nat_le n x.col ≡ d
-        → map (cell set) (filter (λ e. nat_le m e.col) xs) ≡ filter (λ (c : ℕ × ℕ). nat_le m c.0) (map (cell set) (filter (λ e. nat_le n e.col) xs))
-        → map (cell set) (filter (λ e. nat_le m e.col) (x ∷ xs)) ≡ filter (λ (c : ℕ × ℕ). nat_le m c.0) (map (cell set) (filter (λ e. nat_le n e.col) (x ∷ xs)))
-    by_column true d h k more = rw (up x.col h, h) (ap (λ l. cell set x ∷ l) more)
-    by_column false true h k more = rw (k, h) more
-    by_column false false h k more = rw (k, h) more
+later set n m (x ∷ xs) le = elim (cases_lt x.col m) [
+  | inl low ↦ elim (cases_lt x.col n) [
+    | inl below ↦ rw (lt-leb n x.col below, lt-leb m x.col low) (later set n m xs le)
+    | inr above ↦ rw (le-leb n x.col above, lt-leb m x.col low) (later set n m xs le)
+  ]
+  | inr high ↦ rw (le-leb n x.col (omega (arith, high, le)), le-leb m x.col high) (ap (λ l. cell set x ∷ l) (later set n m xs le))
+]
 
 tail-later : (es : List Entry) (set n m i : ℕ) (cs : List (ℕ × ℕ)) → n ≤ m → tail_of es set n i ≡ cs → tail_of es set m i ≡ filter (λ (c : ℕ × ℕ). nat_le m c.0) cs
 tail-later es set n m i cs le e = later set n m (row_of es i) le ∙ ap (filter (λ (c : ℕ × ℕ). nat_le m c.0)) e
 
+-- which row that is
+pub row_ending-low : (i : ℕ) → i < 3 → i - 1 ≡ row_ending i
+row_ending-low i lt = rw (lt-ltb i 3 lt) refl
+
+pub row_ending-high : (i : ℕ) → 3 ≤ i → i ≡ row_ending i
+row_ending-high i le = rw (le-ltb i 3 le) refl
+
 -- parity column n + i is the last one of its row, and has value 0 there
 pub row-ends : (es : List Entry) (set n rows i : ℕ) → HasShape es set n rows → 1 ≤ i → i < rows → tail_of es set (n + i) (row_ending i) ≡ (n + i, 0) ∷ []
-row-ends es set n rows i shape some lt = ⊎_elim
-    (λ e. subst (λ k. tail_of es set (n + k) (row_ending k) ≡ (n + k, 0) ∷ []) (sym e) one)
-    (λ ne. ⊎_elim
-    (λ e. subst (λ k. tail_of es set (n + k) (row_ending k) ≡ (n + k, 0) ∷ []) (sym e) (two shape.core.middle))
-    (λ nf. ⊎_elim
-    (λ e. subst (λ k. tail_of es set (n + k) (row_ending k) ≡ (n + k, 0) ∷ []) (sym e) three)
-    (λ ng. own (omega arith))
-    (cases_eq i 3))
-    (cases_eq i 2))
-    (cases_eq i 1)
+row-ends es set n rows zero shape some lt = absurd (omega (arith, some))
+row-ends es set n rows (suc zero) shape some lt =
+    tail-later es set n (n + 1) 0 ((n, shape.first) ∷ (n + 1, 0) ∷ []) (omega arith) shape.core.first
+    ∙ rw (lt-leb (n + 1) n (omega arith), le-leb (n + 1) (n + 1) (omega arith))
+row-ends es set n rows (suc (suc zero)) shape some lt = two shape.core.middle
   where
-    one : tail_of es set (n + 1) 0 ≡ (n + 1, 0) ∷ []
-    one = tail-later es set n (n + 1) 0 ((n, shape.first) ∷ (n + 1, 0) ∷ []) (omega arith) shape.core.first ∙ left
-      where
-        left : filter (λ (c : ℕ × ℕ). nat_le (n + 1) c.0) ((n, shape.first) ∷ (n + 1, 0) ∷ []) ≡ (n + 1, 0) ∷ []
-        left = rw (le_not (n + 1) n (omega arith), le_there (n + 1) (n + 1) (omega arith)) refl
-
     two : HasMiddle es set n shape.middle → tail_of es set (n + 2) 1 ≡ (n + 2, 0) ∷ []
-    two (inl rows) = tail-later es set n (n + 2) 1 ((n, shape.middle) ∷ (n + 1, 0) ∷ (n + 2, 0) ∷ []) (omega arith) rows.0 ∙ left
-      where
-        left : filter (λ (c : ℕ × ℕ). nat_le (n + 2) c.0) ((n, shape.middle) ∷ (n + 1, 0) ∷ (n + 2, 0) ∷ []) ≡ (n + 2, 0) ∷ []
-        left = rw (le_not (n + 2) n (omega arith), le_not (n + 2) (n + 1) (omega arith), le_there (n + 2) (n + 2) (omega arith)) refl
-    two (inr rows) = tail-later es set n (n + 2) 1 ((n + 1, 0) ∷ (n + 2, 0) ∷ []) (omega arith) rows.0 ∙ left
-      where
-        left : filter (λ (c : ℕ × ℕ). nat_le (n + 2) c.0) ((n + 1, 0) ∷ (n + 2, 0) ∷ []) ≡ (n + 2, 0) ∷ []
-        left = rw (le_not (n + 2) (n + 1) (omega arith), le_there (n + 2) (n + 2) (omega arith)) refl
-
-    three : tail_of es set (n + 3) 3 ≡ (n + 3, 0) ∷ []
-    three = tail-later es set n (n + 3) 3 ((n, shape.last) ∷ (n + 3, 0) ∷ []) (omega arith) shape.core.last ∙ left
-      where
-        left : filter (λ (c : ℕ × ℕ). nat_le (n + 3) c.0) ((n, shape.last) ∷ (n + 3, 0) ∷ []) ≡ (n + 3, 0) ∷ []
-        left = rw (le_not (n + 3) n (omega arith), le_there (n + 3) (n + 3) (omega arith)) refl
-
-    own : 4 ≤ i → tail_of es set (n + i) (row_ending i) ≡ (n + i, 0) ∷ []
-    own late =
-        ap (tail_of es set (n + i)) (its_row i late)
-        ∙ tail-later es set (n + 4) (n + i) i ((n + i, 0) ∷ []) (omega arith) (shape.extension i late lt)
-        ∙ left
-      where
-        its_row : (k : ℕ) → 4 ≤ k → row_ending k ≡ k
-        its_row k late = rw (not_low k late) refl
-          where
-            not_low : (k : ℕ) → 4 ≤ k → nat_lt k 3 ≡ false
-            not_low k late = grind (arith, nat_tests)
-
-        left : filter (λ (c : ℕ × ℕ). nat_le (n + i) c.0) ((n + i, 0) ∷ []) ≡ (n + i, 0) ∷ []
-        left = rw (le_there (n + i) (n + i) (omega arith)) refl
+    two (inl rows) =
+        tail-later es set n (n + 2) 1 ((n, shape.middle) ∷ (n + 1, 0) ∷ (n + 2, 0) ∷ []) (omega arith) rows.0
+        ∙ rw (lt-leb (n + 2) n (omega arith), lt-leb (n + 2) (n + 1) (omega arith), le-leb (n + 2) (n + 2) (omega arith))
+    two (inr rows) =
+        tail-later es set n (n + 2) 1 ((n + 1, 0) ∷ (n + 2, 0) ∷ []) (omega arith) rows.0
+        ∙ rw (lt-leb (n + 2) (n + 1) (omega arith), le-leb (n + 2) (n + 2) (omega arith))
+row-ends es set n rows (suc (suc (suc zero))) shape some lt =
+    tail-later es set n (n + 3) 3 ((n, shape.last) ∷ (n + 3, 0) ∷ []) (omega arith) shape.core.last
+    ∙ rw (lt-leb (n + 3) n (omega arith), le-leb (n + 3) (n + 3) (omega arith))
+row-ends es set n rows (suc (suc (suc (suc k)))) shape some lt =
+    let i = suc (suc (suc (suc k))) in
+    ap (tail_of es set (n + i)) (sym (row_ending-high i (omega arith)))
+    ∙ tail-later es set (n + 4) (n + i) i ((n + i, 0) ∷ []) (omega arith) (shape.extension i (omega arith) lt)
+    ∙ rw (le-leb (n + i) (n + i) (omega arith))

@@ -1,24 +1,19 @@
 -- Sums over columns that stand twice in a row.
-use Rattle.std.proofs.Common.{◌≡◌, ℕ, ◌+◌, ◌-◌, ◌*◌, ◌/◌, ◌%◌, ◌<◌, ◌≤◌, ◌==◌, Bool, false, List, get_or, sym, ap, ◌∙◌, inl, inr, arith}
+use Rattle.std.proofs.Common.{◌≡◌, ℕ, ◌+◌, ◌-◌, ◌*◌, ◌/◌, ◌%◌, ◌<◌, ◌≤◌, ◌==◌, Bool, false, List, sym, ap, ◌∙◌, inl, inr, arith}
 use Rattle.std.proofs.lemmas.Bool.{cases_lt}
 use Rattle.std.proofs.lemmas.Bool.Decides.{nat_tests}
-use Rattle.std.proofs.lemmas.Nat.Bits.{bit_at-lt}
 use Rattle.std.proofs.lemmas.Nat.{mod_below, div_below, div-mul-add, mod-mul-add}
 use Rattle.nr_bitvec.specs.Bit.{◌⊕◌, bit}
 use Rattle.nr_bitvec.specs.Packed.{place}
-use Rattle.nr_lifting.proofs.LaneViewFacts.{sum_bits}
+use Rattle.nr_lifting.proofs.LaneViewFacts.{place-lt, sum_bits}
 use Rattle.nr_lifting.proofs.RotationFacts.{mod_small, mod_once}
 use Rattle.nr_ldpcenc.specs.Doubled.{col_bit, IsDoubled, KeepsOthers, AreTwice}
 use Rattle.nr_ldpcenc.specs.Inside.{AgreeBelow}
 use Rattle.nr_ldpcenc.proofs.SolvedColumnFacts.{agree_more}
 
--- place t of packed words is a digit
-digit : (ws : List ℕ) (t : ℕ) → place ws t < 2
-digit ws t = bit_at-lt (get_or ws (t / 64) 0) (t % 64)
-
 -- a place that gains another one modulo two
 pub added_bit : (new old cols : List ℕ) (t at : ℕ) → place new t ≡ (place old t + place cols at) % 2 → (place new t == 1) ≡ (place old t == 1) ⊕ (place cols at == 1)
-added_bit new old cols t at e = ap (λ n. n == 1) e ∙ sum_bits (place old t) (place cols at) (digit old t) (digit cols at)
+added_bit new old cols t at e = ap (λ n. n == 1) e ∙ sum_bits (place old t) (place cols at) (place-lt old t) (place-lt cols at)
 
 -- a bit of column c
 pub col_at : (z : ℕ) (cols : List ℕ) (c u : ℕ) → u < z → col_bit z cols (c * z + u) ≡ (place cols (768 * c + u) == 1)
@@ -72,7 +67,4 @@ column_put z w j word sum old new below most some same before read put =
 
 -- a place that is not set is zero
 pub none_set : (ws : List ℕ) (t : ℕ) → (place ws t == 1) ≡ false → place ws t ≡ 0
-none_set ws t e = zero_of (place ws t) (digit ws t) e
-  where
-    zero_of : (n : ℕ) → n < 2 → (n == 1) ≡ false → n ≡ 0
-    zero_of n h e = grind (arith, nat_tests)
+none_set ws t e = grind (arith, nat_tests, place-lt ws t)

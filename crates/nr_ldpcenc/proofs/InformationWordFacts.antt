@@ -1,9 +1,10 @@
 -- The one word of a list of information bits, for a base graph of an accepted shape.
 use Rattle.std.proofs.Common.{◌≡◌, ℕ, ◌+◌, ◌-◌, ◌*◌, ◌<◌, ◌≤◌, Bool, false, List, length, take, sym, ap, subst, ◌∙◌, arith}
 use Rattle.std.proofs.Math.Nat.{mul-le-mul_right}
-use Rattle.std.proofs.lemmas.List.{same_lists, get_or-take, length-take, get_or_default}
+use Rattle.std.proofs.lemmas.List.{get_or-take, length-take}
 use Rattle.std.proofs.lemmas.List.FromFn.{get_or-map-range_with_len, length-map-range_with_len}
 use Rattle.nr_bitvec.specs.Bit.{bit}
+use Rattle.nr_bitvec.proofs.PlaceFacts.{same_from_bits}
 use Rattle.nr_shifttable.specs.declared.entry.Entry.{Entry}
 use Rattle.nr_shifttable.specs.CoreRows.{CoreSum}
 use Rattle.nr_shifttable.specs.Tails.{HasShape}
@@ -11,7 +12,7 @@ use Rattle.nr_ldpcenc.specs.Rows.{checks_of}
 use Rattle.nr_ldpcenc.specs.Codeword.{IsWordOf}
 use Rattle.nr_ldpcenc.specs.Solving.{with_columns, word_of}
 use Rattle.nr_ldpcenc.specs.Inside.{AgreeBelow, IsSolvedTo}
-use Rattle.nr_ldpcenc.proofs.SolvedColumnFacts.{agree_narrow, agree_then, agree_back, columns_built, meets_from_solved, solved_from_meets, solved_same, solved_agree}
+use Rattle.nr_ldpcenc.proofs.SolvedColumnFacts.{columns_built, meets_from_solved, solved_from_meets, solved_same, solved_agree}
 
 -- a word that begins with some bits has them
 begins-agree : (info w : List Bool) → take (length info) w ≡ info → AgreeBelow (length info) (bit w) (bit info)
@@ -19,11 +20,9 @@ begins-agree info w begins p lt = sym (get_or-take (length info) w p false lt) �
 
 -- a list begins with the bits that it has
 begins-from_agree : (info w : List Bool) → length info ≤ length w → AgreeBelow (length info) (bit w) (bit info) → take (length info) w ≡ info
-begins-from_agree info w le same = same_lists (take (length info) w) info
-    (omega (arith, length-take (length info) w))
-    (λ k d lt.
-    let low : k < length info = omega (arith, length-take (length info) w) in
-    get_or-take (length info) w k d low ∙ get_or_default w k d false (omega arith) ∙ same k low ∙ get_or_default info k false d low)
+begins-from_agree info w le same = same_from_bits (take (length info) w) info (omega (arith, length-take (length info) w)) (λ k lt.
+    let low : k < length info = omega (arith, length-take (length info) w, lt) in
+    get_or-take (length info) w k false low ∙ same k low)
 
 module _ (es : List Entry) (set n rows z : ℕ) (shape : HasShape es set n rows) (adds : CoreSum es set n) (four : 4 ≤ rows) (pos : 0 < z) where
   word_of-bits : (info : List Bool) → AgreeBelow ((n + rows) * z) (with_columns es set n z (bit info) (rows - 1)) (bit (word_of es set n rows z info))
@@ -44,10 +43,10 @@ module _ (es : List Entry) (set n rows z : ℕ) (shape : HasShape es set n rows)
       let all : (rows - 1) + 1 ≡ rows = omega arith in
       let solved : IsSolvedTo es set n z rows f = subst (λ m. IsSolvedTo es set n z m f) all built.solved in
       let low : n * z ≤ (n + rows) * z = mul-le-mul_right z (omega arith) in
-      let same : AgreeBelow (n * z) (bit info) (bit word) = agree_then (n * z) (bit info) f (bit word) built.begins (agree_narrow (n * z) ((n + rows) * z) f (bit word) low (word_of-bits info)) in
+      let same : AgreeBelow (n * z) (bit info) (bit word) = λ p lt. built.begins p lt ∙ word_of-bits info p (omega (arith, lt, low)) in
       record {
         long = word_of-length info;
-        begins = begins-from_agree info word (omega (arith, word_of-length info)) (agree_back (length info) (bit info) (bit word) (subst (λ m. AgreeBelow m (bit info) (bit word)) (sym whole) same));
+        begins = begins-from_agree info word (omega (arith, word_of-length info)) (λ p lt. sym (same p (omega (arith, lt, whole))));
         meets = meets_from_solved es set n rows z shape adds four (n + rows) (bit word) (solved_same es set n z pos rows f (bit word) (omega arith) solved (word_of-bits info));
       }
 
@@ -56,18 +55,15 @@ module _ (es : List Entry) (set n rows z : ℕ) (shape : HasShape es set n rows)
   word_of-only info word whole is =
       let other : List Bool = word_of es set n rows z info in
       let one = word_of-is info whole in
-      let same : AgreeBelow (length info) (bit word) (bit other) = agree_then (length info) (bit word) (bit info) (bit other) (begins-agree info word is.begins) (agree_back (length info) (bit other) (bit info) (begins-agree info other one.begins)) in
       let all : n + (rows - 1) + 1 ≡ n + rows = omega arith in
       let agree : AgreeBelow ((n + rows) * z) (bit word) (bit other) = subst (λ m. AgreeBelow (m * z) (bit word) (bit other)) all
       (solved_agree es set n z pos rows (bit word) (bit other)
       (solved_from_meets es set n rows z shape adds four (n + rows) (bit word) is.meets)
       (solved_from_meets es set n rows z shape adds four (n + rows) (bit other) one.meets)
-      (subst (λ m. AgreeBelow m (bit word) (bit other)) whole same) (rows - 1) (omega arith)) in
-      same_lists word other (is.long ∙ sym one.long)
-      (λ k d lt.
-      get_or_default word k d false lt
-      ∙ agree k (subst (λ m. k < m) is.long lt)
-      ∙ get_or_default other k false d (subst (λ m. k < m) (is.long ∙ sym one.long) lt))
+      (λ p lt.
+      let low : p < length info = omega (arith, lt, whole) in
+      begins-agree info word is.begins p low ∙ sym (begins-agree info other one.begins p low)) (rows - 1) (omega arith)) in
+      same_from_bits word other (is.long ∙ sym one.long) (λ k lt. agree k (subst (λ m. k < m) is.long lt))
 
   -- a word with its parity columns solved is the one of its information bits
   pub solved-is : (word : List Bool) → length word ≡ (n + rows) * z → IsSolvedTo es set n z rows (bit word) → word ≡ word_of es set n rows z (take (n * z) word)

@@ -1,5 +1,6 @@
 -- Rows that a word meets, by the words of their sums.
 use Rattle.std.proofs.Common.{◌≡◌, ℕ, suc, ◌+◌, ◌*◌, ◌^◌, ◌<◌, Bool, false, List, [], ◌∷◌, get_or, All, refl, sym, ap, subst, ◌∙◌, arith}
+use Rattle.std.proofs.lemmas.Bool.{lt-ltb}
 use Rattle.std.proofs.lemmas.Nat.Bits.{bit_at-zero, same_from_bits_below}
 use Rattle.nr_bitvec.specs.Bit.{◌⊕◌, bit}
 use Rattle.nr_bitvec.specs.Packed.{place}
@@ -13,7 +14,6 @@ use Rattle.nr_ldpcenc.specs.Parity.{parity}
 use Rattle.nr_ldpcenc.specs.Rows.{one_at, positions, row_at}
 use Rattle.nr_ldpcenc.specs.Solving.{sum_before}
 use Rattle.nr_ldpcenc.specs.Inside.{AgreeBelow}
-use Rattle.nr_ldpcenc.proofs.EntrySumFacts.{lt_test}
 use Rattle.nr_ldpcenc.proofs.RowSumFacts.{heads-agree}
 
 -- a word is zero where no place is set
@@ -25,7 +25,7 @@ zero_word ws k fits none =
 -- a sum before a column past all of a row is the whole row's
 sum-whole : (set z : ℕ) (w : ℕ → Bool) (n t : ℕ) (row : List Entry) → All (λ e. e.col < n) row → sum_before set z w n t row ≡ parity w (positions set z t row)
 sum-whole set z w n t [] all = refl
-sum-whole set z w n t (x ∷ xs) all = rw (lt_test x.col n (all 0 x (omega arith))) (ap (λ b. w (one_at z t x.col (value_in set x)) ⊕ b) (sum-whole set z w n t xs (λ k d lt. all (suc k) d (omega (arith, lt)))))
+sum-whole set z w n t (x ∷ xs) all = rw (lt-ltb x.col n (all 0 x (omega arith))) (ap (λ b. w (one_at z t x.col (value_in set x)) ⊕ b) (sum-whole set z w n t xs (λ k d lt. all (suc k) d (omega (arith, lt)))))
 
 -- a row's sum over a word, by other bits that are the word's
 pub row-sum : (g : Graph) (es : List Entry) (set z n i t : ℕ) (word : List Bool) (w : ℕ → Bool) (s : ℕ) (row : List Entry)

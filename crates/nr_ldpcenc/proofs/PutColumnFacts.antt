@@ -1,13 +1,11 @@
 -- Columns that are put in a word, as the code puts them.
-use Rattle.std.proofs.Common.{◌≡◌, ℕ, ◌+◌, ◌-◌, ◌*◌, ◌%◌, ◌<◌, ◌≤◌, Bool, refl, sym, ap, subst, ◌∙◌}
+use Rattle.std.proofs.Common.{◌≡◌, ℕ, ◌+◌, ◌-◌, ◌*◌, ◌%◌, ◌<◌, ◌≤◌, Bool, List, sym, ap, subst, ◌∙◌}
 use Rattle.std.proofs.Math.Nat.{add-mod-mod}
 use Rattle.std.proofs.lemmas.Nat.{mod_below}
 use Rattle.nr_shifttable.specs.declared.entry.Entry.{Entry}
-use Rattle.std.proofs.Common.{List}
 use Rattle.nr_ldpcenc.specs.Solving.{head_sum, core_sum, core_rotation, row_ending}
 use Rattle.nr_ldpcenc.specs.Inside.{IsSolvedTo, AgreeBelow}
 use Rattle.nr_ldpcenc.specs.Rows.{unrotate}
-use Rattle.nr_ldpcenc.proofs.EntrySumFacts.{lt_test, le_test}
 use Rattle.nr_ldpcenc.proofs.SolvedColumnFacts.{solved_first, solved_more}
 
 module _ (es : List Entry) (set n z : ℕ) (pos : 0 < z) (old new sums : ℕ → Bool) (at : ℕ) where
@@ -34,9 +32,3 @@ module _ (es : List Entry) (set n z : ℕ) (pos : 0 < z) (old new sums : ℕ →
       here : (t : ℕ) → t < z → new ((n + i) * z + t) ≡ head_sum es set z old (n + i) (row_ending i) t
       here t lt =
           ap (λ m. new (m + t)) (sym is_at) ∙ put t lt ∙ sum t lt
-
-pub row_ending-low : (i : ℕ) → i < 3 → i - 1 ≡ row_ending i
-row_ending-low i lt = rw (lt_test i 3 lt) refl
-
-pub row_ending-high : (i : ℕ) → 3 ≤ i → i ≡ row_ending i
-row_ending-high i le = rw (le_test i 3 le) refl

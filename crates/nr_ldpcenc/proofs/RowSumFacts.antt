@@ -1,9 +1,8 @@
 -- Sums of a word over the entries of a row, before a column and from it on.
-use Rattle.std.proofs.Common.{◌≡◌, ℕ, ◌+◌, ◌*◌, ◌<◌, ◌≤◌, nat_lt, nat_le, Bool, true, false, List, [], ◌∷◌, map, refl, ap, ◌∙◌, arith}
+use Rattle.std.proofs.Common.{◌≡◌, ℕ, ◌+◌, ◌*◌, ◌<◌, ◌≤◌, nat_lt, nat_le, Bool, inl, inr, List, [], ◌∷◌, map, refl, ap, ◌∙◌, arith}
 use Rattle.std.specs.List.{filter}
 use Rattle.std.proofs.Math.Nat.{mul-le-mul_right}
-use Rattle.std.proofs.lemmas.Bool.Decides.{nat_tests}
-use Rattle.std.proofs.lemmas.Bool.{ltb-true}
+use Rattle.std.proofs.lemmas.Bool.{cases_lt, lt-ltb, le-ltb, lt-leb, le-leb}
 use Rattle.nr_bitvec.specs.Bit.{◌⊕◌}
 use Rattle.nr_shifttable.specs.declared.entry.Entry.{Entry}
 use Rattle.nr_shifttable.specs.Accepted.{row_of, tail}
@@ -13,28 +12,13 @@ use Rattle.nr_ldpcenc.specs.Rows.{one_at, row_at}
 use Rattle.nr_ldpcenc.specs.Solving.{head_sum}
 use Rattle.nr_ldpcenc.specs.Inside.{AgreeBelow}
 
-left_more : (x h t p : Bool) → p ≡ h ⊕ t → x ⊕ p ≡ (x ⊕ h) ⊕ t
-left_more x h t p e = grind arith
-
-right_more : (x h t p : Bool) → p ≡ h ⊕ t → x ⊕ p ≡ h ⊕ (x ⊕ t)
-right_more x h t p e = grind arith
-
 -- a row's sum is that before a column with that from it on
 parity-split : (w : ℕ → Bool) (f : Entry → ℕ) (j : ℕ) (xs : List Entry) → parity w (map f xs) ≡ parity w (map f (filter (λ e. nat_lt e.col j) xs)) ⊕ parity w (map f (filter (λ e. nat_le j e.col) xs))
 parity-split w f j [] = refl
-parity-split w f j (x ∷ xs) = by_order (nat_lt x.col j) refl (parity-split w f j xs)
-  where
-    before : (c : ℕ) → nat_lt c j ≡ true → nat_le j c ≡ false
-    before c h = grind (arith, nat_tests)
-
-    after : (c : ℕ) → nat_lt c j ≡ false → nat_le j c ≡ true
-    after c h = grind (arith, nat_tests)
-
-    by_order : (b : Bool) → nat_lt x.col j ≡ b
-        → parity w (map f xs) ≡ parity w (map f (filter (λ e. nat_lt e.col j) xs)) ⊕ parity w (map f (filter (λ e. nat_le j e.col) xs))
-        → parity w (map f (x ∷ xs)) ≡ parity w (map f (filter (λ e. nat_lt e.col j) (x ∷ xs))) ⊕ parity w (map f (filter (λ e. nat_le j e.col) (x ∷ xs)))
-    by_order true h more = rw (h, before x.col h) (left_more (w (f x)) (parity w (map f (filter (λ e. nat_lt e.col j) xs))) (parity w (map f (filter (λ e. nat_le j e.col) xs))) (parity w (map f xs)) more)
-    by_order false h more = rw (h, after x.col h) (right_more (w (f x)) (parity w (map f (filter (λ e. nat_lt e.col j) xs))) (parity w (map f (filter (λ e. nat_le j e.col) xs))) (parity w (map f xs)) more)
+parity-split w f j (x ∷ xs) = elim (cases_lt x.col j) [
+  | inl below ↦ rw (lt-ltb x.col j below, lt-leb j x.col below) (grind (arith, parity-split w f j xs))
+  | inr above ↦ rw (le-ltb x.col j above, le-leb j x.col above) (grind (arith, parity-split w f j xs))
+]
 
 -- the sum of a word over a list of columns and values, in lane t
 abbrev pub tail_sum : (ℕ → Bool) → ℕ → ℕ → List (ℕ × ℕ) → Bool
@@ -62,12 +46,7 @@ heads-agree es set z v w j i t pos same = over (row_of es i)
   where
     over : (xs : List Entry) → parity v (map (λ e. one_at z t e.col (value_in set e)) (filter (λ e. nat_lt e.col j) xs)) ≡ parity w (map (λ e. one_at z t e.col (value_in set e)) (filter (λ e. nat_lt e.col j) xs))
     over [] = refl
-    over (x ∷ xs) = by_order (nat_lt x.col j) refl (over xs)
-      where
-        by_order : (b : Bool) → nat_lt x.col j ≡ b
-            → parity v (map (λ e. one_at z t e.col (value_in set e)) (filter (λ e. nat_lt e.col j) xs)) ≡ parity w (map (λ e. one_at z t e.col (value_in set e)) (filter (λ e. nat_lt e.col j) xs))
-            → parity v (map (λ e. one_at z t e.col (value_in set e)) (filter (λ e. nat_lt e.col j) (x ∷ xs))) ≡ parity w (map (λ e. one_at z t e.col (value_in set e)) (filter (λ e. nat_lt e.col j) (x ∷ xs)))
-        by_order true h more =
-            let here : v (one_at z t x.col (value_in set x)) ≡ w (one_at z t x.col (value_in set x)) = same (one_at z t x.col (value_in set x)) (place_below z t x.col (value_in set x) j pos (omega (arith, ltb-true))) in
-            rw h (cc)
-        by_order false h more = rw h more
+    over (x ∷ xs) = elim (cases_lt x.col j) [
+      | inl below ↦ rw (lt-ltb x.col j below) (cc (over xs, same (one_at z t x.col (value_in set x)) (place_below z t x.col (value_in set x) j pos below)))
+      | inr above ↦ rw (le-ltb x.col j above) (over xs)
+    ]

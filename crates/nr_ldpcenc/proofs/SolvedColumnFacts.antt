@@ -1,9 +1,9 @@
 -- A word meets every row of an accepted base graph exactly where its parity columns are solved one after another. So
 -- the information columns give the others.
-use Rattle.std.proofs.Common.{◌≡◌, ℕ, zero, suc, ◌+◌, ◌-◌, ◌*◌, ◌/◌, ◌%◌, ◌<◌, ◌≤◌, ◌==◌, nat_lt, nat_le, Bool, true, false, ◌⊎◌, inl, inr, ⊎_elim, List, [], ◌∷◌, refl, sym, ap, subst, ◌∙◌, arith}
-use Rattle.std.proofs.Math.Nat.{mul-le-mul_right, mod-add-mod, add-mod_right, mod-eq_of_lt, div-mul-le_self}
-use Rattle.std.proofs.lemmas.Nat.{mod_below, div-mul-add, mod-mul-add}
-use Rattle.std.proofs.lemmas.Bool.{cases_eq}
+use Rattle.std.proofs.Common.{◌≡◌, ℕ, zero, suc, ◌+◌, ◌-◌, ◌*◌, ◌/◌, ◌%◌, ◌<◌, ◌≤◌, Bool, false, inl, inr, List, [], ◌∷◌, refl, sym, ap, subst, ◌∙◌, arith}
+use Rattle.std.proofs.Math.Nat.{mul-le-mul_right, mod-add-mod, add-mod_right, mod-eq_of_lt}
+use Rattle.std.proofs.lemmas.Nat.{mod_below, div_below, div-mul-add, mod-mul-add}
+use Rattle.std.proofs.lemmas.Bool.{cases_lt, cases_eq, eq-eqb, ne_eqb}
 use Rattle.std.proofs.lemmas.Bool.Decides.{nat_tests}
 use Rattle.nr_bitvec.specs.Bit.{◌⊕◌}
 use Rattle.nr_shifttable.specs.declared.entry.Entry.{Entry}
@@ -14,20 +14,7 @@ use Rattle.nr_ldpcenc.specs.Rows.{Meets, one_at, row_at, checks_of, unrotate}
 use Rattle.nr_ldpcenc.specs.Solving.{head_sum, core_sum, core_rotation, with_column, with_first, with_next, with_columns, row_ending}
 use Rattle.nr_ldpcenc.specs.Inside.{IsSolvedTo, AgreeBelow}
 use Rattle.nr_ldpcenc.proofs.RowSumFacts.{heads-agree, row-splits}
-use Rattle.nr_ldpcenc.proofs.CoreRowFacts.{core_rows-add_up, row-ends}
-
-le_or_lt : (a b : ℕ) → (a ≤ b) ⊎ (b < a)
-le_or_lt a b = by_test (nat_le a b) refl
-  where
-    by_test : (t : Bool) → nat_le a b ≡ t → (a ≤ b) ⊎ (b < a)
-    by_test true h = inl (is_le h)
-      where
-        is_le : nat_le a b ≡ true → a ≤ b
-        is_le h = grind (arith, nat_tests)
-    by_test false h = inr (is_lt h)
-      where
-        is_lt : nat_le a b ≡ false → b < a
-        is_lt h = grind (arith, nat_tests)
+use Rattle.nr_ldpcenc.proofs.CoreRowFacts.{core_rows-add_up, row-ends, row_ending-high}
 
 -- the places of a column, lane by lane
 pub place-zero : (z t j : ℕ) → t < z → one_at z t j 0 ≡ j * z + t
@@ -51,33 +38,20 @@ unrotate-rotate z v t lt =
 pub place-unrotate : (z v u j : ℕ) → u < z → one_at z (unrotate z v u) j v ≡ j * z + u
 place-unrotate z v u j lt = ap (λ r. j * z + r) (rotate-unrotate z v u lt)
 
--- agreement below a position
-pub agree_narrow : (m n : ℕ) (v w : ℕ → Bool) → m ≤ n → AgreeBelow n v w → AgreeBelow m v w
-agree_narrow m n v w le same = λ p lt. same p (omega arith)
-
+-- agreement below one column more
 pub agree_more : (z j : ℕ) (v w : ℕ → Bool) → AgreeBelow (j * z) v w → ((u : ℕ) → u < z → v (j * z + u) ≡ w (j * z + u)) → AgreeBelow ((j + 1) * z) v w
-agree_more z j v w same here p lt = ⊎_elim
-    (λ le.
-    let back : j * z + (p - j * z) ≡ p = omega arith in
-    let inside : p - j * z < z = omega arith in
-    sym (ap v back) ∙ here (p - j * z) inside ∙ ap w back)
-    (λ below. same p below)
-    (le_or_lt (j * z) p)
-
-pub agree_back : (n : ℕ) (v w : ℕ → Bool) → AgreeBelow n v w → AgreeBelow n w v
-agree_back n v w same = λ p lt. sym (same p lt)
-
-pub agree_then : (n : ℕ) (u v w : ℕ → Bool) → AgreeBelow n u v → AgreeBelow n v w → AgreeBelow n u w
-agree_then n u v w first second = λ p lt. first p lt ∙ second p lt
+agree_more z j v w same here p lt = elim (cases_lt p (j * z)) [
+  | inl below ↦ same p below
+  | inr above ↦
+      let back : j * z + (p - j * z) ≡ p = omega (arith, above) in
+      sym (ap v back) ∙ here (p - j * z) (omega (arith, above, lt)) ∙ ap w back
+]
 
 -- the sums of the core rows see only the columns before the first parity column
 pub core_sums-agree : (es : List Entry) (set z : ℕ) (v w : ℕ → Bool) (n t : ℕ) → 0 < z → AgreeBelow (n * z) v w → core_sum es set z v n t ≡ core_sum es set z w n t
 core_sums-agree es set z v w n t pos same =
-    let h0 = heads-agree es set z v w n 0 t pos same in
-    let h1 = heads-agree es set z v w n 1 t pos same in
-    let h2 = heads-agree es set z v w n 2 t pos same in
-    let h3 = heads-agree es set z v w n 3 t pos same in
-    λ i. (h0 i ⊕ h1 i) ⊕ (h2 i ⊕ h3 i)
+    let head = λ (i : ℕ). heads-agree es set z v w n i t pos same in
+    λ k. (head 0 k ⊕ head 1 k) ⊕ (head 2 k ⊕ head 3 k)
 
 no_more : (a b : Bool) → (a ⊕ (b ⊕ false)) ≡ false → b ≡ a
 no_more a b e = grind arith
@@ -93,11 +67,7 @@ third_met a b c d s x e f g i h = grind arith
 
 module _ (es : List Entry) (set n rows z : ℕ) (shape : HasShape es set n rows) (adds : CoreSum es set n) (four : 4 ≤ rows) where
   ends_low : (i : ℕ) → 1 ≤ i → i < rows → row_ending i < rows
-  ends_low i some lt = by_test (nat_lt i 3) refl
-    where
-      by_test : (b : Bool) → nat_lt i 3 ≡ b → row_ending i < rows
-      by_test true h = rw h (omega arith)
-      by_test false h = rw h lt
+  ends_low i some lt = grind (arith, nat_tests)
 
   -- a word that meets every row has its parity columns solved
   pub solved_from_meets : (cols : ℕ) (w : ℕ → Bool) → Meets (checks_of es set z rows cols) w → IsSolvedTo es set n z rows w
@@ -120,70 +90,36 @@ module _ (es : List Entry) (set n rows z : ℕ) (shape : HasShape es set n rows)
 
   -- a word with its parity columns solved meets every row
   pub meets_from_solved : (cols : ℕ) (w : ℕ → Bool) → IsSolvedTo es set n z rows w → Meets (checks_of es set z rows cols) w
-  meets_from_solved cols w solved i t low lt = ⊎_elim
-      (λ e. subst (λ k. parity w (row_at es set z k t) ≡ false) (sym e) zeroth)
-      (λ ne. ⊎_elim
-      (λ e. subst (λ k. parity w (row_at es set z k t) ≡ false) (sym e) first)
-      (λ nf. ⊎_elim
-      (λ e. subst (λ k. parity w (row_at es set z k t) ≡ false) (sym e) second)
-      (λ ng. late (omega arith))
-      (cases_eq i 2))
-      (cases_eq i 1))
-      (cases_eq i 0)
-    where
-      zeroth : parity w (row_at es set z 0 t) ≡ false
-      zeroth = ending_met w solved 1 t (omega arith) (omega arith) lt
-
-      first : parity w (row_at es set z 1 t) ≡ false
-      first = ending_met w solved 2 t (omega arith) (omega arith) lt
-
-      third : parity w (row_at es set z 3 t) ≡ false
-      third = ending_met w solved 3 t (omega arith) (omega arith) lt
-
-      second : parity w (row_at es set z 2 t) ≡ false
-      second = third_met
-          (parity w (row_at es set z 0 t)) (parity w (row_at es set z 1 t)) (parity w (row_at es set z 2 t)) (parity w (row_at es set z 3 t))
-          (core_sum es set z w n t) (w (one_at z t n (core_rotation es set n)))
-          (core_rows-add_up es set z n w t adds)
-          zeroth first third (solved.first t lt)
-
-      late : 3 ≤ i → parity w (row_at es set z i t) ≡ false
-      late le = subst (λ k. parity w (row_at es set z k t) ≡ false) (its_own i le) (ending_met w solved i t (omega arith) low lt)
-        where
-          its_own : (k : ℕ) → 3 ≤ k → row_ending k ≡ k
-          its_own k le = rw (not_low k le) refl
-            where
-              not_low : (k : ℕ) → 3 ≤ k → nat_lt k 3 ≡ false
-              not_low k le = grind (arith, nat_tests)
+  meets_from_solved cols w solved zero t low lt = ending_met w solved 1 t (omega arith) (omega arith) lt
+  meets_from_solved cols w solved (suc zero) t low lt = ending_met w solved 2 t (omega arith) (omega arith) lt
+  meets_from_solved cols w solved (suc (suc zero)) t low lt = third_met
+      (parity w (row_at es set z 0 t)) (parity w (row_at es set z 1 t)) (parity w (row_at es set z 2 t)) (parity w (row_at es set z 3 t))
+      (core_sum es set z w n t) (w (one_at z t n (core_rotation es set n)))
+      (core_rows-add_up es set z n w t adds)
+      (ending_met w solved 1 t (omega arith) (omega arith) lt) (ending_met w solved 2 t (omega arith) (omega arith) lt) (ending_met w solved 3 t (omega arith) (omega arith) lt) (solved.first t lt)
+  meets_from_solved cols w solved (suc (suc (suc k))) t low lt =
+      let i = suc (suc (suc k)) in
+      ap (λ j. parity w (row_at es set z j t)) (row_ending-high i (omega arith)) ∙ ending_met w solved i t (omega arith) low lt
 
 module _ (es : List Entry) (set n z : ℕ) (pos : 0 < z) where
   -- solved words that begin with the same information columns are the same
   pub solved_agree : (lim : ℕ) (v w : ℕ → Bool) → IsSolvedTo es set n z lim v → IsSolvedTo es set n z lim w → AgreeBelow (n * z) v w
       → (k : ℕ) → k < lim → AgreeBelow ((n + k + 1) * z) v w
-  solved_agree lim v w sv sw same zero lt = subst (λ m. AgreeBelow (m * z) v w) (omega arith) (agree_more z n v w same here)
-    where
-      here : (u : ℕ) → u < z → v (n * z + u) ≡ w (n * z + u)
-      here u low =
-          let rot = core_rotation es set n in
-          let t = unrotate z rot u in
-          let lane : t < z = mod_below (u + (z - rot % z)) z pos in
-          let at : one_at z t n rot ≡ n * z + u = place-unrotate z rot u n low in
-          sym (ap v at) ∙ sv.first t lane ∙ core_sums-agree es set z v w n t pos same ∙ sym (sw.first t lane) ∙ ap w at
-  solved_agree lim v w sv sw same (suc k) lt = step (solved_agree lim v w sv sw same k (omega arith))
-    where
-      here : AgreeBelow ((n + suc k) * z) v w → (u : ℕ) → u < z → v ((n + suc k) * z + u) ≡ w ((n + suc k) * z + u)
-      here before u low =
-          let at : one_at z u (n + suc k) 0 ≡ (n + suc k) * z + u = place-zero z u (n + suc k) low in
-          sym (ap v at)
-          ∙ sv.later (suc k) u (omega arith) lt low
-          ∙ heads-agree es set z v w (n + suc k) (row_ending (suc k)) u pos before
-          ∙ sym (sw.later (suc k) u (omega arith) lt low)
-          ∙ ap w at
-
-      step : AgreeBelow ((n + k + 1) * z) v w → AgreeBelow ((n + suc k + 1) * z) v w
-      step before =
-          let moved : AgreeBelow ((n + suc k) * z) v w = subst (λ m. AgreeBelow (m * z) v w) (omega arith) before in
-          agree_more z (n + suc k) v w moved (here moved)
+  solved_agree lim v w sv sw same zero lt = subst (λ m. AgreeBelow (m * z) v w) (omega arith) (agree_more z n v w same (λ u low.
+      let rot = core_rotation es set n in
+      let t = unrotate z rot u in
+      let lane : t < z = mod_below (u + (z - rot % z)) z pos in
+      let at : one_at z t n rot ≡ n * z + u = place-unrotate z rot u n low in
+      sym (ap v at) ∙ sv.first t lane ∙ core_sums-agree es set z v w n t pos same ∙ sym (sw.first t lane) ∙ ap w at))
+  solved_agree lim v w sv sw same (suc k) lt =
+      let before : AgreeBelow ((n + suc k) * z) v w = subst (λ m. AgreeBelow (m * z) v w) (omega arith) (solved_agree lim v w sv sw same k (omega (arith, lt))) in
+      subst (λ m. AgreeBelow (m * z) v w) (omega arith) (agree_more z (n + suc k) v w before (λ u low.
+      let at : one_at z u (n + suc k) 0 ≡ (n + suc k) * z + u = place-zero z u (n + suc k) low in
+      sym (ap v at)
+      ∙ sv.later (suc k) u (omega arith) lt low
+      ∙ heads-agree es set z v w (n + suc k) (row_ending (suc k)) u pos before
+      ∙ sym (sw.later (suc k) u (omega arith) lt low)
+      ∙ ap w at))
 
   place_in : (t j v lim : ℕ) → j < lim → one_at z t j v < lim * z
   place_in t j v lim lt =
@@ -199,12 +135,12 @@ module _ (es : List Entry) (set n z : ℕ) (pos : 0 < z) where
         let low : n * z ≤ (n + lim) * z = mul-le-mul_right z (omega arith) in
         sym (same (one_at z t n rot) (place_in t n rot (n + lim) (omega arith)))
         ∙ solved.first t lt
-        ∙ core_sums-agree es set z v w n t pos (agree_narrow (n * z) ((n + lim) * z) v w low same);
+        ∙ core_sums-agree es set z v w n t pos (λ p h. same p (omega (arith, h, low)));
     later = λ i t one lt lane.
         let low : (n + i) * z ≤ (n + lim) * z = mul-le-mul_right z (omega arith) in
         sym (same (one_at z t (n + i) 0) (place_in t (n + i) 0 (n + lim) (omega arith)))
         ∙ solved.later i t one lt lane
-        ∙ heads-agree es set z v w (n + i) (row_ending i) t pos (agree_narrow ((n + i) * z) ((n + lim) * z) v w low same);
+        ∙ heads-agree es set z v w (n + i) (row_ending i) t pos (λ p h. same p (omega (arith, h, low)));
   }
 
   -- the first parity column is solved
@@ -227,36 +163,22 @@ module _ (es : List Entry) (set n z : ℕ) (pos : 0 < z) where
       let old = solved_same lim v w some solved same in
       record {
         first = old.first;
-        later = λ i t one lt lane. ⊎_elim
-            (λ e. subst (λ k. w (one_at z t (n + k) 0) ≡ head_sum es set z w (n + k) (row_ending k) t) (sym e)
-            (ap w (place-zero z t (n + lim) lane) ∙ here t lane ∙ heads-agree es set z v w (n + lim) (row_ending lim) t pos same))
-            (λ ne. old.later i t one (omega arith) lane)
-            (cases_eq i lim);
+        later = λ i t one lt lane. elim (cases_eq i lim) [
+          | inl e ↦
+              subst (λ k. w (one_at z t (n + k) 0) ≡ head_sum es set z w (n + k) (row_ending k) t) (sym e)
+              (ap w (place-zero z t (n + lim) lane) ∙ here t lane ∙ heads-agree es set z v w (n + lim) (row_ending lim) t pos same)
+          | inr apart ↦ old.later i t one (omega (arith, lt, apart)) lane
+        ];
       }
 
   -- a column that is written, and those before it
   pub column-new : (j : ℕ) (f w : ℕ → Bool) (u : ℕ) → u < z → with_column z j f w (j * z + u) ≡ f u
-  column-new j f w u lt =
-      let column : (j * z + u) / z ≡ j = div-mul-add j z u lt in
-      let lane : (j * z + u) % z ≡ u = mod-mul-add j z u lt in
-      rw (column, test_same j, lane) refl
-    where
-      test_same : (k : ℕ) → (k == k) ≡ true
-      test_same k = grind (arith, nat_tests)
+  column-new j f w u lt = rw (div-mul-add j z u lt, mod-mul-add j z u lt, eq-eqb j j refl)
 
   pub column-before : (j : ℕ) (f w : ℕ → Bool) → AgreeBelow (j * z) w (with_column z j f w)
   column-before j f w p lt =
-      let whole = div-mul-le_self p z in
-      rw (other (p / z) (⊎_elim (λ le. absurd (past le)) (λ below. below) (le_or_lt j (p / z)))) refl
-    where
-      past : j ≤ p / z → ⊥
-      past le =
-          let up : j * z ≤ p / z * z = mul-le-mul_right z le in
-          let whole = div-mul-le_self p z in
-          omega arith
-
-      other : (q : ℕ) → q < j → (q == j) ≡ false
-      other q lt = grind (arith, nat_tests)
+      let below : p / z < j = div_below p z j pos lt in
+      rw (ne_eqb (p / z) j (λ e. omega (arith, e, below)))
 
   pub record Built (w : ℕ → Bool) (k : ℕ) : Type 0 where
     pub solved : IsSolvedTo es set n z (k + 1) (with_columns es set n z w k)
@@ -284,5 +206,5 @@ module _ (es : List Entry) (set n z : ℕ) (pos : 0 < z) where
             let two : (k + 1) + 1 ≡ suc k + 1 = omega arith in
             subst (λ m. IsSolvedTo es set n z m (with_column z (n + (k + 1)) f v)) two
             (solved_more (k + 1) v (with_column z (n + (k + 1)) f v) (omega arith) old.solved before (λ t lt. column-new (n + (k + 1)) f v t lt));
-        begins = agree_then (n * z) w v (with_column z (n + (k + 1)) f v) old.begins (agree_narrow (n * z) ((n + (k + 1)) * z) v (with_column z (n + (k + 1)) f v) low before);
+        begins = λ p h. old.begins p h ∙ before p (omega (arith, h, low));
       }

@@ -8,9 +8,10 @@ use Rattle.std.specs.Int.RustNames.{bit_or}
 use Rattle.nr_bitvec.specs.Packed.{place, IsClear}
 use Rattle.nr_bitvec.proofs.BitFacts.{place_of}
 use Rattle.nr_bitvec.proofs.PlaceFacts.{place-set_same, place-set_other}
+use Rattle.nr_lifting.proofs.RingSpanFacts.{moved_low, moved_high}
 use Rattle.nr_lifting.proofs.RotationFacts.{mod_small, mod_once}
 use Rattle.nr_ldpcenc.specs.Doubled.{IsDoubled, KeepsOthers}
-use Rattle.nr_ldpcenc.proofs.BorderWordFacts.{up_by, up_low, up_high, IsPut}
+use Rattle.nr_ldpcenc.proofs.BorderWordFacts.{up_by, IsPut}
 
 module _ (z w at k i head : ℕ) (above : 64 * w < z + 64) (below : z ≤ 64 * w) (some : 0 < z) (all : k ≡ w) (every : i ≡ w)
     (sum old one two new : List ℕ) (clear : IsClear sum z) (inside : at + 2 * w ≤ length old)
@@ -33,7 +34,7 @@ module _ (z w at k i head : ℕ) (above : 64 * w < z + 64) (below : z ≤ 64 * w
   first_copy : (t : ℕ) → t < z → place two (64 * at + t) ≡ place sum t
   first_copy t lt = elim (cases_eq (t / 64) (w - 1)) [
     | inl e ↦
-        let none : bit_at (up_by (get_or sum 0 0) (64 * w - z)) (t % 64) ≡ 0 = up_low (get_or sum 0 0) (64 * w - z) (t % 64) (omega (arith, e, lt, above, below)) in
+        let none : bit_at (up_by (get_or sum 0 0) (64 * w - z)) (t % 64) ≡ 0 = moved_low (get_or sum 0 0) (63 - (64 * w - z)) (t % 64) (omega arith) (omega arith) (omega (arith, e, lt, above, below)) in
         omega (arith, joint t (omega (arith, lt, below)) e, none)
     | inr apart ↦
         ap (λ l. place l (64 * at + t)) is
@@ -45,9 +46,9 @@ module _ (z w at k i head : ℕ) (above : 64 * w < z + 64) (below : z ≤ 64 * w
   second_copy t past lt =
       let e : t / 64 ≡ w - 1 = omega (arith, past, lt, above) in
       let none : place sum t ≡ 0 = clear t past in
-      let gain : bit_at (up_by (get_or sum 0 0) (64 * w - z)) (t % 64) ≡ bit_at (get_or sum 0 0) (t % 64 + (64 * w - z) - 64) =
-      up_high (get_or sum 0 0) (64 * w - z) (t % 64) (omega (arith, above)) (omega arith) (omega (arith, e, past, lt)) in
-      let is_place : t % 64 + (64 * w - z) - 64 ≡ t - z = omega (arith, e, past, lt, below) in
+      let gain : bit_at (up_by (get_or sum 0 0) (64 * w - z)) (t % 64) ≡ bit_at (get_or sum 0 0) (t % 64 - (63 - (64 * w - z) + 1)) =
+      moved_high (get_or sum 0 0) (63 - (64 * w - z)) (t % 64) (omega (arith, e, past, lt, above)) (omega arith) in
+      let is_place : t % 64 - (63 - (64 * w - z) + 1) ≡ t - z = omega (arith, e, past, lt, below, above) in
       let there : place sum (t - z) ≡ bit_at (get_or sum 0 0) (t - z) = place_of sum (t - z) 0 (t - z) (omega arith) (omega (arith, past, lt, above)) in
       let whole : max (place sum t) (bit_at (up_by (get_or sum 0 0) (64 * w - z)) (t % 64)) ≡ bit_at (up_by (get_or sum 0 0) (64 * w - z)) (t % 64) = omega (arith, none) in
       joint t lt e ∙ whole ∙ gain ∙ ap (bit_at (get_or sum 0 0)) is_place ∙ sym there

@@ -1,10 +1,9 @@
-use Rattle.std.proofs.Common.{◌≡◌, ◌*◌, ◌≤◌, true, false, List, Bool, length, take, replicate, subst, sym, ap, ◌∙◌, arith}
+use Rattle.std.proofs.Common.{◌≡◌, ◌*◌, ◌≤◌, false, length, sym, ap, ◌∙◌, arith}
 use Rattle.std.proofs.lemmas.List.{length-replicate}
 use Rattle.nr_bitvec.specs.Bit.{bit}
 use Rattle.nr_graphpick.specs.Graph.{cols_of}
-use Rattle.nr_segment.specs.CodeBlock.{numbers, with_fillers}
-use Rattle.nr_shifttable.specs.Accepted.{has_graph}
-use Rattle.nr_ldpcenc.specs.Codeword.{codeword, completed, IsCodeword}
+use Rattle.nr_segment.specs.CodeBlock.{numbers}
+use Rattle.nr_ldpcenc.specs.Codeword.{codeword, completed}
 use Rattle.nr_ldpcenc.proofs.CodewordFacts.{begins_filled, kdash_inside}
 use Rattle.nr_ldpcenc.proofs.WrittenBitFacts.{zero_bit}
 use Rattle.nr_ldpcenc.proofs.encoder.encode.Goals as goal
@@ -27,30 +26,11 @@ pub returns-clause-word : goal.returns-clause-word
 unfolding codeword
 returns-clause-word c =
     let plan = c.args.plan.now in
-    let bits : List Bool = c.args.bits.now.items in
-    let size = cols_of plan.graph * plan.z in
-    let zeros : c.in-Ok.word ≡ replicate size false = c.in-Ok.ensures in
-    let begins : take plan.k c.begin.new.self ≡ with_fillers (numbers plan) bits =
-    begins_filled plan.graph plan.b (numbers plan) plan.sound bits c.begin.new.self c.requires
-    (c.begin.ensures.long ∙ ap length zeros ∙ length-replicate size false)
-    (λ j lt. c.begin.ensures.begins j (omega arith))
-    (λ j le. c.begin.ensures.after j (omega arith) ∙ ap (λ l. bit l j) zeros ∙ zero_bit size j) in
-    c.finish.ensures ∙ ap (completed c.args.table.now plan.graph (numbers plan)) begins
+    c.finish.ensures ∙ ap (completed c.args.table.now plan.graph (numbers plan)) (begins_filled plan.graph plan.b (numbers plan) plan.sound c.args.bits.now.items c.in-Ok.word c.begin.new.self c.requires c.in-Ok.ensures c.begin.ensures)
 
 pub returns-clause-plain : goal.returns-clause-plain
 unfolding codeword
 returns-clause-plain c =
     let plan = c.args.plan.now in
-    let t = c.args.table.now in
-    let bits : List Bool = c.args.bits.now.items in
-    let size = cols_of plan.graph * plan.z in
-    let zeros : c.in-Ok.word ≡ replicate size false = c.in-Ok.ensures in
-    let begins : take plan.k c.begin.new.self ≡ with_fillers (numbers plan) bits =
-    begins_filled plan.graph plan.b (numbers plan) plan.sound bits c.begin.new.self c.requires
-    (c.begin.ensures.long ∙ ap length zeros ∙ length-replicate size false)
-    (λ j lt. c.begin.ensures.begins j (omega arith))
-    (λ j le. c.begin.ensures.after j (omega arith) ∙ ap (λ l. bit l j) zeros ∙ zero_bit size j) in
-    let has : has_graph plan.graph t ≡ true = sym c.has.ensures.value ∙ c.if-not-has.false in
-    subst (IsCodeword t plan.graph (numbers plan) bits)
-    (sym (c.finish.ensures ∙ ap (completed t plan.graph (numbers plan)) begins))
-    (c.codewords_are_plain.ensures t plan.graph plan.b (numbers plan) bits c.has.ensures.table has plan.planned c.requires)
+    let begins = begins_filled plan.graph plan.b (numbers plan) plan.sound c.args.bits.now.items c.in-Ok.word c.begin.new.self c.requires c.in-Ok.ensures c.begin.ensures in
+    rw (c.finish.ensures, begins) (c.codewords_are_plain.ensures c.args.table.now plan.graph plan.b (numbers plan) c.args.bits.now.items c.has.ensures.table (sym c.has.ensures.value ∙ c.if-not-has.false) plan.planned c.requires)

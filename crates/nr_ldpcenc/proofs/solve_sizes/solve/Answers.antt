@@ -1,52 +1,26 @@
-use Rattle.std.proofs.Common.{◌≡◌, ap, ◌∙◌, arith}
-use Rattle.std.specs.Prelude.{Some}
 use Rattle.nr_lifting.proofs.SetIndexFacts.{member_at}
 use Rattle.nr_ldpcenc.proofs.solve_sizes.solve.Goals as goal
 
 pub solve_0-requires-clause-listed : goal.solve_0-requires-clause-listed
-solve_0-requires-clause-listed c =
-    let plan = c.args.plan.now in
-    let here : plan.set ≡ 0 = omega (arith, c.set_in.ensures.value) in
-    member_at plan.z 0 plan.sound.listed (plan.sound.set_is ∙ ap (λ s. Some s) here)
+solve_0-requires-clause-listed c = member_at c.args.plan.now.z 0 c.args.plan.now.sound.listed (cc (c.args.plan.now.sound.set_is, c.set_in.ensures.value))
 
 pub solve_1-requires-clause-listed : goal.solve_1-requires-clause-listed
-solve_1-requires-clause-listed c =
-    let plan = c.args.plan.now in
-    let here : plan.set ≡ 1 = omega (arith, c.set_in.ensures.value) in
-    member_at plan.z 1 plan.sound.listed (plan.sound.set_is ∙ ap (λ s. Some s) here)
+solve_1-requires-clause-listed c = member_at c.args.plan.now.z 1 c.args.plan.now.sound.listed (cc (c.args.plan.now.sound.set_is, c.set_in.ensures.value))
 
 pub solve_2-requires-clause-listed : goal.solve_2-requires-clause-listed
-solve_2-requires-clause-listed c =
-    let plan = c.args.plan.now in
-    let here : plan.set ≡ 2 = omega (arith, c.set_in.ensures.value) in
-    member_at plan.z 2 plan.sound.listed (plan.sound.set_is ∙ ap (λ s. Some s) here)
+solve_2-requires-clause-listed c = member_at c.args.plan.now.z 2 c.args.plan.now.sound.listed (cc (c.args.plan.now.sound.set_is, c.set_in.ensures.value))
 
 pub solve_3-requires-clause-listed : goal.solve_3-requires-clause-listed
-solve_3-requires-clause-listed c =
-    let plan = c.args.plan.now in
-    let here : plan.set ≡ 3 = omega (arith, c.set_in.ensures.value) in
-    member_at plan.z 3 plan.sound.listed (plan.sound.set_is ∙ ap (λ s. Some s) here)
+solve_3-requires-clause-listed c = member_at c.args.plan.now.z 3 c.args.plan.now.sound.listed (cc (c.args.plan.now.sound.set_is, c.set_in.ensures.value))
 
 pub solve_4-requires-clause-listed : goal.solve_4-requires-clause-listed
-solve_4-requires-clause-listed c =
-    let plan = c.args.plan.now in
-    let here : plan.set ≡ 4 = omega (arith, c.set_in.ensures.value) in
-    member_at plan.z 4 plan.sound.listed (plan.sound.set_is ∙ ap (λ s. Some s) here)
+solve_4-requires-clause-listed c = member_at c.args.plan.now.z 4 c.args.plan.now.sound.listed (cc (c.args.plan.now.sound.set_is, c.set_in.ensures.value))
 
 pub solve_5-requires-clause-listed : goal.solve_5-requires-clause-listed
-solve_5-requires-clause-listed c =
-    let plan = c.args.plan.now in
-    let here : plan.set ≡ 5 = omega (arith, c.set_in.ensures.value) in
-    member_at plan.z 5 plan.sound.listed (plan.sound.set_is ∙ ap (λ s. Some s) here)
+solve_5-requires-clause-listed c = member_at c.args.plan.now.z 5 c.args.plan.now.sound.listed (cc (c.args.plan.now.sound.set_is, c.set_in.ensures.value))
 
 pub solve_6-requires-clause-listed : goal.solve_6-requires-clause-listed
-solve_6-requires-clause-listed c =
-    let plan = c.args.plan.now in
-    let here : plan.set ≡ 6 = omega (arith, c.set_in.ensures.value) in
-    member_at plan.z 6 plan.sound.listed (plan.sound.set_is ∙ ap (λ s. Some s) here)
+solve_6-requires-clause-listed c = member_at c.args.plan.now.z 6 c.args.plan.now.sound.listed (cc (c.args.plan.now.sound.set_is, c.set_in.ensures.value))
 
 pub solve_7-requires-clause-listed : goal.solve_7-requires-clause-listed
-solve_7-requires-clause-listed c =
-    let plan = c.args.plan.now in
-    let here : plan.set ≡ 7 = omega (arith, c.set_in.ensures.value) in
-    member_at plan.z 7 plan.sound.listed (plan.sound.set_is ∙ ap (λ s. Some s) here)
+solve_7-requires-clause-listed c = member_at c.args.plan.now.z 7 c.args.plan.now.sound.listed (cc (c.args.plan.now.sound.set_is, c.set_in.ensures.value))

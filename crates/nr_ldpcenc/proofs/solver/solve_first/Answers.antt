@@ -1,10 +1,10 @@
-use Rattle.std.proofs.Common.{◌+◌, ◌*◌, ◌≤◌, ◌==◌, refl, sym, ap, subst, ◌∙◌, arith}
+use Rattle.std.proofs.Common.{◌+◌, ◌*◌, ◌≤◌, ◌==◌, refl, sym, ap, ◌∙◌, arith}
 use Rattle.std.proofs.Math.Nat.{mul-le-mul_right}
 use Rattle.nr_bitvec.specs.Bit.{bit}
 use Rattle.nr_bitvec.specs.Packed.{place}
 use Rattle.nr_graphpick.specs.Graph.{info_cols_of, cols_of}
 use Rattle.nr_shifttable.specs.Accepted.{entries_in}
-use Rattle.nr_ldpcenc.specs.Doubled.{col_bit, HasColumns}
+use Rattle.nr_ldpcenc.specs.Doubled.{col_bit}
 use Rattle.nr_ldpcenc.proofs.CodewordFacts.{columns-are, columns_few, rows_four}
 use Rattle.nr_ldpcenc.proofs.SolvedColumnFacts.{core_sums-agree}
 use Rattle.nr_ldpcenc.proofs.PutColumnFacts.{first_put}
@@ -13,32 +13,8 @@ use Rattle.nr_ldpcenc.proofs.solver.solve_first.Goals as goal
 pub put_block-requires : goal.put_block-requires
 put_block-requires g c =
     let graph = c.args.plan.now.graph in
-    let z = g.row.Z in
-    let up : (c.info_cols.result + 1) * z ≤ cols_of graph * z = mul-le-mul_right z (omega (arith, c.info_cols.ensures, columns-are graph, rows_four graph)) in (
-      omega (arith, c.requires.most),
-      (
-        c.requires.above,
-        (
-          c.requires.below,
-          (
-            c.requires.some,
-            (
-              c.requires.most,
-              (
-                c.rotated-block.ensures.clear,
-                (
-                  omega (arith, c.info_cols.ensures, columns-are graph, columns_few graph, rows_four graph),
-                  (
-                    omega (arith, up, c.requires.long),
-                    subst (λ m. HasColumns z m c.args.cols.now c.args.bits.now.items) (sym c.info_cols.ensures) c.requires.columns,
-                  ),
-                ),
-              ),
-            ),
-          ),
-        ),
-      ),
-    )
+    let up : (c.info_cols.result + 1) * g.row.Z ≤ cols_of graph * g.row.Z = mul-le-mul_right g.row.Z (omega (arith, c.info_cols.ensures, columns-are graph, rows_four graph)) in
+    search (arith, up, rw (← c.info_cols.ensures) at c.requires.columns, columns-are graph, columns_few graph, rows_four graph)
 
 pub returns-clause-solved : goal.returns-clause-solved
 returns-clause-solved g c =

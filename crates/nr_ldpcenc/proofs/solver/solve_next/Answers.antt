@@ -1,4 +1,4 @@
-use Rattle.std.proofs.Common.{◌≡◌, ℕ, ◌+◌, ◌*◌, ◌<◌, ◌≤◌, ◌==◌, Bool, false, List, replicate, sym, ap, subst, ◌∙◌, arith}
+use Rattle.std.proofs.Common.{◌≡◌, ℕ, ◌+◌, ◌*◌, ◌<◌, ◌≤◌, ◌==◌, Bool, false, List, replicate, sym, ap, ◌∙◌, arith}
 use Rattle.std.proofs.Math.Nat.{mul-le-mul_right}
 use Rattle.nr_bitvec.specs.Bit.{◌⊕◌, bit}
 use Rattle.nr_bitvec.specs.Packed.{place}
@@ -6,10 +6,11 @@ use Rattle.nr_graphpick.specs.Graph.{info_cols_of, cols_of}
 use Rattle.nr_lifting.proofs.LaneViewFacts.{place-zeros}
 use Rattle.nr_shifttable.specs.Accepted.{entries_in, row_of}
 use Rattle.nr_shifttable.specs.declared.entry.Entry.{Entry}
-use Rattle.nr_ldpcenc.specs.Doubled.{col_bit, HasColumns}
+use Rattle.nr_ldpcenc.specs.Doubled.{col_bit}
 use Rattle.nr_ldpcenc.specs.Solving.{sum_before, head_sum, row_ending}
 use Rattle.nr_ldpcenc.proofs.CodewordFacts.{columns-are, columns_few}
-use Rattle.nr_ldpcenc.proofs.PutColumnFacts.{next_put, row_ending-low, row_ending-high}
+use Rattle.nr_ldpcenc.proofs.PutColumnFacts.{next_put}
+use Rattle.nr_ldpcenc.proofs.CoreRowFacts.{row_ending-low, row_ending-high}
 use Rattle.nr_ldpcenc.proofs.RowSumFacts.{heads-agree}
 use Rattle.nr_ldpcenc.proofs.solver.solve_next.Goals as goal
 use Rattle.nr_ldpcenc.proofs.solver.solve_next.Goals.{then-i-lt3, else-i-lt3}
@@ -17,32 +18,8 @@ use Rattle.nr_ldpcenc.proofs.solver.solve_next.Goals.{then-i-lt3, else-i-lt3}
 pub put_block-requires : goal.put_block-requires
 put_block-requires g c =
     let graph = c.args.plan.now.graph in
-    let z = g.row.Z in
-    let up : (c.info_cols.result + c.args.i + 1) * z ≤ cols_of graph * z = mul-le-mul_right z (omega (arith, c.info_cols.ensures, columns-are graph)) in (
-      omega (arith, c.requires.most),
-      (
-        c.requires.above,
-        (
-          c.requires.below,
-          (
-            c.requires.some,
-            (
-              c.requires.most,
-              (
-                c.clip.ensures.clear,
-                (
-                  omega (arith, c.info_cols.ensures, columns-are graph, columns_few graph),
-                  (
-                    omega (arith, up, c.requires.long),
-                    subst (λ m. HasColumns z (m + c.args.i) c.args.cols.now c.args.bits.now.items) (sym c.info_cols.ensures) c.requires.columns,
-                  ),
-                ),
-              ),
-            ),
-          ),
-        ),
-      ),
-    )
+    let up : (c.info_cols.result + c.args.i + 1) * g.row.Z ≤ cols_of graph * g.row.Z = mul-le-mul_right g.row.Z (omega (arith, c.info_cols.ensures, columns-are graph)) in
+    search (arith, up, rw (← c.info_cols.ensures) at c.requires.columns, columns-are graph, columns_few graph)
 
 pub returns-clause-solved : goal.returns-clause-solved
 returns-clause-solved g c =

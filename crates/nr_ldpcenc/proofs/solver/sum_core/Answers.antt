@@ -1,53 +1,27 @@
-use Rattle.std.proofs.Common.{◌≡◌, ℕ, ◌+◌, ◌*◌, ◌==◌, ◌<◌, ◌≤◌, Bool, false, List, length, replicate, arith, ap, sym, subst, ◌∙◌}
+use Rattle.std.proofs.Common.{◌≡◌, ℕ, ◌==◌, Bool, false, List, replicate, arith, ap, ◌∙◌}
 use Rattle.nr_bitvec.specs.Bit.{◌⊕◌}
 use Rattle.nr_bitvec.specs.Packed.{place}
 use Rattle.nr_graphpick.specs.Graph.{info_cols_of}
-use Rattle.nr_graphpick.specs.declared.Graph.{Graph}
-use Rattle.nr_graphpick.specs.declared.Graph.TheVariants.{One, Two}
 use Rattle.nr_lifting.proofs.LaneViewFacts.{place-zeros}
 use Rattle.nr_shifttable.specs.Accepted.{entries_in, row_of}
 use Rattle.nr_shifttable.specs.declared.entry.Entry.{Entry}
-use Rattle.nr_ldpcenc.specs.Doubled.{AreTwice, col_bit}
+use Rattle.nr_ldpcenc.specs.Doubled.{col_bit}
 use Rattle.nr_ldpcenc.specs.Solving.{sum_before, head_sum}
+use Rattle.nr_ldpcenc.proofs.CodewordFacts.{columns-are, columns_few}
 use Rattle.nr_ldpcenc.proofs.EntrySumFacts.{four_sums}
 use Rattle.nr_ldpcenc.proofs.solver.sum_core.Goals as goal
 
--- there are at most 68 columns of information bits
-few-columns : (graph : Graph) → info_cols_of graph ≤ 68
-few-columns One = omega arith
-few-columns Two = omega arith
-
--- what is asked where a row is added
-asked : (graph : Graph) (z w set n : ℕ) (cols : List ℕ) → 64 * w < z + 64 → z ≤ 64 * w → 0 < z → w ≤ 6 → set < 8 → n ≡ info_cols_of graph
-    → length cols ≡ 816 → AreTwice z (info_cols_of graph) cols
-    → (64 * w < z + 64) × ((z ≤ 64 * w) × ((0 < z) × ((w ≤ 6) × ((set < 8) × ((n ≤ 68) × ((length cols ≡ 816) × AreTwice z n cols))))))
-asked graph z w set n cols above below some most is_set counted words twice =
-    let few : n ≤ 68 = omega (arith, few-columns graph) in
-    let stand : AreTwice z n cols = subst (λ m. AreTwice z m cols) (sym counted) twice in (above, (below, (some, (most, (is_set, (few, (words, stand)))))))
-
 pub add_row-requires : goal.add_row-requires
-add_row-requires g c = (
-  omega (arith, c.requires.most),
-  asked c.args.plan.now.graph g.row.Z g.row.W _ _ c.args.cols.now c.requires.above c.requires.below c.requires.some c.requires.most c.set_in-set.ensures.below c.info_cols-columns.ensures c.requires.words c.requires.twice,
-)
+add_row-requires g c = search (arith, rw (← c.info_cols-columns.ensures) at c.requires.twice, columns-are c.args.plan.now.graph, columns_few c.args.plan.now.graph)
 
 pub add_row-requires-2 : goal.add_row-requires-2
-add_row-requires-2 g c = (
-  omega (arith, c.requires.most),
-  asked c.args.plan.now.graph g.row.Z g.row.W _ _ c.args.cols.now c.requires.above c.requires.below c.requires.some c.requires.most c.set_in-set.ensures.below c.info_cols-columns.ensures c.requires.words c.requires.twice,
-)
+add_row-requires-2 g c = search (arith, rw (← c.info_cols-columns.ensures) at c.requires.twice, columns-are c.args.plan.now.graph, columns_few c.args.plan.now.graph)
 
 pub add_row-requires-3 : goal.add_row-requires-3
-add_row-requires-3 g c = (
-  omega (arith, c.requires.most),
-  asked c.args.plan.now.graph g.row.Z g.row.W _ _ c.args.cols.now c.requires.above c.requires.below c.requires.some c.requires.most c.set_in-set.ensures.below c.info_cols-columns.ensures c.requires.words c.requires.twice,
-)
+add_row-requires-3 g c = search (arith, rw (← c.info_cols-columns.ensures) at c.requires.twice, columns-are c.args.plan.now.graph, columns_few c.args.plan.now.graph)
 
 pub add_row-requires-4 : goal.add_row-requires-4
-add_row-requires-4 g c = (
-  omega (arith, c.requires.most),
-  asked c.args.plan.now.graph g.row.Z g.row.W _ _ c.args.cols.now c.requires.above c.requires.below c.requires.some c.requires.most c.set_in-set.ensures.below c.info_cols-columns.ensures c.requires.words c.requires.twice,
-)
+add_row-requires-4 g c = search (arith, rw (← c.info_cols-columns.ensures) at c.requires.twice, columns-are c.args.plan.now.graph, columns_few c.args.plan.now.graph)
 
 pub returns-clause-sum : goal.returns-clause-sum
 returns-clause-sum g c = λ t lt.

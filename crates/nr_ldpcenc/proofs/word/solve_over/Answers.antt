@@ -1,11 +1,8 @@
-use Rattle.std.proofs.Common.{◌*◌, ◌≤◌, length, sym, ap, subst, ◌∙◌, inl, inr, arith}
+use Rattle.std.proofs.Common.{◌*◌, ◌≤◌, length, sym, inl, inr, arith}
 use Rattle.std.proofs.lemmas.Bool.{cases_lt}
 use Rattle.std.proofs.lemmas.List.{get_or_past}
 use Rattle.std.proofs.Math.Nat.{mul-le-mul_right}
 use Rattle.nr_graphpick.specs.Graph.{info_cols_of, cols_of}
-use Rattle.nr_segment.specs.CodeBlock.{numbers}
-use Rattle.nr_ldpcenc.specs.Codeword.{completed, IsWordOf}
-use Rattle.nr_ldpcenc.specs.Rows.{plan_checks}
 use Rattle.nr_ldpcenc.proofs.CodewordFacts.{columns-are, take_agree}
 use Rattle.nr_ldpcenc.proofs.word.solve_over.Goals as goal
 
@@ -22,13 +19,7 @@ solve-requires-clause-zeros c = λ t le. elim (cases_lt t (length c.args.bits.no
 ]
 
 pub returns-clause-is_word : goal.returns-clause-is_word
-returns-clause-is_word c =
-    subst (λ info. IsWordOf (plan_checks c.args.table.now c.args.plan.now) info c.solve.new.bits.items)
-    (sym (take_agree c.args.plan.now.k c.args.bits.now.items c.clear_from.new.bits.items (sym c.clear_from.ensures.long) c.clear_from.ensures.before))
-    c.solve.ensures.is_word
+returns-clause-is_word c = rw (take_agree c.args.plan.now.k c.args.bits.now.items c.clear_from.new.bits.items (sym c.clear_from.ensures.long) c.clear_from.ensures.before) c.solve.ensures.is_word
 
 pub returns-clause-completed : goal.returns-clause-completed
-returns-clause-completed c =
-    c.solve.ensures.completed
-    ∙ ap (completed c.args.table.now c.args.plan.now.graph (numbers c.args.plan.now))
-    (sym (take_agree c.args.plan.now.k c.args.bits.now.items c.clear_from.new.bits.items (sym c.clear_from.ensures.long) c.clear_from.ensures.before))
+returns-clause-completed c = rw (take_agree c.args.plan.now.k c.args.bits.now.items c.clear_from.new.bits.items (sym c.clear_from.ensures.long) c.clear_from.ensures.before) c.solve.ensures.completed
