@@ -17,19 +17,14 @@ use Rattle.nr_lifting.proofs.DoubledLaneFacts.{block_below, view_is, view_same, 
 module _ (z : ℕ) (some : 0 < z) where
   -- each count of the view, past the end too
   pub count_is : (blocks : List (List (List ℕ))) (k : ℕ) → get_or (block_counts z blocks).items k 0 ≡ plane_count z blocks k
-  count_is blocks k =
-      view_is (plane_count z blocks) (length blocks * z) k 0 (λ past.
-      ap (λ groups. plane_number groups (k % z)) (get_or_past blocks (k / z) [] (le-div (length blocks) k z some past)))
+  count_is blocks k = grind (arith, view_is, get_or_past, le-div)
 
   pub counts_long : (blocks : List (List (List ℕ))) → length (block_counts z blocks).items ≡ length blocks * z
   counts_long blocks = length-map-range_with_len (plane_count z blocks) 0 (length blocks * z)
 
   -- count t of block h
   pub count_in : (blocks : List (List (List ℕ))) (h t : ℕ) → t < z → get_or (block_counts z blocks).items (h * z + t) 0 ≡ plane_number (get_or blocks h []) t
-  count_in blocks h t below =
-      count_is blocks (h * z + t)
-      ∙ ap (λ i. plane_number (get_or blocks i []) ((h * z + t) % z)) (div-mul-add h z t below)
-      ∙ ap (plane_number (get_or blocks h [])) (mod-mul-add h z t below)
+  count_in blocks h t below = grind (arith, count_is, div-mul-add, mod-mul-add)
 
   -- a block is written
   pub written_counts : (blocks : List (List (List ℕ))) (i : ℕ) (groups : List (List ℕ)) → i < length blocks
@@ -38,19 +33,11 @@ module _ (z : ℕ) (some : 0 < z) where
 
   pub kept_counts : (blocks : List (List (List ℕ))) (i : ℕ) (groups : List (List ℕ)) (h : ℕ) → h ≢ i
       → (t : ℕ) → t < z → get_or (block_counts z (set blocks i groups)).items (h * z + t) 0 ≡ get_or (block_counts z blocks).items (h * z + t) 0
-  kept_counts blocks i groups h apart t below =
-      count_in (set blocks i groups) h t below ∙ ap (λ g. plane_number g t) (get_or-set_other blocks i h groups [] apart) ∙ sym (count_in blocks h t below)
+  kept_counts blocks i groups h apart t below = grind (arith, count_in, get_or-set_other)
 
   pub filled_counts : (blocks : List (List (List ℕ))) (i n : ℕ) (groups : List (List ℕ)) → i < length blocks → ((t : ℕ) → t < z → plane_number groups t ≡ n)
       → (h t : ℕ) → t < z → get_or (block_counts z (set blocks i groups)).items (h * z + t) 0 ≡ (if i == h then n else get_or (block_counts z blocks).items (h * z + t) 0)
-  filled_counts blocks i n groups within are h t below = elim (cases_eq h i) [
-    | inl e ↦
-        ap (λ k. get_or (block_counts z (set blocks i groups)).items (k * z + t) 0) e ∙ written_counts blocks i groups within t below ∙ are t below
-        ∙ sym (ap (λ b. if b then n else get_or (block_counts z blocks).items (h * z + t) 0) (eq-eqb i h (sym e)))
-    | inr apart ↦
-        kept_counts blocks i groups h apart t below
-        ∙ sym (ap (λ b. if b then n else get_or (block_counts z blocks).items (h * z + t) 0) (ne_eqb i h (λ e. apart (sym e))))
-  ]
+  filled_counts blocks i n groups within are h t below = grind (arith, nat_tests, cases_eq, written_counts, eq-eqb, kept_counts, ne_eqb)
 
   -- a place of a lane, as the bit that it stands for
   pub lane_digit : (lane : List ℕ) (B : ℕ → Bool) → ((t : ℕ) → t < z → is_set lane t ≡ B t) → (t : ℕ) → t < z → place lane t ≡ (if B t then 1 else 0)
@@ -59,23 +46,12 @@ module _ (z : ℕ) (some : 0 < z) where
   pub lowered_counts : (blocks : List (List (List ℕ))) (i : ℕ) (planes : List (List ℕ)) (lane : List ℕ) (B : ℕ → Bool) → i < length blocks
       → ((t : ℕ) → t < z → plane_number planes t + place lane t ≡ plane_number (get_or blocks i []) t) → ((t : ℕ) → t < z → is_set lane t ≡ B t)
       → (h t : ℕ) → t < z → get_or (block_counts z (set blocks i planes)).items (h * z + t) 0 + (if (i == h) && B t then 1 else 0) ≡ get_or (block_counts z blocks).items (h * z + t) 0
-  lowered_counts blocks i planes lane B within falls are h t below = elim (cases_eq h i) [
-    | inl e ↦
-        let same : (if (i == h) && B t then 1 else 0) ≡ place lane t = ap (λ c. if c && B t then 1 else 0) (eq-eqb i h (sym e)) ∙ sym (lane_digit lane B are t below) in
-        ap (λ k. get_or (block_counts z (set blocks i planes)).items (k * z + t) 0 + (if (i == h) && B t then 1 else 0)) e
-        ∙ ap (λ n. n + (if (i == h) && B t then 1 else 0)) (written_counts blocks i planes within t below)
-        ∙ ap (λ n. plane_number planes t + n) same ∙ falls t below
-        ∙ sym (ap (λ k. get_or (block_counts z blocks).items (k * z + t) 0) e ∙ count_in blocks i t below)
-    | inr apart ↦
-        let none : ◌≡◌ {A = ℕ} (if (i == h) && B t then 1 else 0) 0 = ap (λ c. if c && B t then 1 else 0) (ne_eqb i h (λ e. apart (sym e))) in
-        omega (arith, none, kept_counts blocks i planes h apart t below)
-  ]
+  lowered_counts blocks i planes lane B within falls are h t below = grind (arith, nat_tests, cases_eq, eq-eqb, lane_digit, written_counts, count_in, ne_eqb, kept_counts)
 
 -- where the view has a block there is one; and what is read there
 pub counts_within : {z : ℕ} {mask : List ℕ} {blocks : List (List (List ℕ))} {v : BlockCounts} → ArePlanes z mask blocks → block_counts z blocks ≡ v
     → (i : ℕ) → (i + 1) * v.lanes ≤ length v.items → i < length blocks
-counts_within {z} {mask} {blocks} {v} are e i fits =
-    block_below (length blocks) z i are.some (subst (λ m. (i + 1) * z ≤ m) (counts_long z are.some blocks) (rw (← e) at fits))
+counts_within {z} {mask} {blocks} {v} are e i fits = grind (arith, block_below, counts_long)
 
 pub counts_read : {z : ℕ} {mask : List ℕ} {blocks : List (List (List ℕ))} {v : BlockCounts} → ArePlanes z mask blocks → block_counts z blocks ≡ v
     → (i : ℕ) → (i + 1) * v.lanes ≤ length v.items → {planes : List (List ℕ)} → planes ≡ get_or blocks i planes → planes ≡ get_or blocks i []
@@ -87,17 +63,10 @@ module _ (z count v w : ℕ) where
   zeros = replicate count (replicate v (replicate {A = ℕ} w 0))
 
   zero_number : (j t : ℕ) → plane_number (get_or zeros j []) t ≡ 0
-  zero_number j t = elim (cases_lt j count) [
-    | inl h ↦
-        let block = replicate v (replicate {A = ℕ} w 0) in
-        ap (λ planes. plane_number planes t) (get_or-replicate count j block [] h) ∙ zero_digits (length block) (plane_digit block t) (λ k. zero_at 0 v w k t)
-    | inr h ↦ ap (λ planes. plane_number planes t) (get_or_past zeros j [] (omega (arith, length-replicate count (replicate v (replicate {A = ℕ} w 0)), h)))
-  ]
+  zero_number j t = grind (arith, nat_tests, cases_lt, get_or-replicate, zero_digits, plane_digit, zero_at, get_or_past, length-replicate)
 
   pub zero_counts : 0 < z → (block_counts z zeros).items ≡ replicate (count * z) 0
-  zero_counts some =
-      view_same (plane_count z zeros) 0 (length zeros * z) 0 (λ k. zero_number (k / z) (k % z))
-      ∙ ap (λ n. replicate {A = ℕ} (n * z) 0) (length-replicate count (replicate v (replicate {A = ℕ} w 0)))
+  zero_counts some = grind (arith, view_same, zero_number, length-replicate)
 
 -- a digit that marks counts of one
 pub marks_one : (d n : ℕ) → d ≡ (if n == 1 then 1 else 0) → (d == 1) ≡ (n == 1)

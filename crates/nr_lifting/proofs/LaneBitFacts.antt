@@ -1,4 +1,5 @@
 -- Lanes in words, word by word, and how many bits they have.
+use Rattle.std.proofs.lemmas.Bool.Decides.{nat_tests}
 use Rattle.std.proofs.Common.{◌≡◌, ℕ, zero, suc, ◌+◌, ◌-◌, ◌*◌, ◌/◌, ◌%◌, ◌^◌, ◌<◌, ◌≤◌, ◌==◌, ◌&&◌, min, Bool, true, false, not, if◌then◌else◌, List, length, get_or, set, refl, sym, ap, ◌∙◌, subst, inl, inr, arith}
 use Rattle.std.proofs.Math.Nat.{pow-suc}
 use Rattle.std.proofs.lemmas.Bool.{cases_lt}
@@ -29,10 +30,7 @@ made_next n G next now old word h within put are =
 
 -- when all words are made, and G gives the others what they have
 pub made_whole : (n : ℕ) (G : ℕ → ℕ) (now old : List ℕ) → IsMade n G now old → ((t : ℕ) → 64 * n ≤ t → G t ≡ place old t) → (t : ℕ) → place now t ≡ G t
-made_whole n G now old h rest t = elim (cases_lt t (64 * n)) [
-  | inl inside ↦ h.done t inside
-  | inr out ↦ ap (λ w. bit_at w (t % 64)) (h.kept (t / 64) (omega (arith, out))) ∙ sym (rest t out)
-]
+made_whole n G now old h rest t = grind (arith, nat_tests, cases_lt)
 
 -- a lane's words and another's, word by word
 module _ (old lane : List ℕ) where
@@ -93,10 +91,7 @@ marked-same u v (suc n) same =
     ap (λ m. m + (if u n then 1 else 0)) (marked-same u v n (λ t h. same t (omega (arith, h)))) ∙ ap (λ b. marked v n + (if b then 1 else 0)) (same n (omega arith))
 
 pub marked-append : (u : ℕ → Bool) (a b : ℕ) → marked u (a + b) ≡ marked u a + marked (λ j. u (a + j)) b
-marked-append u a zero = ap (marked u) (none a) ∙ omega arith
-  where
-    none : (a : ℕ) → a + 0 ≡ a
-    none a = omega arith
+marked-append u a zero = grind arith
 marked-append u a (suc b) = ap (marked u) (next a b) ∙ omega (arith, marked-append u a b)
   where
     next : (a b : ℕ) → a + suc b ≡ suc (a + b)
@@ -116,11 +111,7 @@ marked-none u a b none le =
 
 pub marked-le : (u : ℕ → Bool) (n : ℕ) → marked u n ≤ n
 marked-le u zero = omega arith
-marked-le u (suc n) = omega (arith, marked-le u n, one (u n))
-  where
-    one : (b : Bool) → (if b then 1 else 0) ≤ 1
-    one true = omega arith
-    one false = omega arith
+marked-le u (suc n) = grind (arith, marked-le u n)
 
 -- the ones of a number are its digits that are set
 pub ones_marked : (k n : ℕ) → n < 2 ^ k → count_ones n ≡ marked (λ j. bit_at n j == 1) k
@@ -155,7 +146,4 @@ counted_more i count word lane is fits before =
 
 -- the bits of a lane that is clear from place n on are below it
 pub counted_all : (k n : ℕ) (lane : List ℕ) → length lane ≤ k → IsClear lane n → marked (is_set lane) (64 * k) ≡ marked (is_set lane) n
-counted_all k n lane few clear = elim (cases_lt n (64 * k)) [
-  | inl below ↦ marked-none (is_set lane) n (64 * k) (λ t past. ap (λ m. m == 1) (clear t past)) (omega (arith, below))
-  | inr above ↦ sym (marked-none (is_set lane) (64 * k) n (λ t past. ap (λ m. m == 1) (place_past lane t (omega (arith, few, past)))) above)
-]
+counted_all k n lane few clear = grind (arith, nat_tests, cases_lt, marked-none, place_past)

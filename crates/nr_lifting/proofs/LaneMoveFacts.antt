@@ -1,4 +1,5 @@
 -- A lane that is read from a list of bits, and one that is put into one.
+use Rattle.std.proofs.lemmas.Bool.Decides.{nat_tests}
 use Rattle.std.proofs.Common.{◌≡◌, ℕ, ◌+◌, ◌-◌, ◌*◌, ◌<◌, ◌≤◌, ◌==◌, min, Bool, true, false, if◌then◌else◌, List, length, get_or, refl, sym, ap, ◌∙◌, inl, inr, arith}
 use Rattle.std.proofs.lemmas.Bool.{cases_lt}
 use Rattle.std.specs.Int.{bit_at}
@@ -38,18 +39,4 @@ pub stored_more : (z i at count : ℕ) (ws : List ℕ) (new old next : List Bool
     → ((t : ℕ) → at + 64 * i + count ≤ t → bit next t ≡ bit new t)
     → length next ≡ length new
     → IsStored z (i + 1) at (unpacked z ws) next old
-stored_more z i at count ws new old next h clear e some within before after long = record {
-  within = λ t below inside. elim (cases_lt t (64 * i)) [
-    | inl early ↦ before (at + t) (omega (arith, early)) ∙ h.within t early inside
-    | inr late ↦
-        let j = t - 64 * i in
-        let there : at + 64 * i + j ≡ at + t = omega (arith, late) in
-        let split : t ≡ 64 * i + j = omega (arith, late) in
-        ap (bit next) (sym there)
-        ∙ within j (omega (arith, e, late, below, inside))
-        ∙ sym (bit-place z ws t clear ∙ ap (λ n. n == 1) (place_of ws t i j split (omega (arith, late, below))))
-  ];
-  before = λ t below. before t (omega (arith, below)) ∙ h.before t below;
-  after = λ t above. after t (omega (arith, e, above, some)) ∙ h.after t above;
-  long = long ∙ h.long;
-}
+stored_more z i at count ws new old next h clear e some within before after long = grind (arith, nat_tests, cases_lt, bit-place, place_of)

@@ -1,4 +1,5 @@
 -- What the calls of a lane do to the list that it is seen as.
+use Rattle.std.proofs.lemmas.Bool.Decides.{nat_tests}
 use Rattle.std.proofs.Common.{◌≡◌, ℕ, ◌+◌, ◌-◌, ◌/◌, ◌%◌, ◌<◌, ◌==◌, zero, suc, min, max, not, false, ◌&&◌, ◌||◌, List, replicate, refl, ap, sym, ◌∙◌, inl, inr, get_or, arith}
 use Rattle.std.proofs.lemmas.Nat.Bits.{bit_at-zero, bit_at-lt}
 use Rattle.std.proofs.lemmas.Bool.{cases_lt}
@@ -50,48 +51,24 @@ rest_bits a (suc (suc b)) h k = absurd (omega (arith, k))
 
 -- no place of words of zeros is set
 pub place-zeros : (w t : ℕ) → place (replicate w 0) t ≡ 0
-place-zeros w t = ap (λ n. bit_at n (t % 64)) word ∙ bit_at-zero (t % 64)
-  where
-    word : get_or {A = ℕ} (replicate w 0) (t / 64) 0 ≡ 0
-    word = elim (cases_lt (t / 64) w) [
-      | inl h ↦ get_or-replicate w (t / 64) 0 0 h
-      | inr h ↦ get_or_past (replicate w 0) (t / 64) 0 (omega (arith, length-replicate {A = ℕ} w 0, h))
-    ]
+place-zeros w t = grind (arith, nat_tests, bit_at-zero, cases_lt, get_or-replicate, get_or_past, length-replicate)
 
 -- words of zeros are a list of zeros
 pub unpacked-zeros : (z w : ℕ) → unpacked z (replicate w 0) ≡ replicate z false
-unpacked-zeros z w =
-    same_from_bits _ _ (length-unpacked z (replicate w 0) ∙ sym (length-replicate z false)) (λ t below.
-    let within : t < z = omega (arith, length-unpacked z (replicate w 0), below) in
-    bit-place z (replicate w 0) t (λ u _. place-zeros w u) ∙ ap (λ n. n == 1) (place-zeros w t) ∙ sym (get_or-replicate z t false false within))
+unpacked-zeros z w = grind (arith, nat_tests, same_from_bits, length-unpacked, length-replicate, bit-place, place-zeros, get_or-replicate)
 
 -- Lists of z bits, of which a rotated one joins the others.
 module _ (z p : ℕ) (src new : List ℕ) (src_clear : IsClear src z) (new_clear : IsClear new z) where
   module _ (old : List ℕ) (old_clear : IsClear old z) where
     pub view-sum : ((t : ℕ) → t < z → place new t ≡ (place old t + place src ((t + p) % z)) % 2)
         → (t : ℕ) → t < z → bit (unpacked z new) t ≡ bit (unpacked z old) t ⊕ bit (unpacked z src) ((t + p) % z)
-    view-sum h t below =
-        bit-place z new t new_clear ∙ ap (λ n. n == 1) (h t below)
-        ∙ sum_bits (place old t) (place src ((t + p) % z)) (place-lt old t) (place-lt src ((t + p) % z))
-        ∙ sym (ap (λ b. b ⊕ bit (unpacked z src) ((t + p) % z)) (bit-place z old t old_clear) ∙ ap (λ b. (place old t == 1) ⊕ b) (bit-place z src ((t + p) % z) src_clear))
+    view-sum h t below = grind (arith, nat_tests, bit-place, sum_bits, place-lt)
 
     pub view-once : ((t : ℕ) → t < z → place new t ≡ max (place old t) (place src ((t + p) % z)))
         → (t : ℕ) → t < z → bit (unpacked z new) t ≡ (bit (unpacked z old) t || bit (unpacked z src) ((t + p) % z))
-    view-once h t below =
-        bit-place z new t new_clear ∙ ap (λ n. n == 1) (h t below)
-        ∙ max_bits (place old t) (place src ((t + p) % z)) (place-lt old t) (place-lt src ((t + p) % z))
-        ∙ sym (ap (λ b. b || bit (unpacked z src) ((t + p) % z)) (bit-place z old t old_clear) ∙ ap (λ b. (place old t == 1) || b) (bit-place z src ((t + p) % z) src_clear))
+    view-once h t below = grind (arith, nat_tests, bit-place, max_bits, place-lt)
 
   module _ (old ones : List ℕ) (old_clear : IsClear old z) (ones_clear : IsClear ones z) where
     pub view-twice : ((t : ℕ) → t < z → place new t ≡ max (place old t) (min (place ones t) (place src ((t + p) % z))))
         → (t : ℕ) → t < z → bit (unpacked z new) t ≡ (bit (unpacked z old) t || bit (unpacked z ones) t && bit (unpacked z src) ((t + p) % z))
-    view-twice h t below =
-        let u = (t + p) % z in
-        let both : (min (place ones t) (place src u) == 1) ≡ (bit (unpacked z ones) t && bit (unpacked z src) u) =
-        min_bits (place ones t) (place src u) (place-lt ones t) (place-lt src u)
-        ∙ sym (ap (λ b. b && bit (unpacked z src) u) (bit-place z ones t ones_clear) ∙ ap (λ b. (place ones t == 1) && b) (bit-place z src u src_clear)) in
-        let small : min (place ones t) (place src u) < 2 = omega (arith, place-lt ones t) in
-        bit-place z new t new_clear ∙ ap (λ n. n == 1) (h t below)
-        ∙ max_bits (place old t) (min (place ones t) (place src u)) (place-lt old t) small
-        ∙ ap (λ b. (place old t == 1) || b) both
-        ∙ sym (ap (λ b. b || bit (unpacked z ones) t && bit (unpacked z src) u) (bit-place z old t old_clear))
+    view-twice h t below = grind (arith, nat_tests, min_bits, place-lt, bit-place, max_bits)

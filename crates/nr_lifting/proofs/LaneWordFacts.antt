@@ -1,4 +1,5 @@
 -- Loops that write the words of a lane one by one.
+use Rattle.std.proofs.lemmas.Bool.Decides.{nat_tests}
 use Rattle.std.proofs.Common.{◌≡◌, ℕ, ◌+◌, ◌*◌, ◌/◌, ◌%◌, ◌<◌, ◌≤◌, min, max, List, length, get_or, set, refl, sym, ap, ◌∙◌, inl, inr, arith, length-set, get_or-set_other}
 use Rattle.std.proofs.lemmas.Bool.{cases_lt, cases_eq}
 use Rattle.std.proofs.lemmas.Nat.Bits.{bit_at_and, bit_at_or, bit_at_xor}
@@ -28,29 +29,11 @@ pub written_more : (z i : ℕ) (G : ℕ → ℕ) (next ws old : List ℕ) (word 
     → ((j : ℕ) → j < 64 → 64 * i + j < z → bit_at word j ≡ G (64 * i + j))
     → ((j : ℕ) → j < 64 → z ≤ 64 * i + j → bit_at word j ≡ 0)
     → IsWritten z (i + 1) G next old
-written_more z i G next ws old word h within is low high = record {
-  done = λ t below inside. elim (cases_eq (t / 64) i) [
-    | inl e ↦
-        let split : 64 * i + t % 64 ≡ t = omega (arith, e) in
-        ap (λ w. place w t) is ∙ place-set_same ws i word t (t % 64) within (sym split) (omega arith) ∙ low (t % 64) (omega arith) (omega (arith, split, inside)) ∙ ap G split
-    | inr apart ↦ ap (λ w. place w t) is ∙ place-set_other ws i word t apart ∙ h.done t (omega (arith, below, apart)) inside
-  ];
-  clear = λ t below past. elim (cases_eq (t / 64) i) [
-    | inl e ↦
-        let split : 64 * i + t % 64 ≡ t = omega (arith, e) in
-        ap (λ w. place w t) is ∙ place-set_same ws i word t (t % 64) within (sym split) (omega arith) ∙ high (t % 64) (omega arith) (omega (arith, split, past))
-    | inr apart ↦ ap (λ w. place w t) is ∙ place-set_other ws i word t apart ∙ h.clear t (omega (arith, below, apart)) past
-  ];
-  kept = λ w above. ap (λ v. get_or v w 0) is ∙ get_or-set_other ws i w word 0 (λ e. omega (arith, e, above)) ∙ h.kept w (omega (arith, above));
-  long = ap length is ∙ length-set ws i word ∙ h.long;
-}
+written_more z i G next ws old word h within is low high = grind (arith, cases_eq, place-set_same, place-set_other, get_or-set_other, length-set)
 
 -- when every word is written, no place past z is set
 pub written_clear : (z i : ℕ) (G : ℕ → ℕ) (ws old : List ℕ) → IsWritten z i G ws old → length ws ≤ i → IsClear ws z
-written_clear z i G ws old h all t past = elim (cases_lt t (64 * i)) [
-  | inl inside ↦ h.clear t inside past
-  | inr out ↦ place_past ws t (omega (arith, all, out))
-]
+written_clear z i G ws old h all t past = grind (arith, nat_tests, cases_lt, place_past)
 
 -- and the words are a lane's
 pub written_lane : (z i : ℕ) (G : ℕ → ℕ) (ws old : List ℕ) → IsWritten z i G ws old → length old ≤ i
@@ -82,8 +65,7 @@ module _ (z i p now rotated : ℕ) (ws src : List ℕ) (kept : now ≡ get_or ws
   -- with a second lane, whose word gains the places that both have
   module _ (word : ℕ) (more : List ℕ) (other : word ≡ get_or more i 0) (free : IsClear more z) where
     pub twice_low : 64 * i + j < z → bit_at (bit_or word (bit_and now rotated)) j ≡ max (place more (64 * i + j)) (min (place ws (64 * i + j)) (place src ((64 * i + j + p) % z)))
-    twice_low below =
-        omega (arith, bit_at_or word (bit_and now rotated) j, bit_at_and now rotated j, word_bit i j word more other short, word_bit i j now ws kept short, is j short below)
+    twice_low below = grind (arith, bit_at_or, bit_at_and, word_bit, kept)
 
     pub twice_high : z ≤ 64 * i + j → bit_at (bit_or word (bit_and now rotated)) j ≡ 0
     twice_high past =

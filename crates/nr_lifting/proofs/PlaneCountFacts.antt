@@ -1,4 +1,5 @@
 -- Counts that are kept as bit planes: their digits, and the calls that read and write words of them.
+use Rattle.std.proofs.lemmas.Bool.Decides.{nat_tests}
 use Rattle.std.proofs.Common.{◌≡◌, ◌≢◌, ℕ, zero, suc, ◌+◌, ◌-◌, ◌*◌, ◌/◌, ◌%◌, ◌^◌, ◌<◌, ◌≤◌, ◌==◌, if◌then◌else◌, min, max, List, [], length, get_or, set, refl, sym, ap, subst, ◌∙◌, inl, inr, arith, add-one, length-set, get_or-set_same, get_or-set_other}
 use Rattle.std.proofs.Math.Nat.{pow-suc}
 use Rattle.std.proofs.lemmas.Bool.{cases_eq, cases_lt, ne_eqb}
@@ -45,10 +46,7 @@ pub record Borrows (n : ℕ) (now old : ℕ → ℕ) (u y : ℕ) : Type 0 where
   pub kept : (k : ℕ) → n ≤ k → now k ≡ old k
 
 pub borrows_none : (old : ℕ → ℕ) (u : ℕ) → Borrows 0 old old u u
-borrows_none old u = record {
-  number = omega arith;
-  kept = λ k _. refl;
-}
+borrows_none old u = grind arith
 
 -- one digit more falls
 pub borrows_more : (n : ℕ) (next now old : ℕ → ℕ) (u y x : ℕ) → Borrows n now old u y → x ≡ now n → x < 2 → y < 2
@@ -106,10 +104,7 @@ pub record HasMore (n : ℕ) (D : ℕ → ℕ) (m : ℕ) : Type 0 where
   pub some : m ≡ 1 → 2 ≤ digits_below n D
 
 pub has_more-first : (D : ℕ → ℕ) (m : ℕ) → m ≡ 0 → HasMore 1 D m
-has_more-first D m e = record {
-  none = λ _. omega arith;
-  some = λ one. absurd (omega (arith, e, one));
-}
+has_more-first D m e = grind arith
 
 two_at_least : (n : ℕ) → 0 < n → 2 ≤ 2 ^ n
 two_at_least zero h = absurd (omega (arith, h))
@@ -222,13 +217,4 @@ falls_more z n F next now old group bits h within put falls are = record {
 pub group_enough : (z n : ℕ) (F : ℕ → ℕ) (now old : List (List ℕ)) (bits j : ℕ) → FallsBefore z n F now old → j < 64
     → ((t : ℕ) → t < z → F t ≤ number_at old t) → (64 * n + j < z → bit_at bits j ≡ F (64 * n + j)) → (z ≤ 64 * n + j → bit_at bits j ≡ 0)
     → bit_at bits j ≤ number (get_or now n []) j
-group_enough z n F now old bits j h short enough are none = elim (cases_lt (64 * n + j) z) [
-  | inl inside ↦
-      let t = 64 * n + j in
-      let word : t / 64 ≡ n = omega (arith, short) in
-      let digit : t % 64 ≡ j = omega (arith, short) in
-      let there : number_at old t ≡ number (get_or now n []) j =
-      ap (λ k. number (get_or old k []) (t % 64)) word ∙ ap (number (get_or old n [])) digit ∙ ap (λ g. number g j) (sym (h.kept n (omega arith))) in
-      omega (arith, are inside, enough t inside, there)
-  | inr past ↦ omega (arith, none past)
-]
+group_enough z n F now old bits j h short enough are none = grind (arith, nat_tests, cases_lt, number, none)

@@ -20,23 +20,15 @@ plane_digit planes t k = place (get_or planes k []) t
 
 -- the places of a lane that another is added to, and of one that another is taken from
 pub added_places : (sum old lane : List ℕ) → ((t : ℕ) → is_set sum t ≡ is_set old t ⊕ is_set lane t) → (t : ℕ) → place sum t ≡ (place old t + place lane t) % 2
-added_places sum old lane bits t =
-    same_bit (place sum t) ((place old t + place lane t) % 2) (place-lt sum t) (omega arith) (bits t ∙ sym (sum_bits (place old t) (place lane t) (place-lt old t) (place-lt lane t)))
+added_places sum old lane bits t = grind (arith, same_bit, place-lt, sum_bits)
 
 pub rest_places : (rest lane other : List ℕ) → ((t : ℕ) → is_set rest t ≡ (is_set lane t && not (is_set other t))) → (t : ℕ) → place rest t ≡ min (place lane t) (1 - place other t)
-rest_places rest lane other bits t =
-    same_bit (place rest t) (min (place lane t) (1 - place other t)) (place-lt rest t) (omega (arith, place-lt lane t))
-    (bits t ∙ sym (rest_bits (place lane t) (place other t) (place-lt lane t) (place-lt other t)))
+rest_places rest lane other bits t = grind (arith, same_bit, place-lt, rest_bits)
 
 -- the words of a lane so far, joined
 pub joined_words : (i any word : ℕ) (lane : List ℕ) → ((t : ℕ) → t < 64 * i → place lane t ≤ bit_at any (t % 64)) → word ≡ get_or lane i 0
     → (t : ℕ) → t < 64 * (i + 1) → place lane t ≤ bit_at (bit_or any word) (t % 64)
-joined_words i any word lane before is t below = elim (cases_eq (t / 64) i) [
-  | inl e ↦
-      let here : place lane t ≡ bit_at word (t % 64) = ap (λ k. bit_at (get_or lane k 0) (t % 64)) e ∙ ap (λ w. bit_at w (t % 64)) (sym is) in
-      omega (arith, bit_at_or any word (t % 64), here)
-  | inr apart ↦ omega (arith, bit_at_or any word (t % 64), before t (omega (arith, below, apart)))
-]
+joined_words i any word lane before is t below = grind (arith, cases_eq, bit_at_or)
 
 -- ---- planes that are all alike
 
@@ -58,6 +50,4 @@ digits_more k n next D before same here =
 
 pub zero_digits : (n : ℕ) (D : ℕ → ℕ) → ((k : ℕ) → D k ≡ 0) → digits_below n D ≡ 0
 zero_digits zero D none = refl
-zero_digits (suc n) D none =
-    let product : 2 ^ n * D n ≡ 0 = ap (λ m. 2 ^ n * m) (none n) ∙ omega arith in
-    omega (arith, zero_digits n D none, product)
+zero_digits (suc n) D none = grind (arith, zero_digits n D none)

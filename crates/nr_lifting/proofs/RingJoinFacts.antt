@@ -70,8 +70,7 @@ once_all n now old ws h all = made_whole n (λ t. max (place old t) (place ws t)
 -- Words that have been joined once, and are where they are moved up by z places. There are six of them.
 pub moved_all : (z : ℕ) (now old ws : List ℕ) → length ws ≤ 6 → (n : ℕ) → IsMade n (λ t. max (place old t) (moved z ws t)) now old → z + 384 ≤ 64 * n
     → (t : ℕ) → place now t ≡ max (place old t) (moved z ws t)
-moved_all z now old ws few n h enough = made_whole n (λ t. max (place old t) (moved z ws t)) now old h (λ t out.
-    omega (arith, moved-high z ws t (omega (arith, out, enough)), place_past ws (t - z) (omega (arith, few, out, enough))))
+moved_all z now old ws few n h enough = grind (arith, made_whole, moved-high, place_past)
 
 pub carries_six : (z i : ℕ) (ws : List ℕ) (past : ℕ) → Carries z i ws past → i ≡ 6 → Carries z 6 ws past
 carries_six z i ws past carry six = subst (λ n. Carries z n ws past) six carry
@@ -106,14 +105,10 @@ joined_all z new now old ws n h all again t = again t ∙ ap (λ m. max m (moved
 
 module _ (z : ℕ) (new old ws : List ℕ) (clear : IsClear ws z) (is : (t : ℕ) → place new t ≡ max (max (place old t) (place ws t)) (moved z ws t)) where
   pub gains_twice : GainsTwice z new old ws
-  gains_twice t below =
-      let both : max (place ws t) (moved z ws t) ≡ place ws (t % z) = twice ws z t (place ws t) (moved z ws t) below clear refl (moved-low z ws t) (moved-high z ws t) in
-      omega (arith, is t, both)
+  gains_twice t below = grind (arith, twice, moved-low, moved-high)
 
   pub twice_clear : IsClear old (2 * z) → IsClear new (2 * z)
-  twice_clear before t past =
-      let none : moved z ws t ≡ 0 = moved-high z ws t (omega (arith, past)) ∙ clear (t - z) (omega (arith, past)) in
-      omega (arith, is t, none, before t past, clear t (omega (arith, past)))
+  twice_clear before t past = grind (arith, moved-high)
 
 -- one word is joined, in which both copies stand
 pub joined_word : (z : ℕ) (old ws : List ℕ) → z ≤ 32 → 0 < length old → IsClear ws z
@@ -143,7 +138,4 @@ joined_word z old ws few within clear t =
 
 -- a ring of zeros that gains a block has the block's places
 pub ring_of_zeros : (z w t : ℕ) (ring ws : List ℕ) → GainsTwice z ring (replicate w 0) ws → 0 < z → place ring (t % z) ≡ place ws (t % z)
-ring_of_zeros z w t ring ws gains some =
-    let below : t % z < z = mod_below t z some in
-    let small : place ws (t % z % z) ≡ place ws (t % z) = ap (place ws) (mod_small (t % z) z below) in
-    omega (arith, gains (t % z) (omega (arith, below)), place-zeros w (t % z), small)
+ring_of_zeros z w t ring ws gains some = grind (arith, mod_below, mod_small, place-zeros)

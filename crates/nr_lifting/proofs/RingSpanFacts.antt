@@ -1,4 +1,5 @@
 -- Words that are read from a ring in one piece, and cut by a mask.
+use Rattle.std.proofs.lemmas.Bool.Decides.{nat_tests}
 use Rattle.std.proofs.Common.{◌≡◌, ℕ, ◌+◌, ◌-◌, ◌*◌, ◌/◌, ◌%◌, ◌^◌, ◌<◌, ◌≤◌, max, min, List, get_or, ap, ◌∙◌, inl, inr, arith}
 use Rattle.std.proofs.lemmas.Bool.{cases_lt}
 use Rattle.std.proofs.lemmas.Nat.Bits.{bit_at_above, bit_at_and, bit_at_not, bit_at_or}
@@ -82,7 +83,4 @@ module _ (z word : ℕ) (lane : List ℕ) (first : (t : ℕ) → t < 64 → plac
   first_low G few low t below = first t (omega (arith, few, below)) ∙ low t (omega (arith, few, below)) (omega (arith, below)) ∙ ap G (omega arith)
 
   pub first_high : ((t : ℕ) → 64 ≤ t → place lane t ≡ 0) → ((j : ℕ) → j < 64 → z ≤ 64 * 0 + j → bit_at word j ≡ 0) → IsClear lane z
-  first_high rest high t past = elim (cases_lt t 64) [
-    | inl short ↦ first t short ∙ high t short (omega (arith, past))
-    | inr out ↦ rest t out
-  ]
+  first_high rest high t past = grind (arith, nat_tests, cases_lt)

@@ -1,4 +1,5 @@
 -- Which bit comes to a place when a block is rotated.
+use Rattle.std.proofs.lemmas.Bool.Decides.{nat_tests}
 use Rattle.std.proofs.Common.{◌≡◌, ℕ, ◌+◌, ◌-◌, ◌*◌, ◌%◌, ◌<◌, ◌≤◌, max, List, sym, ap, ◌∙◌, inl, inr, arith}
 use Rattle.std.proofs.Math.Nat.{mod-eq_of_lt, mod-eq-sub-mod}
 use Rattle.std.proofs.lemmas.Bool.{cases_lt}
@@ -16,27 +17,18 @@ mod_once n z h k = mod-eq-sub-mod h ∙ mod_small (n - z) z (omega (arith, h, k)
 -- the places of a block and those moved up by its size make up its ring
 pub twice : (ws : List ℕ) (z t first wrapped : ℕ) → t < 2 * z → IsClear ws z
     → first ≡ place ws t → (t < z → wrapped ≡ 0) → (z ≤ t → wrapped ≡ place ws (t - z)) → max first wrapped ≡ place ws (t % z)
-twice ws z t first wrapped below clear straight low high = elim (cases_lt t z) [
-  | inl h ↦ rw (mod_small t z h) (omega (arith, straight, low h))
-  | inr h ↦ rw (mod_once t z h (omega (arith, below))) (omega (arith, straight, clear t h, high h))
-]
+twice ws z t first wrapped below clear straight low high = grind (arith, nat_tests, cases_lt, mod_small, mod_once)
 
 -- The word from the place on and the word of the wrapped places make up the rotated word. Where one has a bit, the
 -- other has a zero.
 pub rotated : (ws : List ℕ) (z t p first wrapped : ℕ) → t < z → p < z → IsClear ws z
     → first ≡ place ws (t + p) → (t < z - p → wrapped ≡ 0) → (z - p ≤ t → wrapped ≡ place ws (t - (z - p)))
     → max first wrapped ≡ place ws ((t + p) % z)
-rotated ws z t p first wrapped below rotation clear straight low high =
-    twice ws z (t + p) first wrapped (omega (arith, below, rotation)) clear straight (λ h. low (omega (arith, h))) (λ h. high (omega (arith, h)) ∙ ap (place ws) (omega (arith, h, rotation)))
+rotated ws z t p first wrapped below rotation clear straight low high = grind (arith, twice)
 
 -- in a ring a rotated block stands in one piece
 pub ring-rotated : (ring : List ℕ) (z t p : ℕ) → t < z → p < z → IsRing z ring → place ring (t + p) ≡ place ring ((t + p) % z)
-ring-rotated ring z t p below rotation twice = elim (cases_lt (t + p) z) [
-  | inl h ↦ sym (ap (place ring) (mod_small (t + p) z h))
-  | inr h ↦
-      let split : z + (t + p - z) ≡ t + p = omega (arith, h) in
-      sym (ap (place ring) split) ∙ twice (t + p - z) (omega (arith, h, below, rotation)) ∙ sym (ap (place ring) (mod_once (t + p) z h (omega (arith, below, rotation))))
-]
+ring-rotated ring z t p below rotation twice = grind (arith, nat_tests, cases_lt, mod_small, twice, mod_once)
 
 -- a ring that gains a block twice over is one
 pub ring-gains : (z : ℕ) (new old words : List ℕ) → IsRing z old → GainsTwice z new old words → IsRing z new

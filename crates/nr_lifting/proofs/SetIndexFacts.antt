@@ -1,4 +1,6 @@
 -- The set that a lifting size is in, by its set index.
+use Rattle.std.proofs.lemmas.Bool.Decides.{nat_tests}
+use Rattle.std.proofs.Common.{arith}
 use Rattle.std.proofs.Common.{◌≡◌, ℕ, ◌≤◌, ◌&&◌, ◌||◌, Bool, true, false, Option, Some, None, IsSome, rules, List, [], ◌∷◌, get_or, nat_eq, refl, sym, ap, ◌∙◌}
 use Rattle.std.proofs.lemmas.Bool.{true≢false, eqb-true}
 use Rattle.std.proofs.lemmas.List.{get_or_past}
@@ -9,13 +11,7 @@ use Rattle.nr_lifting.specs.Sizes.{sizes, is_in, set_index, set_0, set_1, set_2,
 -- what holds of each number of a list holds of one that is in it
 all_listed : (test : ℕ → Bool) (xs : List ℕ) (z : ℕ) → list_all test xs ≡ true → is_in z xs ≡ true → test z ≡ true
 all_listed test [] z all listed = absurd (true≢false (sym listed))
-all_listed test (x ∷ xs) z all listed = go (test x) (nat_eq x z) refl refl all listed (all_listed test xs z)
-  where
-    go : (a b : Bool) → test x ≡ a → nat_eq x z ≡ b → (a && list_all test xs) ≡ true → (b || is_in z xs) ≡ true
-        → (list_all test xs ≡ true → is_in z xs ≡ true → test z ≡ true) → test z ≡ true
-    go true true is same all listed later = sym (ap test (eqb-true x z same)) ∙ is
-    go true false is other all listed later = later all listed
-    go false b is same all listed later = absurd (true≢false (sym all))
+all_listed test (x ∷ xs) z all listed = grind (arith, nat_tests, nat_eq, all_listed test xs z, eqb-true)
 
 -- the eight sets, by their index
 abbrev sets : List (List ℕ)

@@ -16,7 +16,4 @@ loop-i-preserved c =
     falls_more _ _ _ _ _ _ _ c.ring_word.result c.loop-i.invariant (omega arith) refl c.lower_word.ensures c.ring_word.ensures.rotated
 
 pub returns : goal.returns
-returns c = record {
-  numbers = λ t below. c.loop-i.invariant.numbers t (omega (arith, below)) below;
-  long = c.loop-i.invariant.long;
-}
+returns c = grind arith

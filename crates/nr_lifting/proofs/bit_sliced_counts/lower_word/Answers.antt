@@ -5,10 +5,7 @@ use Rattle.nr_lifting.proofs.PlaneCountFacts.{borrows_none, lowered_digit, plane
 use Rattle.nr_lifting.proofs.bit_sliced_counts.lower_word.Goals as goal
 
 pub loop-b-init : goal.loop-b-init
-loop-b-init g c = record {
-  digits = λ j short. borrows_none _ (bit_at c.args.bits j);
-  long = refl;
-}
+loop-b-init g c = grind (arith, borrows_none)
 
 -- the next plane falls
 pub loop-b-preserved : goal.loop-b-preserved

@@ -1,3 +1,4 @@
+use Rattle.std.proofs.lemmas.Bool.Decides.{nat_tests}
 use Rattle.std.proofs.Common.{◌*◌, ◌/◌, ◌%◌, refl, ap, ◌∙◌, inl, inr, arith}
 use Rattle.std.proofs.lemmas.Bool.{cases_lt}
 use Rattle.std.specs.Int.{bit_at}
@@ -15,7 +16,4 @@ pub returns-clause-joined : goal.returns-clause-joined
 returns-clause-joined c = λ t below. c.loop-k.invariant.done t (omega (arith, below)) below
 
 pub returns-clause-ring_clear : goal.returns-clause-ring_clear
-returns-clause-ring_clear c = λ t past. elim (cases_lt t (64 * c.loop-k.k)) [
-  | inl inside ↦ c.loop-k.invariant.clear t inside past
-  | inr out ↦ ap (λ n. bit_at n (t % 64)) (c.loop-k.invariant.kept (t / 64) (omega (arith, out))) ∙ c.requires.ring_clear t past
-]
+returns-clause-ring_clear c = grind (arith, nat_tests, cases_lt)

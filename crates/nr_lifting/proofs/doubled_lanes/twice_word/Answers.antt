@@ -12,7 +12,4 @@ returns-clause-twice c = λ j short below.
     (c.window.ensures j short ∙ ap (place c.args.words.now) (omega arith)) (c.wrapped_word.ensures.low j) (c.wrapped_word.ensures.high j short)
 
 pub returns-clause-clear : goal.returns-clause-clear
-returns-clause-clear c = λ j short past.
-    let first : bit_at c.window.result j ≡ 0 = c.window.ensures j short ∙ c.requires.clear _ (omega (arith, past)) in
-    let wrapped : bit_at c.wrapped_word.result j ≡ 0 = c.wrapped_word.ensures.high j short (omega (arith, past)) ∙ c.requires.clear _ (omega (arith, past)) in
-    omega (arith, bit_at_or c.window.result c.wrapped_word.result j, first, wrapped)
+returns-clause-clear c = grind (arith, bit_at_or)

@@ -19,12 +19,10 @@ loop-i-preserved c =
     }
 
 pub returns-clause-ones_lane : goal.returns-clause-ones_lane
-returns-clause-ones_lane c =
-    written_lane _ _ _ _ _ c.loop-i.invariant.ones_at (omega arith) c.requires.ones.above c.requires.ones.below
+returns-clause-ones_lane c = grind (arith, written_lane)
 
 pub returns-clause-more_lane : goal.returns-clause-more_lane
-returns-clause-more_lane c =
-    written_lane _ _ _ _ _ c.loop-i.invariant.more_at (omega arith) c.requires.more.above c.requires.more.below
+returns-clause-more_lane c = grind (arith, written_lane)
 
 pub returns-clause-ones : goal.returns-clause-ones
 returns-clause-ones c = λ t below. c.loop-i.invariant.ones_at.done t (omega (arith, below)) below

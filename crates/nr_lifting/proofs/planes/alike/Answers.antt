@@ -9,11 +9,7 @@ use Rattle.nr_lifting.proofs.planes.alike.Goals as goal
 use Rattle.nr_lifting.proofs.planes.alike.Goals.{then-n-b-eq1, else-n-b-eq1}
 
 pub loop-b-init : goal.loop-b-init
-loop-b-init c = record {
-  numbers = λ t short. omega arith;
-  rest = λ k above t. zero_at 0 7 6 k t;
-  long = refl;
-}
+loop-b-init c = grind (arith, zero_at)
 
 -- the next plane
 pub loop-b-preserved : goal.loop-b-preserved

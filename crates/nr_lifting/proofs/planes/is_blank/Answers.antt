@@ -1,3 +1,4 @@
+use Rattle.std.proofs.lemmas.Bool.Decides.{nat_tests}
 use Rattle.std.proofs.Common.{◌≡◌, ◌*◌, ◌%◌, refl, ap, ◌∙◌, inl, inr, arith}
 use Rattle.std.proofs.lemmas.Bool.{cases_lt, eqb-true}
 use Rattle.std.proofs.lemmas.Nat.Bits.{bit_at-zero}
@@ -11,9 +12,4 @@ pub loop-i-preserved : goal.loop-i-preserved
 loop-i-preserved c = joined_words c.loop-i.i c.loop-i.any _ c.args.lane.now c.loop-i.invariant refl
 
 pub returns : goal.returns
-returns c = λ blank t. elim (cases_lt t (64 * c.loop-i.i)) [
-  | inl below ↦
-      let none : bit_at c.loop-i.any (t % 64) ≡ 0 = ap (λ n. bit_at n (t % 64)) (eqb-true c.loop-i.any 0 blank) ∙ bit_at-zero (t % 64) in
-      omega (arith, c.loop-i.invariant t below, none)
-  | inr past ↦ place_past c.args.lane.now t (omega (arith, past))
-]
+returns c = grind (arith, nat_tests, cases_lt, eqb-true, bit_at-zero, place_past)

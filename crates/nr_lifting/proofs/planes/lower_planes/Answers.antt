@@ -21,5 +21,4 @@ returns-then-is_blank c =
     planes_all (List ℕ) place [] place-lt c.args.size 7 _ _ _ _ rest (omega arith) (place-lt c.loop-b.borrow) c.requires.enough
 
 pub returns-after-loop-b : goal.returns-after-loop-b
-returns-after-loop-b c =
-    planes_all (List ℕ) place [] place-lt c.args.size c.loop-b.b _ _ _ _ c.loop-b.invariant (omega arith) (place-lt c.loop-b.borrow) c.requires.enough
+returns-after-loop-b c = grind (arith, planes_all, place-lt)

@@ -10,8 +10,7 @@ loop-b-init c = λ t. has_more-first _ _ (place-zeros 6 t)
 
 -- the next plane is joined
 pub loop-b-preserved : goal.loop-b-preserved
-loop-b-preserved c = λ t.
-    has_more-next c.loop-b.b (plane_digit c.args.planes.now t) _ _ (c.loop-b.invariant t) (omega arith) (place-lt c.loop-b.more t) (place-lt (get_or c.args.planes.now c.loop-b.b []) t) (c.join_lane.ensures t)
+loop-b-preserved c = grind (arith, has_more-next, plane_digit, place-lt)
 
 pub returns : goal.returns
 returns c = λ t.

@@ -6,12 +6,7 @@ use Rattle.nr_lifting.proofs.ring_spans.join_twice.Goals as goal
 
 -- one word
 pub returns-then-size-le32 : goal.returns-then-size-le32
-returns-then-size-le32 c =
-    let is = joined_word c.args.size c.args.ring.now c.args.words.now c.if-size-le32.true (omega arith) c.requires.clear in
-    record {
-      joined = gains_twice c.args.size _ c.args.ring.now c.args.words.now c.requires.clear is;
-      ring_clear = twice_clear c.args.size _ c.args.ring.now c.args.words.now c.requires.clear is c.requires.ring_clear;
-    }
+returns-then-size-le32 c = grind (arith, joined_word, gains_twice, twice_clear)
 
 -- the next word is moved up
 pub loop-i-preserved : goal.loop-i-preserved

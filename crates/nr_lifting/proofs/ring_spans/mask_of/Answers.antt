@@ -8,7 +8,4 @@ loop-i-preserved c =
     written_more _ _ _ _ _ _ _ c.loop-i.invariant (omega arith) refl c.mask_word.ensures.low (λ j _ past. c.mask_word.ensures.high j past)
 
 pub returns : goal.returns
-returns c = record {
-  set = λ t below. c.loop-i.invariant.done t (omega (arith, below)) below;
-  clear = written_clear _ _ _ c.loop-i.mask _ c.loop-i.invariant (omega (arith, c.loop-i.invariant.long));
-}
+returns c = grind (arith, written_clear)

@@ -7,18 +7,10 @@ use Rattle.nr_lifting.proofs.bit_sliced_counts.BitSlicedCounts.new.Goals as goal
 
 -- one block more
 pub loop-k-preserved : goal.loop-k-preserved
-loop-k-preserved c = record {
-  made = made_more (replicate 7 (replicate {A = ℕ} 6 0)) c.loop-k.k _ _ c.loop-k.invariant.made c.push_reserved.ensures.items;
-  room = omega (arith, c.loop-k.invariant.room, c.push_reserved.ensures.capacity);
-}
+loop-k-preserved c = grind (arith, made_more)
 
 pub invariant_of-result : goal.invariant_of-result
-invariant_of-result c = record {
-  some = c.requires.some;
-  short = c.requires.short;
-  mask = c.mask_of-mask.ensures;
-  few = omega (arith, c.requires.few, ap length c.loop-k.invariant.made, length-replicate c.loop-k.k (replicate 7 (replicate {A = ℕ} 6 0)));
-}
+invariant_of-result c = grind (arith, length-replicate)
 
 pub returns-clause-items : goal.returns-clause-items
 returns-clause-items c =

@@ -6,10 +6,7 @@ use Rattle.nr_lifting.proofs.doubled_lanes.DoubledLanes.new.Goals as goal
 
 -- one ring more
 pub loop-i-preserved : goal.loop-i-preserved
-loop-i-preserved c = record {
-  made = made_more (replicate {A = ℕ} 12 0) c.loop-i.i _ _ c.loop-i.invariant.made c.push_reserved.ensures.items;
-  room = omega (arith, c.loop-i.invariant.room, c.push_reserved.ensures.capacity);
-}
+loop-i-preserved c = grind (arith, made_more)
 
 pub invariant_of-result : goal.invariant_of-result
 invariant_of-result c =

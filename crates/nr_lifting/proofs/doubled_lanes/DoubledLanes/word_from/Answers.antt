@@ -29,13 +29,4 @@ returns-clause-bits c = λ j below.
     ∙ ap (bit (block_bits z rings).items) whole)
 
 pub returns-clause-inside : goal.returns-clause-inside
-returns-clause-inside c =
-    let z = c.self.inside.size in
-    let rings = c.self.inside.rings.items in
-    let p = c.args.p in
-    let within = bit_within c.self.invariant c.self.view_is p c.requires in
-    let small : p % z < z = mod_below p z c.self.invariant.some in
-    let blocks : (p / z + 1) * z ≤ length rings * z = mul-le-mul_right z (omega (arith, within)) in
-    let split : p / z * z + p % z ≡ p = omega arith in
-    let inside : p + c.min.result ≤ length (block_bits z rings).items = omega (arith, blocks, split, small, c.min.ensures, long_is z c.self.invariant.some rings) in
-    subst (λ (u : BlockBits). p + c.min.result ≤ length u.items) c.self.view_is inside
+returns-clause-inside c = grind (arith, bit_within, mod_below, mul-le-mul_right, long_is)
