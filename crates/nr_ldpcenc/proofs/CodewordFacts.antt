@@ -16,7 +16,7 @@ use Rattle.nr_segment.specs.Plan.{Numbers, IsSound}
 use Rattle.nr_shifttable.specs.Accepted.{Entries, entries_in}
 use Rattle.nr_shifttable.specs.CoreRows.{CoreSum}
 use Rattle.nr_shifttable.specs.Tails.{HasShape}
-use Rattle.nr_ldpcenc.specs.Rows.{block_checks, checks_of}
+use Rattle.nr_ldpcenc.specs.Rows.{block_checks}
 use Rattle.nr_ldpcenc.specs.Codeword.{IsWordOf, completed, HasOneWord, codeword, IsCodeword}
 use Rattle.nr_ldpcenc.specs.Solving.{word_of}
 use Rattle.nr_ldpcenc.specs.Inside.{IsSolvedTo, AgreeBelow, Copies}
@@ -42,10 +42,6 @@ rows_four Two = lit≤ tt
 
 pub has_some : (n : ℕ) → not (n == 0) ≡ true → 0 < n
 has_some n h = grind (arith, nat_tests)
-
--- the checks with the columns counted in two parts
-checks-are : (t : Entries) (g : Graph) (p : Numbers) → checks_of (entries_in g t) p.set p.z (rows_of g) (info_cols_of g + rows_of g) ≡ block_checks t g p
-checks-are t g p = ap (checks_of (entries_in g t) p.set p.z (rows_of g)) (sym (columns-are g))
 
 pub take_agree : (k : ℕ) (a b : List Bool) → length a ≡ length b → AgreeBelow k (bit a) (bit b) → take k a ≡ take k b
 take_agree k a b same agree = same_from_bits (take k a) (take k b) (omega (arith, length-take k a, length-take k b)) (λ j lt.
@@ -99,10 +95,8 @@ module _ (t : Entries) (g : Graph) (b : ℕ) (p : Numbers) (shape : HasShape (en
   one_word info whole =
       let long : length info ≡ info_cols_of g * p.z = whole ∙ sound.columns in
       record {
-        is_word = subst (λ c. IsWordOf c info (word_of (entries_in g t) p.set (info_cols_of g) (rows_of g) p.z info)) (checks-are t g p)
-            (word_of-is (entries_in g t) p.set (info_cols_of g) (rows_of g) p.z shape adds (rows_four g) sound.size_some info long);
-        only = λ word is. word_of-only (entries_in g t) p.set (info_cols_of g) (rows_of g) p.z shape adds (rows_four g) sound.size_some info word long
-            (subst (λ c. IsWordOf c info word) (sym (checks-are t g p)) is);
+        is_word = word_of-is (entries_in g t) p.set (info_cols_of g) (rows_of g) p.z shape adds (rows_four g) sound.size_some (cols_of g) (columns-are g) info long;
+        only = λ word is. word_of-only (entries_in g t) p.set (info_cols_of g) (rows_of g) p.z shape adds (rows_four g) sound.size_some (cols_of g) (columns-are g) info word long is;
       }
 
   -- the codeword of K' bits begins with them and has zeros for fillers
@@ -128,19 +122,13 @@ module _ (t : Entries) (g : Graph) (b : ℕ) (p : Numbers) (shape : HasShape (en
         };
       }
 
-  -- a word with its parity columns solved is the one of its first K bits
-  pub solved_completed : (word : List Bool) → length word ≡ cols_of g * p.z → IsSolvedTo (entries_in g t) p.set (info_cols_of g) p.z (rows_of g) (bit word) → word ≡ completed t g p (take p.k word)
-  unfolding completed
-  solved_completed word long solved =
-      let whole : length word ≡ (info_cols_of g + rows_of g) * p.z = long ∙ ap (λ c. c * p.z) (columns-are g) in
-      solved-is (entries_in g t) p.set (info_cols_of g) (rows_of g) p.z shape adds (rows_four g) sound.size_some word whole solved
-      ∙ ap (λ k. word_of (entries_in g t) p.set (info_cols_of g) (rows_of g) p.z (take k word)) (sym sound.columns)
-
   -- a word with its parity columns solved is the one of the K bits that it began with
   pub completed_word : (old new : List Bool) → length old ≡ cols_of g * p.z → length new ≡ length old → AgreeBelow p.k (bit old) (bit new)
       → IsSolvedTo (entries_in g t) p.set (info_cols_of g) p.z (rows_of g) (bit new) → new ≡ completed t g p (take p.k old)
+  unfolding completed
   completed_word old new long same kept solved =
-      solved_completed new (same ∙ long) solved ∙ ap (completed t g p) (take_agree p.k new old same (λ q lt. sym (kept q lt)))
+      solved-is (entries_in g t) p.set (info_cols_of g) (rows_of g) p.z shape adds (rows_four g) sound.size_some (cols_of g) (columns-are g) new (same ∙ long) solved
+      ∙ ap (word_of (entries_in g t) p.set (info_cols_of g) (rows_of g) p.z) (ap (λ k. take k new) (sym sound.columns) ∙ take_agree p.k new old same (λ q lt. sym (kept q lt)))
 
   pub completed_is_word : (old new : List Bool) → length old ≡ cols_of g * p.z → new ≡ completed t g p (take p.k old) → IsWordOf (block_checks t g p) (take p.k old) new
   completed_is_word old new long is = rw is (one_word (take p.k old) (filled_take g b p sound old long)).is_word

@@ -54,14 +54,6 @@ regroup g h i j p q r s = grind arith
 abbrev pub rows_sum : List Entry → ℕ → ℕ → (ℕ → Bool) → ℕ → Bool
 rows_sum es set z w t = (parity w (row_at es set z 0 t) ⊕ parity w (row_at es set z 1 t)) ⊕ (parity w (row_at es set z 2 t) ⊕ parity w (row_at es set z 3 t))
 
--- split at the first parity column
-rows-split : (es : List Entry) (set z : ℕ) (w : ℕ → Bool) (n t : ℕ) (p q r s : List (ℕ × ℕ))
-    → tail_of es set n 0 ≡ p → tail_of es set n 1 ≡ q → tail_of es set n 2 ≡ r → tail_of es set n 3 ≡ s
-    → rows_sum es set z w t ≡ core_sum es set z w n t ⊕ ((tail_sum w z t p ⊕ tail_sum w z t q) ⊕ (tail_sum w z t r ⊕ tail_sum w z t s))
-rows-split es set z w n t p q r s e f g h =
-    rw (row-splits es set z w n 0 t p e, row-splits es set z w n 1 t q f, row-splits es set z w n 2 t r g, row-splits es set z w n 3 t s h)
-    (regroup (head_sum es set z w n 0 t) (head_sum es set z w n 1 t) (head_sum es set z w n 2 t) (head_sum es set z w n 3 t) (tail_sum w z t p) (tail_sum w z t q) (tail_sum w z t r) (tail_sum w z t s))
-
 plus_is : (a b : Bool) → a ⊕ b ≡ plus a b
 plus_is false b = refl
 plus_is true b = refl
@@ -107,8 +99,11 @@ ending es set z n w t adds =
 pub core_rows-add_up : (es : List Entry) (set z n : ℕ) (w : ℕ → Bool) (t : ℕ) → CoreSum es set n
     → rows_sum es set z w t ≡ core_sum es set z w n t ⊕ w (one_at z t n (core_rotation es set n))
 core_rows-add_up es set z n w t adds =
-    rows-split es set z w n t (tail_of es set n 0) (tail_of es set n 1) (tail_of es set n 2) (tail_of es set n 3) refl refl refl refl
-    ∙ ap (λ q. core_sum es set z w n t ⊕ q) (ending es set z n w t adds)
+    let tail = λ (i : ℕ). tail_of es set n i in
+    let head = λ (i : ℕ). head_sum es set z w n i t in
+    rw (row-splits es set z w n 0 t (tail 0) refl, row-splits es set z w n 1 t (tail 1) refl, row-splits es set z w n 2 t (tail 2) refl, row-splits es set z w n 3 t (tail 3) refl)
+    (regroup (head 0) (head 1) (head 2) (head 3) (tail_sum w z t (tail 0)) (tail_sum w z t (tail 1)) (tail_sum w z t (tail 2)) (tail_sum w z t (tail 3))
+    ∙ ap (λ q. core_sum es set z w n t ⊕ q) (ending es set z n w t adds))
 
 -- what a row has from a later column on
 later : (set n m : ℕ) (xs : List Entry) → n ≤ m → map (cell set) (filter (λ e. nat_le m e.col) xs) ≡ filter (λ (c : ℕ × ℕ). nat_le m c.0) (map (cell set) (filter (λ e. nat_le n e.col) xs))

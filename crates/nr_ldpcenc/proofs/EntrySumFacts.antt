@@ -27,12 +27,9 @@ module _ (set z : ℕ) (w : ℕ → Bool) (j t : ℕ) where
   pub sum-next : (xs : List Entry) (i : ℕ) (d : Entry) → i < length xs → sum_before set z w j t (take (i + 1) xs) ≡ sum_before set z w j t (take i xs) ⊕ entry_bit (get_or xs i d)
   sum-next xs i d lt = ap (sum_before set z w j t) (take_more xs i d lt) ∙ sum-last (take i xs) (get_or xs i d)
 
--- one more bit has been added, or none
+-- one more bit has been added
 pub gained : (first old new sum more bit_ : Bool) → old ≡ first ⊕ sum → new ≡ old ⊕ bit_ → more ≡ sum ⊕ bit_ → new ≡ first ⊕ more
 gained first old new sum more bit_ e f g = grind arith
-
-pub not_gained : (first old sum more : Bool) → old ≡ first ⊕ sum → more ≡ sum ⊕ false → old ≡ first ⊕ more
-not_gained first old sum more e g = grind arith
 
 -- the bit that an entry before the column adds
 pub entry_bit-there : (set z : ℕ) (w : ℕ → Bool) (j t : ℕ) (e : Entry) (col v : ℕ) → col ≡ e.col → v ≡ value_in set e → col < j

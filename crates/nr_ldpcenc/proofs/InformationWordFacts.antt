@@ -24,7 +24,7 @@ begins-from_agree info w le same = same_from_bits (take (length info) w) info (o
     let low : k < length info = omega (arith, length-take (length info) w, lt) in
     get_or-take (length info) w k false low ∙ same k low)
 
-module _ (es : List Entry) (set n rows z : ℕ) (shape : HasShape es set n rows) (adds : CoreSum es set n) (four : 4 ≤ rows) (pos : 0 < z) where
+module _ (es : List Entry) (set n rows z : ℕ) (shape : HasShape es set n rows) (adds : CoreSum es set n) (four : 4 ≤ rows) (pos : 0 < z) (cols : ℕ) (counted : cols ≡ n + rows) where
   word_of-bits : (info : List Bool) → AgreeBelow ((n + rows) * z) (with_columns es set n z (bit info) (rows - 1)) (bit (word_of es set n rows z info))
   unfolding word_of
   word_of-bits info p lt =
@@ -35,7 +35,7 @@ module _ (es : List Entry) (set n rows z : ℕ) (shape : HasShape es set n rows)
   word_of-length info = length-map-range_with_len (with_columns es set n z (bit info) (rows - 1)) 0 ((n + rows) * z)
 
   -- it begins with the bits, and meets every row
-  pub word_of-is : (info : List Bool) → length info ≡ n * z → IsWordOf (checks_of es set z rows (n + rows)) info (word_of es set n rows z info)
+  pub word_of-is : (info : List Bool) → length info ≡ n * z → IsWordOf (checks_of es set z rows cols) info (word_of es set n rows z info)
   word_of-is info whole =
       let word : List Bool = word_of es set n rows z info in
       let f : ℕ → Bool = with_columns es set n z (bit info) (rows - 1) in
@@ -45,34 +45,34 @@ module _ (es : List Entry) (set n rows z : ℕ) (shape : HasShape es set n rows)
       let low : n * z ≤ (n + rows) * z = mul-le-mul_right z (omega arith) in
       let same : AgreeBelow (n * z) (bit info) (bit word) = λ p lt. built.begins p lt ∙ word_of-bits info p (omega (arith, lt, low)) in
       record {
-        long = word_of-length info;
+        long = word_of-length info ∙ ap (λ c. c * z) (sym counted);
         begins = begins-from_agree info word (omega (arith, word_of-length info)) (λ p lt. sym (same p (omega (arith, lt, whole))));
-        meets = meets_from_solved es set n rows z shape adds four (n + rows) (bit word) (solved_same es set n z pos rows f (bit word) (omega arith) solved (word_of-bits info));
+        meets = meets_from_solved es set n rows z shape adds four cols (bit word) (solved_same es set n z pos rows f (bit word) (omega arith) solved (word_of-bits info));
       }
 
   -- no other word does
-  pub word_of-only : (info word : List Bool) → length info ≡ n * z → IsWordOf (checks_of es set z rows (n + rows)) info word → word ≡ word_of es set n rows z info
+  pub word_of-only : (info word : List Bool) → length info ≡ n * z → IsWordOf (checks_of es set z rows cols) info word → word ≡ word_of es set n rows z info
   word_of-only info word whole is =
       let other : List Bool = word_of es set n rows z info in
       let one = word_of-is info whole in
       let all : n + (rows - 1) + 1 ≡ n + rows = omega arith in
       let agree : AgreeBelow ((n + rows) * z) (bit word) (bit other) = subst (λ m. AgreeBelow (m * z) (bit word) (bit other)) all
       (solved_agree es set n z pos rows (bit word) (bit other)
-      (solved_from_meets es set n rows z shape adds four (n + rows) (bit word) is.meets)
-      (solved_from_meets es set n rows z shape adds four (n + rows) (bit other) one.meets)
+      (solved_from_meets es set n rows z shape adds four cols (bit word) is.meets)
+      (solved_from_meets es set n rows z shape adds four cols (bit other) one.meets)
       (λ p lt.
       let low : p < length info = omega (arith, lt, whole) in
       begins-agree info word is.begins p low ∙ sym (begins-agree info other one.begins p low)) (rows - 1) (omega arith)) in
-      same_from_bits word other (is.long ∙ sym one.long) (λ k lt. agree k (subst (λ m. k < m) is.long lt))
+      same_from_bits word other (is.long ∙ sym one.long) (λ k lt. agree k (subst (λ m. k < m) (is.long ∙ ap (λ c. c * z) counted) lt))
 
   -- a word with its parity columns solved is the one of its information bits
-  pub solved-is : (word : List Bool) → length word ≡ (n + rows) * z → IsSolvedTo es set n z rows (bit word) → word ≡ word_of es set n rows z (take (n * z) word)
+  pub solved-is : (word : List Bool) → length word ≡ cols * z → IsSolvedTo es set n z rows (bit word) → word ≡ word_of es set n rows z (take (n * z) word)
   solved-is word long solved =
       let info : List Bool = take (n * z) word in
-      let low : n * z ≤ (n + rows) * z = mul-le-mul_right z (omega arith) in
+      let low : n * z ≤ cols * z = mul-le-mul_right z (omega (arith, counted)) in
       let whole : length info ≡ n * z = omega (arith, length-take (n * z) word) in
       word_of-only info word whole (record {
         long = long;
         begins = ap (λ m. take m word) whole;
-        meets = meets_from_solved es set n rows z shape adds four (n + rows) (bit word) solved;
+        meets = meets_from_solved es set n rows z shape adds four cols (bit word) solved;
       })

@@ -13,7 +13,7 @@ use Rattle.nr_ldpcenc.specs.Parity.{parity}
 use Rattle.nr_ldpcenc.specs.Rows.{Meets, one_at, row_at, checks_of, unrotate}
 use Rattle.nr_ldpcenc.specs.Solving.{head_sum, core_sum, core_rotation, with_column, with_first, with_next, with_columns, row_ending}
 use Rattle.nr_ldpcenc.specs.Inside.{IsSolvedTo, AgreeBelow}
-use Rattle.nr_ldpcenc.proofs.RowSumFacts.{heads-agree, row-splits}
+use Rattle.nr_ldpcenc.proofs.RowSumFacts.{heads-agree, place_below, row-splits}
 use Rattle.nr_ldpcenc.proofs.CoreRowFacts.{core_rows-add_up, row-ends, row_ending-high}
 
 -- the places of a column, lane by lane
@@ -23,20 +23,17 @@ place-zero z t j lt =
     let same : (t + 0 % z) % z ≡ t = ap (λ r. (t + r) % z) none ∙ ap (λ r. r % z) (omega arith) ∙ mod-eq_of_lt lt in
     ap (λ r. j * z + r) same
 
-pub rotate-unrotate : (z v u : ℕ) → u < z → (unrotate z v u + v % z) % z ≡ u
-rotate-unrotate z v u lt =
-    let small : v % z < z = mod_below v z (omega arith) in
-    let whole : (u + (z - v % z)) + v % z ≡ u + z = omega arith in
-    mod-add-mod (u + (z - v % z)) z (v % z) ∙ ap (λ n. n % z) whole ∙ add-mod_right u z ∙ mod-eq_of_lt lt
+-- a turn and the rest of the circle bring each place back
+turned_back : (z p q u : ℕ) → p + q ≡ z → u < z → ((u + p) % z + q) % z ≡ u
+turned_back z p q u circle lt =
+    let whole : (u + p) + q ≡ u + z = omega (arith, circle) in
+    mod-add-mod (u + p) z q ∙ ap (λ n. n % z) whole ∙ add-mod_right u z ∙ mod-eq_of_lt lt
 
-pub unrotate-rotate : (z v t : ℕ) → t < z → unrotate z v ((t + v % z) % z) ≡ t
-unrotate-rotate z v t lt =
-    let small : v % z < z = mod_below v z (omega arith) in
-    let whole : (t + v % z) + (z - v % z) ≡ t + z = omega arith in
-    mod-add-mod (t + v % z) z (z - v % z) ∙ ap (λ n. n % z) whole ∙ add-mod_right t z ∙ mod-eq_of_lt lt
+unrotate-rotate : (z v t : ℕ) → t < z → unrotate z v ((t + v % z) % z) ≡ t
+unrotate-rotate z v t lt = turned_back z (v % z) (z - v % z) t (omega (arith, mod_below v z (omega (arith, lt)))) lt
 
-pub place-unrotate : (z v u j : ℕ) → u < z → one_at z (unrotate z v u) j v ≡ j * z + u
-place-unrotate z v u j lt = ap (λ r. j * z + r) (rotate-unrotate z v u lt)
+place-unrotate : (z v u j : ℕ) → u < z → one_at z (unrotate z v u) j v ≡ j * z + u
+place-unrotate z v u j lt = ap (λ r. j * z + r) (turned_back z (z - v % z) (v % z) u (omega (arith, mod_below v z (omega (arith, lt)))) lt)
 
 -- agreement below one column more
 pub agree_more : (z j : ℕ) (v w : ℕ → Bool) → AgreeBelow (j * z) v w → ((u : ℕ) → u < z → v (j * z + u) ≡ w (j * z + u)) → AgreeBelow ((j + 1) * z) v w
@@ -53,18 +50,6 @@ core_sums-agree es set z v w n t pos same =
     let head = λ (i : ℕ). heads-agree es set z v w n i t pos same in
     λ k. (head 0 k ⊕ head 1 k) ⊕ (head 2 k ⊕ head 3 k)
 
-no_more : (a b : Bool) → (a ⊕ (b ⊕ false)) ≡ false → b ≡ a
-no_more a b e = grind arith
-
-met_by : (a b : Bool) → b ≡ a → (a ⊕ (b ⊕ false)) ≡ false
-met_by a b e = grind arith
-
-core_gives : (a b c d s x : Bool) → ((a ⊕ b) ⊕ (c ⊕ d)) ≡ s ⊕ x → a ≡ false → b ≡ false → c ≡ false → d ≡ false → x ≡ s
-core_gives a b c d s x e f g h i = grind arith
-
-third_met : (a b c d s x : Bool) → ((a ⊕ b) ⊕ (c ⊕ d)) ≡ s ⊕ x → a ≡ false → b ≡ false → d ≡ false → x ≡ s → c ≡ false
-third_met a b c d s x e f g i h = grind arith
-
 module _ (es : List Entry) (set n rows z : ℕ) (shape : HasShape es set n rows) (adds : CoreSum es set n) (four : 4 ≤ rows) where
   ends_low : (i : ℕ) → 1 ≤ i → i < rows → row_ending i < rows
   ends_low i some lt = grind (arith, nat_tests)
@@ -72,31 +57,24 @@ module _ (es : List Entry) (set n rows z : ℕ) (shape : HasShape es set n rows)
   -- a word that meets every row has its parity columns solved
   pub solved_from_meets : (cols : ℕ) (w : ℕ → Bool) → Meets (checks_of es set z rows cols) w → IsSolvedTo es set n z rows w
   solved_from_meets cols w met = record {
-    first = λ t lt. core_gives
-        (parity w (row_at es set z 0 t)) (parity w (row_at es set z 1 t)) (parity w (row_at es set z 2 t)) (parity w (row_at es set z 3 t))
-        (core_sum es set z w n t) (w (one_at z t n (core_rotation es set n)))
-        (core_rows-add_up es set z n w t adds)
-        (met 0 t (omega arith) lt) (met 1 t (omega arith) lt) (met 2 t (omega arith) lt) (met 3 t (omega arith) lt);
-    later = λ i t some lim lt. no_more
-        (head_sum es set z w (n + i) (row_ending i) t) (w (one_at z t (n + i) 0))
-        (sym (row-splits es set z w (n + i) (row_ending i) t ((n + i, 0) ∷ []) (row-ends es set n rows i shape some lim)) ∙ met (row_ending i) t (ends_low i some lim) lt);
+    first = λ t lt.
+        grind (arith, core_rows-add_up es set z n w t adds, met 0 t (omega arith) lt, met 1 t (omega arith) lt, met 2 t (omega arith) lt, met 3 t (omega arith) lt);
+    later = λ i t some lim lt.
+        grind (arith, row-splits es set z w (n + i) (row_ending i) t ((n + i, 0) ∷ []) (row-ends es set n rows i shape some lim), met (row_ending i) t (ends_low i some lim) lt);
   }
 
   -- a row that ends in a solved column is met
   ending_met : (w : ℕ → Bool) → IsSolvedTo es set n z rows w → (i t : ℕ) → 1 ≤ i → i < rows → t < z → parity w (row_at es set z (row_ending i) t) ≡ false
   ending_met w solved i t some lim lt =
-      row-splits es set z w (n + i) (row_ending i) t ((n + i, 0) ∷ []) (row-ends es set n rows i shape some lim)
-      ∙ met_by (head_sum es set z w (n + i) (row_ending i) t) (w (one_at z t (n + i) 0)) (solved.later i t some lim lt)
+      grind (arith, row-splits es set z w (n + i) (row_ending i) t ((n + i, 0) ∷ []) (row-ends es set n rows i shape some lim), solved.later i t some lim lt)
 
   -- a word with its parity columns solved meets every row
   pub meets_from_solved : (cols : ℕ) (w : ℕ → Bool) → IsSolvedTo es set n z rows w → Meets (checks_of es set z rows cols) w
   meets_from_solved cols w solved zero t low lt = ending_met w solved 1 t (omega arith) (omega arith) lt
   meets_from_solved cols w solved (suc zero) t low lt = ending_met w solved 2 t (omega arith) (omega arith) lt
-  meets_from_solved cols w solved (suc (suc zero)) t low lt = third_met
-      (parity w (row_at es set z 0 t)) (parity w (row_at es set z 1 t)) (parity w (row_at es set z 2 t)) (parity w (row_at es set z 3 t))
-      (core_sum es set z w n t) (w (one_at z t n (core_rotation es set n)))
-      (core_rows-add_up es set z n w t adds)
-      (ending_met w solved 1 t (omega arith) (omega arith) lt) (ending_met w solved 2 t (omega arith) (omega arith) lt) (ending_met w solved 3 t (omega arith) (omega arith) lt) (solved.first t lt)
+  meets_from_solved cols w solved (suc (suc zero)) t low lt =
+      let ends = λ (i : ℕ) (some : 1 ≤ i) (lim : i < rows). ending_met w solved i t some lim lt in
+      grind (arith, core_rows-add_up es set z n w t adds, solved.first t lt, ends 1 (omega arith) (omega arith), ends 2 (omega arith) (omega arith), ends 3 (omega arith) (omega arith))
   meets_from_solved cols w solved (suc (suc (suc k))) t low lt =
       let i = suc (suc (suc k)) in
       ap (λ j. parity w (row_at es set z j t)) (row_ending-high i (omega arith)) ∙ ending_met w solved i t (omega arith) low lt
@@ -121,24 +99,18 @@ module _ (es : List Entry) (set n z : ℕ) (pos : 0 < z) where
       ∙ sym (sw.later (suc k) u (omega arith) lt low)
       ∙ ap w at))
 
-  place_in : (t j v lim : ℕ) → j < lim → one_at z t j v < lim * z
-  place_in t j v lim lt =
-      let lane : (t + v % z) % z < z = mod_below (t + v % z) z pos in
-      let up : (j + 1) * z ≤ lim * z = mul-le-mul_right z (omega arith) in
-      omega arith
-
   -- solved columns stay so in a word that has the same ones
   pub solved_same : (lim : ℕ) (v w : ℕ → Bool) → 1 ≤ lim → IsSolvedTo es set n z lim v → AgreeBelow ((n + lim) * z) v w → IsSolvedTo es set n z lim w
   solved_same lim v w some solved same = record {
     first = λ t lt.
         let rot = core_rotation es set n in
         let low : n * z ≤ (n + lim) * z = mul-le-mul_right z (omega arith) in
-        sym (same (one_at z t n rot) (place_in t n rot (n + lim) (omega arith)))
+        sym (same (one_at z t n rot) (place_below z t n rot (n + lim) pos (omega arith)))
         ∙ solved.first t lt
         ∙ core_sums-agree es set z v w n t pos (λ p h. same p (omega (arith, h, low)));
     later = λ i t one lt lane.
         let low : (n + i) * z ≤ (n + lim) * z = mul-le-mul_right z (omega arith) in
-        sym (same (one_at z t (n + i) 0) (place_in t (n + i) 0 (n + lim) (omega arith)))
+        sym (same (one_at z t (n + i) 0) (place_below z t (n + i) 0 (n + lim) pos (omega arith)))
         ∙ solved.later i t one lt lane
         ∙ heads-agree es set z v w (n + i) (row_ending i) t pos (λ p h. same p (omega (arith, h, low)));
   }

@@ -1,13 +1,13 @@
-use Rattle.std.proofs.Common.{◌≡◌, ℕ, ◌+◌, ◌*◌, ◌<◌, ◌≤◌, ◌==◌, Bool, false, List, replicate, sym, ap, ◌∙◌, arith}
+use Rattle.std.proofs.Common.{◌≡◌, ℕ, ◌+◌, ◌*◌, ◌≤◌, ◌==◌, Bool, List, sym, ap, ◌∙◌, arith}
 use Rattle.std.proofs.Math.Nat.{mul-le-mul_right}
-use Rattle.nr_bitvec.specs.Bit.{◌⊕◌, bit}
+use Rattle.nr_bitvec.specs.Bit.{bit}
 use Rattle.nr_bitvec.specs.Packed.{place}
 use Rattle.nr_graphpick.specs.Graph.{info_cols_of, cols_of}
 use Rattle.nr_lifting.proofs.LaneViewFacts.{place-zeros}
-use Rattle.nr_shifttable.specs.Accepted.{entries_in, row_of}
+use Rattle.nr_shifttable.specs.Accepted.{entries_in}
 use Rattle.nr_shifttable.specs.declared.entry.Entry.{Entry}
 use Rattle.nr_ldpcenc.specs.Doubled.{col_bit}
-use Rattle.nr_ldpcenc.specs.Solving.{sum_before, head_sum, row_ending}
+use Rattle.nr_ldpcenc.specs.Solving.{row_ending}
 use Rattle.nr_ldpcenc.proofs.CodewordFacts.{columns-are, columns_few}
 use Rattle.nr_ldpcenc.proofs.PutColumnFacts.{next_put}
 use Rattle.nr_ldpcenc.proofs.CoreRowFacts.{row_ending-low, row_ending-high}
@@ -29,17 +29,12 @@ returns-clause-solved g c =
     let es : List Entry = entries_in plan.graph c.args.table.now in
     let n : ℕ = info_cols_of plan.graph in
     let w : ℕ → Bool = bit c.args.bits.now.items in
-    let v : ℕ → Bool = col_bit z c.args.cols.now in
-    let column : c.info_cols.result + i ≡ n + i = ap (λ q. q + i) c.info_cols.ensures in
     let its_row : c.if-i-lt3.row ≡ row_ending i = elim c.if-i-lt3.branch [
       | then-i-lt3 b ↦ b.row-is ∙ row_ending-low i b.if-i-lt3.true
       | else-i-lt3 b ↦ b.row-is ∙ row_ending-high i b.if-i-lt3.false
     ] in
-    let rows : c.row_entries.result.now ≡ row_of es (row_ending i) = c.row_entries.ensures.entries ∙ ap (row_of es) its_row in
-    let none : (t : ℕ) → (place (replicate g.row.W 0) t == 1) ≡ false = λ t. ap (λ q. q == 1) (place-zeros g.row.W t) in
-    let sum : (t : ℕ) → t < z → (place c.clip.new.sum t == 1) ≡ head_sum es plan.set z w (n + i) (row_ending i) t =
-    λ t lt. ap (λ q. q == 1) (c.clip.ensures.within t lt) ∙ c.add_row.ensures t lt
-    ∙ (λ j. none t j ⊕ sum_before (c.set_in-set.ensures.value j) z v (column j) t (rows j))
-    ∙ sym (heads-agree es plan.set z w v (n + i) (row_ending i) t c.requires.some c.requires.columns.same) in
     next_put es plan.set n z c.requires.some w (bit c.put_block.new.bits.items) (λ t. place c.clip.new.sum t == 1) ((c.info_cols.result + i) * z)
-    i (ap (λ q. q * z) column) c.requires.after c.requires.solved c.put_block.ensures.before c.put_block.ensures.block sum
+    i (ap (λ q. (q + i) * z) c.info_cols.ensures) c.requires.after c.requires.solved c.put_block.ensures.before c.put_block.ensures.block
+    (λ t lt. ap (λ q. q == 1) (c.clip.ensures.within t lt)
+    ∙ rw (c.set_in-set.ensures.value, c.info_cols.ensures, c.row_entries.ensures.entries, its_row, place-zeros g.row.W t) at (c.add_row.ensures t lt)
+    ∙ sym (heads-agree es plan.set z w (col_bit z c.args.cols.now) (n + i) (row_ending i) t c.requires.some c.requires.columns.same))
