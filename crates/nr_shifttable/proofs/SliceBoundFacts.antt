@@ -1,35 +1,63 @@
 -- Between the start of a row and that of the next stand the row's entries, and so of a column.
-use Rattle.std.proofs.Common.{◌≡◌, ◌≢◌, ℕ, ◌+◌, ◌-◌, ◌<◌, ◌≤◌, ◌==◌, nat_lt, nat_le, true, false, List, [], length, get_or, set, take, drop, sym, subst, ◌∙◌, below_more, get_or-set_other, get_or-set_same, arith}
+use Rattle.std.proofs.Common.{◌≡◌, ◌≢◌, ℕ, ◌+◌, ◌-◌, ◌<◌, ◌≤◌, ◌==◌, nat_lt, true, false, List, [], length, get_or, set, take, drop, sym, subst, ⊎_elim, below_more, get_or-set_other, get_or-set_same, arith}
 use Rattle.std.specs.Prelude.{slice_index}
 use Rattle.std.specs.List.{filter, All, AllWithin}
-use Rattle.std.specs.List.Sorted.{IsNonDecreasingBy, IsPartitionPoint}
+use Rattle.std.specs.List.Sorted.{IsNonDecreasingBy}
 use Rattle.std.proofs.lemmas.List.{get_or_default}
-use Rattle.std.proofs.lemmas.Bool.{ltb-true}
-use Rattle.std.proofs.lemmas.Bool.Decides.{nat_tests}
+use Rattle.std.proofs.lemmas.Bool.{cases_lt, eq-eqb, le-ltb, lt-ltb, ltb-false, ltb-true, ne_eqb}
 use Rattle.nr_shifttable.specs.declared.entry.Entry.{Entry}
 use Rattle.nr_shifttable.specs.Accepted.{row_of, column_of, Ascending}
 use Rattle.nr_shifttable.specs.OrdersInside.{IsStart}
 use Rattle.nr_shifttable.proofs.EntryOrderFacts.{ascending-narrow}
-use Rattle.nr_shifttable.proofs.SliceFacts.{filter_none, partition_order, slice_of_key}
+use Rattle.nr_shifttable.proofs.SliceFacts.{filter_none, filter_within}
 
-module _ (key : Entry → ℕ) (es : List Entry) (i start stop : ℕ) (low : IsStart key es i start) (high : IsStart key es (i + 1) stop) where
-  next_is : (a : ℕ) → nat_lt a (i + 1) ≡ nat_le a i
-  next_is a = grind (arith, nat_tests)
+-- all before a start are below the key, and none from it on is
+module _ (key : Entry → ℕ) (es : List Entry) (i start : ℕ) (is : IsStart key es i start) where
+  below_start : AllWithin (λ e. key e < i) es 0 start
+  below_start k d a b = ltb-true (key (get_or es k d)) i (is.point.0 k d a b)
 
-  -- what is below the next key is not above this one
-  point_next : IsPartitionPoint (λ e. nat_le (key e) i ≡ true) (λ e. nat_le (key e) i ≡ false) es stop
-  point_next = (λ k d a b. sym (next_is (key (get_or es k d))) ∙ high.point.0 k d a b, λ k d a b. sym (next_is (key (get_or es k d))) ∙ high.point.1 k d a b)
+  from_start : AllWithin (λ e. i ≤ key e) es start (length es)
+  from_start k d a b = ltb-false (key (get_or es k d)) i (is.point.1 k d a b)
+
+  -- what is before the start of a key is below the next key
+  pub start-before : AllWithin (λ e. key e < i + 1) es 0 start
+  start-before k d a b = let lt = below_start k d a b in omega arith
+
+-- the starts of a key and of the next among the starts of all
+module _ (key : Entry → ℕ) (es : List Entry) (starts : List ℕ) (n i start stop : ℕ) (are : (k : ℕ) → k < n → IsStart key es k (slice_index starts k)) (inside : i + 1 < n)
+    (start_is : start ≡ slice_index starts i) (stop_is : stop ≡ slice_index starts (i + 1)) where
+  low : IsStart key es i start
+  low = subst (IsStart key es i) (sym start_is) (are i (omega arith))
+
+  high : IsStart key es (i + 1) stop
+  high = subst (IsStart key es (i + 1)) (sym stop_is) (are (i + 1) inside)
 
   pub starts-order : start ≤ stop
-  starts-order = partition_order key es i start stop low.within low.point point_next
+  starts-order = ⊎_elim
+      (λ crossed.
+      let none : Entry = record { row = 0; col = 0; values = [] } in
+      let before = below_start key es i start low stop none (omega arith) crossed in
+      let past = from_start key es (i + 1) stop high stop none (omega arith) (let room = low.within in omega arith) in
+      absurd (omega arith))
+      (λ le. le)
+      (cases_lt stop start)
 
   pub starts-slice : take (stop - start) (drop start es) ≡ filter (λ e. key e == i) es
-  starts-slice = slice_of_key key es i start stop starts-order high.within low.point point_next
+  starts-slice = filter_within (λ e. key e == i) es start stop starts-order high.within
+      (λ k d a b. let before = below_start key es i start low k d a b in ne_eqb (key (get_or es k d)) i (λ e. omega arith))
+      (λ k d a b.
+      let from = from_start key es i start low k d a (let room = high.within in omega arith) in
+      let before = below_start key es (i + 1) stop high k d (omega arith) b in
+      eq-eqb (key (get_or es k d)) i (omega arith))
+      (λ k d a b. let from = from_start key es (i + 1) stop high k d a b in ne_eqb (key (get_or es k d)) i (λ e. omega arith))
 
 -- one start more
 pub starts-more : (key : Entry → ℕ) (es : List Entry) (starts : List ℕ) (i start : ℕ) → i < length starts → IsStart key es i start
     → ((k : ℕ) → k < i → IsStart key es k (slice_index starts k)) → (k : ℕ) → k < i + 1 → IsStart key es k (slice_index (set starts i start) k)
-starts-more key es starts i start room here before = grind (arith, below_more, get_or-set_other, get_or-set_same)
+starts-more key es starts i start room here before =
+    below_more (λ k. IsStart key es k (slice_index (set starts i start) k)) i
+    (λ k lt. let ne : k ≢ i = omega arith in subst (IsStart key es k) (sym (get_or-set_other starts i k start 0 ne)) (before k lt))
+    (subst (IsStart key es i) (sym (get_or-set_same starts i start 0 room)) here)
 
 -- a start is found where all before it are below the key, and the entry at it is not
 pub start-from : (key : Entry → ℕ) (es : List Entry) (i start : ℕ) → start ≤ length es → IsNonDecreasingBy key es
@@ -37,35 +65,22 @@ pub start-from : (key : Entry → ℕ) (es : List Entry) (i start : ℕ) → sta
 start-from key es i start within up before e here = record {
   within = within;
   point = (
-    (λ k d a b. below (key (get_or es k d)) (before k d a b)),
+    (λ k d a b. lt-ltb (key (get_or es k d)) i (before k d a b)),
     (λ k d a b.
         let room : start < length es = omega arith in
         let first : i ≤ key (get_or es start d) = subst (λ x. i ≤ key x) (get_or_default es start e d room) (here room) in
         let rise = up start k d a b in
-        above (key (get_or es k d)) (omega arith)),
+        le-ltb (key (get_or es k d)) i (omega arith)),
   );
 }
-  where
-    below : (a : ℕ) → a < i → nat_lt a i ≡ true
-    below a lt = grind (arith, nat_tests)
-
-    above : (a : ℕ) → i ≤ a → nat_lt a i ≡ false
-    above a le = grind (arith, nat_tests)
 
 -- one more entry below the key
 pub within-more : (key : Entry → ℕ) (es : List Entry) (i n : ℕ) → n < length es → AllWithin (λ e. key e < i) es 0 n → (d : Entry) → key (get_or es n d) < i → AllWithin (λ e. key e < i) es 0 (n + 1)
 within-more key es i n room before e here k d a b = below_more (λ j. key (get_or es j d) < i) n (λ j lt. before j d (omega arith) lt) (subst (λ x. key x < i) (get_or_default es n e d room) here) k b
 
--- what is before the start of a key is below the next key
-pub start-before : (key : Entry → ℕ) (es : List Entry) (i start : ℕ) → IsStart key es i start → AllWithin (λ e. key e < i + 1) es 0 start
-start-before key es i start is k d a b = grind (arith, nat_tests, ltb-true)
-
 -- past the last row or column no entry stands
 pub no_row : (es : List Entry) (i : ℕ) → 46 ≤ i → All (λ e. e.row < 46) es → row_of es i ≡ []
-no_row es i past below = grind (arith, nat_tests, filter_none, below)
+no_row es i past short = filter_none (λ e. e.row == i) es (λ k d lt. let below = short k d lt in ne_eqb (get_or es k d).row i (λ e. omega arith))
 
 pub no_column : (es : List Entry) (j : ℕ) → 68 ≤ j → Ascending 0 es → column_of es j ≡ []
-no_column es j past up = filter_none (λ e. e.col == j) es (λ k d lt. other (get_or es k d).col j past (ascending-narrow 0 es up k d lt))
-  where
-    other : (a j : ℕ) → 68 ≤ j → a < 68 → (a == j) ≡ false
-    other a j past below = grind (arith, nat_tests)
+no_column es j past up = filter_none (λ e. e.col == j) es (λ k d lt. let below = ascending-narrow 0 es up k d lt in ne_eqb (get_or es k d).col j (λ e. omega arith))
