@@ -1,5 +1,4 @@
 pub mod SeatFacts
-mod BoundedTestFacts
 mod OctetFacts
 mod SpreadFacts
 mod UnspreadFacts

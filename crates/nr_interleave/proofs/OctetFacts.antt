@@ -3,72 +3,66 @@ use Rattle.std.proofs.Common.{◌≡◌, ℕ, ◌+◌, ◌-◌, ◌*◌, ◌/◌
 use Rattle.std.specs.Int.{bit_at}
 use Rattle.std.specs.Int.RustNames.{bit_and, bit_or}
 use Rattle.std.specs.List.{flat_map, list_any}
-use Rattle.std.proofs.lemmas.Bool.{cases_lt, cases_eq, eqb-true}
+use Rattle.std.proofs.lemmas.Bool.{agree_below, agree_below_at, cases_lt, cases_eq, eqb-true}
 use Rattle.std.proofs.lemmas.Bool.Decides.{nat_tests}
 use Rattle.std.proofs.lemmas.List.Folds.{list_any-append}
 use Rattle.std.proofs.lemmas.Nat.{and_mask}
 use Rattle.std.proofs.lemmas.Nat.Bits.{bit_at-lt, bit_at_and, bit_at_or}
 use Rattle.nr_bitvec.proofs.BitFacts.{bit_at_shr, bit_at_shl_low, bit_at_shl_high, bit_at_mod, bit_at_mod_above}
-use Rattle.nr_interleave.proofs.BoundedTestFacts.{all_under, all_under-at}
 use Rattle.nr_interleave.specs.Octets.{in_two_steps, apart_from, columns_apart, columns_together, exchanged_from, Gets, MakesColumns, MakesOctets, neither, octets_back, octets_turned, only_in, moved_up, together_from}
 use Rattle.nr_interleave.specs.declared.octets.TheConstants.{OF_2, OF_4, OF_6, OF_8}
 
 -- ---- masks, tested
 
 -- a list has one number alone
-is_only : ℕ → List ℕ → Bool
+abbrev is_only : ℕ → List ℕ → Bool
 is_only n [] = false
 is_only n (x ∷ []) = x == n
 is_only n (x ∷ y ∷ zs) = false
 
 only-is : (n : ℕ) (xs : List ℕ) → is_only n xs ≡ true → xs ≡ n ∷ []
-unfolding is_only
 only-is n [] e = cc e
 only-is n (x ∷ []) e = ap (λ k. k ∷ []) (eqb-true x n e)
 only-is n (x ∷ y ∷ zs) e = cc e
 
-octets-from : (qm : ℕ) (masks : List ℕ) → all_under qm (λ r. all_under 8 (λ c. is_only (qm * c + r) (octets_turned (columns_apart qm masks) (8 * r + c)))) ≡ true → MakesOctets qm masks
-octets-from qm masks tested r c row column =
-    only-is (qm * c + r) (octets_turned (columns_apart qm masks) (8 * r + c))
-    (all_under-at 8 (λ c. is_only (qm * c + r) (octets_turned (columns_apart qm masks) (8 * r + c)))
-    (all_under-at qm (λ r. all_under 8 (λ c. is_only (qm * c + r) (octets_turned (columns_apart qm masks) (8 * r + c)))) tested r row) c column)
+-- a test of all places of a matrix
+abbrev tested : ℕ → ℕ → (ℕ → ℕ → Bool) → Bool
+tested rows columns test = agree_below (λ r. agree_below (test r) (λ _. true) columns) (λ _. true) rows
+
+tested-at : (rows columns : ℕ) (test : ℕ → ℕ → Bool) → tested rows columns test ≡ true → (r c : ℕ) → r < rows → c < columns → test r c ≡ true
+tested-at rows columns test all r c row column =
+    agree_below_at (test r) (λ _. true) columns c (agree_below_at (λ r. agree_below (test r) (λ _. true) columns) (λ _. true) rows r all row) column
+
+octets-from : (qm : ℕ) (masks : List ℕ) → tested qm 8 (λ r c. is_only (qm * c + r) (octets_turned (columns_apart qm masks) (8 * r + c))) ≡ true → MakesOctets qm masks
+octets-from qm masks all r c row column =
+    only-is (qm * c + r) (octets_turned (columns_apart qm masks) (8 * r + c)) (tested-at qm 8 (λ r c. is_only (qm * c + r) (octets_turned (columns_apart qm masks) (8 * r + c))) all r c row column)
 
 pub of-2 : MakesOctets 2 OF_2
-unfolding all_under is_only
 of-2 = octets-from 2 OF_2 refl
 
 pub of-4 : MakesOctets 4 OF_4
-unfolding all_under is_only
 of-4 = octets-from 4 OF_4 refl
 
 pub of-6 : MakesOctets 6 OF_6
-unfolding all_under is_only
 of-6 = octets-from 6 OF_6 refl
 
 pub of-8 : MakesOctets 8 OF_8
-unfolding all_under is_only
 of-8 = octets-from 8 OF_8 refl
 
-columns-from : (qm : ℕ) (masks : List ℕ) → all_under 8 (λ c. all_under qm (λ r. is_only (8 * r + c) (columns_together qm masks octets_back (c * qm + r)))) ≡ true → MakesColumns qm masks
-columns-from qm masks tested c r column row =
-    only-is (8 * r + c) (columns_together qm masks octets_back (c * qm + r))
-    (all_under-at qm (λ r. is_only (8 * r + c) (columns_together qm masks octets_back (c * qm + r)))
-    (all_under-at 8 (λ c. all_under qm (λ r. is_only (8 * r + c) (columns_together qm masks octets_back (c * qm + r)))) tested c column) r row)
+columns-from : (qm : ℕ) (masks : List ℕ) → tested 8 qm (λ c r. is_only (8 * r + c) (columns_together qm masks octets_back (c * qm + r))) ≡ true → MakesColumns qm masks
+columns-from qm masks all c r column row =
+    only-is (8 * r + c) (columns_together qm masks octets_back (c * qm + r)) (tested-at 8 qm (λ c r. is_only (8 * r + c) (columns_together qm masks octets_back (c * qm + r))) all c r column row)
 
 pub back-2 : MakesColumns 2 OF_2
-unfolding all_under is_only
 back-2 = columns-from 2 OF_2 refl
 
 pub back-4 : MakesColumns 4 OF_4
-unfolding all_under is_only
 back-4 = columns-from 4 OF_4 refl
 
 pub back-6 : MakesColumns 6 OF_6
-unfolding all_under is_only
 back-6 = columns-from 6 OF_6 refl
 
 pub back-8 : MakesColumns 8 OF_8
-unfolding all_under is_only
 back-8 = columns-from 8 OF_8 refl
 
 -- ---- what comes to a place
@@ -125,65 +119,50 @@ moved-up x mask lane by p few =
     bit_at_mod (x * 2 ^ by) 64 p there.inside ∙ bit_at_shl_high x by p (omega (arith, few, there.above)))
 
 pub apart-gets : (x mask lane by : ℕ) → by ≤ lane → Gets (apart_from mask lane by) x (bit_or (bit_and x mask) (bit_and (x * 2 ^ by % 2 ^ 64) (mask * 2 ^ lane % 2 ^ 64)))
-apart-gets x mask lane by few p =
-    let test : ℕ → Bool = λ k. bit_at x k == 1 in
-    or-one (bit_and x mask) (bit_and (x * 2 ^ by % 2 ^ 64) (moved_up mask lane)) p
-    ∙ ap (λ b. b || (bit_at (bit_and (x * 2 ^ by % 2 ^ 64) (moved_up mask lane)) p == 1)) (in-mask x x mask p p (λ mark. refl))
-    ∙ ap (λ b. list_any test (only_in mask p p) || b) (moved-up x mask lane by p few)
-    ∙ sym (list_any-append test (only_in mask p p) (only_in (moved_up mask lane) p (p - by)))
+apart-gets x mask lane by few = record {
+  bits = λ p. cc (or-one (bit_and x mask) (bit_and (x * 2 ^ by % 2 ^ 64) (moved_up mask lane)) p, in-mask x x mask p p (λ mark. refl), moved-up x mask lane by p few, list_any-append (λ k. bit_at x k == 1) (only_in mask p p) (only_in (moved_up mask lane) p (p - by)));
+}
 
 pub together-gets : (x mask lane by : ℕ) → Gets (together_from mask lane by) x (bit_or (bit_and x mask) (bit_and (x / 2 ^ by) (mask * 2 ^ (lane - by) % 2 ^ 64)))
-together-gets x mask lane by p =
-    let test : ℕ → Bool = λ k. bit_at x k == 1 in
-    or-one (bit_and x mask) (bit_and (x / 2 ^ by) (moved_up mask (lane - by))) p
-    ∙ ap (λ b. b || (bit_at (bit_and (x / 2 ^ by) (moved_up mask (lane - by))) p == 1)) (in-mask x x mask p p (λ mark. refl))
-    ∙ ap (λ b. list_any test (only_in mask p p) || b) (in-mask x (x / 2 ^ by) (moved_up mask (lane - by)) p (by + p) (λ mark. bit_at_shr x by p))
-    ∙ sym (list_any-append test (only_in mask p p) (only_in (moved_up mask (lane - by)) p (by + p)))
+together-gets x mask lane by = record {
+  bits = λ p. cc (or-one (bit_and x mask) (bit_and (x / 2 ^ by) (moved_up mask (lane - by))) p, in-mask x x mask p p (λ mark. refl), in-mask x (x / 2 ^ by) (moved_up mask (lane - by)) p (by + p) (λ mark. bit_at_shr x by p), list_any-append (λ k. bit_at x k == 1) (only_in mask p p) (only_in (moved_up mask (lane - by)) p (by + p)));
+}
 
 pub exchanged-gets : (x mask by : ℕ) → Gets (exchanged_from mask by) x
     (bit_or (bit_or (bit_and x (neither mask (moved_up mask by))) (bit_and (x * 2 ^ by % 2 ^ 64) (moved_up mask by))) (bit_and (x / 2 ^ by) mask))
-exchanged-gets x mask by p =
-    let test : ℕ → Bool = λ k. bit_at x k == 1 in
-    let kept : ℕ = bit_and x (neither mask (moved_up mask by)) in
-    let up : ℕ = bit_and (x * 2 ^ by % 2 ^ 64) (moved_up mask by) in
-    let kept_from : List ℕ = only_in (neither mask (moved_up mask by)) p p in
-    let up_from : List ℕ = only_in (moved_up mask by) p (p - by) in
-    or-one (bit_or kept up) (bit_and (x / 2 ^ by) mask) p
-    ∙ ap (λ b. b || (bit_at (bit_and (x / 2 ^ by) mask) p == 1)) (or-one kept up p)
-    ∙ ap (λ b. (b || (bit_at up p == 1)) || (bit_at (bit_and (x / 2 ^ by) mask) p == 1)) (in-mask x x (neither mask (moved_up mask by)) p p (λ mark. refl))
-    ∙ ap (λ b. (list_any test kept_from || b) || (bit_at (bit_and (x / 2 ^ by) mask) p == 1)) (moved-up x mask by by p (omega arith))
-    ∙ ap (λ b. b || (bit_at (bit_and (x / 2 ^ by) mask) p == 1)) (sym (list_any-append test kept_from up_from))
-    ∙ ap (λ b. list_any test (kept_from ++ up_from) || b) (in-mask x (x / 2 ^ by) mask p (by + p) (λ mark. bit_at_shr x by p))
-    ∙ sym (list_any-append test (kept_from ++ up_from) (only_in mask p (by + p)))
+exchanged-gets x mask by = record {
+  bits = λ p.
+      let test : ℕ → Bool = λ k. bit_at x k == 1 in
+      let kept : ℕ = bit_and x (neither mask (moved_up mask by)) in
+      let up : ℕ = bit_and (x * 2 ^ by % 2 ^ 64) (moved_up mask by) in
+      let stays : List ℕ = only_in (neither mask (moved_up mask by)) p p in
+      let comes : List ℕ = only_in (moved_up mask by) p (p - by) in
+      cc (or-one (bit_or kept up) (bit_and (x / 2 ^ by) mask) p, or-one kept up p, in-mask x x (neither mask (moved_up mask by)) p p (λ mark. refl), moved-up x mask by by p (omega arith), in-mask x (x / 2 ^ by) mask p (by + p) (λ mark. bit_at_shr x by p), list_any-append test stays comes, list_any-append test (stays ++ comes) (only_in mask p (by + p)));
+}
 
 through : (earlier : ℕ → List ℕ) (x w : ℕ) → Gets earlier x w → (ks : List ℕ)
     → list_any (λ k. bit_at w k == 1) ks ≡ list_any (λ k. bit_at x k == 1) (flat_map earlier ks)
 through earlier x w gets [] = refl
-through earlier x w gets (k ∷ ks) =
-    ap (λ b. b || list_any (λ k. bit_at w k == 1) ks) (gets k)
-    ∙ ap (λ b. list_any (λ k. bit_at x k == 1) (earlier k) || b) (through earlier x w gets ks)
-    ∙ sym (list_any-append (λ k. bit_at x k == 1) (earlier k) (flat_map earlier ks))
+through earlier x w gets (k ∷ ks) = cc (gets.bits k, through earlier x w gets ks, list_any-append (λ k. bit_at x k == 1) (earlier k) (flat_map earlier ks))
 
-pub then-gets : (later earlier : ℕ → List ℕ) (x w v : ℕ) → Gets earlier x w → Gets later w v → Gets (in_two_steps later earlier) x v
-then-gets later earlier x w v first second p = second p ∙ through earlier x w first (later p)
+pub then-gets : {later earlier : ℕ → List ℕ} {x w v : ℕ} → Gets earlier x w → Gets later w v → Gets (in_two_steps later earlier) x v
+then-gets {later} {earlier} {x} {w} first second = record { bits = λ p. second.bits p ∙ through earlier x w first (later p) }
 
 -- a place to which one bit comes
-pub only-comes : (come : ℕ → List ℕ) (x w p k : ℕ) → Gets come x w → come p ≡ k ∷ [] → (bit_at w p == 1) ≡ (bit_at x k == 1)
-only-comes come x w p k gets only = gets p ∙ ap (list_any (λ k. bit_at x k == 1)) only ∙ sym (one-any (bit_at x k == 1))
+pub only-comes : {come : ℕ → List ℕ} {x w : ℕ} (p k : ℕ) → Gets come x w → come p ≡ k ∷ [] → (bit_at w p == 1) ≡ (bit_at x k == 1)
+only-comes {come} {x} p k gets only = gets.bits p ∙ ap (list_any (λ k. bit_at x k == 1)) only ∙ sym (one-any (bit_at x k == 1))
 
 -- ---- octets of words
 
 -- an octet of a word
-octet_of : ℕ → ℕ → ℕ
+abbrev octet_of : ℕ → ℕ → ℕ
 octet_of w row = bit_and (w / 2 ^ (8 * row)) 255
 
 octet-low : (w row j : ℕ) → j < 8 → bit_at (octet_of w row) j ≡ bit_at w (8 * row + j)
-unfolding octet_of
 octet-low w row j below =
     ap (λ n. bit_at n j) (and_mask (w / 2 ^ (8 * row)) 8) ∙ bit_at_mod (w / 2 ^ (8 * row)) 8 j below ∙ bit_at_shr w (8 * row) j
 
 octet-high : (w row j : ℕ) → 8 ≤ j → bit_at (octet_of w row) j ≡ 0
-unfolding octet_of
 octet-high w row j past =
     ap (λ n. bit_at n j) (and_mask (w / 2 ^ (8 * row)) 8) ∙ bit_at_mod_above (w / 2 ^ (8 * row)) 8 j past
 
@@ -191,56 +170,35 @@ octet-high w row j past =
 module _ (octets : List ℕ) (row eight word : ℕ) (inside : eight < 8)
     (before : (j : ℕ) → j < 8 * eight → bit_at word j ≡ bit_at (get_or octets (j / 8) 0) (8 * row + j % 8))
     (none : (j : ℕ) → 8 * eight ≤ j → bit_at word j ≡ 0) where
-  e : ℕ
-  e = octet_of (get_or octets eight 0) row
+  abbrev next : ℕ
+  next = octet_of (get_or octets eight 0) row * 2 ^ (8 * eight) % 2 ^ 64
 
-  both : (j : ℕ) → bit_at (bit_or word (e * 2 ^ (8 * eight) % 2 ^ 64)) j ≡ max (bit_at word j) (bit_at (e * 2 ^ (8 * eight) % 2 ^ 64) j)
-  both j = bit_at_or word (e * 2 ^ (8 * eight) % 2 ^ 64) j
+  both : (j : ℕ) → bit_at (bit_or word next) j ≡ max (bit_at word j) (bit_at next j)
+  both j = bit_at_or word next j
 
-  more : (j : ℕ) → j < 8 * (eight + 1) → bit_at (bit_or word (e * 2 ^ (8 * eight) % 2 ^ 64)) j ≡ bit_at (get_or octets (j / 8) 0) (8 * row + j % 8)
-  unfolding e
-  more j below = elim (cases_lt j (8 * eight)) [
+  pub octet-more : (j : ℕ) → j < 8 * (eight + 1) → bit_at (bit_or word next) j ≡ bit_at (get_or octets (j / 8) 0) (8 * row + j % 8)
+  octet-more j below = elim (cases_lt j (8 * eight)) [
     | inl first ↦
-        let nothing : bit_at (e * 2 ^ (8 * eight) % 2 ^ 64) j ≡ 0 =
-        bit_at_mod (e * 2 ^ (8 * eight)) 64 j (omega (arith, first, inside)) ∙ bit_at_shl_low e (8 * eight) j first in
-        let same : bit_at (bit_or word (e * 2 ^ (8 * eight) % 2 ^ 64)) j ≡ bit_at word j = omega (arith, both j, nothing) in
-        same ∙ before j first
+        let nothing : bit_at next j ≡ 0 = bit_at_mod (octet_of (get_or octets eight 0) row * 2 ^ (8 * eight)) 64 j (omega (arith, first, inside)) ∙ bit_at_shl_low (octet_of (get_or octets eight 0) row) (8 * eight) j first in
+        omega (arith, both j, nothing, before j first)
     | inr later ↦
-        let here : j / 8 ≡ eight = omega (arith, later, below) in
+        let here : eight ≡ j / 8 = omega (arith, later, below) in
         let place : 8 * row + (j - 8 * eight) ≡ 8 * row + j % 8 = omega (arith, later, below) in
-        let moved : bit_at (e * 2 ^ (8 * eight) % 2 ^ 64) j ≡ bit_at e (j - 8 * eight) =
-        bit_at_mod (e * 2 ^ (8 * eight)) 64 j (omega (arith, below, inside)) ∙ bit_at_shl_high e (8 * eight) j later in
-        let same : bit_at (bit_or word (e * 2 ^ (8 * eight) % 2 ^ 64)) j ≡ bit_at e (j - 8 * eight) = omega (arith, both j, moved, none j later) in
-        same ∙ octet-low (get_or octets eight 0) row (j - 8 * eight) (omega (arith, later, below))
-        ∙ ap (bit_at (get_or octets eight 0)) place ∙ ap (λ k. bit_at (get_or octets k 0) (8 * row + j % 8)) (sym here)
+        let moved : bit_at next j ≡ bit_at (octet_of (get_or octets eight 0) row) (j - 8 * eight) =
+        bit_at_mod (octet_of (get_or octets eight 0) row * 2 ^ (8 * eight)) 64 j (omega (arith, below, inside)) ∙ bit_at_shl_high (octet_of (get_or octets eight 0) row) (8 * eight) j later in
+        let read = octet-low (get_or octets eight 0) row (j - 8 * eight) (omega (arith, later, below)) ∙ ap (bit_at (get_or octets eight 0)) place ∙ ap (λ k. bit_at (get_or octets k 0) (8 * row + j % 8)) here in
+        omega (arith, both j, moved, none j later, read)
   ]
 
-  nothing-more : (j : ℕ) → 8 * (eight + 1) ≤ j → bit_at (bit_or word (e * 2 ^ (8 * eight) % 2 ^ 64)) j ≡ 0
-  unfolding e
-  nothing-more j past =
-      let nothing : bit_at (e * 2 ^ (8 * eight) % 2 ^ 64) j ≡ 0 = elim (cases_lt j 64) [
+  pub octet-none : (j : ℕ) → 8 * (eight + 1) ≤ j → bit_at (bit_or word next) j ≡ 0
+  octet-none j past =
+      let nothing : bit_at next j ≡ 0 = elim (cases_lt j 64) [
         | inl short ↦
-            bit_at_mod (e * 2 ^ (8 * eight)) 64 j short ∙ bit_at_shl_high e (8 * eight) j (omega (arith, past))
+            bit_at_mod (octet_of (get_or octets eight 0) row * 2 ^ (8 * eight)) 64 j short ∙ bit_at_shl_high (octet_of (get_or octets eight 0) row) (8 * eight) j (omega (arith, past))
             ∙ octet-high (get_or octets eight 0) row (j - 8 * eight) (omega (arith, past))
-        | inr long ↦ bit_at_mod_above (e * 2 ^ (8 * eight)) 64 j long
+        | inr long ↦ bit_at_mod_above (octet_of (get_or octets eight 0) row * 2 ^ (8 * eight)) 64 j long
       ] in
       omega (arith, both j, nothing, none j (omega (arith, past)))
-
-pub octet-more : (octets : List ℕ) (row eight word : ℕ) → eight < 8
-    → ((j : ℕ) → j < 8 * eight → bit_at word j ≡ bit_at (get_or octets (j / 8) 0) (8 * row + j % 8))
-    → ((j : ℕ) → 8 * eight ≤ j → bit_at word j ≡ 0)
-    → (j : ℕ) → j < 8 * (eight + 1)
-    → bit_at (bit_or word (bit_and (get_or octets eight 0 / 2 ^ (8 * row)) 255 * 2 ^ (8 * eight) % 2 ^ 64)) j ≡ bit_at (get_or octets (j / 8) 0) (8 * row + j % 8)
-unfolding octet_of e
-octet-more octets row eight word inside before none j below = more octets row eight word inside before none j below
-
-pub octet-none : (octets : List ℕ) (row eight word : ℕ) → eight < 8
-    → ((j : ℕ) → j < 8 * eight → bit_at word j ≡ bit_at (get_or octets (j / 8) 0) (8 * row + j % 8))
-    → ((j : ℕ) → 8 * eight ≤ j → bit_at word j ≡ 0)
-    → (j : ℕ) → 8 * (eight + 1) ≤ j
-    → bit_at (bit_or word (bit_and (get_or octets eight 0 / 2 ^ (8 * row)) 255 * 2 ^ (8 * eight) % 2 ^ 64)) j ≡ 0
-unfolding octet_of e
-octet-none octets row eight word inside before none j past = nothing-more octets row eight word inside before none j past
 
 -- ---- lists of words
 

@@ -4,8 +4,8 @@ use Rattle.std.specs.Int.{bit_at}
 use Rattle.std.specs.List.{flat_map, list_any}
 
 -- each place of a word gets the bits of another word that come to it
-abbrev pub Gets : (ℕ → List ℕ) → ℕ → ℕ → Type 0
-Gets come word new = (p : ℕ) → (bit_at new p == 1) ≡ list_any (λ k. bit_at word k == 1) (come p)
+pub record Gets (come : ℕ → List ℕ) (word new : ℕ) : Type 0 where
+  pub bits : (p : ℕ) → (bit_at new p == 1) ≡ list_any (λ k. bit_at word k == 1) (come p)
 
 -- what comes to a place in two steps
 abbrev pub in_two_steps : (ℕ → List ℕ) → (ℕ → List ℕ) → ℕ → List ℕ
