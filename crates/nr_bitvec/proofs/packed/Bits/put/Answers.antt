@@ -13,21 +13,22 @@ pub flip-requires : goal.flip-requires
 flip-requires c =
     λ j. put-none c.self.inside.len c.self.inside.words.items c.args.at c.args.count c.args.word c.change-added.result j c.self.invariant (within c.args.at c.args.count c.self.inside.len _ c.self.inside.words.items c.args.self.now c.self.view_is c.requires.inside) (rw c.deref.ensures.value at c.change-added.ensures)
 
+-- what the write makes of the list
+put : (c : goal.After-flip) → Puts c.self.inside.len c.args.at c.args.count c.args.word c.self.inside.words.items c.flip.new.words.items
+put c =
+    puts c.self.inside.len c.self.inside.words.items c.flip.new.words.items c.args.at c.args.count c.args.word c.change-added.result c.self.invariant (within c.args.at c.args.count c.self.inside.len _ c.self.inside.words.items c.args.self.now c.self.view_is c.requires.inside) (rw c.deref.ensures.value at c.change-added.ensures) (omega (arith, c.flip.ensures.len)) c.flip.ensures.places
+
 pub invariant_of-self-2 : goal.invariant_of-self-2
-invariant_of-self-2 c =
-    (puts c.self.inside.len c.self.inside.words.items c.flip.new.words.items c.args.at c.args.count c.args.word c.change-added.result c.self.invariant (within c.args.at c.args.count c.self.inside.len _ c.self.inside.words.items c.args.self.now c.self.view_is c.requires.inside) (rw c.deref.ensures.value at c.change-added.ensures) (omega (arith, c.flip.ensures.len)) c.flip.ensures.places).packed
+invariant_of-self-2 c = (put c).packed
 
 pub returns-clause-within : goal.returns-clause-within
-returns-clause-within c =
-    (puts c.self.inside.len c.self.inside.words.items c.flip.new.words.items c.args.at c.args.count c.args.word c.change-added.result c.self.invariant (within c.args.at c.args.count c.self.inside.len _ c.self.inside.words.items c.args.self.now c.self.view_is c.requires.inside) (rw c.deref.ensures.value at c.change-added.ensures) (omega (arith, c.flip.ensures.len)) c.flip.ensures.places).within
+returns-clause-within c = (put c).within
 
 pub returns-clause-before : goal.returns-clause-before
-returns-clause-before c =
-    rw (← c.self.view_is) ((puts c.self.inside.len c.self.inside.words.items c.flip.new.words.items c.args.at c.args.count c.args.word c.change-added.result c.self.invariant (within c.args.at c.args.count c.self.inside.len _ c.self.inside.words.items c.args.self.now c.self.view_is c.requires.inside) (rw c.deref.ensures.value at c.change-added.ensures) (omega (arith, c.flip.ensures.len)) c.flip.ensures.places).before)
+returns-clause-before c = rw (← c.self.view_is) (put c).before
 
 pub returns-clause-after : goal.returns-clause-after
-returns-clause-after c =
-    rw (← c.self.view_is) ((puts c.self.inside.len c.self.inside.words.items c.flip.new.words.items c.args.at c.args.count c.args.word c.change-added.result c.self.invariant (within c.args.at c.args.count c.self.inside.len _ c.self.inside.words.items c.args.self.now c.self.view_is c.requires.inside) (rw c.deref.ensures.value at c.change-added.ensures) (omega (arith, c.flip.ensures.len)) c.flip.ensures.places).after)
+returns-clause-after c = rw (← c.self.view_is) (put c).after
 
 -- a whole word
 stored : (c : goal.After-self-1) → Puts c.self.inside.len c.args.at c.args.count c.args.word c.self.inside.words.items (set c.self.inside.words.items (c.args.at / 64) c.args.word)
