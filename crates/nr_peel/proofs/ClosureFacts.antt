@@ -1,4 +1,5 @@
 -- The closure of a set: it has the set, it is closed, and it lies in every closed set that has the set.
+use Rattle.std.proofs.lemmas.Bool.Decides.{nat_tests}
 use Rattle.std.proofs.Common.{◌≡◌, ℕ, ◌<◌, ◌≤◌, Bool, true, false, refl, sym, ap, ◌∙◌, ⊎_elim, inl, inr, arith}
 use Rattle.std.specs.Prelude.{◌⊎◌, zero, suc}
 use Rattle.std.proofs.lemmas.Bool.{and_parts, or_cases, or_left, or_right, false≢true, cases_lt}
@@ -84,10 +85,7 @@ settles c S sound (suc k) = ⊎_elim (λ closed. inl (closed_round c (rounds c S
         marked_back (rounds c S k) (round c (rounds c S k)) (round_keeps c (rounds c S k)) c.size p (sound.in_range i t p li lt (and_parts (stands p (c.row i t)) _ h).0) same (round_adds c (rounds c S k) i t p li lt h)
 
     step : k ≤ marked (rounds c S k) c.size → IsClosed c (rounds c S (suc k)) ⊎ (suc k ≤ marked (rounds c S (suc k)) c.size)
-    step le = ⊎_elim
-        (λ (more : marked (rounds c S k) c.size < marked (round c (rounds c S k)) c.size). inr (omega (arith, more, le)))
-        (λ same. inl (closed_round c (rounds c S k) (still same)))
-        (cases_lt (marked (rounds c S k) c.size) (marked (round c (rounds c S k)) c.size))
+    step le = grind (arith, nat_tests, closed_round, still, cases_lt)
 
 pub closure_closed : (c : Checks) (S : ℕ → Bool) → AreSound c → IsClosed c (closure c S)
 unfolding closure
@@ -120,10 +118,7 @@ closure_continues c S T p sound = same_truth (closure c (union (closure c S) T) 
     up q h = ⊎_elim (λ s. or_left (closure c S q) (T q) (closure_keeps c S q s)) (λ t. or_right (closure c S q) (T q) t) (or_cases (S q) (T q) h)
 
     inside : Within (union (closure c S) T) (closure c (union S T))
-    inside q h = ⊎_elim
-        (λ s. closure_monotone c S (union S T) (λ r e. or_left (S r) (T r) e) q s)
-        (λ t. closure_keeps c (union S T) q (or_right (S q) (T q) t))
-        (or_cases (closure c S q) (T q) h)
+    inside q h = grind (arith, closure_monotone, or_left, closure_keeps, or_right, or_cases)
 
     down : Within (closure c (union (closure c S) T)) (closure c (union S T))
     down = closure_least c (union (closure c S) T) (closure c (union S T)) inside (closure_closed c (union S T) sound)

@@ -1,4 +1,5 @@
 -- Words on closures, stopping sets, and what a peeler that ran dry knows.
+use Rattle.std.proofs.lemmas.Bool.Decides.{nat_tests}
 use Rattle.std.proofs.Common.{◌≡◌, ◌≢◌, ℕ, ◌<◌, ◌==◌, ◌||◌, Bool, true, false, not, List, [], ◌∷◌, refl, sym, ap, ◌∙◌, ⊎_elim, arith}
 use Rattle.std.specs.Prelude.{count_by}
 use Rattle.std.specs.Bool.{beq}
@@ -36,10 +37,7 @@ sums_agree v w p (x ∷ row) h k =
   where
     go : (b : Bool) → (x == p) ≡ b → (b || beq (v x) (w x)) ≡ true → (times_in p row ≡ 0 → parity v row ≡ parity w row) → (v x ⊕ parity v row) ≡ (w x ⊕ parity w row)
     go true e s ih = absurd (omega (arith, count_yes (λ q. q == p) x row e))
-    go false e s ih =
-        let same = beq_true (v x) (w x) s in
-        let rest = ih (sym (count_no (λ q. q == p) x row e) ∙ k) in
-        ap (λ a. a ⊕ parity v row) same ∙ ap (λ a. w x ⊕ a) rest
+    go false e s ih = grind (arith, nat_tests, beq_true, count_no)
 
 -- where two sums agree and the words agree at every other position, they agree at a position that stands once
 pub forced_same : (v w : ℕ → Bool) (p : ℕ) (row : List ℕ) → agree_but v w p row ≡ true → times_in p row ≡ 1 → parity v row ≡ parity w row → v p ≡ w p
@@ -55,9 +53,7 @@ forced_same v w p (x ∷ row) h k s =
         let tails = sums_agree v w p row rest none in
         let heads : v x ≡ w x = xor_cancel_right (v x) (w x) (parity v row) (s ∙ ap (λ t. w x ⊕ t) (sym tails)) in
         ap v (sym at) ∙ heads ∙ ap w at
-    go false e a rest ih =
-        let same = beq_true (v x) (w x) a in
-        ih (sym (count_no (λ q. q == p) x row e) ∙ k) (xor_cancel (v x) (parity v row) (parity w row) (s ∙ ap (λ t. t ⊕ parity w row) (sym same)))
+    go false e a rest ih = grind (arith, nat_tests, beq_true, count_no, xor_cancel)
 
 -- a position stands once in a sound row
 pub stands_once : (p : ℕ) (row : List ℕ) → IsDistinctRow row → stands p row ≡ true → times_in p row ≡ 1
@@ -115,11 +111,7 @@ stopping_stays_out c S U p sound stop member =
     unnot b e f = true≢false (sym f ∙ ap not e)
 
     beside : Within S (λ q. not (U q))
-    beside q s = go (U q) refl
-      where
-        go : (b : Bool) → U q ≡ b → not (U q) ≡ true
-        go true e = absurd (true≢false (sym s ∙ stop.beside q e))
-        go false e = ap not e
+    beside q s = grind arith
 
     closed : IsClosed c (λ q. not (U q))
     closed i t q li lt f = go (U q) refl

@@ -122,9 +122,7 @@ pub marks_join : (a d : BlockBits) (columns : List ℕ) (j n : ℕ) (M : ℕ →
 marks_join a d columns j n M old within lanes long joined fresh count = marks_set a d columns j (slice_index columns j + n) old within lanes long same more
   where
     here : (t : ℕ) → t < a.lanes → lane_marks a.lanes j M (j * a.lanes + t) ≡ M t
-    here t below =
-        let column : ((j * a.lanes + t) / a.lanes == j) ≡ true = ap (λ h. h == j) (div-mul-add j a.lanes t below) ∙ eq-eqb j j refl in
-        ap (λ b. b && M ((j * a.lanes + t) % a.lanes)) column ∙ ap M (mod-mul-add j a.lanes t below)
+    here t below = grind (arith, nat_tests, div-mul-add, eq-eqb, mod-mul-add)
 
     more : slice_index columns j + n ≡ marked (λ t. bit d.items (j * a.lanes + t)) a.lanes
     more =
@@ -132,23 +130,17 @@ marks_join a d columns j n M old within lanes long joined fresh count = marks_se
         omega (arith, old.counted j, count, sum)
 
     same : (i t : ℕ) → i ≢ j → t < a.lanes → bit d.items (i * a.lanes + t) ≡ bit a.items (i * a.lanes + t)
-    same i t other below =
-        let apart : ((i * a.lanes + t) / a.lanes == j) ≡ false = ap (λ h. h == j) (div-mul-add i a.lanes t below) ∙ ne_eqb i j other in
-        grind (arith, joined (i * a.lanes + t), apart)
+    same i t other below = grind (arith, nat_tests, div-mul-add, ne_eqb)
 
 pub marks_clear : (a d : BlockBits) (columns : List ℕ) (j : ℕ) → ArePendingMarks a columns → j < length columns → d.lanes ≡ a.lanes → length d.items ≡ length a.items
     → ((p : ℕ) → bit d.items p ≡ (bit a.items p && not (p / a.lanes == j))) → ArePendingMarks d (set columns j 0)
 marks_clear a d columns j old within lanes long cleared = marks_set a d columns j 0 old within lanes long same (sym (no_marks (λ t. bit d.items (j * a.lanes + t)) a.lanes none))
   where
     same : (i t : ℕ) → i ≢ j → t < a.lanes → bit d.items (i * a.lanes + t) ≡ bit a.items (i * a.lanes + t)
-    same i t other below =
-        let apart : ((i * a.lanes + t) / a.lanes == j) ≡ false = ap (λ h. h == j) (div-mul-add i a.lanes t below) ∙ ne_eqb i j other in
-        grind (arith, cleared (i * a.lanes + t), apart)
+    same i t other below = grind (arith, nat_tests, div-mul-add, ne_eqb)
 
     none : (t : ℕ) → t < a.lanes → bit d.items (j * a.lanes + t) ≡ false
-    none t below =
-        let column : ((j * a.lanes + t) / a.lanes == j) ≡ true = ap (λ h. h == j) (div-mul-add j a.lanes t below) ∙ eq-eqb j j refl in
-        grind (arith, cleared (j * a.lanes + t), column)
+    none t below = grind (arith, nat_tests, div-mul-add, eq-eqb)
 
 -- ---- what a search costs
 

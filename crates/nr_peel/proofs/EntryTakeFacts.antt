@@ -67,8 +67,9 @@ fit true k true x y e h = omega (arith, e)
 fit true true false x y e h = absurd (false≢true (h refl))
 fit true false false x y e h = omega (arith, e)
 
-module _ (l : Lifted) (i : ℕ) (ones : List ℕ) (a : Lanes) (table : IsTable l.table.now) (block : i < (lifted_checks l).rows) (lanes : AreLanes (lifted_checks l) a)
-    (one : (t : ℕ) → t < l.plan.z → is_set ones t ≡ true → count_by (λ p. not (counted_in a p)) ((lifted_checks l).row i t) ≡ 1) where
+-- the lane marks the rows with one position that the counts don't know
+module _ (l : Lifted) (i : ℕ) (ones counts : List ℕ) (a : Lanes) (table : IsTable l.table.now) (block : i < (lifted_checks l).rows) (lanes : AreLanes (lifted_checks l) a)
+    (counted : CountsOf (lifted_checks l) (counted_in a) counts) (are : (t : ℕ) → t < l.plan.z → is_set ones t ≡ has_count 1 counts (i * l.plan.z + t)) where
   abbrev c : Checks
   c = lifted_checks l
 
@@ -90,6 +91,9 @@ module _ (l : Lifted) (i : ℕ) (ones : List ℕ) (a : Lanes) (table : IsTable l
   sound : AreSound c
   sound = checks_sound l.table.now l.plan.graph (numbers l.plan) table l.plan.sound.size_some
 
+  one : (t : ℕ) → t < z → is_set ones t ≡ true → count_by (λ p. not (K p)) (c.row i t) ≡ 1
+  one t below set = sym (counted i t block below) ∙ eqb-true (slice_index counts (i * z + t)) 1 (sym (are t below) ∙ set)
+
   pub taking_start : IsTaking l i ones 0 a a
   taking_start =
       let f = fixes_none c K a lanes in
@@ -97,7 +101,7 @@ module _ (l : Lifted) (i : ℕ) (ones : List ℕ) (a : Lanes) (table : IsTable l
 
   -- no more than the rows of the lane
   lacking_most : (n : ℕ) → lacking_in K set z row ones n ≤ marked (is_set ones) z
-  lacking_most n = grind (arith, sum_marked, sum_by-take-le)
+  lacking_most n = grind (arith, sum_marked, one, sum_by-take-le)
 
   module _ (n : ℕ) (m : Lanes) (within_row : n < length row) (so_far : IsTaking l i ones n a m) where
     abbrev e : Entry
@@ -178,8 +182,8 @@ module _ (l : Lifted) (i : ℕ) (ones : List ℕ) (a : Lanes) (table : IsTable l
           }
 
   -- when all entries are taken
-  pub taking_done : (counts : List ℕ) (n : ℕ) (d : Lanes) → length row ≤ n → IsTaking l i ones n a d → ((t : ℕ) → t < z → is_set ones t ≡ has_count 1 counts (i * z + t)) → IsBlockSought c counts i a d
-  taking_done counts n d all so_far are = record {
+  pub taking_done : (n : ℕ) (d : Lanes) → length row ≤ n → IsTaking l i ones n a d → IsBlockSought c counts i a d
+  taking_done n d all so_far = record {
     fixes = so_far.fixes;
     few = omega (arith, so_far.few, lacking_most n, marked-same (is_set ones) (λ t. has_count 1 counts (i * z + t)) z are);
     searched =
@@ -189,8 +193,8 @@ module _ (l : Lifted) (i : ℕ) (ones : List ℕ) (a : Lanes) (table : IsTable l
   }
 
   -- where no row is searched
-  pub taking_none : (counts : List ℕ) → IsClear ones z → marked (is_set ones) z ≡ 0 → ((t : ℕ) → t < z → is_set ones t ≡ has_count 1 counts (i * z + t)) → IsBlockSought c counts i a a
-  taking_none counts clear nothing are =
+  pub taking_none : IsClear ones z → marked (is_set ones) z ≡ 0 → IsBlockSought c counts i a a
+  taking_none clear nothing =
       let f = fixes_none c K a lanes in
       record {
         fixes = f.0;
@@ -198,9 +202,3 @@ module _ (l : Lifted) (i : ℕ) (ones : List ℕ) (a : Lanes) (table : IsTable l
         searched = omega (arith, ap (step_pairs c) f.1, step_pairs-none c);
         whole = λ t below h. absurd (true≢false (sym h ∙ sym (are t below) ∙ none_marked ones z clear nothing t));
       }
-
--- the rows of a lane are those with one position that the counts don't know
-pub ones_counted : (l : Lifted) (i : ℕ) (counts ones : List ℕ) (a : Lanes) → i < (lifted_checks l).rows → CountsOf (lifted_checks l) (counted_in a) counts
-    → ((t : ℕ) → t < l.plan.z → is_set ones t ≡ has_count 1 counts (i * l.plan.z + t))
-    → (t : ℕ) → t < l.plan.z → is_set ones t ≡ true → count_by (λ p. not (counted_in a p)) ((lifted_checks l).row i t) ≡ 1
-ones_counted l i counts ones a block counted are t below set = grind (arith, nat_tests, eqb-true)

@@ -104,9 +104,6 @@ module _ (es : List Entry) (set z rows cols : ℕ) (some : 0 < z) where
   module _ (start : List Bool) (old now : List ℕ) (pending : List Bool) (visits : ℕ) (long : length start ≡ cols * z) (h : HasFallen c (bit start) cols old now pending visits) where
     low : (p : ℕ) → bit start p ≡ true → nat_lt (p / z) cols ≡ true
     low p e = grind (arith, nat_tests, cases_lt, lt-ltb, div_below, get_or_past)
-      where
-        different : true ≡ false → ⊥
-        different e = cc
 
     pub fallen_all : (i t : ℕ) → i < rows → t < z → slice_index now (i * z + t) + count_by (bit start) (row_at es set z i t) ≡ slice_index old (i * z + t)
     fallen_all i t row below = grind (arith, nat_tests, count_alike, below_column, low)

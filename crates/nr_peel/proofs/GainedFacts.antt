@@ -38,6 +38,4 @@ gained_column known given z j count lane told rest lane_is told_is rest_is count
     omega (arith, counted_marked test (j * z), counted_marked test ((j + 1) * z), more, same, counted)
   where
     here : (t : ℕ) → t < z → is_set rest t ≡ is_gained known given (j * z + t)
-    here t below =
-        let plain : (t + 0) % z ≡ t = mod_low (t + 0) z (omega (arith, below)) ∙ omega arith in
-        rest_is t ∙ ap (λ b. b && not (is_set told t)) (lane_is t below ∙ ap (λ m. bit known (j * z + m)) plain) ∙ ap (λ b. bit known (j * z + t) && not b) (told_is t below)
+    here t below = grind (arith, mod_low)

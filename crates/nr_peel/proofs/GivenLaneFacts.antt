@@ -109,10 +109,7 @@ module _ (z j : ℕ) (some : 0 < z) (old now : Lanes) (H V : ℕ → Bool) (h : 
 
   -- a column in which nothing is new
   pub told_skip : (lane : List ℕ) → ((p : ℕ) → lane_marks z j (is_set lane) p ≡ in_column z N j p) → ((t : ℕ) → is_set lane t ≡ false) → AreTold z N V (j + 1) old now
-  told_skip lane marks none = grind (arith, more_bits)
-    where
-      nothing : (p : ℕ) → in_column z N j p ≡ false
-      nothing p = grind (arith, marks p, none (p % z))
+  told_skip lane marks none = grind (arith, more_bits, in_column)
 
 -- ---- lanes in which positions that weren't known are given
 

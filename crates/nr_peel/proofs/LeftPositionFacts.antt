@@ -43,9 +43,7 @@ some_left (suc n) known le h = go (bit known n) refl (some_left n known (omega (
   where
     go : (b : Bool) → bit known n ≡ b → (left_of n known ≢ 0 → IsLeft n known) → IsLeft (suc n) known
     go false e ih = record { pos = n; below = omega arith; missing = e }
-    go true e ih =
-        let r = ih (λ z. h (left_more n known (omega (arith, le)) ∙ grind arith)) in
-        record { pos = r.pos; below = omega (arith, r.below); missing = r.missing }
+    go true e ih = grind (arith, left_more)
 
 -- where none of the first positions is known, all of them are left
 pub all_left : (n : ℕ) (known : List Bool) → n ≤ length known → ((p : ℕ) → p < n → bit known p ≡ false) → left_of n known ≡ n

@@ -228,27 +228,7 @@ module _ (es : List Entry) (set z n rows kdash : ℕ) where
       two k x y xs e tail low apart high = absurd (two_out pos k t p t_below x y xs tail low apart high (at k e))
 
       early : i < 4 → reach p ≡ true
-      early l = ⊎_elim (λ e. two 0 (n, shape.first) (n + 1, 0) [] e core.first (omega arith) (omega arith) (omega arith))
-          (λ r. ⊎_elim one (λ r. ⊎_elim second (λ e. two 3 (n, shape.last) (n + 3, 0) [] e core.last (omega arith) (omega arith) (omega arith)) r) r) (cases i l)
-        where
-          cases : (i : ℕ) → i < 4 → (i ≡ 0) ⊎ ((i ≡ 1) ⊎ ((i ≡ 2) ⊎ (i ≡ 3)))
-          cases zero l = inl refl
-          cases (suc zero) l = inr (inl refl)
-          cases (suc (suc zero)) l = inr (inr (inl refl))
-          cases (suc (suc (suc zero))) l = inr (inr (inr refl))
-          cases (suc (suc (suc (suc i)))) l = absurd (omega arith)
-
-          one : i ≡ 1 → reach p ≡ true
-          one e = ⊎_elim
-              (λ m. two 1 (n, shape.middle) (n + 1, 0) ((n + 2, 0) ∷ []) e m.0 (omega arith) (omega arith) (omega arith))
-              (λ m. two 1 (n + 1, 0) (n + 2, 0) [] e m.0 (omega arith) (omega arith) (omega arith))
-              core.middle
-
-          second : i ≡ 2 → reach p ≡ true
-          second e = ⊎_elim
-              (λ m. two 2 (n + 2, 0) (n + 3, 0) [] e m.1 (omega arith) (omega arith) (omega arith))
-              (λ m. two 2 (n, shape.middle) (n + 2, 0) ((n + 3, 0) ∷ []) e m.1 (omega arith) (omega arith) (omega arith))
-              core.middle
+      early l = grind (arith, two, core)
 
       late : 4 ≤ i → reach p ≡ true
       late le = own_row pos i t p t_below le (omega (arith, rows_are)) (shape.extension i le (omega (arith, rows_are))) f'

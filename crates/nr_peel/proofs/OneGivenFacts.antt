@@ -27,7 +27,4 @@ module _ (c : Checks) (pos : ℕ) (value : Bool) (old : Lanes) (lanes : AreLanes
   -- a position that wasn't known
   pub one_told : (now : Lanes) → bit old.known.items pos ≡ false → ((p : ℕ) → bit now.known.items p ≡ (bit old.known.items p || (pos == p))) → ((p : ℕ) → bit now.pending.items p ≡ (bit old.pending.items p || (pos == p)))
       → ((p : ℕ) → bit now.bits.items p ≡ (bit old.bits.items p || ((pos == p) && value))) → now.order ≡ old.order → AreAlike old now → Hears c (λ p. pos == p) (λ p. value) old now
-  one_told now out known pending bits order alike = grind (arith, nat_tests, told_lanes)
-    where
-      new : (p : ℕ) → (pos == p) ≡ true → bit old.known.items p ≡ false
-      new p e = ap (bit old.known.items) (sym (eqb-true pos p e)) ∙ out
+  one_told now out known pending bits order alike = grind (arith, nat_tests, told_lanes, eqb-true)

@@ -1,4 +1,5 @@
 -- Positions in a row: how often one stands there, and rows with one position outside a set.
+use Rattle.std.proofs.lemmas.Bool.Decides.{nat_tests}
 use Rattle.std.proofs.Common.{◌≡◌, ℕ, ◌+◌, ◌<◌, ◌==◌, ◌||◌, ◌&&◌, Bool, true, false, not, cond, List, [], ◌∷◌, length, get_or, take, refl, sym, ap, ◌∙◌, ⊎_elim, arith}
 use Rattle.std.specs.Prelude.{count_by}
 use Rattle.std.specs.List.{list_all}
@@ -96,16 +97,7 @@ only_from_count S (x ∷ row) h = go (S x) refl (only_from_count S row)
             others = and_from ((x == x) || S x) (list_all (λ q. (q == x) || S q) row) (or_left (x == x) (S x) same) (all_in S row (none_counted (λ q. not (S q)) row none));
           };
         }
-    go true e ih =
-        let r = ih (sym (count_no (λ q. not (S q)) x row (ap not e)) ∙ h) in
-        record {
-          pos = r.pos;
-          only = record {
-            stands_there = or_right (x == r.pos) (stands r.pos row) r.only.stands_there;
-            missing = r.only.missing;
-            others = and_from ((x == r.pos) || S x) (list_all (λ q. (q == r.pos) || S q) row) (or_right (x == r.pos) (S x) e) r.only.others;
-          };
-        }
+    go true e ih = grind (arith, nat_tests, count_no, or_right, and_from)
 
 -- a larger set fixes as well
 pub fixes_more : (S T : ℕ → Bool) (row : List ℕ) (p : ℕ) → ((q : ℕ) → S q ≡ true → T q ≡ true) → fixes S row p ≡ true → fixes T row p ≡ true

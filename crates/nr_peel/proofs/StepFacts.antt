@@ -161,24 +161,14 @@ module _ (size row col rotation start word ahead : ℕ) where
   ahead_steps low pos is few short same none = steps_same (step_after row start pos) rotated (λ j. bit_at low j == 1) (λ j. bit_at low j == 1) 64 agree (λ _ _. refl) ∙ low_steps rotated word ahead few low same none
     where
       agree : (b : ℕ) → b < 64 → (bit_at low b == 1) ≡ true → step_after row start pos b ≡ rotated b
-      agree b _ set = elim (cases_lt b ahead) [
-        | inl below ↦
-            let place : pos + b ≡ col * size + (start + b + rotation) % size = omega (arith, is, mod_low (start + b + rotation) size (short b below)) in
-            ap (λ p. record { row = row; lane = start + b; pos = p }) place
-        | inr past ↦ absurd (omega (arith, eqb-true (bit_at low b) 1 set, none b past))
-      ]
+      agree b _ set = grind (arith, nat_tests, cases_lt, mod_low, eqb-true)
 
   pub turned_steps : (pos : ℕ) → pos ≡ col * size + (start + ahead) - (size - rotation) → rotation < size → size ≤ start + ahead + rotation → ((b : ℕ) → bit_at word b ≡ 1 → start + b < size)
       → steps_below (step_after row (start + ahead) pos) (λ j. bit_at (word / 2 ^ ahead) j == 1) 64 ≡ steps_below (λ j. rotated_step size row col rotation (start + (ahead + j))) (λ j. bit_at (word / 2 ^ ahead) j == 1) 64
   turned_steps pos is small past inside = steps_same (step_after row (start + ahead) pos) (λ j. rotated (ahead + j)) (λ j. bit_at (word / 2 ^ ahead) j == 1) (λ j. bit_at (word / 2 ^ ahead) j == 1) 64 agree (λ _ _. refl)
     where
       agree : (j : ℕ) → j < 64 → (bit_at (word / 2 ^ ahead) j == 1) ≡ true → step_after row (start + ahead) pos j ≡ rotated (ahead + j)
-      agree j _ set =
-          let below : start + (ahead + j) < size = inside (ahead + j) (sym (bit_at_shr word ahead j) ∙ eqb-true (bit_at (word / 2 ^ ahead) j) 1 set) in
-          let moved = mod_high (start + (ahead + j) + rotation) size (omega (arith, past)) (omega (arith, small, below)) in
-          let place : pos + j ≡ col * size + (start + (ahead + j) + rotation) % size = omega (arith, is, moved, small, past) in
-          let lane : start + ahead + j ≡ start + (ahead + j) = omega arith in
-          same_fix row (start + ahead + j) (pos + j) row (start + (ahead + j)) (col * size + (start + (ahead + j) + rotation) % size) refl lane place
+      agree j _ set = grind (arith, nat_tests, bit_at_shr, eqb-true, mod_high, same_fix)
 
 -- ---- the words of a lane, one after another
 

@@ -29,6 +29,4 @@ steps_accepted c K S step u (suc n) within each =
 
     go : (b : Bool) → u n ≡ b → all_accepted c S (steps_below step u n) ≡ true → all_accepted c S (steps_below step u n ++ (if b then step n ∷ [] else [])) ≡ true
     go false e before = ap (all_accepted c S) (append-nil (steps_below step u n)) ∙ before
-    go true e before =
-        all_accepted-push c S (steps_below step u n) (step n) before
-        (accepts_more c K (after_steps c S (steps_below step u n)) (step n) (more before) (each n (omega arith) e))
+    go true e before = grind (arith, all_accepted-push, accepts_more, more)

@@ -1,4 +1,5 @@
 -- The check of a stopping set, member by member.
+use Rattle.std.proofs.lemmas.Bool.Decides.{nat_tests}
 use Rattle.std.proofs.Common.{◌≡◌, ◌≢◌, ℕ, ◌+◌, ◌*◌, ◌/◌, ◌%◌, ◌<◌, ◌≤◌, ◌==◌, nat_lt, Bool, true, false, cond, List, [], ◌∷◌, length, get_or, take, refl, sym, ap, ◌∙◌, subst, ⊎_elim, arith}
 use Rattle.std.specs.Prelude.{Result, Ok, Err, count_by, map, slice_index}
 use Rattle.std.specs.List.Sorted.{IsBinarySearchResult}
@@ -60,9 +61,7 @@ low_member (x ∷ xs) k h = go (nat_lt x k) refl (low_member xs k)
   where
     go : (b : Bool) → nat_lt x k ≡ b → (0 < count_by (λ p. nat_lt p k) xs → HasLow xs k) → HasLow (x ∷ xs) k
     go true e ih = record { pos = x; member = or_left (x == x) (stands x xs) (eq-eqb x x refl); below = ltb-true x k e }
-    go false e ih =
-        let r = ih (omega (arith, h, count_no (λ p. nat_lt p k) x xs e)) in
-        record { pos = r.pos; member = or_right (x == r.pos) (stands r.pos xs) r.member; below = r.below }
+    go false e ih = grind (arith, nat_tests, count_no, or_right)
 
 -- beside a stopping set no steps are a fix order
 pub stops_orders : (c : Checks) (S : ℕ → Bool) (kdash : ℕ) (set : List ℕ) (steps : List Fix) → AreSound c → IsStoppingSet c kdash S set → ¬ (IsFixOrder c kdash S steps)

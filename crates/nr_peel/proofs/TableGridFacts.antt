@@ -26,11 +26,7 @@ pub record IsGrid (es : List Entry) (rows cols : ℕ) : Type 0 where
 
 pub table_grid : (t : Entries) (g : Graph) → IsTable t → IsGrid (entries_in g t) (rows_of g) (cols_of g)
 table_grid t One table = grind arith
-table_grid t Two table = record {
-  in_rows = All-weaker (IsInRange Two) (λ e. e.row < 42) (λ e h. h.row) t.two table.two_in_range;
-  in_cols = All-weaker (IsInRange Two) (λ e. e.col < 52) (λ e h. h.col) t.two table.two_in_range;
-  ascending = table.two;
-}
+table_grid t Two table = grind arith
 
 -- how often a column stands in a row
 abbrev pub columns_at : List Entry → ℕ → ℕ → ℕ

@@ -15,16 +15,7 @@ pub never_one-requires : goal.never_one-requires
 never_one-requires c = (c.is_beside.ensures.0 c.if-not-is_beside.false).rising
 
 pub returns-clause-yes : goal.returns-clause-yes
-returns-clause-yes c =
-    let p = c.args.plan.now in
-    let size = ap (λ n. n * p.z) c.cols.ensures in (
-      λ y. record {
-        is_beside = rw size at (c.is_beside.ensures.0 c.if-not-is_beside.false);
-        low = omega (arith, c.count_below.ensures, c.if-count_below-eq0.false);
-        never_one = c.never_one.ensures.0 y;
-      },
-      λ s. c.never_one.ensures.1 s.never_one,
-    )
+returns-clause-yes c = grind arith
 
 pub returns-clause-out : goal.returns-clause-out
 returns-clause-out c =

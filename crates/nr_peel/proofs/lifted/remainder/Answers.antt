@@ -5,8 +5,7 @@ use Rattle.nr_peel.proofs.lifted.remainder.Goals as goal
 use Rattle.nr_peel.proofs.lifted.remainder.Goals.{After-from}
 
 whole : (c : After-from) → c.from.result * c.args.reciprocal / 4294967296 ≡ c.args.value / c.args.z
-whole c =
-    ap (λ n. n * c.args.reciprocal / 4294967296) c.from.ensures ∙ ap (λ n. c.args.value * n / 4294967296) c.requires.inverse ∙ quotient c.args.value c.args.z c.requires.some c.requires.few (omega arith)
+whole c = grind (arith, quotient)
 
 pub overflow_sub-result : goal.overflow_sub-result
 overflow_sub-result c = rw (whole (goal.at.overflow_sub-result c).After-from) (omega (arith, c.from-2.ensures, div-add-mod' c.args.value c.args.z))

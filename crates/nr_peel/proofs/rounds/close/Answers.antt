@@ -15,16 +15,7 @@ pub invariant_of-lifted : goal.invariant_of-lifted
 invariant_of-lifted c = record { in_sets = in_sets c.args.plan.now; inverse = c.reciprocal.ensures }
 
 pub rounds-init : goal.rounds-init
-rounds-init c =
-    let p = c.args.plan.now in
-    let ck = block_checks c.args.table.now p.graph (numbers p) in
-    record {
-      up = λ q h. h;
-      inside = closure_keeps ck (bit c.args.known.now.items);
-      lanes = c.in_ok-tally.ensures;
-      unknown = ap length c.in_ok-unknown.ensures ∙ length-replicate (c.cols.result * p.z) false ∙ ap (λ n. n * p.z) c.cols.ensures;
-      long = c.requires;
-    }
+rounds-init c = grind (arith, closure_keeps, length-replicate)
 
 pub rounds-smaller : goal.rounds-smaller
 rounds-smaller c =

@@ -45,9 +45,7 @@ ended : (t z : ℕ) → t ≡ z → (f : ℕ → Bool) → any_below f t ≡ any
 ended t z e f = ap (any_below f) e
 
 pub returns-clause-some : goal.returns-clause-some
-returns-clause-some c =
-    let z = c.args.lifted.now.plan.z in
-    c.loop-t.invariant.some ∙ ended c.loop-t.t z (omega arith) (counts_one c.args.tally.now)
+returns-clause-some c = grind (arith, ended)
 
 pub returns-clause-marks : goal.returns-clause-marks
 returns-clause-marks c = λ p.

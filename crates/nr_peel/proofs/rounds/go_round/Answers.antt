@@ -11,12 +11,10 @@ use Rattle.nr_peel.proofs.rounds.go_round.Goals as goal
 use Rattle.nr_peel.proofs.rounds.go_round.Goals.{then-complete, else-complete}
 
 pub count-requires-clause-columns : goal.count-requires-clause-columns
-count-requires-clause-columns c =
-    row_fits c.args.lifted.now c.row-row.result.now c.loop-i.i (length c.invert.new.others.items) c.requires.table c.row-row.ensures (c.invert.ensures.long ∙ c.requires.unknown ∙ c.requires.long)
+count-requires-clause-columns c = grind (arith, row_fits)
 
 pub complete-requires-clause-columns : goal.complete-requires-clause-columns
-complete-requires-clause-columns c =
-    row_fits c.args.lifted.now c.row-row.result.now c.loop-i.i (length c.loop-i.known.items) c.requires.table c.row-row.ensures (c.loop-i.invariant.long ∙ c.requires.long)
+complete-requires-clause-columns c = grind (arith, row_fits)
 
 pub loop-i-preserved : goal.loop-i-preserved
 loop-i-preserved c =

@@ -1,3 +1,4 @@
+use Rattle.std.proofs.lemmas.Bool.Decides.{nat_tests}
 use Rattle.std.proofs.Common.{◌≡◌, ◌≢◌, ◌+◌, ◌*◌, ◌/◌, ◌%◌, ◌<◌, ◌≤◌, ◌==◌, ℕ, Bool, List, cond, length, replicate, set, subst, refl, ap, ◌∙◌, inl, inr, arith}
 use Rattle.std.proofs.lemmas.Bool.{cases_lt}
 use Rattle.std.proofs.lemmas.Nat.Bits.{bit_at-lt}
@@ -14,10 +15,7 @@ regroup a b d = omega arith
 
 -- no place past the end is set
 past_written : (size n : ℕ) (G : ℕ → ℕ) (lane : List ℕ) → IsWritten size n G lane (replicate 6 0) → (t : ℕ) → size ≤ t → place lane t ≡ 0
-past_written size n G lane h t past = elim (cases_lt t (64 * n)) [
-  | inl inside ↦ h.clear t inside past
-  | inr out ↦ ap (λ w. bit_at w (t % 64)) (h.kept (t / 64) (omega (arith, out))) ∙ place-zeros 6 t
-]
+past_written size n G lane h t past = grind (arith, nat_tests, cases_lt, place-zeros)
 
 -- the next word is read
 pub loop-i-preserved : goal.loop-i-preserved
@@ -55,10 +53,7 @@ returns-then-rest-ne0-clause-clear c =
     past_written _ _ _ _ (last_written size c.args.from c.loop-i.i c.window-word.result c.low_bits.result c.args.bits.now.items c.loop-i.lane c.requires.few c.if-rest-ne0.true last c.loop-i.invariant c.window-word.ensures c.low_bits.ensures.low c.low_bits.ensures.high)
 
 pub returns-else-rest-ne0-clause-bits : goal.returns-else-rest-ne0-clause-bits
-returns-else-rest-ne0-clause-bits c =
-    let last : c.loop-i.i ≡ c.args.size / 64 = omega (arith, c.loop-i-test.false, c.loop-i.auto.i-end) in
-    let none : c.args.size % 64 ≡ 0 = omega (arith, c.if-rest-ne0.false) in
-    λ t below. ap (λ n. n == 1) (c.loop-i.invariant.done t (omega (arith, last, none, below)) below) ∙ digit_test (bit c.args.bits.now.items (c.args.from + t))
+returns-else-rest-ne0-clause-bits c = grind (arith, nat_tests, digit_test)
 
 pub returns-else-rest-ne0-clause-clear : goal.returns-else-rest-ne0-clause-clear
 returns-else-rest-ne0-clause-clear c = past_written _ _ _ _ c.loop-i.invariant

@@ -28,10 +28,7 @@ loop-i-preserved c =
     }
 
 pub returns-clause-steps : goal.returns-clause-steps
-returns-clause-steps c =
-    let step = rotated_step c.args.size c.args.entry.now.row c.args.entry.now.col c.args.rotation in
-    c.loop-i.invariant.steps ∙ ap (λ v. v.items ++ steps_below step (is_set c.args.lane.now) (64 * c.loop-i.i)) c.replace-taken.ensures.value
-    ∙ ap (λ xs. c.args.order.now.items ++ xs) (lane_steps step c.args.lane.now c.args.size c.requires.clear (64 * c.loop-i.i) (omega (arith, c.requires.few)))
+returns-clause-steps c = grind (arith, lane_steps)
 
 pub returns-clause-capacity : goal.returns-clause-capacity
 returns-clause-capacity c = c.loop-i.invariant.capacity ∙ ap vec_capacity c.replace-taken.ensures.value

@@ -1,3 +1,4 @@
+use Rattle.std.proofs.lemmas.Bool.Decides.{nat_tests}
 use Rattle.std.proofs.Common.{◌≡◌, ◌<◌, ◌≤◌, ◌^◌, ◌==◌, ◌++◌, ℕ, sym, ap, ◌∙◌, arith, true, refl}
 use Rattle.std.proofs.lemmas.List.{append-nil}
 use Rattle.std.proofs.lemmas.Nat.Bits.{bit_at_ones}
@@ -16,10 +17,7 @@ along i lane pos first word is small few =
     (λ b h _. ap (λ n. step_along n b) is ∙ along_after i lane pos b small (omega (arith, few, h))) (λ _ _. refl)
 
 pub returns-then-word-eq0-clause-steps : goal.returns-then-word-eq0-clause-steps
-returns-then-word-eq0-clause-steps c =
-    let step = step_after c.args.row c.args.lane c.args.pos in
-    let old = c.args.order.now.items in
-    sym (append-nil old) ∙ ap (λ xs. old ++ xs) (sym (ap (λ w. steps_below step (λ b. bit_at w b == 1) 64) c.if-word-eq0.true ∙ zero_steps step))
+returns-then-word-eq0-clause-steps c = grind (arith, nat_tests, append-nil, zero_steps)
 
 pub push_run-requires-clause-few : goal.push_run-requires-clause-few
 push_run-requires-clause-few c = few_ones c.args.word (omega arith)

@@ -5,7 +5,4 @@ use Rattle.nr_peel.proofs.StepFacts.{steps_count}
 use Rattle.nr_peel.proofs.bit_parallel.steps.push_run.Goals as goal
 
 pub push_reserved-requires : goal.push_reserved-requires
-push_reserved-requires c =
-    let step = step_along c.args.first in
-    let long = ap length c.loop-b.invariant.steps ∙ length-append c.args.order.now.items (steps_below step (λ b. true) c.loop-b.b) in
-    omega (arith, long, steps_count step (λ b. true) c.loop-b.b, marked-le (λ b. true) c.loop-b.b, c.loop-b.invariant.capacity, c.requires.room, c.loop-b-test.true)
+push_reserved-requires c = grind (arith, length-append, steps_count, marked-le)

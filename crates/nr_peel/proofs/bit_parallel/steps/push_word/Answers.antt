@@ -1,3 +1,4 @@
+use Rattle.std.proofs.lemmas.Bool.Decides.{nat_tests}
 use Rattle.std.proofs.Common.{◌≡◌, ◌<◌, ◌≤◌, ◌+◌, ◌-◌, ◌*◌, ◌/◌, ◌^◌, ◌==◌, ◌++◌, ℕ, length, sym, ap, ◌∙◌, arith, length-append}
 use Rattle.std.proofs.Math.Nat.{mul-le-mul_right}
 use Rattle.std.proofs.lemmas.List.{append-nil}
@@ -7,15 +8,10 @@ use Rattle.nr_peel.proofs.StepFacts.{ahead_steps, high_steps, join_steps, low_st
 use Rattle.nr_peel.proofs.bit_parallel.steps.push_word.Goals as goal
 
 block_fits : (col size : ℕ) → col < 2 ^ 16 → size ≤ 384 → col * size ≤ 2 ^ 16 * 384
-block_fits col size small few =
-    let most : col * size ≤ 2 ^ 16 * size = mul-le-mul_right size (omega (arith, small)) in
-    omega (arith, most, few)
+block_fits col size small few = grind (arith, mul-le-mul_right)
 
 pub returns-then-word-eq0-clause-steps : goal.returns-then-word-eq0-clause-steps
-returns-then-word-eq0-clause-steps c =
-    let step = λ (b : ℕ). rotated_step c.args.size c.args.row c.args.col c.args.rotation (c.args.start + b) in
-    let old = c.args.order.now.items in
-    sym (append-nil old) ∙ ap (λ xs. old ++ xs) (sym (ap (λ w. steps_below step (λ b. bit_at w b == 1) 64) c.if-word-eq0.true ∙ zero_steps step))
+returns-then-word-eq0-clause-steps c = grind (arith, nat_tests, append-nil, zero_steps)
 
 pub push_part-requires-clause-fits : goal.push_part-requires-clause-fits
 push_part-requires-clause-fits c = omega (arith, block_fits c.args.col c.args.size (omega arith) c.requires.few, ap (λ n. n * c.args.size) c.from.ensures)

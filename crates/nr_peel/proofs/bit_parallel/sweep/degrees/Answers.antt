@@ -13,30 +13,16 @@ use Rattle.nr_peel.proofs.TableGridFacts.{rows_short}
 use Rattle.nr_peel.proofs.bit_parallel.sweep.degrees.Goals as goal
 
 pub loop-i-init : goal.loop-i-init
-loop-i-init c =
-    let z = c.args.lifted.now.plan.z in
-    let rows : c.rows-rows.result * z ≡ (lifted_checks c.args.lifted.now).rows * z = ap (λ n. n * z) c.rows-rows.ensures in
-    record {
-      filled = λ h t none. absurd (omega (arith, none));
-      long = ap length c.in_ok-counts.ensures.items ∙ length-replicate (c.rows-rows.result * z) 0 ∙ rows;
-      lanes = c.in_ok-counts.ensures.lanes;
-    }
+loop-i-init c = grind (arith, length-replicate)
 
 pub overflow_cast-row : goal.overflow_cast-row
-overflow_cast-row c =
-    let l = c.args.lifted.now in
-    omega (arith, rows_short l.table.now l.plan.graph c.loop-i.i c.requires, ap length c.row.ensures)
+overflow_cast-row c = grind (arith, rows_short)
 
 pub fill-requires-clause-block : goal.fill-requires-clause-block
-fill-requires-clause-block c =
-    let z = c.args.lifted.now.plan.z in
-    let fits : (c.loop-i.i + 1) * z ≤ (lifted_checks c.args.lifted.now).rows * z = mul-le-mul_right z (omega (arith, c.loop-i-test.true, c.rows-rows.ensures)) in
-    rw c.loop-i.invariant.lanes (omega (arith, fits, c.loop-i.invariant.long))
+fill-requires-clause-block c = grind (arith, mul-le-mul_right)
 
 pub fill-requires-clause-small : goal.fill-requires-clause-small
-fill-requires-clause-small c =
-    let l = c.args.lifted.now in
-    omega (arith, rows_short l.table.now l.plan.graph c.loop-i.i c.requires, ap length c.row.ensures)
+fill-requires-clause-small c = grind (arith, rows_short)
 
 -- the next row has its counts
 pub loop-i-preserved : goal.loop-i-preserved
@@ -60,13 +46,4 @@ loop-i-preserved c =
     }
 
 pub returns : goal.returns
-returns c =
-    let l = c.args.lifted.now in
-    let inv = c.loop-i.invariant in
-    record {
-      counted = λ i t block lane.
-          inv.filled i t (omega (arith, block, c.loop-i-test.false, c.rows-rows.ensures)) lane
-          ∙ sym (length-map (row_of (entries_in l.plan.graph l.table.now) i) (λ (e : Entry). one_at l.plan.z t e.col (value_in l.plan.set e)));
-      long = inv.long;
-      lanes = inv.lanes;
-    }
+returns c = grind (arith, length-map)

@@ -1,3 +1,4 @@
+use Rattle.std.proofs.lemmas.Bool.Decides.{nat_tests}
 use Rattle.std.proofs.Common.{◌≡◌, ◌*◌, ◌==◌, ◌||◌, false, true, length, sym, ap, ◌∙◌, arith}
 use Rattle.std.proofs.lemmas.List.{length-replicate, length-set}
 use Rattle.nr_bitvec.specs.Bit.{bit}
@@ -7,27 +8,13 @@ use Rattle.nr_peel.proofs.TieFacts.{bit-mark}
 use Rattle.nr_peel.proofs.bit_parallel.sweep_peeler.filler_marks.Goals as goal
 
 pub loop-pos-init : goal.loop-pos-init
-loop-pos-init c =
-    let l = c.args.lifted.now in
-    let n = c.cols.result * l.plan.z in
-    record {
-      marked = λ q. ap (λ v. bit v q) c.in_ok-marks.ensures ∙ get_or-same n q false ∙ sym (filler_none l.plan.kdash q);
-      long = ap length c.in_ok-marks.ensures ∙ length-replicate n false ∙ ap (λ m. m * l.plan.z) c.cols.ensures;
-    }
+loop-pos-init c = grind (arith, get_or-same, filler_none, length-replicate)
 
 pub set-requires : goal.set-requires
 set-requires c = omega (arith, c.loop-pos.invariant.long, fillers_fit c.args.lifted.now, c.loop-pos-test.true)
 
 pub loop-pos-preserved : goal.loop-pos-preserved
-loop-pos-preserved c =
-    let l = c.args.lifted.now in
-    let pos = c.loop-pos.pos in
-    let old = c.loop-pos.marks.items in
-    let inv = c.loop-pos.invariant in
-    record {
-      marked = λ q. ap (λ v. bit v q) c.set.ensures.items ∙ bit-mark old pos (omega (arith, inv.long, fillers_fit l, c.loop-pos-test.true)) q ∙ ap (λ b. b || (pos == q)) (inv.marked q) ∙ filler_more l.plan.kdash pos q c.loop-pos.auto.pos;
-      long = ap length c.set.ensures.items ∙ length-set old pos true ∙ inv.long;
-    }
+loop-pos-preserved c = grind (arith, nat_tests, bit-mark, fillers_fit, filler_more, length-set)
 
 pub returns : goal.returns
 returns c =

@@ -1,3 +1,4 @@
+use Rattle.std.proofs.Common.{arith}
 use Rattle.nr_segment.specs.CodeBlock.{numbers}
 use Rattle.nr_peel.proofs.TableGridFacts.{checks_sound}
 use Rattle.nr_peel.proofs.LeftPositionFacts.{stuck_has, stuck_stops}
@@ -10,11 +11,7 @@ pub returns-clause-peeled : goal.returns-clause-peeled
 returns-clause-peeled c = rw (← c.self.view_is) (sweep_peeled c.self.inside.lifted c.self.inside.sweep_peeler c.self.invariant)
 
 pub returns-clause-stops : goal.returns-clause-stops
-returns-clause-stops c =
-    let l = c.self.inside.lifted in
-    let s = c.self.inside.sweep_peeler in
-    let sound = checks_sound l.table.now l.plan.graph (numbers l.plan) c.self.invariant.sweep.table l.plan.sound.size_some in
-    rw (c.in_ok-positions.ensures, ← c.self.view_is) (stuck_stops (sweep_peeler_view l s) (sweep_peeled l s c.self.invariant) sound (kdash_fits l s c.self.invariant))
+returns-clause-stops c = grind (arith, checks_sound, stuck_stops, sweep_peeled, kdash_fits)
 
 pub returns-clause-largest : goal.returns-clause-largest
 returns-clause-largest c =

@@ -1,13 +1,11 @@
+use Rattle.std.proofs.Common.{arith}
 use Rattle.nr_peel.proofs.PairBoundFacts.{visits_few}
 use Rattle.nr_peel.specs.State.{sweep_peeler_view}
 use Rattle.nr_peel.proofs.SweepViewFacts.{sweep_peeled}
 use Rattle.nr_peel.proofs.peeler.Peeler.touches.Goals as goal
 
 pub returns-clause-few : goal.returns-clause-few
-returns-clause-few c =
-    let l = c.self.inside.lifted in
-    let s = c.self.inside.sweep_peeler in
-    rw (← c.self.view_is) (visits_few (sweep_peeler_view l s) (sweep_peeled l s c.self.invariant))
+returns-clause-few c = grind (arith, visits_few, sweep_peeled)
 
 pub returns-clause-peeled : goal.returns-clause-peeled
 returns-clause-peeled c = rw (← c.self.view_is) (sweep_peeled c.self.inside.lifted c.self.inside.sweep_peeler c.self.invariant)

@@ -14,10 +14,7 @@ pub loop-j-init : goal.loop-j-init
 loop-j-init c = told_none c.args.lifted.now.plan.z (news (bit c.args.heard.now.items) c.args.self.now) (bit c.args.values.now.items) c.args.self.now
 
 pub lacking-lane-requires-clause-block : goal.lacking-lane-requires-clause-block
-lacking-lane-requires-clause-block c =
-    let p = c.args.lifted.now.plan in
-    let below : c.loop-j.j < cols_of p.graph = omega arith in
-    rw (c.loop-j.invariant.alike.known_lanes, c.loop-j.invariant.alike.known_long, c.requires.lanes.known_lanes, c.requires.lanes.known_long) (mul-le-mul_right p.z (omega (arith, below)))
+lacking-lane-requires-clause-block c = grind (arith, mul-le-mul_right)
 
 -- the lane of a column's positions that are given and aren't known
 new_marks : (c : After-lacking-lane) → (p : ℕ) → lane_marks c.args.lifted.now.plan.z c.loop-j.j (is_set c.lacking-lane.result) p ≡ in_column c.args.lifted.now.plan.z (news (bit c.args.heard.now.items) c.args.self.now) c.loop-j.j p
@@ -32,13 +29,10 @@ pub lacking-lane-requires-clause-clear : goal.lacking-lane-requires-clause-clear
 lacking-lane-requires-clause-clear c = rw (c.loop-j.invariant.alike.known_lanes, c.requires.lanes.known_lanes) c.read_lane-told.ensures.clear
 
 pub join-requires-then-not-is_blank-clause-clear : goal.join-requires-then-not-is_blank-clause-clear
-join-requires-then-not-is_blank-clause-clear c =
-    rw (c.loop-j.invariant.alike.pending_lanes, c.requires.lanes.pending_lanes) (rw (c.loop-j.invariant.alike.known_lanes, c.requires.lanes.known_lanes) at c.lacking-lane.ensures.clear)
+join-requires-then-not-is_blank-clause-clear c = grind arith
 
 pub join-requires-then-not-is_blank-2-clause-clear : goal.join-requires-then-not-is_blank-2-clause-clear
-join-requires-then-not-is_blank-2-clause-clear c =
-    let z = c.args.lifted.now.plan.z in
-    rw (c.loop-j.invariant.alike.bits_lanes, c.requires.lanes.bits_lanes) (c.common-bits.ensures.clear z (rw (c.loop-j.invariant.alike.known_lanes, c.requires.lanes.known_lanes) at c.lacking-lane.ensures.clear))
+join-requires-then-not-is_blank-2-clause-clear c = grind arith
 
 -- none of what is new was fresh
 pub join-requires-then-not-is_blank-clause-fresh : goal.join-requires-then-not-is_blank-clause-fresh

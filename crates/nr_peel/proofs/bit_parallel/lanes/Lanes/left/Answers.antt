@@ -12,15 +12,10 @@ use Rattle.nr_peel.proofs.LeftPositionFacts.{left_and_known}
 
 -- an information column lies in the word
 column_fits : (l : Lifted) (j : ℕ) → j < l.plan.k / l.plan.z → (j + 1) * l.plan.z ≤ cols_of l.plan.graph * l.plan.z
-column_fits l j below =
-    let p = l.plan in
-    let within : (j + 1) * p.z ≤ info_cols_of p.graph * p.z = mul-le-mul_right p.z (omega (arith, below, info_rotations p.z p.k (info_cols_of p.graph) p.sound.size_some p.sound.columns)) in
-    omega (arith, within, p.sound.columns, fillers_fit l)
+column_fits l j below = grind (arith, mul-le-mul_right, info_rotations, fillers_fit)
 
 pub lane-requires-clause-block : goal.lane-requires-clause-block
-lane-requires-clause-block c =
-    let p = c.args.lifted.now.plan in
-    rw (c.requires.lanes.known_lanes, c.requires.lanes.known_long) (column_fits c.args.lifted.now c.loop-j.j c.loop-j-test.true)
+lane-requires-clause-block c = grind (arith, column_fits)
 
 pub loop-j-preserved : goal.loop-j-preserved
 loop-j-preserved c =

@@ -1,4 +1,5 @@
-use Rattle.std.proofs.lemmas.Bool.{ne_eqb}
+use Rattle.std.proofs.lemmas.Bool.Decides.{nat_tests}
+use Rattle.std.proofs.lemmas.Bool.{ne_eqb, cond-false}
 use Rattle.std.proofs.Common.{◌≡◌, ℕ, ◌+◌, ◌*◌, ◌<◌, ◌≤◌, ◌==◌, cond, [], length, refl, sym, ap, ◌∙◌, arith}
 use Rattle.nr_bitvec.specs.Bit.{bit}
 use Rattle.nr_lifting.specs.Rings.{is_set, marked}
@@ -9,75 +10,50 @@ use Rattle.nr_peel.specs.Due.{due_in}
 use Rattle.nr_peel.specs.Sweeps.{counted_in, has_count}
 use Rattle.nr_peel.proofs.DueBlockFacts.{one_at_most, search_cost, some_entry}
 use Rattle.nr_peel.proofs.RoundFacts.{row_fits}
-use Rattle.nr_peel.proofs.EntryTakeFacts.{ones_counted, taking_done, taking_more, taking_none, taking_room, taking_start}
+use Rattle.nr_peel.proofs.EntryTakeFacts.{taking_done, taking_more, taking_none, taking_room, taking_start}
 use Rattle.nr_peel.proofs.bit_parallel.lanes.Lanes.search_block.Goals as goal
 
 pub row_sum-sums-requires-clause-columns : goal.row_sum-sums-requires-clause-columns
-row_sum-sums-requires-clause-columns c =
-    row_fits c.args.lifted.now c.row-row.result.now c.args.i (length c.args.self.now.bits.items) c.requires.table c.row-row.ensures c.requires.lanes.bits_long
+row_sum-sums-requires-clause-columns c = grind (arith, row_fits)
 
 pub loop-entry-init : goal.loop-entry-init
-loop-entry-init c =
-    let l = c.args.lifted.now in
-    let a = c.args.self.now in
-    let counts = c.args.counts.now.items in
-    let ones = c.ones-ones.result in
-    let are : (t : ℕ) → t < l.plan.z → is_set ones t ≡ has_count 1 counts (c.args.i * l.plan.z + t) = rw c.requires.same at c.ones-ones.ensures.ones in
-    record {
-      taking = taking_start l c.args.i ones a c.requires.table c.requires.block c.requires.lanes (ones_counted l c.args.i counts ones a c.requires.block c.requires.counted are);
-      items = refl;
-      lanes = refl;
-      due = refl;
-      operations = omega arith;
-    }
+loop-entry-init c = record {
+  taking = taking_start c.args.lifted.now c.args.i c.ones-ones.result c.args.counts.now.items c.args.self.now c.requires.table c.requires.block c.requires.lanes c.requires.counted (rw c.requires.same at c.ones-ones.ensures.ones);
+  items = refl;
+  lanes = refl;
+  due = refl;
+  operations = omega arith;
+}
 
 pub take-requires-clause-known : goal.take-requires-clause-known
-take-requires-clause-known c =
-    let none : Entry = record { row = 0; col = 0; values = [] } in
-    row_fits c.args.lifted.now c.row-row.result.now c.args.i (length c.loop-entry.self.known.items) c.requires.table c.row-row.ensures c.loop-entry.invariant.taking.fixes.lanes.known_long
-    c.loop-entry.entry-index none c.loop-entry-test.true
+take-requires-clause-known c = grind (arith, row_fits)
 
 pub take-requires-clause-bits : goal.take-requires-clause-bits
-take-requires-clause-bits c =
-    let none : Entry = record { row = 0; col = 0; values = [] } in
-    row_fits c.args.lifted.now c.row-row.result.now c.args.i (length c.loop-entry.self.bits.items) c.requires.table c.row-row.ensures c.loop-entry.invariant.taking.fixes.lanes.bits_long
-    c.loop-entry.entry-index none c.loop-entry-test.true
+take-requires-clause-bits c = grind (arith, row_fits)
 
 pub take-requires-clause-pending : goal.take-requires-clause-pending
-take-requires-clause-pending c =
-    let none : Entry = record { row = 0; col = 0; values = [] } in
-    row_fits c.args.lifted.now c.row-row.result.now c.args.i (length c.loop-entry.self.pending.items) c.requires.table c.row-row.ensures c.loop-entry.invariant.taking.fixes.lanes.pending_long
-    c.loop-entry.entry-index none c.loop-entry-test.true
+take-requires-clause-pending c = grind (arith, row_fits)
 
 pub take-requires-clause-within : goal.take-requires-clause-within
 take-requires-clause-within c = c.loop-entry.invariant.taking.fixes.lanes.within
 
 pub take-requires-clause-room : goal.take-requires-clause-room
 take-requires-clause-room c =
-    let l = c.args.lifted.now in
-    let a = c.args.self.now in
-    let counts = c.args.counts.now.items in
-    let ones = c.ones-ones.result in
-    let are : (t : ℕ) → t < l.plan.z → is_set ones t ≡ has_count 1 counts (c.args.i * l.plan.z + t) = rw c.requires.same at c.ones-ones.ensures.ones in
+    let z = c.args.lifted.now.plan.z in
     let within = rw c.row-row.ensures at c.loop-entry-test.true in
-    let room = taking_room l c.args.i ones a c.requires.table c.requires.block c.requires.lanes (ones_counted l c.args.i counts ones a c.requires.block c.requires.counted are)
+    let room = taking_room c.args.lifted.now c.args.i c.ones-ones.result c.args.counts.now.items c.args.self.now c.requires.table c.requires.block c.requires.lanes c.requires.counted (rw c.requires.same at c.ones-ones.ensures.ones)
     c.loop-entry.entry-index c.loop-entry.self within c.loop-entry.invariant.taking in
-    let rows = marked-same (is_set ones) (λ t. has_count 1 counts (c.args.i * l.plan.z + t)) l.plan.z are in
+    let rows = marked-same (is_set c.ones-ones.result) (λ t. has_count 1 c.args.counts.now.items (c.args.i * z + t)) z (rw c.requires.same at c.ones-ones.ensures.ones) in
     rw c.row-row.ensures (omega (arith, room, rows, c.requires.room, c.loop-entry.invariant.taking.fixes.capacity))
 
 pub loop-entry-preserved : goal.loop-entry-preserved
 loop-entry-preserved c =
-    let l = c.args.lifted.now in
-    let a = c.args.self.now in
-    let counts = c.args.counts.now.items in
-    let ones = c.ones-ones.result in
-    let are : (t : ℕ) → t < l.plan.z → is_set ones t ≡ has_count 1 counts (c.args.i * l.plan.z + t) = rw c.requires.same at c.ones-ones.ensures.ones in
     let within = rw c.row-row.ensures at c.loop-entry-test.true in
     let took = rw c.row-row.ensures at c.take.ensures in
     let sums = rw c.row-row.ensures at c.row_sum-sums.ensures.sums in
     record {
       taking =
-          taking_more l c.args.i ones a c.requires.table c.requires.block c.requires.lanes (ones_counted l c.args.i counts ones a c.requires.block c.requires.counted are)
+          taking_more c.args.lifted.now c.args.i c.ones-ones.result c.args.counts.now.items c.args.self.now c.requires.table c.requires.block c.requires.lanes c.requires.counted (rw c.requires.same at c.ones-ones.ensures.ones)
           c.loop-entry.entry-index c.loop-entry.self within c.loop-entry.invariant.taking c.row_sum-sums.result c.take.new.self took sums;
       items = ap (λ s. s.items) c.count-in-loop-entry.ensures ∙ c.loop-entry.invariant.items;
       lanes = ap (λ s. s.lanes) c.count-in-loop-entry.ensures ∙ c.loop-entry.invariant.lanes;
@@ -87,48 +63,24 @@ loop-entry-preserved c =
 
 pub returns-after-loop-entry-clause-sought : goal.returns-after-loop-entry-clause-sought
 returns-after-loop-entry-clause-sought c =
-    let l = c.args.lifted.now in
-    let a = c.args.self.now in
-    let counts = c.args.counts.now.items in
-    let ones = c.ones-ones.result in
-    let are : (t : ℕ) → t < l.plan.z → is_set ones t ≡ has_count 1 counts (c.args.i * l.plan.z + t) = rw c.requires.same at c.ones-ones.ensures.ones in
-    let all = rw c.row-row.ensures at c.loop-entry-test.false in
-    taking_done l c.args.i ones a c.requires.table c.requires.block c.requires.lanes (ones_counted l c.args.i counts ones a c.requires.block c.requires.counted are)
-    counts c.loop-entry.entry-index c.loop-entry.self all c.loop-entry.invariant.taking are
+    taking_done c.args.lifted.now c.args.i c.ones-ones.result c.args.counts.now.items c.args.self.now c.requires.table c.requires.block c.requires.lanes c.requires.counted (rw c.requires.same at c.ones-ones.ensures.ones)
+    c.loop-entry.entry-index c.loop-entry.self (rw c.row-row.ensures at c.loop-entry-test.false) c.loop-entry.invariant.taking
 
 pub returns-after-loop-entry-clause-rows : goal.returns-after-loop-entry-clause-rows
-returns-after-loop-entry-clause-rows c =
-    let z = c.args.lifted.now.plan.z in
-    let counts = c.args.counts.now.items in
-    let ones = c.ones-ones.result in
-    let are : (t : ℕ) → t < z → is_set ones t ≡ has_count 1 counts (c.args.i * z + t) = rw c.requires.same at c.ones-ones.ensures.ones in
-    c.lane_count-rows.ensures.marked z (rw c.requires.same at c.ones-ones.ensures.clear) ∙ marked-same (is_set ones) (λ t. has_count 1 counts (c.args.i * z + t)) z are
+returns-after-loop-entry-clause-rows c = grind (arith, marked-same)
 
 pub returns-else-rows-ne0-clause-sought : goal.returns-else-rows-ne0-clause-sought
 returns-else-rows-ne0-clause-sought c =
-    let l = c.args.lifted.now in
-    let a = c.args.self.now in
-    let counts = c.args.counts.now.items in
-    let ones = c.ones-ones.result in
-    let are : (t : ℕ) → t < l.plan.z → is_set ones t ≡ has_count 1 counts (c.args.i * l.plan.z + t) = rw c.requires.same at c.ones-ones.ensures.ones in
     let clear = rw c.requires.same at c.ones-ones.ensures.clear in
-    let nothing : marked (is_set ones) l.plan.z ≡ 0 = sym (c.lane_count-rows.ensures.marked l.plan.z clear) ∙ omega (arith, c.if-rows-ne0.false) in
-    taking_none l c.args.i ones a c.requires.table c.requires.block c.requires.lanes (ones_counted l c.args.i counts ones a c.requires.block c.requires.counted are)
-    counts clear nothing are
+    let nothing : marked (is_set c.ones-ones.result) c.args.lifted.now.plan.z ≡ 0 = sym (c.lane_count-rows.ensures.marked c.args.lifted.now.plan.z clear) ∙ omega (arith, c.if-rows-ne0.false) in
+    taking_none c.args.lifted.now c.args.i c.ones-ones.result c.args.counts.now.items c.args.self.now c.requires.table c.requires.block c.requires.lanes c.requires.counted (rw c.requires.same at c.ones-ones.ensures.ones) clear nothing
 
 pub returns-else-rows-ne0-clause-rows : goal.returns-else-rows-ne0-clause-rows
-returns-else-rows-ne0-clause-rows c =
-    let z = c.args.lifted.now.plan.z in
-    let counts = c.args.counts.now.items in
-    let ones = c.ones-ones.result in
-    let are : (t : ℕ) → t < z → is_set ones t ≡ has_count 1 counts (c.args.i * z + t) = rw c.requires.same at c.ones-ones.ensures.ones in
-    c.lane_count-rows.ensures.marked z (rw c.requires.same at c.ones-ones.ensures.clear) ∙ marked-same (is_set ones) (λ t. has_count 1 counts (c.args.i * z + t)) z are
+returns-else-rows-ne0-clause-rows c = grind (arith, marked-same)
 
 -- two operations an entry
 pub returns-after-loop-entry-clause-operations : goal.returns-after-loop-entry-clause-operations
-returns-after-loop-entry-clause-operations c =
-    let some : ◌≡◌ {A = ℕ} (cond (c.lane_count-rows.result == 0) 0 (2 * length (row_of (entries_in c.args.lifted.now.plan.graph c.args.lifted.now.table.now) c.args.i))) (2 * length (row_of (entries_in c.args.lifted.now.plan.graph c.args.lifted.now.table.now) c.args.i)) = ap (λ b. cond {A = ℕ} b 0 (2 * length (row_of (entries_in c.args.lifted.now.plan.graph c.args.lifted.now.table.now) c.args.i))) (ne_eqb c.lane_count-rows.result 0 c.if-rows-ne0.true) in
-    omega (arith, some, c.loop-entry.invariant.operations, ap (λ s. s.operations) c.count.ensures, c.ones-ones.ensures.operations, ap length c.row-row.ensures)
+returns-after-loop-entry-clause-operations c = grind (arith, nat_tests, cond-false, ne_eqb)
 
 pub returns-after-loop-entry-clause-worked : goal.returns-after-loop-entry-clause-worked
 returns-after-loop-entry-clause-worked c =
@@ -140,9 +92,4 @@ returns-after-loop-entry-clause-worked c =
     omega (arith, cost, looked, c.loop-entry.invariant.operations, ap (λ s. s.operations) c.count.ensures, c.ones-ones.ensures.due, ap due_in c.loop-entry.invariant.due, ap (λ s. due_in s.due) c.count.ensures, ap length c.row-row.ensures)
 
 pub returns-else-rows-ne0-clause-worked : goal.returns-else-rows-ne0-clause-worked
-returns-else-rows-ne0-clause-worked c =
-    let z = c.args.lifted.now.plan.z in
-    let clear = rw c.requires.same at c.ones-ones.ensures.clear in
-    let nothing : marked (is_set c.ones-ones.result) z ≡ 0 = sym (c.lane_count-rows.ensures.marked z clear) ∙ omega (arith, c.if-rows-ne0.false) in
-    let paid = rw c.requires.same at c.ones-ones.ensures.paid in
-    omega (arith, paid nothing)
+returns-else-rows-ne0-clause-worked c = grind arith

@@ -12,18 +12,10 @@ use Rattle.nr_peel.proofs.bit_parallel.lanes.Lanes.take.Goals.{After-lacking-lan
 
 -- what the lane of missing positions is
 lane_is : (c : After-lacking-lane) → (t : ℕ) → is_set c.lacking-lane.result t ≡ lacks c.args.lifted.now.plan.z c.args.entry.now.col (value_in c.args.lifted.now.plan.set c.args.entry.now) c.args.ones.now (bit c.args.self.now.known.items) t
-lane_is c =
-    let l = c.args.lifted.now in
-    let e = c.args.entry.now in
-    lacking l.plan.z e.col (value_in l.plan.set e) (omega (arith, c.rotation-rotation.ensures.small)) c.args.ones.now c.lacking-lane.result (bit c.args.self.now.known.items) c.requires.clear (rw c.requires.same at c.lacking-lane.ensures.clear)
-    (rw (c.requires.same, c.from-col.ensures, c.rotation-rotation.ensures.value) at c.lacking-lane.ensures.bits)
+lane_is c = grind (arith, lacking)
 
 pub push_lane-requires-clause-room : goal.push_lane-requires-clause-room
-push_lane-requires-clause-room c =
-    let l = c.args.lifted.now in
-    let e = c.args.entry.now in
-    let lane = lane_is (goal.at.push_lane-requires-clause-room c).After-lacking-lane in
-    omega (arith, c.requires.room, marked-same (is_set c.lacking-lane.result) (lacks l.plan.z e.col (value_in l.plan.set e) c.args.ones.now (bit c.args.self.now.known.items)) l.plan.z (λ t _. lane t))
+push_lane-requires-clause-room c = grind (arith, lane_is, marked-same)
 
 pub lacking-lane-requires-clause-clear : goal.lacking-lane-requires-clause-clear
 lacking-lane-requires-clause-clear c = rw c.requires.same c.requires.clear
@@ -97,27 +89,4 @@ returns-then-not-is_blank c =
     }
 
 pub returns-else-not-is_blank : goal.returns-else-not-is_blank
-returns-else-not-is_blank c =
-    let l = c.args.lifted.now in
-    let e = c.args.entry.now in
-    let z = l.plan.z in
-    let v = value_in l.plan.set e in
-    let some : 0 < z = omega (arith, c.rotation-rotation.ensures.small) in
-    let K = bit c.args.self.now.known.items in
-    let u = lacks z e.col v c.args.ones.now K in
-    let lane = lane_is (goal.at.returns-else-not-is_blank c).After-lacking-lane in
-    let none : (t : ℕ) → u t ≡ false = λ t. sym (lane t) ∙ c.is_blank.ensures c.if-not-is_blank.false t in
-    let unset : (t : ℕ) → (u t && is_set c.args.sums.now t) ≡ false = λ t. ap (λ b. b && is_set c.args.sums.now t) (none t) in
-    record {
-      known = λ p. marks_none z e.col v some u (bit c.args.self.now.known.items p) p none;
-      pending = λ p. marks_none z e.col v some u (bit c.args.self.now.pending.items p) p none;
-      bits = λ p. marks_none z e.col v some (λ t. u t && is_set c.args.sums.now t) (bit c.args.self.now.bits.items p) p unset;
-      order = no_steps (rotated_step z e.row e.col (v % z)) u z c.args.self.now.order.items none;
-      capacity = refl;
-      known_long = refl;
-      pending_long = refl;
-      bits_long = refl;
-      known_lanes = refl;
-      pending_lanes = refl;
-      bits_lanes = refl;
-    }
+returns-else-not-is_blank c = grind (arith, lane_is, marks_none, no_steps)

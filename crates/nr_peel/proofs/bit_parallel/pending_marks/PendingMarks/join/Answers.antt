@@ -6,20 +6,13 @@ use Rattle.nr_peel.proofs.DueBlockFacts.{marks_low, marks_join}
 use Rattle.nr_peel.proofs.bit_parallel.pending_marks.PendingMarks.join.Goals as goal
 
 pub bounds-self-inside-j : goal.bounds-self-inside-j
-bounds-self-inside-j c =
-    marks_low c.self.inside.rings c.self.inside.columns c.args.j c.self.invariant (rw (← c.self.view_is) at c.requires.block)
+bounds-self-inside-j c = grind (arith, marks_low)
 
 pub overflow_cast-more : goal.overflow_cast-more
-overflow_cast-more c =
-    let counted = rw (← c.self.view_is) at c.requires.counted in
-    let z = c.self.inside.rings.lanes in
-    omega (arith, counted, marked-le (is_set c.args.lane.now) z, c.self.invariant.short)
+overflow_cast-more c = grind (arith, marked-le)
 
 pub overflow_add-self : goal.overflow_add-self
-overflow_add-self c =
-    let counted = rw (← c.self.view_is) at c.requires.counted in
-    let z = c.self.inside.rings.lanes in
-    omega (arith, counted, marked-le (is_set c.args.lane.now) z, c.self.invariant.counted c.args.j, marked-le (λ t. bit c.self.inside.rings.items (c.args.j * z + t)) z, c.self.invariant.short)
+overflow_add-self c = grind (arith, marked-le)
 
 -- the column has so many marks more
 pub invariant_of-self : goal.invariant_of-self

@@ -4,8 +4,7 @@ use Rattle.nr_peel.proofs.DueBlockFacts.{kept_low, due_more, kept_lower}
 use Rattle.nr_peel.proofs.bit_parallel.row_counts.RowCounts.lower.Goals as goal
 
 pub bounds-self-inside-i : goal.bounds-self-inside-i
-bounds-self-inside-i c =
-    kept_low c.self.inside.planes c.self.inside.due c.args.i c.self.invariant (rw (← c.self.view_is) at c.requires.block)
+bounds-self-inside-i c = grind (arith, kept_low)
 
 pub invariant_of-self : goal.invariant_of-self
 invariant_of-self c =

@@ -4,26 +4,14 @@ use Rattle.nr_peel.proofs.DueBlockFacts.{due_more, due_none, kept_new}
 use Rattle.nr_peel.proofs.bit_parallel.row_counts.RowCounts.new.Goals as goal
 
 pub loop-i-init : goal.loop-i-init
-loop-i-init c = record {
-  all = λ h none. absurd (omega (arith, none));
-  count = omega (arith, due_none 46);
-  long = length-replicate 46 false;
-}
+loop-i-init c = grind (arith, due_none, length-replicate)
 
 pub bounds-due-i : goal.bounds-due-i
 bounds-due-i c = omega (arith, c.requires.few, c.loop-i-test.true)
 
 -- one more is due
 pub loop-i-preserved : goal.loop-i-preserved
-loop-i-preserved c =
-    let due = c.loop-i.due in
-    let i = c.loop-i.i in
-    let within : i < length due = omega (arith, c.loop-i.invariant.long, c.requires.few, c.loop-i-test.true) in
-    record {
-      all = below_more _ _ (λ h below. let other : h ≢ i = omega arith in get_or-set_other due i h true false other ∙ c.loop-i.invariant.all h below) (get_or-set_same due i true false within);
-      count = omega (arith, due_more due i within, c.loop-i.invariant.count);
-      long = length-set due i true ∙ c.loop-i.invariant.long;
-    }
+loop-i-preserved c = grind (arith, below_more, get_or-set_other, get_or-set_same, due_more, length-set)
 
 pub invariant_of-result : goal.invariant_of-result
 invariant_of-result c = kept_new c.args.planes c.loop-i.due c.args.rows c.requires.some c.requires.few c.requires.long (λ h below. c.loop-i.invariant.all h (omega (arith, below, c.loop-i-test.false)))

@@ -5,8 +5,7 @@ use Rattle.nr_peel.proofs.DueBlockFacts.{kept_low, kept_looked, kept_none}
 use Rattle.nr_peel.proofs.bit_parallel.row_counts.RowCounts.ones.Goals as goal
 
 pub bounds-self-inside-i : goal.bounds-self-inside-i
-bounds-self-inside-i c =
-    kept_low c.self.inside.planes c.self.inside.due c.args.i c.self.invariant (rw (← c.self.view_is) at c.requires.block)
+bounds-self-inside-i c = grind (arith, kept_low)
 
 -- a block that isn't due has no count of one
 pub returns-then-not-self-i-clause-ones : goal.returns-then-not-self-i-clause-ones

@@ -1,3 +1,4 @@
+use Rattle.std.proofs.lemmas.Bool.Decides.{nat_tests}
 use Rattle.std.proofs.Common.{◌≡◌, ℕ, ◌*◌, ◌∙◌, nat_lt, false, sym, inl, inr, arith}
 use Rattle.std.proofs.lemmas.Bool.{cases_lt, lt-ltb, ltb-true, true≢false}
 use Rattle.nr_lifting.specs.Rings.{marked}
@@ -33,9 +34,7 @@ pub search-requires-clause-roomy : goal.search-requires-clause-roomy
 search-requires-clause-roomy c = held_work (lifted_checks c.args.lifted.now) c.rounds.self c.rounds.invariant.held
 
 pub lower-requires-in-rounds-clause-roomy : goal.lower-requires-in-rounds-clause-roomy
-lower-requires-in-rounds-clause-roomy c =
-    let l = c.args.lifted.now in
-    sought_roomy (lifted_checks l) l.plan.sound.size_some c.rounds.self c.search.new.self c.rounds.invariant.held c.search.ensures.sought c.search.ensures.counts c.search.ensures.lanes c.search.ensures.touches c.search.ensures.worked
+lower-requires-in-rounds-clause-roomy c = grind (arith, sought_roomy)
 
 pub lower-requires-in-rounds-clause-counted : goal.lower-requires-in-rounds-clause-counted
 lower-requires-in-rounds-clause-counted c =
@@ -43,9 +42,7 @@ lower-requires-in-rounds-clause-counted c =
     sought_counted (lifted_checks l) l.plan.sound.size_some c.rounds.self c.search.new.self c.rounds.invariant.held c.search.ensures.sought c.search.ensures.counts c.search.ensures.lanes c.search.ensures.touches c.search.ensures.worked
 
 pub lower-requires-in-rounds-clause-few : goal.lower-requires-in-rounds-clause-few
-lower-requires-in-rounds-clause-few c =
-    let l = c.args.lifted.now in
-    sought_few (lifted_checks l) l.plan.sound.size_some c.rounds.self c.search.new.self c.rounds.invariant.held c.search.ensures.sought c.search.ensures.counts c.search.ensures.lanes c.search.ensures.touches c.search.ensures.worked
+lower-requires-in-rounds-clause-few c = grind (arith, sought_few)
 
 pub rounds-smaller : goal.rounds-smaller
 rounds-smaller c =
@@ -72,16 +69,10 @@ rounds-preserved c =
     }
 
 none_left : (m : ℕ) → nat_lt 0 m ≡ false → m ≡ 0
-none_left m h = elim (cases_lt 0 m) [
-  | inl some ↦ absurd (true≢false (sym (lt-ltb 0 m some) ∙ h))
-  | inr none ↦ omega (arith, none)
-]
+none_left m h = grind (arith, nat_tests, cases_lt, lt-ltb)
 
 pub returns-clause-held : goal.returns-clause-held
-returns-clause-held c =
-    let l = c.args.lifted.now in
-    let none = none_left (marked (has_count 1 c.rounds.self.counts.items) ((lifted_checks l).rows * l.plan.z)) (sym c.search.ensures.some ∙ c.rounds-test.false) in
-    stop_held (lifted_checks l) l.plan.sound.size_some c.rounds.self c.search.new.self c.rounds.invariant.held c.search.ensures.sought c.search.ensures.counts c.search.ensures.lanes c.search.ensures.touches c.search.ensures.worked none
+returns-clause-held c = grind (arith, none_left, stop_held)
 
 pub returns-clause-none_pending : goal.returns-clause-none_pending
 returns-clause-none_pending c =

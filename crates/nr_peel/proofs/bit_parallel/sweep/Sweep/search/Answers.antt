@@ -61,11 +61,7 @@ search_block-rows-requires-clause-room c =
     (sought_room ck a.counts.items c.loop-i.i a.lanes c.loop-i.self.lanes inv.sought block c.requires.room)
 
 pub overflow_mul-self : goal.overflow_mul-self
-overflow_mul-self c =
-    let l = c.args.lifted.now in
-    let short = rows_short l.table.now l.plan.graph c.loop-i.i c.requires.table in
-    let few : c.from.result ≤ 384 = omega (arith, c.from.ensures, c.search_block-rows.ensures.few) in
-    omega (arith, mul-le c.from.result (length c.row.result.now) 384 68 few (omega (arith, short, ap length c.row.ensures)))
+overflow_mul-self c = grind (arith, rows_short, mul-le)
 
 -- how many rows have one unknown position, and how many visits these are
 found_are : (c : After-search_block-rows) → c.search_block-rows.result ≡ marked (λ t. has_count 1 c.args.self.now.counts.items (c.loop-i.i * c.args.lifted.now.plan.z + t)) c.args.lifted.now.plan.z
@@ -117,16 +113,7 @@ returns-clause-sought c =
     subst (λ n. AreSought ck a.counts.items n a.lanes c.loop-i.self.lanes) all c.loop-i.invariant.sought
 
 pub returns-clause-worked : goal.returns-clause-worked
-returns-clause-worked c =
-    let ck = lifted_checks c.args.lifted.now in
-    let a = c.args.self.now in
-    let all : c.loop-i.i ≡ ck.rows = omega (arith, c.rows-i-end.ensures) in
-    omega (arith, c.loop-i.invariant.worked, ap (λ n. searched_below ck a.counts.items (n * ck.lanes)) all, pairs_all ck a.counts.items)
+returns-clause-worked c = grind (arith, pairs_all)
 
 pub returns-clause-touches : goal.returns-clause-touches
-returns-clause-touches c =
-    let ck = lifted_checks c.args.lifted.now in
-    let a = c.args.self.now in
-    let all : c.loop-i.i ≡ ck.rows = omega (arith, c.rows-i-end.ensures) in
-    c.loop-i.invariant.touches ∙ ap (λ n. a.touches + searched_below ck a.counts.items (n * ck.lanes)) all
-    ∙ ap (λ m. a.touches + m) (sym (pairs_all ck a.counts.items))
+returns-clause-touches c = grind (arith, pairs_all)

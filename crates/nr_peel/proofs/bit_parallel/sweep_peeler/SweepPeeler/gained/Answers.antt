@@ -17,10 +17,4 @@ loop-j-preserved c =
     read c.read_lane-given.ensures.bits c.without.ensures.bits (c.lane_count-gained.ensures.marked z (c.without.ensures.clear z clear))
 
 pub overflow_add-gained : goal.overflow_add-gained
-overflow_add-gained c =
-    let p = c.args.lifted.now.plan in
-    let test = is_gained c.args.self.now.sweep.lanes.known.items c.args.self.now.given.items in
-    let below : c.loop-j.j < cols_of p.graph = omega arith in
-    let within : c.loop-j.j * p.z ≤ cols_of p.graph * p.z = mul-le-mul_right p.z (omega (arith, below)) in
-    let whole : cols_of p.graph * p.z ≤ 68 * 384 = size_most c.args.lifted.now in
-    omega (arith, c.loop-j.invariant, within, whole, c.lane_count-gained.ensures.few, counted_marked test (c.loop-j.j * p.z), marked-le test (c.loop-j.j * p.z))
+overflow_add-gained c = grind (arith, is_gained, mul-le-mul_right, size_most, counted_marked, marked-le)

@@ -1,3 +1,4 @@
+use Rattle.std.proofs.lemmas.Bool.Decides.{nat_tests}
 use Rattle.std.proofs.Common.{◌==◌, true, length, refl, ap, ◌∙◌, arith}
 use Rattle.std.proofs.lemmas.List.{length-set}
 use Rattle.nr_bitvec.specs.Bit.{bit}
@@ -14,10 +15,7 @@ pub go_on-requires-clause-held : goal.go_on-requires-clause-held
 go_on-requires-clause-held c = heard_held (lifted_checks c.args.lifted.now) (λ p. c.args.pos == p) (λ p. c.args.value) c.args.self.now.sweep _ c.requires.sweep_peeler.sweep.held c.hear_one.ensures refl refl
 
 pub go_on-requires-clause-fillers : goal.go_on-requires-clause-fillers
-go_on-requires-clause-fillers c = λ p low below.
-    let old = c.args.self.now in
-    heard_known (lifted_checks c.args.lifted.now) (λ q. c.args.pos == q) (λ q. c.args.value) old.sweep.lanes c.hear_one.new.self c.requires.sweep_peeler.sweep.held.lanes c.hear_one.ensures p
-    (fillers_known c.args.lifted.now old c.requires.sweep_peeler p low below)
+go_on-requires-clause-fillers c = grind (arith, nat_tests, heard_known, fillers_known)
 
 pub returns-clause-learns : goal.returns-clause-learns
 returns-clause-learns c =

@@ -1,3 +1,4 @@
+use Rattle.std.proofs.Common.{arith}
 use Rattle.std.proofs.Common.{length, refl, sym, ap, ◌∙◌}
 use Rattle.nr_bitvec.specs.Bit.{bit}
 use Rattle.nr_bitvec.specs.BitList.{BitList}
@@ -13,10 +14,7 @@ go_on-requires-clause-held c =
     heard_held (lifted_checks c.args.lifted.now) (bit c.args.heard.now.items) (bit c.args.values.now.items) c.args.self.now.sweep _ c.requires.sweep_peeler.sweep.held c.hear.ensures refl refl
 
 pub go_on-requires-clause-fillers : goal.go_on-requires-clause-fillers
-go_on-requires-clause-fillers c = λ p low below.
-    let old = c.args.self.now in
-    heard_known (lifted_checks c.args.lifted.now) (bit c.args.heard.now.items) (bit c.args.values.now.items) old.sweep.lanes c.hear.new.self c.requires.sweep_peeler.sweep.held.lanes c.hear.ensures p
-    (fillers_known c.args.lifted.now old c.requires.sweep_peeler p low below)
+go_on-requires-clause-fillers c = grind (arith, heard_known, fillers_known)
 
 pub returns : goal.returns
 returns c =
