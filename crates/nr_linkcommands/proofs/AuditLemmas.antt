@@ -1,4 +1,5 @@
 -- The text of `audit`, line by line.
+use Rattle.std.proofs.lemmas.Bool.Decides.{nat_tests}
 use Rattle.std.proofs.Common.{◌≡◌, ℕ, ◌+◌, ◌<◌, ◌==◌, ◌&&◌, Bool, true, false, not, if◌then◌else◌, List, [], ◌∷◌, ◌++◌, All, length, take, get_or, ap, sym, subst, ◌∙◌, arith, length-append, cond}
 use Rattle.std.proofs.lemmas.Grind.{flat_map-append}
 use Rattle.std.proofs.lemmas.List.{append-nil, take_more}
@@ -32,23 +33,17 @@ use Rattle.nr_linkcommands.proofs.RunLineFacts.{some-lines}
 pub audit_line-order : (n : ℕ) (link : Link) (records : List HeardBits) (r : ℕ) → left link records r ≡ 0
     → audit_line n link records r ≡ order_line n r (steps_of link (heard_of records r))
 unfolding audit_line
-audit_line-order n link records r none =
-    ap (λ (k : ℕ). if k == 0 then order_line n r (steps_of link (heard_of records r)) else stuck_line n r (unfixed link (heard_of records r))) none
+audit_line-order n link records r none = grind (arith, nat_tests)
 
 pub audit_line-stuck : (n : ℕ) (link : Link) (records : List HeardBits) (r : ℕ) → (left link records r == 0) ≡ false
     → audit_line n link records r ≡ stuck_line n r (unfixed link (heard_of records r))
 unfolding audit_line
-audit_line-stuck n link records r some =
-    ap (λ (b : Bool). if b then order_line n r (steps_of link (heard_of records r)) else stuck_line n r (unfixed link (heard_of records r))) some
+audit_line-stuck n link records r some = grind arith
 
 -- a line is not empty
 audit_line-some : (n : ℕ) (link : Link) (records : List HeardBits) (r : ℕ) → 0 < length (audit_line n link records r)
 unfolding audit_line order_line stuck_line
-audit_line-some n link records r = go (left link records r == 0)
-  where
-    go : (b : Bool) → 0 < length (if b then order_line n r (steps_of link (heard_of records r)) else stuck_line n r (unfixed link (heard_of records r)))
-    go true = simp length-append (omega arith)
-    go false = simp length-append (omega arith)
+audit_line-some n link records r = grind (arith, nat_tests, length-append)
 
 -- the peeler of a code block: its positions are given by the record of what was received
 pub record IsPeelerOf (link : Link) (s : HeardBits) (p : Peeling) : Type 0 where
@@ -59,20 +54,14 @@ pub record IsPeelerOf (link : Link) (s : HeardBits) (p : Peeling) : Type 0 where
   pub peeled : IsPeeled p
 
 same_checks : (link : Link) (s : HeardBits) (p : Peeling) → IsPeelerOf link s p → checks_for p ≡ block_checks link.table link.graph link.plan
-same_checks link s p of =
-    ap (λ (t : Entries). block_checks t p.graph p.numbers) of.table
-    ∙ ap (λ (g : Graph). block_checks link.table g p.numbers) of.graph
-    ∙ ap (λ (n : Numbers). block_checks link.table link.graph n) of.numbers
+same_checks link s p of = grind arith
 
 same_given : (link : Link) (s : HeardBits) (p : Peeling) → IsPeelerOf link s p → bit p.given ≡ given link s
 same_given link s p of = λ i k. of.positions k i
 
 -- what it knows is what is fixed
 known_fixed : (link : Link) (s : HeardBits) (p : Peeling) → IsPeelerOf link s p → (k : ℕ) → bit p.known k ≡ fixed link s k
-known_fixed link s p of k =
-    of.peeled.closed k
-    ∙ ap (λ (c : Checks). closure c (bit p.given) k) (same_checks link s p of)
-    ∙ ap (λ (g : ℕ → Bool). closure (block_checks link.table link.graph link.plan) g k) (same_given link s p of)
+known_fixed link s p of k = grind (arith, same_checks, same_given)
 
 same_known : (link : Link) (s : HeardBits) (p : Peeling) → IsPeelerOf link s p → bit p.known ≡ fixed link s
 same_known link s p of = λ i k. known_fixed link s p of k i
@@ -82,15 +71,10 @@ same_size link s p of = ap (λ (c : Checks). c.size) (same_checks link s p of)
 
 -- what it gained are the steps, and what it does not know is not fixed
 pub gained-steps : (link : Link) (s : HeardBits) (p : Peeling) → IsPeelerOf link s p → gained_in p.known p.given ≡ steps_of link s
-gained-steps link s p of =
-    ap (λ (f : ℕ → Bool). count_by (λ k. f k && not (bit p.given k)) (range_with_len 0 (length p.given))) (same_known link s p of)
-    ∙ ap (λ (g : ℕ → Bool). count_by (λ k. fixed link s k && not (g k)) (range_with_len 0 (length p.given))) (same_given link s p of)
-    ∙ ap (λ (n : ℕ). count_by (λ k. fixed link s k && not (given link s k)) (range_with_len 0 n)) (of.peeled.given_long ∙ same_size link s p of)
+gained-steps link s p of = grind (arith, same_known, same_given, same_size)
 
 pub unknown-unfixed : (link : Link) (s : HeardBits) (p : Peeling) → IsPeelerOf link s p → unknown_in p.known ≡ unfixed link s
-unknown-unfixed link s p of =
-    ap (λ (f : ℕ → Bool). filter (λ k. not (f k)) (range_with_len 0 (length p.known))) (same_known link s p of)
-    ∙ ap (λ (n : ℕ). filter (λ k. not (fixed link s k)) (range_with_len 0 n)) (of.peeled.known_long ∙ same_size link s p of)
+unknown-unfixed link s p of = grind (arith, same_known, same_size)
 
 -- what is received of a process with one transmission more: its own, and that of another process
 pub received-next : (p : ℕ) (sender : SenderView) (xs : List Transmission) (i : ℕ) (x none : Transmission) → i < length xs → x ≡ get_or xs i none
@@ -102,34 +86,28 @@ received-next p sender xs i x none within is =
 
 -- one transmission is the process's own, or is not
 pub received-own : (p : ℕ) (sender : SenderView) (x : Transmission) → (x.process == p) ≡ true → received sender (of_process p (x ∷ [])) ≡ received_of sender x
-received-own p sender x mine =
-    ap (λ (b : Bool). received sender (cond b (x ∷ []) [])) mine ∙ append-nil (received_of sender x)
+received-own p sender x mine = grind (arith, append-nil)
 
 pub received-other : (p : ℕ) (sender : SenderView) (x : Transmission) → (x.process == p) ≡ false → received sender (of_process p (x ∷ [])) ≡ []
 received-other p sender x other = ap (λ (b : Bool). received sender (cond b (x ∷ []) [])) other
 
 -- a receiver that hears nothing more
 pub heard_same : (sender : SenderView) (list more : List Reception) (receiver : ReceiverView) → more ≡ [] → HasHeard sender list receiver → HasHeard sender (list ++ more) receiver
-heard_same sender list more receiver none has =
-    subst (λ (l : List Reception). HasHeard sender l receiver) (sym (ap (λ (l : List Reception). list ++ l) none ∙ append-nil list)) has
+heard_same sender list more receiver none has = grind (arith, append-nil)
 
 -- a block's lines by the receiver that received this list
 pub audit_block-heard : (head : List ℕ) (n : ℕ) (sender : SenderView) (list : List Reception) (receiver : ReceiverView) → HasHeard sender list receiver
     → audit_block head n receiver.link receiver.heard ≡ audit_block head n sender.link (heard_record sender.link list)
-audit_block-heard head n sender list receiver has =
-    ap (λ (l : Link). audit_block head n l receiver.heard) has.link ∙ ap (audit_block head n sender.link) has.heard.same
+audit_block-heard head n sender list receiver has = grind arith
 
 -- a block's lines by a receiver of its process's transmissions, where each block has a process of its number
 pub audit_of-heard : (schedule : List Transmission) (n : ℕ) (sender : SenderView) (receiver : ReceiverView) → All IsOfBlock schedule → HasHeard sender (received sender (of_process n schedule)) receiver
     → audit_block [] n receiver.link receiver.heard ≡ audit_of schedule n sender
-audit_of-heard schedule n sender receiver placed has =
-    audit_block-heard [] n sender (received sender (of_process n schedule)) receiver has
-    ∙ ap (λ (xs : List Transmission). audit_block [] n sender.link (heard_record sender.link (received sender xs))) (own-block n schedule placed)
+audit_of-heard schedule n sender receiver placed has = grind (arith, audit_block-heard, own-block)
 
 -- a line behind its first words is not empty
 pub behind-some : (head : List ℕ) (n : ℕ) (link : Link) (records : List HeardBits) (r : ℕ) → 0 < length (head ++ audit_line n link records r)
-behind-some head n link records r =
-    omega (arith, audit_line-some n link records r, length-append head (audit_line n link records r))
+behind-some head n link records r = grind (arith, audit_line-some, length-append)
 
 -- a block's lines are not empty, since there is a code block
 pub audit_block-some : PlansAreSound → (head : List ℕ) (n : ℕ) (link : Link) (records : List HeardBits) → IsLink link → 0 < length (audit_block head n link records)

@@ -36,17 +36,12 @@ round-named blocks number p before all is = first-named blocks number (round_of 
 pub lines-some : (senders : List SenderView) (p number : ℕ) (round : List Transmission) (sender : SenderView) → Some number ≡ block_of round → slice_get senders (number - 1) ≡ Some sender
     → round_lines audit_words senders p round ≡ audit_block (process_words p) number sender.link (heard_record sender.link (received sender round))
 lines-some senders p number [] sender is there = absurd (cc)
-lines-some senders p number (x ∷ more) sender is there =
-    let same : x.block ≡ number = cc in
-    ap (λ n. ended_if audit_words p n (slice_get senders (n - 1)) (x ∷ more)) same
-    ∙ ap (λ o. ended_if audit_words p number o (x ∷ more)) there
+lines-some senders p number (x ∷ more) sender is there = grind (arith, slice_get)
 
 -- they are not empty
 pub lines-there : PlansAreSound → (senders : List SenderView) (p number : ℕ) (round : List Transmission) (sender : SenderView) → Some number ≡ block_of round → slice_get senders (number - 1) ≡ Some sender → IsLink sender.link
     → 0 < length (round_lines audit_words senders p round)
-lines-there sound senders p number round sender is there linked =
-    rw (lines-some senders p number round sender is there)
-    (audit_block-some sound (process_words p) number sender.link (heard_record sender.link (received sender round)) linked)
+lines-there sound senders p number round sender is there linked = grind (arith, lines-some, audit_block-some)
 
 -- nothing is said of a transmission
 pub unsaid : (o : Option SenderView) (round : List Transmission) (x : Transmission) → said_if audit_words o round x ≡ []

@@ -1,4 +1,5 @@
 -- Over erasures alone a transport block that is handed up is the one sent, of each block and of each round.
+use Rattle.std.proofs.Common.{arith}
 use Rattle.std.proofs.Common.{◌≡◌, ℕ, ◌+◌, Bool, true, false, cond, Result, Ok, Err, IfOk, List, [], ◌∷◌, ◌++◌, All, length, get_or, map, ap, sym, subst, refl}
 use Rattle.std.specs.Prelude.{◌==◌}
 use Rattle.std.specs.List.{range_with_len}
@@ -23,9 +24,7 @@ use Rattle.nr_linkcommands.proofs.RunInputFacts.{link-sized}
 
 -- the link that a sender was said for
 link-of : (sender : SenderView) (block : List Bool) (r : Result Link DeskFault) → (r >>= λ link. Ok (record { link = link; block = block })) ≡ Ok sender → (r ≡ Ok sender.link) × (sender.block ≡ block)
-link-of sender block (Ok link) is =
-    let same : record { link = link; block = block } ≡ sender = cc in
-    (ap (λ (s : SenderView). Ok s.link) same, ap (λ (s : SenderView). s.block) (sym same))
+link-of sender block (Ok link) is = grind arith
 link-of sender block (Err e) is = absurd (cc)
 
 pub sender-linked : (table : Entries) (settings : Settings) (sender : SenderView) → sending_said table settings sender.block ≡ Ok sender → link_said table settings (length sender.block) ≡ Ok sender.link
@@ -66,21 +65,13 @@ rounds-some P schedule all =
 
 -- each sender is what is said of its block
 sender-own : (table : Entries) (settings : Settings) (n : ℕ) (octets : List ℕ) (sender : SenderView) (r : Result Link DeskFault) → link_said table settings (length (bits_of octets)) ≡ r → with_fault (Desk n) (r >>= λ link. Ok (record { link = link; block = bits_of octets })) ≡ Ok sender → sending_said table settings sender.block ≡ Ok sender
-sender-own table settings n octets sender (Ok link) said is =
-    let same : record { link = link; block = bits_of octets } ≡ sender = cc in
-    subst (λ (s : SenderView). sending_said table settings s.block ≡ Ok s) same
-    (ap (λ (r : Result Link DeskFault). r >>= λ l. Ok (record { link = l; block = bits_of octets })) said)
+sender-own table settings n octets sender (Ok link) said is = grind arith
 sender-own table settings n octets sender (Err e) said is = absurd (cc)
 
 pub senders-own : (table : Entries) (settings : Settings) (n : ℕ) (blocks : List (List ℕ)) → IfOk (senders_from table settings n blocks) (All (λ (sender : SenderView). sending_said table settings sender.block ≡ Ok sender))
 unfolding senders_from
 senders-own table settings n [] = All-nil (λ (sender : SenderView). sending_said table settings sender.block ≡ Ok sender)
-senders-own table settings n (octets ∷ blocks) =
-    let own : SenderView → Type 0 = λ (sender : SenderView). sending_said table settings sender.block ≡ Ok sender in
-    holds_then (All own) (sender_said table settings n octets) _
-    (λ sender is. holds_then (All own) (senders_from table settings (n + 1) blocks) _
-    (λ more are. All-cons own sender more (sender-own table settings n octets sender (link_said table settings (length (bits_of octets))) refl is)
-    (of_ok (All own) (senders_from table settings (n + 1) blocks) more are (senders-own table settings (n + 1) blocks))))
+senders-own table settings n (octets ∷ blocks) = grind (arith, holds_then, sender-own, of_ok, senders-own table settings (n + 1) blocks)
 
 pub runs_safe : ErasuresAloneAreSafe → RunsAreSafe
 runs_safe safe table settings blocks senders schedule is_table said steady =

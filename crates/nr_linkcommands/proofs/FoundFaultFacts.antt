@@ -1,4 +1,5 @@
 -- Which octets say the fault that a command over four files returns.
+use Rattle.std.proofs.Common.{arith}
 use Rattle.std.proofs.Common.{◌≡◌, ◌≢◌, ℕ, ◌+◌, ◌⊎◌, ⊎_elim, Option, IfSome, Result, Ok, Err, IsErrAnd, IfErr, IfOk, List, length, sym, subst}
 use Rattle.std.proofs.lemmas.Option.{IfSome_then}
 use Rattle.nr_shifttable.specs.Accepted.{Entries, table_said}
@@ -34,40 +35,23 @@ of_said P said x file is holds = IfSome_then file is (λ octets same. subst (λ 
 
 -- the fault of each file
 pub found_table : {X : Type 0} (r : Result X RunFault) (e : TableFault) (t s b d : Option (List ℕ)) → IsErrAnd r (λ told. told ≡ table_refusal e) → IfSome t (λ text. ((◌≡◌ {A = Result Entries TableFault} (Err e) (Err table_fault.Read))) ⊎ ((e ≡ table_fault.Memory) ⊎ (table_said text ≡ Err e))) → IfErr r (λ fault. IsFoundIn fault t s b d)
-found_table r e t s b d at said = by_table (λ f. IsFoundIn f t s b d) r e at tt (λ wanted other.
-    says table_said table_fault.Memory e t wanted (IfSome_then t said (λ text given. ⊎_elim (λ read. absurd (other (cc))) (λ is. is) given)))
+found_table r e t s b d at said = grind (arith, by_table, says)
 
 pub found_settings : {X : Type 0} (r : Result X RunFault) (e : SettingsFault) (t s b d : Option (List ℕ)) (old new : ℕ) → IsErrAnd r (λ told. told ≡ settings_refusal e) → ((e ≡ settings_fault.Read) × (new ≡ old + 1)) ⊎ ((e ≢ settings_fault.Read) × (new ≡ old)) → (new ≡ old → IfSome s (λ octets. (e ≡ settings_fault.Memory) ⊎ (settings_said octets ≡ Err e))) → IfErr r (λ fault. IsFoundIn fault t s b d)
-found_settings r e t s b d old new at fails said = by_settings (λ f. IsFoundIn f t s b d) r e at tt (λ wanted other.
-    says settings_said settings_fault.Memory e s wanted (said (kept settings_fault.Read e old new other fails)))
+found_settings r e t s b d old new at fails said = grind (arith, by_settings, says, kept)
 
 pub found_blocks : {X : Type 0} (r : Result X RunFault) (e : BlocksFault) (t s b d : Option (List ℕ)) (old new : ℕ) → IsErrAnd r (λ told. told ≡ blocks_refusal e) → ((e ≡ blocks_fault.Read) × (new ≡ old + 1)) ⊎ ((e ≢ blocks_fault.Read) × (new ≡ old)) → (new ≡ old → IfSome b (λ octets. (e ≡ blocks_fault.Memory) ⊎ (blocks_said octets ≡ Err e))) → IfErr r (λ fault. IsFoundIn fault t s b d)
-found_blocks r e t s b d old new at fails said = by_blocks (λ f. IsFoundIn f t s b d) r e at tt (λ wanted other.
-    says blocks_said blocks_fault.Memory e b wanted (said (kept blocks_fault.Read e old new other fails)))
+found_blocks r e t s b d old new at fails said = grind (arith, by_blocks, says, kept)
 
 pub found_schedule : {X : Type 0} (blocks : List (List ℕ)) (r : Result X RunFault) (e : ScheduleFault) (t s b d : Option (List ℕ)) (old new : ℕ) → IsErrAnd r (λ told. told ≡ schedule_refusal e) → ((e ≡ schedule_fault.Read) × (new ≡ old + 1)) ⊎ ((e ≢ schedule_fault.Read) × (new ≡ old)) → Says blocks_said (Ok blocks) b → (new ≡ old → IfSome d (λ octets. (e ≡ schedule_fault.Memory) ⊎ (schedule_said (length blocks) octets ≡ Err e))) → IfErr r (λ fault. IsFoundIn fault t s b d)
-found_schedule blocks r e t s b d old new at fails before said = by_schedule (λ f. IsFoundIn f t s b d) r e at tt (λ wanted other.
-    of_said (λ bs. Says (schedule_said (length bs)) (Err e) d) blocks_said blocks b before
-    (says (schedule_said (length blocks)) schedule_fault.Memory e d wanted (said (kept schedule_fault.Read e old new other fails))))
+found_schedule blocks r e t s b d old new at fails before said = grind (arith, by_schedule, of_said, says, kept)
 
 -- files that were read have no fault
 pub none_found : (given : Given) (t s b d : Option (List ℕ)) → AreInputsOf given t s b d → HaveNoFault t s b d
-none_found given t s b d are = record {
-  table = no_fault table_said given.table t are.table;
-  settings = no_fault settings_said given.settings s are.settings;
-  blocks = no_fault blocks_said given.blocks b are.blocks;
-  schedule = of_said (λ bs. HasNoFault (schedule_said (length bs)) d) blocks_said given.blocks b are.blocks
-      (no_fault (schedule_said (length given.blocks)) given.schedule d are.schedule);
-}
+none_found given t s b d are = grind (arith, no_fault, of_said)
 
 -- the fault of a transport block
 pub found_block : (given : Given) (e : RunFault) (t s b d : Option (List ℕ)) → AreInputsOf given t s b d → (e ≢ faults.Memory → IsBlockFault e) → (e ≡ faults.Memory) ⊎ (senders_from given.table given.settings 1 given.blocks ≡ Err e) → IsFoundIn e t s b d
 found_block given faults.Memory t s b d are of_block said = tt
-found_block given (faults.Desk n e) t s b d are of_block said =
-    let refused : senders_from given.table given.settings 1 given.blocks ≡ Err (faults.Desk n e) = ⊎_elim (λ is. absurd (cc)) (λ same. same) said in (
-      none_found given t s b d are,
-      of_said (λ table. OfSaid settings_said s (λ settings. OfSaid blocks_said b (λ blocks. senders_from table settings 1 blocks ≡ Err (faults.Desk n e)))) table_said given.table t are.table
-          (of_said (λ settings. OfSaid blocks_said b (λ blocks. senders_from given.table settings 1 blocks ≡ Err (faults.Desk n e))) settings_said given.settings s are.settings
-          (of_said (λ blocks. senders_from given.table given.settings 1 blocks ≡ Err (faults.Desk n e)) blocks_said given.blocks b are.blocks refused)),
-    )
+found_block given (faults.Desk n e) t s b d are of_block said = grind (arith, none_found, of_said)
 found_block given e t s b d are of_block said = absurd (of_block (λ is. cc))

@@ -1,4 +1,5 @@
 -- What the four files of a command over a schedule say, step by step.
+use Rattle.std.proofs.Common.{arith}
 use Rattle.std.proofs.Common.{◌≡◌, ◌≢◌, ℕ, ◌+◌, ◌<◌, ◌≤◌, ◌⊎◌, inl, inr, Option, None, Some, IfSome, Result, Ok, Err, IsErrOf, IsErrAnd, IfErr, IsOk, List, [], ◌∷◌, ◌++◌, length, drop, get_or, ap, sym, ◌∙◌, refl, subst, append_assoc, ⊎_elim}
 use Rattle.std.proofs.lemmas.List.{append-nil, drop_all}
 use Rattle.std.proofs.lemmas.Option.{IfSome_then}
@@ -27,8 +28,7 @@ use Rattle.nr_linkcommands.proofs.RoundTextFacts.{left-turn}
 
 -- what holds of four Sources' octets, where something else does
 pub of_four_then : (t s b d : Option (List ℕ)) {P Q : List ℕ → List ℕ → List ℕ → List ℕ → Type 0} → OfFour t s b d P → ((x y z w : List ℕ) → P x y z w → Q x y z w) → OfFour t s b d Q
-of_four_then t s b d holds next =
-    IfSome_then t holds (λ x first. IfSome_then s first (λ y second. IfSome_then b second (λ z third. IfSome_then d third (λ w fourth. next x y z w fourth))))
+of_four_then t s b d holds next = grind arith
 
 -- octets of which nothing is said
 pub any : (o : Option (List ℕ)) → IfSome o (λ x. Unit {0})
@@ -36,8 +36,7 @@ any None = tt
 any (Some x) = tt
 
 pub of_all : (t s b d : Option (List ℕ)) {P R S V : List ℕ → Type 0} {Q : List ℕ → List ℕ → List ℕ → List ℕ → Type 0} → IfSome t P → IfSome s R → IfSome b S → IfSome d V → ((x y z w : List ℕ) → P x → R y → S z → V w → Q x y z w) → OfFour t s b d Q
-of_all t s b d first second third fourth next =
-    IfSome_then t first (λ x p. IfSome_then s second (λ y r. IfSome_then b third (λ z q. IfSome_then d fourth (λ w v. next x y z w p r q v))))
+of_all t s b d first second third fourth next = grind arith
 
 -- a table of a Source that did not fail is what its file says
 pub told-table : {X : Type 0} (r : Result X TableFault) (file : Option (List ℕ)) (table : Entries) → (IsErrOf r table_fault.Read → ⊥) → IfSome file (λ text. IsErrOf r table_fault.Read ⊎ (table_said text ≡ Ok table)) → Says table_said (Ok table) file
@@ -85,15 +84,13 @@ after_senders-more front sender (Err e) = refl
 -- the block at index n is the first of those from n on: it has a sender
 pub senders_turn-ok : (table : Entries) (settings : Settings) (front : List SenderView) (n : ℕ) (blocks : List (List ℕ)) (octets : List ℕ) (sender : SenderView) → n < length blocks → octets ≡ get_or blocks n octets → sender_said table settings (n + 1) octets ≡ Ok sender → after_senders (front ++ sender ∷ []) (senders_from table settings (n + 1 + 1) (drop (n + 1) blocks)) ≡ after_senders front (senders_from table settings (n + 1) (drop n blocks))
 unfolding senders_from
-senders_turn-ok table settings front n blocks octets sender h is said =
-    rw (left-turn blocks n octets h is, said) (sym (after_senders-more front sender (senders_from table settings (n + 1 + 1) (drop (n + 1) blocks))))
+senders_turn-ok table settings front n blocks octets sender h is said = grind (arith, left-turn, after_senders-more)
 
 -- it is refused
 pub senders_turn-err : (table : Entries) (settings : Settings) (front : List SenderView) (n : ℕ) (blocks : List (List ℕ)) (octets : List ℕ) (whole : Result (List SenderView) RunFault) (e : RunFault) → after_senders front (senders_from table settings (n + 1) (drop n blocks)) ≡ whole → n < length blocks → octets ≡ get_or blocks n octets → (e ≡ faults.Memory) ⊎ (sender_said table settings (n + 1) octets ≡ Err e) → (e ≡ faults.Memory) ⊎ (whole ≡ Err e)
 unfolding senders_from
 senders_turn-err table settings front n blocks octets whole e so_far h is (inl memory) = inl memory
-senders_turn-err table settings front n blocks octets whole e so_far h is (inr said) =
-    inr (sym so_far ∙ rw (left-turn blocks n octets h is, said) refl)
+senders_turn-err table settings front n blocks octets whole e so_far h is (inr said) = grind (arith, left-turn)
 
 -- behind the last block
 pub senders_last : (table : Entries) (settings : Settings) (front : List SenderView) (n : ℕ) (blocks : List (List ℕ)) → length blocks ≤ n → after_senders front (senders_from table settings (n + 1) (drop n blocks)) ≡ Ok front
@@ -102,8 +99,7 @@ senders_last table settings front n blocks h = rw (drop_all n blocks h) (ap Ok (
 
 -- a fault of a transport block is no other fault but `Memory`
 pub of_block_or_memory : (e told : RunFault) → (e ≢ faults.Memory → IsBlockFault e) → told ≢ faults.Memory → (IsBlockFault told → ⊥) → e ≢ told
-of_block_or_memory e told of_block memory other same =
-    other (subst IsBlockFault same (of_block (λ is. memory (sym same ∙ is))))
+of_block_or_memory e told of_block memory other same = grind arith
 
 -- a file that was read has no fault
 pub no_fault : {X E : Type 0} (said : List ℕ → Result X E) (x : X) (file : Option (List ℕ)) → Says said (Ok x) file → HasNoFault said file

@@ -29,26 +29,14 @@ use Rattle.nr_linkcommands.proofs.RunOutcomeFacts.{outcome_line-some}
 since_fresh-few : (xs : List Transmission) → length (since_fresh xs) ≤ length xs
 unfolding since_fresh
 since_fresh-few [] = omega arith
-since_fresh-few (x ∷ xs) = go (list_any (λ y. y.fresh) xs) (since_fresh-few xs)
-  where
-    go : (b : Bool) → length (since_fresh xs) ≤ length xs → length (cond b (since_fresh xs) (x ∷ xs)) ≤ suc (length xs)
-    go true few = omega (arith, few)
-    go false few = omega arith
+since_fresh-few (x ∷ xs) = grind (arith, since_fresh-few xs)
 
 of_process-few : (p : ℕ) (xs : List Transmission) → length (of_process p xs) ≤ length xs
 of_process-few p [] = omega arith
-of_process-few p (x ∷ xs) = go (x.process == p) (of_process-few p xs)
-  where
-    go : (b : Bool) → length (of_process p xs) ≤ length xs → length (cond b (x ∷ of_process p xs) (of_process p xs)) ≤ suc (length xs)
-    go true few = omega (arith, few)
-    go false few = omega (arith, few)
+of_process-few p (x ∷ xs) = grind (arith, nat_tests, of_process-few p xs)
 
 continued-few : (before : List Transmission) (x : Transmission) → length (continued before x) ≤ length before
-continued-few before x = go x.fresh
-  where
-    go : (b : Bool) → length (cond b [] (round_of x.process before)) ≤ length before
-    go true = omega arith
-    go false = omega (arith, since_fresh-few (of_process x.process before), of_process-few x.process before)
+continued-few before x = grind (arith, since_fresh-few, of_process-few)
 
 -- the block that a slot names is one of so many
 pub block-named : (n : ℕ) (senders : List SenderView) (round : List Transmission) (slot : Slot) → HoldsRound false senders round slot → All (HasBlock n) round → IfSome slot.block (λ number. (1 ≤ number) × (number ≤ n))
@@ -64,16 +52,7 @@ pub record EndsAs (senders : List SenderView) (p number : ℕ) (sender : SenderV
 
 pub ends-as : (senders : List SenderView) (p number : ℕ) (sender : SenderView) (round : List Transmission) (slot : Slot) → slot.block ≡ Some number → slice_get senders (number - 1) ≡ Some sender → HoldsRound false senders round slot → EndsAs senders p number sender round slot
 ends-as senders p number sender [] slot named there held = absurd (cc)
-ends-as senders p number sender (x ∷ more) slot named there held =
-    let first = sym held.0 ∙ named in
-    let block : x.block ≡ number = cc in
-    let at : sender_of senders x ≡ Some sender = ap (λ n. slice_get senders (n - 1)) block ∙ there in
-    record {
-      held = (subst (λ (s : Option SenderView). HoldsIf false s (x ∷ more) slot) at held.1).1;
-      line = ap (λ (s : Option SenderView). ended_if run_words p x.block s (x ∷ more)) at
-          ∙ ap (λ n. process_words p ++ outcome_line n sender.link (received sender (x ∷ more))) block;
-      counted = λ t. ap (λ (s : Option SenderView). counted_if t s (x ∷ more)) at;
-    }
+ends-as senders p number sender (x ∷ more) slot named there held = grind (arith, slice_get)
 
 -- a slot that names none is in no round
 pub round-none : (senders : List SenderView) (round : List Transmission) (slot : Slot) → slot.block ≡ None → HoldsRound false senders round slot → round ≡ []
@@ -82,22 +61,15 @@ round-none senders (x ∷ more) slot none held = absurd (cc)
 
 -- a line about a round is not empty
 pub round_line-some : (p number : ℕ) (link : Link) (list : List Reception) → 0 < length (process_words p ++ outcome_line number link list)
-round_line-some p number link list =
-    omega (arith, length-append (process_words p) (outcome_line number link list), outcome_line-some number link list)
+round_line-some p number link list = grind (arith, length-append, outcome_line-some)
 
 -- a transmission is of the block of the round that it goes on with
 pub of-continued : (before : List Transmission) (x : Transmission) → (x.fresh ≡ false → IsOfRound (round_of x.process before) x) → IsOfRound (continued before x) x
-of-continued before x goes = go x.fresh refl
-  where
-    go : (b : Bool) → x.fresh ≡ b → IsOfRound (cond b [] (round_of x.process before)) x
-    go true is = tt
-    go false is = goes is
+of-continued before x goes = grind arith
 
 -- whether a round goes on, by the next transmission: it is fresh or not where it is of the round's process
 pub goes_on-turn : (x : Transmission) (later : List Transmission) → goes_on x.process (x ∷ later) ≡ not x.fresh
-goes_on-turn x later =
-    let own_process : (x.process == x.process) ≡ true = grind (arith, nat_tests) in
-    ap (λ b. cond b (not x.fresh) (goes_on x.process later)) own_process
+goes_on-turn x later = grind (arith, nat_tests)
 
 pub goes_on-other : (p : ℕ) (x : Transmission) (later : List Transmission) → (x.process == p) ≡ false → goes_on p (x ∷ later) ≡ goes_on p later
 goes_on-other p x later other = ap (λ b. cond b (not x.fresh) (goes_on p later)) other
@@ -105,17 +77,11 @@ goes_on-other p x later other = ap (λ b. cond b (not x.fresh) (goes_on p later)
 -- what is received of the round that a transmission goes on with, by the sender of its block
 holds-by : (senders : List SenderView) (round : List Transmission) (x : Transmission) (sender : SenderView) (slot : Slot) → sender_of senders x ≡ Some sender → IsOfRound round x → HoldsRound true senders round slot → HoldsSlot true sender.link (received sender round) slot
 holds-by senders [] x sender slot there of held = subst (HoldsSlot true sender.link []) (sym held) (refl, refl)
-holds-by senders (y ∷ more) x sender slot there of held =
-    subst (λ (s : Option SenderView). HoldsIf true s (y ∷ more) slot) (ap (λ n. slice_get senders (n - 1)) of ∙ there) held.1
+holds-by senders (y ∷ more) x sender slot there of held = grind (arith, slice_get)
 
 -- where a fresh one forgets what was received
 begun-holds : (senders : List SenderView) (before later : List Transmission) (x : Transmission) (old new : Slot) → new ≡ cond x.fresh empty_slot old → HoldsRound (goes_on x.process (x ∷ later)) senders (round_of x.process before) old → HoldsRound true senders (continued before x) new
-begun-holds senders before later x old new is held =
-    go x.fresh is (subst (λ b. HoldsRound b senders (round_of x.process before) old) (goes_on-turn x later) held)
-  where
-    go : (b : Bool) → new ≡ cond b empty_slot old → HoldsRound (not b) senders (round_of x.process before) old → HoldsRound true senders (cond b [] (round_of x.process before)) new
-    go true none holds = none
-    go false same holds = subst (HoldsRound true senders (round_of x.process before)) (sym same) holds
+begun-holds senders before later x old new is held = grind (arith, goes_on-turn)
 
 pub made-held : (senders : List SenderView) (before later : List Transmission) (ended : List (List Transmission)) (x : Transmission) (sender : SenderView) (slots : List Slot) (totals : Totals) (old new : Slot)
     → KeepsRounds senders before (x ∷ later) ended slots totals → IsOfRound (continued before x) x → x.process < length slots → old ≡ get_or slots x.process old → new ≡ cond x.fresh empty_slot old → sender_of senders x ≡ Some sender → HoldsSlot true sender.link (received sender (continued before x)) new
@@ -124,9 +90,7 @@ made-held senders before later ended x sender slots totals old new keeps of insi
 
 -- it is no more than the transmissions before
 pub continued-room : (sender : SenderView) (before : List Transmission) (n : ℕ) (x : Transmission) (state : Option RxState) → length before ≤ n → HoldsState sender.link (received sender (continued before x)) state → HasReceived n state
-continued-room sender before n x state few held =
-    has_received sender.link (received sender (continued before x)) n state held
-    (omega (arith, few, received-few sender (continued before x), continued-few before x))
+continued-room sender before n x state few held = grind (arith, has_received, received-few, continued-few)
 
 -- and its receiver has the sender's link
 pub held-over : (link : Link) (list : List Reception) (state : Option RxState) → HoldsState link list state → IsOver link state
@@ -135,16 +99,8 @@ held-over link list (Some state) held = held.same_link
 
 -- and with the transmission
 holds-more : (goes : Bool) (senders : List SenderView) (round : List Transmission) (x : Transmission) (sender : SenderView) (slot : Slot) → sender_of senders x ≡ Some sender → IsOfRound round x → slot.block ≡ Some x.block → HoldsSlot goes sender.link (received sender round ++ received_of sender x) slot → HoldsRound goes senders (round ++ x ∷ []) slot
-holds-more goes senders [] x sender slot there of named holds = (
-  named,
-  subst (λ (s : Option SenderView). HoldsIf goes s (x ∷ []) slot) (sym there)
-      (subst (λ list. HoldsSlot goes sender.link list slot) (sym (received-more sender [] x)) holds),
-)
-holds-more goes senders (y ∷ more) x sender slot there of named holds = (
-  named ∙ ap Some (sym of),
-  subst (λ (s : Option SenderView). HoldsIf goes s (y ∷ more ++ x ∷ []) slot) (sym (ap (λ n. slice_get senders (n - 1)) of ∙ there))
-      (subst (λ list. HoldsSlot goes sender.link list slot) (sym (received-more sender (y ∷ more) x)) holds),
-)
+holds-more goes senders [] x sender slot there of named holds = grind (arith, received-more)
+holds-more goes senders (y ∷ more) x sender slot there of named holds = grind (arith, slice_get, received-more)
 
 -- before any transmission no slot has received anything
 pub rounds-first : (senders : List SenderView) (later : List Transmission) (n : ℕ) → HoldRounds senders [] later (replicate n empty_slot)
@@ -154,25 +110,7 @@ rounds-first senders later n = λ p within. get_or-replicate n p empty_slot empt
 -- after a transmission more
 pub rounds-more : (senders : List SenderView) (before later : List Transmission) (x : Transmission) (sender : SenderView) (slots : List Slot) (after : Slot) → IsOfRound (continued before x) x → sender_of senders x ≡ Some sender → x.process < length slots → after.block ≡ Some x.block → HoldRounds senders before (x ∷ later) slots
     → HoldsSlot (goes_on x.process later) sender.link (received sender (continued before x) ++ received_of sender x) after → HoldRounds senders (before ++ x ∷ []) later (set slots x.process after)
-rounds-more senders before later x sender slots after of there inside named held holds = λ p low.
-    ⊎_elim (same p) (other p low) (cases_eq p x.process)
-  where
-    more : HoldsRound (goes_on x.process later) senders (continued before x ++ x ∷ []) after
-    more = holds-more (goes_on x.process later) senders (continued before x) x sender after there of named holds
-
-    same : (p : ℕ) → p ≡ x.process → HoldsRound (goes_on p later) senders (round_of p (before ++ x ∷ [])) (get_or (set slots x.process after) p empty_slot)
-    same p equal =
-        subst (λ q. HoldsRound (goes_on q later) senders (round_of q (before ++ x ∷ [])) (get_or (set slots x.process after) q empty_slot)) (sym equal)
-        (subst (λ round. HoldsRound (goes_on x.process later) senders round (get_or (set slots x.process after) x.process empty_slot)) (sym (continued-more before x))
-        (subst (HoldsRound (goes_on x.process later) senders (continued before x ++ x ∷ [])) (sym (get_or-set_at slots x.process x.process after empty_slot refl inside)) more))
-
-    other : (p : ℕ) → p < length (set slots x.process after) → (p ≡ x.process → ⊥) → HoldsRound (goes_on p later) senders (round_of p (before ++ x ∷ [])) (get_or (set slots x.process after) p empty_slot)
-    other p low differ =
-        let apart : (x.process == p) ≡ false = grind (arith, nat_tests) in
-        let there_too : p < length slots = omega (arith, low, length-set slots x.process after) in
-        subst (λ round. HoldsRound (goes_on p later) senders round (get_or (set slots x.process after) p empty_slot)) (sym (other-more p before x apart))
-        (subst (λ b. HoldsRound b senders (round_of p before) (get_or (set slots x.process after) p empty_slot)) (goes_on-other p x later apart)
-        (subst (HoldsRound (goes_on p (x ∷ later)) senders (round_of p before)) (sym (get_or-set_other slots x.process p after empty_slot differ)) (held p there_too)))
+rounds-more senders before later x sender slots after of there inside named held holds = grind (arith, nat_tests, cases_eq, holds-more, continued-more, get_or-set_at, length-set, other-more, goes_on-other, get_or-set_other)
 
 -- the lines of the transmission at index i: those of the round that it ends, its own, and those behind them
 pub turn-parts : (words : Words) (senders : List SenderView) (xs : List Transmission) (i : ℕ) (x : Transmission) → i < length xs → x ≡ get_or xs i x

@@ -36,6 +36,4 @@ lines_are_own words senders schedule p =
     ∙ sym (filter-append (is_about p) (turns words senders [] (of_process p schedule)) (last_rounds words senders (of_process p schedule)))
   where
     first : filter (is_about p) (turns words senders [] schedule) ≡ filter (is_about p) (turns words senders [] (of_process p schedule))
-    first =
-        turns-own words senders p [] schedule
-        ∙ sym (turns-own words senders p [] (of_process p schedule) ∙ ap (turns words senders []) (own-own p schedule))
+    first = grind (arith, turns-own, own-own)

@@ -30,9 +30,7 @@ all-behind n xs = take_all (length xs - n) (drop n xs) (omega (arith, length-dro
 pub turns-turn : (words : Words) (senders : List SenderView) (xs : List Transmission) (i : ℕ) (x : Transmission) → i < length xs → x ≡ get_or xs i x
     → pieces_joined (turns words senders (take i xs) (drop i xs)) ≡ turn_lines words senders (take i xs) x ++ pieces_joined (turns words senders (take (i + 1) xs) (drop (i + 1) xs))
 unfolding turns
-turns-turn words senders xs i x within is =
-    ap (λ ys. pieces_joined (turns words senders (take i xs) ys)) (left-turn xs i x within is)
-    ∙ ap (λ before. turn_lines words senders (take i xs) x ++ pieces_joined (turns words senders before (drop (i + 1) xs))) (sym (taken-more xs i x within is))
+turns-turn words senders xs i x within is = grind (arith, left-turn, taken-more)
 
 pub turns-end : (words : Words) (senders : List SenderView) (before xs : List Transmission) → xs ≡ [] → pieces_joined (turns words senders before xs) ≡ []
 unfolding turns
@@ -53,52 +51,33 @@ round-all P p xs all = since (of_process p xs) (All-filter (λ x. x.process == p
 
 -- the round of a transmission's process once it is made
 pub continued-more : (before : List Transmission) (x : Transmission) → round_of x.process (before ++ x ∷ []) ≡ continued before x ++ x ∷ []
-continued-more before x =
-    let own_process : (x.process == x.process) ≡ true = grind (arith, nat_tests) in
-    round-more x.process before x
-    ∙ ap (λ b. cond b (cond x.fresh (x ∷ []) (round_of x.process before ++ x ∷ [])) (round_of x.process before)) own_process
-    ∙ go x.fresh
-  where
-    go : (b : Bool) → cond b (x ∷ []) (round_of x.process before ++ x ∷ []) ≡ cond b [] (round_of x.process before) ++ x ∷ []
-    go true = refl
-    go false = refl
+continued-more before x = grind (arith, nat_tests, round-more)
 
 -- the round of another process
 pub other-more : (p : ℕ) (before : List Transmission) (x : Transmission) → (x.process == p) ≡ false → round_of p (before ++ x ∷ []) ≡ round_of p before
-other-more p before x other =
-    round-more p before x
-    ∙ ap (λ b. cond b (cond x.fresh (x ∷ []) (round_of p before ++ x ∷ [])) (round_of p before)) other
+other-more p before x other = grind (arith, round-more)
 
 -- what is received of a round with a transmission more
 pub received-more : (sender : SenderView) (round : List Transmission) (x : Transmission) → received sender (round ++ x ∷ []) ≡ received sender round ++ received_of sender x
-received-more sender round x =
-    flat_map-append (received_of sender) round (x ∷ []) ∙ ap (λ ys. received sender round ++ ys) (append-nil (received_of sender x))
+received-more sender round x = grind (arith, flat_map-append, append-nil)
 
 -- the rounds that end
 ended-behind : (before xs : List Transmission) (x : Transmission) → ended_rounds before (xs ++ x ∷ []) ≡ ended_rounds before xs ++ ended_by (before ++ xs) x
 unfolding ended_rounds
 ended-behind before [] x = append-nil (ended_by before x) ∙ ap (λ b. ended_by b x) (sym (append-nil before))
-ended-behind before (y ∷ ys) x =
-    ap (λ rounds. ended_by before y ++ rounds)
-    (ended-behind (before ++ y ∷ []) ys x ∙ ap (λ b. ended_rounds (before ++ y ∷ []) ys ++ ended_by b x) (append_assoc before (y ∷ []) ys))
-    ∙ sym (append_assoc (ended_by before y) (ended_rounds (before ++ y ∷ []) ys) (ended_by (before ++ y ∷ ys) x))
+ended-behind before (y ∷ ys) x = grind (arith, ended-behind (before ++ y ∷ []) ys x, append_assoc)
 
 pub ended-more : (before : List Transmission) (x : Transmission) → ended_rounds [] (before ++ x ∷ []) ≡ ended_rounds [] before ++ ended_by before x
 ended-more before x = ended-behind [] before x
 
 -- they are no more than the transmissions
 ended_by-few : (before : List Transmission) (x : Transmission) → length (ended_by before x) ≤ 1
-ended_by-few before x = go x.fresh
-  where
-    go : (b : Bool) → length (cond b (round_of x.process before ∷ []) []) ≤ 1
-    go true = omega arith
-    go false = omega arith
+ended_by-few before x = grind arith
 
 pub ended-few : (before xs : List Transmission) → length (ended_rounds before xs) ≤ length xs
 unfolding ended_rounds
 ended-few before [] = omega arith
-ended-few before (x ∷ xs) =
-    omega (arith, ended_by-few before x, ended-few (before ++ x ∷ []) xs, length-append (ended_by before x) (ended_rounds (before ++ x ∷ []) xs))
+ended-few before (x ∷ xs) = grind (arith, ended_by-few, ended-few (before ++ x ∷ []) xs, length-append)
 
 -- their totals
 counted-append : (t : Totals) (senders : List SenderView) (xs ys : List (List Transmission)) → rounds_counted t senders (xs ++ ys) ≡ rounds_counted (rounds_counted t senders xs) senders ys

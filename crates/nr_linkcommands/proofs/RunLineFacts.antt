@@ -26,9 +26,7 @@ received_if-few x (Err e) = omega arith
 
 pub received-few : (sender : SenderView) (xs : List Transmission) → length (received sender xs) ≤ length xs
 received-few sender [] = omega arith
-received-few sender (x ∷ xs) =
-    let one : length (received_of sender x) ≤ 1 = received_if-few x (sent_said sender.link x.tx sender.block) in
-    omega (arith, one, received-few sender xs, length-append (received_of sender x) (received sender xs))
+received-few sender (x ∷ xs) = grind (arith, received_if-few, received-few sender xs, length-append)
 
 -- a state's count, by what it has received
 pub has_received : (link : Link) (list : List Reception) (n : ℕ) (state : Option RxState) → HoldsState link list state → length list ≤ n → HasReceived n state
@@ -68,8 +66,7 @@ some-lines f zero each some = absurd (omega (arith, some))
 some-lines f (suc c) each some = omega (arith, each 0, length-append (f 0) (flat_map f (range_with_len 1 c)))
 
 pub left_lines-some : (t n : ℕ) (link : Link) (records : List HeardBits) → 0 < link.plan.c → 0 < length (left_lines t n link records)
-left_lines-some t n link records some =
-    some-lines (λ r. left_line t n r (left link records r)) link.plan.c (λ r. left_line-some t n r (left link records r)) some
+left_lines-some t n link records some = grind (arith, some-lines, left_line-some)
 
 -- an element of a list of which all keep to this
 pub all-at : {X : Type 0} (P : X → Type 0) (xs : List X) (i : ℕ) (x : X) → All P xs → i < length xs → x ≡ get_or xs i x → P x

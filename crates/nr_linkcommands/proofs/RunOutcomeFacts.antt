@@ -40,11 +40,7 @@ count-next test n count step is more = omega (arith, is, more, count-more test n
 
 -- a truth value as a number
 pub byte-step : (b t : Bool) (step : ℕ) → step ≡ bool_byte b → b ≡ t → step ≡ cond t 1 0
-byte-step b t step is same = is ∙ ap bool_byte same ∙ go t
-  where
-    go : (t : Bool) → bool_byte t ≡ cond t 1 0
-    go true = refl
-    go false = refl
+byte-step b t step is same = grind arith
 
 pub step-few : (b : Bool) (step : ℕ) → step ≡ cond b 1 0 → step ≤ 1
 step-few true step is = omega (arith, is)
@@ -103,8 +99,7 @@ unfixed-if link false is unfixed =
     (λ r low high. ap (λ n. not (n == 0)) (left-nothing link r (omega (arith, high))) ∙ ap not is)
 
 pub unfixed-nothing : NothingIsOpen → (link : Link) → IsLink link → unfixed_blocks link (heard_record link []) ≡ link.plan.c
-unfixed-nothing nothing link is =
-    unfixed-if link (left_by link (record_of (word_size link.graph link.plan) []) == 0) refl (open-unfixed link [] (nothing link is))
+unfixed-nothing nothing link is = grind (arith, nat_tests, unfixed-if, open-unfixed)
 
 -- a line is not empty
 pub left_line-some : (t n r count : ℕ) → 0 < length (left_line t n r count)
@@ -113,12 +108,7 @@ left_line-some t n r count = simp length-append (omega arith)
 
 pub outcome_line-some : (n : ℕ) (link : Link) (list : List Reception) → 0 < length (outcome_line n link list)
 unfolding delivered_line open_line contradiction_line
-outcome_line-some n link list = go (outcome_of link list)
-  where
-    go : (v : Verdict) → 0 < length (outcome_line_by n link list v)
-    go (delivered bits) = simp length-append (omega arith)
-    go open_still = simp length-append (omega arith)
-    go contradiction = simp length-append (omega arith)
+outcome_line-some n link list = grind (arith, length-append)
 
 pub last_line-some : (name : List ℕ) (t : Totals) → 0 < length (last_line name t)
 unfolding last_line
@@ -126,25 +116,11 @@ last_line-some name t = simp length-append (omega arith)
 
 -- no block is within any bound
 pub none-within : IsWithin 0 no_totals
-none-within = record {
-  blocks = omega arith;
-  delivered = omega arith;
-  open_still = omega arith;
-  contradiction = omega arith;
-  code_blocks = omega arith;
-  failed = omega arith;
-}
+none-within = grind arith
 
 -- a bound of the totals, and a greater one
 pub within-more : (n m : ℕ) (t : Totals) → n ≤ m → IsWithin n t → IsWithin m t
-within-more n m t more is = record {
-  blocks = omega (arith, more, is.blocks);
-  delivered = omega (arith, more, is.delivered);
-  open_still = omega (arith, more, is.open_still);
-  contradiction = omega (arith, more, is.contradiction);
-  code_blocks = omega (arith, more, is.code_blocks);
-  failed = omega (arith, more, is.failed);
-}
+within-more n m t more is = grind arith
 
 -- what a run says after all transmissions is not empty, and so its text is not
 run_ends-some : (b : Bool) (senders : List SenderView) (schedule : List Transmission) → 0 < length (run_ends b senders schedule)
@@ -156,14 +132,8 @@ text_of_run-some senders schedule = simp length-append (omega (arith, run_ends-s
 
 -- the line of a block of c code blocks: nothing was received
 pub line-none : NothingIsOpen → (n c : ℕ) (link : Link) (list : List Reception) → IsLink link → c ≡ link.plan.c → list ≡ [] → open_line n 0 c c ≡ outcome_line n link list
-line-none nothing n c link list is count none =
-    sym (ap (outcome_line n link) none ∙ ap (outcome_line_by n link []) (nothing link is)
-    ∙ ap (λ k. open_line n 0 k link.plan.c) (unfixed-nothing nothing link is)
-    ∙ ap (λ k. open_line n 0 k k) (sym count))
+line-none nothing n c link list is count none = grind (arith, unfixed-nothing)
 
 -- the totals with it
 pub counted-none : NothingIsOpen → (t : Totals) (c : ℕ) (link : Link) (list : List Reception) → IsLink link → c ≡ link.plan.c → list ≡ [] → open_counted t c c ≡ counted t link list
-counted-none nothing t c link list is count none =
-    sym (ap (counted t link) none ∙ ap (counted_by t link []) (nothing link is)
-    ∙ ap (λ k. open_counted t link.plan.c k) (unfixed-nothing nothing link is)
-    ∙ ap (λ k. open_counted t k k) (sym count))
+counted-none nothing t c link list is count none = grind (arith, unfixed-nothing)

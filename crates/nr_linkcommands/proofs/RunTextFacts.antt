@@ -17,11 +17,7 @@ left-first old whole = ([], refl, sym (with_text-nil old))
 
 -- a line more
 pub left-more : (old mid new : Option (List ℕ)) (line rest whole : List ℕ) → IsLeft old mid (line ++ rest) whole → new ≡ with_text mid line → IsLeft old new rest whole
-left-more old mid new line rest whole (front, is, before) written = (
-  front ++ line,
-  is ∙ sym (append_assoc front line rest),
-  written ∙ ap (λ w. with_text w line) before ∙ with_text-append old front line,
-)
+left-more old mid new line rest whole (front, is, before) written = grind (arith, append_assoc, with_text-append)
 
 -- a line that was stopped
 pub left-stopped : {X : Type 0} (old mid new : Option (List ℕ)) (r : Result X RunFault) (exit e : RunFault) (line rest whole : List ℕ) → r ≡ Err exit → exit ≡ e → IsLeft old mid (line ++ rest) whole → Stops mid new e line → Writes old new r whole
@@ -30,14 +26,10 @@ left-stopped old mid new r exit e line rest whole at same (front, is, before) st
 
 -- the lines for the numbers from r on: that for r, and those behind it
 pub range-turn : (f : ℕ → List ℕ) (r c : ℕ) → r < c → flat_map f (range_with_len r (c - r)) ≡ f r ++ flat_map f (range_with_len (r + 1) (c - (r + 1)))
-range-turn f r c below =
-    let more : c - r ≡ suc (c - (r + 1)) = omega arith in
-    ap (λ n. flat_map f (range_with_len r n)) more
+range-turn f r c below = grind (arith, flat_map)
 
 pub range-end : (f : ℕ → List ℕ) (r c : ℕ) → c ≤ r → flat_map f (range_with_len r (c - r)) ≡ []
-range-end f r c all =
-    let none : c - r ≡ 0 = omega arith in
-    ap (λ n. flat_map f (range_with_len r n)) none
+range-end f r c all = grind (arith, flat_map)
 
 -- nothing is left
 pub left-last : (old new : Option (List ℕ)) (whole : List ℕ) → IsLeft old new [] whole → new ≡ with_text old whole

@@ -19,11 +19,7 @@ use Rattle.nr_linkcommands.proofs.RoundTextFacts.{all-behind}
 -- a round that a fresh transmission of a block began
 begun-of_round : (round : List Transmission) (x : Transmission) → fresh_block round ≡ Some x.block → IsOfRound round x
 begun-of_round [] x is = tt
-begun-of_round (y ∷ more) x is = go y.fresh is
-  where
-    go : (b : Bool) → cond b (Some y.block) None ≡ Some x.block → y.block ≡ x.block
-    go true same = cc
-    go false same = absurd (cc)
+begun-of_round (y ∷ more) x is = grind arith
 
 -- the transmissions of a block
 of_block-of_round : (round : List Transmission) (x : Transmission) → All (λ (y : Transmission). (y.block == x.block) ≡ true) round → IsOfRound round x
@@ -33,9 +29,7 @@ of_block-of_round (y ∷ more) x all =
     grind (arith, nat_tests)
 
 own-of_round : (before : List Transmission) (x : Transmission) → All IsOfBlock before → IsOfBlock x → IsOfRound (round_of x.process before) x
-own-of_round before x all is =
-    subst (λ (round : List Transmission). IsOfRound round x) (sym (ap (λ p. round_of p before) is.process ∙ blocks_are_rounds before all x.block))
-    (of_block-of_round (own x.block before) x (filter_passes (λ y. y.block == x.block) before))
+own-of_round before x all is = grind (arith, nat_tests, blocks_are_rounds, of_block-of_round, filter_passes)
 
 -- each transmission that is not fresh is of its round's block
 of_rounds : (b : Bool) (xs : List Transmission) → All (IsPlaced b) xs → (b ≡ true → EachGoesOn xs) → AreOfRounds xs
@@ -48,11 +42,7 @@ timetable-of_rounds n s is = of_rounds s.by_process s.transmissions is.placed is
 
 -- each has a slot: one of sixteen, or that of its block
 pub placed-in : (b : Bool) (n slots : ℕ) (xs : List Transmission) → All (IsPlaced b) xs → All (HasBlock n) xs → slots ≡ cond b 16 (n + 1) → All (λ (x : Transmission). x.process < slots) xs
-placed-in b n slots xs placed named count = λ k d within. one b (get_or xs k d) (placed k d within) (named k d within) count
-  where
-    one : (c : Bool) (x : Transmission) → IsPlaced c x → HasBlock n x → slots ≡ cond c 16 (n + 1) → x.process < slots
-    one true x low there is = omega (arith, low, is)
-    one false x alone there is = omega (arith, alone.process, there.1, is)
+placed-in b n slots xs placed named count = grind arith
 
 -- a slot that holds a round of transmissions of one block
 round-holds : (senders : List SenderView) (n : ℕ) (sender : SenderView) (round : List Transmission) (slot : Slot) → slice_get senders (n - 1) ≡ Some sender → All (λ (y : Transmission). (y.block == n) ≡ true) round → HoldsRound false senders round slot → HoldsSlot false sender.link (received sender round) slot

@@ -1,3 +1,4 @@
+use Rattle.std.proofs.Common.{arith}
 use Rattle.std.proofs.Common.{◌≡◌, ◌-◌, List, length, take, drop, ap, sym, subst, ◌∙◌}
 use Rattle.std.proofs.lemmas.Result.{err_from_is_err_and}
 use Rattle.nr_linkcommands.specs.Inside.{HasHeard}
@@ -17,9 +18,7 @@ sender-sender-requires g c =
     record { some = named.0; there = named.1 }
 
 pub returns-in_err-receiver-in-Some-clause-text : goal.returns-in_err-receiver-in-Some-clause-text
-returns-in_err-receiver-in-Some-clause-text g c =
-    let p = err_from_is_err_and c.from_residual.result c.from_residual.ensures.1 in
-    writes_none _ _ p.0 _ p.1 p.2 (lines-there c.plans_are_sound.ensures c.args.ready.now.senders.items c.args.process c.in-Some.number _ c.sender-sender.result.now (sym c.in-Some.is ∙ c.round_block.ensures) c.sender-sender.ensures.is c.is_sound.ensures)
+returns-in_err-receiver-in-Some-clause-text g c = grind (arith, err_from_is_err_and, writes_none, lines-there)
 
 pub returns-in_err-head-in-Some-clause-text : goal.returns-in_err-head-in-Some-clause-text
 returns-in_err-head-in-Some-clause-text g c =

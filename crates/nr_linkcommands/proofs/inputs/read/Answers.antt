@@ -53,55 +53,37 @@ returns-clause-said g c = λ same_t same_s same_b same_d.
     (λ t s b d table settings blocks schedule. given-all t s b d c.in_ok-table.table c.in_ok-settings.settings (map (λ block. block.items) c.in_ok-blocks.blocks.items) (timetable_by c.in_ok-schedule.schedule) table settings blocks schedule)
 
 pub returns-in_err-table-clause-first : goal.returns-in_err-table-clause-first
-returns-in_err-table-clause-first g c =
-    by_table (λ e. IsFirst e (g.T.Source.remaining c.args.table.now) (g.S.Source.remaining c.args.settings.now) (g.B.Source.remaining c.args.blocks.now)) c.from_residual.result c.in_err-table.field-0.0 c.from_residual.ensures.1 tt (λ other. tt)
+returns-in_err-table-clause-first g c = grind (arith, by_table)
 
 pub returns-in_err-table-clause-later : goal.returns-in_err-table-clause-later
-returns-in_err-table-clause-later g c =
-    by_table (λ e. LeavesLater e c.args.settings.now c.args.settings.now c.args.blocks.now c.args.blocks.now c.args.schedule.now c.args.schedule.now) c.from_residual.result c.in_err-table.field-0.0 c.from_residual.ensures.1 tt (λ other. (refl, refl, refl))
+returns-in_err-table-clause-later g c = grind (arith, by_table)
 
 pub returns-in_err-table-clause-found : goal.returns-in_err-table-clause-found
-returns-in_err-table-clause-found g c =
-    found_table c.from_residual.result c.in_err-table.field-0.0 _ _ _ _ c.from_residual.ensures.1 c.in_err-table.ensures.said
+returns-in_err-table-clause-found g c = grind (arith, found_table)
 
 pub returns-in_err-settings-clause-first : goal.returns-in_err-settings-clause-first
-returns-in_err-settings-clause-first g c =
-    by_settings (λ e. IsFirst e (g.T.Source.remaining c.args.table.now) (g.S.Source.remaining c.args.settings.now) (g.B.Source.remaining c.args.blocks.now)) c.from_residual-in_err-settings.result c.in_err-settings.field-0.0 c.from_residual-in_err-settings.ensures.1 tt (λ other. no_fault table_said c.in_ok-table.table (g.T.Source.remaining c.args.table.now) (told-table _ (g.T.Source.remaining c.args.table.now) c.in_ok-table.table (λ read. cc) c.in_ok-table.ensures.said))
+returns-in_err-settings-clause-first g c = grind (arith, by_settings, no_fault, told-table)
 
 pub returns-in_err-settings-clause-later : goal.returns-in_err-settings-clause-later
-returns-in_err-settings-clause-later g c =
-    by_settings (λ e. LeavesLater e c.args.settings.now _ c.args.blocks.now c.args.blocks.now c.args.schedule.now c.args.schedule.now) c.from_residual-in_err-settings.result c.in_err-settings.field-0.0 c.from_residual-in_err-settings.ensures.1 tt (λ other. (refl, refl))
+returns-in_err-settings-clause-later g c = grind (arith, by_settings)
 
 pub returns-in_err-settings-clause-found : goal.returns-in_err-settings-clause-found
-returns-in_err-settings-clause-found g c =
-    found_settings c.from_residual-in_err-settings.result c.in_err-settings.field-0.0 _ _ _ _ _ _ c.from_residual-in_err-settings.ensures.1 c.in_err-settings.ensures.pulled c.in_err-settings.ensures.said
+returns-in_err-settings-clause-found g c = grind (arith, found_settings)
 
 pub returns-in_err-blocks-clause-first : goal.returns-in_err-blocks-clause-first
-returns-in_err-blocks-clause-first g c =
-    by_blocks (λ e. IsFirst e (g.T.Source.remaining c.args.table.now) (g.S.Source.remaining c.args.settings.now) (g.B.Source.remaining c.args.blocks.now)) c.from_residual-in_err-blocks.result c.in_err-blocks.field-0.0 c.from_residual-in_err-blocks.ensures.1 tt (λ other. (
-      no_fault table_said c.in_ok-table.table (g.T.Source.remaining c.args.table.now) (told-table _ (g.T.Source.remaining c.args.table.now) c.in_ok-table.table (λ read. cc) c.in_ok-table.ensures.said),
-      no_fault settings_said c.in_ok-settings.settings (g.S.Source.remaining c.args.settings.now) (c.in_ok-settings.ensures.said c.in_ok-settings.ensures.pulled),
-    ))
+returns-in_err-blocks-clause-first g c = grind (arith, by_blocks, no_fault, told-table)
 
 pub returns-in_err-blocks-clause-later : goal.returns-in_err-blocks-clause-later
-returns-in_err-blocks-clause-later g c =
-    by_blocks (λ e. LeavesLater e c.args.settings.now _ c.args.blocks.now _ c.args.schedule.now c.args.schedule.now) c.from_residual-in_err-blocks.result c.in_err-blocks.field-0.0 c.from_residual-in_err-blocks.ensures.1 tt (λ other. refl)
+returns-in_err-blocks-clause-later g c = grind (arith, by_blocks)
 
 pub returns-in_err-blocks-clause-found : goal.returns-in_err-blocks-clause-found
-returns-in_err-blocks-clause-found g c =
-    found_blocks c.from_residual-in_err-blocks.result c.in_err-blocks.field-0.0 _ _ _ _ _ _ c.from_residual-in_err-blocks.ensures.1 c.in_err-blocks.ensures.pulled c.in_err-blocks.ensures.said
+returns-in_err-blocks-clause-found g c = grind (arith, found_blocks)
 
 pub returns-in_err-schedule-clause-first : goal.returns-in_err-schedule-clause-first
-returns-in_err-schedule-clause-first g c =
-    by_schedule (λ e. IsFirst e (g.T.Source.remaining c.args.table.now) (g.S.Source.remaining c.args.settings.now) (g.B.Source.remaining c.args.blocks.now)) c.from_residual-in_err-schedule.result c.in_err-schedule.field-0.0 c.from_residual-in_err-schedule.ensures.1 tt (λ other. (
-      no_fault table_said c.in_ok-table.table (g.T.Source.remaining c.args.table.now) (told-table _ (g.T.Source.remaining c.args.table.now) c.in_ok-table.table (λ read. cc) c.in_ok-table.ensures.said),
-      no_fault settings_said c.in_ok-settings.settings (g.S.Source.remaining c.args.settings.now) (c.in_ok-settings.ensures.said c.in_ok-settings.ensures.pulled),
-      no_fault blocks_said (map (λ block. block.items) c.in_ok-blocks.blocks.items) (g.B.Source.remaining c.args.blocks.now) (c.in_ok-blocks.ensures.said c.in_ok-blocks.ensures.pulled),
-    ))
+returns-in_err-schedule-clause-first g c = grind (arith, by_schedule, no_fault, told-table)
 
 pub returns-in_err-schedule-clause-later : goal.returns-in_err-schedule-clause-later
-returns-in_err-schedule-clause-later g c =
-    by_schedule (λ e. LeavesLater e c.args.settings.now _ c.args.blocks.now _ c.args.schedule.now _) c.from_residual-in_err-schedule.result c.in_err-schedule.field-0.0 c.from_residual-in_err-schedule.ensures.1 tt (λ other. tt)
+returns-in_err-schedule-clause-later g c = grind (arith, by_schedule)
 
 pub returns-in_err-schedule-clause-found : goal.returns-in_err-schedule-clause-found
 returns-in_err-schedule-clause-found g c =

@@ -28,6 +28,4 @@ loop-index-preserved c =
     }
 
 pub returns-clause-said : goal.returns-clause-said
-returns-clause-said c =
-    let none : length (map (λ block. block.items) c.args.inputs.now.blocks.items) ≤ c.loop-index.index = omega (arith, length-map c.args.inputs.now.blocks.items (λ block. block.items)) in
-    sym c.loop-index.invariant.so_far ∙ senders_last _ _ c.loop-index.senders.items c.loop-index.index _ none
+returns-clause-said c = grind (arith, length-map, senders_last)

@@ -14,8 +14,7 @@ use Rattle.nr_linkcommands.proofs.run_command.write_outcomes.Goals as goal
 
 -- what is kept of the block whose slot is read
 kept-at : (senders : List SenderView) (schedule : List Transmission) (slots : List Slot) (i : ℕ) (sender : SenderView) (slot : Slot) → i < length senders → sender ≡ get_or senders i sender → i < length slots → slot ≡ get_or slots i slot → AllHold senders schedule slots → HoldsSummary sender.link (received sender (own (i + 1) schedule)) slot.summary
-kept-at senders schedule slots i sender slot within at inside is held =
-    subst (λ (s : Slot). HoldsSummary sender.link (received sender (own (i + 1) schedule)) s.summary) (sym (is ∙ get_or_default slots i slot empty_slot inside)) (held i sender within at).1
+kept-at senders schedule slots i sender slot within at inside is held = grind (arith, get_or_default)
 
 pub counted-totals-requires : goal.counted-totals-requires
 counted-totals-requires g c = record { few = within-more c.loop-index.index 65535 c.loop-index.totals (omega (arith, c.args.ready.now.few, (rw c.deref-sender-items.ensures.value at c.loop-index-test.true))) c.loop-index.invariant.within }
@@ -31,12 +30,7 @@ returns-in_err-put_line-clause-text g c = λ schedule held.
     (c.in_err-put_line.ensures.text _ (outcome_line-some _ _ _) (IfOk-weaker c.outcome_line-line.result _ _ (λ line is. is _ holds) c.outcome_line-line.ensures))
 
 pub loop-index-init : goal.loop-index-init
-loop-index-init g c = record {
-  lines = λ schedule held. left-first _ _;
-  sound = refl;
-  so_far = λ schedule held. ap (λ (t : Totals). totals_from t 1 c.args.ready.now.senders.items schedule) c.no_totals-totals.ensures.value;
-  within = c.no_totals-totals.ensures.none;
-}
+loop-index-init g c = grind (arith, left-first)
 
 pub loop-index-preserved : goal.loop-index-preserved
 unfolding outcome_lines totals_from
@@ -65,6 +59,4 @@ returns-clause-text g c = λ schedule held.
 
 pub returns-clause-totals : goal.returns-clause-totals
 unfolding totals_from
-returns-clause-totals g c = λ schedule held.
-    let none : length c.args.ready.now.senders.items ≤ c.loop-index.index = omega arith in
-    rw (drop_all c.loop-index.index c.args.ready.now.senders.items none) at (c.loop-index.invariant.so_far schedule held)
+returns-clause-totals g c = grind (arith, drop_all)

@@ -18,13 +18,7 @@ returns-in_err-end_all-clause-text g c =
     (sym (with_text-nil _)) c.in_err-end_all.ensures.text
 
 pub returns-clause-text : goal.returns-clause-text
-returns-clause-text g c =
-    let senders = c.args.ready.now.senders.items in
-    let schedule = c.args.ready.now.inputs.now.schedule.transmissions.items in
-    let last : List ℕ = last_line (codes "rounds") (rounds_counted no_totals senders (all_rounds schedule)) in
-    let made = rw c.in_ok-end_all.ensures.keeps.counted at c.last_line.ensures in
-    writes_last _ _ _ c.put_line.result (pieces_joined (last_rounds run_words senders schedule)) last c.in_ok-end_all.ensures.text
-    (c.put_line.ensures.text _ (last_line-some _ _) made)
+returns-clause-text g c = grind (arith, codes, writes_last, last_line-some)
 
 pub end_all-requires : goal.end_all-requires
 end_all-requires g c = λ k. ((refl, tt), (c.requires.puts, (omega (arith, c.requires.long), c.requires.keeps)))

@@ -14,13 +14,7 @@ use Rattle.nr_linkcommands.proofs.RoundTextFacts.{ended-few}
 use Rattle.nr_linkcommands.proofs.schedule_walk.end_all.Goals as goal
 
 pub loop-process-init : goal.loop-process-init
-loop-process-init g c = record {
-  written = sym (with_text-nil (g.O.Sink.written c.args.out.now));
-  keeps = subst (λ (rounds : List (List Transmission)). g.W.Walk.Keeps c.args.walk.now c.args.ready.now.senders.items c.args.ready.now.inputs.now.schedule.transmissions.items [] rounds)
-      (sym (append-nil (ended_rounds [] c.args.ready.now.inputs.now.schedule.transmissions.items))) c.requires.keeps;
-  slots = refl;
-  sound = refl;
-}
+loop-process-init g c = grind (arith, with_text-nil, append-nil)
 
 pub end_round-requires : goal.end_round-requires
 end_round-requires g c =

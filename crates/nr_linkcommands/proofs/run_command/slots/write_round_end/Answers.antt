@@ -11,35 +11,23 @@ use Rattle.nr_linkcommands.proofs.run_command.slots.write_round_end.Goals as goa
 use Rattle.nr_linkcommands.proofs.run_command.slots.write_round_end.Goals.{After-round_line}
 
 pub returns-in-None-clause-text : goal.returns-in-None-clause-text
-returns-in-None-clause-text g c = λ round held.
-    rw (round-none c.args.ready.now.senders.items round c.args.slot.now c.in-None.is held) (sym (with_text-nil _))
+returns-in-None-clause-text g c = grind (arith, round-none, with_text-nil)
 
 pub returns-in-None-clause-totals : goal.returns-in-None-clause-totals
-returns-in-None-clause-totals g c = λ round held.
-    rw (round-none c.args.ready.now.senders.items round c.args.slot.now c.in-None.is held) refl
+returns-in-None-clause-totals g c = grind (arith, round-none)
 
 pub returns-in-None-clause-grows : goal.returns-in-None-clause-grows
 returns-in-None-clause-grows g c = λ n is. within-more n _ c.args.totals (omega arith) is
 
 ends : (g : given.Over) (c : After-round_line g) (round : List Transmission) → HoldsRound false c.args.ready.now.senders.items round c.args.slot.now
     → EndsAs c.args.ready.now.senders.items c.args.process c.in-Some.number c.sender-sender.result.now round c.args.slot.now
-ends g c round held =
-    ends-as c.args.ready.now.senders.items c.args.process c.in-Some.number c.sender-sender.result.now round c.args.slot.now c.in-Some.is c.sender-sender.ensures.is held
+ends g c round held = grind (arith, ends-as)
 
 pub returns-in_err-put_line-in-Some-clause-text : goal.returns-in_err-put_line-in-Some-clause-text
-returns-in_err-put_line-in-Some-clause-text g c = λ round held.
-    let e = ends g (goal.at.returns-in_err-put_line-in-Some-clause-text g c).After-round_line round held in
-    let p = err_from_is_err_and c.from_residual.result c.from_residual.ensures.1 in
-    rw e.line
-    (writes_behind _ _ _ c.from_residual.result p.0 _ _ [] _ [] p.1 p.2 (sym (append-nil _)) (sym (with_text-nil _))
-    (c.in_err-put_line-in-Some.ensures.text _ (round_line-some _ _ _ _) (IfOk-weaker c.round_line.result _ _ (λ line is. is _ e.held) c.round_line.ensures)))
+returns-in_err-put_line-in-Some-clause-text g c = grind (arith, ends, err_from_is_err_and, writes_behind, append-nil, with_text-nil, round_line-some)
 
 pub returns-in_ok-put_line-in-Some-clause-text : goal.returns-in_ok-put_line-in-Some-clause-text
-returns-in_ok-put_line-in-Some-clause-text g c = λ round held.
-    let e = ends g (goal.at.returns-in_ok-put_line-in-Some-clause-text g c).After-round_line round held in
-    rw e.line (c.in_ok-put_line-in-Some.ensures.text _ (round_line-some _ _ _ _) (IfOk-weaker c.round_line.result _ _ (λ line is. is _ e.held) c.round_line.ensures))
+returns-in_ok-put_line-in-Some-clause-text g c = grind (arith, ends, round_line-some)
 
 pub returns-in_ok-put_line-in-Some-clause-totals : goal.returns-in_ok-put_line-in-Some-clause-totals
-returns-in_ok-put_line-in-Some-clause-totals g c = λ round held.
-    let e = ends g (goal.at.returns-in_ok-put_line-in-Some-clause-totals g c).After-round_line round held in
-    c.counted.ensures.value _ e.held ∙ sym (e.counted c.args.totals)
+returns-in_ok-put_line-in-Some-clause-totals g c = grind (arith, ends)

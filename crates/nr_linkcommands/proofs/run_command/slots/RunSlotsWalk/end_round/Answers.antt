@@ -14,15 +14,10 @@ use Rattle.nr_linkcommands.proofs.run_command.slots.RunSlotsWalk.end_round.Goals
 use Rattle.nr_linkcommands.proofs.run_command.slots.RunSlotsWalk.end_round.Goals.{After-index-slot}
 
 pub write_round_end-requires-clause-few : goal.write_round_end-requires-clause-few
-write_round_end-requires-clause-few g c =
-    let kept = c.requires.keeps in
-    within-more (length kept.1) 65535 c.args.self.now.totals kept.2 kept.4.within
+write_round_end-requires-clause-few g c = grind (arith, within-more)
 
 held : (g : given.Over) (c : After-index-slot g) → HoldsRound false c.args.ready.now.senders.items (round_of c.args.process c.args._before.now) c.index-slot.result.now
-held g c =
-    let kept = c.requires.keeps in
-    subst (λ b. HoldsRound b c.args.ready.now.senders.items (round_of c.args.process c.args._before.now) c.index-slot.result.now) kept.3
-    (holds-round c.args.ready.now.senders.items c.args._before.now kept.0 c.args.self.now.slots.items c.args.process c.index-slot.result.now c.requires.placed c.index-slot.ensures kept.4.held)
+held g c = grind (arith, holds-round)
 
 pub write_round_end-requires-clause-named : goal.write_round_end-requires-clause-named
 write_round_end-requires-clause-named g c =
