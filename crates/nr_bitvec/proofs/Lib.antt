@@ -1,6 +1,7 @@
 pub mod BitFacts
 pub mod PlaceFacts
 mod AddedBitFacts
+mod GrownWordFacts
 pub mod PackedListFacts
 pub mod RangeWordFacts
 mod OctetReversalFacts

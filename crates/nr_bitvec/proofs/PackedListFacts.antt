@@ -8,8 +8,8 @@ use Rattle.std.specs.Int.{bit_at, from_bool}
 use Rattle.std.specs.Int.RustNames.{bit_and, bit_xor}
 use Rattle.nr_bitvec.specs.Bit.{bit}
 use Rattle.nr_bitvec.specs.BitList.{low_first}
-use Rattle.nr_bitvec.specs.Packed.{place, IsClear, unpacked}
-use Rattle.nr_bitvec.specs.PackedInside.{moved, IsPacked, HasPlaces, Changes}
+use Rattle.nr_bitvec.specs.Packed.{place, unpacked}
+use Rattle.nr_bitvec.specs.PackedInside.{moved, IsPacked, Grows, Changes}
 use Rattle.nr_bitvec.proofs.PlaceFacts.{length-unpacked, bit-place, same_from_bits}
 use Rattle.nr_bitvec.proofs.AddedBitFacts.{moved_below, moved_from, kept}
 
@@ -51,39 +51,20 @@ window-place n ws at r j packed e =
 
 -- ---- a word's bits more
 
--- `low` has the first bits of a word and none after them: no bit goes past the end
-pub word-none : (n count : ℕ) (mid ws : List ℕ) (low j : ℕ) → HasPlaces n count mid ws → ((k : ℕ) → count ≤ k → bit_at low k ≡ 0) → 64 * length mid ≤ n + j → bit_at low j ≡ 0
-word-none n count mid ws low j has high h = high j (omega (arith, has.below, h))
-
--- the places of the new words, below place n and from it on
-word-below : (n count : ℕ) (mid ws new : List ℕ) (low t : ℕ) → HasPlaces n count mid ws → place new t ≡ (place mid t + moved n low t) % 2 → t < n → place new t ≡ place ws t
-word-below n count mid ws new low t has e h = e ∙ sym (kept mid n low t (moved_below n low t h)) ∙ has.same t
-
-word-from : (n count : ℕ) (mid ws new : List ℕ) (low t : ℕ) → IsClear ws n → HasPlaces n count mid ws → place new t ≡ (place mid t + moved n low t) % 2 → n ≤ t → place new t ≡ bit_at low (t - n)
-word-from n count mid ws new low t clear has e h =
-    let added : place new t ≡ (0 + bit_at low (t - n)) % 2 = e ∙ ap (λ k. (k + moved n low t) % 2) (has.same t ∙ clear t h) ∙ ap (λ k. (0 + k) % 2) (moved_from n low t h) in
-    omega (arith, added, bit_at-lt low (t - n))
-
-pub word-items : (n count : ℕ) (mid ws new : List ℕ) (word low : ℕ) → IsPacked n ws → HasPlaces n count mid ws → ((j : ℕ) → j < count → bit_at low j ≡ bit_at word j)
-    → ((t : ℕ) → place new t ≡ (place mid t + moved n low t) % 2) → unpacked (n + count) new ≡ unpacked n ws ++ low_first count word
-word-items n count mid ws new word low packed has same flips =
+pub word-items : (n count : ℕ) (ws new : List ℕ) (word bits : ℕ) → Grows n count bits ws new → ((j : ℕ) → j < count → bit_at bits j ≡ bit_at word j) → unpacked (n + count) new ≡ unpacked n ws ++ low_first count word
+word-items n count ws new word bits grows same =
     unpacked-is (n + count) new (unpacked n ws ++ low_first count word) (length-append (unpacked n ws) (low_first count word) ∙ omega (arith, length-unpacked n ws, length-low_first count word))
     (λ t h. elim (cases_lt t n) [
-      | inl old ↦ ap (λ k. k == 1) (word-below n count mid ws new low t has (flips t) old) ∙ sym (bit-within n ws t old) ∙ sym (get_or_append_left (unpacked n ws) (low_first count word) false t (omega (arith, old, length-unpacked n ws)))
+      | inl old ↦ ap (λ k. k == 1) (grows.before t old) ∙ sym (bit-within n ws t old) ∙ sym (get_or_append_left (unpacked n ws) (low_first count word) false t (omega (arith, old, length-unpacked n ws)))
       | inr here ↦
           let within : t - n < count = omega (arith, h, here) in
-          ap (λ k. k == 1) (word-from n count mid ws new low t packed.clear has (flips t) here ∙ same (t - n) within) ∙ sym (bit-low_first count word (t - n) within)
+          ap (λ k. k == 1) (grows.within t here ∙ same (t - n) within) ∙ sym (bit-low_first count word (t - n) within)
           ∙ sym (get_or-append_right (unpacked n ws) (low_first count word) n t false (length-unpacked n ws) here)
     ])
 
-pub word-packed : (n count : ℕ) (mid ws new : List ℕ) (low : ℕ) → n + count ≤ 2 ^ 24 → IsPacked n ws → HasPlaces n count mid ws → ((j : ℕ) → count ≤ j → bit_at low j ≡ 0) → length new ≡ length mid
-    → ((t : ℕ) → place new t ≡ (place mid t + moved n low t) % 2) → IsPacked (n + count) new
-word-packed n count mid ws new low short packed has high long flips = record {
-  short = short;
-  above = omega (arith, has.above, long);
-  below = omega (arith, has.below, long);
-  clear = λ t h. word-from n count mid ws new low t packed.clear has (flips t) (omega (arith, h)) ∙ high (t - n) (omega (arith, h));
-}
+pub word-packed : (n count : ℕ) (ws new : List ℕ) (bits : ℕ) → n + count ≤ 2 ^ 24 → Grows n count bits ws new → ((j : ℕ) → count ≤ j → bit_at bits j ≡ 0) → IsPacked (n + count) new
+word-packed n count ws new bits short grows high =
+    record { short = short; above = grows.above; below = grows.below; clear = λ t h. grows.within t (omega (arith, h)) ∙ high (t - n) (omega (arith, h)) }
 
 -- ---- bits put in their places
 

@@ -35,11 +35,12 @@ pub record IsPacked (n : ℕ) (ws : List ℕ) : Type 0 where
   pub below : n ≤ 64 * length ws
   pub clear : IsClear ws n
 
--- words with places for `count` bits from bit n on, and the same places
-pub record HasPlaces (n count : ℕ) (mid ws : List ℕ) : Type 0 where
-  pub same : (t : ℕ) → place mid t ≡ place ws t
-  pub above : 64 * length mid < n + count + 64
-  pub below : n + count ≤ 64 * length mid
+-- `count` bits, those of `bits`, stand behind the first n places, and none is set behind them
+pub record Grows (n count bits : ℕ) (ws new : List ℕ) : Type 0 where
+  pub above : 64 * length new < n + count + 64
+  pub below : n + count ≤ 64 * length new
+  pub before : (t : ℕ) → t < n → place new t ≡ place ws t
+  pub within : (t : ℕ) → n ≤ t → place new t ≡ bit_at bits (t - n)
 
 -- what is added at place `at` to put the `count` lowest bits of n there
 pub record Changes (ws : List ℕ) (at count n change : ℕ) : Type 0 where

@@ -12,7 +12,7 @@ ghost use Rattle.nr_bitvec.specs.Packed.{place};
 mod ranges;
 
 use super::octets::{turned, word_of_octets, write_octets};
-use super::words::{change, flip, join, low_bits, make_places, same_words, window};
+use super::words::{change, flip, join, low_bits, push_bits, same_words, window};
 use std::alloc::{AllocError, Global};
 use std::marker::Model;
 
@@ -176,8 +176,7 @@ impl Bits {
         ensures items { self.new.items ≡ self.old.items ++ low_first count word }
         ensures room { self.new.room + count ≡ self.old.room }
     {
-        make_places(&mut self.words, self.len, count);
-        flip(&mut self.words, self.len, low_bits(word, count));
+        push_bits(&mut self.words, self.len, count, low_bits(word, count));
         self.len += count;
     }
 

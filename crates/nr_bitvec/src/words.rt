@@ -4,7 +4,7 @@
 ghost use Rattle.std.specs.Prelude.{◌≡◌, ℕ, ◌+◌, ◌-◌, ◌*◌, ◌^◌, ◌<◌, ◌≤◌, length, vec_len, vec_capacity, IsTrue};
 ghost use Rattle.std.specs.Int.{bit_at};
 ghost use Rattle.nr_bitvec.specs.Packed.{place, IsClear};
-ghost use Rattle.nr_bitvec.specs.PackedInside.{Adds, Changes, HasPlaces, IsPacked, Joins, Loads, SamePlaces, followed};
+ghost use Rattle.nr_bitvec.specs.PackedInside.{Adds, Changes, Grows, IsPacked, Joins, Loads, SamePlaces, followed};
 
 /// The `count` lowest bits of a word, and zeros above them.
 pub fn low_bits(word: u64, count: usize) -> u64
@@ -60,16 +60,26 @@ pub(crate) fn change(words: &[u64], at: usize, count: usize, word: u64) -> u64
     low_bits(window(words, at / 64, at % 64) ^ word, count)
 }
 
-// Makes places for `count` bits more after the first `len`, where the words have memory for them.
-pub(crate) fn make_places(words: &mut Vec<u64>, len: usize, count: usize)
+// Puts `count` bits behind the first `len` places, the lowest first, in words that have memory for them. No bit is set
+// past the count.
+pub(crate) fn push_bits(words: &mut Vec<u64>, len: usize, count: usize, bits: u64)
     requires packed { IsPacked len words.old.items }
     requires count { count ≤ 64 }
+    requires high { (j : ℕ) → count ≤ j → bit_at bits j ≡ 0 }
     requires room { len + count ≤ 64 * vec_capacity words.old }
-    ensures places { HasPlaces len count words.new.items words.old.items }
+    ensures grows { Grows len count bits words.old.items words.new.items }
     ensures capacity { vec_capacity words.new ≡ vec_capacity words.old }
 {
-    if 64 * words.len() < len + count {
-        words.push_reserved(0);
+    let turn = len % 64;
+    if turn == 0 {
+        if count > 0 {
+            words.push_reserved(bits);
+        }
+        return;
+    }
+    words[len / 64] ^= bits << turn;
+    if turn + count > 64 {
+        words.push_reserved(bits >> (64 - turn));
     }
 }
 
