@@ -1,7 +1,7 @@
 -- Lanes and counts with which nothing is known.
-use Rattle.std.proofs.Common.{◌≡◌, ℕ, ◌≤◌, ◌+◌, ◌*◌, ◌/◌, ◌%◌, ◌<◌, ◌&&◌, not, length, sym, ap, ◌∙◌, arith}
+use Rattle.std.proofs.Common.{◌≡◌, ◌≤◌, ◌+◌, ◌*◌, ◌<◌, ◌&&◌, not, length, sym, ap, ◌∙◌, arith}
 use Rattle.std.specs.Prelude.{slice_index, sum}
-use Rattle.std.proofs.lemmas.Nat.{div_below, mod_below}
+use Rattle.std.proofs.lemmas.Nat.{div_below, mod_below, div-add-mod'}
 use Rattle.nr_bitvec.specs.Bit.{bit}
 use Rattle.nr_lifting.specs.Planes.{BlockCounts}
 use Rattle.nr_shifttable.specs.Accepted.{IsTable}
@@ -10,20 +10,19 @@ use Rattle.nr_peel.specs.Due.{work_of}
 use Rattle.nr_peel.specs.Starts.{AreBlank, AreDegrees, IsBlankSweep}
 use Rattle.nr_peel.specs.StateInside.{lifted_checks}
 use Rattle.nr_peel.specs.Sweeps.{counted_in}
-use Rattle.nr_peel.specs.Touches.{step_pairs, sum_below}
-use Rattle.nr_peel.specs.TouchesInside.{all_pairs, row_length}
+use Rattle.nr_peel.specs.Touches.{step_pairs}
+use Rattle.nr_peel.specs.TouchesInside.{all_pairs}
 use Rattle.nr_peel.specs.declared.lifted.Lifted.{Lifted}
 use Rattle.nr_peel.specs.declared.bit_parallel.sweep.Sweep.{Sweep}
 use Rattle.nr_peel.proofs.CountedPairFacts.{sum-below}
 use Rattle.nr_peel.proofs.StepPairFacts.{step_pairs-none}
 use Rattle.nr_peel.proofs.PairSumFacts.{sum_below-same}
-use Rattle.nr_peel.proofs.RowPlaceFacts.{row_number}
 use Rattle.nr_peel.proofs.StartFacts.{count_all, few_operations}
 
 -- the sum of all counts
 degrees_total : (c : Checks) (s : BlockCounts) → 0 < c.lanes → AreDegrees c s → sum s.items ≡ all_pairs c
 unfolding all_pairs
-degrees_total c s some d = grind (arith, sum-below, sum_below-same, row_number, div_below, mod_below)
+degrees_total c s some d = grind (arith, sum-below, sum_below-same, div-add-mod', div_below, mod_below)
 
 pub blank_sweep : (l : Lifted) (s : Sweep) → IsTable l.table.now → AreBlank (lifted_checks l) s.lanes → (p : BlockCounts) → AreDegrees (lifted_checks l) p → s.counts.items ≡ p.items → s.counts.lanes ≡ p.lanes
     → work_of s.counts ≤ (lifted_checks l).rows → s.touches ≡ 0 → IsBlankSweep (lifted_checks l) s

@@ -1,16 +1,16 @@
 -- Words on closures, stopping sets, and what a peeler that ran dry knows.
 use Rattle.std.proofs.lemmas.Bool.Decides.{nat_tests}
-use Rattle.std.proofs.Common.{◌≡◌, ◌≢◌, ℕ, ◌<◌, ◌==◌, ◌||◌, Bool, true, false, not, List, [], ◌∷◌, refl, sym, ap, ◌∙◌, ⊎_elim, arith}
+use Rattle.std.proofs.Common.{◌≡◌, ◌≢◌, ℕ, ◌<◌, ◌==◌, ◌||◌, Bool, true, false, not, List, [], ◌∷◌, refl, sym, ap, ◌∙◌, arith}
 use Rattle.std.specs.Prelude.{count_by}
 use Rattle.std.specs.Bool.{beq}
 use Rattle.std.specs.List.{list_all}
-use Rattle.std.proofs.lemmas.Bool.{and_parts, and_from, or_cases, or_left, or_right, true≢false, eqb-true, false_from_ne_true}
+use Rattle.std.proofs.lemmas.Bool.{and_parts, and_from, true≢false, eqb-true, false_from_ne_true}
 use Rattle.nr_bitvec.specs.Bit.{◌⊕◌}
 use Rattle.nr_ldpcenc.specs.Parity.{parity}
 use Rattle.nr_ldpcenc.specs.Rows.{Checks, Meets}
 use Rattle.nr_peel.specs.Closure.{AgreeOn, IsDistinctRow, AreSound, IsStopping, Within, closure, fixes, stands, times_in}
 use Rattle.nr_peel.specs.ClosureInside.{IsClosed, IsOnlyMissing, LacksNoneOrSeveral}
-use Rattle.nr_peel.proofs.RowPositionFacts.{count_alike, count_no, count_yes, fixed_counted, not_not, only_from_count, stands_counted}
+use Rattle.nr_peel.proofs.RowPositionFacts.{count_alike, count_no, count_yes, fixed_counted, not_not, only_from_count, stands_counted, all_more, or_more}
 use Rattle.nr_peel.proofs.ClosureFacts.{closure_closed, closure_keeps, closure_least, same_truth}
 
 pub beq_true : (a b : Bool) → beq a b ≡ true → a ≡ b
@@ -60,12 +60,8 @@ pub stands_once : (p : ℕ) (row : List ℕ) → IsDistinctRow row → stands p 
 stands_once p row distinct h = omega (arith, distinct p, stands_counted p row h)
 
 others_agree : (S v w : ℕ → Bool) (p : ℕ) → AgreeOn S v w → (row : List ℕ) → list_all (λ q. (q == p) || S q) row ≡ true → agree_but v w p row ≡ true
-others_agree S v w p agree [] h = refl
-others_agree S v w p agree (x ∷ row) h =
-    let parts = and_parts ((x == p) || S x) (list_all (λ q. (q == p) || S q) row) h in
-    and_from ((x == p) || beq (v x) (w x)) (agree_but v w p row)
-    (⊎_elim (λ e. or_left (x == p) (beq (v x) (w x)) e) (λ s. or_right (x == p) (beq (v x) (w x)) (beq_same (v x) (w x) (agree x s))) (or_cases (x == p) (S x) parts.0))
-    (others_agree S v w p agree row parts.1)
+others_agree S v w p agree row =
+    all_more (λ q. (q == p) || S q) (λ q. (q == p) || beq (v q) (w q)) row (λ q _. or_more (q == p) (S q) (beq (v q) (w q)) (λ s. beq_same (v q) (w q) (agree q s)))
 
 pub words_agree : (c : Checks) (S v w : ℕ → Bool) → AreSound c → Meets c v → Meets c w → AgreeOn S v w → AgreeOn (closure c S) v w
 words_agree c S v w sound mv mw agree p h = beq_true (v p) (w p) (closure_least c S (λ q. beq (v q) (w q)) (λ q s. beq_same (v q) (w q) (agree q s)) closed p h)

@@ -1,9 +1,9 @@
 -- A column of blocks whose positions become known: what the rows' counts and the visits come to.
-use Rattle.std.proofs.Common.{◌≡◌, ℕ, zero, suc, ◌+◌, ◌-◌, ◌*◌, ◌/◌, ◌%◌, ◌<◌, ◌≤◌, ◌≢◌, ◌==◌, ◌&&◌, nat_lt, Bool, true, false, not, cond, List, [], ◌∷◌, length, map, refl, sym, ap, ◌∙◌, inl, inr, arith}
+use Rattle.std.proofs.Common.{◌≡◌, ℕ, zero, suc, ◌+◌, ◌-◌, ◌*◌, ◌/◌, ◌%◌, ◌<◌, ◌≤◌, ◌≢◌, ◌==◌, ◌&&◌, nat_lt, Bool, true, false, not, cond, List, [], ◌∷◌, length, refl, sym, ap, ◌∙◌, inl, inr, arith}
 use Rattle.std.specs.Prelude.{All, count_by, slice_index, sum}
-use Rattle.std.proofs.lemmas.Bool.{eqb-true, eq-eqb, ne_eqb}
+use Rattle.std.proofs.lemmas.Bool.{eq-eqb, ne_eqb, cases_eq}
 use Rattle.std.proofs.lemmas.List.Elements.{All-head, All-tail}
-use Rattle.std.proofs.lemmas.Nat.{mod_below}
+use Rattle.std.proofs.lemmas.Nat.{mod_below, div-add-mod'}
 use Rattle.nr_lifting.specs.Rings.{marked}
 use Rattle.nr_shifttable.specs.declared.entry.Entry.{Entry}
 use Rattle.nr_shifttable.specs.Accepted.{column_of, row_of}
@@ -15,8 +15,8 @@ use Rattle.nr_peel.proofs.ClosureFacts.{cases_below}
 use Rattle.nr_peel.proofs.CountedPairFacts.{sum-below, sum_below-append, sum_flat}
 use Rattle.nr_peel.proofs.TableGridFacts.{place_column}
 use Rattle.nr_peel.proofs.PairSumFacts.{sum_below-plus, sum_below-same}
-use Rattle.nr_peel.proofs.RowPlaceFacts.{mod_high, mod_low, row_number}
-use Rattle.nr_peel.proofs.RowPositionFacts.{count_by-cons, count_no}
+use Rattle.nr_peel.proofs.RowPlaceFacts.{mod_high, mod_low}
+use Rattle.nr_peel.proofs.RowPositionFacts.{count_by-cons, count_no, count_alike, count_filter, count_map}
 use Rattle.std.proofs.lemmas.Bool.Decides.{nat_tests}
 
 -- ---- counts of a row's positions
@@ -52,41 +52,22 @@ column_most z M j row = omega (arith, count_plus (below_column z M j) (from_colu
 
 -- as many entries of a column lead from a set to a row as the row has positions of the set in that column
 pub hits_marks : (set z i j t : ℕ) (M : ℕ → Bool) → 0 < z → (es : List Entry) → count_by (hits set z j M i t) (column_of es j) ≡ count_by (in_column z M j) (row_at es set z i t)
-hits_marks set z i j t M some [] = refl
-hits_marks set z i j t M some (e ∷ es) = split (e.col == j) (e.row == i) refl refl (hits_marks set z i j t M some es)
+hits_marks set z i j t M some es =
+    count_filter (hits set z j M i t) (λ e. e.col == j) es ∙ count_alike (λ (e : Entry). (e.col == j) && hits set z j M i t e) (λ (e : Entry). (e.row == i) && in_column z M j (one_at z t e.col (value_in set e))) same es
+    ∙ sym (count_map (in_column z M j) (λ (e : Entry). one_at z t e.col (value_in set e)) (row_of es i) ∙ count_filter (λ (e : Entry). in_column z M j (one_at z t e.col (value_in set e))) (λ e. e.row == i) es)
   where
-    v : ℕ
-    v = value_in set e
-
-    at : ℕ
-    at = one_at z t e.col v
-
-    same : in_column z M j at ≡ (M at && (e.col == j))
-    same = ap (λ n. M at && (n == j)) (place_column z t e.col v some)
-
-    and_false : (b : Bool) → (b && false) ≡ false
-    and_false true = refl
-    and_false false = refl
-
-    and_true : (b : Bool) → (b && true) ≡ b
-    and_true true = refl
-    and_true false = refl
-
-    both : (a b : Bool) (m n : ℕ) → a ≡ b → m ≡ n → cond a 1 0 + m ≡ cond b 1 0 + n
-    both a b m n e f = cc
-
-    split : (a b : Bool) → (e.col == j) ≡ a → (e.row == i) ≡ b
-        → count_by (hits set z j M i t) (column_of es j) ≡ count_by (in_column z M j) (row_at es set z i t)
-        → count_by (hits set z j M i t) (cond a (e ∷ column_of es j) (column_of es j)) ≡ count_by (in_column z M j) (map (λ e. one_at z t e.col (value_in set e)) (cond b (e ∷ row_of es i) (row_of es i)))
-    split false false f g ih = ih
-    split true false f g ih = count_no (hits set z j M i t) e (column_of es j) (ap (λ b. b && M (one_at z t j v)) g) ∙ ih
-    split false true f g ih = ih ∙ sym (count_no (in_column z M j) at (row_at es set z i t) (same ∙ ap (λ b. M at && b) f ∙ and_false (M at)))
-    split true true f g ih =
-        let here : hits set z j M i t e ≡ in_column z M j at =
-        ap (λ b. b && M (one_at z t j v)) g ∙ ap (λ col. M (one_at z t col v)) (sym (eqb-true e.col j f)) ∙ sym (same ∙ ap (λ b. M at && b) f ∙ and_true (M at)) in
-        count_by-cons (hits set z j M i t) e (column_of es j)
-        ∙ both (hits set z j M i t e) (in_column z M j at) (count_by (hits set z j M i t) (column_of es j)) (count_by (in_column z M j) (row_at es set z i t)) here ih
-        ∙ sym (count_by-cons (in_column z M j) at (row_at es set z i t))
+    same : (e : Entry) → ((e.col == j) && hits set z j M i t e) ≡ ((e.row == i) && in_column z M j (one_at z t e.col (value_in set e)))
+    same e = elim (cases_eq e.col j) [
+      | inl here ↦
+          let column : (e.col == j) ≡ true = eq-eqb e.col j here in
+          let place : (one_at z t e.col (value_in set e) / z == j) ≡ true = ap (λ n. n == j) (place_column z t e.col (value_in set e) some) ∙ column in
+          let at : M (one_at z t e.col (value_in set e)) ≡ M (one_at z t j (value_in set e)) = ap (λ col. M (one_at z t col (value_in set e))) here in
+          grind (arith, column, place, at)
+      | inr other ↦
+          let column : (e.col == j) ≡ false = ne_eqb e.col j other in
+          let place : (one_at z t e.col (value_in set e) / z == j) ≡ false = ap (λ n. n == j) (place_column z t e.col (value_in set e) some) ∙ column in
+          grind (arith, column, place)
+    ]
 
 -- no entry leads to a row past the last
 pub hits_past : (set z i j t rows : ℕ) (M : ℕ → Bool) → rows ≤ i → (column : List Entry) → All (λ e. e.row < rows) column → count_by (hits set z j M i t) column ≡ 0
@@ -158,4 +139,4 @@ column_visits set z j rows M some (e ∷ column) all =
 -- what each count falls by is what their sum falls by
 pub sums_fall : (rows z : ℕ) (old new : List ℕ) (h : ℕ → ℕ → ℕ) → 0 < z → length old ≡ rows * z → length new ≡ rows * z
     → ((i t : ℕ) → t < z → slice_index new (i * z + t) + h i t ≡ slice_index old (i * z + t)) → sum_below (λ i. sum_below (h i) z) rows + sum new ≡ sum old
-sums_fall rows z old new h some long_old long_new falls = grind (arith, sum_flat, sum-below, sum_below-plus, row_number, mod_below)
+sums_fall rows z old new h some long_old long_new falls = grind (arith, sum_flat, sum-below, sum_below-plus, div-add-mod', mod_below)

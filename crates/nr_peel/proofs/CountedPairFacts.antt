@@ -1,9 +1,9 @@
 -- Pairs of a row and a known position of it, by the rows' counters.
 use Rattle.std.proofs.lemmas.Bool.Decides.{nat_tests}
-use Rattle.std.proofs.Common.{◌≡◌, ℕ, ◌+◌, ◌*◌, ◌/◌, ◌%◌, ◌<◌, ◌≤◌, ◌==◌, Bool, true, false, not, cond, List, [], ◌∷◌, length, take, refl, sym, ap, ◌∙◌, arith}
+use Rattle.std.proofs.Common.{◌≡◌, ℕ, ◌+◌, ◌*◌, ◌/◌, ◌%◌, ◌<◌, ◌≤◌, Bool, not, List, [], ◌∷◌, length, take, refl, sym, ap, ◌∙◌, arith}
 use Rattle.std.specs.Prelude.{zero, suc, count_by, slice_index, sum}
 use Rattle.std.proofs.lemmas.Bool.{eqb-true}
-use Rattle.std.proofs.lemmas.Nat.{div-mul-add, mod-mul-add, mod_below, div_below}
+use Rattle.std.proofs.lemmas.Nat.{div-mul-add, mod-mul-add, mod_below, div_below, div-add-mod'}
 use Rattle.std.proofs.lemmas.List.{take_all}
 use Rattle.std.proofs.lemmas.List.Sums.{sum_by_more}
 use Rattle.nr_bitvec.specs.Bit.{bit}
@@ -13,7 +13,6 @@ use Rattle.nr_peel.specs.Touches.{pairs_in, sum_below}
 use Rattle.nr_peel.specs.TouchesInside.{all_pairs, row_length, spent_pairs}
 use Rattle.nr_peel.proofs.RowPositionFacts.{count_by-cons}
 use Rattle.nr_peel.proofs.PairSumFacts.{sum_below-le, sum_below-plus, sum_below-same}
-use Rattle.nr_peel.proofs.RowPlaceFacts.{row_number}
 
 -- what passes and what doesn't are all
 pub count_both : (p : ℕ → Bool) (xs : List ℕ) → count_by (λ x. not (p x)) xs + count_by p xs ≡ length xs
@@ -63,7 +62,7 @@ module _ (c : Checks) (known : List Bool) (counts : List ℕ) (pos : 0 < c.lanes
       let i = k / c.lanes in
       let t = k % c.lanes in
       let at : slice_index counts k ≡ count_by (λ p. not (bit known p)) (c.row i t) =
-      sym (ap (slice_index counts) (row_number k c.lanes)) ∙ counted i t (div_below k c.lanes c.rows pos lt) (mod_below k c.lanes pos) in
+      sym (ap (slice_index counts) (div-add-mod' k c.lanes)) ∙ counted i t (div_below k c.lanes c.rows pos lt) (mod_below k c.lanes pos) in
       omega (arith, at, count_both (bit known) (c.row i t))
 
   pairs_flat : pairs_in c (bit known) ≡ sum_below (λ k. count_by (bit known) (c.row (k / c.lanes) (k % c.lanes))) (c.rows * c.lanes)

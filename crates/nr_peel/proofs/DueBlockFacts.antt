@@ -1,26 +1,23 @@
 -- Which row blocks are due, and which columns have gained something.
 use Rattle.std.proofs.lemmas.Bool.Decides.{nat_tests}
-use Rattle.std.proofs.Common.{◌≡◌, ◌≢◌, ℕ, ◌+◌, ◌*◌, ◌/◌, ◌%◌, ◌<◌, ◌≤◌, ◌==◌, ◌&&◌, ◌||◌, Bool, true, false, not, cond, List, length, set, replicate, refl, sym, ap, ◌∙◌, inl, inr, arith}
+use Rattle.std.proofs.Common.{◌≡◌, ◌≢◌, ℕ, ◌+◌, ◌*◌, ◌/◌, ◌%◌, ◌<◌, ◌≤◌, ◌==◌, ◌&&◌, ◌||◌, Bool, true, false, not, cond, List, length, set, replicate, sym, ap, ◌∙◌, inl, inr, arith}
 use Rattle.std.specs.Prelude.{slice_index}
 use Rattle.std.proofs.Math.Nat.{mul-le-mul_right}
 use Rattle.std.proofs.lemmas.Bool.{cases_eq, cases_lt, eq-eqb, ne_eqb, true≢false}
 use Rattle.std.proofs.lemmas.List.{get_or_past, get_or-set_other, get_or-set_same, length-map, length-replicate}
 use Rattle.std.proofs.lemmas.List.Folds.{sum_by-replicate}
 use Rattle.std.proofs.lemmas.List.Sums.{count_by-le-length, sum_by-set}
-use Rattle.std.proofs.lemmas.Nat.{div_below, div-mul-add, mod-mul-add, mod_below}
+use Rattle.std.proofs.lemmas.Nat.{div_below, div-mul-add, mod-mul-add, mod_below, div-add-mod'}
 use Rattle.nr_bitvec.specs.Bit.{bit}
 use Rattle.nr_lifting.specs.Planes.{BlockCounts}
 use Rattle.nr_lifting.specs.Rings.{BlockBits, is_set, lane_marks, marked}
 use Rattle.nr_lifting.proofs.LaneBitFacts.{marked-same}
 use Rattle.nr_shifttable.specs.declared.entry.Entry.{Entry}
 use Rattle.nr_shifttable.specs.Accepted.{entries_in, row_of}
-use Rattle.nr_shifttable.specs.Tails.{value_in}
-use Rattle.nr_ldpcenc.specs.Rows.{one_at}
 use Rattle.nr_peel.specs.Due.{ArePendingMarks, AreKept, due_in}
 use Rattle.nr_peel.specs.StateInside.{lifted_checks}
 use Rattle.nr_peel.specs.Sweeps.{CountsOf, has_count}
 use Rattle.nr_peel.specs.declared.lifted.Lifted.{Lifted}
-use Rattle.nr_peel.proofs.RowPlaceFacts.{row_number}
 use Rattle.nr_peel.proofs.MarkedFacts.{marked_apart, marked_zero, no_marks}
 use Rattle.nr_peel.proofs.FillerFacts.{get_or-same}
 
@@ -64,7 +61,7 @@ kept_lower a d due i M kept within lanes long falls = record {
       | inl here ↦ true≢false (sym (get_or-set_same due i true false within) ∙ ap (bit (set due i true)) here ∙ clear)
       | inr other ↦
           let h = k / a.lanes in
-          let at : h * a.lanes + k % a.lanes ≡ k = row_number k a.lanes in
+          let at : h * a.lanes + k % a.lanes ≡ k = div-add-mod' k a.lanes in
           let fell = falls h (k % a.lanes) (mod_below k a.lanes kept.some) in
           let none : cond {A = ℕ} ((i == h) && M (k % a.lanes)) 1 0 ≡ 0 = ap {B = ℕ} (λ b. cond (b && M (k % a.lanes)) 1 0) (ne_eqb i h other) in
           let same : slice_index d.items k ≡ slice_index a.items k = omega (arith, rw at at fell, none) in
@@ -82,7 +79,7 @@ kept_looked p due i b ones kept within none are = record {
         let off : b ≡ false = sym (get_or-set_same due i b false within) ∙ ap (bit (set due i b)) here ∙ clear in
         let t = k % p.lanes in
         let below : t < p.lanes = mod_below k p.lanes kept.some in
-        let at : i * p.lanes + t ≡ k = ap (λ h. h * p.lanes + t) here ∙ row_number k p.lanes in
+        let at : i * p.lanes + t ≡ k = ap (λ h. h * p.lanes + t) here ∙ div-add-mod' k p.lanes in
         true≢false (sym (ap (λ n. slice_index p.items n == 1) at ∙ eq-eqb (slice_index p.items k) 1 one) ∙ sym (are t below) ∙ marked_zero (is_set ones) p.lanes (none off) t below)
     | inr other ↦ kept.settled k (sym (get_or-set_other due i (k / p.lanes) b false (λ e. other (sym e))) ∙ clear) one
   ];

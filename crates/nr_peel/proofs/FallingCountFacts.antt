@@ -1,10 +1,10 @@
 -- The rows' counts while the columns of blocks with fresh positions are taken one after another.
-use Rattle.std.proofs.Common.{◌≡◌, ℕ, ◌+◌, ◌*◌, ◌/◌, ◌%◌, ◌<◌, ◌≤◌, ◌==◌, ◌&&◌, nat_lt, Bool, true, false, not, List, length, refl, sym, ap, ◌∙◌, inl, inr, arith}
+use Rattle.std.proofs.Common.{◌≡◌, ℕ, ◌+◌, ◌*◌, ◌/◌, ◌<◌, ◌≤◌, ◌==◌, ◌&&◌, nat_lt, Bool, true, false, not, List, length, refl, sym, ap, ◌∙◌, inl, inr, arith}
 use Rattle.std.specs.Prelude.{All, count_by, slice_index, sum}
 use Rattle.std.proofs.lemmas.Bool.{cases_lt, eqb-true, lt-ltb, le-ltb}
 use Rattle.std.proofs.lemmas.List.{get_or_past}
 use Rattle.std.proofs.lemmas.List.Elements.{All-filter}
-use Rattle.std.proofs.lemmas.Nat.{mod_below, div_below}
+use Rattle.std.proofs.lemmas.Nat.{mod_below, div_below, div-add-mod'}
 use Rattle.nr_bitvec.specs.Bit.{bit}
 use Rattle.nr_lifting.specs.Rings.{marked}
 use Rattle.nr_shifttable.specs.declared.entry.Entry.{Entry}
@@ -15,7 +15,6 @@ use Rattle.nr_ldpcenc.specs.Rows.{Checks, checks_of, row_at}
 use Rattle.nr_peel.specs.Lanes.{hits}
 use Rattle.nr_peel.proofs.ColumnFacts.{below_column, column_most, column_next, column_visits, from_column, hits_marks, hits_past, in_column, sums_fall}
 use Rattle.nr_peel.proofs.TableGridFacts.{table_grid}
-use Rattle.nr_peel.proofs.RowPlaceFacts.{row_number}
 use Rattle.nr_peel.proofs.RowPositionFacts.{count_alike, count_none}
 use Rattle.nr_peel.proofs.MarkedFacts.{marked_zero}
 use Rattle.std.proofs.lemmas.Bool.Decides.{nat_tests}
@@ -90,7 +89,7 @@ module _ (es : List Entry) (set z rows cols : ℕ) (some : 0 < z) where
         empty t below = marked_zero (λ t. bit pending (j * z + t)) z count t below
 
         here : (p : ℕ) → (p / z == j) ≡ true → bit pending p ≡ false
-        here p e = grind (arith, nat_tests, eqb-true, row_number, empty, mod_below)
+        here p e = grind (arith, nat_tests, eqb-true, div-add-mod', empty, mod_below)
 
         and_not : (a b : Bool) → (b ≡ true → a ≡ false) → (a && not b) ≡ a
         and_not false b k = refl

@@ -1,7 +1,7 @@
 -- Steps that are accepted in turn: where they lead, from a larger set, and one step more.
 use Rattle.std.proofs.lemmas.Bool.Decides.{nat_tests}
-use Rattle.std.proofs.Common.{arith}
-use Rattle.std.proofs.Common.{◌≡◌, ℕ, ◌<◌, ◌==◌, nat_lt, ◌||◌, ◌&&◌, Bool, true, false, cond, List, [], ◌∷◌, ◌++◌, length, take, refl, sym, ap, ◌∙◌, ⊎_elim, append_assoc, append-nil}
+use Rattle.std.proofs.Common.{arith, false}
+use Rattle.std.proofs.Common.{◌≡◌, ℕ, ◌<◌, ◌==◌, ◌||◌, Bool, true, false, cond, List, [], ◌∷◌, ◌++◌, length, take, refl, sym, ap, ◌∙◌, ⊎_elim, append_assoc, append-nil}
 use Rattle.std.proofs.Math.Seq.{take-append_seam}
 use Rattle.std.proofs.lemmas.Bool.{and_parts, and_from, or_cases, or_left, or_right, ltb-true, lt-ltb, eqb-true}
 use Rattle.nr_ldpcenc.specs.Rows.{Checks}
@@ -11,6 +11,7 @@ use Rattle.nr_peel.specs.CertificatesInside.{Extends}
 use Rattle.nr_peel.specs.declared.fix.Fix.{Fix}
 use Rattle.nr_peel.proofs.ClosureFacts.{closure_closed, closure_keeps}
 use Rattle.nr_peel.proofs.RowPositionFacts.{fixes_more}
+use Rattle.std.proofs.lemmas.List.Folds.{list_any-append}
 
 -- what an accepted step says
 pub record IsAcceptedStep (c : Checks) (S : ℕ → Bool) (s : Fix) : Type 0 where
@@ -72,18 +73,23 @@ after_accepted c S (s ∷ ss) p h =
     regroup true b d = refl
     regroup false b d = refl
 
--- one step more
-pub all_accepted-push : (c : Checks) (S : ℕ → Bool) (ss : List Fix) (s : Fix) → all_accepted c S ss ≡ true → accepts c (after_steps c S ss) s ≡ true → all_accepted c S (ss ++ s ∷ []) ≡ true
-all_accepted-push c S [] s h k = and_from (accepts c S s) true k refl
-all_accepted-push c S (x ∷ ss) s h k =
+-- steps after steps, and one step more
+pub accepted_after : (c : Checks) (S : ℕ → Bool) (ss ts : List Fix) → all_accepted c S ss ≡ true → all_accepted c (after_steps c S ss) ts ≡ true → all_accepted c S (ss ++ ts) ≡ true
+accepted_after c S [] ts h k = k
+accepted_after c S (x ∷ ss) ts h k =
     let parts = and_parts (accepts c S x) (all_accepted c (with_position S x.pos) ss) h in
     let same : cond (accepts c S x) (after_steps c (with_position S x.pos) ss) S ≡ after_steps c (with_position S x.pos) ss = ap (λ b. cond b (after_steps c (with_position S x.pos) ss) S) parts.0 in
-    and_from (accepts c S x) (all_accepted c (with_position S x.pos) (ss ++ s ∷ [])) parts.0
-    (all_accepted-push c (with_position S x.pos) ss s parts.1 (sym (ap (λ T. accepts c T s) same) ∙ k))
+    and_from (accepts c S x) (all_accepted c (with_position S x.pos) (ss ++ ts)) parts.0
+    (accepted_after c (with_position S x.pos) ss ts parts.1 (sym (ap (λ T. all_accepted c T ts) same) ∙ k))
+
+pub all_accepted-push : (c : Checks) (S : ℕ → Bool) (ss : List Fix) (s : Fix) → all_accepted c S ss ≡ true → accepts c (after_steps c S ss) s ≡ true → all_accepted c S (ss ++ s ∷ []) ≡ true
+all_accepted-push c S ss s h k = accepted_after c S ss (s ∷ []) h (and_from (accepts c (after_steps c S ss) s) true k refl)
 
 pub is_fixed_by-push : (ss : List Fix) (s : Fix) (p : ℕ) → is_fixed_by (ss ++ s ∷ []) p ≡ (is_fixed_by ss p || (s.pos == p))
-is_fixed_by-push [] s p = grind (arith, nat_tests)
-is_fixed_by-push (x ∷ ss) s p = grind (arith, nat_tests, is_fixed_by-push ss s p)
+is_fixed_by-push ss s p = list_any-append (λ (x : Fix). x.pos == p) ss (s ∷ []) ∙ ap (λ b. is_fixed_by ss p || b) (or_false (s.pos == p))
+  where
+    or_false : (b : Bool) → (b || false) ≡ b
+    or_false b = grind arith
 
 -- ---- steps that go on
 

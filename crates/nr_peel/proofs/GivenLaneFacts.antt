@@ -1,8 +1,8 @@
 -- Blocks of a list as lanes, and positions that are given column after column.
-use Rattle.std.proofs.Common.{◌≡◌, ℕ, zero, suc, ◌+◌, ◌*◌, ◌/◌, ◌%◌, ◌<◌, ◌==◌, ◌&&◌, ◌||◌, nat_lt, Bool, true, false, not, cond, List, length, refl, sym, ap, ◌∙◌, inl, inr, arith}
-use Rattle.std.proofs.lemmas.Bool.{cases_lt, eqb-true, lt-ltb, le-ltb, true≢false}
+use Rattle.std.proofs.Common.{◌≡◌, ℕ, zero, suc, ◌+◌, ◌*◌, ◌/◌, ◌%◌, ◌<◌, ◌==◌, ◌&&◌, ◌||◌, nat_lt, Bool, true, false, not, cond, List, length, refl, sym, ap, ◌∙◌, arith}
+use Rattle.std.proofs.lemmas.Bool.{cases_lt, eqb-true, lt-ltb, le-ltb}
 use Rattle.std.proofs.lemmas.List.{get_or_past}
-use Rattle.std.proofs.lemmas.Nat.{mod_below, div_below}
+use Rattle.std.proofs.lemmas.Nat.{mod_below, div_below, div-add-mod'}
 use Rattle.nr_bitvec.specs.Bit.{bit}
 use Rattle.nr_lifting.specs.Rings.{is_set, lane_marks}
 use Rattle.nr_ldpcenc.specs.Rows.{Checks}
@@ -11,7 +11,7 @@ use Rattle.nr_peel.specs.Hearing.{Hears, news}
 use Rattle.nr_peel.specs.Sweeps.{AreLanes}
 use Rattle.nr_peel.specs.declared.bit_parallel.lanes.Lanes.{Lanes}
 use Rattle.nr_peel.proofs.ColumnFacts.{below_column, in_column}
-use Rattle.nr_peel.proofs.RowPlaceFacts.{mod_low, row_number}
+use Rattle.nr_peel.proofs.RowPlaceFacts.{mod_low}
 use Rattle.std.proofs.lemmas.Bool.Decides.{nat_tests}
 
 -- a digit that is one where a test holds
@@ -56,7 +56,7 @@ module _ (z j : ℕ) (some : 0 < z) (old now : Lanes) (H V : ℕ → Bool) (h : 
 
   -- a position of the column, by its place there
   place_is : (p : ℕ) → (p / z == j) ≡ true → j * z + p % z ≡ p
-  place_is p e = ap (λ m. m * z + p % z) (sym (eqb-true (p / z) j e)) ∙ row_number p z
+  place_is p e = ap (λ m. m * z + p % z) (sym (eqb-true (p / z) j e)) ∙ div-add-mod' p z
 
   -- the lane of what is given and isn't known marks what is new in the column
   pub lane_new : (told lane : List ℕ) → ((t : ℕ) → t < z → is_set told t ≡ H (j * z + t))

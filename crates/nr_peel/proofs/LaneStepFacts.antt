@@ -2,7 +2,7 @@
 use Rattle.std.proofs.lemmas.Bool.Decides.{nat_tests}
 use Rattle.std.proofs.Common.{◌≡◌, ℕ, ◌+◌, ◌-◌, ◌*◌, ◌/◌, ◌%◌, ◌<◌, ◌≤◌, ◌==◌, ◌&&◌, ◌||◌, Bool, true, false, not, List, refl, sym, ap, ◌∙◌, ⊎_elim, arith}
 use Rattle.std.specs.Prelude.{count_by}
-use Rattle.std.proofs.lemmas.Bool.{and_parts, and_from, or_cases, eqb-true, eq-eqb, true≢false, false_from_ne_true, cases_eq, not-true, or_parts}
+use Rattle.std.proofs.lemmas.Bool.{and_parts, and_from, or_cases, eqb-true, eq-eqb, true≢false, false_from_ne_true, not-true}
 use Rattle.std.proofs.lemmas.Nat.{mod_below}
 use Rattle.nr_bitvec.specs.Bit.{bit}
 use Rattle.nr_lifting.specs.Rings.{is_set}
@@ -20,30 +20,23 @@ use Rattle.nr_peel.specs.declared.fix.Fix.{Fix}
 use Rattle.nr_peel.specs.declared.bit_parallel.lanes.Lanes.{Lanes}
 use Rattle.nr_peel.specs.declared.lifted.Lifted.{Lifted}
 use Rattle.nr_peel.proofs.ClosureFacts.{any_below_passes, passes_any_below, same_truth}
-use Rattle.nr_peel.proofs.NothingHeardFacts.{other_in}
 use Rattle.nr_peel.proofs.FixOrderFacts.{step_accepted}
 use Rattle.nr_peel.proofs.RowPlaceFacts.{place-eqb, place_fits}
-use Rattle.nr_peel.proofs.RowPositionFacts.{only_from_count}
+use Rattle.nr_peel.proofs.RowPositionFacts.{only_here}
 use Rattle.nr_peel.proofs.StepLaws.{steps_accepted, steps_fix}
 use Rattle.nr_peel.proofs.CodewordFacts.{only_fixes}
+use Rattle.nr_peel.proofs.GivenLaneFacts.{told_lanes}
 
 -- ---- bits
 
 kept_bit : (b x y s d : Bool) → d ≡ (b || (x && (y && s))) → (x && y) ≡ false → d ≡ b
 kept_bit b x y s d is out = grind arith
 
-still_within : (k f m k' f' : Bool) → k' ≡ (k || m) → f' ≡ (f || m) → (f ≡ true → k ≡ true) → f' ≡ true → k' ≡ true
-still_within k f m k' f' known pending within h = grind arith
+and_assoc : (x y s : Bool) → (x && (y && s)) ≡ ((x && y) && s)
+and_assoc x y s = grind arith
 
 known_then : (k o m k' : Bool) → k' ≡ (k || m) → ((o && not k) ≡ true → m ≡ true) → o ≡ true → k' ≡ true
 known_then k o m k' known marked set = grind arith
-
--- the only position of a row outside a set is that which stands there and is outside
-pub only_here : (K : ℕ → Bool) (row : List ℕ) (p : ℕ) → count_by (λ q. not (K q)) row ≡ 1 → stands p row ≡ true → K p ≡ false → IsOnlyMissing K row p
-only_here K row p one there out =
-    let r = only_from_count K row one in
-    let same : p ≡ r.pos = ⊎_elim (λ e. e) (λ ne. absurd (true≢false (sym (other_in K row r.pos p r.only.others there ne) ∙ out))) (cases_eq p r.pos) in
-    rw same r.only
 
 -- ---- the positions that rows mark
 
@@ -124,13 +117,10 @@ module _ (l : Lifted) (i : ℕ) (e : Entry) (ones sums : List ℕ) (K : ℕ → 
       let out : marks_of z e.col v u p ≡ false = false_from_ne_true (marks_of z e.col v u p) (λ h. true≢false (sym known ∙ missing_of some p h)) in
       kept_bit (bit a.bits.items p) (p / z == e.col) (u (unrotate z v (p % z))) (is_set sums (unrotate z v (p % z))) (bit d.bits.items p) (took.bits p) out
 
-  blank_still : (p : ℕ) → bit d.known.items p ≡ false → bit d.bits.items p ≡ false
-  blank_still p h =
-      let parts = or_parts (bit a.known.items p) (marks_of z e.col v u p) (sym (took.known p) ∙ h) in
-      kept_bit (bit a.bits.items p) (p / z == e.col) (u (unrotate z v (p % z))) (is_set sums (unrotate z v (p % z))) (bit d.bits.items p) (took.bits p) parts.1 ∙ lanes.blank p parts.0
-
-  pending_within : Within (bit d.pending.items) (bit d.known.items)
-  pending_within p = still_within (bit a.known.items p) (bit a.pending.items p) (marks_of z e.col v u p) (bit d.known.items p) (bit d.pending.items p) (took.known p) (took.pending p) (lanes.within p)
+  lanes_still : AreLanes c d
+  lanes_still = told_lanes c (marks_of z e.col v u) (λ p. is_set sums (unrotate z v (p % z))) a d lanes took.known took.pending
+      (λ p. took.bits p ∙ ap (λ b. bit a.bits.items p || b) (and_assoc (p / z == e.col) (u (unrotate z v (p % z))) (is_set sums (unrotate z v (p % z)))))
+      (record { known_long = took.known_long; bits_long = took.bits_long; pending_long = took.pending_long; known_lanes = took.known_lanes; bits_lanes = took.bits_lanes; pending_lanes = took.pending_lanes })
 
   module _ (some : 0 < z) (block : i < c.rows) (row_is : e.row ≡ i) (column : (e.col + 1) * z ≤ c.size) (within : Within K (bit a.known.items))
       (there : (t : ℕ) → t < z → stands (at t) (c.row i t) ≡ true) (one : (t : ℕ) → t < z → is_set ones t ≡ true → count_by (λ p. not (K p)) (c.row i t) ≡ 1) where
@@ -170,16 +160,7 @@ module _ (l : Lifted) (i : ℕ) (e : Entry) (ones sums : List ℕ) (K : ℕ → 
             (λ k. has p k ∙ sym (bits_kept some p k))
             (λ m. new_bit right p m w meets has)
             (or_cases (bit a.known.items p) (marks_of z e.col v u p) (sym (took.known p) ∙ h));
-        lanes = record {
-          known_long = took.known_long ∙ lanes.known_long;
-          bits_long = took.bits_long ∙ lanes.bits_long;
-          pending_long = took.pending_long ∙ lanes.pending_long;
-          known_lanes = took.known_lanes ∙ lanes.known_lanes;
-          bits_lanes = took.bits_lanes ∙ lanes.bits_lanes;
-          pending_lanes = took.pending_lanes ∙ lanes.pending_lanes;
-          blank = blank_still;
-          within = pending_within;
-        };
+        lanes = lanes_still;
         capacity = took.capacity;
       },
       refl,

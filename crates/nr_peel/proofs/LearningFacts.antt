@@ -1,9 +1,8 @@
 -- Positions that are given where what is known is in order, and what a peeler then is.
-use Rattle.std.proofs.Common.{◌≡◌, ◌≢◌, ℕ, ◌*◌, ◌<◌, ◌≤◌, ◌||◌, Bool, true, false, length, refl, sym, ap, ◌∙◌, arith, []}
-use Rattle.std.specs.Prelude.{slice_index, vec_capacity}
+use Rattle.std.proofs.Common.{◌≡◌, ◌≢◌, ℕ, ◌<◌, ◌≤◌, ◌||◌, Bool, true, false, length, refl, sym, ap, ◌∙◌, arith, []}
+use Rattle.std.specs.Prelude.{slice_index}
 use Rattle.std.proofs.lemmas.Bool.{or_left, or_right, true≢false}
 use Rattle.nr_bitvec.specs.Bit.{bit}
-use Rattle.nr_lifting.specs.Rings.{marked}
 use Rattle.nr_segment.specs.CodeBlock.{numbers}
 use Rattle.nr_shifttable.specs.Accepted.{IsTable}
 use Rattle.nr_ldpcenc.specs.Rows.{Checks}
@@ -14,7 +13,7 @@ use Rattle.nr_peel.specs.Peeling.{HasBits, fillers, left_of}
 use Rattle.nr_peel.specs.Settled.{HasNonePending, IsHeld, Keeps, Reaches}
 use Rattle.nr_peel.specs.Starts.{IsBlankSweep}
 use Rattle.nr_peel.specs.StateInside.{lifted_checks}
-use Rattle.nr_peel.specs.Sweeps.{AreLanes, counted_in, has_count}
+use Rattle.nr_peel.specs.Sweeps.{AreLanes, counted_in}
 use Rattle.nr_peel.specs.declared.bit_parallel.lanes.Lanes.{Lanes}
 use Rattle.nr_peel.specs.declared.bit_parallel.sweep_peeler.SweepPeeler.{SweepPeeler}
 use Rattle.nr_peel.specs.declared.lifted.Lifted.{Lifted}

@@ -5,7 +5,6 @@ mod CodewordFacts
 mod FixOrderFacts
 mod TableGridFacts
 mod NothingHeardFacts
-mod SetIndexFacts
 mod RowPlaceFacts
 mod StepFacts
 mod LaneSumFacts

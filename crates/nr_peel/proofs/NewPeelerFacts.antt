@@ -13,7 +13,7 @@ use Rattle.nr_peel.proofs.ClosureFacts.{closure_monotone}
 use Rattle.nr_peel.proofs.FillerFacts.{fillers_within}
 use Rattle.nr_peel.proofs.LeftPositionFacts.{all_left}
 use Rattle.nr_peel.proofs.NothingHeardFacts.{nothing_fixed}
-use Rattle.nr_peel.proofs.SetIndexFacts.{sound_set}
+use Rattle.nr_ldpcenc.proofs.CodewordFacts.{set_below}
 
 -- a base graph of a table has an entry
 some_entry : (t : Entries) (g : Graph) → has_graph g t ≡ true → 0 < length (entries_in g t)
@@ -27,7 +27,7 @@ pending_left s b table has plan given peeled fits = all_left s.numbers.kdash s.k
     start q h = fillers_within (checks_for s) s.numbers q (ap (λ l. bit l q) (sym given) ∙ h)
 
     fixed_none : (p : ℕ) → p < s.numbers.kdash → closure (checks_for s) (filler s.numbers.kdash s.numbers.k) p ≡ false
-    fixed_none p lt = nothing_fixed accepted-has_shape s.table s.graph b s.numbers p table (some_entry s.table s.graph has) plan (sound_set s.graph b s.numbers plan) lt
+    fixed_none p lt = nothing_fixed accepted-has_shape s.table s.graph b s.numbers p table (some_entry s.table s.graph has) plan (set_below s.numbers.z s.numbers.set plan.set_is) lt
 
     out : (p : ℕ) → p < s.numbers.kdash → bit s.known p ≡ false
     out p lt = false_from_ne_true (bit s.known p) (λ h. true≢false (sym (closure_monotone (checks_for s) (bit s.given) (filler s.numbers.kdash s.numbers.k) start p (sym (peeled.closed p) ∙ h)) ∙ fixed_none p lt))

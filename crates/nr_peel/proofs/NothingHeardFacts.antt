@@ -1,12 +1,10 @@
 -- With nothing received no position below K' is fixed. The fillers, with the extension positions whose row has fillers
 -- alone beside them, are a closed set.
-use Rattle.std.proofs.lemmas.Bool.Decides.{nat_tests}
-use Rattle.std.proofs.Common.{◌≡◌, ◌≢◌, ℕ, ◌+◌, ◌*◌, ◌%◌, ◌<◌, ◌≤◌, ◌==◌, nat_le, nat_lt, ◌||◌, ◌&&◌, Bool, true, false, cond, List, [], ◌∷◌, length, map, refl, sym, ap, ◌∙◌, suc, zero, ⊎_elim, inl, inr, arith}
-use Rattle.std.specs.Prelude.{◌⊎◌}
+use Rattle.std.proofs.Common.{◌≡◌, ◌≢◌, ℕ, ◌+◌, ◌*◌, ◌%◌, ◌<◌, ◌≤◌, ◌==◌, nat_le, nat_lt, ◌||◌, ◌&&◌, Bool, true, false, cond, List, [], ◌∷◌, length, map, refl, sym, ap, ◌∙◌, ⊎_elim, arith, ◌/◌, ◌-◌}
 use Rattle.std.specs.List.{list_all, filter}
-use Rattle.std.proofs.lemmas.Bool.{and_parts, and_from, or_cases, or_left, or_right, eqb-true, eq-eqb, leb-true, le-leb, false≢true, true≢false, cases_eq, cases_lt, false_from_ne_true}
-use Rattle.std.proofs.lemmas.Nat.{mod_below, same_from_place}
-use Rattle.std.proofs.Math.Nat.{mul-le-mul_right, mod-eq_of_lt, zero-mod}
+use Rattle.std.proofs.lemmas.Bool.{and_left, and_parts, and_from, and_right, or_cases, or_left, or_right, eqb-true, eq-eqb, leb-false, le-leb, le-ltb, lt-leb, ne_eqb, false≢true, true≢false, cases_eq, cases_lt, false_from_ne_true}
+use Rattle.std.proofs.lemmas.Nat.{div-mul-add, mod-mul-add, mod_below}
+use Rattle.std.proofs.Math.Nat.{mul-le-mul_right, zero-mod}
 use Rattle.nr_graphpick.specs.declared.Graph.{Graph}
 use Rattle.nr_graphpick.specs.Graph.{rows_of, info_cols_of}
 use Rattle.nr_segment.specs.Plan.{Numbers, IsSound}
@@ -15,20 +13,12 @@ use Rattle.nr_shifttable.specs.Accepted.{Entries, IsTable, entries_in, row_of, t
 use Rattle.nr_shifttable.specs.Tails.{AcceptedHasShape, HasShape, HasCore, tail_of, value_in}
 use Rattle.nr_ldpcenc.specs.Rows.{Checks, block_checks, one_at, row_at}
 use Rattle.nr_ldpcenc.specs.Codeword.{filler}
-use Rattle.nr_peel.specs.Closure.{Within, any_below, closure, fixes, stands}
+use Rattle.nr_peel.specs.Closure.{Within, closure, fixes, stands}
 use Rattle.nr_peel.specs.ClosureInside.{IsClosed}
-use Rattle.nr_peel.proofs.ClosureFacts.{any_below_passes, passes_any_below, closure_least}
+use Rattle.nr_peel.proofs.ClosureFacts.{closure_least}
+use Rattle.nr_peel.proofs.RowPositionFacts.{all_more, or_more, other_in}
+use Rattle.nr_peel.proofs.RowPlaceFacts.{mod_low}
 use Rattle.nr_peel.proofs.TableGridFacts.{place_below}
-
--- every other position of a row that fixes one is in the set
-pub other_in : (T : ℕ → Bool) (row : List ℕ) (p q : ℕ) → list_all (λ r. (r == p) || T r) row ≡ true → stands q row ≡ true → q ≢ p → T q ≡ true
-other_in T [] p q all h ne = absurd (false≢true h)
-other_in T (x ∷ row) p q all h ne =
-    let parts = and_parts ((x == p) || T x) (list_all (λ r. (r == p) || T r) row) all in
-    ⊎_elim
-    (λ e. let at : x ≡ q = eqb-true x q e in ⊎_elim (λ f. absurd (ne (sym at ∙ eqb-true x p f))) (λ s. ap T (sym at) ∙ s) (or_cases (x == p) (T x) parts.0))
-    (λ e. other_in T row p q parts.1 e ne)
-    (or_cases (x == q) (stands q row) h)
 
 -- the places of a row's tail
 abbrev places_of : ℕ → ℕ → List (ℕ × ℕ) → List ℕ
@@ -40,104 +30,47 @@ pairs set es = map (λ e. (e.col, value_in set e)) es
 abbrev all_places : ℕ → ℕ → ℕ → List Entry → List ℕ
 all_places set z t es = map (λ e. one_at z t e.col (value_in set e)) es
 
-tail_stands : (set z t from p : ℕ) (es : List Entry) → stands p (places_of z t (pairs set (filter (λ e. nat_le from e.col) es))) ≡ true → stands p (all_places set z t es) ≡ true
-tail_stands set z t from p [] h = h
-tail_stands set z t from p (e ∷ es) h = grind (arith, nat_tests, tail_stands set z t from p es, or_right, or_left, or_cases)
-
-stands_tail : (set z t from p : ℕ) → 0 < z → (es : List Entry) → stands p (all_places set z t es) ≡ true → (p < from * z) ⊎ (stands p (places_of z t (pairs set (filter (λ e. nat_le from e.col) es))) ≡ true)
-stands_tail set z t from p pos [] h = absurd (false≢true h)
-stands_tail set z t from p pos (e ∷ es) h = go (nat_le from e.col) refl (or_cases at (stands p (all_places set z t es)) h) (stands_tail set z t from p pos es)
+-- a position from some column on stands in a row where it stands in the row's tail
+tail_same : (set z t from p : ℕ) → 0 < z → from * z ≤ p → (es : List Entry) → stands p (places_of z t (pairs set (filter (λ e. nat_le from e.col) es))) ≡ stands p (all_places set z t es)
+tail_same set z t from p pos past [] = refl
+tail_same set z t from p pos past (e ∷ es) = go (nat_le from e.col) refl (tail_same set z t from p pos past es)
   where
-    at : Bool
-    at = one_at z t e.col (value_in set e) == p
-
     rest : List Entry
     rest = filter (λ e. nat_le from e.col) es
 
-    go : (b : Bool) → nat_le from e.col ≡ b → (at ≡ true) ⊎ (stands p (all_places set z t es) ≡ true)
-        → (stands p (all_places set z t es) ≡ true → (p < from * z) ⊎ (stands p (places_of z t (pairs set rest)) ≡ true))
-        → (p < from * z) ⊎ (stands p (places_of z t (pairs set (cond b (e ∷ rest) rest))) ≡ true)
-    go false f (inl a) ih =
-        let low : e.col < from = leb_low from e.col f in
-        let below = place_below z t e.col (value_in set e) from pos low in
-        inl (omega (arith, eqb-true (one_at z t e.col (value_in set e)) p a, below))
-      where
-        leb_low : (a b : ℕ) → nat_le a b ≡ false → b < a
-        leb_low a b h = ⊎_elim (λ l. l) (λ (le : a ≤ b). absurd (true≢false (sym (le-leb a b le) ∙ h))) (cases_lt b a)
-    go false f (inr r) ih = ih r
-    go true f (inl a) ih = inr (or_left at (stands p (places_of z t (pairs set rest))) a)
-    go true f (inr r) ih = ⊎_elim (λ l. inl l) (λ s. inr (or_right at (stands p (places_of z t (pairs set rest))) s)) (ih r)
+    go : (b : Bool) → nat_le from e.col ≡ b → stands p (places_of z t (pairs set rest)) ≡ stands p (all_places set z t es)
+        → stands p (places_of z t (pairs set (cond b (e ∷ rest) rest))) ≡ ((one_at z t e.col (value_in set e) == p) || stands p (all_places set z t es))
+    go true f ih = ap (λ b. (one_at z t e.col (value_in set e) == p) || b) ih
+    go false f ih =
+        let below = place_below z t e.col (value_in set e) from pos (leb-false from e.col f) in
+        ih ∙ sym (ap (λ b. b || stands p (all_places set z t es)) (ne_eqb (one_at z t e.col (value_in set e)) p (λ same. absurd (omega (arith, same, below, past)))))
 
-module _ (es : List Entry) (set z n rows kdash : ℕ) where
+module _ (es : List Entry) (set z n rows kdash : ℕ) (pos : 0 < z) where
   abbrev fill : ℕ → Bool
   fill = filler kdash (n * z)
 
-  -- row t of row of blocks i, which has its own column, has fillers alone beside it
-  abbrev owns : ℕ → ℕ → ℕ → Bool
-  owns q i t = nat_le 4 i && (((n + i) * z + t == q) && list_all (λ r. (r == q) || fill r) (row_at es set z i t))
+  -- the row that has a position of an extension column as its own has fillers alone beside it
+  abbrev lone : ℕ → Bool
+  lone q = list_all (λ r. (r == q) || fill r) (row_at es set z (q / z - n) (q % z))
 
   abbrev reach : ℕ → Bool
-  reach q = fill q || any_below (λ i. any_below (λ t. owns q i t) z) rows
+  reach q = fill q || (nat_le ((n + 4) * z) q && lone q)
 
-  fill_below : (p : ℕ) → fill p ≡ true → p < n * z
-  fill_below p h = grind (arith, nat_tests, and_parts, leb-true)
+  -- a position that is reached before the extension columns is a filler, and so not in the first parity columns
+  low_fill : (q : ℕ) → q < (n + 4) * z → reach q ≡ true → fill q ≡ true
+  low_fill q low h = let early = lt-leb ((n + 4) * z) q low in grind arith
 
-  fill_from : (p : ℕ) → fill p ≡ true → kdash ≤ p
-  fill_from p h = leb-true kdash p (and_parts (nat_le kdash p) (nat_lt p (n * z)) h).0
-
-  not_fill : (p : ℕ) → n * z ≤ p → fill p ≡ false
-  not_fill p le = false_from_ne_true (fill p) (λ h. absurd (omega (arith, fill_below p h)))
-
-  -- what reaches a position that is no filler
-  pub record Reaches (q : ℕ) : Type 0 where
-    pub row : ℕ
-    pub lane : ℕ
-    pub late : 4 ≤ row
-    pub row_below : row < rows
-    pub lane_below : lane < z
-    pub own : (n + row) * z + lane ≡ q
-    pub others : list_all (λ r. (r == q) || fill r) (row_at es set z row lane) ≡ true
-
-  reached_by : (q : ℕ) → reach q ≡ true → (fill q ≡ true) ⊎ Reaches q
-  reached_by q h = ⊎_elim (λ f. inl f) (λ a. inr (there a)) (or_cases (fill q) (any_below (λ i. any_below (λ t. owns q i t) z) rows) h)
-    where
-      there : any_below (λ i. any_below (λ t. owns q i t) z) rows ≡ true → Reaches q
-      there a =
-          let r = any_below_passes (λ i. any_below (λ t. owns q i t) z) rows a in
-          let s = any_below_passes (λ t. owns q r.number t) z r.passes in
-          let one = and_parts (nat_le 4 r.number) (((n + r.number) * z + s.number == q) && list_all (λ u. (u == q) || fill u) (row_at es set z r.number s.number)) s.passes in
-          let two = and_parts ((n + r.number) * z + s.number == q) (list_all (λ u. (u == q) || fill u) (row_at es set z r.number s.number)) one.1 in
-          record { row = r.number; lane = s.number; late = leb-true 4 r.number one.0; row_below = r.below; lane_below = s.below; own = eqb-true ((n + r.number) * z + s.number) q two.0; others = two.1 }
-
-  reach_fill : (p : ℕ) → fill p ≡ true → reach p ≡ true
-  reach_fill p h = or_left (fill p) (any_below (λ i. any_below (λ t. owns p i t) z) rows) h
-
-  reach_own : (i t : ℕ) → 4 ≤ i → i < rows → t < z → list_all (λ r. (r == (n + i) * z + t) || fill r) (row_at es set z i t) ≡ true → reach ((n + i) * z + t) ≡ true
-  reach_own i t late li lt all =
-      let q = (n + i) * z + t in
-      or_right (fill q) (any_below (λ i. any_below (λ t. owns q i t) z) rows)
-      (passes_any_below (λ i. any_below (λ t. owns q i t) z) rows i li (passes_any_below (λ t. owns q i t) z t lt
-      (and_from (nat_le 4 i) ((q == q) && list_all (λ r. (r == q) || fill r) (row_at es set z i t)) (le-leb 4 i late)
-      (and_from (q == q) (list_all (λ r. (r == q) || fill r) (row_at es set z i t)) (eq-eqb q q refl) all))))
-
-  -- no position of the first parity columns is reached
   core_out : (q : ℕ) → n * z ≤ q → q < (n + 4) * z → reach q ≡ true → ⊥
-  core_out q low high h = grind (arith, fill_below, reached_by, mul-le-mul_right)
-
-  place_zero : (t j : ℕ) → t < z → one_at z t j 0 ≡ j * z + t
-  place_zero t j lt = grind (arith, nat_tests, zero-mod, mod-eq_of_lt)
+  core_out q low high h = true≢false (sym (low_fill q high h) ∙ and_right (nat_le kdash q) (nat_lt q (n * z)) (le-ltb q (n * z) low))
 
   -- a row with two parity positions in the first four parity columns fixes nothing
-  two_out : 0 < z → (i t p : ℕ) → t < z → (x y : ℕ × ℕ) (xs : List (ℕ × ℕ)) → tail_of es set n i ≡ x ∷ y ∷ xs → n ≤ x.0 → x.0 < y.0 → y.0 < n + 4
-      → fixes reach (row_at es set z i t) p ≡ true → ⊥
-  two_out pos i t p lt x y xs shape low apart high f =
+  two_out : (i t p : ℕ) → t < z → (x y : ℕ × ℕ) (xs : List (ℕ × ℕ)) → tail_of es set n i ≡ x ∷ y ∷ xs → n ≤ x.0 → x.0 < y.0 → y.0 < n + 4 → fixes reach (row_at es set z i t) p ≡ true → ⊥
+  two_out i t p lt x y xs shape low apart high f =
       let row = row_at es set z i t in
       let all = (and_parts (stands p row) (list_all (λ r. (r == p) || reach r) row) f).1 in
       let a = one_at z t x.0 x.1 in
       let b = one_at z t y.0 y.1 in
       let tails : places_of z t (pairs set (filter (λ e. nat_le n e.col) (row_of es i))) ≡ a ∷ b ∷ places_of z t xs = ap (places_of z t) shape in
-      let in_a : stands a row ≡ true = tail_stands set z t n a (row_of es i) (ap (stands a) tails ∙ or_left (a == a) (stands a (b ∷ places_of z t xs)) (eq-eqb a a refl)) in
-      let in_b : stands b row ≡ true = tail_stands set z t n b (row_of es i) (ap (stands b) tails ∙ or_right (a == b) (stands b (b ∷ places_of z t xs)) (or_left (b == b) (stands b (places_of z t xs)) (eq-eqb b b refl))) in
       let a_near = mod_below (t + x.1 % z) z pos in
       let b_near = mod_below (t + y.1 % z) z pos in
       let step : (x.0 + 1) * z ≤ y.0 * z = mul-le-mul_right z (omega arith) in
@@ -146,14 +79,17 @@ module _ (es : List Entry) (set z n rows kdash : ℕ) where
       let a_low : n * z ≤ a = omega arith in
       let a_lt_b : a < b = omega arith in
       let b_high : b < (n + 4) * z = omega arith in
+      let in_row = λ (q : ℕ) (past : n * z ≤ q) (s : stands q (a ∷ b ∷ places_of z t xs) ≡ true). sym (tail_same set z t n q pos past (row_of es i)) ∙ ap (stands q) tails ∙ s in
+      let in_a : stands a row ≡ true = in_row a a_low (or_left (a == a) (stands a (b ∷ places_of z t xs)) (eq-eqb a a refl)) in
+      let in_b : stands b row ≡ true = in_row b (omega arith) (or_right (a == b) (stands b (b ∷ places_of z t xs)) (or_left (b == b) (stands b (places_of z t xs)) (eq-eqb b b refl))) in
       ⊎_elim
       (λ (e : a ≡ p). core_out b (omega arith) b_high (other_in reach row p b all in_b (λ g. absurd (omega arith))))
       (λ (ne : a ≢ p). core_out a a_low (omega arith) (other_in reach row p a all in_a ne))
       (cases_eq a p)
 
   -- a row with its own column
-  own_row : 0 < z → (i t p : ℕ) → t < z → 4 ≤ i → i < rows → tail_of es set (n + 4) i ≡ (n + i, 0) ∷ [] → fixes reach (row_at es set z i t) p ≡ true → reach p ≡ true
-  own_row pos i t p lt late li shape f = ⊎_elim own other (cases_eq p x)
+  own_row : (i t p : ℕ) → t < z → 4 ≤ i → tail_of es set (n + 4) i ≡ (n + i, 0) ∷ [] → fixes reach (row_at es set z i t) p ≡ true → reach p ≡ true
+  own_row i t p lt late shape f = ⊎_elim own other (cases_eq p x)
     where
       row : List ℕ
       row = row_at es set z i t
@@ -161,81 +97,81 @@ module _ (es : List Entry) (set z n rows kdash : ℕ) where
       x : ℕ
       x = (n + i) * z + t
 
+      far : (n + 4) * z ≤ x
+      far = let more : (n + 4) * z ≤ (n + i) * z = mul-le-mul_right z (omega (arith, late)) in omega (arith, more)
+
       parts : (stands p row ≡ true) × (list_all (λ r. (r == p) || reach r) row ≡ true)
       parts = and_parts (stands p row) (list_all (λ r. (r == p) || reach r) row) f
 
+      -- of the positions from the extension columns on it has its own alone
       tails : places_of z t (pairs set (filter (λ e. nat_le (n + 4) e.col) (row_of es i))) ≡ x ∷ []
-      tails = ap (places_of z t) shape ∙ ap (λ q. q ∷ []) (place_zero t (n + i) lt)
+      tails = ap (places_of z t) shape ∙ ap (λ m. ((n + i) * z + m) ∷ []) (ap (λ m. (t + m) % z) (zero-mod z) ∙ mod_low (t + 0) z (omega (arith, lt)) ∙ omega arith)
 
-      in_x : stands x row ≡ true
-      in_x = tail_stands set z t (n + 4) x (row_of es i) (ap (stands x) tails ∙ or_left (x == x) false (eq-eqb x x refl))
+      there : (q : ℕ) → (n + 4) * z ≤ q → stands q (x ∷ []) ≡ stands q row
+      there q past = sym (ap (stands q) tails) ∙ tail_same set z t (n + 4) q pos past (row_of es i)
 
-      -- a position of the row that isn't its own is before the own columns
-      low : (q : ℕ) → stands q row ≡ true → q ≢ x → q < (n + 4) * z
-      low q h ne = ⊎_elim (λ l. l) (λ s. ⊎_elim (λ e. absurd (ne (sym (eqb-true x q e)))) (λ e. absurd (false≢true e)) (or_cases (x == q) false (sym (ap (stands q) tails) ∙ s)))
-          (stands_tail set z t (n + 4) q pos (row_of es i) h)
+      lone_is : lone x ≡ list_all (λ r. (r == x) || fill r) row
+      lone_is =
+          let block : x / z - n ≡ i = omega (arith, div-mul-add (n + i) z t lt) in
+          ap (λ k. list_all (λ r. (r == x) || fill r) (row_at es set z k (x % z))) block ∙ ap (λ k. list_all (λ r. (r == x) || fill r) (row_at es set z i k)) (mod-mul-add (n + i) z t lt)
 
-      -- such a position that is reached is a filler
-      low_fill : (q : ℕ) → q < (n + 4) * z → reach q ≡ true → fill q ≡ true
-      low_fill q l h = grind (arith, reached_by, mul-le-mul_right)
+      filled : (r : ℕ) → stands r row ≡ true → ((r == x) || reach r) ≡ true → ((r == x) || fill r) ≡ true
+      filled r s h = ⊎_elim
+          (λ low. or_more (r == x) (reach r) (fill r) (low_fill r low) h)
+          (λ past. or_left (r == x) (fill r) (⊎_elim (λ e. eq-eqb r x (sym (eqb-true x r e))) (λ e. absurd (false≢true e)) (or_cases (x == r) false (there r past ∙ s))))
+          (cases_lt r ((n + 4) * z))
 
       own : p ≡ x → reach p ≡ true
-      own e = ap reach e ∙ reach_own i t late li lt (all row (λ q h. h) (ap (λ q. list_all (λ r. (r == q) || reach r) row) (sym e) ∙ parts.1))
-        where
-          all : (ps : List ℕ) → ((q : ℕ) → stands q ps ≡ true → stands q row ≡ true) → list_all (λ r. (r == x) || reach r) ps ≡ true → list_all (λ r. (r == x) || fill r) ps ≡ true
-          all [] sub h = refl
-          all (q ∷ ps) sub h =
-              let both = and_parts ((q == x) || reach q) (list_all (λ r. (r == x) || reach r) ps) h in
-              and_from ((q == x) || fill q) (list_all (λ r. (r == x) || fill r) ps)
-              (⊎_elim (λ g. or_left (q == x) (fill q) (eq-eqb q x g))
-              (λ (ne : q ≢ x). or_right (q == x) (fill q) (low_fill q (low q (sub q (or_left (q == q) (stands q ps) (eq-eqb q q refl))) ne)
-              (⊎_elim (λ g. absurd (ne (eqb-true q x g))) (λ s. s) (or_cases (q == x) (reach q) both.0))))
-              (cases_eq q x))
-              (all ps (λ r g. sub r (or_right (q == r) (stands r ps) g)) both.1)
+      own e = ap reach e ∙ or_right (fill x) (nat_le ((n + 4) * z) x && lone x) (and_from (nat_le ((n + 4) * z) x) (lone x) (le-leb ((n + 4) * z) x far)
+          (lone_is ∙ all_more (λ r. (r == x) || reach r) (λ r. (r == x) || fill r) row filled (ap (λ q. list_all (λ r. (r == q) || reach r) row) (sym e) ∙ parts.1)))
 
       other : p ≢ x → reach p ≡ true
-      other ne = reach_fill p (⊎_elim (λ g. absurd (omega (arith, fill_below x g, far))) there (reached_by x (other_in reach row p x parts.1 in_x (λ e. ne (sym e)))))
-        where
-          far : n * z ≤ (n + i) * z
-          far = mul-le-mul_right z (omega arith)
+      other ne =
+          let in_x : stands x row ≡ true = sym (there x far) ∙ or_left (x == x) false (eq-eqb x x refl) in
+          let met = other_in reach row p x parts.1 in_x (λ e. ne (sym e)) in
+          let no_fill : fill x ≡ false = and_right (nat_le kdash x) (nat_lt x (n * z)) (le-ltb x (n * z) (omega (arith, far))) in
+          let alone : lone x ≡ true = grind arith in
+          or_left (fill p) (nat_le ((n + 4) * z) p && lone p) (other_in fill row x p (sym lone_is ∙ alone) parts.0 ne)
 
-          there : Reaches x → fill p ≡ true
-          there r =
-              let same = same_from_place (n + r.row) r.lane (n + i) t z r.lane_below lt r.own in
-              let row_is : r.row ≡ i = omega (arith, same.0) in
-              let all : list_all (λ q. (q == x) || fill q) (row_at es set z i t) ≡ true = here r.row r.lane row_is same.1 r.others in
-              other_in fill row x p all parts.0 ne
-            where
-              here : (a b : ℕ) → a ≡ i → b ≡ t → list_all (λ q. (q == x) || fill q) (row_at es set z a b) ≡ true → list_all (λ q. (q == x) || fill q) (row_at es set z i t) ≡ true
-              here a b e g h = ap (λ b. list_all (λ q. (q == x) || fill q) (row_at es set z i b)) (sym g) ∙ ap (λ a. list_all (λ q. (q == x) || fill q) (row_at es set z a b)) (sym e) ∙ h
-
-  reach_closed : 0 < z → (c : Checks) → c.rows ≡ rows → c.lanes ≡ z → ((i t : ℕ) → c.row i t ≡ row_at es set z i t) → HasShape es set n rows → IsClosed c reach
-  reach_closed pos c rows_are lanes_are row_is shape i t p li lt f = ⊎_elim early late (cases_lt i 4)
+  reach_closed : (c : Checks) → c.rows ≡ rows → c.lanes ≡ z → ((i t : ℕ) → c.row i t ≡ row_at es set z i t) → HasShape es set n rows → IsClosed c reach
+  reach_closed c rows_are lanes_are row_is shape i t p li lt f = ⊎_elim early late (cases_lt i 4)
     where
-      f' : fixes reach (row_at es set z i t) p ≡ true
-      f' = ap (λ r. fixes reach r p) (sym (row_is i t)) ∙ f
-
-      t_below : t < z
-      t_below = omega (arith, lanes_are)
-
       core : HasCore es set n shape.first shape.middle shape.last
       core = shape.core
 
       at : (k : ℕ) → i ≡ k → fixes reach (row_at es set z k t) p ≡ true
-      at k e = ap (λ i. fixes reach (row_at es set z i t) p) (sym e) ∙ f'
+      at k e = ap (λ i. fixes reach (row_at es set z i t) p) (sym e) ∙ ap (λ r. fixes reach r p) (sym (row_is i t)) ∙ f
 
-      two : (k : ℕ) (x y : ℕ × ℕ) (xs : List (ℕ × ℕ)) → i ≡ k → tail_of es set n k ≡ x ∷ y ∷ xs → n ≤ x.0 → x.0 < y.0 → y.0 < n + 4 → reach p ≡ true
-      two k x y xs e tail low apart high = absurd (two_out pos k t p t_below x y xs tail low apart high (at k e))
+      two : (k : ℕ) (x y : ℕ × ℕ) (xs : List (ℕ × ℕ)) → tail_of es set n k ≡ x ∷ y ∷ xs → n ≤ x.0 → x.0 < y.0 → y.0 < n + 4 → i ≡ k → reach p ≡ true
+      two k x y xs tail low apart high e = absurd (two_out k t p (omega (arith, lanes_are)) x y xs tail low apart high (at k e))
+
+      one : i ≡ 1 → reach p ≡ true
+      one = ⊎_elim
+          (λ m. two 1 (n, shape.middle) (n + 1, 0) ((n + 2, 0) ∷ []) m.0 (omega arith) (omega arith) (omega arith))
+          (λ m. two 1 (n + 1, 0) (n + 2, 0) [] m.0 (omega arith) (omega arith) (omega arith))
+          core.middle
+
+      second : i ≡ 2 → reach p ≡ true
+      second = ⊎_elim
+          (λ m. two 2 (n + 2, 0) (n + 3, 0) [] m.1 (omega arith) (omega arith) (omega arith))
+          (λ m. two 2 (n, shape.middle) (n + 2, 0) ((n + 3, 0) ∷ []) m.1 (omega arith) (omega arith) (omega arith))
+          core.middle
+
+      first : i ≡ 0 → reach p ≡ true
+      first = two 0 (n, shape.first) (n + 1, 0) [] core.first (omega arith) (omega arith) (omega arith)
+
+      third : i ≡ 3 → reach p ≡ true
+      third = two 3 (n, shape.last) (n + 3, 0) [] core.last (omega arith) (omega arith) (omega arith)
 
       early : i < 4 → reach p ≡ true
-      early l = grind (arith, two, core)
+      early l = grind (arith, first, one, second, third)
 
       late : 4 ≤ i → reach p ≡ true
-      late le = own_row pos i t p t_below le (omega (arith, rows_are)) (shape.extension i le (omega (arith, rows_are))) f'
+      late le = own_row i t p (omega (arith, lanes_are)) le (shape.extension i le (omega (arith, rows_are))) (at i refl)
 
   -- a position before the fillers is not reached
   low_out : kdash ≤ n * z → (p : ℕ) → p < kdash → reach p ≡ true → ⊥
-  low_out held p low h = grind (arith, fill_from, reached_by, mul-le-mul_right)
+  low_out held p low h = true≢false (sym (low_fill p (omega (arith, held, low)) h) ∙ and_left (nat_le kdash p) (nat_lt p (n * z)) (lt-leb kdash p low))
 
 pub nothing_fixed : AcceptedHasShape → (t : Entries) (g : Graph) (b : ℕ) (p : Numbers) (q : ℕ) → IsTable t → 0 < length (entries_in g t) → IsSound g b p → p.set < 8
     → q < p.kdash → closure (block_checks t g p) (filler p.kdash p.k) q ≡ false
@@ -245,7 +181,7 @@ nothing_fixed shapes t g b p q table some plan small low =
     let c = block_checks t g p in
     let k_is : p.k ≡ n * p.z = plan.columns in
     let held : p.kdash ≤ n * p.z = omega (arith, plan.held, k_is) in
+    let T = reach es p.set p.z n (rows_of g) p.kdash plan.size_some in
     let closed = reach_closed es p.set p.z n (rows_of g) p.kdash plan.size_some c refl refl (λ i l. refl) (shapes t g p.set table some small) in
-    let start : Within (filler p.kdash p.k) (reach es p.set p.z n (rows_of g) p.kdash) = λ r h. reach_fill es p.set p.z n (rows_of g) p.kdash r (ap (λ k. filler p.kdash k r) (sym k_is) ∙ h) in
-    false_from_ne_true (closure c (filler p.kdash p.k) q)
-    (λ h. low_out es p.set p.z n (rows_of g) p.kdash held q low (closure_least c (filler p.kdash p.k) (reach es p.set p.z n (rows_of g) p.kdash) start closed q h))
+    let start : Within (filler p.kdash p.k) T = λ r h. or_left (filler p.kdash (n * p.z) r) _ (ap (λ k. filler p.kdash k r) (sym k_is) ∙ h) in
+    false_from_ne_true (closure c (filler p.kdash p.k) q) (λ h. low_out es p.set p.z n (rows_of g) p.kdash plan.size_some held q low (closure_least c (filler p.kdash p.k) T start closed q h))

@@ -1,8 +1,8 @@
 -- One position that is given.
 use Rattle.std.proofs.lemmas.Bool.Decides.{nat_tests}
-use Rattle.std.proofs.Common.{◌≡◌, ℕ, ◌+◌, ◌*◌, ◌/◌, ◌%◌, ◌<◌, ◌==◌, ◌&&◌, ◌||◌, Bool, true, false, List, sym, ap, ◌∙◌, arith}
+use Rattle.std.proofs.Common.{◌≡◌, ℕ, ◌/◌, ◌%◌, ◌<◌, ◌==◌, ◌&&◌, ◌||◌, Bool, false, List, ◌∙◌, arith}
 use Rattle.std.proofs.lemmas.Bool.{and_from, and_parts, eqb-true, eq-eqb, ne_eqb}
-use Rattle.std.proofs.lemmas.Nat.{mod_below}
+use Rattle.std.proofs.lemmas.Nat.{mod_below, div-add-mod'}
 use Rattle.nr_bitvec.specs.Bit.{bit}
 use Rattle.nr_bitvec.specs.Packed.{IsClear, place}
 use Rattle.nr_lifting.specs.Rings.{is_set, lane_marks}
@@ -12,12 +12,11 @@ use Rattle.nr_peel.specs.Hearing.{Hears}
 use Rattle.nr_peel.specs.Sweeps.{AreLanes}
 use Rattle.nr_peel.specs.declared.bit_parallel.lanes.Lanes.{Lanes}
 use Rattle.nr_peel.proofs.ClosureFacts.{same_truth}
-use Rattle.nr_peel.proofs.RowPlaceFacts.{row_number}
 use Rattle.nr_peel.proofs.GivenLaneFacts.{digit_is, told_lanes, AreAlike}
 
 -- the lane of its row marks the position alone
 pub one_marks : (z pos p : ℕ) (lane : List ℕ) → ((t : ℕ) → is_set lane t ≡ (pos % z == t)) → lane_marks z (pos / z) (is_set lane) p ≡ (pos == p)
-one_marks z pos p lane is = grind (arith, nat_tests, same_truth, and_parts, eqb-true, eq-eqb, row_number, and_from)
+one_marks z pos p lane is = grind (arith, nat_tests, same_truth, and_parts, eqb-true, eq-eqb, div-add-mod', and_from)
 
 -- its lane has no row past the block's
 pub one_clear : (z pos : ℕ) (lane : List ℕ) → 0 < z → ((t : ℕ) → is_set lane t ≡ (pos % z == t)) → IsClear lane z

@@ -1,8 +1,7 @@
 -- Peeling by rounds: what a tally counts, what a round marks, and where rounds end.
-use Rattle.std.proofs.Common.{◌≡◌, ℕ, ◌+◌, ◌*◌, ◌<◌, ◌≤◌, ◌==◌, ◌||◌, ◌&&◌, nat_lt, Bool, true, false, not, cond, List, length, get_or, set, take, refl, sym, ap, ◌∙◌, subst, ⊎_elim, arith}
+use Rattle.std.proofs.Common.{◌≡◌, ℕ, ◌+◌, ◌*◌, ◌<◌, ◌≤◌, ◌==◌, ◌||◌, ◌&&◌, nat_lt, Bool, true, false, not, cond, List, length, get_or, set, take, refl, sym, ap, ◌∙◌, subst, arith}
 use Rattle.std.specs.Prelude.{zero, suc, All, count_by}
-use Rattle.std.specs.List.{list_all}
-use Rattle.std.proofs.lemmas.Bool.{and_parts, and_from, or_left, or_right, true≢false, eqb-true, eq-eqb, cases_eq}
+use Rattle.std.proofs.lemmas.Bool.{and_parts, and_from, or_left, or_right, true≢false, eqb-true, eq-eqb}
 use Rattle.std.proofs.lemmas.List.Folds.{list_any_more}
 use Rattle.nr_bitvec.specs.Bit.{bit}
 use Rattle.nr_ldpcenc.specs.Rows.{Checks}
@@ -17,8 +16,7 @@ use Rattle.nr_peel.specs.declared.lifted.Lifted.{Lifted}
 use Rattle.nr_peel.specs.declared.rounds.Tally.{Tally}
 use Rattle.nr_peel.proofs.ClosureFacts.{any_below_passes, closure_closed, passes_any_below, round_adds, round_keeps, round_within, same_truth}
 use Rattle.nr_peel.proofs.TableGridFacts.{checks_sound}
-use Rattle.nr_peel.proofs.NothingHeardFacts.{other_in}
-use Rattle.nr_peel.proofs.RowPositionFacts.{fixed_counted, only_from_count, count_where}
+use Rattle.nr_peel.proofs.RowPositionFacts.{fixed_counted, only_from_count, count_where, only_here}
 use Rattle.nr_peel.proofs.TieFacts.{bit-mark, row_columns}
 use Rattle.nr_peel.proofs.CodewordFacts.{done_is_closure, only_fixes, stands_once}
 use Rattle.nr_lifting.specs.Rings.{marked}
@@ -71,12 +69,7 @@ row_fits l es i n table is long =
 
 -- a row with one position outside a set fixes it
 one_fixes : (S : ℕ → Bool) (row : List ℕ) (p : ℕ) → count_by (λ q. not (S q)) row ≡ 1 → stands p row ≡ true → S p ≡ false → fixes S row p ≡ true
-one_fixes S row p one there out =
-    let r = only_from_count S row one in
-    ⊎_elim
-    (λ (e : p ≡ r.pos). subst (λ q. fixes S row q ≡ true) (sym e) (only_fixes S row r.pos r.only))
-    (λ ne. absurd (true≢false (sym (other_in S row r.pos p r.only.others there ne) ∙ out)))
-    (cases_eq p r.pos)
+one_fixes S row p one there out = only_fixes S row p (only_here S row p one there out)
 
 one_is_fixed : (S : ℕ → Bool) (row : List ℕ) (p : ℕ) → IsDistinctRow row → S p ≡ false → (lacks_one S row && stands p row) ≡ fixes S row p
 one_is_fixed S row p distinct out = grind (arith, nat_tests, same_truth, and_parts, one_fixes, eqb-true, and_from, eq-eqb, fixed_counted, stands_once)

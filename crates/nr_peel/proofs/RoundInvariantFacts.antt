@@ -1,14 +1,14 @@
 -- What is kept from round to round: rows fix positions, and then the counts follow.
-use Rattle.std.proofs.Common.{◌≡◌, ◌≢◌, ℕ, ◌+◌, ◌-◌, ◌*◌, ◌/◌, ◌%◌, ◌^◌, ◌<◌, ◌≤◌, ◌||◌, Bool, true, false, not, cond, List, [], ◌∷◌, ◌++◌, length, refl, sym, ap, ◌∙◌, inl, inr, arith, length-append}
+use Rattle.std.proofs.Common.{◌≡◌, ◌≢◌, ℕ, ◌+◌, ◌-◌, ◌*◌, ◌/◌, ◌%◌, ◌^◌, ◌<◌, ◌≤◌, ◌||◌, Bool, true, false, not, List, [], ◌∷◌, length, refl, sym, ap, ◌∙◌, inl, inr, arith, length-append}
 use Rattle.std.specs.Prelude.{count_by, slice_index, sum, vec_capacity}
-use Rattle.std.proofs.lemmas.Bool.{and_from, and_parts, cases_lt, eq-eqb, true≢false}
+use Rattle.std.proofs.lemmas.Bool.{cases_lt, eq-eqb, true≢false}
 use Rattle.std.proofs.lemmas.List.{get_or_past}
-use Rattle.std.proofs.lemmas.Nat.{mod_below, div_below}
+use Rattle.std.proofs.lemmas.Nat.{mod_below, div_below, div-add-mod'}
 use Rattle.nr_bitvec.specs.Bit.{bit}
 use Rattle.nr_lifting.specs.Rings.{marked}
 use Rattle.nr_ldpcenc.specs.Rows.{Checks}
 use Rattle.nr_peel.specs.Due.{work_of}
-use Rattle.nr_peel.specs.Certificates.{accepts, after_steps, all_accepted, is_fixed_by, with_position}
+use Rattle.nr_peel.specs.Certificates.{after_steps, all_accepted, is_fixed_by}
 use Rattle.nr_peel.specs.Closure.{Within}
 use Rattle.nr_peel.specs.Settled.{CatchesUp, HasNonePending, IsHeld, Keeps, Reaches}
 use Rattle.nr_peel.specs.Sweeps.{AreLanes, AreSought, CountsOf, Fixes, counted_in, has_count, searched_pairs}
@@ -17,9 +17,8 @@ use Rattle.nr_peel.specs.declared.fix.Fix.{Fix}
 use Rattle.nr_peel.specs.declared.bit_parallel.lanes.Lanes.{Lanes}
 use Rattle.nr_peel.specs.declared.bit_parallel.sweep.Sweep.{Sweep}
 use Rattle.nr_peel.proofs.ColumnFacts.{count_plus}
-use Rattle.nr_peel.proofs.FixOrderFacts.{after_accepted, goes_none, goes_then}
+use Rattle.nr_peel.proofs.FixOrderFacts.{after_accepted, goes_none, goes_then, accepted_after}
 use Rattle.nr_peel.proofs.PairSumFacts.{spent_le, spent_more}
-use Rattle.nr_peel.proofs.RowPlaceFacts.{row_number}
 use Rattle.nr_peel.proofs.RowPositionFacts.{count_alike}
 use Rattle.nr_peel.proofs.StepPairFacts.{step_pairs-append}
 use Rattle.nr_peel.proofs.SweepStepFacts.{counted_known, counts_still, fixed_append, known_more, pairs_all}
@@ -46,7 +45,7 @@ pub falls_all : (rows lanes : ℕ) (old new : List ℕ) (h : ℕ → ℕ → ℕ
     → ((i t : ℕ) → i < rows → t < lanes → slice_index new (i * lanes + t) + h i t ≡ slice_index old (i * lanes + t)) → (k : ℕ) → slice_index new k ≤ slice_index old k
 falls_all rows lanes old new h some long falls k = elim (cases_lt k (rows * lanes)) [
   | inl below ↦
-      let at : k / lanes * lanes + k % lanes ≡ k = row_number k lanes in
+      let at : k / lanes * lanes + k % lanes ≡ k = div-add-mod' k lanes in
       let here = falls (k / lanes) (k % lanes) (div_below k lanes rows some below) (mod_below k lanes some) in
       omega (arith, rw at at here)
   | inr past ↦ omega (arith, get_or_past new k 0 (omega (arith, long, past)))
@@ -86,14 +85,6 @@ pub caught_held : (c : Checks) (a d : Sweep) → IsHeld c a → CatchesUp c a d 
 caught_held c a d h caught = grind (arith, caught_lanes, caught_counted, zeros_more, spent_more)
 
 -- ---- the row half
-
-accepted_after : (c : Checks) (S : ℕ → Bool) (ss ts : List Fix) → all_accepted c S ss ≡ true → all_accepted c (after_steps c S ss) ts ≡ true → all_accepted c S (ss ++ ts) ≡ true
-accepted_after c S [] ts h k = k
-accepted_after c S (x ∷ ss) ts h k =
-    let parts = and_parts (accepts c S x) (all_accepted c (with_position S x.pos) ss) h in
-    let same : cond (accepts c S x) (after_steps c (with_position S x.pos) ss) S ≡ after_steps c (with_position S x.pos) ss = ap (λ b. cond b (after_steps c (with_position S x.pos) ss) S) parts.0 in
-    and_from (accepts c S x) (all_accepted c (with_position S x.pos) (ss ++ ts)) parts.0
-    (accepted_after c (with_position S x.pos) ss ts parts.1 (sym (ap (λ T. all_accepted c T ts) same) ∙ k))
 
 pub fixes_keep : (c : Checks) (old new : Lanes) → Fixes c (counted_in old) old new → Keeps c old new
 fixes_keep c old new f = record {
@@ -149,7 +140,7 @@ module _ (c : Checks) (some : 0 < c.lanes) (a b : Sweep) (h : IsHeld c a) (sough
         let t = k % c.lanes in
         let row : i < c.rows = div_below k c.lanes c.rows some below in
         let lane : t < c.lanes = mod_below k c.lanes some in
-        let at : i * c.lanes + t ≡ k = row_number k c.lanes in
+        let at : i * c.lanes + t ≡ k = div-add-mod' k c.lanes in
         let has : has_count 1 a.counts.items (i * c.lanes + t) ≡ true = ap (has_count 1 a.counts.items) at ∙ eq-eqb (slice_index a.counts.items k) 1 one in
         sym (ap (slice_index d.counts.items) at) ∙ caught.counted i t row lane
         ∙ count_alike (λ p. not (bit d.lanes.known.items p)) (λ p. not (bit b.lanes.known.items p)) (λ p. ap (λ r. not (bit r.items p)) caught.known) (c.row i t)

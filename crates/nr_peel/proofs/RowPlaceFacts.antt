@@ -1,6 +1,6 @@
 -- Where a position's rows are: a row by its number, and its lane by a rotation.
 use Rattle.std.proofs.lemmas.Bool.Decides.{nat_tests}
-use Rattle.std.proofs.Common.{◌≡◌, ℕ, ◌+◌, ◌-◌, ◌*◌, ◌/◌, ◌%◌, ◌<◌, ◌≤◌, ◌==◌, ◌&&◌, true, sym, ap, ◌∙◌, ⊎_elim, arith}
+use Rattle.std.proofs.Common.{◌≡◌, ℕ, ◌+◌, ◌-◌, ◌*◌, ◌/◌, ◌%◌, ◌<◌, ◌≤◌, ◌==◌, ◌&&◌, true, sym, ap, ◌∙◌, arith}
 use Rattle.std.proofs.lemmas.Bool.{and_parts, and_from, eqb-true, eq-eqb, cases_lt}
 use Rattle.std.proofs.lemmas.Nat.{mod_below, div-add-mod'}
 use Rattle.std.proofs.Math.Nat.{mod-eq_of_lt, add-mod_left}
@@ -51,10 +51,6 @@ place-eqb z t col v p tl = same_truth (one_at z t col v == p) ((col == p / z) &&
         let column : col ≡ p / z = eqb-true col (p / z) parts.0 in
         let lane : (t + v % z) % z ≡ p % z = eqb-true ((t + v % z) % z) (p % z) (rotate-eqb z v t (p % z) tl ul ∙ parts.1) in
         eq-eqb (one_at z t col v) p (ap (λ c. c * z + (t + v % z) % z) column ∙ ap (λ l. p / z * z + l) lane ∙ div-add-mod' p z)
-
--- a row's block and lane, from its number
-pub row_number : (k z : ℕ) → k / z * z + k % z ≡ k
-row_number k z = div-add-mod' k z
 
 pub place_fits : (z t : ℕ) (e : Entry) (v size : ℕ) → t < z → (e.col + 1) * z ≤ size → one_at z t e.col v < size
 place_fits z t e v size lt le = grind (arith, mod_below)

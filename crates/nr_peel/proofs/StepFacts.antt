@@ -149,6 +149,21 @@ module _ (step : ℕ → Fix) (word ahead : ℕ) (few : ahead ≤ 64) where
       (λ t out. ap (λ n. n == 1) (bit_at_shr word ahead t ∙ bit_at_above word 64 (ahead + t) fits (omega (arith, out, few)))) in
       sym (ap (steps_below step u) split) ∙ steps_append step u ahead more ∙ ap (λ xs. steps_below step u ahead ++ xs) (sym past)
 
+  -- as many marks as both parts have
+  pub split_marks : word < 2 ^ 64 → (low : ℕ) → ((j : ℕ) → j < ahead → bit_at low j ≡ bit_at word j) → ((j : ℕ) → ahead ≤ j → bit_at low j ≡ 0)
+      → marked u 64 ≡ marked (λ j. bit_at low j == 1) 64 + marked (λ j. bit_at (word / 2 ^ ahead) j == 1) 64
+  split_marks fits low same none =
+      let next = λ (j : ℕ). step (ahead + j) in
+      omega (
+        arith,
+        ap length (high_steps fits),
+        length-append (steps_below step u ahead) (steps_below next (λ j. bit_at (word / 2 ^ ahead) j == 1) 64),
+        ap length (low_steps low same none),
+        steps_count step u 64,
+        steps_count step (λ j. bit_at low j == 1) 64,
+        steps_count next (λ j. bit_at (word / 2 ^ ahead) j == 1) 64,
+      )
+
 -- rows short of the block's turn, and from it on
 module _ (size row col rotation start word ahead : ℕ) where
   -- the row of a bit

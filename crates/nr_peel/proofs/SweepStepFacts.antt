@@ -1,7 +1,7 @@
 -- Steps one after another, row of blocks by row of blocks.
-use Rattle.std.proofs.Common.{◌≡◌, ℕ, zero, suc, ◌+◌, ◌-◌, ◌*◌, ◌<◌, ◌≤◌, ◌==◌, nat_lt, ◌||◌, Bool, true, not, if◌then◌else◌, List, [], ◌∷◌, ◌++◌, length, refl, sym, ap, ◌∙◌, ⊎_elim, arith, append_assoc, length-append}
+use Rattle.std.proofs.Common.{◌≡◌, ℕ, zero, suc, ◌+◌, ◌-◌, ◌*◌, ◌<◌, ◌≤◌, ◌==◌, nat_lt, ◌||◌, Bool, true, not, if◌then◌else◌, List, [], ◌++◌, length, refl, sym, ap, ◌∙◌, ⊎_elim, arith, append_assoc, length-append}
 use Rattle.std.specs.Prelude.{count_by, vec_capacity}
-use Rattle.std.proofs.lemmas.Bool.{and_parts, and_from, or_cases, or_left, false≢true, or_parts}
+use Rattle.std.proofs.lemmas.Bool.{and_parts, or_cases, or_left, false≢true, or_parts}
 use Rattle.std.proofs.lemmas.List.{append-nil, length-map}
 use Rattle.std.proofs.lemmas.List.Folds.{list_any-append}
 use Rattle.std.proofs.Math.Nat.{mul-le-mul_right}
@@ -13,7 +13,7 @@ use Rattle.nr_shifttable.specs.Accepted.{entries_in, row_of}
 use Rattle.nr_shifttable.specs.Tails.{value_in}
 use Rattle.nr_ldpcenc.specs.Rows.{Checks, one_at}
 use Rattle.nr_peel.specs.Closure.{Within}
-use Rattle.nr_peel.specs.Certificates.{accepts, all_accepted, is_fixed_by, with_position}
+use Rattle.nr_peel.specs.Certificates.{all_accepted, is_fixed_by, after_steps}
 use Rattle.nr_peel.specs.StateInside.{lifted_checks}
 use Rattle.nr_peel.specs.Sweeps.{AreLanes, AreSought, CountsOf, Fixes, IsBlockSought, counted_in, has_count, searched_below, searched_pairs}
 use Rattle.nr_peel.specs.Touches.{step_pairs, sum_below}
@@ -25,23 +25,19 @@ use Rattle.nr_peel.proofs.ClosureFacts.{cases_below}
 use Rattle.nr_peel.proofs.CountedPairFacts.{sum_below-append}
 use Rattle.nr_peel.proofs.PairSumFacts.{degree_at}
 use Rattle.nr_peel.proofs.StepPairFacts.{step_pairs-append, step_pairs-none}
-use Rattle.nr_peel.proofs.RowPositionFacts.{count_alike, count_by-cons}
+use Rattle.nr_peel.proofs.RowPositionFacts.{count_alike, count_within}
 use Rattle.nr_peel.proofs.MarkedFacts.{marked_within}
 use Rattle.std.proofs.lemmas.Bool.Decides.{nat_tests}
+use Rattle.nr_peel.proofs.FixOrderFacts.{accepted_after, after_accepted}
 
 -- fewer positions of a list lie outside a larger set
 pub count_fewer : (S T : ℕ → Bool) → Within S T → (xs : List ℕ) → count_by (λ p. not (T p)) xs ≤ count_by (λ p. not (S p)) xs
-count_fewer S T within [] = omega arith
-count_fewer S T within (x ∷ xs) = grind (arith, count_by-cons (λ p. not (T p)) x xs, count_by-cons (λ p. not (S p)) x xs, within x, count_fewer S T within xs)
+count_fewer S T within = count_within (λ p. not (T p)) (λ p. not (S p)) (λ p. grind (arith, within p))
 
 -- ---- steps one after another
 
 pub accepted_append : (c : Checks) (S : ℕ → Bool) (xs ys : List Fix) → all_accepted c S xs ≡ true → ((T : ℕ → Bool) → Within S T → all_accepted c T ys ≡ true) → all_accepted c S (xs ++ ys) ≡ true
-accepted_append c S [] ys h more = more S (λ p s. s)
-accepted_append c S (x ∷ xs) ys h more =
-    let parts = and_parts (accepts c S x) (all_accepted c (with_position S x.pos) xs) h in
-    and_from (accepts c S x) (all_accepted c (with_position S x.pos) (xs ++ ys)) parts.0
-    (accepted_append c (with_position S x.pos) xs ys parts.1 (λ T w. more T (λ p s. w p (or_left (S p) (x.pos == p) s))))
+accepted_append c S xs ys h more = accepted_after c S xs ys h (more (after_steps c S xs) (λ p s. after_accepted c S xs p h ∙ or_left (S p) (is_fixed_by xs p) s))
 
 pub fixed_append : (xs ys : List Fix) (p : ℕ) → is_fixed_by (xs ++ ys) p ≡ (is_fixed_by xs p || is_fixed_by ys p)
 fixed_append xs ys p = list_any-append (λ s. s.pos == p) xs ys

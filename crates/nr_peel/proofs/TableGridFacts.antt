@@ -1,9 +1,9 @@
 -- The entries of an accepted table: in range, and no column twice in a row; so the parity checks are sound.
 use Rattle.std.proofs.lemmas.Bool.Decides.{nat_tests}
-use Rattle.std.proofs.Common.{◌≡◌, ℕ, ◌+◌, ◌*◌, ◌/◌, ◌%◌, ◌<◌, ◌≤◌, ◌==◌, Bool, true, false, cond, List, [], ◌∷◌, length, map, refl, sym, ap, ◌∙◌, ⊎_elim, inl, inr, arith}
+use Rattle.std.proofs.Common.{◌≡◌, ℕ, ◌+◌, ◌*◌, ◌/◌, ◌%◌, ◌<◌, ◌≤◌, ◌==◌, Bool, true, false, cond, List, [], ◌∷◌, length, map, refl, sym, ap, ◌∙◌, ⊎_elim, inl, arith}
 use Rattle.std.specs.Prelude.{◌⊎◌, count_by, All}
 use Rattle.std.proofs.lemmas.Bool.{or_cases, eqb-true, eq-eqb, ne_eqb, false≢true}
-use Rattle.std.proofs.lemmas.List.Elements.{All-head, All-tail, All-filter, All-weaker}
+use Rattle.std.proofs.lemmas.List.Elements.{All-head, All-tail, All-filter}
 use Rattle.std.proofs.lemmas.Nat.{mod_below, div-mul-add, mod-mul-add}
 use Rattle.std.proofs.Math.Nat.{mul-le-mul_right}
 use Rattle.nr_graphpick.specs.declared.Graph.{Graph}
@@ -16,7 +16,7 @@ use Rattle.nr_shifttable.specs.Accepted as accepted
 use Rattle.nr_shifttable.specs.Tails.{value_in}
 use Rattle.nr_ldpcenc.specs.Rows.{block_checks, one_at}
 use Rattle.nr_peel.specs.Closure.{AreSound, stands, times_in}
-use Rattle.nr_peel.proofs.RowPositionFacts.{count_no, count_yes}
+use Rattle.nr_peel.proofs.RowPositionFacts.{count_no, count_yes, count_map, count_within}
 
 -- entries of rows below `rows` and columns below `cols`, no column twice in a row
 pub record IsGrid (es : List Entry) (rows cols : ℕ) : Type 0 where
@@ -76,24 +76,10 @@ place_lane z t col v pos = mod-mul-add col z ((t + v % z) % z) (mod_below (t + v
 
 -- a position stands in a row at most as often as its column
 times_le_columns : (set z t p : ℕ) → 0 < z → (es : List Entry) → times_in p (map (λ e. one_at z t e.col (value_in set e)) es) ≤ count_by (λ e. e.col == p / z) es
-times_le_columns set z t p pos [] = omega arith
-times_le_columns set z t p pos (e ∷ es) = go (one_at z t e.col (value_in set e) == p) refl (times_le_columns set z t p pos es)
+times_le_columns set z t p pos es = omega (arith, count_map (λ q. q == p) (λ (e : Entry). one_at z t e.col (value_in set e)) es, count_within (λ (e : Entry). one_at z t e.col (value_in set e) == p) (λ e. e.col == p / z) same es)
   where
-    ps : List ℕ
-    ps = map (λ e. one_at z t e.col (value_in set e)) es
-
-    at : ℕ
-    at = one_at z t e.col (value_in set e)
-
-    go : (b : Bool) → (at == p) ≡ b → times_in p ps ≤ count_by (λ e. e.col == p / z) es → times_in p (at ∷ ps) ≤ count_by (λ e. e.col == p / z) (e ∷ es)
-    go true h ih =
-        let same : e.col ≡ p / z = sym (place_column z t e.col (value_in set e) pos) ∙ ap (λ q. q / z) (eqb-true at p h) in
-        omega (arith, count_yes (λ q. q == p) at ps h, count_yes (λ (x : Entry). x.col == p / z) e es (eq-eqb e.col (p / z) same), ih)
-    go false h ih = other (e.col == p / z) refl
-      where
-        other : (b : Bool) → (e.col == p / z) ≡ b → times_in p (at ∷ ps) ≤ count_by (λ e. e.col == p / z) (e ∷ es)
-        other true k = omega (arith, count_no (λ q. q == p) at ps h, count_yes (λ (x : Entry). x.col == p / z) e es k, ih)
-        other false k = omega (arith, count_no (λ q. q == p) at ps h, count_no (λ (x : Entry). x.col == p / z) e es k, ih)
+    same : (e : Entry) → (one_at z t e.col (value_in set e) == p) ≡ true → (e.col == p / z) ≡ true
+    same e h = eq-eqb e.col (p / z) (sym (place_column z t e.col (value_in set e) pos) ∙ ap (λ q. q / z) (eqb-true (one_at z t e.col (value_in set e)) p h))
 
 stands_below : (set z t cols p : ℕ) → 0 < z → (es : List Entry) → All (λ e. e.col < cols) es → stands p (map (λ e. one_at z t e.col (value_in set e)) es) ≡ true → p < cols * z
 stands_below set z t cols p pos [] all h = absurd (false≢true h)

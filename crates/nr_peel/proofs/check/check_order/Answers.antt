@@ -9,12 +9,12 @@ use Rattle.nr_peel.specs.declared.fix.Fix.{Fix}
 use Rattle.nr_peel.proofs.TableGridFacts.{checks_sound}
 use Rattle.nr_peel.proofs.FixOrderCheckFacts.{accepts_alike, judged_more, refused_here}
 use Rattle.nr_peel.proofs.FixOrderFacts.{accepted_says, steps_stay}
-use Rattle.nr_peel.proofs.SetIndexFacts.{in_sets}
 use Rattle.nr_peel.proofs.CodewordFacts.{words_agree}
 use Rattle.nr_peel.proofs.check.check_order.Goals as goal
+use Rattle.nr_ldpcenc.proofs.CodewordFacts.{set_below}
 
 pub invariant_of-lifted : goal.invariant_of-lifted
-invariant_of-lifted c = record { in_sets = in_sets c.args.plan.now; inverse = c.reciprocal.ensures }
+invariant_of-lifted c = record { in_sets = set_below c.args.plan.now.z c.args.plan.now.set c.args.plan.now.sound.set_is; inverse = c.reciprocal.ensures }
 
 pub loop-step-preserved : goal.loop-step-preserved
 loop-step-preserved c =

@@ -1,10 +1,5 @@
-use Rattle.std.proofs.Common.{◌≡◌, true, [], length, get_or, sym, ap, ◌∙◌, arith}
+use Rattle.std.proofs.Common.{arith}
 use Rattle.std.proofs.lemmas.List.{get_or-map, length-map, length-set}
-use Rattle.nr_bitvec.specs.Bit.{bit}
-use Rattle.nr_shifttable.specs.declared.entry.Entry.{Entry}
-use Rattle.nr_shifttable.specs.Tails.{value_in}
-use Rattle.nr_ldpcenc.specs.Rows.{one_at}
-use Rattle.nr_peel.specs.Rounds.{row_in}
 use Rattle.nr_peel.proofs.RowPlaceFacts.{place_fits}
 use Rattle.nr_peel.proofs.RoundFacts.{marked_more}
 use Rattle.nr_peel.proofs.rounds.mark_row.Goals as goal

@@ -1,4 +1,4 @@
-use Rattle.std.proofs.Common.{◌*◌, ◌++◌, length, refl, ap, ◌∙◌, arith, length-append}
+use Rattle.std.proofs.Common.{◌*◌, length, refl, ap, ◌∙◌, arith, length-append}
 use Rattle.std.specs.Prelude.{vec_capacity}
 use Rattle.nr_lifting.specs.Rings.{is_set}
 use Rattle.nr_peel.specs.Lanes.{steps_below, rotated_step}

@@ -1,6 +1,5 @@
-use Rattle.std.proofs.Common.{length, true, ap, ◌∙◌, arith, length-append}
+use Rattle.std.proofs.Common.{arith, length-append}
 use Rattle.nr_lifting.proofs.LaneBitFacts.{marked-le}
-use Rattle.nr_peel.specs.Lanes.{step_along, steps_below}
 use Rattle.nr_peel.proofs.StepFacts.{steps_count}
 use Rattle.nr_peel.proofs.bit_parallel.steps.push_run.Goals as goal
 

@@ -4,8 +4,10 @@ use Rattle.std.proofs.Math.Nat.{mul-le-mul_right}
 use Rattle.std.proofs.lemmas.List.{append-nil}
 use Rattle.std.specs.Int.{bit_at}
 use Rattle.nr_peel.specs.Lanes.{rotated_step, step_after, steps_below}
-use Rattle.nr_peel.proofs.StepFacts.{ahead_steps, high_steps, join_steps, low_steps, steps_count, turned_steps, zero_steps}
+use Rattle.nr_peel.proofs.StepFacts.{ahead_steps, high_steps, join_steps, steps_count, turned_steps, zero_steps, split_marks}
 use Rattle.nr_peel.proofs.bit_parallel.steps.push_word.Goals as goal
+use Rattle.nr_peel.proofs.bit_parallel.steps.push_word.Goals.{After-low_bits-low}
+use Rattle.nr_lifting.specs.Rings.{marked}
 
 block_fits : (col size : ℕ) → col < 2 ^ 16 → size ≤ 384 → col * size ≤ 2 ^ 16 * 384
 block_fits col size small few = grind (arith, mul-le-mul_right)
@@ -16,32 +18,23 @@ returns-then-word-eq0-clause-steps c = grind (arith, nat_tests, append-nil, zero
 pub push_part-requires-clause-fits : goal.push_part-requires-clause-fits
 push_part-requires-clause-fits c = omega (arith, block_fits c.args.col c.args.size (omega arith) c.requires.few, ap (λ n. n * c.args.size) c.from.ensures)
 
+-- the rows of both parts
+parts : (c : After-low_bits-low) → marked (λ b. bit_at c.args.word b == 1) 64 ≡ marked (λ b. bit_at c.low_bits-low.result b == 1) 64 + marked (λ b. bit_at (c.args.word / 2 ^ c.min-ahead.result) b == 1) 64
+parts c =
+    split_marks (λ b. rotated_step c.args.size c.args.row c.args.col c.args.rotation (c.args.start + b)) c.args.word c.min-ahead.result (omega (arith, c.min-ahead.ensures)) (omega arith) c.low_bits-low.result c.low_bits-low.ensures.low c.low_bits-low.ensures.high
+
 pub push_part-requires-clause-room : goal.push_part-requires-clause-room
-push_part-requires-clause-room c =
-    let step = λ (b : ℕ). rotated_step c.args.size c.args.row c.args.col c.args.rotation (c.args.start + b) in
-    let word = c.args.word in
-    let ahead = c.min-ahead.result in
-    let low = c.low_bits-low.result in
-    let few : ahead ≤ 64 = omega (arith, c.min-ahead.ensures) in
-    let split = ap length (high_steps step word ahead few (omega arith)) ∙ length-append (steps_below step (λ b. bit_at word b == 1) ahead) (steps_below (λ j. step (ahead + j)) (λ j. bit_at (word / 2 ^ ahead) j == 1) 64) in
-    omega (arith, split, ap length (low_steps step word ahead few low c.low_bits-low.ensures.low c.low_bits-low.ensures.high), steps_count step (λ b. bit_at low b == 1) 64, steps_count step (λ b. bit_at word b == 1) 64, c.requires.room)
+push_part-requires-clause-room c = omega (arith, parts (goal.at.push_part-requires-clause-room c).After-low_bits-low, c.requires.room)
 
 pub push_part-requires-then-ahead-lt64-clause-fits : goal.push_part-requires-then-ahead-lt64-clause-fits
 push_part-requires-then-ahead-lt64-clause-fits c = omega (arith, block_fits c.args.col c.args.size (omega arith) c.requires.few, ap (λ n. n * c.args.size) c.from.ensures)
 
 pub push_part-requires-then-ahead-lt64-clause-room : goal.push_part-requires-then-ahead-lt64-clause-room
 push_part-requires-then-ahead-lt64-clause-room c =
-    let step = λ (b : ℕ). rotated_step c.args.size c.args.row c.args.col c.args.rotation (c.args.start + b) in
-    let word = c.args.word in
-    let ahead = c.min-ahead.result in
-    let low = c.low_bits-low.result in
-    let few : ahead ≤ 64 = omega (arith, c.min-ahead.ensures) in
-    let first = steps_below (step_after c.args.row c.args.start (c.from.result * c.args.size + c.args.rotation + c.args.start)) (λ b. bit_at low b == 1) 64 in
-    let more = steps_below (λ j. step (ahead + j)) (λ j. bit_at (word / 2 ^ ahead) j == 1) 64 in
-    let split = ap length (high_steps step word ahead few (omega arith)) ∙ length-append (steps_below step (λ b. bit_at word b == 1) ahead) more in
-    let long = ap length c.push_part.ensures.steps ∙ length-append c.args.order.now.items first in
-    let same = ap length (ahead_steps c.args.size c.args.row c.args.col c.args.rotation c.args.start word ahead low _ (ap (λ n. n * c.args.size + c.args.rotation + c.args.start) c.from.ensures) few (λ b below. omega (arith, c.min-ahead.ensures, below)) c.low_bits-low.ensures.low c.low_bits-low.ensures.high) in
-    omega (arith, split, long, same, steps_count (λ j. step (ahead + j)) (λ j. bit_at (word / 2 ^ ahead) j == 1) 64, steps_count step (λ b. bit_at word b == 1) 64, c.push_part.ensures.capacity, c.requires.room)
+    let step = step_after c.args.row c.args.start (c.from.result * c.args.size + c.args.rotation + c.args.start) in
+    let low = λ (b : ℕ). bit_at c.low_bits-low.result b == 1 in
+    let long = ap length c.push_part.ensures.steps ∙ length-append c.args.order.now.items (steps_below step low 64) in
+    omega (arith, parts (goal.at.push_part-requires-then-ahead-lt64-clause-room c).After-low_bits-low, long, steps_count step low 64, c.push_part.ensures.capacity, c.requires.room)
 
 pub returns-then-ahead-lt64-clause-steps : goal.returns-then-ahead-lt64-clause-steps
 returns-then-ahead-lt64-clause-steps c =

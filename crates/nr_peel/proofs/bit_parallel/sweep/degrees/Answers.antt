@@ -1,13 +1,9 @@
-use Rattle.std.proofs.Common.{◌≡◌, ◌+◌, ◌*◌, ◌<◌, ◌≤◌, if◌then◌else◌, length, sym, ap, ◌∙◌, ⊎_elim, arith}
+use Rattle.std.proofs.Common.{◌≡◌, ◌+◌, ◌*◌, ◌<◌, if◌then◌else◌, length, sym, ap, ◌∙◌, ⊎_elim, arith}
 use Rattle.std.specs.Prelude.{slice_index}
 use Rattle.std.proofs.Math.Nat.{mul-le-mul_right}
 use Rattle.std.proofs.lemmas.Bool.{eq-eqb, ne_eqb}
 use Rattle.std.proofs.lemmas.List.{length-map, length-replicate}
-use Rattle.nr_shifttable.specs.declared.entry.Entry.{Entry}
 use Rattle.nr_shifttable.specs.Accepted.{entries_in, row_of}
-use Rattle.nr_shifttable.specs.Tails.{value_in}
-use Rattle.nr_ldpcenc.specs.Rows.{one_at}
-use Rattle.nr_peel.specs.StateInside.{lifted_checks}
 use Rattle.nr_peel.proofs.ClosureFacts.{cases_below}
 use Rattle.nr_peel.proofs.TableGridFacts.{rows_short}
 use Rattle.nr_peel.proofs.bit_parallel.sweep.degrees.Goals as goal

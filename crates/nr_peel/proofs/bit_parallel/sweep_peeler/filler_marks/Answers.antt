@@ -1,7 +1,6 @@
 use Rattle.std.proofs.lemmas.Bool.Decides.{nat_tests}
-use Rattle.std.proofs.Common.{◌≡◌, ◌*◌, ◌==◌, ◌||◌, false, true, length, sym, ap, ◌∙◌, arith}
+use Rattle.std.proofs.Common.{◌≡◌, arith}
 use Rattle.std.proofs.lemmas.List.{length-replicate, length-set}
-use Rattle.nr_bitvec.specs.Bit.{bit}
 use Rattle.nr_peel.specs.StateInside.{lifted_checks}
 use Rattle.nr_peel.proofs.FillerFacts.{filler_more, filler_none, fillers_are, fillers_fit, get_or-same}
 use Rattle.nr_peel.proofs.TieFacts.{bit-mark}

@@ -1,7 +1,4 @@
 use Rattle.std.proofs.Common.{arith}
-use Rattle.std.proofs.Common.{◌≡◌, ◌+◌, Bool, true, false, refl, ◌∙◌, cond}
-use Rattle.std.specs.Prelude.{Some, None, unwrap_or}
-use Rattle.nr_bitvec.specs.Bit.{bit}
 use Rattle.nr_peel.proofs.SweepViewFacts.{sweep_peeled}
 use Rattle.nr_peel.proofs.peeler.Peeler.bits_from.Goals as goal
 

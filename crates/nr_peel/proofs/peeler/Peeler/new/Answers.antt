@@ -3,12 +3,12 @@ use Rattle.nr_peel.specs.State.{sweep_peeler_view}
 use Rattle.nr_peel.specs.declared.lifted.Lifted.{Lifted}
 use Rattle.nr_peel.proofs.FillerFacts.{fillers_fit}
 use Rattle.nr_peel.proofs.NewPeelerFacts.{pending_left}
-use Rattle.nr_peel.proofs.SetIndexFacts.{in_sets}
 use Rattle.nr_peel.proofs.SweepViewFacts.{sweep_peeled}
 use Rattle.nr_peel.proofs.peeler.Peeler.new.Goals as goal
+use Rattle.nr_ldpcenc.proofs.CodewordFacts.{set_below}
 
 pub invariant_of-lifted : goal.invariant_of-lifted
-invariant_of-lifted c = record { in_sets = in_sets c.args.plan.now; inverse = c.reciprocal.ensures }
+invariant_of-lifted c = record { in_sets = set_below c.args.plan.now.z c.args.plan.now.set c.args.plan.now.sound.set_is; inverse = c.reciprocal.ensures }
 
 pub returns-in-Ok-clause-started : goal.returns-in-Ok-clause-started
 returns-in-Ok-clause-started c =
@@ -24,7 +24,7 @@ returns-in-Ok-clause-started c =
 
 pub returns-in-Ok-clause-left : goal.returns-in-Ok-clause-left
 returns-in-Ok-clause-left c =
-    let l : Lifted = record { table = c.args.table; plan = c.args.plan.now; reciprocal = c.reciprocal.result; in_sets = in_sets c.args.plan.now; inverse = c.reciprocal.ensures } in
+    let l : Lifted = record { table = c.args.table; plan = c.args.plan.now; reciprocal = c.reciprocal.result; in_sets = set_below c.args.plan.now.z c.args.plan.now.set c.args.plan.now.sound.set_is; inverse = c.reciprocal.ensures } in
     let started = returns-in-Ok-clause-started c in
     pending_left (sweep_peeler_view l c.in-Ok.sweep_peeler) c.args.plan.now.b c.has.ensures.table (sym c.has.ensures.value ∙ c.if-not-has.false) c.args.plan.now.sound started.given started.peeled
     (omega (arith, started.peeled.known_long, c.args.plan.now.sound.held, fillers_fit l))

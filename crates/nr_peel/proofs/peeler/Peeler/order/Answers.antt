@@ -1,6 +1,5 @@
 use Rattle.std.proofs.Common.{arith}
 use Rattle.nr_peel.proofs.LeftPositionFacts.{whole_order}
-use Rattle.nr_peel.specs.State.{sweep_peeler_view}
 use Rattle.nr_peel.proofs.LearningFacts.{kdash_fits}
 use Rattle.nr_peel.proofs.SweepViewFacts.{sweep_peeled}
 use Rattle.nr_peel.proofs.peeler.Peeler.order.Goals as goal

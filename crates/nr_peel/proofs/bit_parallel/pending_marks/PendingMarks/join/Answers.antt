@@ -1,5 +1,4 @@
-use Rattle.std.proofs.Common.{◌+◌, ◌*◌, arith}
-use Rattle.nr_bitvec.specs.Bit.{bit}
+use Rattle.std.proofs.Common.{arith}
 use Rattle.nr_lifting.specs.Rings.{is_set}
 use Rattle.nr_lifting.proofs.LaneBitFacts.{marked-le}
 use Rattle.nr_peel.proofs.DueBlockFacts.{marks_low, marks_join}

@@ -5,7 +5,6 @@ use Rattle.std.proofs.lemmas.Nat.{mul-le}
 use Rattle.std.proofs.Math.Nat.{mul-le-mul_right}
 use Rattle.nr_lifting.specs.Rings.{marked}
 use Rattle.nr_lifting.proofs.LaneBitFacts.{marked-append}
-use Rattle.nr_shifttable.specs.declared.entry.Entry.{Entry}
 use Rattle.nr_shifttable.specs.Accepted.{entries_in, row_of}
 use Rattle.nr_peel.specs.StateInside.{lifted_checks}
 use Rattle.nr_peel.specs.Sweeps.{AreSought, CountsOf, IsBlockSought, counted_in, has_count, searched_below}
