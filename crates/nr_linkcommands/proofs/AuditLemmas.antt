@@ -1,19 +1,15 @@
 -- The text of `audit`, line by line.
 use Rattle.std.proofs.lemmas.Bool.Decides.{nat_tests}
-use Rattle.std.proofs.Common.{◌≡◌, ℕ, ◌+◌, ◌<◌, ◌==◌, ◌&&◌, Bool, true, false, not, if◌then◌else◌, List, [], ◌∷◌, ◌++◌, All, length, take, get_or, ap, sym, subst, ◌∙◌, arith, length-append, cond}
+use Rattle.std.proofs.Common.{◌≡◌, ℕ, ◌+◌, ◌<◌, ◌==◌, Bool, true, false, List, [], ◌∷◌, ◌++◌, All, length, take, get_or, ap, sym, ◌∙◌, arith, length-append, cond}
 use Rattle.std.proofs.lemmas.Grind.{flat_map-append}
 use Rattle.std.proofs.lemmas.List.{append-nil, take_more}
 use Rattle.std.proofs.lemmas.List.Elements.{filter-append}
-use Rattle.std.specs.List.{count_by, filter, range_with_len}
 use Rattle.nr_crcattach.specs.Attachment.{attached_length}
 use Rattle.nr_bitvec.specs.Bit.{bit}
-use Rattle.nr_graphpick.specs.declared.Graph.{Graph}
 use Rattle.nr_harqbuf.specs.Record.{HeardBits}
 use Rattle.nr_ldpcenc.specs.Rows.{Checks, block_checks}
-use Rattle.nr_segment.specs.Plan.{word_size, Numbers, PlansAreSound}
-use Rattle.nr_peel.specs.Closure.{closure}
+use Rattle.nr_segment.specs.Plan.{word_size, PlansAreSound}
 use Rattle.nr_peel.specs.Peeling.{IsPeeled, Peeling, checks_for, gained_in, unknown_in}
-use Rattle.nr_shifttable.specs.Accepted.{Entries}
 use Rattle.nr_blockdesk.specs.Explains.{Reception}
 use Rattle.nr_blockdesk.specs.Heard.{heard_of, heard_record}
 use Rattle.nr_blockdesk.specs.Link.{IsLink, Link}

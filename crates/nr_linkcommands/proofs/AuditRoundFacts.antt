@@ -1,5 +1,5 @@
 -- The text of `audit` over the rounds of processes.
-use Rattle.std.proofs.Common.{◌≡◌, ℕ, ◌-◌, ◌<◌, ◌≤◌, Option, None, Some, List, [], ◌∷◌, All, length, slice_get, ap, refl, ◌∙◌, arith}
+use Rattle.std.proofs.Common.{◌≡◌, ℕ, ◌-◌, ◌<◌, ◌≤◌, Option, None, Some, List, [], ◌∷◌, All, length, slice_get, refl, arith}
 use Rattle.std.specs.Option.{option_map}
 use Rattle.std.proofs.lemmas.List.Elements.{All-head}
 use Rattle.nr_segment.specs.Plan.{PlansAreSound}
@@ -9,7 +9,7 @@ use Rattle.nr_blockdesk.specs.Sent.{SenderView}
 use Rattle.nr_linkcommands.specs.AuditLines.{audit_block}
 use Rattle.nr_linkcommands.specs.AuditText.{audit_words}
 use Rattle.nr_linkcommands.specs.RunLines.{process_words}
-use Rattle.nr_linkcommands.specs.RoundTexts.{ended_if, round_lines, said_if}
+use Rattle.nr_linkcommands.specs.RoundTexts.{round_lines, said_if}
 use Rattle.nr_files.specs.Rounds.{round_of}
 use Rattle.nr_linkcommands.specs.RunText.{received}
 use Rattle.nr_files.specs.Schedule.{HasBlock}

@@ -8,7 +8,7 @@ use Rattle.nr_shifttable.specs.declared.fault.TableFault.TheVariants as table_fa
 use Rattle.nr_files.specs.Blocks.{blocks_said}
 use Rattle.nr_commands.specs.Command.{IsBlockFault}
 use Rattle.nr_commands.specs.Faults.{blocks_refusal, schedule_refusal, settings_refusal, table_refusal}
-use Rattle.nr_linkcommands.specs.Inputs.{AreInputsOf, Given, HasNoFault, HaveNoFault, IsFoundIn, OfSaid, Says, senders_from}
+use Rattle.nr_linkcommands.specs.Inputs.{AreInputsOf, Given, HaveNoFault, IsFoundIn, OfSaid, Says, senders_from}
 use Rattle.nr_files.specs.Schedule.{schedule_said}
 use Rattle.nr_files.specs.Settings.{settings_said}
 use Rattle.nr_files.specs.declared.blocks.BlocksFault.{BlocksFault}

@@ -1,6 +1,6 @@
 -- What the four files of a command over a schedule say, step by step.
 use Rattle.std.proofs.Common.{arith}
-use Rattle.std.proofs.Common.{◌≡◌, ◌≢◌, ℕ, ◌+◌, ◌<◌, ◌≤◌, ◌⊎◌, inl, inr, Option, None, Some, IfSome, Result, Ok, Err, IsErrOf, IsErrAnd, IfErr, IsOk, List, [], ◌∷◌, ◌++◌, length, drop, get_or, ap, sym, ◌∙◌, refl, subst, append_assoc, ⊎_elim}
+use Rattle.std.proofs.Common.{◌≡◌, ◌≢◌, ℕ, ◌+◌, ◌<◌, ◌≤◌, ◌⊎◌, inl, inr, Option, None, Some, IfSome, Result, Ok, Err, IsErrOf, IsErrAnd, IfErr, IsOk, List, [], ◌∷◌, ◌++◌, length, drop, get_or, ap, sym, refl, subst, append_assoc, ⊎_elim}
 use Rattle.std.proofs.lemmas.List.{append-nil, drop_all}
 use Rattle.std.proofs.lemmas.Option.{IfSome_then}
 use Rattle.nr_refusal.specs.Refusal.{◌>>=◌}

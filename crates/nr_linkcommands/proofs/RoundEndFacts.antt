@@ -1,6 +1,5 @@
 -- What each slot has received of the round that its process is in, one transmission after the other.
-use Rattle.std.proofs.Common.{◌≡◌, ℕ, suc, ◌+◌, ◌-◌, ◌<◌, ◌≤◌, ◌==◌, All, Bool, true, false, not, cond, Option, None, Some, List, [], ◌∷◌, ◌++◌, length, take, drop, set, replicate, slice_get, get_or, ap, sym, subst, refl, ◌∙◌, ⊎_elim, arith, append_assoc, length-append, IfSome}
-use Rattle.std.specs.List.{list_any}
+use Rattle.std.proofs.Common.{◌≡◌, ℕ, ◌+◌, ◌-◌, ◌<◌, ◌≤◌, ◌==◌, All, Bool, true, false, not, cond, Option, None, Some, List, [], ◌∷◌, ◌++◌, length, take, drop, set, replicate, slice_get, get_or, ap, sym, subst, refl, ◌∙◌, arith, append_assoc, length-append, IfSome}
 use Rattle.std.proofs.Math.ListN.{length-set}
 use Rattle.std.proofs.lemmas.Bool.{cases_eq}
 use Rattle.std.proofs.lemmas.Bool.Decides.{nat_tests}
@@ -10,10 +9,10 @@ use Rattle.std.proofs.lemmas.List.Elements.{All-head}
 use Rattle.nr_blockdesk.specs.Explains.{Reception}
 use Rattle.nr_blockdesk.specs.Link.{Link}
 use Rattle.nr_blockdesk.specs.Sent.{SenderView}
-use Rattle.nr_linkcommands.specs.Ends.{HasReceived, HoldRounds, HoldsState, HoldsIf, HoldsSummary, HoldsSlot, HoldsRound, IsOfRound, IsOver, KeepsRounds, goes_on, empty_slot}
-use Rattle.nr_linkcommands.specs.RunText.{counted, counted_if, received, received_of, round_counted, run_words}
+use Rattle.nr_linkcommands.specs.Ends.{HasReceived, HoldRounds, HoldsState, HoldsSummary, HoldsSlot, HoldsRound, IsOfRound, IsOver, KeepsRounds, goes_on, empty_slot}
+use Rattle.nr_linkcommands.specs.RunText.{counted, received, received_of, round_counted, run_words}
 use Rattle.nr_linkcommands.specs.RunLines.{outcome_line, process_words}
-use Rattle.nr_linkcommands.specs.RoundTexts.{Words, ended_if, pieces_joined, round_lines, said_if, sender_of, turns}
+use Rattle.nr_linkcommands.specs.RoundTexts.{Words, pieces_joined, round_lines, said_if, sender_of, turns}
 use Rattle.nr_files.specs.Rounds.{continued, of_process, round_of, since_fresh}
 use Rattle.nr_files.specs.Schedule.{HasBlock}
 use Rattle.nr_linkcommands.specs.declared.run_command.slot.RxState.{RxState}

@@ -6,12 +6,11 @@ use Rattle.nr_harqbuf.specs.Record.{HeardBits}
 use Rattle.nr_blockdesk.specs.Explains.{Reception, reception}
 use Rattle.nr_blockdesk.specs.Heard.{heard_record}
 use Rattle.nr_blockdesk.specs.Link.{Link}
-use Rattle.nr_blockdesk.specs.Outcome.{left}
 use Rattle.nr_blockdesk.specs.Sent.{SenderView, sent_said}
 use Rattle.nr_transmission.specs.declared.fault.DeskFault.{DeskFault}
 use Rattle.nr_linkcommands.specs.Ends.{HasReceived, HoldsState}
 use Rattle.nr_linkcommands.specs.Hearing.{heard_through}
-use Rattle.nr_linkcommands.specs.RunLines.{left_line, left_lines}
+use Rattle.nr_linkcommands.specs.RunLines.{left_lines}
 use Rattle.nr_linkcommands.specs.RunText.{lines_if, lines_of, received, received_if, received_of}
 use Rattle.nr_linkcommands.specs.SendLines.{refused_line, sent_line}
 use Rattle.nr_linkcommands.specs.declared.run_command.slot.RxState.{RxState}

@@ -13,12 +13,12 @@ use Rattle.nr_segment.specs.Plan.{word_size}
 use Rattle.nr_blockdesk.specs.Explains.{Reception, explains}
 use Rattle.nr_blockdesk.specs.Heard.{heard_of, heard_record, hearings}
 use Rattle.nr_blockdesk.specs.Link.{IsLink, Link}
-use Rattle.nr_blockdesk.specs.Outcome.{Verdict, all_fixed, blocks_of, contradiction, delivered, fixed, left, open_still, outcome_of, verdict_on}
+use Rattle.nr_blockdesk.specs.Outcome.{all_fixed, blocks_of, fixed, left, open_still, outcome_of, verdict_on}
 use Rattle.nr_blockdesk.specs.ReceiverLaws.{NothingIsOpen}
 use Rattle.nr_blockdesk.specs.Sent.{SenderView}
 use Rattle.nr_linkcommands.specs.Ends.{IsWithin}
-use Rattle.nr_linkcommands.specs.RunLines.{contradiction_line, delivered_line, last_line, left_line, open_line, outcome_line, outcome_line_by, unfixed_blocks}
-use Rattle.nr_linkcommands.specs.RunText.{counted, counted_by, no_totals, open_counted, rounds_counted, run_ends, text_of_run, totals_from}
+use Rattle.nr_linkcommands.specs.RunLines.{contradiction_line, delivered_line, last_line, left_line, open_line, outcome_line, unfixed_blocks}
+use Rattle.nr_linkcommands.specs.RunText.{counted, no_totals, open_counted, rounds_counted, run_ends, text_of_run, totals_from}
 use Rattle.nr_files.specs.Rounds.{all_rounds}
 use Rattle.nr_files.specs.Schedule.{Timetable}
 use Rattle.nr_linkcommands.specs.declared.run_command.totals.Totals.{Totals}

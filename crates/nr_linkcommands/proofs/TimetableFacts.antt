@@ -1,6 +1,6 @@
 -- What a run and an audit use of a schedule that was read. Each transmission is of its round's block, and where no
 -- processes are named, the rounds at the end are the blocks.
-use Rattle.std.proofs.Common.{◌≡◌, ℕ, ◌+◌, ◌-◌, ◌<◌, Bool, true, false, cond, Option, None, Some, List, [], ◌∷◌, All, length, take, drop, slice_get, get_or, ap, sym, subst, refl, ◌∙◌, arith}
+use Rattle.std.proofs.Common.{◌≡◌, ℕ, ◌+◌, ◌-◌, ◌<◌, Bool, true, false, cond, Option, Some, List, [], ◌∷◌, All, length, take, drop, slice_get, get_or, ap, sym, subst, refl, ◌∙◌, arith}
 use Rattle.std.specs.Prelude.{◌==◌}
 use Rattle.std.proofs.lemmas.Bool.Decides.{nat_tests}
 use Rattle.std.proofs.lemmas.Grind.{get_or_after_one}

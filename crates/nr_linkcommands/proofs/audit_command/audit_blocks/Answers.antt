@@ -1,6 +1,5 @@
 use Rattle.std.proofs.Common.{◌≤◌, ◌∙◌, length, refl, arith}
 use Rattle.std.proofs.lemmas.List.{drop_all}
-use Rattle.std.proofs.lemmas.Result.{err_from_is_err_and}
 use Rattle.nr_linkcommands.specs.AuditText.{audit_lines}
 use Rattle.nr_linkcommands.proofs.RoundTextFacts.{left-turn}
 use Rattle.nr_linkcommands.proofs.RunTextFacts.{left-first, left-last, left-more, left-stopped}
@@ -9,9 +8,8 @@ use Rattle.nr_linkcommands.proofs.audit_command.audit_blocks.Goals as goal
 pub returns-in_err-write_block-clause-text : goal.returns-in_err-write_block-clause-text
 unfolding audit_lines
 returns-in_err-write_block-clause-text g c =
-    let p = err_from_is_err_and c.from_residual.result c.from_residual.ensures.1 in
     let turn = left-turn c.args.ready.now.senders.items c.loop-index.index c.sender-item.result (rw c.deref-sender-items.ensures.value at c.loop-index-test.true) (rw c.deref-sender-items.ensures.value at c.sender-item.is) in
-    left-stopped _ _ _ c.from_residual.result p.0 _ _ _ _ p.1 p.2 (rw turn at c.loop-index.invariant.lines) c.in_err-write_block.ensures.text
+    left-stopped _ _ _ c.from_residual.result _ _ _ _ c.from_residual.ensures.1 (rw turn at c.loop-index.invariant.lines) c.in_err-write_block.ensures.text
 
 pub loop-index-init : goal.loop-index-init
 loop-index-init g c = record { lines = left-first _ _; sound = refl }

@@ -1,11 +1,7 @@
-use Rattle.std.proofs.Common.{◌≡◌, ◌∙◌, length, map, ap, sym, refl, arith}
+use Rattle.std.proofs.Common.{◌≡◌, ◌∙◌, length, map, ap, sym, arith}
 use Rattle.std.proofs.lemmas.List.{length-map}
 use Rattle.std.proofs.lemmas.Result.{err_from_is_err_and}
-use Rattle.nr_shifttable.specs.Accepted.{table_said}
-use Rattle.nr_files.specs.Blocks.{blocks_said}
 use Rattle.nr_files.specs.Schedule.{timetable_by}
-use Rattle.nr_files.specs.Settings.{settings_said}
-use Rattle.nr_linkcommands.specs.Inputs.{IsFirst, LeavesLater}
 use Rattle.nr_linkcommands.proofs.FoundFaultFacts.{found_blocks, found_schedule, found_settings, found_table}
 use Rattle.nr_linkcommands.proofs.InputLemmas.{any, by_blocks, by_schedule, by_settings, by_table, given-all, given-blocks, given-schedule, given-settings, given-table, no_fault, of_all, told-table}
 use Rattle.nr_linkcommands.proofs.inputs.read.Given as given

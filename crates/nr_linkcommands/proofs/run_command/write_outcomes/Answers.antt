@@ -1,9 +1,9 @@
-use Rattle.std.proofs.Common.{◌≡◌, ℕ, ◌+◌, ◌<◌, ◌≤◌, List, length, drop, get_or, ap, refl, subst, sym, ◌∙◌, arith}
+use Rattle.std.proofs.Common.{◌≡◌, ℕ, ◌+◌, ◌<◌, ◌≤◌, List, length, drop, get_or, ap, ◌∙◌, arith}
 use Rattle.std.proofs.lemmas.List.{drop_all, get_or_default}
-use Rattle.std.proofs.lemmas.Result.{IfOk-weaker, err_from_is_err_and}
+use Rattle.std.proofs.lemmas.Result.{IfOk-weaker}
 use Rattle.nr_blockdesk.specs.Sent.{SenderView}
 use Rattle.nr_files.specs.declared.schedule.Transmission.{Transmission}
-use Rattle.nr_linkcommands.specs.Ends.{AllHold, HoldsSummary, empty_slot}
+use Rattle.nr_linkcommands.specs.Ends.{AllHold, HoldsSummary}
 use Rattle.nr_linkcommands.specs.RunText.{outcome_lines, own, received, totals_from}
 use Rattle.nr_linkcommands.specs.declared.run_command.slot.Slot.{Slot}
 use Rattle.nr_linkcommands.specs.declared.run_command.totals.Totals.{Totals}
@@ -22,11 +22,10 @@ counted-totals-requires g c = record { few = within-more c.loop-index.index 6553
 pub returns-in_err-put_line-clause-text : goal.returns-in_err-put_line-clause-text
 unfolding outcome_lines
 returns-in_err-put_line-clause-text g c = λ schedule held.
-    let p = err_from_is_err_and c.from_residual.result c.from_residual.ensures.1 in
     let within = rw c.deref-sender-items.ensures.value at c.loop-index-test.true in
     let at = rw c.deref-sender-items.ensures.value at c.sender-item.is in
     let holds = kept-at c.args.ready.now.senders.items schedule c.args.slots.now c.loop-index.index c.sender-item.result c.index-slots-index.result within at (omega (arith, c.requires.long)) c.index-slots-index.is held in
-    left-stopped _ _ _ c.from_residual.result p.0 _ _ _ _ p.1 p.2 (rw (left-turn c.args.ready.now.senders.items c.loop-index.index c.sender-item.result within at) at (c.loop-index.invariant.lines schedule held))
+    left-stopped _ _ _ c.from_residual.result _ _ _ _ c.from_residual.ensures.1 (rw (left-turn c.args.ready.now.senders.items c.loop-index.index c.sender-item.result within at) at (c.loop-index.invariant.lines schedule held))
     (c.in_err-put_line.ensures.text _ (outcome_line-some _ _ _) (IfOk-weaker c.outcome_line-line.result _ _ (λ line is. is _ holds) c.outcome_line-line.ensures))
 
 pub loop-index-init : goal.loop-index-init

@@ -1,7 +1,6 @@
 use Rattle.std.proofs.Common.{◌≡◌, ◌<◌, ◌≤◌, ◌+◌, ◌++◌, ◌∷◌, [], List, get_or, length, take, drop, sym, subst, refl, ◌∙◌, arith}
 use Rattle.std.proofs.lemmas.List.{drop_all, length-take-le}
 use Rattle.std.proofs.lemmas.List.Elements.{All-take}
-use Rattle.std.proofs.lemmas.Result.{err_from_is_err_and}
 use Rattle.nr_files.specs.Rounds.{ended_by, ended_rounds}
 use Rattle.nr_files.specs.Schedule.{HasBlock}
 use Rattle.nr_files.specs.declared.schedule.Transmission.{Transmission}
@@ -50,8 +49,7 @@ returns-in_err-end_before-clause-text g c =
     let within : i < length xs = rw c.as_slice-schedule.ensures.value at c.loop-index-test.true in
     let at : x ≡ get_or xs i x = rw c.as_slice-schedule.ensures.value at c.index-schedule-index.is in
     let parts = turn-parts g.W.Walk.words senders xs i x within at in
-    let p = err_from_is_err_and c.from_residual.result c.from_residual.ensures.1 in
-    left-stopped _ _ _ c.from_residual.result p.0 _ _ _ _ p.1 p.2 (rw parts at c.loop-index.invariant.lines) (rw c.as_slice-schedule.ensures.value at c.in_err-end_before.ensures.text)
+    left-stopped _ _ _ c.from_residual.result _ _ _ _ c.from_residual.ensures.1 (rw parts at c.loop-index.invariant.lines) (rw c.as_slice-schedule.ensures.value at c.in_err-end_before.ensures.text)
 
 pub returns-in_err-transmit-clause-text : goal.returns-in_err-transmit-clause-text
 returns-in_err-transmit-clause-text g c =
@@ -66,8 +64,7 @@ returns-in_err-transmit-clause-text g c =
     let keeps = (rw c.as_slice-schedule.ensures.value at c.in_ok-end_before.ensures.keeps) (x ∷ drop (i + 1) xs) (ended_rounds [] (take i xs)) (rw (left-turn xs i x within at) at c.loop-index.invariant.keeps) in
     let parts = turn-parts g.W.Walk.words senders xs i x within at in
     let before = rw c.as_slice-schedule.ensures.value at c.in_ok-end_before.ensures.text in
-    let p = err_from_is_err_and c.from_residual-in_err-transmit.result c.from_residual-in_err-transmit.ensures.1 in
-    left-stopped _ _ _ c.from_residual-in_err-transmit.result p.0 _ _ _ _ p.1 p.2
+    left-stopped _ _ _ c.from_residual-in_err-transmit.result _ _ _ _ c.from_residual-in_err-transmit.ensures.1
     (left-more _ _ _ _ _ _ (rw parts at c.loop-index.invariant.lines) before) ((rw (c.as_slice-schedule.ensures.value, all-behind (i + 1) xs) at c.in_err-transmit.ensures.text) (take i xs) ended of keeps)
 
 pub loop-index-preserved : goal.loop-index-preserved

@@ -1,4 +1,4 @@
-use Rattle.std.proofs.Common.{◌≡◌, ◌+◌, [], All, false, length, ap, sym, refl, subst, arith}
+use Rattle.std.proofs.Common.{◌≡◌, ◌+◌, [], All, false, length, ap, sym, subst, arith}
 use Rattle.std.proofs.lemmas.List.{length-replicate}
 use Rattle.std.proofs.lemmas.Result.{err_from_is_err_and}
 use Rattle.nr_linkcommands.specs.Ends.{HoldRounds}
@@ -10,7 +10,8 @@ use Rattle.nr_linkcommands.specs.declared.run_command.slot.Slot.{Slot}
 use Rattle.nr_linkcommands.proofs.RoundEndFacts.{rounds-first}
 use Rattle.nr_linkcommands.proofs.RunOutcomeFacts.{none-within, text_of_run-some}
 use Rattle.nr_linkcommands.proofs.TimetableFacts.{blocks-hold, placed-in}
-use Rattle.nr_commands.proofs.WrittenLemmas.{with_text-nil, writes_behind, writes_last, writes_none}
+use Rattle.nr_commands.proofs.WrittenLemmas.{writes_last, writes_none}
+use Rattle.nr_linkcommands.proofs.RunTextFacts.{first-stopped}
 use Rattle.nr_linkcommands.proofs.run_command.RunCommandText.write.Goals as goal
 
 pub returns-in_err-rounds-clause-text : goal.returns-in_err-rounds-clause-text
@@ -23,12 +24,7 @@ unfolding rounds_counted
 follow-requires g c = grind (arith, length-replicate, placed-in, rounds-first, none-within)
 
 pub returns-in_err-follow-clause-text : goal.returns-in_err-follow-clause-text
-returns-in_err-follow-clause-text g c =
-    let senders = c.args.ready.now.senders.items in
-    let schedule = c.args.ready.now.inputs.now.schedule in
-    let p = err_from_is_err_and c.from_residual-in_err-follow.result c.from_residual-in_err-follow.ensures.1 in
-    writes_behind _ _ _ c.from_residual-in_err-follow.result p.0 _ _ [] (pieces_joined (turns run_words senders [] schedule.transmissions.items)) (run_ends schedule.by_process senders schedule.transmissions.items) p.1 p.2 refl
-    (sym (with_text-nil _)) c.in_err-follow.ensures.text
+returns-in_err-follow-clause-text g c = first-stopped _ _ c.from_residual-in_err-follow.result _ _ _ c.from_residual-in_err-follow.ensures.1 c.in_err-follow.ensures.text
 
 pub returns-then-by_process-clause-text : goal.returns-then-by_process-clause-text
 returns-then-by_process-clause-text g c = grind (arith, writes_last)

@@ -1,7 +1,4 @@
 use Rattle.std.proofs.Common.{arith}
-use Rattle.std.proofs.Common.{◌∙◌, ap}
-use Rattle.std.proofs.lemmas.Result.{IfOk-weaker}
-use Rattle.nr_segment.specs.Plan.{Numbers}
 use Rattle.nr_linkcommands.proofs.RunOutcomeFacts.{line-none}
 use Rattle.nr_linkcommands.proofs.run_command.lines.outcome_line.Goals as goal
 

@@ -1,6 +1,6 @@
-use Rattle.std.proofs.Common.{List, [], sym, refl, ◌∙◌, arith, false}
+use Rattle.std.proofs.Common.{List, arith, false}
 use Rattle.std.proofs.lemmas.List.{append-nil}
-use Rattle.std.proofs.lemmas.Result.{IfOk-weaker, err_from_is_err_and}
+use Rattle.std.proofs.lemmas.Result.{err_from_is_err_and}
 use Rattle.nr_files.specs.declared.schedule.Transmission.{Transmission}
 use Rattle.nr_linkcommands.specs.Ends.{HoldsRound}
 use Rattle.nr_linkcommands.proofs.RoundEndFacts.{EndsAs, ends-as, round-none, round_line-some}

@@ -1,18 +1,12 @@
 use Rattle.std.proofs.Common.{arith}
-use Rattle.std.proofs.Common.{Err, Ok, ◌++◌, [], ◌∷◌, List, ℕ, ap, sym, ◌∙◌}
+use Rattle.std.proofs.Common.{Err, Ok}
 use Rattle.std.proofs.lemmas.List.{append-nil}
 use Rattle.std.proofs.lemmas.Result.{err_from_is_err_and}
-use Rattle.nr_blockdesk.specs.Explains.{reception}
-use Rattle.nr_blockdesk.specs.Heard.{heard_record}
 use Rattle.nr_linkcommands.specs.Exchanges.{IsExchanged}
-use Rattle.nr_linkcommands.specs.Hearing.{heard_through}
-use Rattle.nr_linkcommands.specs.RunLines.{left_lines}
-use Rattle.nr_linkcommands.specs.SendLines.{sent_line}
-use Rattle.nr_commands.specs.Written.{with_text}
 use Rattle.nr_linkcommands.proofs.RunLineFacts.{left_lines-some, lines_of-refused, lines_of-sent, lines_of-some, on_ok-any, received_of-refused, received_of-sent}
-use Rattle.nr_linkcommands.proofs.RunTextFacts.{writes_so_far}
+use Rattle.nr_linkcommands.proofs.RunTextFacts.{first-stopped}
 use Rattle.nr_linkcommands.proofs.SendLemmas.{answer_line-some}
-use Rattle.nr_commands.proofs.WrittenLemmas.{with_text-append, with_text-nil, writes_behind, writes_none}
+use Rattle.nr_commands.proofs.WrittenLemmas.{prefix_so_far, writes_last, writes_none}
 use Rattle.nr_linkcommands.proofs.run_command.transmission.send_and_receive.Goals as goal
 
 pub next_state-requires-clause-both : goal.next_state-requires-clause-both
@@ -27,48 +21,31 @@ returns-in_err-exchange-clause-text g c = grind (arith, err_from_is_err_and, wri
 pub returns-in_err-put_line-in-Ok-clause-text : goal.returns-in_err-put_line-in-Ok-clause-text
 returns-in_err-put_line-in-Ok-clause-text g c = λ list holds.
     let made : IsExchanged c.args.sender.now c.args.transmission.now c.in-Ok.exchange = rw c.in-Ok.is at c.in_ok-exchange.ensures.made in
-    let bits = c.in-Ok.exchange.bits.items in
-    let p = err_from_is_err_and c.from_residual-in_err-put_line-in-Ok.result c.from_residual-in_err-put_line-in-Ok.ensures.1 in
-    let whole = lines_of-sent c.args.sender.now list c.args.transmission.now bits made.sent in
-    writes_behind _ _ _ c.from_residual-in_err-put_line-in-Ok.result p.0 _ _ [] _ _ p.1 p.2 whole (sym (with_text-nil _)) (c.in_err-put_line-in-Ok.ensures.text _ (answer_line-some _ _ (Ok bits)) c.sent_line.ensures)
+    rw (lines_of-sent c.args.sender.now list c.args.transmission.now c.in-Ok.exchange.bits.items made.sent)
+    (first-stopped _ _ c.from_residual-in_err-put_line-in-Ok.result _ _ _ c.from_residual-in_err-put_line-in-Ok.ensures.1 (c.in_err-put_line-in-Ok.ensures.text _ (answer_line-some _ _ (Ok c.in-Ok.exchange.bits.items)) c.sent_line.ensures))
 
 pub returns-in_err-after-in-Ok-clause-text : goal.returns-in_err-after-in-Ok-clause-text
 returns-in_err-after-in-Ok-clause-text g c = λ list holds.
     let made : IsExchanged c.args.sender.now c.args.transmission.now c.in-Ok.exchange = rw c.in-Ok.is at c.in_ok-exchange.ensures.made in
-    let bits = c.in-Ok.exchange.bits.items in
     let p = err_from_is_err_and c.from_residual-in_err-after-in-Ok.result c.from_residual-in_err-after-in-Ok.ensures.1 in
-    let whole = lines_of-sent c.args.sender.now list c.args.transmission.now bits made.sent in
     let sound = c.plans_are_sound.ensures _ _ _ c.is_sound.ensures.planned in
-    writes_so_far _ _ c.from_residual-in_err-after-in-Ok.result p.0 _ _ _ p.1 p.2 whole (left_lines-some _ _ c.args.sender.now.link _ sound.some) (c.in_ok-put_line-in-Ok.ensures.text _ (answer_line-some _ _ (Ok bits)) c.sent_line.ensures)
+    rw (p.1, p.2) (prefix_so_far _ _ _ _ _ (lines_of-sent c.args.sender.now list c.args.transmission.now c.in-Ok.exchange.bits.items made.sent) (left_lines-some _ _ c.args.sender.now.link _ sound.some) (c.in_ok-put_line-in-Ok.ensures.text _ (answer_line-some _ _ (Ok c.in-Ok.exchange.bits.items)) c.sent_line.ensures))
 
 pub returns-in_err-write_left-in-Ok-clause-text : goal.returns-in_err-write_left-in-Ok-clause-text
 returns-in_err-write_left-in-Ok-clause-text g c = λ list holds.
-    let x = c.args.transmission.now in
-    let link = c.args.sender.now.link in
-    let made : IsExchanged c.args.sender.now x c.in-Ok.exchange = rw c.in-Ok.is at c.in_ok-exchange.ensures.made in
-    let bits = c.in-Ok.exchange.bits.items in
-    let p = err_from_is_err_and c.from_residual-in_err-write_left-in-Ok.result c.from_residual-in_err-write_left-in-Ok.ensures.1 in
-    let whole = lines_of-sent c.args.sender.now list x bits made.sent in
-    let more = list ++ reception x.tx (heard_through x bits) ∷ [] in
-    let lines : List ℕ = left_lines x.number x.block link (heard_record link more) in
+    let made : IsExchanged c.args.sender.now c.args.transmission.now c.in-Ok.exchange = rw c.in-Ok.is at c.in_ok-exchange.ensures.made in
     let is = rw (c.take.ensures.value, made.heard) at c.in_ok-after-in-Ok.ensures list holds in
-    let stops = rw (is.same_link, is.recorded.same) at c.in_err-write_left-in-Ok.ensures.text in
-    writes_behind _ _ _ c.from_residual-in_err-write_left-in-Ok.result p.0 _ _ (sent_line x.number x.block bits) lines [] p.1 p.2
-    (whole ∙ sym (append-nil (sent_line x.number x.block bits ++ lines))) (c.in_ok-put_line-in-Ok.ensures.text _ (answer_line-some _ _ (Ok bits)) c.sent_line.ensures) stops
+    let p = err_from_is_err_and c.from_residual-in_err-write_left-in-Ok.result c.from_residual-in_err-write_left-in-Ok.ensures.1 in
+    rw (lines_of-sent c.args.sender.now list c.args.transmission.now c.in-Ok.exchange.bits.items made.sent)
+    (writes_last _ _ _ c.from_residual-in_err-write_left-in-Ok.result _ _ (c.in_ok-put_line-in-Ok.ensures.text _ (answer_line-some _ _ (Ok c.in-Ok.exchange.bits.items)) c.sent_line.ensures)
+    (rw (p.1, p.2) (rw (is.same_link, is.recorded.same) at c.in_err-write_left-in-Ok.ensures.text)))
 
 pub returns-in_ok-write_left-in-Ok-clause-text : goal.returns-in_ok-write_left-in-Ok-clause-text
 returns-in_ok-write_left-in-Ok-clause-text g c = λ list holds.
-    let x = c.args.transmission.now in
-    let link = c.args.sender.now.link in
-    let made : IsExchanged c.args.sender.now x c.in-Ok.exchange = rw c.in-Ok.is at c.in_ok-exchange.ensures.made in
-    let bits = c.in-Ok.exchange.bits.items in
-    let whole = lines_of-sent c.args.sender.now list x bits made.sent in
-    let more = list ++ reception x.tx (heard_through x bits) ∷ [] in
-    let lines : List ℕ = left_lines x.number x.block link (heard_record link more) in
+    let made : IsExchanged c.args.sender.now c.args.transmission.now c.in-Ok.exchange = rw c.in-Ok.is at c.in_ok-exchange.ensures.made in
     let is = rw (c.take.ensures.value, made.heard) at c.in_ok-after-in-Ok.ensures list holds in
-    let left = rw (is.same_link, is.recorded.same) at c.in_ok-write_left-in-Ok.ensures.text in
-    left ∙ ap (λ w. with_text w lines) (c.in_ok-put_line-in-Ok.ensures.text _ (answer_line-some _ _ (Ok bits)) c.sent_line.ensures)
-    ∙ with_text-append _ (sent_line x.number x.block bits) lines ∙ ap (with_text (g.O.Sink.written c.args.out.now)) (sym whole)
+    rw (lines_of-sent c.args.sender.now list c.args.transmission.now c.in-Ok.exchange.bits.items made.sent)
+    (writes_last {X = Unit {0}} _ _ _ (Ok tt) _ _ (c.in_ok-put_line-in-Ok.ensures.text _ (answer_line-some _ _ (Ok c.in-Ok.exchange.bits.items)) c.sent_line.ensures) (rw (is.same_link, is.recorded.same) at c.in_ok-write_left-in-Ok.ensures.text))
 
 pub returns-in_ok-write_left-in-Ok-clause-held : goal.returns-in_ok-write_left-in-Ok-clause-held
 returns-in_ok-write_left-in-Ok-clause-held g c = grind (arith, received_of-sent)

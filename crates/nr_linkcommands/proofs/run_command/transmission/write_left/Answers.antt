@@ -1,5 +1,4 @@
 use Rattle.std.proofs.Common.{◌≡◌, ℕ, ◌-◌, ◌<◌, ◌≤◌, List, ap, refl, arith, ◌∙◌}
-use Rattle.std.proofs.lemmas.Result.{err_from_is_err_and}
 use Rattle.nr_blockdesk.specs.Outcome.{left}
 use Rattle.nr_segment.specs.Plan.{Numbers}
 use Rattle.nr_linkcommands.specs.RunLines.{left_line}
@@ -10,9 +9,8 @@ use Rattle.nr_linkcommands.proofs.run_command.transmission.write_left.Goals as g
 pub returns-in_err-put_line-clause-text : goal.returns-in_err-put_line-clause-text
 returns-in_err-put_line-clause-text g c =
     let line : ℕ → List ℕ = λ r. left_line c.args.transmission.now.number c.args.transmission.now.block r (left c.args.receiver.now.link c.args.receiver.now.heard r) in
-    let p = err_from_is_err_and c.from_residual.result c.from_residual.ensures.1 in
     let within : c.loop-r.r < c.args.receiver.now.link.plan.c = omega (arith, ap (λ (n : Numbers). n.c) c.plan.ensures.numbers, c.loop-r-test.true) in
-    left-stopped _ _ _ c.from_residual.result p.0 _ _ _ _ p.1 p.2 (rw (range-turn line c.loop-r.r _ within) at c.loop-r.invariant.lines)
+    left-stopped _ _ _ c.from_residual.result _ _ _ _ c.from_residual.ensures.1 (rw (range-turn line c.loop-r.r _ within) at c.loop-r.invariant.lines)
     (rw c.left.ensures at (c.in_err-put_line.ensures.text _ (left_line-some _ _ _ _) c.left_line.ensures))
 
 pub loop-r-init : goal.loop-r-init

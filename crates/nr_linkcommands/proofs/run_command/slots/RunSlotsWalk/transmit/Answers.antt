@@ -1,5 +1,4 @@
-use Rattle.std.proofs.Common.{List, [], Option, sym, refl, ap, arith, ◌∷◌, true, Bool, false, ℕ}
-use Rattle.std.proofs.lemmas.List.{append-nil}
+use Rattle.std.proofs.Common.{List, Option, refl, ap, arith, ◌∷◌, true, Bool, false, ℕ}
 use Rattle.std.proofs.lemmas.Result.{err_from_is_err_and}
 use Rattle.nr_blockdesk.specs.Explains.{Reception}
 use Rattle.nr_blockdesk.specs.Link.{Link}
@@ -11,7 +10,6 @@ use Rattle.nr_linkcommands.specs.RoundTexts.{said_if}
 use Rattle.nr_linkcommands.specs.RunText.{received, run_words}
 use Rattle.nr_files.specs.Rounds.{continued}
 use Rattle.nr_linkcommands.proofs.RoundEndFacts.{continued-room, held-over, made-held, rounds-more}
-use Rattle.nr_commands.proofs.WrittenLemmas.{with_text-nil, writes_behind}
 use Rattle.nr_linkcommands.proofs.run_command.slots.RunSlotsWalk.transmit.Given as given
 use Rattle.nr_linkcommands.proofs.run_command.slots.RunSlotsWalk.transmit.Goals as goal
 use Rattle.nr_linkcommands.proofs.run_command.slots.RunSlotsWalk.transmit.Goals.{After-begin_round}
@@ -45,8 +43,7 @@ returns-in_err-send_and_receive-clause-text g c = λ before ended of keeps.
     let x = c.args.transmission.now in
     let state = held g (goal.at.returns-in_err-send_and_receive-clause-text g c).After-begin_round before ended of keeps in
     let p = err_from_is_err_and c.from_residual.result c.from_residual.ensures.1 in
-    rw (ap (λ (o : Option SenderView). said_if run_words o (continued before x) x) c.sender-sender.ensures.is)
-    (writes_behind _ _ _ c.from_residual.result p.0 _ _ [] _ [] p.1 p.2 (sym (append-nil _)) (sym (with_text-nil _)) (c.in_err-send_and_receive.ensures.text _ state.0))
+    rw (ap (λ (o : Option SenderView). said_if run_words o (continued before x) x) c.sender-sender.ensures.is, p.1, p.2) (c.in_err-send_and_receive.ensures.text _ state.0)
 
 pub returns-clause-text : goal.returns-clause-text
 returns-clause-text g c = λ before ended of keeps.
