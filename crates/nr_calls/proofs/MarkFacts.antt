@@ -9,7 +9,7 @@ use Rattle.std.specs.Simd.Lanes.{chunk, mask_l}
 use Rattle.nr_bitvec.specs.Bit.{bit}
 use Rattle.nr_bitvec.specs.BitList.{low_first}
 use Rattle.nr_blockdesk.specs.Marks.{heards, heards_from, place_heard}
-use Rattle.nr_calls.specs.Marks.{is_bit, is_one}
+use Rattle.nr_calls.specs.Coding.{is_digit, is_one}
 use Rattle.nr_calls.specs.Receiving.{heard_octet}
 use Rattle.nr_bitvec.proofs.PlaceFacts.{same_from_bits}
 use Rattle.nr_bitvec.proofs.PackedListFacts.{bit-low_first, length-low_first}
@@ -33,25 +33,25 @@ sixteen-more f octets before after i so_far more =
     ∙ ap (map f) (sym (take-add (16 * i) 16 octets) ∙ ap (λ n. take n octets) next)
 
 -- the marks and bits of octets say what the octets say
-pub octets-heard : (octets : List ℕ) (marks bits : List Bool) → marks ≡ map is_bit octets → bits ≡ map is_one octets → heards marks bits ≡ map heard_octet octets
+pub octets-heard : (octets : List ℕ) (marks bits : List Bool) → marks ≡ map is_digit octets → bits ≡ map is_one octets → heards marks bits ≡ map heard_octet octets
 unfolding heards_from
 octets-heard octets marks bits is is_too =
-    let long : length marks ≡ length octets = ap length is ∙ length-map octets is_bit in
+    let long : length marks ≡ length octets = ap length is ∙ length-map octets is_digit in
     same_lists (heards marks bits) (map heard_octet octets) (length-map-range_with_len (λ m. place_heard (bit marks m) (bit bits m)) 0 (length marks) ∙ long ∙ sym (length-map octets heard_octet))
     (λ m d h.
     let below : m < length marks = omega (arith, h, length-map-range_with_len (λ k. place_heard (bit marks k) (bit bits k)) 0 (length marks)) in
     get_or-map-range_with_len (λ k. place_heard (bit marks k) (bit bits k)) 0 (length marks) m m d below (omega arith)
-    ∙ ap (λ (ms : List Bool). place_heard (bit ms m) (bit bits m)) is ∙ ap (λ (bs : List Bool). place_heard (bit (map is_bit octets) m) (bit bs m)) is_too
-    ∙ ap (λ b. place_heard b (bit (map is_one octets) m)) (get_or-map is_bit octets m 0 false (omega (arith, below, long)))
-    ∙ ap (place_heard (is_bit (get_or octets m 0))) (get_or-map is_one octets m 0 false (omega (arith, below, long)))
+    ∙ ap (λ (ms : List Bool). place_heard (bit ms m) (bit bits m)) is ∙ ap (λ (bs : List Bool). place_heard (bit (map is_digit octets) m) (bit bs m)) is_too
+    ∙ ap (λ b. place_heard b (bit (map is_one octets) m)) (get_or-map is_digit octets m 0 false (omega (arith, below, long)))
+    ∙ ap (place_heard (is_digit (get_or octets m 0))) (get_or-map is_one octets m 0 false (omega (arith, below, long)))
     ∙ one (get_or octets m 0)
     ∙ sym (get_or-map heard_octet octets m 0 d (omega (arith, below, long))))
   where
-    one : (o : ℕ) → place_heard (is_bit o) (is_one o) ≡ heard_octet o
+    one : (o : ℕ) → place_heard (is_digit o) (is_one o) ≡ heard_octet o
     one zero = refl
     one (suc zero) = refl
     one (suc (suc o)) =
-        let none : is_bit (suc (suc o)) ≡ false = grind (arith, nat_tests) in
+        let none : is_digit (suc (suc o)) ≡ false = grind (arith, nat_tests) in
         let other : is_one (suc (suc o)) ≡ false = grind (arith, nat_tests) in
         let nor : (suc (suc o) == 0) ≡ false = grind (arith, nat_tests) in
         rw (none, other, nor)

@@ -11,4 +11,3 @@ pub mod Cutting
 pub mod Encoding
 pub mod Judging
 pub mod Inside
-pub mod Marks

@@ -3,7 +3,7 @@
 ghost use Rattle.std.specs.Prelude.{◌≡◌, ◌*◌, ◌^◌, ◌≤◌, length, map, IfOk};
 ghost use Rattle.nr_bitvec.specs.BitList.{low_first};
 ghost use Rattle.nr_blockdesk.specs.Marks.{heards};
-ghost use Rattle.nr_calls.specs.Marks.{is_bit, is_one};
+ghost use Rattle.nr_calls.specs.Coding.{is_digit, is_one};
 ghost use Rattle.nr_calls.specs.Receiving.{heard_octet};
 
 use nr_bitvec::Bits;
@@ -15,10 +15,10 @@ pub(crate) const MOST_MARKS: usize = 1 << 24;
 
 // Marks of those of sixteen octets that say a bit, and the bits, the first octet's lowest.
 fn sixteen_marks(octets: u8x16) -> (u64, u64)
-    ensures marks { low_first 16 result.0 ≡ map is_bit octets }
+    ensures marks { low_first 16 result.0 ≡ map is_digit octets }
     ensures bits { low_first 16 result.1 ≡ map is_one octets }
 {
-    let marks = octets.simd_lt(u8x16::splat(2)).to_bitmask();
+    let marks = octets.simd_le(u8x16::splat(1)).to_bitmask();
     let bits = octets.simd_eq(u8x16::splat(1)).to_bitmask();
     (marks, bits)
 }
@@ -39,7 +39,7 @@ pub(crate) fn marks_of(alloc: Global, octets: &[u8]) -> Result<(Bits, Bits), All
         value.push_word(16, bits);
     }
     for i in 16 * whole..count {
-        heard.push_in_room(octets[i] < 2);
+        heard.push_in_room(octets[i] <= 1);
         value.push_in_room(octets[i] == 1);
     }
     Ok((heard, value))

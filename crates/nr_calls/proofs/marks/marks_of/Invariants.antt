@@ -1,11 +1,11 @@
 use Rattle.std.proofs.Common.{◌≡◌, ◌+◌, ◌*◌, ◌≤◌, length, map, take}
-use Rattle.nr_calls.specs.Marks.{is_bit, is_one}
+use Rattle.nr_calls.specs.Coding.{is_digit, is_one}
 use Rattle.nr_calls.proofs.marks.marks_of.Given as goal
 
 -- what the sixteens of octets so far say
 abbrev pub invariant-loop-i : goal.invariant-loop-i
 invariant-loop-i l = record {
-  marks : l.heard.items ≡ map is_bit (take (16 * l.i) l.octets);
+  marks : l.heard.items ≡ map is_digit (take (16 * l.i) l.octets);
   bits : l.value.items ≡ map is_one (take (16 * l.i) l.octets);
   room : length l.octets ≤ l.heard.room + 16 * l.i;
   room_too : length l.octets ≤ l.value.room + 16 * l.i;
@@ -14,7 +14,7 @@ invariant-loop-i l = record {
 -- what the octets so far say
 abbrev pub invariant-loop-i-2 : goal.invariant-loop-i-2
 invariant-loop-i-2 l = record {
-  marks : l.heard.items ≡ map is_bit (take l.i l.octets);
+  marks : l.heard.items ≡ map is_digit (take l.i l.octets);
   bits : l.value.items ≡ map is_one (take l.i l.octets);
   room : length l.octets ≤ l.heard.room + l.i;
   room_too : length l.octets ≤ l.value.room + l.i;

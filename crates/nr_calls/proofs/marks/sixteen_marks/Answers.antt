@@ -1,15 +1,15 @@
-use Rattle.std.proofs.Common.{◌==◌, nat_lt, map, ap, ◌∙◌, w8, arith}
+use Rattle.std.proofs.Common.{◌==◌, nat_le, map, ap, ◌∙◌, w8, arith}
 use Rattle.std.proofs.lemmas.List.{length-map}
 use Rattle.std.proofs.lemmas.Simd.{bitmask_splat}
 use Rattle.nr_bitvec.specs.BitList.{low_first}
-use Rattle.nr_calls.specs.Marks.{is_bit, is_one}
+use Rattle.nr_calls.specs.Coding.{is_digit, is_one}
 use Rattle.nr_calls.proofs.MarkFacts.{first-mask}
 use Rattle.nr_calls.proofs.marks.sixteen_marks.Goals as goal
 
 pub returns-clause-marks : goal.returns-clause-marks
 returns-clause-marks c =
-    ap (low_first 16) (bitmask_splat w8 nat_lt c.args.octets 16 2 c.fits-octets.0 (omega arith))
-    ∙ first-mask (map is_bit c.args.octets) 16 (length-map c.args.octets is_bit ∙ c.fits-octets.0)
+    ap (low_first 16) (bitmask_splat w8 nat_le c.args.octets 16 1 c.fits-octets.0 (omega arith))
+    ∙ first-mask (map is_digit c.args.octets) 16 (length-map c.args.octets is_digit ∙ c.fits-octets.0)
 
 pub returns-clause-bits : goal.returns-clause-bits
 returns-clause-bits c =
