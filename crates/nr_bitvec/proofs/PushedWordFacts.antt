@@ -7,7 +7,7 @@ use Rattle.std.specs.Int.{bit_at, to_be_bytes, to_le_bytes, w64}
 use Rattle.std.specs.Int.RustNames.{bit_or}
 use Rattle.nr_bitvec.specs.BitList.{bits_of, octets_of}
 use Rattle.nr_bitvec.specs.Packed.{place, unpacked}
-use Rattle.nr_bitvec.specs.PackedInside.{octet_place, followed, IsPacked, Loads, Writes}
+use Rattle.nr_bitvec.specs.PackedInside.{octet_place, followed, IsPacked, Loads, HoldsOctets}
 use Rattle.nr_bitvec.proofs.BitFacts.{bit_at_shr, bit_at_mod, place_of, place_past, window-both}
 use Rattle.nr_bitvec.proofs.PlaceFacts.{place-push_old, place-push_new, length-unpacked, bit-place}
 use Rattle.nr_bitvec.proofs.PackedListFacts.{unpacked-is, bit-within}
@@ -96,7 +96,7 @@ filled-items n m p at count ws vs new filled here inside loads =
 
 -- ---- octets of words
 
-pub writes_none : (ws os : List ℕ) → os ≡ [] → Writes ws os 0
+pub writes_none : (ws os : List ℕ) → os ≡ [] → HoldsOctets ws os 0
 writes_none ws os e = record {
   long = ap length e;
   places = λ t h. absurd (omega (arith, h));
@@ -144,7 +144,7 @@ written-place w n k s h g turns =
     let e : 8 * ((8 * k + (7 - s)) / 8) + (7 - (8 * k + (7 - s)) % 8) ≡ 8 * k + s = omega (arith, g) in
     ap (λ o. bit_at o (7 - s)) (le-octet n k h) ∙ bit_at_mod (n / 2 ^ (8 * k)) 8 (7 - s) (omega arith) ∙ bit_at_shr n (8 * k) (7 - s) ∙ turns (8 * k + (7 - s)) (omega (arith, h)) ∙ ap (bit_at w) e
 
-pub writes_more : (ws os next : List ℕ) (i w n : ℕ) → Writes ws os i → w ≡ get_or ws i 0 → ((j : ℕ) → j < 64 → bit_at n j ≡ bit_at w (8 * (j / 8) + (7 - j % 8))) → next ≡ os ++ to_le_bytes w64 n → Writes ws next (i + 1)
+pub writes_more : (ws os next : List ℕ) (i w n : ℕ) → HoldsOctets ws os i → w ≡ get_or ws i 0 → ((j : ℕ) → j < 64 → bit_at n j ≡ bit_at w (8 * (j / 8) + (7 - j % 8))) → next ≡ os ++ to_le_bytes w64 n → HoldsOctets ws next (i + 1)
 writes_more ws os next i w n writes read turns e =
     let long : length (to_le_bytes w64 n) ≡ 8 = refl in
     record {
@@ -165,7 +165,7 @@ writes_more ws os next i w n writes read turns e =
     }
 
 -- as many of them as the list needs are its octets
-pub writes_all : (n : ℕ) (ws os : List ℕ) (i count : ℕ) → IsPacked n ws → Writes ws os i → length ws ≤ i → count ≡ n / 8 + min 1 (n % 8) → take count os ≡ octets_of (unpacked n ws)
+pub writes_all : (n : ℕ) (ws os : List ℕ) (i count : ℕ) → IsPacked n ws → HoldsOctets ws os i → length ws ≤ i → count ≡ n / 8 + min 1 (n % 8) → take count os ≡ octets_of (unpacked n ws)
 writes_all n ws os i count packed writes all e =
     let long : length (take count os) ≡ count = omega (arith, length-take count os, e, writes.long, all, packed.below) in
     let same : (k : ℕ) → k < count → get_or os k 0 ≡ get_or (octets_of (unpacked n ws)) k 0 = λ k h.

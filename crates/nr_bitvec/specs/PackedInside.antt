@@ -60,7 +60,7 @@ pub record Loads (G : ℕ → ℕ) (ws : List ℕ) (i : ℕ) : Type 0 where
   pub places : (t : ℕ) → t < 64 * i → place ws t ≡ G t
 
 -- the octets of the first i words
-pub record Writes (ws os : List ℕ) (i : ℕ) : Type 0 where
+pub record HoldsOctets (ws os : List ℕ) (i : ℕ) : Type 0 where
   pub long : length os ≡ 8 * i
   pub places : (t : ℕ) → t < 64 * i → octet_place os t ≡ place ws t
   pub small : (k : ℕ) → slice_index_or os k 0 < 2 ^ 8

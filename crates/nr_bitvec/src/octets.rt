@@ -3,7 +3,7 @@
 
 ghost use Rattle.std.specs.Prelude.{◌≡◌, ℕ, ◌+◌, ◌-◌, ◌*◌, ◌/◌, ◌%◌, ◌<◌, ◌≤◌, length};
 ghost use Rattle.std.specs.Int.{bit_at};
-ghost use Rattle.nr_bitvec.specs.PackedInside.{octet_place, Swaps, Writes};
+ghost use Rattle.nr_bitvec.specs.PackedInside.{HoldsOctets, octet_place, Swaps};
 
 /// The word with its bits in the other order: what `u64::reverse_bits` gives, in fewer steps.
 pub fn reversed(word: u64) -> u64
@@ -47,7 +47,7 @@ pub(crate) fn word_of_octets(group: &[u8]) -> u64
 // Writes the octets of words, with the places of each.
 pub(crate) fn write_octets(words: &[u64], octets: &mut [u8])
     requires { length octets.old ≡ 8 * length words.now }
-    ensures { Writes words.now octets.new (length words.now) }
+    ensures { HoldsOctets words.now octets.new (length words.now) }
 {
     for (i, word) in words.iter().enumerate() {
         octets[8 * i..8 * i + 8].copy_from_slice(&turned(*word).to_le_bytes());

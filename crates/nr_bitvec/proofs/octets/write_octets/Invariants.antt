@@ -1,7 +1,7 @@
 use Rattle.std.proofs.Common.{◌*◌, take}
-use Rattle.nr_bitvec.specs.PackedInside.{Writes}
+use Rattle.nr_bitvec.specs.PackedInside.{HoldsOctets}
 use Rattle.nr_bitvec.proofs.octets.write_octets.Given as goal
 
 -- the octets of the words so far
 abbrev pub invariant-loop-i : goal.invariant-loop-i
-invariant-loop-i l = Writes l.words (take (8 * l.i) l.octets) l.i
+invariant-loop-i l = HoldsOctets l.words (take (8 * l.i) l.octets) l.i
