@@ -1,4 +1,5 @@
 -- The closure of a set: it has the set, it is closed, and it lies in every closed set that has the set.
+use Rattle.std.proofs.Common.{rules}
 use Rattle.std.proofs.lemmas.Bool.Decides.{nat_tests}
 use Rattle.std.proofs.Common.{◌≡◌, ℕ, ◌<◌, ◌≤◌, Bool, true, false, refl, sym, ap, ◌∙◌, ⊎_elim, inl, inr, arith}
 use Rattle.std.specs.Prelude.{◌⊎◌, zero, suc}
@@ -37,8 +38,7 @@ round_keeps c S p h = or_left (S p) (any_below (λ i. any_below (λ t. fixes S (
 
 pub round_adds : (c : Checks) (S : ℕ → Bool) (i t p : ℕ) → i < c.rows → t < c.lanes → fixes S (c.row i t) p ≡ true → round c S p ≡ true
 unfolding round
-round_adds c S i t p li lt h = or_right (S p) (any_below (λ i. any_below (λ t. fixes S (c.row i t) p) c.lanes) c.rows)
-    (passes_any_below (λ i. any_below (λ t. fixes S (c.row i t) p) c.lanes) c.rows i li (passes_any_below (λ t. fixes S (c.row i t) p) c.lanes t lt h))
+round_adds c S i t p li lt h = search (rules, or_right, passes_any_below)
 
 -- a round stays in each set that has the set and what a row fixes
 round_into : (c : Checks) (S U : ℕ → Bool) → Within S U → ((i t p : ℕ) → i < c.rows → t < c.lanes → fixes S (c.row i t) p ≡ true → U p ≡ true) → Within (round c S) U

@@ -1,4 +1,5 @@
 -- Words on closures, stopping sets, and what a peeler that ran dry knows.
+use Rattle.std.proofs.Common.{rules}
 use Rattle.std.proofs.lemmas.Bool.Decides.{nat_tests}
 use Rattle.std.proofs.Common.{◌≡◌, ◌≢◌, ℕ, ◌<◌, ◌==◌, ◌||◌, Bool, true, false, not, List, [], ◌∷◌, refl, sym, ap, ◌∙◌, arith}
 use Rattle.std.specs.Prelude.{count_by}
@@ -60,8 +61,7 @@ pub stands_once : (p : ℕ) (row : List ℕ) → IsDistinctRow row → stands p 
 stands_once p row distinct h = omega (arith, distinct p, stands_counted p row h)
 
 others_agree : (S v w : ℕ → Bool) (p : ℕ) → AgreeOn S v w → (row : List ℕ) → list_all (λ q. (q == p) || S q) row ≡ true → agree_but v w p row ≡ true
-others_agree S v w p agree row =
-    all_more (λ q. (q == p) || S q) (λ q. (q == p) || beq (v q) (w q)) row (λ q _. or_more (q == p) (S q) (beq (v q) (w q)) (λ s. beq_same (v q) (w q) (agree q s)))
+others_agree S v w p agree row = search (rules, all_more, or_more, beq_same)
 
 pub words_agree : (c : Checks) (S v w : ℕ → Bool) → AreSound c → Meets c v → Meets c w → AgreeOn S v w → AgreeOn (closure c S) v w
 words_agree c S v w sound mv mw agree p h = beq_true (v p) (w p) (closure_least c S (λ q. beq (v q) (w q)) (λ q s. beq_same (v q) (w q) (agree q s)) closed p h)

@@ -1,4 +1,5 @@
 -- A column of blocks whose positions become known: what the rows' counts and the visits come to.
+use Rattle.std.proofs.Common.{rules}
 use Rattle.std.proofs.Common.{◌≡◌, ℕ, zero, suc, ◌+◌, ◌-◌, ◌*◌, ◌/◌, ◌%◌, ◌<◌, ◌≤◌, ◌≢◌, ◌==◌, ◌&&◌, nat_lt, Bool, true, false, not, cond, List, [], ◌∷◌, length, refl, sym, ap, ◌∙◌, inl, inr, arith}
 use Rattle.std.specs.Prelude.{All, count_by, slice_index, sum}
 use Rattle.std.proofs.lemmas.Bool.{eq-eqb, ne_eqb, cases_eq}
@@ -52,22 +53,7 @@ column_most z M j row = omega (arith, count_plus (below_column z M j) (from_colu
 
 -- as many entries of a column lead from a set to a row as the row has positions of the set in that column
 pub hits_marks : (set z i j t : ℕ) (M : ℕ → Bool) → 0 < z → (es : List Entry) → count_by (hits set z j M i t) (column_of es j) ≡ count_by (in_column z M j) (row_at es set z i t)
-hits_marks set z i j t M some es =
-    count_filter (hits set z j M i t) (λ e. e.col == j) es ∙ count_alike (λ (e : Entry). (e.col == j) && hits set z j M i t e) (λ (e : Entry). (e.row == i) && in_column z M j (one_at z t e.col (value_in set e))) same es
-    ∙ sym (count_map (in_column z M j) (λ (e : Entry). one_at z t e.col (value_in set e)) (row_of es i) ∙ count_filter (λ (e : Entry). in_column z M j (one_at z t e.col (value_in set e))) (λ e. e.row == i) es)
-  where
-    same : (e : Entry) → ((e.col == j) && hits set z j M i t e) ≡ ((e.row == i) && in_column z M j (one_at z t e.col (value_in set e)))
-    same e = elim (cases_eq e.col j) [
-      | inl here ↦
-          let column : (e.col == j) ≡ true = eq-eqb e.col j here in
-          let place : (one_at z t e.col (value_in set e) / z == j) ≡ true = ap (λ n. n == j) (place_column z t e.col (value_in set e) some) ∙ column in
-          let at : M (one_at z t e.col (value_in set e)) ≡ M (one_at z t j (value_in set e)) = ap (λ col. M (one_at z t col (value_in set e))) here in
-          grind (arith, column, place, at)
-      | inr other ↦
-          let column : (e.col == j) ≡ false = ne_eqb e.col j other in
-          let place : (one_at z t e.col (value_in set e) / z == j) ≡ false = ap (λ n. n == j) (place_column z t e.col (value_in set e) some) ∙ column in
-          grind (arith, column, place)
-    ]
+hits_marks set z i j t M some es = search (rules, count_filter, count_alike, count_map, cases_eq, eq-eqb, place_column, ne_eqb)
 
 -- no entry leads to a row past the last
 pub hits_past : (set z i j t rows : ℕ) (M : ℕ → Bool) → rows ≤ i → (column : List Entry) → All (λ e. e.row < rows) column → count_by (hits set z j M i t) column ≡ 0

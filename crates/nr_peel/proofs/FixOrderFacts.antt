@@ -1,4 +1,5 @@
 -- Steps that are accepted in turn: where they lead, from a larger set, and one step more.
+use Rattle.std.proofs.Common.{rules}
 use Rattle.std.proofs.lemmas.Bool.Decides.{nat_tests}
 use Rattle.std.proofs.Common.{arith, false}
 use Rattle.std.proofs.Common.{◌≡◌, ℕ, ◌<◌, ◌==◌, ◌||◌, Bool, true, false, cond, List, [], ◌∷◌, ◌++◌, length, take, refl, sym, ap, ◌∙◌, ⊎_elim, append_assoc, append-nil}
@@ -86,10 +87,7 @@ pub all_accepted-push : (c : Checks) (S : ℕ → Bool) (ss : List Fix) (s : Fix
 all_accepted-push c S ss s h k = accepted_after c S ss (s ∷ []) h (and_from (accepts c (after_steps c S ss) s) true k refl)
 
 pub is_fixed_by-push : (ss : List Fix) (s : Fix) (p : ℕ) → is_fixed_by (ss ++ s ∷ []) p ≡ (is_fixed_by ss p || (s.pos == p))
-is_fixed_by-push ss s p = list_any-append (λ (x : Fix). x.pos == p) ss (s ∷ []) ∙ ap (λ b. is_fixed_by ss p || b) (or_false (s.pos == p))
-  where
-    or_false : (b : Bool) → (b || false) ≡ b
-    or_false b = grind arith
+is_fixed_by-push ss s p = search (rules, list_any-append)
 
 -- ---- steps that go on
 

@@ -1,4 +1,5 @@
 -- What is left: the positions that aren't known, and what shows that all or not all are.
+use Rattle.std.proofs.Common.{rules}
 use Rattle.std.proofs.lemmas.Bool.Decides.{nat_tests}
 use Rattle.std.proofs.Common.{◌≡◌, ◌≢◌, ℕ, ◌+◌, ◌<◌, ◌≤◌, ◌==◌, nat_lt, Bool, true, false, not, cond, List, [], ◌∷◌, ◌++◌, length, get_or, refl, sym, ap, ◌∙◌, ⊎_elim, arith}
 use Rattle.std.specs.Prelude.{zero, suc, count_by, slice_index}
@@ -39,11 +40,7 @@ pub record IsLeft (n : ℕ) (known : List Bool) : Type 0 where
 
 pub some_left : (n : ℕ) (known : List Bool) → n ≤ length known → left_of n known ≢ 0 → IsLeft n known
 some_left zero known le h = absurd (h refl)
-some_left (suc n) known le h = go (bit known n) refl (some_left n known (omega (arith, le)))
-  where
-    go : (b : Bool) → bit known n ≡ b → (left_of n known ≢ 0 → IsLeft n known) → IsLeft (suc n) known
-    go false e ih = record { pos = n; below = omega arith; missing = e }
-    go true e ih = grind (arith, left_more)
+some_left (suc n) known le h = search (rules, some_left n known (omega (arith, le)), left_more)
 
 -- where none of the first positions is known, all of them are left
 pub all_left : (n : ℕ) (known : List Bool) → n ≤ length known → ((p : ℕ) → p < n → bit known p ≡ false) → left_of n known ≡ n

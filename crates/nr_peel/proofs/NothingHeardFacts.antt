@@ -1,5 +1,6 @@
 -- With nothing received no position below K' is fixed. The fillers, with the extension positions whose row has fillers
 -- alone beside them, are a closed set.
+use Rattle.std.proofs.Common.{rules}
 use Rattle.std.proofs.Common.{◌≡◌, ◌≢◌, ℕ, ◌+◌, ◌*◌, ◌%◌, ◌<◌, ◌≤◌, ◌==◌, nat_le, nat_lt, ◌||◌, ◌&&◌, Bool, true, false, cond, List, [], ◌∷◌, length, map, refl, sym, ap, ◌∙◌, ⊎_elim, arith, ◌/◌, ◌-◌}
 use Rattle.std.specs.List.{list_all, filter}
 use Rattle.std.proofs.lemmas.Bool.{and_left, and_parts, and_from, and_right, or_cases, or_left, or_right, eqb-true, eq-eqb, leb-false, le-leb, le-ltb, lt-leb, ne_eqb, false≢true, true≢false, cases_eq, cases_lt, false_from_ne_true}
@@ -111,15 +112,10 @@ module _ (es : List Entry) (set z n rows kdash : ℕ) (pos : 0 < z) where
       there q past = sym (ap (stands q) tails) ∙ tail_same set z t (n + 4) q pos past (row_of es i)
 
       lone_is : lone x ≡ list_all (λ r. (r == x) || fill r) row
-      lone_is =
-          let block : x / z - n ≡ i = omega (arith, div-mul-add (n + i) z t lt) in
-          ap (λ k. list_all (λ r. (r == x) || fill r) (row_at es set z k (x % z))) block ∙ ap (λ k. list_all (λ r. (r == x) || fill r) (row_at es set z i k)) (mod-mul-add (n + i) z t lt)
+      lone_is = search (rules, x, div-mul-add, mod-mul-add)
 
       filled : (r : ℕ) → stands r row ≡ true → ((r == x) || reach r) ≡ true → ((r == x) || fill r) ≡ true
-      filled r s h = ⊎_elim
-          (λ low. or_more (r == x) (reach r) (fill r) (low_fill r low) h)
-          (λ past. or_left (r == x) (fill r) (⊎_elim (λ e. eq-eqb r x (sym (eqb-true x r e))) (λ e. absurd (false≢true e)) (or_cases (x == r) false (there r past ∙ s))))
-          (cases_lt r ((n + 4) * z))
+      filled r s h = search (rules, or_more, x, low_fill, or_left, eq-eqb, eqb-true, or_cases, there, cases_lt)
 
       own : p ≡ x → reach p ≡ true
       own e = ap reach e ∙ or_right (fill x) (nat_le ((n + 4) * z) x && lone x) (and_from (nat_le ((n + 4) * z) x) (lone x) (le-leb ((n + 4) * z) x far)

@@ -1,4 +1,5 @@
 -- Peeling by rounds: what a tally counts, what a round marks, and where rounds end.
+use Rattle.std.proofs.Common.{rules}
 use Rattle.std.proofs.Common.{◌≡◌, ℕ, ◌+◌, ◌*◌, ◌<◌, ◌≤◌, ◌==◌, ◌||◌, ◌&&◌, nat_lt, Bool, true, false, not, cond, List, length, get_or, set, take, refl, sym, ap, ◌∙◌, subst, arith}
 use Rattle.std.specs.Prelude.{zero, suc, All, count_by}
 use Rattle.std.proofs.lemmas.Bool.{and_parts, and_from, or_left, or_right, true≢false, eqb-true, eq-eqb}
@@ -121,9 +122,7 @@ round_grows c S T sound some is =
 
 none_lacks : (c : Checks) (S : ℕ → Bool) → some_lacks_one c S ≡ false → LacksNoneOrSeveral c S
 unfolding some_lacks_one
-none_lacks c S none i t li lt one =
-    let here = passes_any_below (λ t. lacks_one S (c.row i t)) c.lanes t lt (eq-eqb (count_by (λ p. not (S p)) (c.row i t)) 1 one) in
-    true≢false (sym (passes_any_below (λ i. any_below (λ t. lacks_one S (c.row i t)) c.lanes) c.rows i li here) ∙ none)
+none_lacks c S none i t li lt one = search (rules, passes_any_below, eq-eqb)
 
 -- a round without such a row ends at the closure
 pub rounds_done : (c : Checks) (S K : ℕ → Bool) → AreSound c → Within S K → Within K (closure c S) → some_lacks_one c K ≡ false → (p : ℕ) → round c K p ≡ closure c S p

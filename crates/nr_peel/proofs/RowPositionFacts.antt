@@ -1,4 +1,5 @@
 -- Positions in a row: how often one stands there, and rows with one position outside a set.
+use Rattle.std.proofs.Common.{rules}
 use Rattle.std.proofs.Common.{◌≡◌, ℕ, ◌+◌, ◌<◌, ◌==◌, ◌||◌, ◌&&◌, Bool, true, false, not, cond, List, [], ◌∷◌, length, get_or, take, refl, sym, ap, ◌∙◌, ⊎_elim, arith, ◌≢◌, map, ◌≤◌}
 use Rattle.std.specs.Prelude.{count_by}
 use Rattle.std.specs.List.{list_all, filter}
@@ -120,10 +121,7 @@ only_from_count S (x ∷ row) h = go (S x) refl (only_from_count S row)
 
 -- a larger set fixes as well
 pub fixes_more : (S T : ℕ → Bool) (row : List ℕ) (p : ℕ) → ((q : ℕ) → S q ≡ true → T q ≡ true) → fixes S row p ≡ true → fixes T row p ≡ true
-fixes_more S T row p within f =
-    let parts = and_parts (stands p row) (list_all (λ q. (q == p) || S q) row) f in
-    and_from (stands p row) (list_all (λ q. (q == p) || T q) row) parts.0
-    (all_more (λ q. (q == p) || S q) (λ q. (q == p) || T q) row (λ q _. or_more (q == p) (S q) (T q) (within q)) parts.1)
+fixes_more S T row p within f = search (rules, and_parts, and_from, all_more, or_more)
 
 -- every other position of a row that fixes one is in the set
 pub other_in : (T : ℕ → Bool) (row : List ℕ) (p q : ℕ) → list_all (λ r. (r == p) || T r) row ≡ true → stands q row ≡ true → q ≢ p → T q ≡ true

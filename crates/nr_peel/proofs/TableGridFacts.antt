@@ -1,4 +1,5 @@
 -- The entries of an accepted table: in range, and no column twice in a row; so the parity checks are sound.
+use Rattle.std.proofs.Common.{rules}
 use Rattle.std.proofs.lemmas.Bool.Decides.{nat_tests}
 use Rattle.std.proofs.Common.{◌≡◌, ℕ, ◌+◌, ◌*◌, ◌/◌, ◌%◌, ◌<◌, ◌≤◌, ◌==◌, Bool, true, false, cond, List, [], ◌∷◌, length, map, refl, sym, ap, ◌∙◌, ⊎_elim, inl, arith}
 use Rattle.std.specs.Prelude.{◌⊎◌, count_by, All}
@@ -76,10 +77,7 @@ place_lane z t col v pos = mod-mul-add col z ((t + v % z) % z) (mod_below (t + v
 
 -- a position stands in a row at most as often as its column
 times_le_columns : (set z t p : ℕ) → 0 < z → (es : List Entry) → times_in p (map (λ e. one_at z t e.col (value_in set e)) es) ≤ count_by (λ e. e.col == p / z) es
-times_le_columns set z t p pos es = omega (arith, count_map (λ q. q == p) (λ (e : Entry). one_at z t e.col (value_in set e)) es, count_within (λ (e : Entry). one_at z t e.col (value_in set e) == p) (λ e. e.col == p / z) same es)
-  where
-    same : (e : Entry) → (one_at z t e.col (value_in set e) == p) ≡ true → (e.col == p / z) ≡ true
-    same e h = eq-eqb e.col (p / z) (sym (place_column z t e.col (value_in set e) pos) ∙ ap (λ q. q / z) (eqb-true (one_at z t e.col (value_in set e)) p h))
+times_le_columns set z t p pos es = search (rules, count_map, count_within, eq-eqb, place_column, eqb-true)
 
 stands_below : (set z t cols p : ℕ) → 0 < z → (es : List Entry) → All (λ e. e.col < cols) es → stands p (map (λ e. one_at z t e.col (value_in set e)) es) ≡ true → p < cols * z
 stands_below set z t cols p pos [] all h = absurd (false≢true h)

@@ -1,3 +1,4 @@
+use Rattle.std.proofs.Common.{rules}
 use Rattle.std.proofs.Common.{◌≡◌, ◌≤◌, ◌*◌, length, refl, sym, ap, ◌∙◌, arith, ◌+◌, ◌<◌, ◌^◌}
 use Rattle.std.proofs.Math.Nat.{mul-le-mul_right}
 use Rattle.nr_bitvec.specs.Bit.{bit}
@@ -11,13 +12,7 @@ use Rattle.nr_peel.proofs.bit_parallel.lowering.lower_all.Goals as goal
 use Rattle.nr_peel.proofs.bit_parallel.lowering.lower_all.Goals.{After-from, else-count-ne0, then-count-ne0}
 
 pub loop-j-init : goal.loop-j-init
-loop-j-init c = record {
-  fallen = fallen_none (lifted_checks c.args.lifted.now) c.args.counts.now.items c.args.pending.now.items c.requires.counts_long;
-  worked = omega arith;
-  counts_lanes = refl;
-  pending_lanes = refl;
-  pending_long = refl;
-}
+loop-j-init c = search (rules, fallen_none)
 
 pub lower_column-requires-clause-rows : goal.lower_column-requires-clause-rows
 lower_column-requires-clause-rows c =

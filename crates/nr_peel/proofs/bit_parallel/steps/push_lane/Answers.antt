@@ -1,3 +1,4 @@
+use Rattle.std.proofs.Common.{rules}
 use Rattle.std.proofs.Common.{◌*◌, length, refl, ap, ◌∙◌, arith, length-append}
 use Rattle.std.specs.Prelude.{vec_capacity}
 use Rattle.nr_lifting.specs.Rings.{is_set}
@@ -7,8 +8,7 @@ use Rattle.nr_peel.proofs.bit_parallel.steps.push_lane.Goals as goal
 
 -- a bit of the word is a row
 pub push_word-requires-clause-inside : goal.push_word-requires-clause-inside
-push_word-requires-clause-inside c =
-    λ b set. row_inside (rotated_step c.args.size c.args.entry.now.row c.args.entry.now.col c.args.rotation) c.args.lane.now c.args.size c.requires.clear c.loop-i.i b _ refl (omega arith) set
+push_word-requires-clause-inside c = search (rules, row_inside)
 
 pub push_word-requires-clause-room : goal.push_word-requires-clause-room
 push_word-requires-clause-room c =

@@ -1,3 +1,4 @@
+use Rattle.std.proofs.Common.{rules}
 use Rattle.std.proofs.Common.{◌≡◌, ℕ, ◌==◌, ◌||◌, true, refl, sym, ap, ◌∙◌, arith}
 use Rattle.std.proofs.lemmas.Bool.{eqb-true}
 use Rattle.nr_bitvec.specs.Bit.{bit}
@@ -59,16 +60,4 @@ returns-else-value c =
 
 -- a position that was known
 pub returns-else-not-get : goal.returns-else-not-get
-returns-else-not-get c =
-    let old = c.args.self.now in
-    let K = bit old.known.items in
-    let pos = c.args.pos in
-    let known : K pos ≡ true = sym c.get.ensures ∙ c.if-not-get.false in
-    let same : (p : ℕ) → (pos == p) ≡ true → K p ≡ true = λ p e. ap K (sym (eqb-true pos p e)) ∙ known in
-    record {
-      known = λ p. grind (arith, same p);
-      pending = λ p. grind (arith, same p);
-      bits = λ p. grind (arith, same p);
-      order = refl;
-      lanes = c.requires.lanes;
-    }
+returns-else-not-get c = search (rules, eqb-true)

@@ -1,3 +1,4 @@
+use Rattle.std.proofs.Common.{rules}
 use Rattle.std.proofs.Common.{◌≡◌, ◌+◌, ◌-◌, ◌*◌, ◌/◌, ◌≤◌, ◌<◌, ℕ, length, sym, ap, ◌∙◌, arith}
 use Rattle.std.proofs.Math.Nat.{mul-le-mul_right}
 use Rattle.nr_graphpick.specs.Graph.{cols_of, info_cols_of}
@@ -32,12 +33,7 @@ overflow_sub-left c =
     omega (arith, c.lane_count.ensures.marked p.z clear, marked-le (is_set c.lane.result) p.z)
 
 pub overflow_add-left : goal.overflow_add-left
-overflow_add-left c =
-    let p = c.args.lifted.now.plan in
-    let known = c.args.self.now.known.items in
-    let fits : (c.loop-j.j + 1) * p.z ≤ length known = rw c.requires.lanes.known_long (column_fits c.args.lifted.now c.loop-j.j c.loop-j-test.true) in
-    let below : (c.loop-j.j + 1) * p.z ≤ info_cols_of p.graph * p.z = mul-le-mul_right p.z (omega (arith, c.loop-j-test.true, info_rotations p.z p.k (info_cols_of p.graph) p.sound.size_some p.sound.columns)) in
-    omega (arith, c.loop-j.invariant, left_and_known (c.loop-j.j * p.z) known (omega (arith, fits)), below, p.sound.columns, p.sound.k_most, p.sound.size_most)
+overflow_add-left c = search (rules, column_fits, mul-le-mul_right, info_rotations, left_and_known)
 
 pub returns : goal.returns
 returns c =

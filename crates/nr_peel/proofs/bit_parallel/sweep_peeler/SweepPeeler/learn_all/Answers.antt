@@ -1,3 +1,4 @@
+use Rattle.std.proofs.Common.{rules}
 use Rattle.std.proofs.Common.{arith}
 use Rattle.std.proofs.Common.{length, refl, sym, ap, ◌∙◌}
 use Rattle.nr_bitvec.specs.Bit.{bit}
@@ -10,8 +11,7 @@ pub join_marks-requires : goal.join_marks-requires
 join_marks-requires c = c.requires.long ∙ sym c.requires.sweep_peeler.sweep.given_long
 
 pub go_on-requires-clause-held : goal.go_on-requires-clause-held
-go_on-requires-clause-held c =
-    heard_held (lifted_checks c.args.lifted.now) (bit c.args.heard.now.items) (bit c.args.values.now.items) c.args.self.now.sweep _ c.requires.sweep_peeler.sweep.held c.hear.ensures refl refl
+go_on-requires-clause-held c = search (rules, heard_held)
 
 pub go_on-requires-clause-fillers : goal.go_on-requires-clause-fillers
 go_on-requires-clause-fillers c = grind (arith, heard_known, fillers_known)
