@@ -33,6 +33,9 @@ fallen_none c old pending long = grind (arith, nat_tests, le-ltb, count_none, be
 left_bits : (a : Bool) (n j : ℕ) → ((a && not (nat_lt n j)) && not (n == j)) ≡ (a && not (nat_lt n (j + 1)))
 left_bits a n j = grind (arith, nat_tests)
 
+and_not : (a b : Bool) → (b ≡ true → a ≡ false) → (a && not b) ≡ a
+and_not a b k = grind arith
+
 -- the rows of a column's entries
 pub column_inside : (t : Entries) (g : Graph) (j : ℕ) → IsTable t → All (λ e. e.row < rows_of g) (column_of (entries_in g t) j)
 column_inside t g j table = All-filter (λ e. e.col == j) (λ e. e.row < rows_of g) (entries_in g t) (table_grid t g table).in_rows
@@ -90,11 +93,6 @@ module _ (es : List Entry) (set z rows cols : ℕ) (some : 0 < z) where
 
         here : (p : ℕ) → (p / z == j) ≡ true → bit pending p ≡ false
         here p e = grind (arith, nat_tests, eqb-true, div-add-mod', empty, mod_below)
-
-        and_not : (a b : Bool) → (b ≡ true → a ≡ false) → (a && not b) ≡ a
-        and_not false b k = refl
-        and_not true false k = refl
-        and_not true true k = sym (k refl)
 
         nothing : (p : ℕ) → in_column z (from_column z F j) j p ≡ false
         nothing p = grind (arith, nat_tests, here)

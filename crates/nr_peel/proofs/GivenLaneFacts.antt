@@ -1,6 +1,6 @@
 -- Blocks of a list as lanes, and positions that are given column after column.
 use Rattle.std.proofs.Common.{◌≡◌, ℕ, zero, suc, ◌+◌, ◌*◌, ◌/◌, ◌%◌, ◌<◌, ◌==◌, ◌&&◌, ◌||◌, nat_lt, Bool, true, false, not, cond, List, length, refl, sym, ap, ◌∙◌, arith}
-use Rattle.std.proofs.lemmas.Bool.{cases_lt, eqb-true, lt-ltb, le-ltb}
+use Rattle.std.proofs.lemmas.Bool.{cases_lt, eqb-true, lt-ltb, le-ltb, and_from, and_parts, eq-eqb, ne_eqb}
 use Rattle.std.proofs.lemmas.List.{get_or_past}
 use Rattle.std.proofs.lemmas.Nat.{mod_below, div_below, div-add-mod'}
 use Rattle.nr_bitvec.specs.Bit.{bit}
@@ -13,6 +13,9 @@ use Rattle.nr_peel.specs.declared.bit_parallel.lanes.Lanes.{Lanes}
 use Rattle.nr_peel.proofs.ColumnFacts.{below_column, in_column}
 use Rattle.nr_peel.proofs.RowPlaceFacts.{mod_low}
 use Rattle.std.proofs.lemmas.Bool.Decides.{nat_tests}
+use Rattle.nr_bitvec.specs.Packed.{IsClear, place}
+use Rattle.nr_lifting.proofs.LaneViewFacts.{place-lt}
+use Rattle.nr_peel.proofs.ClosureFacts.{same_truth}
 
 -- a digit that is one where a test holds
 pub digit_is : (n : ℕ) (b : Bool) → n < 2 → (n == 1) ≡ b → n ≡ cond b 1 0
@@ -142,3 +145,19 @@ told_all c z cols heard V old now some size long lanes h = record {
 
     bits : (p : ℕ) → bit now.bits.items p ≡ (bit old.bits.items p || (news (bit heard) old p && V p))
     bits p = h.bits p ∙ ap (λ b. bit old.bits.items p || (b && V p)) (all p)
+
+-- ---- one position that is given
+
+-- the lane of its row marks the position alone
+pub one_marks : (z pos p : ℕ) (lane : List ℕ) → ((t : ℕ) → is_set lane t ≡ (pos % z == t)) → lane_marks z (pos / z) (is_set lane) p ≡ (pos == p)
+one_marks z pos p lane is = grind (arith, nat_tests, same_truth, and_parts, eqb-true, eq-eqb, div-add-mod', and_from)
+
+-- its lane has no row past the block's
+pub one_clear : (z pos : ℕ) (lane : List ℕ) → 0 < z → ((t : ℕ) → is_set lane t ≡ (pos % z == t)) → IsClear lane z
+one_clear z pos lane some is t past = digit_is (place lane t) false (place-lt lane t) (is t ∙ ne_eqb (pos % z) t (λ e. absurd (omega (arith, mod_below pos z some, e, past))))
+
+module _ (c : Checks) (pos : ℕ) (value : Bool) (old : Lanes) (lanes : AreLanes c old) where
+  -- a position that wasn't known
+  pub one_told : (now : Lanes) → bit old.known.items pos ≡ false → ((p : ℕ) → bit now.known.items p ≡ (bit old.known.items p || (pos == p))) → ((p : ℕ) → bit now.pending.items p ≡ (bit old.pending.items p || (pos == p)))
+      → ((p : ℕ) → bit now.bits.items p ≡ (bit old.bits.items p || ((pos == p) && value))) → now.order ≡ old.order → AreAlike old now → Hears c (λ p. pos == p) (λ p. value) old now
+  one_told now out known pending bits order alike = grind (arith, nat_tests, told_lanes, eqb-true)

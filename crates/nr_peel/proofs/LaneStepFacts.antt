@@ -23,7 +23,7 @@ use Rattle.nr_peel.proofs.ClosureFacts.{any_below_passes, passes_any_below, same
 use Rattle.nr_peel.proofs.FixOrderFacts.{step_accepted}
 use Rattle.nr_peel.proofs.RowPlaceFacts.{place-eqb, place_fits}
 use Rattle.nr_peel.proofs.RowPositionFacts.{only_here}
-use Rattle.nr_peel.proofs.StepLaws.{steps_accepted, steps_fix}
+use Rattle.nr_peel.proofs.StepFacts.{steps_accepted, steps_fix}
 use Rattle.nr_peel.proofs.CodewordFacts.{only_fixes}
 use Rattle.nr_peel.proofs.GivenLaneFacts.{told_lanes}
 

@@ -21,6 +21,7 @@ use Rattle.nr_peel.specs.declared.bit_parallel.sweep.Sweep.{Sweep}
 use Rattle.nr_peel.proofs.FillerFacts.{fillers_fit, fillers_long, fillers_there, fillers_within}
 use Rattle.nr_peel.proofs.RoundInvariantFacts.{counts_same}
 use Rattle.nr_peel.proofs.FixOrderFacts.{all_accepted_within, goes_taken}
+use Rattle.nr_peel.specs.Swept.{IsSettledSweep}
 
 module _ (c : Checks) (H V : ℕ → Bool) (a d : Lanes) (lanes : AreLanes c a) (h : Hears c H V a d) where
   pub heard_known : (p : ℕ) → bit a.known.items p ≡ true → bit d.known.items p ≡ true
@@ -49,6 +50,9 @@ heard_held c H V a d held h counts touches = grind (arith, counts_same, heard_co
 
 module _ (l : Lifted) (new : SweepPeeler) (held : IsHeld (lifted_checks l) new.sweep) (none_pending : HasNonePending new.sweep.lanes) (settled : (k : ℕ) → slice_index new.sweep.counts.items k ≢ 1)
     (counted : new.left ≡ left_of l.plan.kdash new.sweep.lanes.known.items) (table : IsTable l.table.now) where
+  settled_sweep : length new.given.items ≡ (lifted_checks l).size → Reaches (lifted_checks l) (bit new.given.items) new.sweep.lanes → IsSettledSweep l new.given.items new.sweep
+  settled_sweep long reaches = record { table = table; given_long = long; held = held; none_pending = none_pending; settled = settled; reaches = reaches }
+
   -- what follows from positions that were given
   pub learned : (H V : ℕ → Bool) (old : SweepPeeler) (mid : Lanes) → IsSweepPeeler l old → Hears (lifted_checks l) H V old.sweep.lanes mid → length new.given.items ≡ length old.given.items
       → ((p : ℕ) → bit new.given.items p ≡ (bit old.given.items p || H p)) → Keeps (lifted_checks l) mid new.sweep.lanes → old.sweep.touches ≤ new.sweep.touches → Learns l H V old new
@@ -58,14 +62,7 @@ module _ (l : Lifted) (new : SweepPeeler) (held : IsHeld (lifted_checks l) new.s
       let lanes = was.sweep.held.lanes in
       record {
         sweep_peeler = record {
-          sweep = record {
-            table = table;
-            given_long = long ∙ was.sweep.given_long;
-            held = held;
-            none_pending = none_pending;
-            settled = settled;
-            reaches = keeps.reaches (bit new.given.items) (heard_reaches c H V a mid lanes h (bit old.given.items) (bit new.given.items) given was.sweep.reaches);
-          };
+          sweep = settled_sweep (long ∙ was.sweep.given_long) (keeps.reaches (bit new.given.items) (heard_reaches c H V a mid lanes h (bit old.given.items) (bit new.given.items) given was.sweep.reaches));
           fillers = λ p low below. given p ∙ or_left (bit old.given.items p) (H p) (was.fillers p low below);
           counted = counted;
         };
@@ -91,14 +88,7 @@ module _ (l : Lifted) (new : SweepPeeler) (held : IsHeld (lifted_checks l) new.s
       } in
       record {
         sweep_peeler = record {
-          sweep = record {
-            table = table;
-            given_long = ap length given ∙ fillers_long c (numbers l.plan);
-            held = held;
-            none_pending = none_pending;
-            settled = settled;
-            reaches = keeps.reaches (bit new.given.items) (heard_reaches c (bit new.given.items) (bit []) a mid lanes h (λ p. false) (bit new.given.items) (λ p. refl) none);
-          };
+          sweep = settled_sweep (ap length given ∙ fillers_long c (numbers l.plan)) (keeps.reaches (bit new.given.items) (heard_reaches c (bit new.given.items) (bit []) a mid lanes h (λ p. false) (bit new.given.items) (λ p. refl) none));
           fillers = λ p low below. ap (λ v. bit v p) given ∙ fillers_there c (numbers l.plan) p low below (fillers_fit l);
           counted = counted;
         };

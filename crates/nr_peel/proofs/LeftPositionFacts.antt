@@ -1,7 +1,6 @@
 -- What is left: the positions that aren't known, and what shows that all or not all are.
-use Rattle.std.proofs.Common.{rules}
+use Rattle.std.proofs.Common.{rules, ◌≡◌, ◌≢◌, ℕ, ◌+◌, ◌<◌, ◌≤◌, ◌==◌, nat_lt, Bool, true, false, not, cond, List, [], ◌∷◌, ◌++◌, length, get_or, refl, sym, ap, ◌∙◌, ⊎_elim, arith, ◌-◌, ◌*◌, ◌/◌, ◌%◌}
 use Rattle.std.proofs.lemmas.Bool.Decides.{nat_tests}
-use Rattle.std.proofs.Common.{◌≡◌, ◌≢◌, ℕ, ◌+◌, ◌<◌, ◌≤◌, ◌==◌, nat_lt, Bool, true, false, not, cond, List, [], ◌∷◌, ◌++◌, length, get_or, refl, sym, ap, ◌∙◌, ⊎_elim, arith}
 use Rattle.std.specs.Prelude.{zero, suc, count_by, slice_index}
 use Rattle.std.specs.List.{filter, range_with_len}
 use Rattle.std.proofs.lemmas.Bool.{cases_lt, eq-eqb, eqb-true, or_left, or_right, or_cases, lt-ltb, true≢false, false≢true, not-true}
@@ -15,10 +14,13 @@ use Rattle.nr_peel.specs.Peeling.{IsPeeled, Peeling, checks_for, left_of, unknow
 use Rattle.nr_peel.proofs.FixOrderFacts.{after_accepted}
 use Rattle.nr_peel.proofs.RowPositionFacts.{count_by-cons, count_more, count_yes, count_where}
 use Rattle.nr_peel.proofs.CodewordFacts.{left_over_stops, stopping_stays_out}
-use Rattle.nr_lifting.specs.Rings.{marked}
-use Rattle.nr_peel.proofs.MarkedFacts.{marked_full, no_marks}
+use Rattle.nr_lifting.specs.Rings.{marked, is_set}
+use Rattle.nr_peel.proofs.MarkedFacts.{marked_full, no_marks, marked_all}
 use Rattle.nr_ldpcenc.specs.Rows.{Checks}
 use Rattle.nr_peel.proofs.ClosureFacts.{same_truth}
+use Rattle.std.proofs.lemmas.Nat.{div-mul-add}
+use Rattle.nr_lifting.proofs.LaneBitFacts.{marked-same, marked-append, marked-le}
+use Rattle.nr_peel.proofs.RowPlaceFacts.{mod_low}
 
 pub left_more : (n : ℕ) (known : List Bool) → n < length known → left_of (suc n) known ≡ left_of n known + cond (not (get_or known n false)) 1 0
 left_more n known lt = let next : suc n ≡ n + 1 = omega arith in ap (λ m. left_of m known) next ∙ count_more (λ (b : Bool). not b) known n false lt
@@ -148,3 +150,29 @@ pub kept_more : (keeps : ℕ → Bool) (n : ℕ) → filter keeps (range_with_le
 kept_more keeps n =
     ap (filter keeps) (sym (map-id (range_with_len 0 (n + 1))) ∙ map-range_with_len_more (λ (x : ℕ). x) 0 n n (omega arith) ∙ ap (λ l. l ++ n ∷ []) (map-id (range_with_len 0 n)))
     ∙ filter-append keeps (range_with_len 0 n) (n ∷ [])
+
+-- ---- how many positions are left, block by block
+
+-- the bits of a lane are those of its block
+pub lane_marked : (known : List Bool) (z j : ℕ) (lane : List ℕ) → ((t : ℕ) → t < z → is_set lane t ≡ bit known (j * z + (t + 0) % z)) → marked (is_set lane) z ≡ marked (λ t. bit known (j * z + t)) z
+lane_marked known z j lane is = grind (arith, marked-same, mod_low)
+
+-- a column more
+pub left_column : (known : List Bool) (z j count : ℕ) (lane : List ℕ) → (j + 1) * z ≤ length known → ((t : ℕ) → t < z → is_set lane t ≡ bit known (j * z + (t + 0) % z)) → count ≡ marked (is_set lane) z
+    → left_of (j * z) known + (z - count) ≡ left_of ((j + 1) * z) known
+left_column known z j count lane fits is counted =
+    let next : (j + 1) * z ≡ j * z + z = omega arith in
+    let more = ap (marked (bit known)) next ∙ marked-append (bit known) (j * z) z in
+    let same = counted ∙ lane_marked known z j lane is in
+    omega (arith, left_and_known (j * z) known (omega (arith, fits)), left_and_known ((j + 1) * z) known fits, more, same, marked-le (is_set lane) z, counted)
+
+-- when the information columns are counted, where the fillers are known
+pub left_end : (known : List Bool) (kdash k : ℕ) → kdash ≤ k → k ≤ length known → ((p : ℕ) → kdash ≤ p → p < k → bit known p ≡ true) → left_of k known ≡ left_of kdash known
+left_end known kdash k low fits all =
+    let split : kdash + (k - kdash) ≡ k = omega (arith, low) in
+    let more = sym (ap (marked (bit known)) split) ∙ marked-append (bit known) kdash (k - kdash) in
+    let whole = marked_all (λ t. bit known (kdash + t)) (k - kdash) (λ t below. all (kdash + t) (omega arith) (omega (arith, below, split))) in
+    omega (arith, left_and_known k known fits, left_and_known kdash known (omega (arith, low, fits)), more, whole)
+
+pub info_rotations : (z k info : ℕ) → 0 < z → k ≡ info * z → k / z ≡ info
+info_rotations z k info some is = grind (arith, div-mul-add)

@@ -1,7 +1,6 @@
 -- With nothing received no position below K' is fixed. The fillers, with the extension positions whose row has fillers
 -- alone beside them, are a closed set.
-use Rattle.std.proofs.Common.{rules}
-use Rattle.std.proofs.Common.{◌≡◌, ◌≢◌, ℕ, ◌+◌, ◌*◌, ◌%◌, ◌<◌, ◌≤◌, ◌==◌, nat_le, nat_lt, ◌||◌, ◌&&◌, Bool, true, false, cond, List, [], ◌∷◌, length, map, refl, sym, ap, ◌∙◌, ⊎_elim, arith, ◌/◌, ◌-◌}
+use Rattle.std.proofs.Common.{rules, ◌≡◌, ◌≢◌, ℕ, ◌+◌, ◌*◌, ◌%◌, ◌<◌, ◌≤◌, ◌==◌, nat_le, nat_lt, ◌||◌, ◌&&◌, Bool, true, false, cond, List, [], ◌∷◌, length, map, refl, sym, ap, ◌∙◌, ⊎_elim, arith, ◌/◌, ◌-◌, not}
 use Rattle.std.specs.List.{list_all, filter}
 use Rattle.std.proofs.lemmas.Bool.{and_left, and_parts, and_from, and_right, or_cases, or_left, or_right, eqb-true, eq-eqb, leb-false, le-leb, le-ltb, lt-leb, ne_eqb, false≢true, true≢false, cases_eq, cases_lt, false_from_ne_true}
 use Rattle.std.proofs.lemmas.Nat.{div-mul-add, mod-mul-add, mod_below}
@@ -10,16 +9,22 @@ use Rattle.nr_graphpick.specs.declared.Graph.{Graph}
 use Rattle.nr_graphpick.specs.Graph.{rows_of, info_cols_of}
 use Rattle.nr_segment.specs.Plan.{Numbers, IsSound}
 use Rattle.nr_shifttable.specs.declared.entry.Entry.{Entry}
-use Rattle.nr_shifttable.specs.Accepted.{Entries, IsTable, entries_in, row_of, tail}
+use Rattle.nr_shifttable.specs.Accepted.{Entries, IsTable, entries_in, row_of, tail, has_graph}
 use Rattle.nr_shifttable.specs.Tails.{AcceptedHasShape, HasShape, HasCore, tail_of, value_in}
 use Rattle.nr_ldpcenc.specs.Rows.{Checks, block_checks, one_at, row_at}
 use Rattle.nr_ldpcenc.specs.Codeword.{filler}
 use Rattle.nr_peel.specs.Closure.{Within, closure, fixes, stands}
 use Rattle.nr_peel.specs.ClosureInside.{IsClosed}
-use Rattle.nr_peel.proofs.ClosureFacts.{closure_least}
+use Rattle.nr_peel.proofs.ClosureFacts.{closure_least, closure_monotone}
 use Rattle.nr_peel.proofs.RowPositionFacts.{all_more, or_more, other_in}
 use Rattle.nr_peel.proofs.RowPlaceFacts.{mod_low}
 use Rattle.nr_peel.proofs.TableGridFacts.{place_below}
+use Rattle.nr_bitvec.specs.Bit.{bit}
+use Rattle.nr_shifttable.proofs.ParityShapeFacts.{accepted-has_shape}
+use Rattle.nr_peel.specs.Peeling.{IsPeeled, Peeling, checks_for, fillers, left_of}
+use Rattle.nr_peel.proofs.FillerFacts.{fillers_within}
+use Rattle.nr_peel.proofs.LeftPositionFacts.{all_left}
+use Rattle.nr_ldpcenc.proofs.CodewordFacts.{set_below}
 
 -- the places of a row's tail
 abbrev places_of : ℕ → ℕ → List (ℕ × ℕ) → List ℕ
@@ -181,3 +186,22 @@ nothing_fixed shapes t g b p q table some plan small low =
     let closed = reach_closed es p.set p.z n (rows_of g) p.kdash plan.size_some c refl refl (λ i l. refl) (shapes t g p.set table some small) in
     let start : Within (filler p.kdash p.k) T = λ r h. or_left (filler p.kdash (n * p.z) r) _ (ap (λ k. filler p.kdash k r) (sym k_is) ∙ h) in
     false_from_ne_true (closure c (filler p.kdash p.k) q) (λ h. low_out es p.set p.z n (rows_of g) p.kdash plan.size_some held q low (closure_least c (filler p.kdash p.k) T start closed q h))
+
+-- ---- a peeler to which the fillers alone are given: no position below K' is known, and K' are left
+
+-- a base graph of a table has an entry
+some_entry : (t : Entries) (g : Graph) → has_graph g t ≡ true → 0 < length (entries_in g t)
+some_entry t g h = ⊎_elim (λ lt. lt) (λ le. absurd (true≢false (sym h ∙ ap not (eq-eqb (length (entries_in g t)) 0 (omega arith))))) (cases_lt 0 (length (entries_in g t)))
+
+pub pending_left : (s : Peeling) (b : ℕ) → IsTable s.table → has_graph s.graph s.table ≡ true → IsSound s.graph b s.numbers → s.given ≡ fillers (checks_for s) s.numbers → IsPeeled s
+    → s.numbers.kdash ≤ length s.known → left_of s.numbers.kdash s.known ≡ s.numbers.kdash
+pending_left s b table has plan given peeled fits = all_left s.numbers.kdash s.known fits out
+  where
+    start : Within (bit s.given) (filler s.numbers.kdash s.numbers.k)
+    start q h = fillers_within (checks_for s) s.numbers q (ap (λ l. bit l q) (sym given) ∙ h)
+
+    fixed_none : (p : ℕ) → p < s.numbers.kdash → closure (checks_for s) (filler s.numbers.kdash s.numbers.k) p ≡ false
+    fixed_none p lt = nothing_fixed accepted-has_shape s.table s.graph b s.numbers p table (some_entry s.table s.graph has) plan (set_below s.numbers.z s.numbers.set plan.set_is) lt
+
+    out : (p : ℕ) → p < s.numbers.kdash → bit s.known p ≡ false
+    out p lt = false_from_ne_true (bit s.known p) (λ h. true≢false (sym (closure_monotone (checks_for s) (bit s.given) (filler s.numbers.kdash s.numbers.k) start p (sym (peeled.closed p) ∙ h)) ∙ fixed_none p lt))

@@ -1,6 +1,6 @@
 -- Where a position's rows are: a row by its number, and its lane by a rotation.
 use Rattle.std.proofs.lemmas.Bool.Decides.{nat_tests}
-use Rattle.std.proofs.Common.{◌≡◌, ℕ, ◌+◌, ◌-◌, ◌*◌, ◌/◌, ◌%◌, ◌<◌, ◌≤◌, ◌==◌, ◌&&◌, true, sym, ap, ◌∙◌, arith}
+use Rattle.std.proofs.Common.{◌≡◌, ℕ, ◌+◌, ◌-◌, ◌*◌, ◌/◌, ◌%◌, ◌<◌, ◌≤◌, ◌==◌, ◌&&◌, true, sym, ap, ◌∙◌, arith, List, [], length, get_or, subst}
 use Rattle.std.proofs.lemmas.Bool.{and_parts, and_from, eqb-true, eq-eqb, cases_lt}
 use Rattle.std.proofs.lemmas.Nat.{mod_below, div-add-mod'}
 use Rattle.std.proofs.Math.Nat.{mod-eq_of_lt, add-mod_left}
@@ -8,6 +8,13 @@ use Rattle.nr_shifttable.specs.declared.entry.Entry.{Entry}
 use Rattle.nr_ldpcenc.specs.Rows.{one_at, unrotate}
 use Rattle.nr_peel.proofs.ClosureFacts.{same_truth}
 use Rattle.nr_peel.proofs.TableGridFacts.{place_column, place_lane}
+use Rattle.std.proofs.lemmas.List.{get_or-map, length-map}
+use Rattle.nr_segment.specs.CodeBlock.{numbers}
+use Rattle.nr_shifttable.specs.Accepted.{IsTable, entries_in, row_of}
+use Rattle.nr_shifttable.specs.Tails.{value_in}
+use Rattle.nr_peel.specs.StateInside.{lifted_checks}
+use Rattle.nr_peel.specs.declared.lifted.Lifted.{Lifted}
+use Rattle.nr_peel.proofs.TieFacts.{row_columns}
 
 -- a number below z, and one below twice z, modulo z
 pub mod_low : (s z : ℕ) → s < z → s % z ≡ s
@@ -54,3 +61,26 @@ place-eqb z t col v p tl = same_truth (one_at z t col v == p) ((col == p / z) &&
 
 pub place_fits : (z t : ℕ) (e : Entry) (v size : ℕ) → t < z → (e.col + 1) * z ≤ size → one_at z t e.col v < size
 place_fits z t e v size lt le = grind (arith, mod_below)
+
+-- ---- an entry of a row, and the position that it has at a lane
+
+pub record IsEntryAt (l : Lifted) (row lane i p : ℕ) : Type 0 where
+  pub below : i < length ((lifted_checks l).row row lane)
+  pub is : get_or ((lifted_checks l).row row lane) i 0 ≡ p
+  pub inside : p < (lifted_checks l).size
+
+pub entry_at : (l : Lifted) (row lane from i p : ℕ) (es : List Entry) → IsTable l.table.now → es ≡ row_of (entries_in l.plan.graph l.table.now) row → from ≡ lane → lane < l.plan.z → i < length es
+    → p ≡ one_at l.plan.z from (get_or es i (record { row = 0; col = 0; values = [] })).col (value_in l.plan.set (get_or es i (record { row = 0; col = 0; values = [] }))) → IsEntryAt l row lane i p
+entry_at l row lane from i p es table es_is from_is lt below p_is =
+    let none : Entry = record { row = 0; col = 0; values = [] } in
+    let f = λ (e : Entry). one_at l.plan.z lane e.col (value_in l.plan.set e) in
+    let own = row_of (entries_in l.plan.graph l.table.now) row in
+    let below' : i < length own = subst (λ (x : List Entry). i < length x) es_is below in
+    let at : p ≡ f (get_or own i none) =
+    p_is ∙ ap (λ m. one_at l.plan.z m (get_or es i none).col (value_in l.plan.set (get_or es i none))) from_is ∙ ap (λ x. f (get_or x i none)) es_is in
+    let fits = place_fits l.plan.z lane (get_or own i none) (value_in l.plan.set (get_or own i none)) ((lifted_checks l).size) lt (row_columns l.table.now l.plan.graph (numbers l.plan) table l.plan.sound.size_some row i none below') in
+    record {
+      below = omega (arith, length-map own f, below');
+      is = get_or-map f own i none 0 below' ∙ sym at;
+      inside = omega (arith, at, fits);
+    }

@@ -1,22 +1,30 @@
 -- How many positions a code block has, and how many pairs there are of a row and a position of it.
-use Rattle.std.proofs.Common.{◌≡◌, ℕ, ◌+◌, ◌*◌, ◌/◌, ◌%◌, ◌<◌, ◌≤◌, Bool, false, not, List, length, arith}
-use Rattle.std.specs.Prelude.{◌^◌, zero, suc, count_by}
+use Rattle.std.proofs.Common.{◌≡◌, ℕ, ◌+◌, ◌*◌, ◌/◌, ◌%◌, ◌<◌, ◌≤◌, Bool, false, not, List, length, arith, ◌&&◌, sym, ap, ◌∙◌}
+use Rattle.std.specs.Prelude.{◌^◌, zero, suc, count_by, slice_index, sum}
 use Rattle.std.proofs.lemmas.List.{length-map}
-use Rattle.std.proofs.lemmas.Nat.{mul-le}
+use Rattle.std.proofs.lemmas.Nat.{mul-le, div_below, mod_below, div-add-mod'}
 use Rattle.nr_graphpick.specs.declared.Graph.{Graph}
 use Rattle.nr_graphpick.specs.declared.Graph.TheVariants.{One, Two}
 use Rattle.nr_graphpick.specs.Graph.{cols_of, rows_of}
 use Rattle.nr_shifttable.specs.declared.entry.Entry.{Entry}
 use Rattle.nr_shifttable.specs.Accepted.{IsTable, entries_in, row_of}
 use Rattle.nr_shifttable.specs.Tails.{value_in}
-use Rattle.nr_ldpcenc.specs.Rows.{one_at}
+use Rattle.nr_ldpcenc.specs.Rows.{one_at, Checks}
 use Rattle.nr_peel.specs.StateInside.{lifted_checks}
-use Rattle.nr_peel.specs.Touches.{sum_below}
+use Rattle.nr_peel.specs.Touches.{sum_below, step_pairs}
 use Rattle.nr_peel.specs.TouchesInside.{all_pairs, row_length}
 use Rattle.nr_peel.specs.declared.lifted.Lifted.{Lifted}
-use Rattle.nr_peel.proofs.CountedPairFacts.{count_both}
+use Rattle.nr_peel.proofs.CountedPairFacts.{count_both, sum-below}
 use Rattle.nr_peel.proofs.TableGridFacts.{rows_short}
 use Rattle.nr_peel.proofs.RowPositionFacts.{count_none}
+use Rattle.nr_bitvec.specs.Bit.{bit}
+use Rattle.nr_lifting.specs.Planes.{BlockCounts}
+use Rattle.nr_peel.specs.Due.{work_of}
+use Rattle.nr_peel.specs.Starts.{AreBlank, AreDegrees, IsBlankSweep}
+use Rattle.nr_peel.specs.Sweeps.{counted_in}
+use Rattle.nr_peel.specs.declared.bit_parallel.sweep.Sweep.{Sweep}
+use Rattle.nr_peel.proofs.StepPairFacts.{step_pairs-none}
+use Rattle.nr_peel.proofs.PairSumFacts.{sum_below-same}
 
 sum_below-most : (f : ℕ → ℕ) (m n : ℕ) → ((k : ℕ) → k < n → f k ≤ m) → sum_below f n ≤ n * m
 sum_below-most f m zero h = omega arith
@@ -45,3 +53,31 @@ few_operations l table =
 
 pub count_all : (p : ℕ → Bool) (xs : List ℕ) → ((x : ℕ) → p x ≡ false) → count_by (λ x. not (p x)) xs ≡ length xs
 count_all p xs none = omega (arith, count_both p xs, count_none p none xs)
+
+-- ---- lanes and counts with which nothing is known
+
+-- the sum of all counts
+degrees_total : (c : Checks) (s : BlockCounts) → 0 < c.lanes → AreDegrees c s → sum s.items ≡ all_pairs c
+unfolding all_pairs
+degrees_total c s some d = grind (arith, sum-below, sum_below-same, div-add-mod', div_below, mod_below)
+
+pub blank_sweep : (l : Lifted) (s : Sweep) → IsTable l.table.now → AreBlank (lifted_checks l) s.lanes → (p : BlockCounts) → AreDegrees (lifted_checks l) p → s.counts.items ≡ p.items → s.counts.lanes ≡ p.lanes
+    → work_of s.counts ≤ (lifted_checks l).rows → s.touches ≡ 0 → IsBlankSweep (lifted_checks l) s
+blank_sweep l s table blank p degrees items lanes worked untouched =
+    let c = lifted_checks l in
+    let total = ap sum items ∙ degrees_total c p l.plan.sound.size_some degrees in
+    record {
+      blank = blank;
+      held = record {
+        lanes = blank.lanes;
+        counts_lanes = lanes ∙ degrees.lanes;
+        counts_long = ap length items ∙ degrees.long;
+        counted = λ i t block lane. ap (λ v. slice_index v (i * c.lanes + t)) items ∙ degrees.counted i t block lane ∙ sym (count_all (counted_in s.lanes) (c.row i t) (λ p. ap (λ b. b && not (bit s.lanes.pending.items p)) (blank.unknown p)));
+        order_few = omega (arith, ap length blank.order);
+        order_room = blank.room;
+        least = omega (arith, total, ap (step_pairs c) blank.order, step_pairs-none c);
+        most = omega (arith, total, untouched);
+        worked = omega (arith, worked);
+        small = few_operations l table;
+      };
+    }

@@ -1,8 +1,8 @@
 use Rattle.std.proofs.Common.{sym, ap, ◌∙◌, arith}
 use Rattle.nr_bitvec.specs.Bit.{bit}
 use Rattle.nr_peel.specs.StateInside.{lifted_checks}
-use Rattle.nr_peel.proofs.FixOrderCheckFacts.{accepts_without, weighed_known, weighed_out, weighed_pos}
-use Rattle.nr_peel.proofs.RowEntryFacts.{IsEntryAt, entry_at}
+use Rattle.nr_peel.proofs.FixOrderFacts.{accepts_without, weighed_known, weighed_out, weighed_pos}
+use Rattle.nr_peel.proofs.RowPlaceFacts.{IsEntryAt, entry_at}
 use Rattle.nr_peel.proofs.check.accepts.Goals as goal
 use Rattle.nr_peel.proofs.check.accepts.Goals.{After-place-pos, then-pos-step, else-pos-step+else-not-get}
 

@@ -1,6 +1,6 @@
 use Rattle.nr_bitvec.specs.Bit.{bit}
 use Rattle.nr_peel.specs.StateInside.{lifted_checks}
-use Rattle.nr_peel.proofs.FixOrderCheckFacts.{IsWeighed}
+use Rattle.nr_peel.proofs.FixOrderFacts.{IsWeighed}
 use Rattle.nr_peel.proofs.check.accepts.Given as goal
 
 -- what the positions of the row show so far

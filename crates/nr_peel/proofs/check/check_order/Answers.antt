@@ -7,8 +7,7 @@ use Rattle.nr_ldpcenc.specs.Rows.{block_checks}
 use Rattle.nr_peel.specs.Certificates.{accepts, after_steps, all_accepted}
 use Rattle.nr_peel.specs.declared.fix.Fix.{Fix}
 use Rattle.nr_peel.proofs.TableGridFacts.{checks_sound}
-use Rattle.nr_peel.proofs.FixOrderCheckFacts.{accepts_alike, judged_more, refused_here}
-use Rattle.nr_peel.proofs.FixOrderFacts.{accepted_says, steps_stay}
+use Rattle.nr_peel.proofs.FixOrderFacts.{accepts_alike, judged_more, refused_here, accepted_says, steps_stay}
 use Rattle.nr_peel.proofs.CodewordFacts.{words_agree}
 use Rattle.nr_peel.proofs.check.check_order.Goals as goal
 use Rattle.nr_ldpcenc.proofs.CodewordFacts.{set_below}

@@ -2,7 +2,7 @@ use Rattle.std.proofs.Common.{◌≡◌, length}
 use Rattle.nr_bitvec.specs.Bit.{bit}
 use Rattle.nr_segment.specs.CodeBlock.{numbers}
 use Rattle.nr_ldpcenc.specs.Rows.{block_checks}
-use Rattle.nr_peel.proofs.FixOrderCheckFacts.{IsJudged}
+use Rattle.nr_peel.proofs.FixOrderFacts.{IsJudged}
 use Rattle.nr_peel.proofs.check.check_order.Given as goal
 
 -- the steps so far are accepted, and their positions are marked

@@ -2,7 +2,7 @@ use Rattle.std.proofs.Common.{refl, sym, ◌∙◌, arith}
 use Rattle.nr_peel.specs.State.{sweep_peeler_view}
 use Rattle.nr_peel.specs.declared.lifted.Lifted.{Lifted}
 use Rattle.nr_peel.proofs.FillerFacts.{fillers_fit}
-use Rattle.nr_peel.proofs.NewPeelerFacts.{pending_left}
+use Rattle.nr_peel.proofs.NothingHeardFacts.{pending_left}
 use Rattle.nr_peel.proofs.SweepViewFacts.{sweep_peeled}
 use Rattle.nr_peel.proofs.peeler.Peeler.new.Goals as goal
 use Rattle.nr_ldpcenc.proofs.CodewordFacts.{set_below}

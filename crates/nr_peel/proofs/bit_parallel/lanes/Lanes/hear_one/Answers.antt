@@ -4,7 +4,7 @@ use Rattle.std.proofs.lemmas.Bool.{eqb-true}
 use Rattle.nr_bitvec.specs.Bit.{bit}
 use Rattle.nr_peel.specs.StateInside.{lifted_checks}
 use Rattle.nr_peel.proofs.LaneStepFacts.{outside}
-use Rattle.nr_peel.proofs.OneGivenFacts.{one_clear, one_marks, one_told}
+use Rattle.nr_peel.proofs.GivenLaneFacts.{one_clear, one_marks, one_told}
 use Rattle.nr_peel.proofs.bit_parallel.lanes.Lanes.hear_one.Goals as goal
 
 pub join-requires-clause-clear : goal.join-requires-clause-clear

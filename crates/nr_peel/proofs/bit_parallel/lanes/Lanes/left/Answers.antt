@@ -7,9 +7,8 @@ use Rattle.nr_lifting.proofs.LaneBitFacts.{marked-le}
 use Rattle.nr_peel.specs.Peeling.{left_of}
 use Rattle.nr_peel.specs.declared.lifted.Lifted.{Lifted}
 use Rattle.nr_peel.proofs.FillerFacts.{fillers_fit}
-use Rattle.nr_peel.proofs.RemainingFacts.{info_rotations, left_column, left_end}
+use Rattle.nr_peel.proofs.LeftPositionFacts.{info_rotations, left_column, left_end, left_and_known}
 use Rattle.nr_peel.proofs.bit_parallel.lanes.Lanes.left.Goals as goal
-use Rattle.nr_peel.proofs.LeftPositionFacts.{left_and_known}
 
 -- an information column lies in the word
 column_fits : (l : Lifted) (j : ℕ) → j < l.plan.k / l.plan.z → (j + 1) * l.plan.z ≤ cols_of l.plan.graph * l.plan.z

@@ -2,8 +2,7 @@ use Rattle.std.proofs.Common.{◌≤◌, ◌*◌, refl, sym, ap, ◌∙◌, arit
 use Rattle.nr_peel.specs.Due.{work_of}
 use Rattle.nr_peel.specs.StateInside.{lifted_checks}
 use Rattle.nr_peel.specs.declared.bit_parallel.sweep.Sweep.{Sweep}
-use Rattle.nr_peel.proofs.BlankLaneFacts.{blank_sweep}
-use Rattle.nr_peel.proofs.StartFacts.{rows_most}
+use Rattle.nr_peel.proofs.StartFacts.{blank_sweep, rows_most}
 use Rattle.nr_peel.proofs.bit_parallel.sweep.Sweep.new.Goals as goal
 
 pub new-counts-requires-clause-some : goal.new-counts-requires-clause-some

@@ -1,6 +1,6 @@
 use Rattle.std.proofs.Common.{◌≡◌, ◌*◌}
 use Rattle.std.specs.List.{count_by, range_with_len}
-use Rattle.nr_peel.proofs.GainedFacts.{is_gained}
+use Rattle.nr_peel.proofs.UnknownFacts.{is_gained}
 use Rattle.nr_peel.proofs.bit_parallel.sweep_peeler.SweepPeeler.gained.Given as goal
 
 -- the columns before column j are counted
