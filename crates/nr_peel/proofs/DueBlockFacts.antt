@@ -29,65 +29,103 @@ due_none n = omega (arith, sum_by-replicate (λ (b : Bool). cond {A = ℕ} b 1 0
 pub due_more : (due : List Bool) (i : ℕ) → i < length due → due_in (set due i true) ≤ due_in due + 1
 due_more due i below = omega (arith, sum_by-set (λ (b : Bool). cond {A = ℕ} b 1 0) due i true false below)
 
+pub due_less : (due : List Bool) (i : ℕ) → i < length due → due_in (set due i false) + cond (bit due i) 1 0 ≡ due_in due
+due_less due i below = omega (arith, sum_by-set (λ (b : Bool). cond {A = ℕ} b 1 0) due i false false below)
+
 -- ---- places of blocks
 
 -- a block that lies among m blocks is one of them
 block_low : (i n m z : ℕ) → (i + 1) * z ≤ n → n ≤ m * z → 0 < z → i < m
 block_low i n m z fits few some = grind (arith, nat_tests, cases_lt, mul-le-mul_right)
 
-pub kept_low : (p : BlockCounts) (due : List Bool) (i : ℕ) → AreKept p due → (i + 1) * p.lanes ≤ length p.items → i < 46
-kept_low p due i kept block = block_low i (length p.items) 46 p.lanes block kept.few kept.some
+pub kept_low : (p : BlockCounts) (due waiting : List Bool) (i : ℕ) → AreKept p due waiting → (i + 1) * p.lanes ≤ length p.items → i < 46
+kept_low p due waiting i kept block = block_low i (length p.items) 46 p.lanes block kept.few kept.some
 
 pub marks_low : (r : BlockBits) (columns : List ℕ) (j : ℕ) → ArePendingMarks r columns → (j + 1) * r.lanes ≤ length r.items → j < 68
 marks_low r columns j marks block = block_low j (length r.items) 68 r.lanes block marks.few marks.some
 
 -- ---- counts of rows
 
--- at first all are due
-pub kept_new : (p : BlockCounts) (due : List Bool) (rows : ℕ) → 0 < p.lanes → rows ≤ 46 → length p.items ≡ rows * p.lanes → ((h : ℕ) → h < rows → bit due h ≡ true) → AreKept p due
-kept_new p due rows some few long all = grind (arith, nat_tests, mul-le-mul_right, cases_lt, div_below, get_or_past)
+-- at first all are due, and none waits
+pub kept_new : (p : BlockCounts) (due : List Bool) (rows : ℕ) → 0 < p.lanes → rows ≤ 46 → length p.items ≡ rows * p.lanes → ((h : ℕ) → h < rows → bit due h ≡ true) → AreKept p due (replicate 46 false)
+kept_new p due rows some few long all = record {
+  some = some;
+  few = omega (arith, long, mul-le-mul_right p.lanes few);
+  settled = λ k clear _ one. elim (cases_lt k (rows * p.lanes)) [
+    | inl below ↦ true≢false (sym (all (k / p.lanes) (div_below k p.lanes rows some below)) ∙ clear)
+    | inr past ↦ absurd (omega (arith, one, get_or_past p.items k 0 (omega (arith, long, past))))
+  ];
+  left = λ i waits. absurd (true≢false (sym waits ∙ get_or-same 46 i false));
+}
 
--- a block whose counts fell is due
-pub kept_lower : (a d : BlockCounts) (due : List Bool) (i : ℕ) (M : ℕ → Bool) → AreKept a due → i < length due → d.lanes ≡ a.lanes → length d.items ≡ length a.items
-    → ((h t : ℕ) → t < a.lanes → slice_index d.items (h * a.lanes + t) + cond ((i == h) && M t) 1 0 ≡ slice_index a.items (h * a.lanes + t)) → AreKept d (set due i true)
-kept_lower a d due i M kept within lanes long falls = record {
+-- a block whose counts fell is due, and waits no more
+pub kept_lower : (a d : BlockCounts) (due waiting : List Bool) (i : ℕ) (M : ℕ → Bool) → AreKept a due waiting → i < length due → i < length waiting → d.lanes ≡ a.lanes → length d.items ≡ length a.items
+    → ((h t : ℕ) → t < a.lanes → slice_index d.items (h * a.lanes + t) + cond ((i == h) && M t) 1 0 ≡ slice_index a.items (h * a.lanes + t)) → AreKept d (set due i true) (set waiting i false)
+kept_lower a d due waiting i M kept within inside lanes long falls = record {
   some = omega (arith, kept.some, lanes);
   few = rw lanes (omega (arith, kept.few, long));
-  settled = λ k clear one. rest k (sym (ap (λ z. bit (set due i true) (k / z)) lanes) ∙ clear) one;
+  settled = λ k clear none one. rest k (sym (ap (λ z. bit (set due i true) (k / z)) lanes) ∙ clear) (sym (ap (λ z. bit (set waiting i false) (k / z)) lanes) ∙ none) one;
+  left = λ h waits. elim (cases_eq i h) [
+    | inl here ↦ absurd (true≢false (sym waits ∙ ap (bit (set waiting i false)) (sym here) ∙ get_or-set_same waiting i false false inside))
+    | inr other ↦
+        let old = kept.left h (sym (get_or-set_other waiting i h false false (λ e. other (sym e))) ∙ waits) in
+        let same = marked-same (λ t. slice_index a.items (h * a.lanes + t) == 1) (λ t. slice_index d.items (h * a.lanes + t) == 1) a.lanes (λ t below. ap (λ n. n == 1) (sym (still h t below other))) in
+        rw lanes (omega (arith, old, same))
+  ];
 }
   where
-    rest : (k : ℕ) → bit (set due i true) (k / a.lanes) ≡ false → slice_index d.items k ≡ 1 → ⊥
-    rest k clear one = elim (cases_eq i (k / a.lanes)) [
+    still : (h t : ℕ) → t < a.lanes → i ≢ h → slice_index d.items (h * a.lanes + t) ≡ slice_index a.items (h * a.lanes + t)
+    still h t below other =
+        let none : cond {A = ℕ} ((i == h) && M t) 1 0 ≡ 0 = ap {B = ℕ} (λ b. cond (b && M t) 1 0) (ne_eqb i h other) in
+        omega (arith, falls h t below, none)
+
+    rest : (k : ℕ) → bit (set due i true) (k / a.lanes) ≡ false → bit (set waiting i false) (k / a.lanes) ≡ false → slice_index d.items k ≡ 1 → ⊥
+    rest k clear none one = elim (cases_eq i (k / a.lanes)) [
       | inl here ↦ true≢false (sym (get_or-set_same due i true false within) ∙ ap (bit (set due i true)) here ∙ clear)
       | inr other ↦
           let h = k / a.lanes in
           let at : h * a.lanes + k % a.lanes ≡ k = div-add-mod' k a.lanes in
-          let fell = falls h (k % a.lanes) (mod_below k a.lanes kept.some) in
-          let none : cond {A = ℕ} ((i == h) && M (k % a.lanes)) 1 0 ≡ 0 = ap {B = ℕ} (λ b. cond (b && M (k % a.lanes)) 1 0) (ne_eqb i h other) in
-          let same : slice_index d.items k ≡ slice_index a.items k = omega (arith, rw at at fell, none) in
-          kept.settled k (sym (get_or-set_other due i h true false (λ e. other (sym e))) ∙ clear) (sym same ∙ one)
+          let same = rw at at (still h (k % a.lanes) (mod_below k a.lanes kept.some) other) in
+          kept.settled k (sym (get_or-set_other due i h true false (λ e. other (sym e))) ∙ clear) (sym (get_or-set_other waiting i h false false (λ e. other (sym e))) ∙ none) (sym same ∙ one)
     ]
 
--- a block is due as long as it has a count of one
-pub kept_looked : (p : BlockCounts) (due : List Bool) (i : ℕ) (b : Bool) (ones : List ℕ) → AreKept p due → i < length due
-    → (b ≡ false → marked (is_set ones) p.lanes ≡ 0) → ((t : ℕ) → t < p.lanes → is_set ones t ≡ (slice_index p.items (i * p.lanes + t) == 1)) → AreKept p (set due i b)
-kept_looked p due i b ones kept within none are = record {
+-- a block that has no count of one is due no more
+pub kept_looked : (p : BlockCounts) (due waiting : List Bool) (i : ℕ) (ones : List ℕ) → AreKept p due waiting → i < length due
+    → marked (is_set ones) p.lanes ≡ 0 → ((t : ℕ) → t < p.lanes → is_set ones t ≡ (slice_index p.items (i * p.lanes + t) == 1)) → AreKept p (set due i false) waiting
+kept_looked p due waiting i ones kept within none are = record {
   some = kept.some;
   few = kept.few;
-  settled = λ k clear one. elim (cases_eq i (k / p.lanes)) [
+  settled = λ k clear off one. elim (cases_eq i (k / p.lanes)) [
     | inl here ↦
-        let off : b ≡ false = sym (get_or-set_same due i b false within) ∙ ap (bit (set due i b)) here ∙ clear in
         let t = k % p.lanes in
         let below : t < p.lanes = mod_below k p.lanes kept.some in
         let at : i * p.lanes + t ≡ k = ap (λ h. h * p.lanes + t) here ∙ div-add-mod' k p.lanes in
-        true≢false (sym (ap (λ n. slice_index p.items n == 1) at ∙ eq-eqb (slice_index p.items k) 1 one) ∙ sym (are t below) ∙ marked_zero (is_set ones) p.lanes (none off) t below)
-    | inr other ↦ kept.settled k (sym (get_or-set_other due i (k / p.lanes) b false (λ e. other (sym e))) ∙ clear) one
+        true≢false (sym (ap (λ n. slice_index p.items n == 1) at ∙ eq-eqb (slice_index p.items k) 1 one) ∙ sym (are t below) ∙ marked_zero (is_set ones) p.lanes none t below)
+    | inr other ↦ kept.settled k (sym (get_or-set_other due i (k / p.lanes) false false (λ e. other (sym e))) ∙ clear) off one
+  ];
+  left = kept.left;
+}
+
+-- a block that has a count of one may wait
+pub kept_off : (p : BlockCounts) (due waiting : List Bool) (i : ℕ) → AreKept p due waiting → i < length due → i < length waiting
+    → 0 < marked (λ t. slice_index p.items (i * p.lanes + t) == 1) p.lanes → AreKept p (set due i false) (set waiting i true)
+kept_off p due waiting i kept within inside some = record {
+  some = kept.some;
+  few = kept.few;
+  settled = λ k clear off one. elim (cases_eq i (k / p.lanes)) [
+    | inl here ↦ true≢false (sym (get_or-set_same waiting i true false inside) ∙ ap (bit (set waiting i true)) here ∙ off)
+    | inr other ↦ kept.settled k (sym (get_or-set_other due i (k / p.lanes) false false (λ e. other (sym e))) ∙ clear) (sym (get_or-set_other waiting i (k / p.lanes) true false (λ e. other (sym e))) ∙ off) one
+  ];
+  left = λ h waits. elim (cases_eq i h) [
+    | inl here ↦ rw (← here) some
+    | inr other ↦ kept.left h (sym (get_or-set_other waiting i h true false (λ e. other (sym e))) ∙ waits)
   ];
 }
 
--- a block that isn't due has no count of one
-pub kept_none : (p : BlockCounts) (due : List Bool) (i t : ℕ) → AreKept p due → bit due i ≡ false → t < p.lanes → (slice_index p.items (i * p.lanes + t) == 1) ≡ false
-kept_none p due i t kept clear below = ne_eqb (slice_index p.items (i * p.lanes + t)) 1 (kept.settled (i * p.lanes + t) (ap (bit due) (div-mul-add i p.lanes t below) ∙ clear))
+-- a block that neither is due nor waits has no count of one
+pub kept_none : (p : BlockCounts) (due waiting : List Bool) (i t : ℕ) → AreKept p due waiting → bit due i ≡ false → bit waiting i ≡ false → t < p.lanes → (slice_index p.items (i * p.lanes + t) == 1) ≡ false
+kept_none p due waiting i t kept clear off below =
+    ne_eqb (slice_index p.items (i * p.lanes + t)) 1 (kept.settled (i * p.lanes + t) (ap (bit due) (div-mul-add i p.lanes t below) ∙ clear) (ap (bit waiting) (div-mul-add i p.lanes t below) ∙ off))
 
 -- ---- marks of fresh positions
 
@@ -155,9 +193,15 @@ some_entry l K counts i block counted some = elim (cases_lt 0 (length es)) [
     few : (t : ℕ) → t < l.plan.z → slice_index counts (i * l.plan.z + t) ≤ length es
     few t below = grind (arith, counted, count_by-le-length, length-map, es)
 
--- two operations an entry, and one for the look, are at most three a visit
-pub search_cost : (rows d : ℕ) → 0 < rows → 0 < d → 1 + 2 * d ≤ 3 * (rows * d)
-search_cost rows d some long = grind (arith, mul-le-mul_right)
+-- two operations an entry, one for the look and maybe one for the last entry are at most three a visit
+pub search_cost : (rows d : ℕ) → 0 < rows → 0 < d → (r : ℕ) → r ≤ 1 → (r ≡ 1 → 2 ≤ d) → 1 + r + 2 * d ≤ 3 * (rows * d)
+search_cost rows d some long r few least =
+    let more : 1 * d ≤ rows * d = mul-le-mul_right d some in
+    let fits : 1 + r ≤ d = elim (cases_eq r 1) [
+      | inl one ↦ omega (arith, one, least one)
+      | inr none ↦ omega (arith, none, few, long)
+    ] in
+    omega (arith, more, fits)
 
 pub one_at_most : (b : Bool) → cond {A = ℕ} b 1 0 ≤ 1
 one_at_most true = omega arith

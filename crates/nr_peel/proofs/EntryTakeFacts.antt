@@ -1,13 +1,12 @@
 -- The entries of a row of blocks, one after another: its rows fix the positions that they have alone to fix.
 use Rattle.std.proofs.Common.{◌≡◌, ℕ, zero, suc, ◌+◌, ◌*◌, ◌%◌, ◌<◌, ◌≤◌, ◌==◌, ◌&&◌, Bool, true, false, not, cond, if◌then◌else◌, List, [], length, get_or, take, refl, sym, ap, ◌∙◌, arith, length-append}
 use Rattle.std.specs.Prelude.{count_by, slice_index}
-use Rattle.std.proofs.lemmas.Bool.{and_parts, eqb-true, true≢false, false≢true, or_parts, not-true}
+use Rattle.std.proofs.lemmas.Bool.{and_parts, eqb-true, false≢true, or_parts, not-true}
 use Rattle.std.proofs.lemmas.List.{get_or-map, length-map, take_all}
 use Rattle.std.proofs.lemmas.List.Elements.{filter_passes}
 use Rattle.std.proofs.lemmas.List.Sums.{sum_by-take-le}
 use Rattle.std.proofs.Math.Nat.{mul-le-mul_right}
 use Rattle.nr_bitvec.specs.Bit.{bit}
-use Rattle.nr_bitvec.specs.Packed.{IsClear}
 use Rattle.nr_lifting.specs.Rings.{is_set, marked}
 use Rattle.nr_lifting.proofs.LaneBitFacts.{marked-same}
 use Rattle.nr_segment.specs.CodeBlock.{numbers}
@@ -30,7 +29,6 @@ use Rattle.nr_peel.specs.declared.lifted.Lifted.{Lifted}
 use Rattle.nr_peel.proofs.TableGridFacts.{checks_sound}
 use Rattle.nr_peel.proofs.LaneStepFacts.{only_at, take_fixes, take_knows}
 use Rattle.nr_peel.proofs.LeftPositionFacts.{stands_at}
-use Rattle.nr_peel.proofs.LaneMarkFacts.{none_marked}
 use Rattle.nr_peel.proofs.StepPairFacts.{step_pairs-alike, step_pairs-join, step_pairs-none}
 use Rattle.nr_peel.proofs.StepFacts.{steps_count}
 use Rattle.nr_peel.proofs.RowPositionFacts.{count_more}
@@ -93,10 +91,11 @@ module _ (l : Lifted) (i : ℕ) (ones counts : List ℕ) (a : Lanes) (table : Is
   one : (t : ℕ) → t < z → is_set ones t ≡ true → count_by (λ p. not (K p)) (c.row i t) ≡ 1
   one t below set = sym (counted i t block below) ∙ eqb-true (slice_index counts (i * z + t)) 1 (sym (are t below) ∙ set)
 
-  pub taking_start : IsTaking l i ones 0 a a
-  taking_start =
+  -- before the first entry of which a row misses the position
+  pub taking_start : (n : ℕ) → ((t : ℕ) → t < z → is_set ones t ≡ true → count_by (λ p. not (bit a.known.items p)) (take n (c.row i t)) ≡ 0) → IsTaking l i ones n a a
+  taking_start n known =
       let f = fixes_none c K a lanes in
-      record { fixes = f.0; few = omega (arith, ap length f.1); pairs = rw f.1 (step_pairs-none c ∙ omega arith); whole = λ t below set. refl }
+      record { fixes = f.0; few = omega (arith, ap length f.1); pairs = rw f.1 (step_pairs-none c ∙ omega arith); whole = known }
 
   -- no more than the rows of the lane
   lacking_most : (n : ℕ) → lacking_in K set z row ones n ≤ marked (is_set ones) z
@@ -181,23 +180,27 @@ module _ (l : Lifted) (i : ℕ) (ones counts : List ℕ) (a : Lanes) (table : Is
           }
 
   -- when all entries are taken
-  pub taking_done : (n : ℕ) (d : Lanes) → length row ≤ n → IsTaking l i ones n a d → IsBlockSought c counts i a d
-  taking_done n d all so_far = record {
-    fixes = so_far.fixes;
-    few = omega (arith, so_far.few, lacking_most n, marked-same (is_set ones) (λ t. has_count 1 counts (i * z + t)) z are);
-    searched =
-        let few : length so_far.fixes.steps ≤ marked (λ t. has_count 1 counts (i * z + t)) z = omega (arith, so_far.few, lacking_most n, marked-same (is_set ones) (λ t. has_count 1 counts (i * z + t)) z are) in
-        omega (arith, so_far.pairs, mul-le-mul_right (length row) few, block_visits l counts i);
-    whole = λ t below h. sym (ap (count_by (λ p. not (bit d.known.items p))) (take_all n (positions set z t row) (omega (arith, length-map row (λ (x : Entry). one_at z t x.col (value_in set x)), all)))) ∙ so_far.whole t below (are t below ∙ h);
-  }
-
-  -- where no row is searched
-  pub taking_none : IsClear ones z → marked (is_set ones) z ≡ 0 → IsBlockSought c counts i a a
-  taking_none clear nothing =
-      let f = fixes_none c K a lanes in
+  pub taking_done : (v : ℕ → Bool) (n : ℕ) (d : Lanes) → length row ≤ n → IsTaking l i ones n a d → ((t : ℕ) → t < z → is_set ones t ≡ v (i * z + t)) → IsBlockSought c v i a d
+  taking_done v n d all so_far alike =
+      let few : length so_far.fixes.steps ≤ marked (λ t. v (i * z + t)) z = omega (arith, so_far.few, lacking_most n, marked-same (is_set ones) (λ t. v (i * z + t)) z alike) in
       record {
-        fixes = f.0;
-        few = omega (arith, ap length f.1);
-        searched = omega (arith, ap (step_pairs c) f.1, step_pairs-none c);
-        whole = λ t below h. absurd (true≢false (sym h ∙ sym (are t below) ∙ none_marked ones z clear nothing t));
+        fixes = so_far.fixes;
+        few = few;
+        searched = omega (arith, so_far.pairs, mul-le-mul_right (length row) few, block_visits l v i);
+        whole = λ t below h. sym (ap (count_by (λ p. not (bit d.known.items p))) (take_all n (positions set z t row) (omega (arith, length-map row (λ (x : Entry). one_at z t x.col (value_in set x)), all)))) ∙ so_far.whole t below (alike t below ∙ h);
       }
+
+-- a row that misses the last entry's position knows the others
+pub known_before : (l : Lifted) (i : ℕ) (a : Lanes) (n t : ℕ) → n < length (row_of (entries_in l.plan.graph l.table.now) i) → length (row_of (entries_in l.plan.graph l.table.now) i) ≤ n + 1
+    → count_by (λ p. not (counted_in a p)) ((lifted_checks l).row i t) ≡ 1 → bit a.known.items (one_at l.plan.z t (get_or (row_of (entries_in l.plan.graph l.table.now) i) n (record { row = 0; col = 0; values = [] })).col (value_in l.plan.set (get_or (row_of (entries_in l.plan.graph l.table.now) i) n (record { row = 0; col = 0; values = [] })))) ≡ false
+    → count_by (λ p. not (bit a.known.items p)) (take n ((lifted_checks l).row i t)) ≡ 0
+known_before l i a n t inside all one out =
+    let row = row_of (entries_in l.plan.graph l.table.now) i in
+    let none : Entry = record { row = 0; col = 0; values = [] } in
+    let at = λ (x : Entry). one_at l.plan.z t x.col (value_in l.plan.set x) in
+    let ps = positions l.plan.set l.plan.z t row in
+    let long = length-map row at in
+    let grown = count_more (λ p. not (bit a.known.items p)) ps n 0 (omega (arith, long, inside)) in
+    let last : ◌≡◌ {A = ℕ} (cond (not (bit a.known.items (get_or ps n 0))) 1 0) 1 = ap (λ q. cond (not (bit a.known.items q)) 1 0) (get_or-map at row n none 0 inside) ∙ ap (λ b. cond (not b) 1 0) out in
+    let whole = ap (count_by (λ p. not (bit a.known.items p))) (take_all (n + 1) ps (omega (arith, long, all))) in
+    omega (arith, grown, last, whole, count_fewer (counted_in a) (bit a.known.items) (counted_known a) ps, one)

@@ -32,3 +32,4 @@ mod SweepViewFacts
 mod JoinedMarkFacts
 mod LearningFacts
 mod StepPairFacts
+mod PutOffFacts

@@ -48,7 +48,7 @@ marked_apart u v w zero is = refl
 marked_apart u v w (suc n) is = omega (arith, marked_apart u v w n (λ t h. is t (omega (arith, h))), is n (omega arith))
 
 -- a larger set has no fewer, and more where one is new
-marked_more : (S T : ℕ → Bool) → Within S T → (n : ℕ) → marked S n ≤ marked T n
+pub marked_more : (S T : ℕ → Bool) → Within S T → (n : ℕ) → marked S n ≤ marked T n
 marked_more S T within n = marked_le S T n (λ k _. grind (arith, within k))
 
 pub marked_grows : (S T : ℕ → Bool) → Within S T → (n p : ℕ) → p < n → S p ≡ false → T p ≡ true → marked S n < marked T n

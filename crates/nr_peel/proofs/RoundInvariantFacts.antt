@@ -1,7 +1,7 @@
 -- What is kept from round to round: rows fix positions, and then the counts follow.
 use Rattle.std.proofs.Common.{◌≡◌, ◌≢◌, ℕ, ◌+◌, ◌-◌, ◌*◌, ◌/◌, ◌%◌, ◌^◌, ◌<◌, ◌≤◌, ◌||◌, Bool, true, false, not, List, [], ◌∷◌, length, refl, sym, ap, ◌∙◌, inl, inr, arith, length-append}
 use Rattle.std.specs.Prelude.{count_by, slice_index, sum, vec_capacity}
-use Rattle.std.proofs.lemmas.Bool.{cases_lt, eq-eqb, true≢false}
+use Rattle.std.proofs.lemmas.Bool.{cases_lt, eq-eqb, eqb-true, ltb-true, true≢false}
 use Rattle.std.proofs.lemmas.List.{get_or_past}
 use Rattle.std.proofs.lemmas.Nat.{mod_below, div_below, div-add-mod'}
 use Rattle.nr_bitvec.specs.Bit.{bit}
@@ -11,7 +11,8 @@ use Rattle.nr_peel.specs.Due.{work_of}
 use Rattle.nr_peel.specs.Certificates.{after_steps, all_accepted, is_fixed_by}
 use Rattle.nr_peel.specs.Closure.{Within}
 use Rattle.nr_peel.specs.Settled.{CatchesUp, HasNonePending, IsHeld, Keeps, Reaches}
-use Rattle.nr_peel.specs.Sweeps.{AreLanes, AreSought, CountsOf, Fixes, counted_in, has_count, searched_pairs}
+use Rattle.nr_peel.specs.Searches.{IsReady, SearchesOnes}
+use Rattle.nr_peel.specs.Sweeps.{AreLanes, CountsOf, Fixes, counted_in, has_count, searched_pairs}
 use Rattle.nr_peel.specs.Touches.{step_pairs}
 use Rattle.nr_peel.specs.declared.fix.Fix.{Fix}
 use Rattle.nr_peel.specs.declared.bit_parallel.lanes.Lanes.{Lanes}
@@ -23,7 +24,7 @@ use Rattle.nr_peel.proofs.RowPositionFacts.{count_alike}
 use Rattle.nr_peel.proofs.StepPairFacts.{step_pairs-append}
 use Rattle.nr_peel.proofs.SweepStepFacts.{counted_known, counts_still, fixed_append, known_more, pairs_all}
 use Rattle.nr_peel.proofs.TallyFacts.{none_and_one, searched_most, searched_none, spent_searched, zeros_gain, zeros_more}
-use Rattle.nr_peel.proofs.MarkedFacts.{marked_zero}
+use Rattle.nr_peel.proofs.MarkedFacts.{marked_more, marked_zero}
 use Rattle.nr_lifting.proofs.LaneBitFacts.{marked-le}
 
 -- ---- the column half
@@ -109,89 +110,119 @@ fixes_keep c old new f = record {
 
 -- ---- a round
 
-module _ (c : Checks) (some : 0 < c.lanes) (a b : Sweep) (h : IsHeld c a) (sought : AreSought c a.counts.items c.rows a.lanes b.lanes) (counts : b.counts.items ≡ a.counts.items)
-    (lanes : b.counts.lanes ≡ a.counts.lanes) (touches : b.touches ≡ a.touches + searched_pairs c a.counts.items) (worked : work_of b.counts ≤ work_of a.counts + 3 * searched_pairs c a.counts.items) where
-  n : ℕ
-  n = c.rows * c.lanes
-
+module _ (c : Checks) (some : 0 < c.lanes) (a b : Sweep) (h : IsHeld c a) (found : Bool) (s : SearchesOnes c found a b) where
   pub sought_counted : CountsOf c (counted_in b.lanes) b.counts.items
-  sought_counted = rw counts (counts_still c (counted_in a.lanes) a.counts.items a.lanes b.lanes sought.fixes h.counted)
+  sought_counted = rw s.searches.counts (counts_still c (counted_in a.lanes) a.counts.items a.lanes b.lanes s.searches.sought.fixes h.counted)
 
   pub sought_few : b.touches + sum b.counts.items < 2 ^ 64
-  sought_few = omega (arith, touches, ap sum counts, h.most, h.small, spent_le c a.counts.items, searched_most c a.counts.items)
+  sought_few = omega (arith, s.searches.touches, ap sum s.searches.counts, h.most, h.small, spent_le c a.counts.items, searched_most c s.rows)
 
   pub sought_roomy : work_of b.counts + 2 * sum b.counts.items < 2 ^ 63
-  sought_roomy = omega (arith, worked, ap sum counts, h.worked, h.most, h.small, spent_le c a.counts.items, searched_most c a.counts.items)
+  sought_roomy = omega (arith, s.searches.worked, ap sum s.searches.counts, h.worked, h.most, h.small, spent_le c a.counts.items, searched_most c s.rows)
 
-  steps_long : length b.lanes.order.items ≡ length a.lanes.order.items + length sought.fixes.steps
-  steps_long = ap length sought.fixes.order ∙ length-append a.lanes.order.items sought.fixes.steps
+  steps_long : length b.lanes.order.items ≡ length a.lanes.order.items + length s.searches.sought.fixes.steps
+  steps_long = ap length s.searches.sought.fixes.order ∙ length-append a.lanes.order.items s.searches.sought.fixes.steps
 
   -- the steps' rows were searched
-  steps_searched : step_pairs c b.lanes.order.items ≤ step_pairs c a.lanes.order.items + searched_pairs c a.counts.items
-  steps_searched = omega (arith, ap (step_pairs c) sought.fixes.order, step_pairs-append c a.lanes.order.items sought.fixes.steps, sought.searched, pairs_all c a.counts.items)
+  steps_searched : step_pairs c b.lanes.order.items ≤ step_pairs c a.lanes.order.items + searched_pairs c s.rows
+  steps_searched = omega (arith, ap (step_pairs c) s.searches.sought.fixes.order, step_pairs-append c a.lanes.order.items s.searches.sought.fixes.steps, s.searches.sought.searched, pairs_all c s.rows)
 
   module _ (d : Sweep) (caught : CatchesUp c b d) where
     falls : (k : ℕ) → slice_index d.counts.items k ≤ slice_index a.counts.items k
-    falls k = omega (arith, caught.falls k, ap (λ v. slice_index v k) counts)
+    falls k = omega (arith, caught.falls k, ap (λ v. slice_index v k) s.searches.counts)
 
-    down : (k : ℕ) → k < c.rows * c.lanes → slice_index a.counts.items k ≡ 1 → slice_index d.counts.items k ≡ 0
+    down : (k : ℕ) → k < c.rows * c.lanes → s.rows k ≡ true → slice_index d.counts.items k ≡ 0
     down k below one =
         let i = k / c.lanes in
         let t = k % c.lanes in
         let row : i < c.rows = div_below k c.lanes c.rows some below in
         let lane : t < c.lanes = mod_below k c.lanes some in
         let at : i * c.lanes + t ≡ k = div-add-mod' k c.lanes in
-        let has : has_count 1 a.counts.items (i * c.lanes + t) ≡ true = ap (has_count 1 a.counts.items) at ∙ eq-eqb (slice_index a.counts.items k) 1 one in
         sym (ap (slice_index d.counts.items) at) ∙ caught.counted i t row lane
         ∙ count_alike (λ p. not (bit d.lanes.known.items p)) (λ p. not (bit b.lanes.known.items p)) (λ p. ap (λ r. not (bit r.items p)) caught.known) (c.row i t)
-        ∙ sought.whole i t row lane has
+        ∙ s.searches.sought.whole i t row lane (ap s.rows at ∙ one)
 
-    pub zeros_rise : marked (has_count 0 a.counts.items) (c.rows * c.lanes) + marked (has_count 1 a.counts.items) (c.rows * c.lanes) ≤ marked (has_count 0 d.counts.items) (c.rows * c.lanes)
-    zeros_rise = zeros_gain c a.counts.items d.counts.items falls down
+    one : (k : ℕ) → s.rows k ≡ true → slice_index a.counts.items k ≡ 1
+    one k has = eqb-true (slice_index a.counts.items k) 1 (s.ones k has)
+
+    pub zeros_rise : marked (has_count 0 a.counts.items) (c.rows * c.lanes) + marked s.rows (c.rows * c.lanes) ≤ marked (has_count 0 d.counts.items) (c.rows * c.lanes)
+    zeros_rise = zeros_gain c s.rows a.counts.items d.counts.items falls one down
 
     pub round_held : IsHeld c d
-    round_held = grind (arith, caught_lanes, caught_counted, steps_long, zeros_rise, steps_searched, spent_searched, falls, down)
+    round_held = record {
+      lanes = caught_lanes c b d s.searches.sought.fixes.lanes caught;
+      counts_lanes = caught.counts_lanes ∙ s.searches.lanes ∙ h.counts_lanes;
+      counts_long = caught.counts_long ∙ ap length s.searches.counts ∙ h.counts_long;
+      counted = caught_counted c b d s.searches.sought.fixes.lanes caught;
+      order_few = omega (arith, ap (λ v. length v.items) caught.order, steps_long, s.searches.sought.few, h.order_few, zeros_rise);
+      order_room = omega (arith, ap (λ v. vec_capacity v) caught.order, s.searches.sought.fixes.capacity, h.order_room);
+      least = omega (arith, caught.visits, s.searches.touches, ap sum s.searches.counts, h.least, ap (λ v. step_pairs c v.items) caught.order, steps_searched);
+      most = omega (arith, caught.visits, s.searches.touches, ap sum s.searches.counts, h.most, spent_searched c s.rows a.counts.items d.counts.items falls one down);
+      worked = omega (arith, caught.worked, caught.visited, s.searches.touches, s.searches.worked, h.worked);
+      small = h.small;
+    }
 
     pub round_keeps : Keeps c a.lanes d.lanes
-    round_keeps = keeps_then c a.lanes b.lanes d.lanes (fixes_keep c a.lanes b.lanes sought.fixes) (caught_keeps c b d sought.fixes.lanes caught)
+    round_keeps = keeps_then c a.lanes b.lanes d.lanes (fixes_keep c a.lanes b.lanes s.searches.sought.fixes) (caught_keeps c b d s.searches.sought.fixes.lanes caught)
 
-    pub round_smaller : 0 < marked (has_count 1 a.counts.items) (c.rows * c.lanes)
+    pub round_smaller : found ≡ true
         → c.rows * c.lanes - marked (has_count 0 d.counts.items) (c.rows * c.lanes) < c.rows * c.lanes - marked (has_count 0 a.counts.items) (c.rows * c.lanes)
-    round_smaller one = omega (arith, one, zeros_rise, marked-le (has_count 0 d.counts.items) (c.rows * c.lanes))
+    round_smaller some_row = omega (arith, ltb-true 0 (marked s.rows (c.rows * c.lanes)) (sym s.searches.some ∙ some_row), zeros_rise, marked-le (has_count 0 d.counts.items) (c.rows * c.lanes))
 
   -- where no row has one unknown position
-  module _ (none : marked (has_count 1 a.counts.items) (c.rows * c.lanes) ≡ 0) where
-    no_steps : sought.fixes.steps ≡ []
-    no_steps = empty sought.fixes.steps (omega (arith, sought.few, none))
+  module _ (stops : found ≡ false) where
+    none : marked (has_count 1 a.counts.items) (c.rows * c.lanes) ≡ 0
+    none = s.none stops
+
+    no_rows : marked s.rows (c.rows * c.lanes) ≡ 0
+    no_rows = omega (arith, none, marked_more s.rows (has_count 1 a.counts.items) s.ones (c.rows * c.lanes))
+
+    no_steps : s.searches.sought.fixes.steps ≡ []
+    no_steps = empty s.searches.sought.fixes.steps (omega (arith, s.searches.sought.few, no_rows))
       where
         empty : (xs : List Fix) → length xs ≡ 0 → xs ≡ []
         empty [] e = refl
         empty (x ∷ xs) e = absurd (omega (arith, e))
 
     pub stop_held : IsHeld c b
-    stop_held = grind (arith, sought_counted, steps_long, steps_searched, searched_none)
+    stop_held = record {
+      lanes = s.searches.sought.fixes.lanes;
+      counts_lanes = s.searches.lanes ∙ h.counts_lanes;
+      counts_long = ap length s.searches.counts ∙ h.counts_long;
+      counted = sought_counted;
+      order_few = rw s.searches.counts (omega (arith, steps_long, s.searches.sought.few, no_rows, h.order_few));
+      order_room = omega (arith, s.searches.sought.fixes.capacity, h.order_room);
+      least = rw s.searches.counts (omega (arith, s.searches.touches, h.least, steps_searched));
+      most = rw s.searches.counts (omega (arith, s.searches.touches, searched_none c s.rows no_rows, h.most));
+      worked = omega (arith, s.searches.touches, s.searches.worked, h.worked);
+      small = h.small;
+    }
 
     pub stop_pending : HasNonePending a.lanes → HasNonePending b.lanes
-    stop_pending pending p = sought.fixes.pending p ∙ ap (λ x. x || is_fixed_by sought.fixes.steps p) (pending p) ∙ ap (λ ss. is_fixed_by ss p) no_steps
+    stop_pending pending p = s.searches.sought.fixes.pending p ∙ ap (λ x. x || is_fixed_by s.searches.sought.fixes.steps p) (pending p) ∙ ap (λ ss. is_fixed_by ss p) no_steps
 
     pub stop_settled : (k : ℕ) → slice_index b.counts.items k ≢ 1
     stop_settled k one = elim (cases_lt k (c.rows * c.lanes)) [
-      | inl below ↦ true≢false (sym (eq-eqb (slice_index a.counts.items k) 1 (sym (ap (λ v. slice_index v k) counts) ∙ one)) ∙ marked_zero (has_count 1 a.counts.items) (c.rows * c.lanes) none k below)
-      | inr past ↦ absurd (omega (arith, one, ap (λ v. slice_index v k) counts, get_or_past a.counts.items k 0 (omega (arith, h.counts_long, past))))
+      | inl below ↦ true≢false (sym (eq-eqb (slice_index a.counts.items k) 1 (sym (ap (λ v. slice_index v k) s.searches.counts) ∙ one)) ∙ marked_zero (has_count 1 a.counts.items) (c.rows * c.lanes) none k below)
+      | inr past ↦ absurd (omega (arith, one, ap (λ v. slice_index v k) s.searches.counts, get_or_past a.counts.items k 0 (omega (arith, h.counts_long, past))))
     ]
 
--- the room for the steps of a round
-pub held_room : (c : Checks) (a : Sweep) → IsHeld c a → length a.lanes.order.items + marked (has_count 1 a.counts.items) (c.rows * c.lanes) ≤ vec_capacity a.lanes.order
-held_room c a h = omega (arith, h.order_few, h.order_room, none_and_one a.counts.items (c.rows * c.lanes))
+-- a round may begin
+pub held_ready : (c : Checks) (a : Sweep) → IsHeld c a → IsReady c a
+held_ready c a h =
+    let ones = has_count 1 a.counts.items in
+    record {
+      lanes = h.lanes;
+      same = h.counts_lanes;
+      long = h.counts_long;
+      counted = h.counted;
+      room = omega (arith, h.order_few, h.order_room, none_and_one a.counts.items (c.rows * c.lanes));
+      few = omega (arith, h.most, h.small, spent_le c a.counts.items, searched_most c ones);
+      roomy = omega (arith, h.worked, h.most, h.small, spent_le c a.counts.items, searched_most c ones);
+    }
 
 pub held_few : (c : Checks) (a : Sweep) → IsHeld c a → a.touches + sum a.counts.items < 2 ^ 64
 held_few c a h = omega (arith, h.most, h.small, spent_le c a.counts.items)
 
-pub held_searched : (c : Checks) (a : Sweep) → IsHeld c a → a.touches + searched_pairs c a.counts.items < 2 ^ 64
-held_searched c a h = omega (arith, h.most, h.small, spent_le c a.counts.items, searched_most c a.counts.items)
-
 pub held_roomy : (c : Checks) (a : Sweep) → IsHeld c a → work_of a.counts + 2 * sum a.counts.items < 2 ^ 63
 held_roomy c a h = omega (arith, h.worked, h.most, h.small, spent_le c a.counts.items)
-
-pub held_work : (c : Checks) (a : Sweep) → IsHeld c a → work_of a.counts + 3 * searched_pairs c a.counts.items < 2 ^ 63
-held_work c a h = omega (arith, h.worked, h.most, h.small, spent_le c a.counts.items, searched_most c a.counts.items)

@@ -15,7 +15,7 @@ use Rattle.nr_ldpcenc.specs.Rows.{Checks, one_at}
 use Rattle.nr_peel.specs.Closure.{Within}
 use Rattle.nr_peel.specs.Certificates.{all_accepted, is_fixed_by, after_steps}
 use Rattle.nr_peel.specs.StateInside.{lifted_checks}
-use Rattle.nr_peel.specs.Sweeps.{AreLanes, AreSought, CountsOf, Fixes, IsBlockSought, counted_in, has_count, searched_below, searched_pairs}
+use Rattle.nr_peel.specs.Sweeps.{AreLanes, AreSought, CountsOf, Fixes, IsBlockSought, counted_in, searched_below, searched_pairs}
 use Rattle.nr_peel.specs.Touches.{step_pairs, sum_below}
 use Rattle.nr_peel.specs.TouchesInside.{row_length}
 use Rattle.nr_peel.specs.declared.fix.Fix.{Fix}
@@ -26,7 +26,7 @@ use Rattle.nr_peel.proofs.CountedPairFacts.{sum_below-append}
 use Rattle.nr_peel.proofs.PairSumFacts.{degree_at}
 use Rattle.nr_peel.proofs.StepPairFacts.{step_pairs-append, step_pairs-none}
 use Rattle.nr_peel.proofs.RowPositionFacts.{count_alike, count_within}
-use Rattle.nr_peel.proofs.MarkedFacts.{marked_within}
+use Rattle.nr_peel.proofs.MarkedFacts.{marked_more, marked_within}
 use Rattle.std.proofs.lemmas.Bool.Decides.{nat_tests}
 use Rattle.nr_peel.proofs.FixOrderFacts.{accepted_after, after_accepted}
 
@@ -118,41 +118,41 @@ counted_known a p h = (and_parts (bit a.known.items p) (not (bit a.pending.items
 pub next_block : (i z : ℕ) → (i + 1) * z ≡ i * z + z
 next_block i z = omega arith
 
-pub sought_start : (c : Checks) (counts : List ℕ) (a : Lanes) → AreLanes c a → AreSought c counts 0 a a
-sought_start c counts a lanes =
+pub sought_start : (c : Checks) (u : ℕ → Bool) (a : Lanes) → AreLanes c a → AreSought c u 0 a a
+sought_start c u a lanes =
     let f = fixes_none c (counted_in a) a lanes in
     record { fixes = f.0; few = omega (arith, ap length f.1); whole = λ i t none. absurd (omega (arith, none)); searched = omega (arith, ap (step_pairs c) f.1, step_pairs-none c) }
 
 -- one row of blocks more
-pub sought_more : (c : Checks) (counts : List ℕ) (i : ℕ) (a b d : Lanes) → AreSought c counts i a b → IsBlockSought c counts i b d → AreSought c counts (i + 1) a d
-sought_more c counts i a b d before block =
+pub sought_more : (c : Checks) (u : ℕ → Bool) (i : ℕ) (a b d : Lanes) → AreSought c u i a b → IsBlockSought c u i b d → AreSought c u (i + 1) a d
+sought_more c u i a b d before block =
     let same = counted_same c (counted_in a) a b before.fixes in
     let g = fixes_on c (counted_in b) (counted_in a) b d block.fixes (λ p h. sym (same p) ∙ h) in
     let h = fixes_then c (counted_in a) a b d before.fixes g.0 in
-    let more = ap (marked (has_count 1 counts)) (next_block i c.lanes) ∙ marked-append (has_count 1 counts) (i * c.lanes) c.lanes in
+    let more = ap (marked u) (next_block i c.lanes) ∙ marked-append u (i * c.lanes) c.lanes in
     record {
       fixes = h.0;
       few = omega (arith, ap length h.1, length-append before.fixes.steps g.0.steps, ap length g.1, before.few, block.few, more);
       searched =
-          let below = ap (searched_below c counts) (next_block i c.lanes) ∙ sum_below-append (λ k. if has_count 1 counts k then row_length c k else 0) (i * c.lanes) c.lanes in
+          let below = ap (searched_below c u) (next_block i c.lanes) ∙ sum_below-append (λ k. if u k then row_length c k else 0) (i * c.lanes) c.lanes in
           omega (arith, ap (step_pairs c) h.1, step_pairs-append c before.fixes.steps g.0.steps, ap (step_pairs c) g.1, before.searched, block.searched, below);
       whole = λ j t below lane one. ⊎_elim
           (λ earlier. let fewer = count_fewer (bit b.known.items) (bit d.known.items) (known_more c (counted_in b) b d block.fixes) (c.row j t) in
           let gone = before.whole j t earlier lane one in
           omega (arith, fewer, gone))
-          (λ here. ap (λ k. count_by (λ p. not (bit d.known.items p)) (c.row k t)) here ∙ block.whole t lane (sym (ap (λ k. has_count 1 counts (k * c.lanes + t)) here) ∙ one))
+          (λ here. ap (λ k. count_by (λ p. not (bit d.known.items p)) (c.row k t)) here ∙ block.whole t lane (sym (ap (λ k. u (k * c.lanes + t)) here) ∙ one))
           (cases_below j i (omega (arith, below)));
     }
 
 -- the next row of blocks has room for its steps
-pub sought_room : (c : Checks) (counts : List ℕ) (i : ℕ) (a b : Lanes) → AreSought c counts i a b → i < c.rows
-    → length a.order.items + marked (has_count 1 counts) (c.rows * c.lanes) ≤ vec_capacity a.order
-    → length b.order.items + marked (λ t. has_count 1 counts (i * c.lanes + t)) c.lanes ≤ vec_capacity b.order
-sought_room c counts i a b before block room =
-    let more = ap (marked (has_count 1 counts)) (next_block i c.lanes) ∙ marked-append (has_count 1 counts) (i * c.lanes) c.lanes in
+pub sought_room : (c : Checks) (u v : ℕ → Bool) (i : ℕ) (a b : Lanes) → Within u v → AreSought c u i a b → i < c.rows
+    → length a.order.items + marked v (c.rows * c.lanes) ≤ vec_capacity a.order
+    → length b.order.items + marked (λ t. v (i * c.lanes + t)) c.lanes ≤ vec_capacity b.order
+sought_room c u v i a b within before block room =
+    let more = ap (marked v) (next_block i c.lanes) ∙ marked-append v (i * c.lanes) c.lanes in
     let fits : (i + 1) * c.lanes ≤ c.rows * c.lanes = mul-le-mul_right c.lanes (omega (arith, block)) in
-    let all = marked_within (has_count 1 counts) ((i + 1) * c.lanes) (c.rows * c.lanes) fits in
-    omega (arith, ap length before.fixes.order, length-append a.order.items before.fixes.steps, before.few, before.fixes.capacity, more, all, room)
+    let all = marked_within v ((i + 1) * c.lanes) (c.rows * c.lanes) fits in
+    omega (arith, ap length before.fixes.order, length-append a.order.items before.fixes.steps, before.few, marked_more u v within (i * c.lanes), before.fixes.capacity, more, all, room)
 
 -- ---- visits
 
@@ -161,32 +161,32 @@ sum_alike u f d zero h = omega arith
 sum_alike u f d (suc n) h = grind (arith, sum_alike u f d n (λ t lt. h t (omega (arith, lt))), h n (omega arith))
 
 -- the visits of one row of blocks
-pub block_visits : (l : Lifted) (counts : List ℕ) (i : ℕ) → sum_below (λ t. if has_count 1 counts (i * l.plan.z + t) then row_length (lifted_checks l) (i * l.plan.z + t) else 0) l.plan.z
-    ≡ marked (λ t. has_count 1 counts (i * l.plan.z + t)) l.plan.z * length (row_of (entries_in l.plan.graph l.table.now) i)
-block_visits l counts i =
+pub block_visits : (l : Lifted) (u : ℕ → Bool) (i : ℕ) → sum_below (λ t. if u (i * l.plan.z + t) then row_length (lifted_checks l) (i * l.plan.z + t) else 0) l.plan.z
+    ≡ marked (λ t. u (i * l.plan.z + t)) l.plan.z * length (row_of (entries_in l.plan.graph l.table.now) i)
+block_visits l u i =
     let c = lifted_checks l in
     let z = l.plan.z in
     let es = row_of (entries_in l.plan.graph l.table.now) i in
-    sum_alike (λ t. has_count 1 counts (i * z + t)) (λ t. if has_count 1 counts (i * z + t) then row_length c (i * z + t) else 0) (length es) z
-    (λ t below. ap (λ d. if has_count 1 counts (i * z + t) then d else 0) (degree_at c i t below ∙ length-map es (λ (e : Entry). one_at z t e.col (value_in l.plan.set e))))
+    sum_alike (λ t. u (i * z + t)) (λ t. if u (i * z + t) then row_length c (i * z + t) else 0) (length es) z
+    (λ t below. ap (λ d. if u (i * z + t) then d else 0) (degree_at c i t below ∙ length-map es (λ (e : Entry). one_at z t e.col (value_in l.plan.set e))))
 
 -- the visits of one row of blocks more
-pub visits_more : (l : Lifted) (counts : List ℕ) (i : ℕ) → searched_below (lifted_checks l) counts ((i + 1) * l.plan.z)
-    ≡ searched_below (lifted_checks l) counts (i * l.plan.z) + marked (λ t. has_count 1 counts (i * l.plan.z + t)) l.plan.z * length (row_of (entries_in l.plan.graph l.table.now) i)
-visits_more l counts i =
+pub visits_more : (l : Lifted) (u : ℕ → Bool) (i : ℕ) → searched_below (lifted_checks l) u ((i + 1) * l.plan.z)
+    ≡ searched_below (lifted_checks l) u (i * l.plan.z) + marked (λ t. u (i * l.plan.z + t)) l.plan.z * length (row_of (entries_in l.plan.graph l.table.now) i)
+visits_more l u i =
     let c = lifted_checks l in
     let z = l.plan.z in
-    ap (searched_below c counts) (next_block i z) ∙ sum_below-append (λ k. if has_count 1 counts k then row_length c k else 0) (i * z) z
-    ∙ ap (λ m. searched_below c counts (i * z) + m) (block_visits l counts i)
+    ap (searched_below c u) (next_block i z) ∙ sum_below-append (λ k. if u k then row_length c k else 0) (i * z) z
+    ∙ ap (λ m. searched_below c u (i * z) + m) (block_visits l u i)
 
-pub visits_within : (c : Checks) (counts : List ℕ) (m n : ℕ) → m ≤ n → searched_below c counts m ≤ searched_below c counts n
-visits_within c counts m n le =
+pub visits_within : (c : Checks) (u : ℕ → Bool) (m n : ℕ) → m ≤ n → searched_below c u m ≤ searched_below c u n
+visits_within c u m n le =
     let split : m + (n - m) ≡ n = omega (arith, le) in
-    omega (arith, sym (ap (searched_below c counts) split) ∙ sum_below-append (λ k. if has_count 1 counts k then row_length c k else 0) m (n - m))
+    omega (arith, sym (ap (searched_below c u) split) ∙ sum_below-append (λ k. if u k then row_length c k else 0) m (n - m))
 
-pub pairs_all : (c : Checks) (counts : List ℕ) → searched_pairs c counts ≡ searched_below c counts (c.rows * c.lanes)
+pub pairs_all : (c : Checks) (u : ℕ → Bool) → searched_pairs c u ≡ searched_below c u (c.rows * c.lanes)
 unfolding searched_pairs
-pairs_all c counts = refl
+pairs_all c u = refl
 
 -- whether some row is searched, of more rows
 pub some_more : (found : Bool) (m r : ℕ) → found ≡ nat_lt 0 m → (found || not (r == 0)) ≡ nat_lt 0 (m + r)

@@ -1,5 +1,5 @@
 -- How many rows have none or one unknown position, and how many pairs are of such rows.
-use Rattle.std.proofs.Common.{◌≡◌, ℕ, zero, suc, ◌+◌, ◌*◌, ◌<◌, ◌≤◌, ◌==◌, cond, List, refl, arith}
+use Rattle.std.proofs.Common.{◌≡◌, ℕ, zero, suc, ◌+◌, ◌*◌, ◌<◌, ◌≤◌, ◌==◌, Bool, true, cond, List, refl, arith}
 use Rattle.std.specs.Prelude.{slice_index}
 use Rattle.nr_lifting.specs.Rings.{marked}
 use Rattle.nr_ldpcenc.specs.Rows.{Checks}
@@ -27,33 +27,34 @@ pub zeros_more : (old new : List ℕ) (n : ℕ) → ((k : ℕ) → slice_index n
 zeros_more old new n falls = marked_le (has_count 0 old) (has_count 0 new) n (λ k _. fallen (slice_index old k) (slice_index new k) (falls k))
 
 -- what a row adds whose count comes down from one to none
-gain_term : (a b d : ℕ) → b ≤ a → (a ≡ 1 → b ≡ 0) → cond (a == 0) d 0 + cond (a == 1) d 0 ≤ cond (b == 0) d 0
-gain_term a b d le down = grind (arith, nat_tests)
+gain_term : (a b d : ℕ) (v : Bool) → b ≤ a → (v ≡ true → a ≡ 1) → (v ≡ true → b ≡ 0) → cond (a == 0) d 0 + cond v d 0 ≤ cond (b == 0) d 0
+gain_term a b d v le one down = grind (arith, nat_tests)
 
-module _ (c : Checks) (old new : List ℕ) (falls : (k : ℕ) → slice_index new k ≤ slice_index old k) (down : (k : ℕ) → k < c.rows * c.lanes → slice_index old k ≡ 1 → slice_index new k ≡ 0) where
+module _ (c : Checks) (u : ℕ → Bool) (old new : List ℕ) (falls : (k : ℕ) → slice_index new k ≤ slice_index old k) (one : (k : ℕ) → u k ≡ true → slice_index old k ≡ 1)
+    (down : (k : ℕ) → k < c.rows * c.lanes → u k ≡ true → slice_index new k ≡ 0) where
   -- rows that had one unknown position and have none add to those that have none
-  pub zeros_gain : marked (has_count 0 old) (c.rows * c.lanes) + marked (has_count 1 old) (c.rows * c.lanes) ≤ marked (has_count 0 new) (c.rows * c.lanes)
-  zeros_gain = marked_two (has_count 0 old) (has_count 1 old) (has_count 0 new) (c.rows * c.lanes) (λ k l. gain_term (slice_index old k) (slice_index new k) 1 (falls k) (down k l))
+  pub zeros_gain : marked (has_count 0 old) (c.rows * c.lanes) + marked u (c.rows * c.lanes) ≤ marked (has_count 0 new) (c.rows * c.lanes)
+  zeros_gain = marked_two (has_count 0 old) u (has_count 0 new) (c.rows * c.lanes) (λ k l. gain_term (slice_index old k) (slice_index new k) 1 (u k) (falls k) (one k) (down k l))
 
-  pub spent_searched : spent_pairs c old + searched_pairs c old ≤ spent_pairs c new
+  pub spent_searched : spent_pairs c old + searched_pairs c u ≤ spent_pairs c new
   unfolding spent_pairs searched_pairs
   spent_searched =
       let none = λ (k : ℕ). cond (slice_index old k == 0) (row_length c k) 0 in
-      let one = λ (k : ℕ). cond (slice_index old k == 1) (row_length c k) 0 in
-      let both = sum_below-plus none one (λ k. none k + one k) (c.rows * c.lanes) (λ k _. refl) in
-      let most = sum_below-le (λ k. none k + one k) (λ k. cond (slice_index new k == 0) (row_length c k) 0) (c.rows * c.lanes) (λ k l. gain_term (slice_index old k) (slice_index new k) (row_length c k) (falls k) (down k l)) in
+      let some = λ (k : ℕ). cond (u k) (row_length c k) 0 in
+      let both = sum_below-plus none some (λ k. none k + some k) (c.rows * c.lanes) (λ k _. refl) in
+      let most = sum_below-le (λ k. none k + some k) (λ k. cond (slice_index new k == 0) (row_length c k) 0) (c.rows * c.lanes) (λ k l. gain_term (slice_index old k) (slice_index new k) (row_length c k) (u k) (falls k) (one k) (down k l)) in
       omega (arith, both, most)
 
--- ---- rows that have one
+-- ---- rows that are searched
 
-pub searched_most : (c : Checks) (counts : List ℕ) → searched_pairs c counts ≤ all_pairs c
+pub searched_most : (c : Checks) (u : ℕ → Bool) → searched_pairs c u ≤ all_pairs c
 unfolding searched_pairs all_pairs
-searched_most c counts = sum_below-le (λ k. cond (slice_index counts k == 1) (row_length c k) 0) (row_length c) (c.rows * c.lanes) (λ k _. grind arith)
+searched_most c u = sum_below-le (λ k. cond (u k) (row_length c k) 0) (row_length c) (c.rows * c.lanes) (λ k _. grind arith)
 
-pub searched_none : (c : Checks) (counts : List ℕ) → marked (has_count 1 counts) (c.rows * c.lanes) ≡ 0 → searched_pairs c counts ≡ 0
+pub searched_none : (c : Checks) (u : ℕ → Bool) → marked u (c.rows * c.lanes) ≡ 0 → searched_pairs c u ≡ 0
 unfolding searched_pairs
-searched_none c counts none = go (c.rows * c.lanes) none
+searched_none c u none = go (c.rows * c.lanes) none
   where
-    go : (n : ℕ) → marked (has_count 1 counts) n ≡ 0 → sum_below (λ k. cond (slice_index counts k == 1) (row_length c k) 0) n ≡ 0
+    go : (n : ℕ) → marked u n ≡ 0 → sum_below (λ k. cond (u k) (row_length c k) 0) n ≡ 0
     go zero e = refl
     go (suc n) e = grind (arith, go n)

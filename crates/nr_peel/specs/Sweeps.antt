@@ -23,13 +23,13 @@ counted_in s p = bit s.known.items p && not (bit s.pending.items p)
 abbrev pub has_count : ℕ → List ℕ → ℕ → Bool
 has_count n counts k = slice_index counts k == n
 
--- how many pairs there are of a position and one of the first n rows, if the row has one unknown position
-abbrev pub searched_below : Checks → List ℕ → ℕ → ℕ
-searched_below c counts n = sum_below (λ k. if has_count 1 counts k then row_length c k else 0) n
+-- how many pairs there are of a position and one of the first n rows that are marked
+abbrev pub searched_below : Checks → (ℕ → Bool) → ℕ → ℕ
+searched_below c u n = sum_below (λ k. if u k then row_length c k else 0) n
 
--- how many pairs there are of all rows that have one unknown position
-unfoldable pub searched_pairs : Checks → List ℕ → ℕ
-searched_pairs c counts = searched_below c counts (c.rows * c.lanes)
+-- how many pairs there are of all rows that are marked
+unfoldable pub searched_pairs : Checks → (ℕ → Bool) → ℕ
+searched_pairs c u = searched_below c u (c.rows * c.lanes)
 
 -- each has a place for each position; unknown positions have no bit, and pending ones are known
 pub record AreLanes (c : Checks) (s : Lanes) : Type 0 where
@@ -56,17 +56,17 @@ pub record Fixes (c : Checks) (K : ℕ → Bool) (old new : Lanes) : Type 0 wher
   pub lanes : AreLanes c new
   pub capacity : vec_capacity new.order ≡ vec_capacity old.order
 
--- The rows of row block i fixed the positions that they had alone to fix. There is at most one step for each row that has
--- one unknown position by its count, and then such a row has none. The steps' rows have no more positions than such rows.
-pub record IsBlockSought (c : Checks) (counts : List ℕ) (i : ℕ) (old new : Lanes) : Type 0 where
+-- The marked rows of row block i fixed the positions that they had alone to fix. There is at most one step for each of them,
+-- and then such a row has no unknown position. The steps' rows have no more positions than the marked ones.
+pub record IsBlockSought (c : Checks) (u : ℕ → Bool) (i : ℕ) (old new : Lanes) : Type 0 where
   pub fixes : Fixes c (counted_in old) old new
-  pub few : length fixes.steps ≤ marked (λ t. has_count 1 counts (i * c.lanes + t)) c.lanes
-  pub whole : (t : ℕ) → t < c.lanes → has_count 1 counts (i * c.lanes + t) ≡ true → count_by (λ p. not (bit new.known.items p)) (c.row i t) ≡ 0
-  pub searched : step_pairs c fixes.steps ≤ sum_below (λ t. if has_count 1 counts (i * c.lanes + t) then row_length c (i * c.lanes + t) else 0) c.lanes
+  pub few : length fixes.steps ≤ marked (λ t. u (i * c.lanes + t)) c.lanes
+  pub whole : (t : ℕ) → t < c.lanes → u (i * c.lanes + t) ≡ true → count_by (λ p. not (bit new.known.items p)) (c.row i t) ≡ 0
+  pub searched : step_pairs c fixes.steps ≤ sum_below (λ t. if u (i * c.lanes + t) then row_length c (i * c.lanes + t) else 0) c.lanes
 
--- The rows of the first n row blocks fixed the positions that they had alone to fix.
-pub record AreSought (c : Checks) (counts : List ℕ) (n : ℕ) (old new : Lanes) : Type 0 where
+-- The marked rows of the first n row blocks fixed the positions that they had alone to fix.
+pub record AreSought (c : Checks) (u : ℕ → Bool) (n : ℕ) (old new : Lanes) : Type 0 where
   pub fixes : Fixes c (counted_in old) old new
-  pub few : length fixes.steps ≤ marked (has_count 1 counts) (n * c.lanes)
-  pub whole : (i t : ℕ) → i < n → t < c.lanes → has_count 1 counts (i * c.lanes + t) ≡ true → count_by (λ p. not (bit new.known.items p)) (c.row i t) ≡ 0
-  pub searched : step_pairs c fixes.steps ≤ searched_below c counts (n * c.lanes)
+  pub few : length fixes.steps ≤ marked u (n * c.lanes)
+  pub whole : (i t : ℕ) → i < n → t < c.lanes → u (i * c.lanes + t) ≡ true → count_by (λ p. not (bit new.known.items p)) (c.row i t) ≡ 0
+  pub searched : step_pairs c fixes.steps ≤ searched_below c u (n * c.lanes)

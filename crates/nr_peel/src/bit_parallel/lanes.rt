@@ -1,6 +1,6 @@
 //! What is known of a code block, in lanes, and how a row of blocks fixes positions: all its rows at a time.
 
-ghost use Rattle.std.specs.Prelude.{◌≡◌, ◌+◌, ◌-◌, ◌*◌, ◌%◌, ◌^◌, ◌<◌, ◌≤◌, ◌==◌, ◌||◌, ℕ, if◌then◌else◌, All, IfOk, count_by, false, length, slice_index, true, vec_capacity};
+ghost use Rattle.std.specs.Prelude.{◌≡◌, ◌≢◌, ◌+◌, ◌-◌, ◌*◌, ◌%◌, ◌^◌, ◌<◌, ◌≤◌, ◌==◌, ◌||◌, ℕ, if◌then◌else◌, All, not, IfOk, count_by, false, length, slice_index, take, true, vec_capacity};
 ghost use Rattle.nr_bitvec.specs.Bit.{bit};
 ghost use Rattle.nr_bitvec.specs.Packed.{IsClear};
 ghost use Rattle.nr_lifting.specs.Rings.{is_set, lane_marks, marked};
@@ -9,7 +9,7 @@ ghost use Rattle.nr_shifttable.specs.Tails.{value_in};
 ghost use Rattle.nr_ldpcenc.specs.Parity.{parity};
 ghost use Rattle.nr_ldpcenc.specs.Rows.{positions};
 ghost use Rattle.nr_peel.specs.Closure.{Within};
-ghost use Rattle.nr_peel.specs.Due.{due_in, work_of};
+ghost use Rattle.nr_peel.specs.Due.{due_in, is_read, sought_in, work_of};
 ghost use Rattle.nr_peel.specs.Lanes.{TakesLane, hits, lacks};
 ghost use Rattle.nr_peel.specs.Starts.{AreBlank};
 ghost use Rattle.nr_peel.specs.StateInside.{lifted_checks};
@@ -176,13 +176,61 @@ impl Lanes {
             join_turned(&mut self.bits, col, &set, size, back);
         }
     }
+    // Whether nothing is known of the column of a row block's last entry. From row block 4 on no other row block has this
+    // column, so that rows which miss nothing else can wait.
+    fn has_leaf(&self, i: u32, row: &[Entry]) -> bool {
+        if i < 4 || row.len() < 2 {
+            return false;
+        }
+        let last = &row[row.len() - 1];
+        !self.pending.has_begun(usize::from(last.col))
+    }
+
+    // The entry of a row block from which on the rows of a lane miss their position, each of them one: the last entry, where
+    // nothing is known of its column, and else the first. Then how many lanes were read.
+    fn first_missing(
+        &self,
+        lifted: &Lifted<'_>,
+        i: u32,
+        row: &[Entry],
+        ones: &[u64; 6],
+    ) -> (usize, u64)
+        requires table { IsTable lifted.now.table.now }
+        requires block { i < (lifted_checks lifted.now).rows }
+        requires row { row.now ≡ row_of (entries_in lifted.now.plan.graph lifted.now.table.now) i }
+        requires lanes { AreLanes (lifted_checks lifted.now) self.now }
+        requires one { (t : ℕ) → t < lifted.now.plan.z → is_set ones.now t ≡ true
+            → count_by (λ p. not (counted_in self.now p)) ((lifted_checks lifted.now).row i t) ≡ 1 }
+        ensures inside { result.0 ≤ length row.now }
+        ensures known { (t : ℕ) → t < lifted.now.plan.z → is_set ones.now t ≡ true
+            → count_by (λ p. not (bit self.now.known.items p))
+            (take result.0 ((lifted_checks lifted.now).row i t)) ≡ 0 }
+        ensures few { result.1 ≤ 1 }
+        ensures least { result.1 ≡ 1 → 2 ≤ length row.now }
+    {
+        if row.len() < 2 || !self.has_leaf(i, row) {
+            return (0, 0);
+        }
+        let last = row.len() - 1;
+        let entry = &row[last];
+        let rotation = lifted.rotation(entry);
+        let known = self.known.lane(usize::from(entry.col), rotation as usize);
+        if !is_blank(&common(ones, &known)) {
+            return (0, 1);
+        }
+        (last, 1)
+    }
+
     // The rows of row of blocks `i` with a count of one fix their positions, unless another row has. How many such rows
-    // there are. Where there are some, each entry is two lane operations: one for the sum, one for what it fixes.
+    // there are. Where there are some, an entry is at most two lane operations: one for the sum, one for what it fixes.
+    // Before the last pass a row block waits where nothing is known of its last column and not all rows have a count of one:
+    // a sum costs the same for few rows and for many.
     pub(crate) fn search_block(
         &mut self,
         lifted: &Lifted<'_>,
         counts: &mut RowCounts,
         i: u32,
+        last: bool,
     ) -> u32
         requires table { IsTable lifted.now.table.now }
         requires block { i < (lifted_checks lifted.now).rows }
@@ -196,30 +244,41 @@ impl Lanes {
             + marked (λ t. has_count 1 counts.old.items (i * lifted.now.plan.z + t))
             lifted.now.plan.z ≤ vec_capacity self.old.order }
         requires few { counts.old.operations < 2 ^ 63 }
-        ensures sought { IsBlockSought (lifted_checks lifted.now) counts.old.items i
+        ensures sought { IsBlockSought (lifted_checks lifted.now) (sought_in last counts.new) i
             self.old self.new }
         ensures rows { result ≡ marked
-            (λ t. has_count 1 counts.old.items (i * lifted.now.plan.z + t)) lifted.now.plan.z }
+            (λ t. sought_in last counts.new (i * lifted.now.plan.z + t)) lifted.now.plan.z }
         ensures few { result ≤ 384 }
         ensures counts { counts.new.items ≡ counts.old.items }
         ensures lanes { counts.new.lanes ≡ counts.old.lanes }
-        ensures operations { counts.new.operations ≡ counts.old.operations
-            + (if bit counts.old.due i then 1 else 0)
+        ensures others { (h : ℕ) → h ≢ i → bit counts.new.waiting h ≡ bit counts.old.waiting h }
+        ensures operations { counts.old.operations
+            + (if is_read last counts.old i then 1 else 0)
             + (if result == 0 then 0
-            else 2 * length (row_of (entries_in lifted.now.plan.graph lifted.now.table.now) i)) }
+            else length (row_of (entries_in lifted.now.plan.graph lifted.now.table.now) i))
+            ≤ counts.new.operations }
         ensures worked { work_of counts.new ≤ work_of counts.old
             + 3 * (result * length (row_of (entries_in lifted.now.plan.graph lifted.now.table.now) i)) }
     {
+        if counts.is_off(i as usize, last) {
+            return 0;
+        }
         let ones = counts.ones(i as usize);
         let rows = lane_count(&ones);
-        if rows != 0 {
-            let row = lifted.row(i);
-            let sums = row_sum(&self.bits, lifted, row);
-            counts.count(row.len() as u64);
-            for entry in row {
-                self.take(lifted, entry, &ones, &sums);
-                counts.count(1);
-            }
+        if rows == 0 {
+            return 0;
+        }
+        let row = lifted.row(i);
+        if !last && rows < lifted.plan.z && self.has_leaf(i, row) {
+            counts.put_off(i as usize);
+            return 0;
+        }
+        let (from, read) = self.first_missing(lifted, i, row, &ones);
+        let sums = row_sum(&self.bits, lifted, row);
+        counts.count(read + row.len() as u64);
+        for k in from..row.len() {
+            self.take(lifted, &row[k], &ones, &sums);
+            counts.count(1);
         }
         rows
     }

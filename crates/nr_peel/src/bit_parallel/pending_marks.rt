@@ -9,11 +9,13 @@ use nr_lifting::DoubledLanes;
 use std::alloc::{AllocError, Global};
 use std::marker::Model;
 
-// Marks of positions, and for each column how many it has: so a column without a mark is passed over unread.
+// Marks of positions, and for each column how many it has: so a column without a mark is passed over unread. Then which
+// columns ever had one.
 #[derive(Drop)]
 pub(crate) struct PendingMarks {
     rings: DoubledLanes,
     columns: [u16; 68],
+    begun: [bool; 68],
 }
 
 impl Model for PendingMarks {
@@ -40,6 +42,7 @@ impl PendingMarks {
         Ok(PendingMarks {
             rings,
             columns: [0; 68],
+            begun: [false; 68],
         })
     }
 
@@ -59,6 +62,12 @@ impl PendingMarks {
         columns[j]
     }
 
+    // Whether a column ever had a mark.
+    pub(crate) fn has_begun(&self, j: usize) -> bool {
+        let begun = &self.begun;
+        j < 68 && begun[j]
+    }
+
     // Marks those positions of a column that a lane marks. They are `count` many, and none of them was marked, so that no
     // lane is counted anew.
     pub(crate) fn join(&mut self, j: usize, lane: &[u64; 6], count: u32)
@@ -75,6 +84,7 @@ impl PendingMarks {
         self.rings.join(j, lane);
         let more = count as u16;
         self.columns[j] += more;
+        self.begun[j] = true;
     }
 
     // No position of a column is marked any more.

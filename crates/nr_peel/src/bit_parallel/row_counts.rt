@@ -1,20 +1,21 @@
 //! For each row the count of its positions that aren't known. A row block is due where rows may have come to a count of
-//! one. Each reading and writing of a row block's counts is counted.
+//! one, and waits where such rows were seen and put off. Each reading and writing of a row block's counts is counted.
 
-ghost use Rattle.std.specs.Prelude.{◌≡◌, ℕ, ◌+◌, ◌*◌, ◌%◌, ◌^◌, ◌<◌, ◌≤◌, ◌==◌, ◌&&◌, if◌then◌else◌, length, slice_index};
+ghost use Rattle.std.specs.Prelude.{◌≡◌, ◌≢◌, ℕ, ◌+◌, ◌*◌, ◌%◌, ◌^◌, ◌<◌, ◌≤◌, ◌==◌, ◌&&◌, ◌||◌, if◌then◌else◌, false, length, slice_index, true};
 ghost use Rattle.nr_bitvec.specs.Bit.{bit};
 ghost use Rattle.nr_bitvec.specs.Packed.{IsClear};
 ghost use Rattle.nr_lifting.specs.Rings.{is_set, marked};
-ghost use Rattle.nr_peel.specs.Due.{due_in, raised, work_of};
+ghost use Rattle.nr_peel.specs.Due.{due_in, is_off, raised, work_of};
 
 use nr_lifting::{BitSlicedCounts, DoubledLanes, lane_count};
 use std::marker::Model;
 
-// Counts of rows. A row block that isn't due has no row with a count of one.
+// Counts of rows. A row block that waits has a row with a count of one; one that neither waits nor is due has none.
 #[derive(Drop)]
 pub(crate) struct RowCounts {
     planes: BitSlicedCounts,
     due: [bool; 46],
+    waiting: [bool; 46],
     operations: u64,
 }
 
@@ -23,9 +24,9 @@ impl Model for RowCounts {
 
     ghost Value = { DueCounts };
 
-    ghost view = { λ a. due_counts a.planes a.due a.operations };
+    ghost view = { λ a. due_counts a.planes a.due a.waiting a.operations };
 
-    ghost invariant = { λ a. AreKept a.planes a.due };
+    ghost invariant = { λ a. AreKept a.planes a.due a.waiting };
 }
 
 impl RowCounts {
@@ -45,12 +46,13 @@ impl RowCounts {
         RowCounts {
             planes,
             due,
+            waiting: [false; 46],
             operations: 0,
         }
     }
 
     // Takes one off those counts of row block `i` to which a rotation by `rotation` brings a one of block `j` of `marks`. None
-    // of them is 0. The row block is due then.
+    // of them is 0. The row block is due then, and waits no more.
     pub(crate) fn lower(&mut self, i: usize, marks: &DoubledLanes, j: usize, rotation: usize)
         requires block { (i + 1) * self.old.lanes ≤ length self.old.items }
         requires mark { (j + 1) * marks.now.lanes ≤ length marks.now.items }
@@ -71,10 +73,19 @@ impl RowCounts {
     {
         self.operations += 1;
         self.due[i] = true;
+        self.waiting[i] = false;
         self.planes.lower(i, marks, j, rotation);
     }
 
-    // Marks those counts of row block `i` that are exactly one. Where it isn't due nothing is read.
+    // Whether a row block is put off: it waits, and this is no last pass.
+    pub(crate) fn is_off(&self, i: usize, last: bool) -> bool
+        requires { (i + 1) * self.now.lanes ≤ length self.now.items }
+        ensures { result ≡ is_off last self.now i }
+    {
+        self.waiting[i] && !last
+    }
+
+    // Marks those counts of row block `i` that are exactly one. Where it neither is due nor waits nothing is read.
     pub(crate) fn ones(&mut self, i: usize) -> [u64; 6]
         requires block { (i + 1) * self.old.lanes ≤ length self.old.items }
         requires room { self.old.operations + 1 < 2 ^ 64 }
@@ -84,18 +95,40 @@ impl RowCounts {
         ensures items { self.new.items ≡ self.old.items }
         ensures lanes { self.new.lanes ≡ self.old.lanes }
         ensures operations { self.new.operations
-            ≡ self.old.operations + (if bit self.old.due i then 1 else 0) }
+            ≡ self.old.operations + (if bit self.old.due i || bit self.old.waiting i then 1 else 0) }
         ensures due { due_in self.new.due ≤ due_in self.old.due }
+        ensures kept { 0 < marked (is_set result) self.old.lanes → self.new.due ≡ self.old.due }
+        ensures waiting { self.new.waiting ≡ self.old.waiting }
         ensures paid { marked (is_set result) self.old.lanes ≡ 0
             → work_of self.new ≡ work_of self.old }
     {
-        if !self.due[i] {
+        if !self.due[i] && !self.waiting[i] {
             return [0; 6];
         }
         self.operations += 1;
         let ones = self.planes.ones(i);
-        self.due[i] = lane_count(&ones) != 0;
+        if lane_count(&ones) == 0 {
+            self.due[i] = false;
+        }
         ones
+    }
+
+    // Puts off row block `i`, which was due and has a count of one: it is read when its counts fall, or when nothing else is
+    // left to do.
+    pub(crate) fn put_off(&mut self, i: usize)
+        requires block { (i + 1) * self.old.lanes ≤ length self.old.items }
+        requires some { 0 < marked (λ t. slice_index self.old.items (i * self.old.lanes + t) == 1)
+            self.old.lanes }
+        ensures items { self.new.items ≡ self.old.items }
+        ensures lanes { self.new.lanes ≡ self.old.lanes }
+        ensures operations { self.new.operations ≡ self.old.operations }
+        ensures due { due_in self.new.due + (if bit self.old.due i then 1 else 0)
+            ≡ due_in self.old.due }
+        ensures waits { bit self.new.waiting i ≡ true }
+        ensures others { (h : ℕ) → h ≢ i → bit self.new.waiting h ≡ bit self.old.waiting h }
+    {
+        self.due[i] = false;
+        self.waiting[i] = true;
     }
 
     // Counts `n` lane operations.

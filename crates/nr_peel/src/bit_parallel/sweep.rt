@@ -1,12 +1,11 @@
 //! A round of peeling, all rows of the code at a time.
 
-ghost use Rattle.std.specs.Prelude.{◌≡◌, ◌+◌, ◌*◌, ◌^◌, ◌<◌, ◌≤◌, nat_lt, IfOk, length, vec_capacity};
-ghost use Rattle.nr_lifting.specs.Rings.{marked};
+ghost use Rattle.std.specs.Prelude.{IfOk};
 ghost use Rattle.nr_shifttable.specs.Accepted.{IsTable};
-ghost use Rattle.nr_peel.specs.Due.{work_of};
+ghost use Rattle.nr_peel.specs.Due.{sought_in};
+ghost use Rattle.nr_peel.specs.Searches.{IsReady, Searches, SearchesOnes};
 ghost use Rattle.nr_peel.specs.Starts.{AreDegrees, IsBlankSweep};
 ghost use Rattle.nr_peel.specs.StateInside.{lifted_checks};
-ghost use Rattle.nr_peel.specs.Sweeps.{AreLanes, AreSought, CountsOf, counted_in, has_count, searched_pairs};
 
 use crate::bit_parallel::lanes::Lanes;
 use crate::bit_parallel::row_counts::RowCounts;
@@ -52,40 +51,33 @@ impl Sweep {
         })
     }
 
-    // Each row with a count of one fixes its position, unless another row has. Whether there is such a row.
-    pub(crate) fn search(&mut self, lifted: &Lifted<'_>) -> bool
+    // Each row with a count of one fixes its position, unless another row has or its row block waits. Whether there is such
+    // a row. In a last pass no row block waits.
+    fn search_blocks(&mut self, lifted: &Lifted<'_>, last: bool) -> bool
         requires table { IsTable lifted.now.table.now }
-        requires lanes { AreLanes (lifted_checks lifted.now) self.old.lanes }
-        requires same { self.old.counts.lanes ≡ lifted.now.plan.z }
-        requires long { length self.old.counts.items
-            ≡ (lifted_checks lifted.now).rows * lifted.now.plan.z }
-        requires counted { CountsOf (lifted_checks lifted.now) (counted_in self.old.lanes)
-            self.old.counts.items }
-        requires room { length self.old.lanes.order.items
-            + marked (has_count 1 self.old.counts.items)
-            ((lifted_checks lifted.now).rows * lifted.now.plan.z)
-            ≤ vec_capacity self.old.lanes.order }
-        requires few { self.old.touches
-            + searched_pairs (lifted_checks lifted.now) self.old.counts.items < 2 ^ 64 }
-        requires roomy { work_of self.old.counts
-            + 3 * searched_pairs (lifted_checks lifted.now) self.old.counts.items < 2 ^ 63 }
-        ensures sought { AreSought (lifted_checks lifted.now) self.old.counts.items
-            (lifted_checks lifted.now).rows self.old.lanes self.new.lanes }
-        ensures counts { self.new.counts.items ≡ self.old.counts.items }
-        ensures lanes { self.new.counts.lanes ≡ self.old.counts.lanes }
-        ensures worked { work_of self.new.counts ≤ work_of self.old.counts
-            + 3 * searched_pairs (lifted_checks lifted.now) self.old.counts.items }
-        ensures touches { self.new.touches ≡ self.old.touches
-            + searched_pairs (lifted_checks lifted.now) self.old.counts.items }
-        ensures some { result ≡ nat_lt 0 (marked (has_count 1 self.old.counts.items)
-            ((lifted_checks lifted.now).rows * lifted.now.plan.z)) }
+        requires ready { IsReady (lifted_checks lifted.now) self.old }
+        ensures { Searches (lifted_checks lifted.now) (sought_in last self.new.counts) result
+            self.old self.new }
     {
         let mut found = false;
         for i in 0..lifted.plan.graph.rows() {
-            let rows = self.lanes.search_block(lifted, &mut self.counts, i);
+            let rows = self.lanes.search_block(lifted, &mut self.counts, i, last);
             self.touches += u64::from(rows) * lifted.row(i).len() as u64;
             found |= rows != 0;
         }
         found
+    }
+
+    // Rows with a count of one fix their positions. Those whose row block waits come last, when no other is left. Whether
+    // there is such a row.
+    pub(crate) fn search(&mut self, lifted: &Lifted<'_>) -> bool
+        requires table { IsTable lifted.now.table.now }
+        requires ready { IsReady (lifted_checks lifted.now) self.old }
+        ensures { SearchesOnes (lifted_checks lifted.now) result self.old self.new }
+    {
+        if self.search_blocks(lifted, false) {
+            return true;
+        }
+        self.search_blocks(lifted, true)
     }
 }

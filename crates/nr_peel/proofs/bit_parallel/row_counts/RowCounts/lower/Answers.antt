@@ -8,10 +8,10 @@ bounds-self-inside-i c = grind (arith, kept_low)
 
 pub invariant_of-self : goal.invariant_of-self
 invariant_of-self c =
-    let low = kept_low c.self.inside.planes c.self.inside.due c.args.i c.self.invariant (rw (← c.self.view_is) at c.requires.block) in
-    kept_lower c.self.inside.planes c.lower.new.self c.self.inside.due c.args.i (λ t. bit c.args.marks.now.items (c.args.j * c.self.inside.planes.lanes + (t + c.args.rotation) % c.self.inside.planes.lanes)) c.self.invariant (omega arith) c.lower.ensures.lanes c.lower.ensures.long c.lower.ensures.falls
+    let low = kept_low c.self.inside.planes c.self.inside.due c.self.inside.waiting c.args.i c.self.invariant (rw (← c.self.view_is) at c.requires.block) in
+    kept_lower c.self.inside.planes c.lower.new.self c.self.inside.due c.self.inside.waiting c.args.i (λ t. bit c.args.marks.now.items (c.args.j * c.self.inside.planes.lanes + (t + c.args.rotation) % c.self.inside.planes.lanes)) c.self.invariant (omega arith) (omega arith) c.lower.ensures.lanes c.lower.ensures.long c.lower.ensures.falls
 
 pub returns-clause-due : goal.returns-clause-due
 returns-clause-due c =
-    let low = kept_low c.self.inside.planes c.self.inside.due c.args.i c.self.invariant (rw (← c.self.view_is) at c.requires.block) in
+    let low = kept_low c.self.inside.planes c.self.inside.due c.self.inside.waiting c.args.i c.self.invariant (rw (← c.self.view_is) at c.requires.block) in
     rw (← c.self.view_is) (due_more c.self.inside.due c.args.i (omega arith))
