@@ -1,14 +1,7 @@
 -- The closure of a set: it has the set, it is closed, and it lies in every closed set that has the set.
-use Rattle.std.proofs.Common.{rules}
-use Rattle.std.proofs.lemmas.Bool.Decides.{nat_tests}
-use Rattle.std.proofs.Common.{◌≡◌, ℕ, ◌<◌, ◌≤◌, Bool, true, false, refl, sym, ap, ◌∙◌, ⊎_elim, inl, inr, arith}
-use Rattle.std.specs.Prelude.{◌⊎◌, zero, suc}
-use Rattle.std.proofs.lemmas.Bool.{and_parts, or_cases, or_left, or_right, false≢true, cases_lt}
-use Rattle.nr_ldpcenc.specs.Rows.{Checks}
-use Rattle.nr_peel.specs.Closure.{Within, AreSound, any_below, closure, fixes, round, rounds, stands, union}
-use Rattle.nr_peel.specs.ClosureInside.{IsClosed}
+use Rattle.nr_peel.proofs.Common.{rules, nat_tests, ◌≡◌, ℕ, ◌<◌, ◌≤◌, Bool, true, false, refl, sym, ap, ◌∙◌, ⊎_elim, inl, inr, arith, ◌⊎◌, zero, suc, and_parts, or_cases, or_left, or_right, false≢true, cases_lt, Checks, Within, AreSound, any_below, fixes, rounds, stands, union, IsClosed, marked}
+use Rattle.nr_peel.specs.Closure.{closure, round}
 use Rattle.nr_peel.proofs.RowPositionFacts.{fixes_more}
-use Rattle.nr_lifting.specs.Rings.{marked}
 use Rattle.nr_peel.proofs.MarkedFacts.{marked_full, marked_back}
 
 pub cases_below : (k n : ℕ) → k < suc n → (k < n) ⊎ (k ≡ n)

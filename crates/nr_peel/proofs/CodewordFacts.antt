@@ -1,16 +1,6 @@
 -- Words on closures, stopping sets, and what a peeler that ran dry knows.
-use Rattle.std.proofs.Common.{rules}
-use Rattle.std.proofs.lemmas.Bool.Decides.{nat_tests}
-use Rattle.std.proofs.Common.{◌≡◌, ◌≢◌, ℕ, ◌<◌, ◌==◌, ◌||◌, Bool, true, false, not, List, [], ◌∷◌, refl, sym, ap, ◌∙◌, arith}
-use Rattle.std.specs.Prelude.{count_by}
+use Rattle.nr_peel.proofs.Common.{rules, nat_tests, ◌≡◌, ◌≢◌, ℕ, ◌<◌, ◌==◌, ◌||◌, Bool, true, false, not, List, [], ◌∷◌, refl, sym, ap, ◌∙◌, arith, count_by, list_all, and_parts, and_from, true≢false, eqb-true, false_from_ne_true, ◌⊕◌, parity, Checks, Meets, AgreeOn, IsDistinctRow, AreSound, IsStopping, Within, closure, fixes, stands, times_in, IsClosed, IsOnlyMissing, LacksNoneOrSeveral}
 use Rattle.std.specs.Bool.{beq}
-use Rattle.std.specs.List.{list_all}
-use Rattle.std.proofs.lemmas.Bool.{and_parts, and_from, true≢false, eqb-true, false_from_ne_true}
-use Rattle.nr_bitvec.specs.Bit.{◌⊕◌}
-use Rattle.nr_ldpcenc.specs.Parity.{parity}
-use Rattle.nr_ldpcenc.specs.Rows.{Checks, Meets}
-use Rattle.nr_peel.specs.Closure.{AgreeOn, IsDistinctRow, AreSound, IsStopping, Within, closure, fixes, stands, times_in}
-use Rattle.nr_peel.specs.ClosureInside.{IsClosed, IsOnlyMissing, LacksNoneOrSeveral}
 use Rattle.nr_peel.proofs.RowPositionFacts.{count_alike, count_no, count_yes, fixed_counted, not_not, only_from_count, stands_counted, all_more, or_more}
 use Rattle.nr_peel.proofs.ClosureFacts.{closure_closed, closure_keeps, closure_least, same_truth}
 

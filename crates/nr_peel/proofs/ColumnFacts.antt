@@ -1,24 +1,11 @@
 -- A column of blocks whose positions become known: what the rows' counts and the visits come to.
-use Rattle.std.proofs.Common.{rules}
-use Rattle.std.proofs.Common.{◌≡◌, ℕ, zero, suc, ◌+◌, ◌-◌, ◌*◌, ◌/◌, ◌%◌, ◌<◌, ◌≤◌, ◌≢◌, ◌==◌, ◌&&◌, nat_lt, Bool, true, false, not, cond, List, [], ◌∷◌, length, refl, sym, ap, ◌∙◌, inl, inr, arith}
-use Rattle.std.specs.Prelude.{All, count_by, slice_index, sum}
-use Rattle.std.proofs.lemmas.Bool.{eq-eqb, ne_eqb, cases_eq}
-use Rattle.std.proofs.lemmas.List.Elements.{All-head, All-tail}
-use Rattle.std.proofs.lemmas.Nat.{mod_below, div-add-mod'}
-use Rattle.nr_lifting.specs.Rings.{marked}
-use Rattle.nr_shifttable.specs.declared.entry.Entry.{Entry}
-use Rattle.nr_shifttable.specs.Accepted.{column_of, row_of}
-use Rattle.nr_shifttable.specs.Tails.{value_in}
-use Rattle.nr_ldpcenc.specs.Rows.{one_at, row_at}
-use Rattle.nr_peel.specs.Lanes.{hits}
-use Rattle.nr_peel.specs.Touches.{sum_below}
+use Rattle.nr_peel.proofs.Common.{rules, ◌≡◌, ℕ, zero, suc, ◌+◌, ◌-◌, ◌*◌, ◌/◌, ◌%◌, ◌<◌, ◌≤◌, ◌≢◌, ◌==◌, ◌&&◌, nat_lt, Bool, true, false, not, cond, List, [], ◌∷◌, length, refl, sym, ap, ◌∙◌, inl, inr, arith, All, count_by, slice_index, sum, eq-eqb, ne_eqb, cases_eq, All-head, All-tail, mod_below, div-add-mod', marked, Entry, column_of, row_of, value_in, one_at, row_at, hits, sum_below, nat_tests}
 use Rattle.nr_peel.proofs.ClosureFacts.{cases_below}
 use Rattle.nr_peel.proofs.CountedPairFacts.{sum-below, sum_below-append, sum_flat}
 use Rattle.nr_peel.proofs.TableGridFacts.{place_column}
 use Rattle.nr_peel.proofs.PairSumFacts.{sum_below-plus, sum_below-same}
 use Rattle.nr_peel.proofs.RowPlaceFacts.{mod_high, mod_low}
 use Rattle.nr_peel.proofs.RowPositionFacts.{count_by-cons, count_no, count_alike, count_filter, count_map}
-use Rattle.std.proofs.lemmas.Bool.Decides.{nat_tests}
 
 -- ---- counts of a row's positions
 

@@ -1,26 +1,9 @@
 -- Pairs of a row and a known position of it, by the rows' counters.
-use Rattle.std.proofs.lemmas.Bool.Decides.{nat_tests}
-use Rattle.std.proofs.Common.{◌≡◌, ℕ, ◌+◌, ◌*◌, ◌/◌, ◌%◌, ◌<◌, ◌≤◌, Bool, not, List, [], ◌∷◌, length, take, refl, sym, ap, ◌∙◌, arith, ◌==◌, true, false, cond}
-use Rattle.std.specs.Prelude.{zero, suc, count_by, slice_index, sum}
-use Rattle.std.proofs.lemmas.Bool.{eqb-true}
-use Rattle.std.proofs.lemmas.Nat.{div-mul-add, mod-mul-add, mod_below, div_below, div-add-mod'}
-use Rattle.std.proofs.lemmas.List.{take_all, length-map}
-use Rattle.std.proofs.lemmas.List.Sums.{sum_by_more}
-use Rattle.nr_bitvec.specs.Bit.{bit}
-use Rattle.nr_ldpcenc.specs.Rows.{Checks, block_checks, one_at}
-use Rattle.nr_peel.specs.Sweeps.{CountsOf}
-use Rattle.nr_peel.specs.Touches.{pairs_in, sum_below}
-use Rattle.nr_peel.specs.TouchesInside.{all_pairs, row_length, spent_pairs}
+use Rattle.nr_peel.proofs.Common.{nat_tests, ◌≡◌, ℕ, ◌+◌, ◌*◌, ◌/◌, ◌%◌, ◌<◌, ◌≤◌, Bool, not, List, [], ◌∷◌, length, take, refl, sym, ap, ◌∙◌, arith, ◌==◌, true, false, cond, zero, suc, count_by, slice_index, sum, eqb-true, div-mul-add, mod-mul-add, mod_below, div_below, div-add-mod', take_all, length-map, sum_by_more, bit, Checks, block_checks, one_at, CountsOf, sum_below, row_length, mul-le-mul_left, Graph, rows_of, Numbers, Entry, Entries, entries_in, row_of, value_in, IsPeeled, Peeling, most_visits}
+use Rattle.nr_peel.specs.Touches.{pairs_in}
+use Rattle.nr_peel.specs.TouchesInside.{all_pairs, spent_pairs}
 use Rattle.nr_peel.proofs.RowPositionFacts.{count_by-cons}
 use Rattle.nr_peel.proofs.PairSumFacts.{sum_below-le, sum_below-plus, sum_below-same}
-use Rattle.std.proofs.Math.Nat.{mul-le-mul_left}
-use Rattle.nr_graphpick.specs.declared.Graph.{Graph}
-use Rattle.nr_graphpick.specs.Graph.{rows_of}
-use Rattle.nr_segment.specs.Plan.{Numbers}
-use Rattle.nr_shifttable.specs.declared.entry.Entry.{Entry}
-use Rattle.nr_shifttable.specs.Accepted.{Entries, entries_in, row_of}
-use Rattle.nr_shifttable.specs.Tails.{value_in}
-use Rattle.nr_peel.specs.Peeling.{IsPeeled, Peeling, most_visits}
 
 -- what passes and what doesn't are all
 pub count_both : (p : ℕ → Bool) (xs : List ℕ) → count_by (λ x. not (p x)) xs + count_by p xs ≡ length xs

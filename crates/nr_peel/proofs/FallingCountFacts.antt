@@ -1,23 +1,9 @@
 -- The rows' counts while the columns of blocks with fresh positions are taken one after another.
-use Rattle.std.proofs.Common.{◌≡◌, ℕ, ◌+◌, ◌*◌, ◌/◌, ◌<◌, ◌≤◌, ◌==◌, ◌&&◌, nat_lt, Bool, true, false, not, List, length, refl, sym, ap, ◌∙◌, inl, inr, arith}
-use Rattle.std.specs.Prelude.{All, count_by, slice_index, sum}
-use Rattle.std.proofs.lemmas.Bool.{cases_lt, eqb-true, lt-ltb, le-ltb}
-use Rattle.std.proofs.lemmas.List.{get_or_past}
-use Rattle.std.proofs.lemmas.List.Elements.{All-filter}
-use Rattle.std.proofs.lemmas.Nat.{mod_below, div_below, div-add-mod'}
-use Rattle.nr_bitvec.specs.Bit.{bit}
-use Rattle.nr_lifting.specs.Rings.{marked}
-use Rattle.nr_shifttable.specs.declared.entry.Entry.{Entry}
-use Rattle.nr_graphpick.specs.declared.Graph.{Graph}
-use Rattle.nr_graphpick.specs.Graph.{rows_of}
-use Rattle.nr_shifttable.specs.Accepted.{Entries, IsTable, column_of, entries_in}
-use Rattle.nr_ldpcenc.specs.Rows.{Checks, checks_of, row_at}
-use Rattle.nr_peel.specs.Lanes.{hits}
+use Rattle.nr_peel.proofs.Common.{◌≡◌, ℕ, ◌+◌, ◌*◌, ◌/◌, ◌<◌, ◌≤◌, ◌==◌, ◌&&◌, nat_lt, Bool, true, false, not, List, length, refl, sym, ap, ◌∙◌, inl, inr, arith, All, count_by, slice_index, sum, cases_lt, eqb-true, lt-ltb, le-ltb, get_or_past, All-filter, mod_below, div_below, div-add-mod', bit, marked, Entry, Graph, rows_of, Entries, IsTable, column_of, entries_in, Checks, checks_of, row_at, hits, nat_tests}
 use Rattle.nr_peel.proofs.ColumnFacts.{below_column, column_most, column_next, column_visits, from_column, hits_marks, hits_past, in_column, sums_fall}
 use Rattle.nr_peel.proofs.TableGridFacts.{table_grid}
 use Rattle.nr_peel.proofs.RowPositionFacts.{count_alike, count_none}
 use Rattle.nr_peel.proofs.MarkedFacts.{marked_zero}
-use Rattle.std.proofs.lemmas.Bool.Decides.{nat_tests}
 
 -- The columns below one are taken: each count has fallen by the positions of F there, which aren't fresh any more.
 pub record HasFallen (c : Checks) (F : ℕ → Bool) (j : ℕ) (old now : List ℕ) (pending : List Bool) (visits : ℕ) : Type 0 where

@@ -1,21 +1,5 @@
 -- The fillers of a plan as marks.
-use Rattle.std.proofs.Common.{◌≡◌, ℕ, ◌+◌, ◌*◌, ◌<◌, ◌≤◌, ◌==◌, ◌||◌, Bool, true, false, List, length, map, replicate, arith, get_or}
-use Rattle.std.specs.List.{range_with_len}
-use Rattle.std.proofs.Math.Nat.{mul-le-mul_right}
-use Rattle.std.proofs.lemmas.Bool.{cases_lt, lt-ltb, le-leb, and_from}
-use Rattle.std.proofs.lemmas.List.{get_or-replicate, get_or_past, length-replicate, same_lists, get_or_default}
-use Rattle.std.proofs.lemmas.List.FromFn.{get_or-map-range_with_len, length-map-range_with_len}
-use Rattle.nr_bitvec.specs.Bit.{bit}
-use Rattle.nr_graphpick.specs.declared.Graph.{Graph}
-use Rattle.nr_graphpick.specs.declared.Graph.TheVariants.{One, Two}
-use Rattle.nr_graphpick.specs.Graph.{info_cols_of, cols_of}
-use Rattle.nr_segment.specs.Plan.{Numbers}
-use Rattle.nr_ldpcenc.specs.Codeword.{filler}
-use Rattle.nr_ldpcenc.specs.Rows.{Checks}
-use Rattle.nr_peel.specs.Closure.{Within}
-use Rattle.nr_peel.specs.Peeling.{fillers}
-use Rattle.nr_peel.specs.declared.lifted.Lifted.{Lifted}
-use Rattle.std.proofs.lemmas.Bool.Decides.{nat_tests}
+use Rattle.nr_peel.proofs.Common.{◌≡◌, ℕ, ◌+◌, ◌*◌, ◌<◌, ◌≤◌, ◌==◌, ◌||◌, Bool, true, false, List, length, map, replicate, arith, get_or, range_with_len, mul-le-mul_right, cases_lt, lt-ltb, le-leb, and_from, get_or-replicate, get_or_past, length-replicate, same_lists, get_or_default, get_or-map-range_with_len, length-map-range_with_len, bit, Graph, One, Two, info_cols_of, cols_of, Numbers, filler, Checks, Within, fillers, Lifted, nat_tests}
 
 info_below : (g : Graph) → info_cols_of g ≤ cols_of g
 info_below One = omega arith

@@ -1,20 +1,9 @@
 -- Steps that are accepted in turn: where they lead, from a larger set, and one step more.
-use Rattle.std.proofs.Common.{rules, arith, false, ◌≡◌, ℕ, ◌<◌, ◌==◌, ◌||◌, Bool, true, cond, List, [], ◌∷◌, ◌++◌, length, take, refl, sym, ap, ◌∙◌, ⊎_elim, append_assoc, append-nil, ◌≢◌, ◌+◌, get_or, set}
-use Rattle.std.proofs.lemmas.Bool.Decides.{nat_tests}
+use Rattle.nr_peel.proofs.Common.{rules, arith, false, ◌≡◌, ℕ, ◌<◌, ◌==◌, ◌||◌, Bool, true, cond, List, [], ◌∷◌, ◌++◌, length, take, refl, sym, ap, ◌∙◌, ⊎_elim, append_assoc, append-nil, ◌≢◌, ◌+◌, get_or, set, nat_tests, and_parts, and_from, or_cases, or_left, or_right, ltb-true, lt-ltb, eqb-true, and_left, and_right, eq-eqb, false_from_ne_true, Checks, AreSound, Within, closure, fixes, stands, accepts, after_steps, all_accepted, is_fixed_by, with_position, Fix, list_any-append, list_any_more, list_all_more, list_all_at, zero, suc, list_all, take_more, bit}
 use Rattle.std.proofs.Math.Seq.{take-append_seam}
-use Rattle.std.proofs.lemmas.Bool.{and_parts, and_from, or_cases, or_left, or_right, ltb-true, lt-ltb, eqb-true, and_left, and_right, eq-eqb, false_from_ne_true}
-use Rattle.nr_ldpcenc.specs.Rows.{Checks}
-use Rattle.nr_peel.specs.Closure.{AreSound, Within, closure, fixes, stands}
-use Rattle.nr_peel.specs.Certificates.{accepts, after_steps, all_accepted, is_fixed_by, with_position}
 use Rattle.nr_peel.specs.CertificatesInside.{Extends}
-use Rattle.nr_peel.specs.declared.fix.Fix.{Fix}
 use Rattle.nr_peel.proofs.ClosureFacts.{closure_closed, closure_keeps}
 use Rattle.nr_peel.proofs.RowPositionFacts.{fixes_more}
-use Rattle.std.proofs.lemmas.List.Folds.{list_any-append, list_any_more, list_all_more, list_all_at}
-use Rattle.std.specs.Prelude.{zero, suc}
-use Rattle.std.specs.List.{list_all}
-use Rattle.std.proofs.lemmas.List.{take_more}
-use Rattle.nr_bitvec.specs.Bit.{bit}
 use Rattle.nr_peel.proofs.TieFacts.{bit-mark}
 
 -- what an accepted step says

@@ -1,20 +1,7 @@
 -- Blocks of a list as lanes, and positions that are given column after column.
-use Rattle.std.proofs.Common.{◌≡◌, ℕ, zero, suc, ◌+◌, ◌*◌, ◌/◌, ◌%◌, ◌<◌, ◌==◌, ◌&&◌, ◌||◌, nat_lt, Bool, true, false, not, cond, List, length, refl, sym, ap, ◌∙◌, arith}
-use Rattle.std.proofs.lemmas.Bool.{cases_lt, eqb-true, lt-ltb, le-ltb, and_from, and_parts, eq-eqb, ne_eqb}
-use Rattle.std.proofs.lemmas.List.{get_or_past}
-use Rattle.std.proofs.lemmas.Nat.{mod_below, div_below, div-add-mod'}
-use Rattle.nr_bitvec.specs.Bit.{bit}
-use Rattle.nr_lifting.specs.Rings.{is_set, lane_marks}
-use Rattle.nr_ldpcenc.specs.Rows.{Checks}
-use Rattle.nr_peel.specs.Closure.{Within}
-use Rattle.nr_peel.specs.Hearing.{Hears, news}
-use Rattle.nr_peel.specs.Sweeps.{AreLanes}
-use Rattle.nr_peel.specs.declared.bit_parallel.lanes.Lanes.{Lanes}
+use Rattle.nr_peel.proofs.Common.{◌≡◌, ℕ, zero, suc, ◌+◌, ◌*◌, ◌/◌, ◌%◌, ◌<◌, ◌==◌, ◌&&◌, ◌||◌, nat_lt, Bool, true, false, not, cond, List, length, refl, sym, ap, ◌∙◌, arith, cases_lt, eqb-true, lt-ltb, le-ltb, and_from, and_parts, eq-eqb, ne_eqb, get_or_past, mod_below, div_below, div-add-mod', bit, is_set, lane_marks, Checks, Within, Hears, news, AreLanes, Lanes, nat_tests, IsClear, place, place-lt}
 use Rattle.nr_peel.proofs.ColumnFacts.{below_column, in_column}
 use Rattle.nr_peel.proofs.RowPlaceFacts.{mod_low}
-use Rattle.std.proofs.lemmas.Bool.Decides.{nat_tests}
-use Rattle.nr_bitvec.specs.Packed.{IsClear, place}
-use Rattle.nr_lifting.proofs.LaneViewFacts.{place-lt}
 use Rattle.nr_peel.proofs.ClosureFacts.{same_truth}
 
 -- a digit that is one where a test holds

@@ -1,13 +1,5 @@
 -- Marks that are joined, a word of 64 at a time.
-use Rattle.std.proofs.lemmas.Bool.Decides.{nat_tests}
-use Rattle.std.proofs.Common.{◌≡◌, ℕ, ◌+◌, ◌-◌, ◌<◌, ◌≤◌, ◌==◌, ◌||◌, Bool, List, length, refl, sym, ap, ◌∙◌, inl, inr, arith}
-use Rattle.std.specs.Int.{bit_at}
-use Rattle.std.specs.Int.RustNames.{bit_or}
-use Rattle.std.proofs.lemmas.Bool.{cases_lt}
-use Rattle.std.proofs.lemmas.List.{get_or_past}
-use Rattle.std.proofs.lemmas.Nat.Bits.{bit_at-lt, bit_at_or}
-use Rattle.nr_bitvec.specs.Bit.{bit}
-use Rattle.nr_lifting.proofs.LaneViewFacts.{max_bits}
+use Rattle.nr_peel.proofs.Common.{nat_tests, ◌≡◌, ℕ, ◌+◌, ◌-◌, ◌<◌, ◌≤◌, ◌==◌, ◌||◌, Bool, List, length, refl, sym, ap, ◌∙◌, inl, inr, arith, bit_at, bit_or, cases_lt, get_or_past, bit_at-lt, bit_at_or, bit, max_bits}
 
 -- the first n marks are joined
 pub record AreJoined (n : ℕ) (now old more : List Bool) : Type 0 where

@@ -1,20 +1,6 @@
 -- Lanes of rows, and the positions that they mark in a block.
-use Rattle.std.proofs.lemmas.Bool.Decides.{nat_tests}
-use Rattle.std.proofs.Common.{◌≡◌, ℕ, ◌+◌, ◌-◌, ◌*◌, ◌/◌, ◌%◌, ◌^◌, ◌<◌, ◌≤◌, ◌==◌, ◌&&◌, ◌||◌, Bool, false, not, List, ◌++◌, get_or, set, replicate, sym, ap, ◌∙◌, inl, inr, arith}
-use Rattle.std.specs.Int.{bit_at, w64}
-use Rattle.std.specs.Int.RustNames.{bit_or}
-use Rattle.std.proofs.lemmas.Nat.Bits.{bit_at_set_other, bit_at_set_same}
-use Rattle.std.proofs.Math.Nat.{add-mod-mod}
-use Rattle.std.proofs.lemmas.Bool.{cases_eq, cases_lt, eq-eqb, ne_eqb}
+use Rattle.nr_peel.proofs.Common.{nat_tests, ◌≡◌, ℕ, ◌+◌, ◌-◌, ◌*◌, ◌/◌, ◌%◌, ◌^◌, ◌<◌, ◌≤◌, ◌==◌, ◌&&◌, ◌||◌, Bool, false, not, List, ◌++◌, get_or, set, replicate, sym, ap, ◌∙◌, inl, inr, arith, bit_at, w64, bit_or, bit_at_set_other, bit_at_set_same, add-mod-mod, cases_eq, cases_lt, eq-eqb, ne_eqb, div_below, mod_below, IsClear, IsRotated, is_set, lane_marks, marked, marked-append, marked-same, place-zeros, one_at, unrotate, lacks, marks_of, steps_below, Fix}
 use Rattle.std.proofs.lemmas.List.{append-nil, get_or-set_same, get_or-set_other}
-use Rattle.std.proofs.lemmas.Nat.{div_below, mod_below}
-use Rattle.nr_bitvec.specs.Packed.{IsClear}
-use Rattle.nr_lifting.specs.Rings.{IsRotated, is_set, lane_marks, marked}
-use Rattle.nr_lifting.proofs.LaneBitFacts.{marked-append, marked-same}
-use Rattle.nr_lifting.proofs.LaneViewFacts.{place-zeros}
-use Rattle.nr_ldpcenc.specs.Rows.{one_at, unrotate}
-use Rattle.nr_peel.specs.Lanes.{lacks, marks_of, steps_below}
-use Rattle.nr_peel.specs.declared.fix.Fix.{Fix}
 use Rattle.nr_peel.proofs.RowPlaceFacts.{mod_high, mod_low}
 use Rattle.nr_peel.proofs.MarkedFacts.{marked_zero}
 use Rattle.nr_peel.proofs.StepFacts.{steps_none}

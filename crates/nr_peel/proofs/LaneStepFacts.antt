@@ -1,24 +1,5 @@
 -- What a row of blocks fixes in the block of one entry.
-use Rattle.std.proofs.lemmas.Bool.Decides.{nat_tests}
-use Rattle.std.proofs.Common.{◌≡◌, ℕ, ◌+◌, ◌-◌, ◌*◌, ◌/◌, ◌%◌, ◌<◌, ◌≤◌, ◌==◌, ◌&&◌, ◌||◌, Bool, true, false, not, List, refl, sym, ap, ◌∙◌, ⊎_elim, arith}
-use Rattle.std.specs.Prelude.{count_by}
-use Rattle.std.proofs.lemmas.Bool.{and_parts, and_from, or_cases, eqb-true, eq-eqb, true≢false, false_from_ne_true, not-true}
-use Rattle.std.proofs.lemmas.Nat.{mod_below}
-use Rattle.nr_bitvec.specs.Bit.{bit}
-use Rattle.nr_lifting.specs.Rings.{is_set}
-use Rattle.nr_shifttable.specs.declared.entry.Entry.{Entry}
-use Rattle.nr_shifttable.specs.Tails.{value_in}
-use Rattle.nr_ldpcenc.specs.Rows.{Checks, Meets, one_at, unrotate}
-use Rattle.nr_peel.specs.Closure.{Within, any_below, fixes, stands}
-use Rattle.nr_peel.specs.ClosureInside.{IsOnlyMissing}
-use Rattle.nr_peel.specs.Certificates.{accepts, is_fixed_by}
-use Rattle.nr_peel.specs.Lanes.{TakesLane, lacks, marks_of, steps_below, rotated_step}
-use Rattle.nr_peel.specs.StateInside.{lifted_checks}
-use Rattle.nr_peel.specs.Peeling.{HasBits}
-use Rattle.nr_peel.specs.Sweeps.{AreLanes, Fixes}
-use Rattle.nr_peel.specs.declared.fix.Fix.{Fix}
-use Rattle.nr_peel.specs.declared.bit_parallel.lanes.Lanes.{Lanes}
-use Rattle.nr_peel.specs.declared.lifted.Lifted.{Lifted}
+use Rattle.nr_peel.proofs.Common.{nat_tests, ◌≡◌, ℕ, ◌+◌, ◌-◌, ◌*◌, ◌/◌, ◌%◌, ◌<◌, ◌≤◌, ◌==◌, ◌&&◌, ◌||◌, Bool, true, false, not, List, refl, sym, ap, ◌∙◌, ⊎_elim, arith, count_by, and_parts, and_from, or_cases, eqb-true, eq-eqb, true≢false, false_from_ne_true, not-true, mod_below, bit, is_set, Entry, value_in, Checks, Meets, one_at, unrotate, Within, any_below, fixes, stands, IsOnlyMissing, accepts, is_fixed_by, TakesLane, lacks, marks_of, steps_below, rotated_step, lifted_checks, HasBits, AreLanes, Fixes, Fix, Lanes, Lifted}
 use Rattle.nr_peel.proofs.ClosureFacts.{any_below_passes, passes_any_below, same_truth}
 use Rattle.nr_peel.proofs.FixOrderFacts.{step_accepted}
 use Rattle.nr_peel.proofs.RowPlaceFacts.{place-eqb, place_fits}

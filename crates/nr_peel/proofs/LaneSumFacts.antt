@@ -1,11 +1,5 @@
 -- Sums of rows, by lanes.
-use Rattle.std.proofs.Common.{◌≡◌, ℕ, ◌+◌, ◌<◌, Bool, List, [], ◌∷◌, ◌++◌, length, get_or, map, take, ap, ◌∙◌, arith}
-use Rattle.std.proofs.lemmas.List.{get_or-map, length-map, take_more}
-use Rattle.nr_bitvec.specs.Bit.{◌⊕◌}
-use Rattle.nr_shifttable.specs.declared.entry.Entry.{Entry}
-use Rattle.nr_shifttable.specs.Tails.{value_in}
-use Rattle.nr_ldpcenc.specs.Parity.{parity}
-use Rattle.nr_ldpcenc.specs.Rows.{one_at, positions}
+use Rattle.nr_peel.proofs.Common.{◌≡◌, ℕ, ◌+◌, ◌<◌, Bool, List, [], ◌∷◌, ◌++◌, length, get_or, map, take, ap, ◌∙◌, arith, get_or-map, length-map, take_more, ◌⊕◌, Entry, value_in, parity, one_at, positions}
 
 parity-push : (w : ℕ → Bool) (ps : List ℕ) (p : ℕ) → parity w (ps ++ p ∷ []) ≡ parity w ps ⊕ w p
 parity-push w [] p = grind arith

@@ -1,23 +1,5 @@
 -- Positions that are given where what is known is in order, and what a peeler then is.
-use Rattle.std.proofs.Common.{◌≡◌, ◌≢◌, ℕ, ◌<◌, ◌≤◌, ◌||◌, Bool, true, false, length, refl, sym, ap, ◌∙◌, arith, []}
-use Rattle.std.specs.Prelude.{slice_index}
-use Rattle.std.proofs.lemmas.Bool.{or_left, or_right, true≢false}
-use Rattle.nr_bitvec.specs.Bit.{bit}
-use Rattle.nr_segment.specs.CodeBlock.{numbers}
-use Rattle.nr_shifttable.specs.Accepted.{IsTable}
-use Rattle.nr_ldpcenc.specs.Rows.{Checks}
-use Rattle.nr_peel.specs.Certificates.{all_accepted, is_fixed_by}
-use Rattle.nr_peel.specs.Hearing.{Hears}
-use Rattle.nr_peel.specs.Learning.{IsFilled, IsSweepPeeler, Learns}
-use Rattle.nr_peel.specs.Peeling.{HasBits, fillers, left_of}
-use Rattle.nr_peel.specs.Settled.{HasNonePending, IsHeld, Keeps, Reaches}
-use Rattle.nr_peel.specs.Starts.{IsBlankSweep}
-use Rattle.nr_peel.specs.StateInside.{lifted_checks}
-use Rattle.nr_peel.specs.Sweeps.{AreLanes, counted_in}
-use Rattle.nr_peel.specs.declared.bit_parallel.lanes.Lanes.{Lanes}
-use Rattle.nr_peel.specs.declared.bit_parallel.sweep_peeler.SweepPeeler.{SweepPeeler}
-use Rattle.nr_peel.specs.declared.lifted.Lifted.{Lifted}
-use Rattle.nr_peel.specs.declared.bit_parallel.sweep.Sweep.{Sweep}
+use Rattle.nr_peel.proofs.Common.{◌≡◌, ◌≢◌, ℕ, ◌<◌, ◌≤◌, ◌||◌, Bool, true, false, length, refl, sym, ap, ◌∙◌, arith, [], slice_index, or_left, or_right, true≢false, bit, numbers, IsTable, Checks, all_accepted, is_fixed_by, Hears, IsFilled, IsSweepPeeler, Learns, HasBits, fillers, left_of, HasNonePending, IsHeld, Keeps, Reaches, IsBlankSweep, lifted_checks, AreLanes, counted_in, Lanes, SweepPeeler, Lifted, Sweep}
 use Rattle.nr_peel.proofs.FillerFacts.{fillers_fit, fillers_long, fillers_there, fillers_within}
 use Rattle.nr_peel.proofs.RoundInvariantFacts.{counts_same}
 use Rattle.nr_peel.proofs.FixOrderFacts.{all_accepted_within, goes_taken}

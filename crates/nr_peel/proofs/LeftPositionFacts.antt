@@ -1,25 +1,10 @@
 -- What is left: the positions that aren't known, and what shows that all or not all are.
-use Rattle.std.proofs.Common.{rules, ◌≡◌, ◌≢◌, ℕ, ◌+◌, ◌<◌, ◌≤◌, ◌==◌, nat_lt, Bool, true, false, not, cond, List, [], ◌∷◌, ◌++◌, length, get_or, refl, sym, ap, ◌∙◌, ⊎_elim, arith, ◌-◌, ◌*◌, ◌/◌, ◌%◌}
-use Rattle.std.proofs.lemmas.Bool.Decides.{nat_tests}
-use Rattle.std.specs.Prelude.{zero, suc, count_by, slice_index}
-use Rattle.std.specs.List.{filter, range_with_len}
-use Rattle.std.proofs.lemmas.Bool.{cases_lt, eq-eqb, eqb-true, or_left, or_right, or_cases, lt-ltb, true≢false, false≢true, not-true}
-use Rattle.std.proofs.lemmas.List.{map-id}
-use Rattle.std.proofs.lemmas.List.Elements.{filter-append}
-use Rattle.std.proofs.lemmas.List.FromFn.{map-range_with_len_more}
-use Rattle.nr_bitvec.specs.Bit.{bit}
-use Rattle.nr_peel.specs.Closure.{AreSound, closure, stands}
-use Rattle.nr_peel.specs.Certificates.{IsFixOrder, IsStoppingSet}
-use Rattle.nr_peel.specs.Peeling.{IsPeeled, Peeling, checks_for, left_of, unknown_in}
+use Rattle.nr_peel.proofs.Common.{rules, ◌≡◌, ◌≢◌, ℕ, ◌+◌, ◌<◌, ◌≤◌, ◌==◌, nat_lt, Bool, true, false, not, cond, List, [], ◌∷◌, ◌++◌, length, get_or, refl, sym, ap, ◌∙◌, ⊎_elim, arith, ◌-◌, ◌*◌, ◌/◌, ◌%◌, nat_tests, zero, suc, count_by, slice_index, filter, range_with_len, cases_lt, eq-eqb, eqb-true, or_left, or_right, or_cases, lt-ltb, true≢false, false≢true, not-true, map-id, filter-append, map-range_with_len_more, bit, AreSound, closure, stands, IsFixOrder, IsStoppingSet, IsPeeled, Peeling, checks_for, left_of, unknown_in, marked, is_set, Checks, div-mul-add, marked-same, marked-append, marked-le}
 use Rattle.nr_peel.proofs.FixOrderFacts.{after_accepted}
 use Rattle.nr_peel.proofs.RowPositionFacts.{count_by-cons, count_more, count_yes, count_where}
 use Rattle.nr_peel.proofs.CodewordFacts.{left_over_stops, stopping_stays_out}
-use Rattle.nr_lifting.specs.Rings.{marked, is_set}
 use Rattle.nr_peel.proofs.MarkedFacts.{marked_full, no_marks, marked_all}
-use Rattle.nr_ldpcenc.specs.Rows.{Checks}
 use Rattle.nr_peel.proofs.ClosureFacts.{same_truth}
-use Rattle.std.proofs.lemmas.Nat.{div-mul-add}
-use Rattle.nr_lifting.proofs.LaneBitFacts.{marked-same, marked-append, marked-le}
 use Rattle.nr_peel.proofs.RowPlaceFacts.{mod_low}
 
 pub left_more : (n : ℕ) (known : List Bool) → n < length known → left_of (suc n) known ≡ left_of n known + cond (not (get_or known n false)) 1 0

@@ -1,3 +1,4 @@
+mod Common
 mod MarkedFacts
 mod RowPositionFacts
 mod ClosureFacts

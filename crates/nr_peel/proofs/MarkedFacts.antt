@@ -1,9 +1,5 @@
 -- How many of the first numbers are marked.
-use Rattle.std.proofs.Common.{◌≡◌, ℕ, zero, suc, ◌+◌, ◌-◌, ◌<◌, ◌≤◌, Bool, true, false, not, cond, refl, sym, ap, ◌∙◌, arith}
-use Rattle.std.proofs.lemmas.Bool.{not-false, true_from_ne_false}
-use Rattle.nr_lifting.specs.Rings.{marked}
-use Rattle.nr_lifting.proofs.LaneBitFacts.{marked-append}
-use Rattle.nr_peel.specs.Closure.{Within}
+use Rattle.nr_peel.proofs.Common.{◌≡◌, ℕ, zero, suc, ◌+◌, ◌-◌, ◌<◌, ◌≤◌, Bool, true, false, not, cond, refl, sym, ap, ◌∙◌, arith, not-false, true_from_ne_false, marked, marked-append, Within}
 
 -- ---- none and all
 

@@ -1,30 +1,13 @@
 -- With nothing received no position below K' is fixed. The fillers, with the extension positions whose row has fillers
 -- alone beside them, are a closed set.
-use Rattle.std.proofs.Common.{rules, ◌≡◌, ◌≢◌, ℕ, ◌+◌, ◌*◌, ◌%◌, ◌<◌, ◌≤◌, ◌==◌, nat_le, nat_lt, ◌||◌, ◌&&◌, Bool, true, false, cond, List, [], ◌∷◌, length, map, refl, sym, ap, ◌∙◌, ⊎_elim, arith, ◌/◌, ◌-◌, not}
-use Rattle.std.specs.List.{list_all, filter}
-use Rattle.std.proofs.lemmas.Bool.{and_left, and_parts, and_from, and_right, or_cases, or_left, or_right, eqb-true, eq-eqb, leb-false, le-leb, le-ltb, lt-leb, ne_eqb, false≢true, true≢false, cases_eq, cases_lt, false_from_ne_true}
-use Rattle.std.proofs.lemmas.Nat.{div-mul-add, mod-mul-add, mod_below}
-use Rattle.std.proofs.Math.Nat.{mul-le-mul_right, zero-mod}
-use Rattle.nr_graphpick.specs.declared.Graph.{Graph}
-use Rattle.nr_graphpick.specs.Graph.{rows_of, info_cols_of}
-use Rattle.nr_segment.specs.Plan.{Numbers, IsSound}
-use Rattle.nr_shifttable.specs.declared.entry.Entry.{Entry}
-use Rattle.nr_shifttable.specs.Accepted.{Entries, IsTable, entries_in, row_of, tail, has_graph}
-use Rattle.nr_shifttable.specs.Tails.{AcceptedHasShape, HasShape, HasCore, tail_of, value_in}
-use Rattle.nr_ldpcenc.specs.Rows.{Checks, block_checks, one_at, row_at}
-use Rattle.nr_ldpcenc.specs.Codeword.{filler}
-use Rattle.nr_peel.specs.Closure.{Within, closure, fixes, stands}
-use Rattle.nr_peel.specs.ClosureInside.{IsClosed}
+use Rattle.nr_peel.proofs.Common.{rules, ◌≡◌, ◌≢◌, ℕ, ◌+◌, ◌*◌, ◌%◌, ◌<◌, ◌≤◌, ◌==◌, nat_le, nat_lt, ◌||◌, ◌&&◌, Bool, true, false, cond, List, [], ◌∷◌, length, map, refl, sym, ap, ◌∙◌, ⊎_elim, arith, ◌/◌, ◌-◌, not, list_all, filter, and_left, and_parts, and_from, and_right, or_cases, or_left, or_right, eqb-true, eq-eqb, leb-false, le-leb, le-ltb, lt-leb, ne_eqb, false≢true, true≢false, cases_eq, cases_lt, false_from_ne_true, div-mul-add, mod-mul-add, mod_below, mul-le-mul_right, zero-mod, Graph, rows_of, info_cols_of, Numbers, IsSound, Entry, Entries, IsTable, entries_in, row_of, tail, has_graph, AcceptedHasShape, HasShape, HasCore, tail_of, value_in, Checks, block_checks, one_at, row_at, filler, Within, closure, fixes, stands, IsClosed, bit, IsPeeled, Peeling, checks_for, fillers, left_of, set_below}
 use Rattle.nr_peel.proofs.ClosureFacts.{closure_least, closure_monotone}
 use Rattle.nr_peel.proofs.RowPositionFacts.{all_more, or_more, other_in}
 use Rattle.nr_peel.proofs.RowPlaceFacts.{mod_low}
 use Rattle.nr_peel.proofs.TableGridFacts.{place_below}
-use Rattle.nr_bitvec.specs.Bit.{bit}
 use Rattle.nr_shifttable.proofs.ParityShapeFacts.{accepted-has_shape}
-use Rattle.nr_peel.specs.Peeling.{IsPeeled, Peeling, checks_for, fillers, left_of}
 use Rattle.nr_peel.proofs.FillerFacts.{fillers_within}
 use Rattle.nr_peel.proofs.LeftPositionFacts.{all_left}
-use Rattle.nr_ldpcenc.proofs.CodewordFacts.{set_below}
 
 -- the places of a row's tail
 abbrev places_of : ℕ → ℕ → List (ℕ × ℕ) → List ℕ

@@ -1,11 +1,6 @@
 -- Sums of rows' numbers of positions.
-use Rattle.std.proofs.Common.{◌≡◌, ℕ, ◌+◌, ◌*◌, ◌%◌, ◌<◌, ◌≤◌, ◌==◌, cond, List, length, refl, ap, ◌∙◌, arith}
-use Rattle.std.specs.Prelude.{zero, suc, slice_index}
-use Rattle.std.proofs.lemmas.Nat.{div-mul-add, mod-mul-add}
-use Rattle.nr_ldpcenc.specs.Rows.{Checks}
-use Rattle.nr_peel.specs.Touches.{sum_below}
-use Rattle.nr_peel.specs.TouchesInside.{all_pairs, row_length, spent_pairs}
-use Rattle.std.proofs.lemmas.Bool.Decides.{nat_tests}
+use Rattle.nr_peel.proofs.Common.{◌≡◌, ℕ, ◌+◌, ◌*◌, ◌%◌, ◌<◌, ◌≤◌, ◌==◌, cond, List, length, refl, ap, ◌∙◌, arith, zero, suc, slice_index, div-mul-add, mod-mul-add, Checks, sum_below, row_length, nat_tests}
+use Rattle.nr_peel.specs.TouchesInside.{all_pairs, spent_pairs}
 
 pub sum_below-le : (f g : ℕ → ℕ) (n : ℕ) → ((k : ℕ) → k < n → f k ≤ g k) → sum_below f n ≤ sum_below g n
 sum_below-le f g zero h = omega arith

@@ -1,8 +1,6 @@
 -- A quotient by a product: the quotient of a short number by a lifting size is the high half of its product with a
 -- reciprocal.
-use Rattle.std.proofs.Common.{◌≡◌, ℕ, ◌+◌, ◌*◌, ◌/◌, ◌%◌, ◌<◌, ◌≤◌, sym, arith}
-use Rattle.std.proofs.Math.Nat.{mul-le-mul_left, mul-le-mul_right}
-use Rattle.std.proofs.lemmas.Nat.{div-add-mod', mod_below}
+use Rattle.nr_peel.proofs.Common.{◌≡◌, ℕ, ◌+◌, ◌*◌, ◌/◌, ◌%◌, ◌<◌, ◌≤◌, sym, arith, mul-le-mul_left, mul-le-mul_right, div-add-mod', mod_below}
 
 -- with D = z m + e, the product of q z + r and m + 1 is at least q D, and below (q + 1) D
 low : (z m e q r : ℕ) → e < z → q * (z * m + e) ≤ (q * z + r) * (m + 1)

@@ -1,28 +1,14 @@
 -- Peeling by rounds: what a tally counts, what a round marks, and where rounds end.
-use Rattle.std.proofs.Common.{rules}
-use Rattle.std.proofs.Common.{◌≡◌, ℕ, ◌+◌, ◌*◌, ◌<◌, ◌≤◌, ◌==◌, ◌||◌, ◌&&◌, nat_lt, Bool, true, false, not, cond, List, length, get_or, set, take, refl, sym, ap, ◌∙◌, subst, arith}
-use Rattle.std.specs.Prelude.{zero, suc, All, count_by}
-use Rattle.std.proofs.lemmas.Bool.{and_parts, and_from, or_left, or_right, true≢false, eqb-true, eq-eqb}
-use Rattle.std.proofs.lemmas.List.Folds.{list_any_more}
-use Rattle.nr_bitvec.specs.Bit.{bit}
-use Rattle.nr_ldpcenc.specs.Rows.{Checks}
-use Rattle.nr_segment.specs.CodeBlock.{numbers}
-use Rattle.nr_shifttable.specs.declared.entry.Entry.{Entry}
-use Rattle.nr_shifttable.specs.Accepted.{IsTable, entries_in, row_of}
-use Rattle.nr_peel.specs.Closure.{IsDistinctRow, AreSound, Within, any_below, closure, fixes, round, stands}
-use Rattle.nr_peel.specs.ClosureInside.{LacksNoneOrSeveral}
-use Rattle.nr_peel.specs.Rounds.{CountsMarks, counts_one, is_counted_once, lacks_one, row_in, some_counts_one, some_lacks_one}
-use Rattle.nr_peel.specs.StateInside.{lifted_checks}
-use Rattle.nr_peel.specs.declared.lifted.Lifted.{Lifted}
+use Rattle.nr_peel.proofs.Common.{rules, ◌≡◌, ℕ, ◌+◌, ◌*◌, ◌<◌, ◌≤◌, ◌==◌, ◌||◌, ◌&&◌, nat_lt, Bool, true, false, not, cond, List, length, get_or, set, take, refl, sym, ap, ◌∙◌, subst, arith, zero, suc, All, count_by, and_parts, and_from, or_left, or_right, true≢false, eqb-true, eq-eqb, list_any_more, bit, Checks, numbers, Entry, IsTable, entries_in, row_of, IsDistinctRow, AreSound, Within, any_below, closure, fixes, stands, LacksNoneOrSeveral, CountsMarks, counts_one, is_counted_once, lacks_one, row_in, some_counts_one, lifted_checks, Lifted, marked, nat_tests}
+use Rattle.nr_peel.specs.Closure.{round}
+use Rattle.nr_peel.specs.Rounds.{some_lacks_one}
 use Rattle.nr_peel.specs.declared.rounds.Tally.{Tally}
 use Rattle.nr_peel.proofs.ClosureFacts.{any_below_passes, closure_closed, passes_any_below, round_adds, round_keeps, round_within, same_truth}
 use Rattle.nr_peel.proofs.TableGridFacts.{checks_sound}
 use Rattle.nr_peel.proofs.RowPositionFacts.{fixed_counted, only_from_count, count_where, only_here}
 use Rattle.nr_peel.proofs.TieFacts.{bit-mark, row_columns}
 use Rattle.nr_peel.proofs.CodewordFacts.{done_is_closure, only_fixes, stands_once}
-use Rattle.nr_lifting.specs.Rings.{marked}
 use Rattle.nr_peel.proofs.MarkedFacts.{marked_grows}
-use Rattle.std.proofs.lemmas.Bool.Decides.{nat_tests}
 
 -- a test of the numbers below n, and one number more
 pub any_below-same : (f g : ℕ → Bool) (n : ℕ) → ((k : ℕ) → k < n → f k ≡ g k) → any_below f n ≡ any_below g n

@@ -1,19 +1,7 @@
 -- Where a position's rows are: a row by its number, and its lane by a rotation.
-use Rattle.std.proofs.lemmas.Bool.Decides.{nat_tests}
-use Rattle.std.proofs.Common.{◌≡◌, ℕ, ◌+◌, ◌-◌, ◌*◌, ◌/◌, ◌%◌, ◌<◌, ◌≤◌, ◌==◌, ◌&&◌, true, sym, ap, ◌∙◌, arith, List, [], length, get_or, subst}
-use Rattle.std.proofs.lemmas.Bool.{and_parts, and_from, eqb-true, eq-eqb, cases_lt}
-use Rattle.std.proofs.lemmas.Nat.{mod_below, div-add-mod'}
-use Rattle.std.proofs.Math.Nat.{mod-eq_of_lt, add-mod_left}
-use Rattle.nr_shifttable.specs.declared.entry.Entry.{Entry}
-use Rattle.nr_ldpcenc.specs.Rows.{one_at, unrotate}
+use Rattle.nr_peel.proofs.Common.{nat_tests, ◌≡◌, ℕ, ◌+◌, ◌-◌, ◌*◌, ◌/◌, ◌%◌, ◌<◌, ◌≤◌, ◌==◌, ◌&&◌, true, sym, ap, ◌∙◌, arith, List, [], length, get_or, subst, and_parts, and_from, eqb-true, eq-eqb, cases_lt, mod_below, div-add-mod', mod-eq_of_lt, add-mod_left, Entry, one_at, unrotate, get_or-map, length-map, numbers, IsTable, entries_in, row_of, value_in, lifted_checks, Lifted}
 use Rattle.nr_peel.proofs.ClosureFacts.{same_truth}
 use Rattle.nr_peel.proofs.TableGridFacts.{place_column, place_lane}
-use Rattle.std.proofs.lemmas.List.{get_or-map, length-map}
-use Rattle.nr_segment.specs.CodeBlock.{numbers}
-use Rattle.nr_shifttable.specs.Accepted.{IsTable, entries_in, row_of}
-use Rattle.nr_shifttable.specs.Tails.{value_in}
-use Rattle.nr_peel.specs.StateInside.{lifted_checks}
-use Rattle.nr_peel.specs.declared.lifted.Lifted.{Lifted}
 use Rattle.nr_peel.proofs.TieFacts.{row_columns}
 
 -- a number below z, and one below twice z, modulo z

@@ -1,12 +1,5 @@
 -- Positions in a row: how often one stands there, and rows with one position outside a set.
-use Rattle.std.proofs.Common.{rules}
-use Rattle.std.proofs.Common.{◌≡◌, ℕ, ◌+◌, ◌<◌, ◌==◌, ◌||◌, ◌&&◌, Bool, true, false, not, cond, List, [], ◌∷◌, length, get_or, take, refl, sym, ap, ◌∙◌, ⊎_elim, arith, ◌≢◌, map, ◌≤◌}
-use Rattle.std.specs.Prelude.{count_by}
-use Rattle.std.specs.List.{list_all, filter}
-use Rattle.std.proofs.lemmas.Bool.{and_parts, and_from, or_cases, or_left, or_right, eqb-true, eq-eqb, false≢true, cases_eq, true≢false}
-use Rattle.std.proofs.lemmas.List.Sums.{sum_by-cons, sum_by_more}
-use Rattle.nr_peel.specs.Closure.{stands, fixes, times_in}
-use Rattle.nr_peel.specs.ClosureInside.{IsOnlyMissing}
+use Rattle.nr_peel.proofs.Common.{rules, ◌≡◌, ℕ, ◌+◌, ◌<◌, ◌==◌, ◌||◌, ◌&&◌, Bool, true, false, not, cond, List, [], ◌∷◌, length, get_or, take, refl, sym, ap, ◌∙◌, ⊎_elim, arith, ◌≢◌, map, ◌≤◌, count_by, list_all, filter, and_parts, and_from, or_cases, or_left, or_right, eqb-true, eq-eqb, false≢true, cases_eq, true≢false, sum_by-cons, sum_by_more, stands, fixes, times_in, IsOnlyMissing}
 
 -- a count with one element more in front
 pub count_by-cons : {X : Type 0} (p : X → Bool) (x : X) (xs : List X) → count_by p (x ∷ xs) ≡ cond (p x) 1 0 + count_by p xs

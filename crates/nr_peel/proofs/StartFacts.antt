@@ -1,28 +1,10 @@
 -- How many positions a code block has, and how many pairs there are of a row and a position of it.
-use Rattle.std.proofs.Common.{◌≡◌, ℕ, ◌+◌, ◌*◌, ◌/◌, ◌%◌, ◌<◌, ◌≤◌, Bool, false, not, List, length, arith, ◌&&◌, sym, ap, ◌∙◌}
-use Rattle.std.specs.Prelude.{◌^◌, zero, suc, count_by, slice_index, sum}
-use Rattle.std.proofs.lemmas.List.{length-map}
-use Rattle.std.proofs.lemmas.Nat.{mul-le, div_below, mod_below, div-add-mod'}
-use Rattle.nr_graphpick.specs.declared.Graph.{Graph}
-use Rattle.nr_graphpick.specs.declared.Graph.TheVariants.{One, Two}
-use Rattle.nr_graphpick.specs.Graph.{cols_of, rows_of}
-use Rattle.nr_shifttable.specs.declared.entry.Entry.{Entry}
-use Rattle.nr_shifttable.specs.Accepted.{IsTable, entries_in, row_of}
-use Rattle.nr_shifttable.specs.Tails.{value_in}
-use Rattle.nr_ldpcenc.specs.Rows.{one_at, Checks}
-use Rattle.nr_peel.specs.StateInside.{lifted_checks}
-use Rattle.nr_peel.specs.Touches.{sum_below, step_pairs}
-use Rattle.nr_peel.specs.TouchesInside.{all_pairs, row_length}
-use Rattle.nr_peel.specs.declared.lifted.Lifted.{Lifted}
+use Rattle.nr_peel.proofs.Common.{◌≡◌, ℕ, ◌+◌, ◌*◌, ◌/◌, ◌%◌, ◌<◌, ◌≤◌, Bool, false, not, List, length, arith, ◌&&◌, sym, ap, ◌∙◌, ◌^◌, zero, suc, count_by, slice_index, sum, length-map, mul-le, div_below, mod_below, div-add-mod', Graph, One, Two, cols_of, rows_of, Entry, IsTable, entries_in, row_of, value_in, one_at, Checks, lifted_checks, sum_below, step_pairs, row_length, Lifted, bit, work_of, AreBlank, AreDegrees, IsBlankSweep, counted_in, Sweep}
+use Rattle.nr_peel.specs.TouchesInside.{all_pairs}
 use Rattle.nr_peel.proofs.CountedPairFacts.{count_both, sum-below}
 use Rattle.nr_peel.proofs.TableGridFacts.{rows_short}
 use Rattle.nr_peel.proofs.RowPositionFacts.{count_none}
-use Rattle.nr_bitvec.specs.Bit.{bit}
 use Rattle.nr_lifting.specs.Planes.{BlockCounts}
-use Rattle.nr_peel.specs.Due.{work_of}
-use Rattle.nr_peel.specs.Starts.{AreBlank, AreDegrees, IsBlankSweep}
-use Rattle.nr_peel.specs.Sweeps.{counted_in}
-use Rattle.nr_peel.specs.declared.bit_parallel.sweep.Sweep.{Sweep}
 use Rattle.nr_peel.proofs.StepPairFacts.{step_pairs-none}
 use Rattle.nr_peel.proofs.PairSumFacts.{sum_below-same}
 

@@ -1,25 +1,9 @@
 -- Steps of the rows that a lane marks.
-use Rattle.std.proofs.lemmas.Bool.Decides.{nat_tests}
-use Rattle.std.proofs.Common.{◌≡◌, ◌≢◌, ℕ, zero, suc, ◌+◌, ◌-◌, ◌*◌, ◌/◌, ◌%◌, ◌^◌, ◌<◌, ◌≤◌, ◌==◌, Bool, true, false, if◌then◌else◌, List, [], ◌∷◌, ◌++◌, length, get_or, refl, sym, ap, ◌∙◌, inl, inr, arith, add-one, append_assoc, length-append, ◌&&◌}
-use Rattle.std.proofs.lemmas.Bool.{cases_eq, cases_lt, eq-eqb, eqb-true, or_left}
-use Rattle.std.proofs.lemmas.Nat.{mod_below, pow_pos, shr_split}
-use Rattle.std.proofs.lemmas.Nat.Bits.{bit_at-pow_other, bit_at-pow_same, bit_at-trailing_zeros, bit_at-zero, bit_at_above, bit_at_and, bit_at_cat_high, bit_at_cat_low, bit_at_ones_above, same_from_bits_below}
-use Rattle.std.proofs.Math.Nat.{pow-suc}
-use Rattle.std.specs.Int.{bit_at, trailing_zeros, w64}
-use Rattle.std.specs.Int.RustNames.{bit_and, count_ones}
+use Rattle.nr_peel.proofs.Common.{nat_tests, ◌≡◌, ◌≢◌, ℕ, zero, suc, ◌+◌, ◌-◌, ◌*◌, ◌/◌, ◌%◌, ◌^◌, ◌<◌, ◌≤◌, ◌==◌, Bool, true, false, if◌then◌else◌, List, [], ◌∷◌, ◌++◌, length, get_or, refl, sym, ap, ◌∙◌, inl, inr, arith, add-one, append_assoc, length-append, ◌&&◌, cases_eq, cases_lt, eq-eqb, eqb-true, or_left, mod_below, pow_pos, shr_split, bit_at-pow_other, bit_at-pow_same, bit_at-trailing_zeros, bit_at-zero, bit_at_above, bit_at_and, bit_at_cat_high, bit_at_cat_low, bit_at_ones_above, same_from_bits_below, pow-suc, bit_at, trailing_zeros, w64, bit_and, count_ones, counted_all, marked-append, marked-le, marked-same, ones_marked, word_bit, IsClear, is_set, marked, rotated_step, step_after, step_along, step_number, steps_below, Fix, list_any-append, Checks, Within, any_below, accepts, after_steps, all_accepted, is_fixed_by}
 use Rattle.nr_bitvec.proofs.BitFacts.{bit_at_mod, bit_at_shr}
-use Rattle.nr_lifting.proofs.LaneBitFacts.{counted_all, marked-append, marked-le, marked-same, ones_marked, word_bit}
 use Rattle.std.proofs.lemmas.List.{append-nil}
-use Rattle.nr_bitvec.specs.Packed.{IsClear}
-use Rattle.nr_lifting.specs.Rings.{is_set, marked}
-use Rattle.nr_peel.specs.Lanes.{rotated_step, step_after, step_along, step_number, steps_below}
-use Rattle.nr_peel.specs.declared.fix.Fix.{Fix}
 use Rattle.nr_peel.proofs.RowPlaceFacts.{mod_high, mod_low}
 use Rattle.nr_peel.proofs.MarkedFacts.{marked_within}
-use Rattle.std.proofs.lemmas.List.Folds.{list_any-append}
-use Rattle.nr_ldpcenc.specs.Rows.{Checks}
-use Rattle.nr_peel.specs.Closure.{Within, any_below}
-use Rattle.nr_peel.specs.Certificates.{accepts, after_steps, all_accepted, is_fixed_by}
 use Rattle.nr_peel.proofs.FixOrderFacts.{accepts_more, after_accepted, all_accepted-push}
 
 -- no step where nothing is marked

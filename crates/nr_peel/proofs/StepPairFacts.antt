@@ -1,11 +1,6 @@
 -- Pairs of a step and a position of its row.
-use Rattle.std.proofs.Common.{◌≡◌, ℕ, zero, suc, ◌+◌, ◌*◌, ◌<◌, Bool, true, false, if◌then◌else◌, List, [], ◌∷◌, ◌++◌, length, refl, ap, ◌∙◌, arith, length-append}
-use Rattle.std.proofs.lemmas.List.Sums.{sum_by-append}
-use Rattle.nr_lifting.specs.Rings.{marked}
-use Rattle.nr_ldpcenc.specs.Rows.{Checks}
-use Rattle.nr_peel.specs.Lanes.{steps_below}
+use Rattle.nr_peel.proofs.Common.{◌≡◌, ℕ, zero, suc, ◌+◌, ◌*◌, ◌<◌, Bool, true, false, if◌then◌else◌, List, [], ◌∷◌, ◌++◌, length, refl, ap, ◌∙◌, arith, length-append, sum_by-append, marked, Checks, steps_below, Fix}
 use Rattle.nr_peel.specs.Touches.{step_pairs}
-use Rattle.nr_peel.specs.declared.fix.Fix.{Fix}
 
 pub step_pairs-none : (c : Checks) → step_pairs c [] ≡ 0
 unfolding step_pairs

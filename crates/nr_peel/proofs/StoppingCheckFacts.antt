@@ -1,19 +1,9 @@
 -- The check of a stopping set, member by member.
-use Rattle.std.proofs.lemmas.Bool.Decides.{nat_tests}
-use Rattle.std.proofs.Common.{◌≡◌, ◌≢◌, ℕ, ◌+◌, ◌*◌, ◌/◌, ◌%◌, ◌<◌, ◌≤◌, ◌==◌, nat_lt, Bool, true, false, cond, List, [], ◌∷◌, length, get_or, take, refl, sym, ap, ◌∙◌, subst, ⊎_elim, arith}
-use Rattle.std.specs.Prelude.{Result, Ok, Err, count_by, map, slice_index}
+use Rattle.nr_peel.proofs.Common.{nat_tests, ◌≡◌, ◌≢◌, ℕ, ◌+◌, ◌*◌, ◌/◌, ◌%◌, ◌<◌, ◌≤◌, ◌==◌, nat_lt, Bool, true, false, cond, List, [], ◌∷◌, length, get_or, take, refl, sym, ap, ◌∙◌, subst, ⊎_elim, arith, Result, Ok, Err, count_by, map, slice_index, cases_lt, eq-eqb, false_from_ne_true, ltb-true, or_left, or_right, true≢false, div-mul-add, mod-mul-add, mul-le, get_or-map, length-map, Entry, Checks, AreSound, stands, IsFixOrder, IsRising, IsStoppingSet, Fix}
 use Rattle.std.specs.List.Sorted.{IsBinarySearchResult}
 use Rattle.std.specs.Ordering.{nat_cmp}
 use Rattle.std.specs.Result.{is_ok}
-use Rattle.std.proofs.lemmas.Bool.{cases_lt, eq-eqb, false_from_ne_true, ltb-true, or_left, or_right, true≢false}
 use Rattle.std.proofs.lemmas.List.Sorted.{searched}
-use Rattle.std.proofs.lemmas.Nat.{div-mul-add, mod-mul-add, mul-le}
-use Rattle.std.proofs.lemmas.List.{get_or-map, length-map}
-use Rattle.nr_shifttable.specs.declared.entry.Entry.{Entry}
-use Rattle.nr_ldpcenc.specs.Rows.{Checks}
-use Rattle.nr_peel.specs.Closure.{AreSound, stands}
-use Rattle.nr_peel.specs.Certificates.{IsFixOrder, IsRising, IsStoppingSet}
-use Rattle.nr_peel.specs.declared.fix.Fix.{Fix}
 use Rattle.nr_peel.proofs.LeftPositionFacts.{place_of, stands_at, stops_out}
 use Rattle.nr_peel.proofs.FixOrderFacts.{steps_stay}
 use Rattle.nr_peel.proofs.RowPositionFacts.{count_more, count_no}

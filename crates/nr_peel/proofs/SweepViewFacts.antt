@@ -1,22 +1,5 @@
 -- What is true of every peeler.
-use Rattle.std.proofs.Common.{◌≡◌, ◌≢◌, ℕ, ◌+◌, ◌*◌, ◌<◌, Bool, not, List, sym, ◌∙◌, arith}
-use Rattle.std.specs.Prelude.{count_by, slice_index}
-use Rattle.std.proofs.lemmas.Bool.{or_left}
-use Rattle.nr_bitvec.specs.Bit.{bit}
-use Rattle.nr_segment.specs.CodeBlock.{numbers}
-use Rattle.nr_ldpcenc.specs.Rows.{Checks}
-use Rattle.nr_peel.specs.Closure.{AreSound, Within, closure}
-use Rattle.nr_peel.specs.Certificates.{is_fixed_by}
-use Rattle.nr_peel.specs.Learning.{IsSweepPeeler}
-use Rattle.nr_peel.specs.Peeling.{IsPeeled}
-use Rattle.nr_peel.specs.Settled.{HasNonePending, Reaches}
-use Rattle.nr_peel.specs.State.{sweep_peeler_view}
-use Rattle.nr_peel.specs.StateInside.{lifted_checks}
-use Rattle.nr_peel.specs.Sweeps.{CountsOf, counted_in}
-use Rattle.nr_peel.specs.declared.bit_parallel.lanes.Lanes.{Lanes}
-use Rattle.nr_peel.specs.declared.lifted.Lifted.{Lifted}
-use Rattle.nr_peel.specs.declared.bit_parallel.sweep.Sweep.{Sweep}
-use Rattle.nr_peel.specs.declared.bit_parallel.sweep_peeler.SweepPeeler.{SweepPeeler}
+use Rattle.nr_peel.proofs.Common.{◌≡◌, ◌≢◌, ℕ, ◌+◌, ◌*◌, ◌<◌, Bool, not, List, sym, ◌∙◌, arith, count_by, slice_index, or_left, bit, numbers, Checks, AreSound, Within, closure, is_fixed_by, IsSweepPeeler, IsPeeled, HasNonePending, Reaches, sweep_peeler_view, lifted_checks, CountsOf, counted_in, Lanes, Lifted, Sweep, SweepPeeler}
 use Rattle.nr_peel.proofs.CountedPairFacts.{pairs_and_counts, spent_known}
 use Rattle.nr_peel.proofs.TableGridFacts.{checks_sound}
 use Rattle.nr_peel.proofs.FixOrderFacts.{after_accepted, steps_stay}

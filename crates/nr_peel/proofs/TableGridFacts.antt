@@ -1,22 +1,6 @@
 -- The entries of an accepted table: in range, and no column twice in a row; so the parity checks are sound.
-use Rattle.std.proofs.Common.{rules}
-use Rattle.std.proofs.lemmas.Bool.Decides.{nat_tests}
-use Rattle.std.proofs.Common.{◌≡◌, ℕ, ◌+◌, ◌*◌, ◌/◌, ◌%◌, ◌<◌, ◌≤◌, ◌==◌, Bool, true, false, cond, List, [], ◌∷◌, length, map, refl, sym, ap, ◌∙◌, ⊎_elim, inl, arith}
-use Rattle.std.specs.Prelude.{◌⊎◌, count_by, All}
-use Rattle.std.proofs.lemmas.Bool.{or_cases, eqb-true, eq-eqb, ne_eqb, false≢true}
-use Rattle.std.proofs.lemmas.List.Elements.{All-head, All-tail, All-filter}
-use Rattle.std.proofs.lemmas.Nat.{mod_below, div-mul-add, mod-mul-add}
-use Rattle.std.proofs.Math.Nat.{mul-le-mul_right}
-use Rattle.nr_graphpick.specs.declared.Graph.{Graph}
-use Rattle.nr_graphpick.specs.declared.Graph.TheVariants.{One, Two}
-use Rattle.nr_graphpick.specs.Graph.{rows_of, cols_of}
-use Rattle.nr_segment.specs.Plan.{Numbers}
-use Rattle.nr_shifttable.specs.declared.entry.Entry.{Entry}
-use Rattle.nr_shifttable.specs.Accepted.{Ascending, Entries, IsInRange, IsTable, entries_in, row_of}
+use Rattle.nr_peel.proofs.Common.{rules, nat_tests, ◌≡◌, ℕ, ◌+◌, ◌*◌, ◌/◌, ◌%◌, ◌<◌, ◌≤◌, ◌==◌, Bool, true, false, cond, List, [], ◌∷◌, length, map, refl, sym, ap, ◌∙◌, ⊎_elim, inl, arith, ◌⊎◌, count_by, All, or_cases, eqb-true, eq-eqb, ne_eqb, false≢true, All-head, All-tail, All-filter, mod_below, div-mul-add, mod-mul-add, mul-le-mul_right, Graph, One, Two, rows_of, cols_of, Numbers, Entry, Ascending, Entries, IsInRange, IsTable, entries_in, row_of, value_in, block_checks, one_at, AreSound, stands, times_in}
 use Rattle.nr_shifttable.specs.Accepted as accepted
-use Rattle.nr_shifttable.specs.Tails.{value_in}
-use Rattle.nr_ldpcenc.specs.Rows.{block_checks, one_at}
-use Rattle.nr_peel.specs.Closure.{AreSound, stands, times_in}
 use Rattle.nr_peel.proofs.RowPositionFacts.{count_no, count_yes, count_map, count_within}
 
 -- entries of rows below `rows` and columns below `cols`, no column twice in a row

@@ -1,19 +1,7 @@
 -- Marks with one more, and where the rows and columns of a table lie.
-use Rattle.std.proofs.Common.{◌≡◌, ℕ, ◌+◌, ◌*◌, ◌<◌, ◌≤◌, ◌==◌, Bool, true, List, length, set, arith}
-use Rattle.std.specs.Prelude.{All}
-use Rattle.std.proofs.lemmas.Bool.{cases_eq}
+use Rattle.nr_peel.proofs.Common.{◌≡◌, ℕ, ◌+◌, ◌*◌, ◌<◌, ◌≤◌, ◌==◌, Bool, true, List, length, set, arith, All, cases_eq, All-filter, All-weaker, mul-le-mul_right, bit, Graph, rows_of, cols_of, Numbers, Entry, Entries, IsTable, column_of, entries_in, row_of, with_position, nat_tests}
 use Rattle.std.proofs.lemmas.List.{get_or-set_same, get_or-set_other}
-use Rattle.std.proofs.lemmas.List.Elements.{All-filter, All-weaker}
-use Rattle.std.proofs.Math.Nat.{mul-le-mul_right}
-use Rattle.nr_bitvec.specs.Bit.{bit}
-use Rattle.nr_graphpick.specs.declared.Graph.{Graph}
-use Rattle.nr_graphpick.specs.Graph.{rows_of, cols_of}
-use Rattle.nr_segment.specs.Plan.{Numbers}
-use Rattle.nr_shifttable.specs.declared.entry.Entry.{Entry}
-use Rattle.nr_shifttable.specs.Accepted.{Entries, IsTable, column_of, entries_in, row_of}
-use Rattle.nr_peel.specs.Certificates.{with_position}
 use Rattle.nr_peel.proofs.TableGridFacts.{table_grid}
-use Rattle.std.proofs.lemmas.Bool.Decides.{nat_tests}
 
 -- marks with one more
 pub bit-mark : (xs : List Bool) (p : ℕ) → p < length xs → (q : ℕ) → bit (set xs p true) q ≡ with_position (bit xs) p q

@@ -1,15 +1,7 @@
 -- The positions that are not known, listed word by word, and those that were gained, counted column by column.
-use Rattle.std.proofs.lemmas.Bool.Decides.{nat_tests}
-use Rattle.std.proofs.Common.{◌≡◌, ℕ, zero, suc, ◌+◌, ◌-◌, ◌<◌, ◌≤◌, ◌==◌, Bool, true, false, not, cond, List, [], ◌∷◌, ◌++◌, refl, sym, ap, ◌∙◌, arith, append_assoc, ◌*◌, ◌%◌, ◌&&◌}
-use Rattle.std.specs.Int.{bit_at}
-use Rattle.std.specs.List.{filter, range_with_len, count_by}
-use Rattle.std.proofs.lemmas.List.{append-nil, map-id}
-use Rattle.std.proofs.lemmas.List.FromFn.{filter_of_map_range_with_len_more, sum_by-map-range_with_len_more}
-use Rattle.std.proofs.lemmas.Nat.Bits.{bit_at-lt, bit_at_ones}
-use Rattle.nr_bitvec.specs.Bit.{bit}
+use Rattle.nr_peel.proofs.Common.{nat_tests, ◌≡◌, ℕ, zero, suc, ◌+◌, ◌-◌, ◌<◌, ◌≤◌, ◌==◌, Bool, true, false, not, cond, List, [], ◌∷◌, ◌++◌, refl, sym, ap, ◌∙◌, arith, append_assoc, ◌*◌, ◌%◌, ◌&&◌, bit_at, filter, range_with_len, count_by, map-id, filter_of_map_range_with_len_more, sum_by-map-range_with_len_more, bit_at-lt, bit_at_ones, bit, is_set, marked, marked-same, marked-append}
+use Rattle.std.proofs.lemmas.List.{append-nil}
 use Rattle.nr_peel.proofs.LeftPositionFacts.{kept_more}
-use Rattle.nr_lifting.specs.Rings.{is_set, marked}
-use Rattle.nr_lifting.proofs.LaneBitFacts.{marked-same, marked-append}
 use Rattle.nr_peel.proofs.RowPlaceFacts.{mod_low}
 
 -- ---- a filter of numbers that follow one another

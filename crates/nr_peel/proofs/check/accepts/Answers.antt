@@ -1,6 +1,4 @@
-use Rattle.std.proofs.Common.{sym, ap, ◌∙◌, arith}
-use Rattle.nr_bitvec.specs.Bit.{bit}
-use Rattle.nr_peel.specs.StateInside.{lifted_checks}
+use Rattle.nr_peel.proofs.Common.{sym, ap, ◌∙◌, arith, bit, lifted_checks}
 use Rattle.nr_peel.proofs.FixOrderFacts.{accepts_without, weighed_known, weighed_out, weighed_pos}
 use Rattle.nr_peel.proofs.RowPlaceFacts.{IsEntryAt, entry_at}
 use Rattle.nr_peel.proofs.check.accepts.Goals as goal

@@ -1,5 +1,4 @@
-use Rattle.nr_bitvec.specs.Bit.{bit}
-use Rattle.nr_peel.specs.StateInside.{lifted_checks}
+use Rattle.nr_peel.proofs.Common.{bit, lifted_checks}
 use Rattle.nr_peel.proofs.FixOrderFacts.{IsWeighed}
 use Rattle.nr_peel.proofs.check.accepts.Given as goal
 

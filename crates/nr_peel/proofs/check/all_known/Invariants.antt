@@ -1,5 +1,4 @@
-use Rattle.std.proofs.Common.{◌≡◌, ◌<◌, ℕ, true}
-use Rattle.nr_bitvec.specs.Bit.{bit}
+use Rattle.nr_peel.proofs.Common.{◌≡◌, ◌<◌, ℕ, true, bit}
 use Rattle.nr_peel.proofs.check.all_known.Given as goal
 
 -- the positions so far are marked

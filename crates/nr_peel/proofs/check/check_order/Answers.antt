@@ -1,16 +1,8 @@
-use Rattle.std.proofs.Common.{◌≡◌, ℕ, true, false, length, get_or, take, sym, ap, ◌∙◌, arith}
-use Rattle.std.proofs.lemmas.Bool.{true≢false, false≢true}
-use Rattle.std.proofs.lemmas.List.{get_or_default, length-set, take_all}
-use Rattle.nr_bitvec.specs.Bit.{bit}
-use Rattle.nr_segment.specs.CodeBlock.{numbers}
-use Rattle.nr_ldpcenc.specs.Rows.{block_checks}
-use Rattle.nr_peel.specs.Certificates.{accepts, after_steps, all_accepted}
-use Rattle.nr_peel.specs.declared.fix.Fix.{Fix}
+use Rattle.nr_peel.proofs.Common.{◌≡◌, ℕ, true, false, length, get_or, take, sym, ap, ◌∙◌, arith, true≢false, false≢true, get_or_default, length-set, take_all, bit, numbers, block_checks, accepts, after_steps, all_accepted, Fix, set_below}
 use Rattle.nr_peel.proofs.TableGridFacts.{checks_sound}
 use Rattle.nr_peel.proofs.FixOrderFacts.{accepts_alike, judged_more, refused_here, accepted_says, steps_stay}
 use Rattle.nr_peel.proofs.CodewordFacts.{words_agree}
 use Rattle.nr_peel.proofs.check.check_order.Goals as goal
-use Rattle.nr_ldpcenc.proofs.CodewordFacts.{set_below}
 
 pub invariant_of-lifted : goal.invariant_of-lifted
 invariant_of-lifted c = record { in_sets = set_below c.args.plan.now.z c.args.plan.now.set c.args.plan.now.sound.set_is; inverse = c.reciprocal.ensures }

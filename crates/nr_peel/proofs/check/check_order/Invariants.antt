@@ -1,7 +1,4 @@
-use Rattle.std.proofs.Common.{◌≡◌, length}
-use Rattle.nr_bitvec.specs.Bit.{bit}
-use Rattle.nr_segment.specs.CodeBlock.{numbers}
-use Rattle.nr_ldpcenc.specs.Rows.{block_checks}
+use Rattle.nr_peel.proofs.Common.{◌≡◌, length, bit, numbers, block_checks}
 use Rattle.nr_peel.proofs.FixOrderFacts.{IsJudged}
 use Rattle.nr_peel.proofs.check.check_order.Given as goal
 

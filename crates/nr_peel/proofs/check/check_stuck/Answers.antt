@@ -1,12 +1,8 @@
-use Rattle.std.proofs.Common.{arith}
-use Rattle.nr_bitvec.specs.Bit.{bit}
-use Rattle.nr_segment.specs.CodeBlock.{numbers}
-use Rattle.nr_ldpcenc.specs.Rows.{block_checks}
+use Rattle.nr_peel.proofs.Common.{arith, bit, numbers, block_checks, set_below}
 use Rattle.nr_peel.proofs.LeftPositionFacts.{stops_out}
 use Rattle.nr_peel.proofs.StoppingCheckFacts.{stops_orders}
 use Rattle.nr_peel.proofs.TableGridFacts.{checks_sound}
 use Rattle.nr_peel.proofs.check.check_stuck.Goals as goal
-use Rattle.nr_ldpcenc.proofs.CodewordFacts.{set_below}
 
 pub invariant_of-lifted : goal.invariant_of-lifted
 invariant_of-lifted c = record { in_sets = set_below c.args.plan.now.z c.args.plan.now.set c.args.plan.now.sound.set_is; inverse = c.reciprocal.ensures }

@@ -1,5 +1,4 @@
-use Rattle.std.proofs.Common.{◌≡◌, nat_lt, take}
-use Rattle.std.specs.Prelude.{count_by}
+use Rattle.nr_peel.proofs.Common.{◌≡◌, nat_lt, take, count_by}
 use Rattle.nr_peel.proofs.check.count_below.Given as goal
 
 -- how many positions so far are below the bound

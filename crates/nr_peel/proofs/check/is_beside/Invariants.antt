@@ -1,4 +1,4 @@
-use Rattle.nr_bitvec.specs.Bit.{bit}
+use Rattle.nr_peel.proofs.Common.{bit}
 use Rattle.nr_peel.proofs.StoppingCheckFacts.{IsBesideSo}
 use Rattle.nr_peel.proofs.check.is_beside.Given as goal
 

@@ -1,9 +1,4 @@
-use Rattle.std.proofs.Common.{◌≡◌, ℕ, cond, [], ap, sym, ◌∙◌, arith}
-use Rattle.nr_shifttable.specs.declared.entry.Entry.{Entry}
-use Rattle.nr_shifttable.specs.Accepted.{entries_in, row_of}
-use Rattle.nr_shifttable.specs.Tails.{value_in}
-use Rattle.nr_ldpcenc.specs.Rows.{one_at}
-use Rattle.nr_peel.specs.Closure.{stands}
+use Rattle.nr_peel.proofs.Common.{◌≡◌, ℕ, cond, [], ap, sym, ◌∙◌, arith, Entry, entries_in, row_of, value_in, one_at, stands}
 use Rattle.nr_peel.proofs.StoppingCheckFacts.{member_more, search_is}
 use Rattle.nr_peel.proofs.check.members.Goals as goal
 use Rattle.nr_peel.proofs.check.members.Goals.{then-is_ok, else-is_ok}

@@ -1,7 +1,4 @@
-use Rattle.std.proofs.Common.{◌≡◌, take}
-use Rattle.std.specs.Prelude.{count_by}
-use Rattle.nr_peel.specs.Closure.{stands}
-use Rattle.nr_peel.specs.StateInside.{lifted_checks}
+use Rattle.nr_peel.proofs.Common.{◌≡◌, take, count_by, stands, lifted_checks}
 use Rattle.nr_peel.proofs.check.members.Given as goal
 
 -- how many of the row's positions so far are members

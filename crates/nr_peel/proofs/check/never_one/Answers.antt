@@ -1,7 +1,4 @@
-use Rattle.std.proofs.Common.{◌≢◌, ◌*◌, refl, ap, arith}
-use Rattle.std.specs.Prelude.{count_by}
-use Rattle.nr_peel.specs.Closure.{stands}
-use Rattle.nr_peel.specs.StateInside.{lifted_checks}
+use Rattle.nr_peel.proofs.Common.{◌≢◌, ◌*◌, refl, ap, arith, count_by, stands, lifted_checks}
 use Rattle.nr_peel.proofs.StoppingCheckFacts.{row_at_number}
 use Rattle.nr_peel.proofs.check.never_one.Goals as goal
 

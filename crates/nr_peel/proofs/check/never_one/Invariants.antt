@@ -1,7 +1,4 @@
-use Rattle.std.proofs.Common.{◌≢◌, ℕ, ◌<◌, ◌/◌, ◌%◌}
-use Rattle.std.specs.Prelude.{count_by}
-use Rattle.nr_peel.specs.Closure.{stands}
-use Rattle.nr_peel.specs.StateInside.{lifted_checks}
+use Rattle.nr_peel.proofs.Common.{◌≢◌, ℕ, ◌<◌, ◌/◌, ◌%◌, count_by, stands, lifted_checks}
 use Rattle.nr_peel.proofs.check.never_one.Given as goal
 
 -- no row so far has exactly one member

@@ -1,5 +1,4 @@
-use Rattle.std.proofs.Common.{◌≡◌, ◌*◌, ◌/◌, arith}
-use Rattle.std.proofs.lemmas.Nat.{div-add-mod'}
+use Rattle.nr_peel.proofs.Common.{◌≡◌, ◌*◌, ◌/◌, arith, div-add-mod'}
 use Rattle.nr_peel.proofs.QuotientFacts.{quotient}
 use Rattle.nr_peel.proofs.lifted.remainder.Goals as goal
 use Rattle.nr_peel.proofs.lifted.remainder.Goals.{After-from}

@@ -1,5 +1,4 @@
-use Rattle.std.proofs.Common.{◌≡◌, ◌<◌, ℕ, false, length}
-use Rattle.nr_bitvec.specs.Bit.{bit}
+use Rattle.nr_peel.proofs.Common.{◌≡◌, ◌<◌, ℕ, false, length, bit}
 use Rattle.nr_peel.proofs.rounds.clear.Given as goal
 
 -- the bits so far are zero

@@ -1,15 +1,8 @@
-use Rattle.std.proofs.Common.{sym, ◌∙◌, arith}
-use Rattle.std.proofs.lemmas.List.{length-replicate}
-use Rattle.nr_bitvec.specs.Bit.{bit}
-use Rattle.nr_segment.specs.CodeBlock.{numbers}
-use Rattle.nr_ldpcenc.specs.Rows.{block_checks}
-use Rattle.nr_peel.specs.Closure.{closure}
+use Rattle.nr_peel.proofs.Common.{sym, ◌∙◌, arith, length-replicate, bit, numbers, block_checks, closure, marked-le, set_below}
 use Rattle.nr_peel.proofs.ClosureFacts.{closure_closed, closure_keeps, round_keeps, round_within}
 use Rattle.nr_peel.proofs.TableGridFacts.{checks_sound}
 use Rattle.nr_peel.proofs.RoundFacts.{round_grows, rounds_done}
 use Rattle.nr_peel.proofs.rounds.close.Goals as goal
-use Rattle.nr_lifting.proofs.LaneBitFacts.{marked-le}
-use Rattle.nr_ldpcenc.proofs.CodewordFacts.{set_below}
 
 pub invariant_of-lifted : goal.invariant_of-lifted
 invariant_of-lifted c = record { in_sets = set_below c.args.plan.now.z c.args.plan.now.set c.args.plan.now.sound.set_is; inverse = c.reciprocal.ensures }

@@ -1,10 +1,4 @@
-use Rattle.std.proofs.Common.{◌≡◌, ◌-◌, length}
-use Rattle.nr_bitvec.specs.Bit.{bit}
-use Rattle.nr_segment.specs.CodeBlock.{numbers}
-use Rattle.nr_ldpcenc.specs.Rows.{block_checks}
-use Rattle.nr_peel.specs.Closure.{Within, closure}
-use Rattle.nr_peel.specs.Rounds.{HasLanes}
-use Rattle.nr_lifting.specs.Rings.{marked}
+use Rattle.nr_peel.proofs.Common.{◌≡◌, ◌-◌, length, bit, numbers, block_checks, Within, closure, HasLanes, marked}
 use Rattle.nr_peel.proofs.rounds.close.Given as goal
 
 -- what was known is known, and all that is known is in the closure

@@ -1,8 +1,4 @@
-use Rattle.std.proofs.Common.{◌≡◌, ℕ, ◌+◌, ◌||◌, ◌&&◌, Bool, true, false, length, sym, ap, ◌∙◌, arith}
-use Rattle.nr_bitvec.specs.Bit.{bit}
-use Rattle.nr_bitvec.specs.BitList.{BitList}
-use Rattle.nr_peel.specs.Closure.{any_below, stands}
-use Rattle.nr_peel.specs.Rounds.{counts_one, row_in}
+use Rattle.nr_peel.proofs.Common.{◌≡◌, ℕ, ◌+◌, ◌||◌, ◌&&◌, Bool, true, false, length, sym, ap, ◌∙◌, arith, bit, BitList, any_below, stands, counts_one, row_in}
 use Rattle.nr_peel.proofs.RoundFacts.{added_twice, any_below-more, any_more_no, any_more_yes}
 use Rattle.nr_peel.proofs.rounds.complete.Goals as goal
 use Rattle.nr_peel.proofs.rounds.complete.Goals.{then-is_one, else-is_one}

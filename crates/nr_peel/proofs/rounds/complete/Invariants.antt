@@ -1,7 +1,4 @@
-use Rattle.std.proofs.Common.{◌≡◌, ◌||◌, ◌&&◌, ℕ, length}
-use Rattle.nr_bitvec.specs.Bit.{bit}
-use Rattle.nr_peel.specs.Closure.{any_below, stands}
-use Rattle.nr_peel.specs.Rounds.{counts_one, row_in}
+use Rattle.nr_peel.proofs.Common.{◌≡◌, ◌||◌, ◌&&◌, ℕ, length, bit, any_below, stands, counts_one, row_in}
 use Rattle.nr_peel.proofs.rounds.complete.Given as goal
 
 -- the rows so far that were counted once are marked

@@ -1,10 +1,5 @@
-use Rattle.std.proofs.Common.{◌≡◌, ℕ, ◌<◌, ◌||◌, sym, ap, ◌∙◌, arith}
-use Rattle.nr_bitvec.specs.Bit.{bit}
-use Rattle.nr_graphpick.specs.Graph.{rows_of}
-use Rattle.nr_segment.specs.CodeBlock.{numbers}
-use Rattle.nr_peel.specs.Closure.{any_below}
-use Rattle.nr_peel.specs.Rounds.{lacks_one, some_lacks_one}
-use Rattle.nr_peel.specs.StateInside.{lifted_checks}
+use Rattle.nr_peel.proofs.Common.{◌≡◌, ℕ, ◌<◌, ◌||◌, sym, ap, ◌∙◌, arith, bit, rows_of, numbers, any_below, lacks_one, lifted_checks}
+use Rattle.nr_peel.specs.Rounds.{some_lacks_one}
 use Rattle.nr_peel.proofs.TableGridFacts.{checks_sound}
 use Rattle.nr_peel.proofs.RoundFacts.{added_twice, any_below-more, any_more_no, any_more_yes, counted_marks, counted_some, is_completed, round_marks, row_fits}
 use Rattle.nr_peel.proofs.rounds.go_round.Goals as goal

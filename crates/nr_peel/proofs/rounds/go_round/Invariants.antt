@@ -1,8 +1,4 @@
-use Rattle.std.proofs.Common.{◌≡◌, ◌||◌, ℕ, length}
-use Rattle.nr_bitvec.specs.Bit.{bit}
-use Rattle.nr_peel.specs.Closure.{any_below}
-use Rattle.nr_peel.specs.Rounds.{HasLanes, lacks_one}
-use Rattle.nr_peel.specs.StateInside.{lifted_checks}
+use Rattle.nr_peel.proofs.Common.{◌≡◌, ◌||◌, ℕ, length, bit, any_below, HasLanes, lacks_one, lifted_checks}
 use Rattle.nr_peel.proofs.RoundFacts.{is_completed}
 use Rattle.nr_peel.proofs.rounds.go_round.Given as goal
 

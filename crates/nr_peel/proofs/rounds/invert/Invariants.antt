@@ -1,5 +1,4 @@
-use Rattle.std.proofs.Common.{◌≡◌, ◌<◌, ℕ, not, length}
-use Rattle.nr_bitvec.specs.Bit.{bit}
+use Rattle.nr_peel.proofs.Common.{◌≡◌, ◌<◌, ℕ, not, length, bit}
 use Rattle.nr_peel.proofs.rounds.invert.Given as goal
 
 -- the positions so far are marked where they weren't

@@ -1,5 +1,4 @@
-use Rattle.std.proofs.Common.{arith}
-use Rattle.std.proofs.lemmas.List.{get_or-map, length-map, length-set}
+use Rattle.nr_peel.proofs.Common.{arith, get_or-map, length-map, length-set}
 use Rattle.nr_peel.proofs.RowPlaceFacts.{place_fits}
 use Rattle.nr_peel.proofs.RoundFacts.{marked_more}
 use Rattle.nr_peel.proofs.rounds.mark_row.Goals as goal

@@ -1,7 +1,4 @@
-use Rattle.std.proofs.Common.{◌≡◌, ◌||◌, ℕ, length, take}
-use Rattle.nr_bitvec.specs.Bit.{bit}
-use Rattle.nr_peel.specs.Closure.{stands}
-use Rattle.nr_peel.specs.Rounds.{row_in}
+use Rattle.nr_peel.proofs.Common.{◌≡◌, ◌||◌, ℕ, length, take, bit, stands, row_in}
 use Rattle.nr_peel.proofs.rounds.mark_row.Given as goal
 
 -- the row's positions so far are marked, and nothing else

@@ -1,7 +1,5 @@
-use Rattle.std.proofs.Common.{◌++◌, sym, ap, ◌∙◌, arith}
-use Rattle.std.specs.List.{filter, range_with_len}
+use Rattle.nr_peel.proofs.Common.{◌++◌, sym, ap, ◌∙◌, arith, filter, range_with_len, shr_and_one}
 use Rattle.std.proofs.lemmas.List.{append-nil}
-use Rattle.std.proofs.lemmas.Nat.Bits.{shr_and_one}
 use Rattle.nr_peel.proofs.UnknownFacts.{full_missing, is_missing, kept_in, kept_out, marked_where, missing_where}
 use Rattle.nr_peel.proofs.unknown.push_unknown.Goals as goal
 use Rattle.nr_peel.proofs.unknown.push_unknown.Goals.{then-word-j-eq0+in_ok-push, else-word-j-eq0}

@@ -1,5 +1,4 @@
-use Rattle.std.proofs.Common.{◌≡◌, ◌++◌}
-use Rattle.std.specs.List.{filter, range_with_len}
+use Rattle.nr_peel.proofs.Common.{◌≡◌, ◌++◌, filter, range_with_len}
 use Rattle.nr_peel.proofs.UnknownFacts.{is_missing}
 use Rattle.nr_peel.proofs.unknown.push_unknown.Given as goal
 

@@ -1,13 +1,4 @@
-use Rattle.std.proofs.Common.{rules}
-use Rattle.std.proofs.lemmas.Bool.Decides.{nat_tests}
-use Rattle.std.proofs.Common.{◌≡◌, ◌≢◌, ◌+◌, ◌*◌, ◌/◌, ◌%◌, ◌<◌, ◌≤◌, ◌==◌, ℕ, Bool, List, cond, length, replicate, set, subst, refl, ap, ◌∙◌, arith}
-use Rattle.std.proofs.lemmas.Bool.{cases_lt}
-use Rattle.std.proofs.lemmas.Nat.Bits.{bit_at-lt}
-use Rattle.std.specs.Int.{bit_at}
-use Rattle.nr_bitvec.specs.Bit.{bit}
-use Rattle.nr_bitvec.specs.Packed.{place}
-use Rattle.nr_lifting.proofs.LaneViewFacts.{place-zeros}
-use Rattle.nr_lifting.proofs.LaneWordFacts.{IsWritten, written_more}
+use Rattle.nr_peel.proofs.Common.{rules, nat_tests, ◌≡◌, ◌≢◌, ◌+◌, ◌*◌, ◌/◌, ◌%◌, ◌<◌, ◌≤◌, ◌==◌, ℕ, Bool, List, cond, length, replicate, set, subst, refl, ap, ◌∙◌, arith, cases_lt, bit_at-lt, bit_at, bit, place, place-zeros, IsWritten, written_more}
 use Rattle.nr_peel.proofs.GivenLaneFacts.{digit_is, digit_test}
 use Rattle.nr_peel.proofs.bit_parallel.hearing.read_lane.Goals as goal
 

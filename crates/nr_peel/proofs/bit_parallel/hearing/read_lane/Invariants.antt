@@ -1,6 +1,4 @@
-use Rattle.std.proofs.Common.{◌+◌, cond}
-use Rattle.nr_bitvec.specs.Bit.{bit}
-use Rattle.nr_lifting.proofs.LaneWordFacts.{IsWritten}
+use Rattle.nr_peel.proofs.Common.{◌+◌, cond, bit, IsWritten}
 use Rattle.nr_peel.proofs.bit_parallel.hearing.read_lane.Given as goal
 
 -- the words before word i are read

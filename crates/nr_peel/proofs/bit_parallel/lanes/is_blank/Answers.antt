@@ -1,9 +1,4 @@
-use Rattle.std.proofs.lemmas.Bool.Decides.{nat_tests}
-use Rattle.std.proofs.Common.{arith}
-use Rattle.std.proofs.lemmas.Bool.{cases_eq, cases_lt, eqb-true}
-use Rattle.std.proofs.lemmas.List.{get_or_past}
-use Rattle.std.proofs.lemmas.Nat.{le_or_l, le_or_r}
-use Rattle.std.proofs.lemmas.Nat.Bits.{bit_at-zero}
+use Rattle.nr_peel.proofs.Common.{nat_tests, arith, cases_eq, cases_lt, eqb-true, get_or_past, le_or_l, le_or_r, bit_at-zero}
 use Rattle.nr_peel.proofs.bit_parallel.lanes.is_blank.Goals as goal
 
 pub loop-i-preserved : goal.loop-i-preserved

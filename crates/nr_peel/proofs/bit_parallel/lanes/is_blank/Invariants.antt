@@ -1,4 +1,4 @@
-use Rattle.std.proofs.Common.{◌<◌, ◌≤◌, ℕ, get_or}
+use Rattle.nr_peel.proofs.Common.{◌<◌, ◌≤◌, ℕ, get_or}
 use Rattle.nr_peel.proofs.bit_parallel.lanes.is_blank.Given as goal
 
 -- the words so far have no bit that isn't there

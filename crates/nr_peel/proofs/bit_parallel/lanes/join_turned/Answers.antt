@@ -1,6 +1,4 @@
-use Rattle.std.proofs.lemmas.Bool.Decides.{nat_tests}
-use Rattle.std.proofs.Common.{arith}
-use Rattle.std.proofs.lemmas.Nat.{mod_below}
+use Rattle.nr_peel.proofs.Common.{nat_tests, arith, mod_below}
 use Rattle.nr_peel.proofs.bit_parallel.lanes.join_turned.Goals as goal
 
 pub join-requires-clause-clear : goal.join-requires-clause-clear

@@ -1,12 +1,4 @@
-use Rattle.std.proofs.Common.{◌≡◌, ◌≤◌, ◌+◌, ◌*◌, ◌&&◌, ℕ, cond, [], get_or, take, refl, ap, ◌∙◌, arith}
-use Rattle.std.specs.Prelude.{count_by, slice_index}
-use Rattle.std.proofs.lemmas.Bool.{eq-eqb}
-use Rattle.std.proofs.lemmas.List.Sums.{sum_by-take-le}
-use Rattle.nr_bitvec.specs.Bit.{bit}
-use Rattle.nr_shifttable.specs.declared.entry.Entry.{Entry}
-use Rattle.nr_shifttable.specs.Tails.{value_in}
-use Rattle.nr_ldpcenc.specs.Rows.{one_at}
-use Rattle.nr_peel.specs.Lanes.{hits}
+use Rattle.nr_peel.proofs.Common.{◌≡◌, ◌≤◌, ◌+◌, ◌*◌, ◌&&◌, ℕ, cond, [], get_or, take, refl, ap, ◌∙◌, arith, count_by, slice_index, eq-eqb, sum_by-take-le, bit, Entry, value_in, one_at, hits}
 use Rattle.nr_peel.proofs.RowPositionFacts.{count_more}
 use Rattle.nr_peel.proofs.bit_parallel.lanes.lower_column.Goals as goal
 

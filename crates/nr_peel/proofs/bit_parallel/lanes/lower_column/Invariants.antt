@@ -1,8 +1,4 @@
-use Rattle.std.proofs.Common.{◌≡◌, ◌<◌, ◌≤◌, ◌+◌, ◌*◌, ℕ, length, take}
-use Rattle.std.specs.Prelude.{count_by, slice_index}
-use Rattle.nr_bitvec.specs.Bit.{bit}
-use Rattle.nr_peel.specs.Due.{due_in}
-use Rattle.nr_peel.specs.Lanes.{hits}
+use Rattle.nr_peel.proofs.Common.{◌≡◌, ◌<◌, ◌≤◌, ◌+◌, ◌*◌, ℕ, length, take, count_by, slice_index, bit, due_in, hits}
 use Rattle.nr_peel.proofs.bit_parallel.lanes.lower_column.Given as goal
 
 -- the counts have fallen by the entries so far

@@ -1,8 +1,4 @@
-use Rattle.std.proofs.Common.{[], get_or, sym, ap, ◌∙◌}
-use Rattle.nr_bitvec.specs.Bit.{◌⊕◌, bit}
-use Rattle.nr_shifttable.specs.declared.entry.Entry.{Entry}
-use Rattle.nr_shifttable.specs.Tails.{value_in}
-use Rattle.nr_ldpcenc.specs.Rows.{one_at}
+use Rattle.nr_peel.proofs.Common.{[], get_or, sym, ap, ◌∙◌, ◌⊕◌, bit, Entry, value_in, one_at}
 use Rattle.nr_peel.proofs.LaneSumFacts.{summed_more}
 use Rattle.nr_peel.proofs.bit_parallel.lanes.row_sum.Goals as goal
 

@@ -1,9 +1,4 @@
-use Rattle.std.proofs.Common.{◌≡◌, ◌<◌, ℕ, take}
-use Rattle.nr_bitvec.specs.Bit.{bit}
-use Rattle.nr_bitvec.specs.Packed.{IsClear}
-use Rattle.nr_lifting.specs.Rings.{is_set}
-use Rattle.nr_ldpcenc.specs.Parity.{parity}
-use Rattle.nr_ldpcenc.specs.Rows.{positions}
+use Rattle.nr_peel.proofs.Common.{◌≡◌, ◌<◌, ℕ, take, bit, IsClear, is_set, parity, positions}
 use Rattle.nr_peel.proofs.bit_parallel.lanes.row_sum.Given as goal
 
 -- the entries so far are summed

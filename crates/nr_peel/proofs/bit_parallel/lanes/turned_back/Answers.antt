@@ -1,4 +1,4 @@
-use Rattle.std.proofs.Common.{◌-◌, arith}
+use Rattle.nr_peel.proofs.Common.{◌-◌, arith}
 use Rattle.nr_peel.proofs.RowPlaceFacts.{mod_high, mod_low}
 use Rattle.nr_peel.proofs.bit_parallel.lanes.turned_back.Goals as goal
 

@@ -1,11 +1,4 @@
-use Rattle.std.proofs.Common.{rules}
-use Rattle.std.proofs.Common.{◌≡◌, ◌≤◌, ◌*◌, length, refl, sym, ap, ◌∙◌, arith, ◌+◌, ◌<◌, ◌^◌}
-use Rattle.std.proofs.Math.Nat.{mul-le-mul_right}
-use Rattle.nr_bitvec.specs.Bit.{bit}
-use Rattle.nr_graphpick.specs.Graph.{cols_of, rows_of}
-use Rattle.nr_segment.specs.CodeBlock.{numbers}
-use Rattle.nr_shifttable.specs.Accepted.{column_of, entries_in}
-use Rattle.nr_peel.specs.StateInside.{lifted_checks}
+use Rattle.nr_peel.proofs.Common.{rules, ◌≡◌, ◌≤◌, ◌*◌, length, refl, sym, ap, ◌∙◌, arith, ◌+◌, ◌<◌, ◌^◌, mul-le-mul_right, bit, cols_of, rows_of, numbers, column_of, entries_in, lifted_checks}
 use Rattle.nr_peel.proofs.FallingCountFacts.{column_inside, fallen_all, fallen_clear, fallen_enough, fallen_next, fallen_none, fallen_skip}
 use Rattle.nr_peel.proofs.TieFacts.{column_rows}
 use Rattle.nr_peel.proofs.bit_parallel.lowering.lower_all.Goals as goal

@@ -1,7 +1,4 @@
-use Rattle.std.proofs.Common.{◌≡◌, ◌≤◌, ◌+◌, ◌*◌, length}
-use Rattle.nr_bitvec.specs.Bit.{bit}
-use Rattle.nr_peel.specs.Due.{work_of}
-use Rattle.nr_peel.specs.StateInside.{lifted_checks}
+use Rattle.nr_peel.proofs.Common.{◌≡◌, ◌≤◌, ◌+◌, ◌*◌, length, bit, work_of, lifted_checks}
 use Rattle.nr_peel.proofs.FallingCountFacts.{HasFallen}
 use Rattle.nr_peel.proofs.bit_parallel.lowering.lower_all.Given as goal
 

@@ -1,8 +1,4 @@
-use Rattle.std.proofs.Common.{rules}
-use Rattle.std.proofs.Common.{◌*◌, length, refl, ap, ◌∙◌, arith, length-append}
-use Rattle.std.specs.Prelude.{vec_capacity}
-use Rattle.nr_lifting.specs.Rings.{is_set}
-use Rattle.nr_peel.specs.Lanes.{steps_below, rotated_step}
+use Rattle.nr_peel.proofs.Common.{rules, ◌*◌, length, refl, ap, ◌∙◌, arith, length-append, vec_capacity, is_set, steps_below, rotated_step}
 use Rattle.nr_peel.proofs.StepFacts.{join_steps, lane_room, lane_steps, row_inside, word_steps}
 use Rattle.nr_peel.proofs.bit_parallel.steps.push_lane.Goals as goal
 

@@ -1,7 +1,4 @@
-use Rattle.std.proofs.Common.{◌≡◌, ◌*◌, ◌++◌}
-use Rattle.std.specs.Prelude.{vec_capacity}
-use Rattle.nr_lifting.specs.Rings.{is_set}
-use Rattle.nr_peel.specs.Lanes.{steps_below, rotated_step}
+use Rattle.nr_peel.proofs.Common.{◌≡◌, ◌*◌, ◌++◌, vec_capacity, is_set, steps_below, rotated_step}
 use Rattle.nr_peel.proofs.bit_parallel.steps.push_lane.Given as goal
 
 -- the steps of the words before word i are there

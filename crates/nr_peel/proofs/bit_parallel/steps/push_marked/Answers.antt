@@ -1,9 +1,5 @@
-use Rattle.std.proofs.Common.{◌≡◌, ◌-◌, ◌==◌, ◌++◌, [], ◌∷◌, length, sym, ap, ◌∙◌, arith, append_assoc, length-append}
+use Rattle.nr_peel.proofs.Common.{◌≡◌, ◌-◌, ◌==◌, ◌++◌, [], ◌∷◌, length, sym, ap, ◌∙◌, arith, append_assoc, length-append, and_le_r, bit_at, bit_and, step_along, steps_below}
 use Rattle.std.proofs.lemmas.List.{append-nil}
-use Rattle.std.proofs.lemmas.Nat.{and_le_r}
-use Rattle.std.specs.Int.{bit_at}
-use Rattle.std.specs.Int.RustNames.{bit_and}
-use Rattle.nr_peel.specs.Lanes.{step_along, steps_below}
 use Rattle.nr_peel.proofs.StepFacts.{lowest_first, steps_count, zero_steps}
 use Rattle.nr_peel.proofs.bit_parallel.steps.push_marked.Goals as goal
 

@@ -1,7 +1,4 @@
-use Rattle.std.proofs.Common.{◌≡◌, ◌==◌, ◌++◌}
-use Rattle.std.specs.Prelude.{vec_capacity}
-use Rattle.std.specs.Int.{bit_at}
-use Rattle.nr_peel.specs.Lanes.{step_along, steps_below}
+use Rattle.nr_peel.proofs.Common.{◌≡◌, ◌==◌, ◌++◌, vec_capacity, bit_at, step_along, steps_below}
 use Rattle.nr_peel.proofs.bit_parallel.steps.push_marked.Given as goal
 
 -- the steps that are there and those of the rest are the word's

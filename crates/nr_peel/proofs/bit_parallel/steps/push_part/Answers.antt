@@ -1,11 +1,5 @@
-use Rattle.std.proofs.lemmas.Bool.Decides.{nat_tests}
-use Rattle.std.proofs.Common.{◌≡◌, ◌<◌, ◌≤◌, ◌^◌, ◌==◌, ◌++◌, ℕ, sym, ap, ◌∙◌, arith, true, refl}
+use Rattle.nr_peel.proofs.Common.{nat_tests, ◌≡◌, ◌<◌, ◌≤◌, ◌^◌, ◌==◌, ◌++◌, ℕ, sym, ap, ◌∙◌, arith, true, refl, bit_at_ones, bit_at, count_ones, ones_marked, step_after, step_along, step_number, steps_below}
 use Rattle.std.proofs.lemmas.List.{append-nil}
-use Rattle.std.proofs.lemmas.Nat.Bits.{bit_at_ones}
-use Rattle.std.specs.Int.{bit_at}
-use Rattle.std.specs.Int.RustNames.{count_ones}
-use Rattle.nr_lifting.proofs.LaneBitFacts.{ones_marked}
-use Rattle.nr_peel.specs.Lanes.{step_after, step_along, step_number, steps_below}
 use Rattle.nr_peel.proofs.StepFacts.{along_after, few_ones, zero_steps, steps_same, short_steps}
 use Rattle.nr_peel.proofs.bit_parallel.steps.push_part.Goals as goal
 

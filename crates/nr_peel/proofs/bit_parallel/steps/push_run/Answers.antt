@@ -1,5 +1,4 @@
-use Rattle.std.proofs.Common.{arith, length-append}
-use Rattle.nr_lifting.proofs.LaneBitFacts.{marked-le}
+use Rattle.nr_peel.proofs.Common.{arith, length-append, marked-le}
 use Rattle.nr_peel.proofs.StepFacts.{steps_count}
 use Rattle.nr_peel.proofs.bit_parallel.steps.push_run.Goals as goal
 

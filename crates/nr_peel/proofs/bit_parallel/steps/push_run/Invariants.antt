@@ -1,6 +1,4 @@
-use Rattle.std.proofs.Common.{◌≡◌, ◌+◌, ◌*◌, ◌^◌, ◌++◌, true}
-use Rattle.std.specs.Prelude.{vec_capacity}
-use Rattle.nr_peel.specs.Lanes.{step_along, steps_below}
+use Rattle.nr_peel.proofs.Common.{◌≡◌, ◌+◌, ◌*◌, ◌^◌, ◌++◌, true, vec_capacity, step_along, steps_below}
 use Rattle.nr_peel.proofs.bit_parallel.steps.push_run.Given as goal
 
 -- the steps of the first b rows are there

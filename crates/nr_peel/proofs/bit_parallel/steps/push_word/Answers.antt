@@ -1,13 +1,8 @@
-use Rattle.std.proofs.lemmas.Bool.Decides.{nat_tests}
-use Rattle.std.proofs.Common.{◌≡◌, ◌<◌, ◌≤◌, ◌+◌, ◌-◌, ◌*◌, ◌/◌, ◌^◌, ◌==◌, ◌++◌, ℕ, length, sym, ap, ◌∙◌, arith, length-append}
-use Rattle.std.proofs.Math.Nat.{mul-le-mul_right}
+use Rattle.nr_peel.proofs.Common.{nat_tests, ◌≡◌, ◌<◌, ◌≤◌, ◌+◌, ◌-◌, ◌*◌, ◌/◌, ◌^◌, ◌==◌, ◌++◌, ℕ, length, sym, ap, ◌∙◌, arith, length-append, mul-le-mul_right, bit_at, rotated_step, step_after, steps_below, marked}
 use Rattle.std.proofs.lemmas.List.{append-nil}
-use Rattle.std.specs.Int.{bit_at}
-use Rattle.nr_peel.specs.Lanes.{rotated_step, step_after, steps_below}
 use Rattle.nr_peel.proofs.StepFacts.{ahead_steps, high_steps, join_steps, steps_count, turned_steps, zero_steps, split_marks}
 use Rattle.nr_peel.proofs.bit_parallel.steps.push_word.Goals as goal
 use Rattle.nr_peel.proofs.bit_parallel.steps.push_word.Goals.{After-low_bits-low}
-use Rattle.nr_lifting.specs.Rings.{marked}
 
 block_fits : (col size : ℕ) → col < 2 ^ 16 → size ≤ 384 → col * size ≤ 2 ^ 16 * 384
 block_fits col size small few = grind (arith, mul-le-mul_right)

@@ -1,9 +1,4 @@
-use Rattle.std.proofs.Common.{◌≡◌, ◌+◌, ◌*◌, ◌<◌, if◌then◌else◌, length, sym, ap, ◌∙◌, ⊎_elim, arith}
-use Rattle.std.specs.Prelude.{slice_index}
-use Rattle.std.proofs.Math.Nat.{mul-le-mul_right}
-use Rattle.std.proofs.lemmas.Bool.{eq-eqb, ne_eqb}
-use Rattle.std.proofs.lemmas.List.{length-map, length-replicate}
-use Rattle.nr_shifttable.specs.Accepted.{entries_in, row_of}
+use Rattle.nr_peel.proofs.Common.{◌≡◌, ◌+◌, ◌*◌, ◌<◌, if◌then◌else◌, length, sym, ap, ◌∙◌, ⊎_elim, arith, slice_index, mul-le-mul_right, eq-eqb, ne_eqb, length-map, length-replicate, entries_in, row_of}
 use Rattle.nr_peel.proofs.ClosureFacts.{cases_below}
 use Rattle.nr_peel.proofs.TableGridFacts.{rows_short}
 use Rattle.nr_peel.proofs.bit_parallel.sweep.degrees.Goals as goal

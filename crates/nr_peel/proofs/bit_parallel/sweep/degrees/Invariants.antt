@@ -1,7 +1,4 @@
-use Rattle.std.proofs.Common.{◌≡◌, ◌<◌, ◌+◌, ◌*◌, ℕ, length}
-use Rattle.std.specs.Prelude.{slice_index}
-use Rattle.nr_shifttable.specs.Accepted.{entries_in, row_of}
-use Rattle.nr_peel.specs.StateInside.{lifted_checks}
+use Rattle.nr_peel.proofs.Common.{◌≡◌, ◌<◌, ◌+◌, ◌*◌, ℕ, length, slice_index, entries_in, row_of, lifted_checks}
 use Rattle.nr_peel.proofs.bit_parallel.sweep.degrees.Given as goal
 
 -- the rows so far have their counts

@@ -1,7 +1,4 @@
-use Rattle.std.proofs.lemmas.Bool.Decides.{nat_tests}
-use Rattle.std.proofs.Common.{◌≡◌, arith}
-use Rattle.std.proofs.lemmas.List.{length-replicate, length-set}
-use Rattle.nr_peel.specs.StateInside.{lifted_checks}
+use Rattle.nr_peel.proofs.Common.{nat_tests, ◌≡◌, arith, length-replicate, length-set, lifted_checks}
 use Rattle.nr_peel.proofs.FillerFacts.{filler_more, filler_none, fillers_are, fillers_fit, get_or-same}
 use Rattle.nr_peel.proofs.TieFacts.{bit-mark}
 use Rattle.nr_peel.proofs.bit_parallel.sweep_peeler.filler_marks.Goals as goal

@@ -1,7 +1,4 @@
-use Rattle.std.proofs.Common.{◌≡◌, ℕ, length}
-use Rattle.nr_bitvec.specs.Bit.{bit}
-use Rattle.nr_ldpcenc.specs.Codeword.{filler}
-use Rattle.nr_peel.specs.StateInside.{lifted_checks}
+use Rattle.nr_peel.proofs.Common.{◌≡◌, ℕ, length, bit, filler, lifted_checks}
 use Rattle.nr_peel.proofs.bit_parallel.sweep_peeler.filler_marks.Given as goal
 
 -- the fillers so far are marked

@@ -1,4 +1,4 @@
-use Rattle.std.proofs.Common.{◌≡◌, ◌+◌, ◌*◌, subst, arith}
+use Rattle.nr_peel.proofs.Common.{◌≡◌, ◌+◌, ◌*◌, subst, arith}
 use Rattle.nr_peel.proofs.JoinedMarkFacts.{AreJoined, joined_all, joined_next, joined_none}
 use Rattle.nr_peel.proofs.bit_parallel.sweep_peeler.join_marks.Goals as goal
 

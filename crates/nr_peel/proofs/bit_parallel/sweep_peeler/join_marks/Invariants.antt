@@ -1,4 +1,4 @@
-use Rattle.std.proofs.Common.{◌*◌}
+use Rattle.nr_peel.proofs.Common.{◌*◌}
 use Rattle.nr_peel.proofs.JoinedMarkFacts.{AreJoined}
 use Rattle.nr_peel.proofs.bit_parallel.sweep_peeler.join_marks.Given as goal
 

@@ -1,11 +1,8 @@
-use Rattle.std.proofs.Common.{refl, sym, ◌∙◌, arith}
-use Rattle.nr_peel.specs.State.{sweep_peeler_view}
-use Rattle.nr_peel.specs.declared.lifted.Lifted.{Lifted}
+use Rattle.nr_peel.proofs.Common.{refl, sym, ◌∙◌, arith, sweep_peeler_view, Lifted, set_below}
 use Rattle.nr_peel.proofs.FillerFacts.{fillers_fit}
 use Rattle.nr_peel.proofs.NothingHeardFacts.{pending_left}
 use Rattle.nr_peel.proofs.SweepViewFacts.{sweep_peeled}
 use Rattle.nr_peel.proofs.peeler.Peeler.new.Goals as goal
-use Rattle.nr_ldpcenc.proofs.CodewordFacts.{set_below}
 
 pub invariant_of-lifted : goal.invariant_of-lifted
 invariant_of-lifted c = record { in_sets = set_below c.args.plan.now.z c.args.plan.now.set c.args.plan.now.sound.set_is; inverse = c.reciprocal.ensures }

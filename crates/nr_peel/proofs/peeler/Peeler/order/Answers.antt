@@ -1,4 +1,4 @@
-use Rattle.std.proofs.Common.{arith}
+use Rattle.nr_peel.proofs.Common.{arith}
 use Rattle.nr_peel.proofs.LeftPositionFacts.{whole_order}
 use Rattle.nr_peel.proofs.LearningFacts.{kdash_fits}
 use Rattle.nr_peel.proofs.SweepViewFacts.{sweep_peeled}

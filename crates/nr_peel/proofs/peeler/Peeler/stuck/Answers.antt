@@ -1,8 +1,6 @@
-use Rattle.std.proofs.Common.{arith}
-use Rattle.nr_segment.specs.CodeBlock.{numbers}
+use Rattle.nr_peel.proofs.Common.{arith, numbers, sweep_peeler_view}
 use Rattle.nr_peel.proofs.TableGridFacts.{checks_sound}
 use Rattle.nr_peel.proofs.LeftPositionFacts.{stuck_has, stuck_stops}
-use Rattle.nr_peel.specs.State.{sweep_peeler_view}
 use Rattle.nr_peel.proofs.LearningFacts.{kdash_fits}
 use Rattle.nr_peel.proofs.SweepViewFacts.{sweep_peeled}
 use Rattle.nr_peel.proofs.peeler.Peeler.stuck.Goals as goal

@@ -1,11 +1,4 @@
-use Rattle.std.proofs.Common.{ℕ, ◌+◌, ◌*◌, ◌%◌, ◌||◌, ◌&&◌, nat_lt, Bool, cond, [], get_or, take, sym, ap, ◌∙◌, arith}
-use Rattle.std.specs.Prelude.{count_by}
-use Rattle.std.proofs.lemmas.List.{get_or-map, length-map}
-use Rattle.nr_bitvec.specs.Bit.{bit}
-use Rattle.nr_shifttable.specs.declared.entry.Entry.{Entry}
-use Rattle.nr_shifttable.specs.Tails.{value_in}
-use Rattle.nr_ldpcenc.specs.Rows.{one_at}
-use Rattle.nr_peel.specs.Rounds.{row_in}
+use Rattle.nr_peel.proofs.Common.{ℕ, ◌+◌, ◌*◌, ◌%◌, ◌||◌, ◌&&◌, nat_lt, Bool, cond, [], get_or, take, sym, ap, ◌∙◌, arith, count_by, get_or-map, length-map, bit, Entry, value_in, one_at, row_in}
 use Rattle.nr_peel.proofs.RowPositionFacts.{count_more}
 use Rattle.nr_peel.proofs.RoundFacts.{tally_more, tally_ones}
 use Rattle.nr_peel.proofs.rounds.Tally.count.Goals as goal

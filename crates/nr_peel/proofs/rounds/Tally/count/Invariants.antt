@@ -1,7 +1,4 @@
-use Rattle.std.proofs.Common.{◌≡◌, ◌<◌, ℕ, nat_lt, take}
-use Rattle.std.specs.Prelude.{count_by}
-use Rattle.nr_bitvec.specs.Bit.{bit}
-use Rattle.nr_peel.specs.Rounds.{HasLanes, row_in}
+use Rattle.nr_peel.proofs.Common.{◌≡◌, ◌<◌, ℕ, nat_lt, take, count_by, bit, HasLanes, row_in}
 use Rattle.nr_peel.proofs.rounds.Tally.count.Given as goal
 
 -- whether each row's positions so far have a marked one, and several

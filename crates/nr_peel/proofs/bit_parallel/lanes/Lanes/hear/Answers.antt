@@ -1,13 +1,7 @@
-use Rattle.std.proofs.Common.{◌≡◌, refl, ◌∙◌, arith, ℕ}
-use Rattle.std.proofs.Math.Nat.{mul-le-mul_right}
-use Rattle.nr_bitvec.specs.Bit.{bit}
-use Rattle.nr_graphpick.specs.Graph.{cols_of}
-use Rattle.nr_peel.specs.Hearing.{news}
-use Rattle.nr_peel.specs.StateInside.{lifted_checks}
+use Rattle.nr_peel.proofs.Common.{◌≡◌, refl, ◌∙◌, arith, ℕ, mul-le-mul_right, bit, cols_of, news, lifted_checks, is_set, lane_marks}
 use Rattle.nr_peel.proofs.GivenLaneFacts.{lane_new, told_all, told_fresh, told_next, told_none, told_skip}
 use Rattle.nr_peel.proofs.bit_parallel.lanes.Lanes.hear.Goals as goal
 use Rattle.nr_peel.proofs.bit_parallel.lanes.Lanes.hear.Goals.{After-lacking-lane, else-not-is_blank, then-not-is_blank}
-use Rattle.nr_lifting.specs.Rings.{is_set, lane_marks}
 use Rattle.nr_peel.proofs.ColumnFacts.{in_column}
 
 pub loop-j-init : goal.loop-j-init

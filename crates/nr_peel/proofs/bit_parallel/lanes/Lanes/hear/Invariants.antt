@@ -1,5 +1,4 @@
-use Rattle.nr_bitvec.specs.Bit.{bit}
-use Rattle.nr_peel.specs.Hearing.{news}
+use Rattle.nr_peel.proofs.Common.{bit, news}
 use Rattle.nr_peel.proofs.GivenLaneFacts.{AreTold}
 use Rattle.nr_peel.proofs.bit_parallel.lanes.Lanes.hear.Given as goal
 

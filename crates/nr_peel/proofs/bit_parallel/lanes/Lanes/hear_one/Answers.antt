@@ -1,8 +1,4 @@
-use Rattle.std.proofs.Common.{rules}
-use Rattle.std.proofs.Common.{◌≡◌, ℕ, ◌==◌, ◌||◌, true, refl, sym, ap, ◌∙◌, arith}
-use Rattle.std.proofs.lemmas.Bool.{eqb-true}
-use Rattle.nr_bitvec.specs.Bit.{bit}
-use Rattle.nr_peel.specs.StateInside.{lifted_checks}
+use Rattle.nr_peel.proofs.Common.{rules, ◌≡◌, ℕ, ◌==◌, ◌||◌, true, refl, sym, ap, ◌∙◌, arith, eqb-true, bit, lifted_checks}
 use Rattle.nr_peel.proofs.LaneStepFacts.{outside}
 use Rattle.nr_peel.proofs.GivenLaneFacts.{one_clear, one_marks, one_told}
 use Rattle.nr_peel.proofs.bit_parallel.lanes.Lanes.hear_one.Goals as goal

@@ -1,11 +1,4 @@
-use Rattle.std.proofs.Common.{rules}
-use Rattle.std.proofs.Common.{◌≡◌, ◌+◌, ◌-◌, ◌*◌, ◌/◌, ◌≤◌, ◌<◌, ℕ, length, sym, ap, ◌∙◌, arith}
-use Rattle.std.proofs.Math.Nat.{mul-le-mul_right}
-use Rattle.nr_graphpick.specs.Graph.{cols_of, info_cols_of}
-use Rattle.nr_lifting.specs.Rings.{is_set}
-use Rattle.nr_lifting.proofs.LaneBitFacts.{marked-le}
-use Rattle.nr_peel.specs.Peeling.{left_of}
-use Rattle.nr_peel.specs.declared.lifted.Lifted.{Lifted}
+use Rattle.nr_peel.proofs.Common.{rules, ◌≡◌, ◌+◌, ◌-◌, ◌*◌, ◌/◌, ◌≤◌, ◌<◌, ℕ, length, sym, ap, ◌∙◌, arith, mul-le-mul_right, cols_of, info_cols_of, is_set, marked-le, left_of, Lifted}
 use Rattle.nr_peel.proofs.FillerFacts.{fillers_fit}
 use Rattle.nr_peel.proofs.LeftPositionFacts.{info_rotations, left_column, left_end, left_and_known}
 use Rattle.nr_peel.proofs.bit_parallel.lanes.Lanes.left.Goals as goal

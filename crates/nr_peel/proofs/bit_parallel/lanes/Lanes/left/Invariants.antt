@@ -1,5 +1,4 @@
-use Rattle.std.proofs.Common.{◌≡◌, ◌*◌}
-use Rattle.nr_peel.specs.Peeling.{left_of}
+use Rattle.nr_peel.proofs.Common.{◌≡◌, ◌*◌, left_of}
 use Rattle.nr_peel.proofs.bit_parallel.lanes.Lanes.left.Given as goal
 
 -- the columns before column j are counted

@@ -1,9 +1,4 @@
-use Rattle.std.proofs.Common.{◌≡◌, ℕ, ◌-◌, ◌%◌, ◌<◌, ◌==◌, ◌&&◌, ◌||◌, ◌++◌, sym, ap, ◌∙◌, arith}
-use Rattle.nr_bitvec.specs.Bit.{bit}
-use Rattle.nr_lifting.specs.Rings.{IsRotated, is_set}
-use Rattle.nr_lifting.proofs.LaneBitFacts.{marked-same}
-use Rattle.nr_shifttable.specs.Tails.{value_in}
-use Rattle.nr_peel.specs.Lanes.{lacks, rotated_step}
+use Rattle.nr_peel.proofs.Common.{◌≡◌, ℕ, ◌-◌, ◌%◌, ◌<◌, ◌==◌, ◌&&◌, ◌||◌, ◌++◌, sym, ap, ◌∙◌, arith, bit, IsRotated, is_set, marked-same, value_in, lacks, rotated_step}
 use Rattle.nr_peel.proofs.LaneMarkFacts.{lacking, marks_none, no_steps, rotated_marks, turned_count, turned_marks}
 use Rattle.nr_peel.proofs.LaneStepFacts.{mark_missing, outside}
 use Rattle.nr_peel.proofs.StepFacts.{steps_same}

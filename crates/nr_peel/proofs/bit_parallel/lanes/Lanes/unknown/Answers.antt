@@ -1,6 +1,4 @@
-use Rattle.std.proofs.Common.{◌≡◌, ◌*◌, ◌++◌, ap, ◌∙◌, arith}
-use Rattle.std.specs.List.{filter, range_with_len}
-use Rattle.nr_peel.specs.StateInside.{lifted_checks}
+use Rattle.nr_peel.proofs.Common.{◌≡◌, ◌*◌, ◌++◌, ap, ◌∙◌, arith, filter, range_with_len, lifted_checks}
 use Rattle.nr_peel.proofs.UnknownFacts.{is_missing, listed_more}
 use Rattle.nr_peel.proofs.bit_parallel.lanes.Lanes.unknown.Goals as goal
 

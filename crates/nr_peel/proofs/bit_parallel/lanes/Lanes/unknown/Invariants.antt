@@ -1,6 +1,4 @@
-use Rattle.std.proofs.Common.{◌≡◌, ◌-◌, ◌≤◌, not}
-use Rattle.std.specs.List.{filter, range_with_len}
-use Rattle.nr_bitvec.specs.Bit.{bit}
+use Rattle.nr_peel.proofs.Common.{◌≡◌, ◌-◌, ◌≤◌, not, filter, range_with_len, bit}
 use Rattle.nr_peel.proofs.bit_parallel.lanes.Lanes.unknown.Given as goal
 
 abbrev pub decreases-loop-at : goal.decreases-loop-at

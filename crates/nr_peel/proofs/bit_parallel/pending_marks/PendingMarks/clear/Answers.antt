@@ -1,4 +1,4 @@
-use Rattle.std.proofs.Common.{arith}
+use Rattle.nr_peel.proofs.Common.{arith}
 use Rattle.nr_peel.proofs.DueBlockFacts.{marks_low, marks_clear}
 use Rattle.nr_peel.proofs.bit_parallel.pending_marks.PendingMarks.clear.Goals as goal
 

@@ -1,6 +1,4 @@
-use Rattle.std.proofs.Common.{arith}
-use Rattle.nr_lifting.specs.Rings.{is_set}
-use Rattle.nr_lifting.proofs.LaneBitFacts.{marked-le}
+use Rattle.nr_peel.proofs.Common.{arith, is_set, marked-le}
 use Rattle.nr_peel.proofs.DueBlockFacts.{marks_low, marks_join}
 use Rattle.nr_peel.proofs.bit_parallel.pending_marks.PendingMarks.join.Goals as goal
 

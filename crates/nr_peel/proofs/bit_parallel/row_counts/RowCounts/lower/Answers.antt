@@ -1,5 +1,4 @@
-use Rattle.std.proofs.Common.{◌+◌, ◌%◌, ◌*◌, arith}
-use Rattle.nr_bitvec.specs.Bit.{bit}
+use Rattle.nr_peel.proofs.Common.{◌+◌, ◌%◌, ◌*◌, arith, bit}
 use Rattle.nr_peel.proofs.DueBlockFacts.{kept_low, due_more, kept_lower}
 use Rattle.nr_peel.proofs.bit_parallel.row_counts.RowCounts.lower.Goals as goal
 

@@ -1,5 +1,4 @@
-use Rattle.std.proofs.Common.{arith, below_more, get_or-set_other, get_or-set_same}
-use Rattle.std.proofs.lemmas.List.{length-replicate, length-set}
+use Rattle.nr_peel.proofs.Common.{arith, below_more, get_or-set_other, get_or-set_same, length-replicate, length-set}
 use Rattle.nr_peel.proofs.DueBlockFacts.{due_more, due_none, kept_new}
 use Rattle.nr_peel.proofs.bit_parallel.row_counts.RowCounts.new.Goals as goal
 

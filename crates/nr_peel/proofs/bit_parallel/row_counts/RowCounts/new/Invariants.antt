@@ -1,6 +1,4 @@
-use Rattle.std.proofs.Common.{◌≡◌, ℕ, ◌<◌, ◌≤◌, true, length}
-use Rattle.nr_bitvec.specs.Bit.{bit}
-use Rattle.nr_peel.specs.Due.{due_in}
+use Rattle.nr_peel.proofs.Common.{◌≡◌, ℕ, ◌<◌, ◌≤◌, true, length, bit, due_in}
 use Rattle.nr_peel.proofs.bit_parallel.row_counts.RowCounts.new.Given as goal
 
 -- the row blocks so far are due, and no more

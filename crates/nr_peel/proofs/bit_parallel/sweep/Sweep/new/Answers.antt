@@ -1,7 +1,4 @@
-use Rattle.std.proofs.Common.{◌≤◌, ◌*◌, refl, sym, ap, ◌∙◌, arith}
-use Rattle.nr_peel.specs.Due.{work_of}
-use Rattle.nr_peel.specs.StateInside.{lifted_checks}
-use Rattle.nr_peel.specs.declared.bit_parallel.sweep.Sweep.{Sweep}
+use Rattle.nr_peel.proofs.Common.{◌≤◌, ◌*◌, refl, sym, ap, ◌∙◌, arith, work_of, lifted_checks, Sweep}
 use Rattle.nr_peel.proofs.StartFacts.{blank_sweep, rows_most}
 use Rattle.nr_peel.proofs.bit_parallel.sweep.Sweep.new.Goals as goal
 

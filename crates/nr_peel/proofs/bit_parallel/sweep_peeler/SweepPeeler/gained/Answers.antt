@@ -1,9 +1,7 @@
-use Rattle.std.proofs.Common.{◌+◌, ap, ◌∙◌, arith}
-use Rattle.std.proofs.Math.Nat.{mul-le-mul_right}
+use Rattle.nr_peel.proofs.Common.{◌+◌, ap, ◌∙◌, arith, mul-le-mul_right, marked-le}
 use Rattle.nr_peel.proofs.UnknownFacts.{gained_column, is_gained, counted_marked}
 use Rattle.nr_peel.proofs.StartFacts.{size_most}
 use Rattle.nr_peel.proofs.bit_parallel.sweep_peeler.SweepPeeler.gained.Goals as goal
-use Rattle.nr_lifting.proofs.LaneBitFacts.{marked-le}
 
 pub loop-j-preserved : goal.loop-j-preserved
 loop-j-preserved c =

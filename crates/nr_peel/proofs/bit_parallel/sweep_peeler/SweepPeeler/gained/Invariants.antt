@@ -1,5 +1,4 @@
-use Rattle.std.proofs.Common.{◌≡◌, ◌*◌}
-use Rattle.std.specs.List.{count_by, range_with_len}
+use Rattle.nr_peel.proofs.Common.{◌≡◌, ◌*◌, count_by, range_with_len}
 use Rattle.nr_peel.proofs.UnknownFacts.{is_gained}
 use Rattle.nr_peel.proofs.bit_parallel.sweep_peeler.SweepPeeler.gained.Given as goal
 

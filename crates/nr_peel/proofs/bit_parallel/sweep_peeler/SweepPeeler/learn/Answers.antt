@@ -1,9 +1,4 @@
-use Rattle.std.proofs.lemmas.Bool.Decides.{nat_tests}
-use Rattle.std.proofs.Common.{◌==◌, true, length, refl, ap, ◌∙◌, arith}
-use Rattle.std.proofs.lemmas.List.{length-set}
-use Rattle.nr_bitvec.specs.Bit.{bit}
-use Rattle.nr_bitvec.specs.BitList.{BitList}
-use Rattle.nr_peel.specs.StateInside.{lifted_checks}
+use Rattle.nr_peel.proofs.Common.{nat_tests, ◌==◌, true, length, refl, ap, ◌∙◌, arith, length-set, bit, BitList, lifted_checks}
 use Rattle.nr_peel.proofs.LearningFacts.{fillers_known, heard_held, heard_known, learned}
 use Rattle.nr_peel.proofs.TieFacts.{bit-mark}
 use Rattle.nr_peel.proofs.bit_parallel.sweep_peeler.SweepPeeler.learn.Goals as goal

@@ -1,9 +1,4 @@
-use Rattle.std.proofs.Common.{rules}
-use Rattle.std.proofs.Common.{arith}
-use Rattle.std.proofs.Common.{length, refl, sym, ap, ◌∙◌}
-use Rattle.nr_bitvec.specs.Bit.{bit}
-use Rattle.nr_bitvec.specs.BitList.{BitList}
-use Rattle.nr_peel.specs.StateInside.{lifted_checks}
+use Rattle.nr_peel.proofs.Common.{rules, arith, length, refl, sym, ap, ◌∙◌, bit, BitList, lifted_checks}
 use Rattle.nr_peel.proofs.LearningFacts.{fillers_known, heard_held, heard_known, learned}
 use Rattle.nr_peel.proofs.bit_parallel.sweep_peeler.SweepPeeler.learn_all.Goals as goal
 

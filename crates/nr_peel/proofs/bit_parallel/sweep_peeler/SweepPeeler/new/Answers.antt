@@ -1,8 +1,4 @@
-use Rattle.std.proofs.Common.{length, refl, ap, ◌∙◌}
-use Rattle.std.proofs.lemmas.Bool.{or_right}
-use Rattle.nr_bitvec.specs.Bit.{bit}
-use Rattle.nr_segment.specs.CodeBlock.{numbers}
-use Rattle.nr_peel.specs.StateInside.{lifted_checks}
+use Rattle.nr_peel.proofs.Common.{length, refl, ap, ◌∙◌, or_right, bit, numbers, lifted_checks}
 use Rattle.nr_peel.proofs.FillerFacts.{fillers_fit, fillers_long, fillers_there}
 use Rattle.nr_peel.proofs.LearningFacts.{filled, heard_held}
 use Rattle.nr_peel.proofs.bit_parallel.sweep_peeler.SweepPeeler.new.Goals as goal
