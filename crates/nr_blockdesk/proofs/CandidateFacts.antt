@@ -1,4 +1,5 @@
 -- What a record decides, and the one transport block that may explain it.
+use Rattle.std.proofs.Common.{rules}
 use Rattle.std.proofs.Common.{◌≡◌, ℕ, ◌+◌, ◌-◌, ◌*◌, ◌/◌, ◌%◌, ◌<◌, ◌≤◌, ◌==◌, ◌||◌, ◌&&◌, nat_lt, nat_le, Bool, true, false, not, cond, List, [], length, get_or, map, take, replicate, All, refl, sym, ap, subst, ◌∙◌, ⊎_elim, length-append, arith}
 use Rattle.std.specs.Prelude.{Option, Some, None, count_by, sum, unwrap_or}
 use Rattle.std.specs.List.{find, list_all, range_with_len}
@@ -19,14 +20,12 @@ use Rattle.nr_harqbuf.specs.Record.{HeardBits, first_at, first_heard, is_heard, 
 use Rattle.nr_ldpcenc.specs.Codeword.{codeword, filler}
 use Rattle.nr_ldpcenc.specs.Rows.{Checks, Meets, block_checks}
 use Rattle.nr_segment.specs.Plan.{word_size, IsSound, Numbers, PlansAreSound}
-use Rattle.nr_ratematch.specs.Selection.{Circular}
-use Rattle.nr_peel.specs.Closure.{closure}
 use Rattle.nr_peel.specs.Peeling.{AgreesWith, IsStarted, Peeling, checks_for, left_of}
 use Rattle.nr_segment.specs.CodeBlock.{CodeBlocksAreLong, code_bits, part_of, share}
 use Rattle.nr_blockdesk.specs.Explains.{Explains, Reception, explains}
 use Rattle.nr_blockdesk.specs.Heard.{IsRecordOf, heard_of, heard_record, hearings}
 use Rattle.nr_blockdesk.specs.Link.{IsBlock, IsLink, Link, WordsArePlain, word}
-use Rattle.nr_blockdesk.specs.Outcome.{ExplainedBy, all_fixed, blocks_of, contradiction, fixed, given, left, outcome_of, verdict_on}
+use Rattle.nr_blockdesk.specs.Outcome.{ExplainedBy, all_fixed, blocks_of, contradiction, fixed, left, outcome_of, verdict_on}
 use Rattle.nr_blockdesk.specs.ReceiverLaws.{DeliveredIsOnly, ExplainedIsDelivered, ExplainsByRecord}
 use Rattle.nr_blockdesk.specs.Receiving.{peeling_of, verdict}
 use Rattle.nr_blockdesk.specs.ReceivingInside.{Fits, IsDecided, IsDesk, IsRead, IsSized, IsTied}
@@ -57,11 +56,7 @@ outcome-of_record by_record delivers only link list records outcome.Contradictio
 
 -- what a peeler knows is what its code block's record fixes
 pub known-fixed : (link : Link) (s : HeardBits) (p : Peeling) → IsTied link s p → (k : ℕ) → bit p.known k ≡ fixed link s k
-known-fixed link s p tied k =
-    let sets : bit p.given ≡ given link s = λ i j. tied.positions j i in
-    tied.peeled.closed k
-    ∙ ap (λ (c : Checks). closure c (bit p.given) k) (same-checks link s p tied)
-    ∙ ap (λ (g : ℕ → Bool). closure (block_checks link.table link.graph link.plan) g k) sets
+known-fixed link s p tied k = grind (arith, same-checks)
 
 -- a list of tests against the numbers that they are of
 count-first : (bits : List Bool) (q : ℕ → Bool) (n : ℕ) → n ≤ length bits → ((k : ℕ) → k < n → bit bits k ≡ q k)
@@ -115,8 +110,7 @@ known-bits plain by_record link records peelers list block r is desk inside of w
     (desk.tied r inside).words (bit (word link block r)) (plain link block r is whole inside).plain (by r inside).1
 
 known-value : (known : Bool) (b : Bool) → known ≡ true → unwrap_or (cond known (Some b) None) false ≡ b
-known-value true b e = refl
-known-value false b e = cc e
+known-value x0 b e = grind arith
 
 -- where all is fixed, a transport block that explains a record is the one that the peelers know
 pub candidate-only : PlansAreSound → WordsArePlain → BlocksLengthen → CodeBlocksAreLong → (link : Link)
@@ -160,16 +154,11 @@ candidate-only sound plain blocks codes link records peelers bits is desk all ma
 -- what the peeler of a code block has, wherever it is read
 pub peeler-at : (link : Link) (records : List HeardBits) (peelers : List Peeling) → IsDesk link records peelers → (r : ℕ) (d : Peeling)
     → r < link.plan.c → get_or peelers r d ≡ peeling_of link peelers r
-peeler-at link records peelers desk r d block =
-    get_or_default peelers r d
-    (none-of link)
-    (omega (arith, desk.peelings, block))
+peeler-at link records peelers desk r d block = grind (arith, get_or_default, none-of)
 
 pub peeler-size : (link : Link) (records : List HeardBits) (peelers : List Peeling) → IsDesk link records peelers → (r : ℕ) (d : Peeling)
     → r < link.plan.c → (checks_for (get_or peelers r d)).size ≡ word_size link.graph link.plan
-peeler-size link records peelers desk r d block =
-    ap (λ (p : Peeling). (checks_for p).size) (peeler-at link records peelers desk r d block)
-    ∙ ap (λ (c : Checks). c.size) (same-checks link (heard_of records r) (peeling_of link peelers r) (desk.tied r block))
+peeler-size link records peelers desk r d block = grind (arith, peeler-at, same-checks)
 
 pub wide-peelers : PlansAreSound → (link : Link) (records : List HeardBits) (peelers : List Peeling) → IsLink link → IsDesk link records peelers
     → (r : ℕ) (d : Peeling) → r < link.plan.c → link.plan.kdash ≤ (checks_for (get_or peelers r d)).size
@@ -181,10 +170,7 @@ wide-peelers sound link records peelers is desk r d block =
 pub sized-of : (link : Link) (records : List HeardBits) (peelers : List Peeling) → IsLink link → IsDesk link records peelers
     → (r : ℕ) (d : Peeling) → r < length records
     → IsSized (cols_of link.buffer.graph * link.buffer.z) (heard_of records r) (get_or peelers r d)
-sized-of link records peelers is desk r d inside =
-    let block : r < link.plan.c = rw (← desk.stores) inside in
-    let size : word_size link.graph link.plan ≡ cols_of link.buffer.graph * link.buffer.z = sym (ap (λ (b : Circular). cols_of b.graph * b.z) is.buffered) in
-    record { stored = (desk.tied r block).long ∙ size; peeled = peeler-size link records peelers desk r d block ∙ size }
+sized-of link records peelers is desk r d inside = grind (arith, peeler-size)
 
 -- what was compared is what explains
 pub explained-by : (link : Link) (records same : List HeardBits) (l block : List Bool) → same ≡ records → l ≡ attached block
@@ -207,31 +193,24 @@ started-tied sound link s p is start s-is = record {
   table = start.table;
   graph = start.graph;
   numbers = start.numbers;
-  long = ap (λ (h : HeardBits). length h.first) s-is ∙ length-map-range_with_len (first_heard []) 0 N;
-  positions = positions;
+  long = ap (λ (h : HeardBits). length h.first) s-is ∙ length-map-range_with_len (first_heard []) 0 (word_size link.graph link.plan);
+  positions = λ k.
+      ap (λ (g : List Bool). bit g k) (start.given ∙ ap (λ (c : Checks). map (filler link.plan.kdash link.plan.k) (range_with_len 0 c.size)) checks)
+      ∙ fillers k
+      ∙ sym (ap (λ (h : HeardBits). is_heard (first_at h k) || filler link.plan.kdash link.plan.k k) s-is
+      ∙ ap (λ o. is_heard o || filler link.plan.kdash link.plan.k k) (none_heard (word_size link.graph link.plan) k));
   words = λ w plain has. start.words w (subst (λ (c : Checks). Meets c w) (sym checks) plain.meets) plain.zero;
   peeled = start.peeled;
 }
   where
-    N : ℕ
-    N = word_size link.graph link.plan
-
     checks : checks_for p ≡ block_checks link.table link.graph link.plan
     checks = rw (start.table, start.graph, start.numbers) refl
 
-    fill : ℕ → Bool
-    fill = filler link.plan.kdash link.plan.k
-
-    gives : p.given ≡ map fill (range_with_len 0 N)
-    gives = start.given ∙ ap (λ (c : Checks). map fill (range_with_len 0 c.size)) checks
-
-    none : (k : ℕ) → is_heard (first_at s k) ≡ false
-    none k = ap (λ (h : HeardBits). is_heard (first_at h k)) s-is ∙ ap is_heard (none_heard N k)
-
-    positions : (k : ℕ) → bit p.given k ≡ given link s k
-    positions k =
-        ap (λ (g : List Bool). bit g k) gives
-        ∙ ⊎_elim
+    fillers : (k : ℕ) → bit (map (filler link.plan.kdash link.plan.k) (range_with_len 0 (word_size link.graph link.plan))) k ≡ filler link.plan.kdash link.plan.k k
+    fillers k =
+        let N : ℕ = word_size link.graph link.plan in
+        let fill : ℕ → Bool = filler link.plan.kdash link.plan.k in
+        ⊎_elim
         (λ (low : k < N). get_or-map-range_with_len fill 0 N k k false low (omega arith))
         (λ (high : N ≤ k).
         let fits = k-fits link.graph link.plan (sound-of sound link is).columns in
@@ -239,31 +218,13 @@ started-tied sound link s p is start s-is = record {
         get_or_past (map fill (range_with_len 0 N)) k false (omega (arith, length-map-range_with_len fill 0 N, high))
         ∙ sym (ap (λ b. nat_le link.plan.kdash k && b) past ∙ and-false (nat_le link.plan.kdash k)))
         (cases_lt k N)
-        ∙ sym (ap (λ b. b || fill k) (none k))
 
 pub desk-new : PlansAreSound → (link : Link) (S : List HeardBits) (P : List Peeling) → IsLink link → length S ≡ link.plan.c → length P ≡ link.plan.c
     → All (λ s. s ≡ record_of (word_size link.graph link.plan) []) S → All (IsStarted link.table link.graph link.plan) P → IsDesk link S P
-desk-new sound link S P is stores peelers empty started = record {
-  stores = stores;
-  peelings = peelers;
-  tied = λ r block. started-tied sound link (heard_of S r) (peeling_of link P r) is
-      (started r (none-of link)
-      (omega (arith, peelers, block)))
-      (empty r (record { first = []; clash = false }) (omega (arith, stores, block)));
-}
+desk-new sound link S P is stores peelers empty started = search (rules, started-tied, none-of)
 
 -- nothing was received yet
 pub record-new : (link : Link) (S : List HeardBits) → length S ≡ link.plan.c → All (λ s. s ≡ record_of (word_size link.graph link.plan) []) S
     → IsRecordOf link [] S
 unfolding heard_record hearings
-record-new link S stores empty = record {
-  accepted = λ k d inside. absurd (omega (arith, inside));
-  same = same_lists S (map f (range_with_len 0 link.plan.c)) (stores ∙ sym (length-map-range_with_len f 0 link.plan.c)) at;
-}
-  where
-    f : ℕ → HeardBits
-    f = λ r. record_of (word_size link.graph link.plan) []
-
-    at : (k : ℕ) (d : HeardBits) → k < length S → get_or S k d ≡ get_or (map f (range_with_len 0 link.plan.c)) k d
-    at k d inside =
-        empty k d inside ∙ sym (get_or-map-range_with_len f 0 link.plan.c k k d (subst (λ n. k < n) stores inside) (omega arith))
+record-new link S stores empty = grind (arith, same_lists, length-map-range_with_len, get_or-map-range_with_len)

@@ -1,6 +1,7 @@
 -- What the closures decide: which transport blocks can explain a list of receptions.
-use Rattle.std.proofs.Common.{◌≡◌, ℕ, zero, suc, ◌+◌, ◌<◌, ◌≤◌, ◌==◌, ◌||◌, Bool, true, false, not, cond, List, length, map, take, refl, sym, ap, subst, ◌∙◌, arith}
-use Rattle.std.specs.Prelude.{Option, Some, None, count_by}
+use Rattle.std.proofs.Common.{rules}
+use Rattle.std.proofs.Common.{◌≡◌, ℕ, zero, suc, ◌+◌, ◌<◌, ◌≤◌, ◌==◌, Bool, true, false, not, cond, List, length, map, take, refl, sym, ap, subst, ◌∙◌, arith}
+use Rattle.std.specs.Prelude.{count_by}
 use Rattle.std.specs.List.{range_with_len}
 use Rattle.std.proofs.lemmas.Bool.{eq-eqb, eqb-true, not-false}
 use Rattle.std.proofs.lemmas.List.{ext_get_or}
@@ -9,8 +10,8 @@ use Rattle.std.proofs.Math.Seq.{take-append_seam}
 use Rattle.nr_bitvec.specs.Bit.{bit}
 use Rattle.nr_crcattach.specs.Attachment.{BlocksLengthen, attached, block_poly, attached_length}
 use Rattle.nr_crcattach.specs.Crc.{crc_of, degree, high_first}
-use Rattle.nr_harqbuf.specs.Record.{HeardBits, HasFirsts, first_at, is_heard}
-use Rattle.nr_ldpcenc.specs.Codeword.{IsPlain, filler}
+use Rattle.nr_harqbuf.specs.Record.{HeardBits, HasFirsts}
+use Rattle.nr_ldpcenc.specs.Codeword.{IsPlain}
 use Rattle.nr_ldpcenc.specs.Rows.{block_checks}
 use Rattle.nr_peel.specs.Closure.{AgreeOn}
 use Rattle.nr_peel.specs.Laws.{ChecksAreSound, WordsAgreeOnClosure}
@@ -24,14 +25,7 @@ use Rattle.nr_blockdesk.proofs.RangeTestFacts.{range_each}
 -- two words with the first bits of a record, and with zeros for the fillers, agree where something is given
 pub given_agree : (link : Link) (s : HeardBits) (v w : ℕ → Bool) → HasFirsts s v → HasFirsts s w
     → IsPlain link.table link.graph link.plan v → IsPlain link.table link.graph link.plan w → AgreeOn (given link s) v w
-given_agree link s v w has-v has-w plain-v plain-w p is = go (first_at s p) refl
-  where
-    go : (o : Option Bool) → first_at s p ≡ o → v p ≡ w p
-    go (Some b) e = has-v p b e ∙ sym (has-w p b e)
-    go None e =
-        let filled : filler link.plan.kdash link.plan.k p ≡ true =
-        ap (λ o. is_heard o || filler link.plan.kdash link.plan.k p) (sym e) ∙ is in
-        plain-v.zero p filled ∙ sym (plain-w.zero p filled)
+given_agree link s v w has-v has-w plain-v plain-w p is = grind arith
 
 pub explainers-agree : ChecksAreSound → WordsAgreeOnClosure → WordsArePlain → ExplainsByRecord → ExplainersAgree
 explainers-agree sound agree plain by_record link list x y r is accepted whole-x whole-y ex ey inside =
@@ -50,8 +44,7 @@ count_none t a n none m low high =
     go (t m) (range_each (λ x. cond (t x) 1 0 == 0) a n (sym (sum_by-zero (λ x. cond (t x) 1 0) (range_with_len a n)) ∙ eq-eqb _ 0 none) m low high)
   where
     go : (b : Bool) → (cond b 1 0 == 0) ≡ true → b ≡ false
-    go true e = cc e
-    go false e = refl
+    go x0 e = grind arith
 
 -- where all are fixed, each position below K' is
 pub every_fixed : (link : Link) (records : List HeardBits) → all_fixed link records ≡ true → (r : ℕ) → r < link.plan.c
@@ -90,9 +83,7 @@ pub words_make : BlocksLengthen → JoinUndoesCut → CodeBlocksAreLong → Word
 words_make blocks joins codes plain link x y is whole-x whole-y same = blocks_make blocks joins link x y is whole-x whole-y each
   where
     kept : (block : List Bool) (r : ℕ) → IsBlock link block → r < link.plan.c → length (code_bits_of link block r) ≡ link.plan.kdash
-    kept block r whole inside =
-        codes link.graph (attached_length link.a) link.plan (attached block) r is.planned
-        (blocks block ∙ ap attached_length whole) inside
+    kept block r whole inside = grind arith
 
     each : (r : ℕ) → r < link.plan.c → code_bits_of link x r ≡ code_bits_of link y r
     each r inside = ext_get_or false (code_bits_of link x r) (code_bits_of link y r) (kept x r whole-x inside ∙ sym (kept y r whole-y inside)) (λ k low.
@@ -101,7 +92,4 @@ words_make blocks joins codes plain link x y is whole-x whole-y same = blocks_ma
 
 pub one-explains : BlocksLengthen → JoinUndoesCut → CodeBlocksAreLong → WordsArePlain
     → ExplainersAgree → OneExplains
-one-explains blocks joins codes plain agree link list x y is accepted whole-x whole-y ex ey all =
-    words_make blocks joins codes plain link x y is whole-x whole-y
-    (λ r p inside low. agree link list x y r is accepted whole-x whole-y ex ey inside p
-    (every_fixed link (heard_record link list) all r inside p low))
+one-explains blocks joins codes plain agree link list x y is accepted whole-x whole-y ex ey all = search (rules, words_make, every_fixed)

@@ -1,6 +1,7 @@
 -- Which transport blocks explain a list of receptions, seen code block by code block.
-use Rattle.std.proofs.Common.{◌≡◌, ℕ, ◌+◌, ◌<◌, ◌≤◌, ◌==◌, Bool, true, false, cond, List, [], ◌∷◌, length, All, refl, sym, ap, ◌∙◌, arith}
-use Rattle.std.specs.Prelude.{Option, Some, None, option_map}
+use Rattle.std.proofs.lemmas.Bool.Decides.{nat_tests}
+use Rattle.std.proofs.Common.{◌≡◌, ℕ, ◌+◌, ◌<◌, ◌≤◌, ◌==◌, Bool, true, cond, List, [], ◌∷◌, length, All, refl, sym, ap, ◌∙◌, arith}
+use Rattle.std.specs.Prelude.{Option, None, option_map}
 use Rattle.std.specs.Bool.{beq}
 use Rattle.std.specs.List.{filter_map, list_all, range_with_len}
 use Rattle.std.proofs.lemmas.Bool.{and_from, and_parts, eqb-true, eq-eqb}
@@ -13,7 +14,6 @@ use Rattle.nr_blockdesk.specs.Hearing.{heard_bit}
 use Rattle.nr_blockdesk.specs.Link.{Link}
 use Rattle.nr_blockdesk.specs.Sent.{RateMatching, block_at, matching, position_at, sent}
 use Rattle.nr_blockdesk.specs.declared.heard.Heard.{Heard}
-use Rattle.nr_blockdesk.specs.declared.heard.Heard.TheVariants as heard
 use Rattle.nr_blockdesk.proofs.RangeTestFacts.{flat_all, given_all, holds_if, range_all, range_each}
 
 -- a word's bits are those of a hearing
@@ -21,24 +21,15 @@ abbrev pub fits : (ℕ → Bool) → Observation → Bool
 fits w h = beq (w h.0) h.1
 
 agrees-is : (h : Heard) (v : Bool) → agrees h v ≡ holds_if (λ b. beq v b) (heard_bit h)
-agrees-is heard.Zero true = refl
-agrees-is heard.Zero false = refl
-agrees-is heard.One true = refl
-agrees-is heard.One false = refl
-agrees-is heard.Erased v = refl
+agrees-is x0 v = grind arith
 
 own : (w : ℕ → Bool) (p : ℕ) (o : Option Bool) → holds_if (fits w) (option_map (λ b. (p, b)) o) ≡ holds_if (λ b. beq (w p) b) o
-own w p None = refl
-own w p (Some b) = refl
+own w p x2 = grind arith
 
 -- what a place tells of code block r fits its word, where the place agrees with the word of its own code block q
 place-tells : (w : ℕ → ℕ → Bool) (q r p : ℕ) (h : Heard) → agrees h (w q p) ≡ true
     → holds_if (fits (w r)) (cond (q == r) (option_map (λ b. (p, b)) (heard_bit h)) None) ≡ true
-place-tells w q r p h true-there = go (q == r) refl
-  where
-    go : (b : Bool) → (q == r) ≡ b → holds_if (fits (w r)) (cond b (option_map (λ v. (p, v)) (heard_bit h)) None) ≡ true
-    go false e = refl
-    go true e = rw (own (w r) p (heard_bit h), ← agrees-is h (w r p), ← eqb-true q r e) true-there
+place-tells w q r p h true-there = grind (arith, nat_tests, holds_if, own, agrees-is, eqb-true)
 
 place-part_masks : (w : ℕ → ℕ → Bool) (q p : ℕ) (h : Heard)
     → holds_if (fits (w q)) (cond (q == q) (option_map (λ b. (p, b)) (heard_bit h)) None) ≡ true → agrees h (w q p) ≡ true

@@ -48,11 +48,7 @@ pub record IsGathered (places : List Heard) (from now bits n : ℕ) : Type 0 whe
   pub digits : (j : ℕ) → n ≤ j → bit_at bits j ≡ 0
 
 pub gathered-none : (places : List Heard) (from : ℕ) → IsGathered places from 0 0 0
-gathered-none places from = record {
-  part_masks = λ j below. absurd (omega (arith, below));
-  marks = λ j _. bit_at-zero j;
-  digits = λ j _. bit_at-zero j;
-}
+gathered-none places from = grind (arith, bit_at-zero)
 
 pub gathered-more : (places : List Heard) (from now bits n now' bits' mark bit : ℕ) → n < 64 → mark ≤ 1 → bit ≤ 1
     → now' ≡ bit_or now (mark * 2 ^ n % 2 ^ 64) → bits' ≡ bit_or bits (bit * 2 ^ n % 2 ^ 64)

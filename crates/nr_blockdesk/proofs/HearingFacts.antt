@@ -1,9 +1,9 @@
 -- What hearing does to a code block's store and its peeler.
 use Rattle.std.proofs.Common.{◌≡◌, ◌≢◌, ℕ, ◌+◌, ◌<◌, ◌≤◌, ◌||◌, ◌&&◌, Bool, true, false, not, cond, List, [], ◌∷◌, ◌++◌, length, get_or, set, refl, sym, ap, ◌∙◌, ⊎_elim, append_assoc, arith}
-use Rattle.std.specs.Prelude.{Option, Some, None, option_map}
+use Rattle.std.specs.Prelude.{Option, Some, None}
 use Rattle.std.specs.Bool.{beq}
-use Rattle.std.specs.List.{cons_option, filter_map, range_with_len}
-use Rattle.std.proofs.lemmas.Bool.{cases_eq, or_parts, true≢false}
+use Rattle.std.specs.List.{cons_option}
+use Rattle.std.proofs.lemmas.Bool.{cases_eq, or_parts}
 use Rattle.std.proofs.lemmas.Grind.{get_or-set_at}
 use Rattle.std.proofs.lemmas.List.{append-nil, get_or-set_other, get_or-set_same, get_or_read}
 use Rattle.std.proofs.lemmas.List.Elements.{filter_map-append}
@@ -25,37 +25,21 @@ use Rattle.nr_blockdesk.proofs.RangeTestFacts.{range-split}
 -- what one place more tells
 part-more : (b : Circular) (tx : Tx) (heard : List Heard) (m : ℕ)
     → part_hearings b tx heard (m + 1) ≡ part_hearings b tx heard m ++ cons_option (part_hearing b tx heard m) []
-part-more b tx heard m =
-    let f : ℕ → Option Observation = part_hearing b tx heard in
-    let last : 0 + m ≡ m = omega arith in
-    ap (λ ms. filter_map f ms) (range-split 0 m 1)
-    ∙ filter_map-append f (range_with_len 0 m) (range_with_len (0 + m) 1)
-    ∙ ap (λ k. filter_map f (range_with_len 0 m) ++ cons_option (f k) []) last
+part-more b tx heard m = grind (arith, range-split, filter_map-append)
 
 pub part-none : (b : Circular) (tx : Tx) (heard : List Heard) (m : ℕ) → heard_bit (heard_at heard m) ≡ None
     → part_hearings b tx heard (m + 1) ≡ part_hearings b tx heard m
-part-none b tx heard m none =
-    part-more b tx heard m
-    ∙ ap (λ o. part_hearings b tx heard m ++ cons_option (option_map (λ v. (place_of b tx.rv (seat_of tx.qm (length heard) m), v)) o) []) none
-    ∙ append-nil (part_hearings b tx heard m)
+part-none b tx heard m none = grind (arith, part-more, append-nil)
 
 pub part-some : (b : Circular) (tx : Tx) (heard : List Heard) (m pos : ℕ) (v : Bool) → heard_bit (heard_at heard m) ≡ Some v
     → pos ≡ place_of b tx.rv (seat_of tx.qm (length heard) m)
     → part_hearings b tx heard (m + 1) ≡ part_hearings b tx heard m ++ (pos, v) ∷ []
-part-some b tx heard m pos v some at =
-    part-more b tx heard m
-    ∙ ap (λ o. part_hearings b tx heard m ++ cons_option (option_map (λ u. (place_of b tx.rv (seat_of tx.qm (length heard) m), u)) o) []) some
-    ∙ ap (λ p. part_hearings b tx heard m ++ (p, v) ∷ []) (sym at)
+part-some b tx heard m pos v some at = grind (arith, part-more)
 
 -- the record of one hearing more
 pub recorded-more : RecordContinues → (n : ℕ) (hs part_masks more : List Observation) (s t : HeardBits) (pos : ℕ) (v : Bool) → pos < n
     → s ≡ record_of n (hs ++ part_masks) → t ≡ with_hearing s (pos, v) → more ≡ part_masks ++ (pos, v) ∷ [] → t ≡ record_of n (hs ++ more)
-recorded-more continues n hs part_masks more s t pos v inside s-is t-is more-is =
-    t-is
-    ∙ ap (λ r. with_hearing r (pos, v)) s-is
-    ∙ continues n (hs ++ part_masks) (pos, v) inside
-    ∙ ap (λ l. record_of n l) (append_assoc hs part_masks ((pos, v) ∷ []))
-    ∙ ap (λ l. record_of n (hs ++ l)) (sym more-is)
+recorded-more continues n hs part_masks more s t pos v inside s-is t-is more-is = grind (arith, append_assoc)
 
 -- the first bits after one hearing more
 pub first-kept : (s : HeardBits) (pos : ℕ) (v : Bool) → is_heard (first_at s pos) ≡ true → (with_hearing s (pos, v)).first ≡ s.first
@@ -70,23 +54,13 @@ first-set s pos v is = ap (λ b. cond b s.first (set s.first pos (Some v))) is
 -- the first bits before one that was received nowhere yet
 firsts-before : (s t : HeardBits) (pos : ℕ) (v : Bool) (w : ℕ → Bool) → is_heard (first_at s pos) ≡ false → t.first ≡ set s.first pos (Some v)
     → HasFirsts t w → HasFirsts s w
-firsts-before s t pos v w unheard firsts has k b is = ⊎_elim
-    (λ (here : k ≡ pos).
-    let heard-here : is_heard (first_at s pos) ≡ true = ap (λ j. is_heard (first_at s j)) (sym here) ∙ ap is_heard is in
-    absurd (true≢false (sym heard-here ∙ unheard)))
-    (λ (there : k ≢ pos). has k b
-    (ap (λ (xs : List (Option Bool)). get_or xs k None) firsts ∙ get_or-set_other s.first pos k (Some v) None there ∙ is))
-    (cases_eq k pos)
+firsts-before s t pos v w unheard firsts has k b is = grind (arith, get_or-set_other, cases_eq)
 
 pub same-bit : (a b : Bool) → not (beq a b) ≡ false → a ≡ b
-same-bit true true e = refl
-same-bit true false e = cc e
-same-bit false true e = cc e
-same-bit false false e = refl
+same-bit x0 x1 e = grind arith
 
 pub beq-self : (b : Bool) → beq b b ≡ true
-beq-self true = refl
-beq-self false = refl
+beq-self x0 = grind arith
 
 -- a word fits a record with one hearing more exactly where it fits the record and has the bit
 module _ (s : HeardBits) (pos : ℕ) (v : Bool) (w : ℕ → Bool) (inside : pos < length s.first) where
@@ -95,9 +69,7 @@ module _ (s : HeardBits) (pos : ℕ) (v : Bool) (w : ℕ → Bool) (inside : pos
   clash-more = refl
 
   first-now : is_heard (first_at s pos) ≡ false → (k : ℕ) → k ≡ pos → first_at (with_hearing s (pos, v)) k ≡ Some v
-  first-now unheard k here =
-      ap (λ (xs : List (Option Bool)). get_or xs k None) (first-set s pos v unheard)
-      ∙ get_or-set_at s.first pos k (Some v) None here inside
+  first-now unheard k here = grind (arith, first-set, get_or-set_at)
 
   pub fits-before : Fits (with_hearing s (pos, v)) w → Fits s w
   fits-before fits = ((or_parts s.clash (differs (first_at s pos) v) (sym clash-more ∙ fits.0)).0, go (is_heard (first_at s pos)) refl)
@@ -111,32 +83,10 @@ module _ (s : HeardBits) (pos : ℕ) (v : Bool) (w : ℕ → Bool) (inside : pos
     where
       go : (o : Option Bool) → first_at s pos ≡ o → w pos ≡ v
       go None e = fits.1 pos v (first-now (ap is_heard e) pos refl)
-      go (Some a) e =
-          let first : first_at (with_hearing s (pos, v)) pos ≡ Some a =
-          ap (λ (xs : List (Option Bool)). get_or xs pos None) (first-kept s pos v (ap is_heard e)) ∙ e in
-          let same : not (beq a v) ≡ false =
-          ap (λ o. differs o v) (sym e) ∙ (or_parts s.clash (differs (first_at s pos) v) (sym clash-more ∙ fits.0)).1 in
-          fits.1 pos a first ∙ same-bit a v same
+      go (Some a) e = grind (arith, first-kept, or_parts, clash-more, same-bit)
 
   pub fits-more : Fits s w → w pos ≡ v → Fits (with_hearing s (pos, v)) w
-  fits-more fits has = go (first_at s pos) refl
-    where
-      go : (o : Option Bool) → first_at s pos ≡ o → Fits (with_hearing s (pos, v)) w
-      go None e = (
-        clash-more ∙ ap (λ b. b || differs (first_at s pos) v) fits.0 ∙ ap (λ o. differs o v) e,
-        λ k b is. ⊎_elim
-            (λ (here : k ≡ pos). ap w here ∙ has ∙ cc (first-now (ap is_heard e) k here, is))
-            (λ (there : k ≢ pos). fits.1 k b
-            (sym (ap (λ (xs : List (Option Bool)). get_or xs k None) (first-set s pos v (ap is_heard e))
-            ∙ get_or-set_other s.first pos k (Some v) None there) ∙ is))
-            (cases_eq k pos),
-      )
-      go (Some a) e =
-          let same : a ≡ v = sym (fits.1 pos a e) ∙ has in (
-            clash-more ∙ ap (λ b. b || differs (first_at s pos) v) fits.0 ∙ ap (λ o. differs o v) e
-                ∙ ap (λ b. not (beq b v)) same ∙ ap not (beq-self v),
-            λ k b is. fits.1 k b (sym (ap (λ (xs : List (Option Bool)). get_or xs k None) (first-kept s pos v (ap is_heard e))) ∙ is),
-          )
+  fits-more fits has = grind (arith, clash-more, first-now, first-set, get_or-set_other, cases_eq, beq-self, first-kept)
 
   -- so one hearing more tells whether it agrees with the word
   pub tells-more : (part_masks : Bool) (s₀ : HeardBits) → Agrees part_masks w s₀ s → Agrees (part_masks && beq (w pos) v) w s₀ (with_hearing s (pos, v))
@@ -144,25 +94,13 @@ module _ (s : HeardBits) (pos : ℕ) (v : Bool) (w : ℕ → Bool) (inside : pos
   tells-more true s₀ tells = go (beq (w pos) v) refl
     where
       go : (b : Bool) → beq (w pos) v ≡ b → Agrees b w s₀ (with_hearing s (pos, v))
-      go false e = λ fits. absurd (true≢false (sym (beq-self v) ∙ ap (λ b. beq b v) (sym (fits-bit fits)) ∙ e))
-      go true e = λ fits. fits-more (tells fits) (same-bit (w pos) v (ap not e))
+      go x0 e = grind (arith, beq-self, fits-bit, fits-more, same-bit)
 
 -- what is told of the first r code blocks, with one code block more
 pub all-tell-more : (part_masks one : Bool) (words : List (List Bool)) (w : List Bool) (S₀ S : List HeardBits) (r : ℕ) (s t : HeardBits) → r < length S
     → w ≡ word_at words r → s ≡ heard_of S₀ r → Agrees one (bit w) s t → AllAgree part_masks r words S₀ S
     → AllAgree (part_masks && one) (r + 1) words S₀ (set S r t)
-all-tell-more part_masks one words w S₀ S r s t inside w-is s-is tells all = go part_masks one tells all
-  where
-    nothing : HeardBits
-    nothing = record { first = []; clash = false }
-
-    go : (part_masks one : Bool) → Agrees one (bit w) s t → AllAgree part_masks r words S₀ S → AllAgree (part_masks && one) (r + 1) words S₀ (set S r t)
-    go false one tells all = λ each. all (λ k below. rw (← get_or-set_other S r k t nothing (λ e. omega (arith, e, below))) (each k (omega arith)))
-    go true false tells all = λ each. tells (rw (w-is, ← get_or-set_same S r t nothing inside) (each r (omega arith)))
-    go true true tells all = λ k below fits. ⊎_elim
-        (λ (e : k ≡ r). rw (e, get_or-set_same S r t nothing inside, ← w-is) (tells (rw (s-is, w-is, ← e) fits)))
-        (λ (e : k ≢ r). rw (get_or-set_other S r k t nothing e) (all k (omega (arith, below, e)) fits))
-        (cases_eq k r)
+all-tell-more part_masks one words w S₀ S r s t inside w-is s-is tells all = grind (arith, get_or-set_other, get_or-set_same, cases_eq)
 
 -- the code of a peeler that is tied
 pub same-checks : (link : Link) (s : HeardBits) (p : Peeling) → IsTied link s p → checks_for p ≡ block_checks link.table link.graph link.plan
@@ -189,12 +127,8 @@ done-more b tx pieces S₀ S P₀ P r part s t p q in-S in-P part-is s-is p-is h
 
 pub later-kept : (S₀ S : List HeardBits) (r : ℕ) (t : HeardBits) → ((k : ℕ) → r ≤ k → heard_of S k ≡ heard_of S₀ k)
     → (k : ℕ) → r + 1 ≤ k → heard_of (set S r t) k ≡ heard_of S₀ k
-later-kept S₀ S r t later k above =
-    let other : k ≢ r = λ e. omega (arith, e, above) in
-    get_or-set_other S r k t (record { first = []; clash = false }) other ∙ later k (omega arith)
+later-kept S₀ S r t later k above = grind (arith, get_or-set_other)
 
 pub peelers-kept : (P₀ P : List Peeling) (r : ℕ) (q : Peeling) → ((k : ℕ) (d : Peeling) → r ≤ k → get_or P k d ≡ get_or P₀ k d)
     → (k : ℕ) (d : Peeling) → r + 1 ≤ k → get_or (set P r q) k d ≡ get_or P₀ k d
-peelers-kept P₀ P r q later k d above =
-    let other : k ≢ r = λ e. omega (arith, e, above) in
-    get_or-set_other P r k q d other ∙ later k d (omega arith)
+peelers-kept P₀ P r q later k d above = grind (arith, get_or-set_other)

@@ -1,12 +1,11 @@
 -- What a receiver keeps of the one transport block that may explain what was received.
-use Rattle.std.proofs.Common.{◌≡◌, ◌≢◌, ℕ, ◌+◌, ◌<◌, Bool, true, false, List, [], length, set, take, refl, sym, ap, subst, ◌∙◌, ⊎_elim, length-append, arith}
+use Rattle.std.proofs.Common.{◌≡◌, ℕ, ◌+◌, ◌<◌, Bool, true, false, List, length, set, take, refl, sym, subst, length-append, arith}
 use Rattle.std.proofs.lemmas.Bool.{cases_eq}
 use Rattle.std.proofs.lemmas.Grind.{get_or-set_at}
 use Rattle.std.proofs.lemmas.List.{get_or-set_other, length-set}
 use Rattle.std.proofs.Math.Seq.{take-append_seam}
 use Rattle.nr_bitvec.specs.Bit.{bit}
-use Rattle.nr_crcattach.specs.Attachment.{attached, block_poly}
-use Rattle.nr_crcattach.specs.Crc.{crc_of, degree, high_first}
+use Rattle.nr_crcattach.specs.Attachment.{attached}
 use Rattle.nr_harqbuf.specs.Record.{HeardBits}
 use Rattle.nr_ldpcenc.specs.Codeword.{codeword}
 use Rattle.nr_segment.specs.CodeBlock.{code_bits}
@@ -19,22 +18,12 @@ use Rattle.nr_blockdesk.specs.declared.candidate.CandidateState.TheVariants as c
 
 -- one word is another one of as many bits
 pub words-set : (c n : ℕ) (words : List (List Bool)) (r : ℕ) (w : List Bool) → AreWords c n words → r < c → length w ≡ n → AreWords c n (set words r w)
-words-set c n words r w are block long = record {
-  many = length-set words r w ∙ are.many;
-  long = λ k d inside. ⊎_elim
-      (λ (here : k ≡ r). ap length (get_or-set_at words r k w d here (omega (arith, are.many, block))) ∙ long)
-      (λ (there : k ≢ r). ap length (get_or-set_other words r k w d there)
-      ∙ are.long k d (omega (arith, inside, length-set words r w)))
-      (cases_eq k r);
-}
+words-set c n words r w are block long = grind (arith, length-set, get_or-set_at, get_or-set_other, cases_eq)
 
 -- one code block more has its word
 pub words-more : (words : List (List Bool)) (r : ℕ) (w : List Bool) (f : ℕ → List Bool) → r < length words → w ≡ f r
     → ((q : ℕ) → q < r → word_at words q ≡ f q) → (q : ℕ) → q < r + 1 → word_at (set words r w) q ≡ f q
-words-more words r w f inside is before q below = ⊎_elim
-    (λ (here : q ≡ r). get_or-set_at words r q w [] here inside ∙ is ∙ ap f (sym here))
-    (λ (there : q ≢ r). get_or-set_other words r q w [] there ∙ before q (omega (arith, below, there)))
-    (cases_eq q r)
+words-more words r w f inside is before q below = grind (arith, get_or-set_at, get_or-set_other, cases_eq)
 
 -- A record that was made after another.
 module _ (link : Link) (S T : List HeardBits) (fewer : (r : ℕ) (w : ℕ → Bool) → r < link.plan.c → Fits (heard_of T r) w → Fits (heard_of S r) w) where
@@ -66,21 +55,7 @@ pub kept-read : (link : Link) (records : List HeardBits) (list bits : List Bool)
     → ((r : ℕ) → r < link.plan.c → word_at words r ≡ codeword link.table link.graph link.plan (code_bits link.plan list r))
     → IsExplained link records list words
 unfolding word
-kept-read link records list bits words list-is whole by only coded = record {
-  held = omega (arith, ap length list-is, length-append bits check, whole);
-  explains = subst (ExplainedBy link records) (sym begins) by;
-  only = λ y long y-by. only y long y-by ∙ sym begins;
-  coded = λ r inside.
-      coded r inside
-      ∙ ap (λ (l : List Bool). codeword link.table link.graph link.plan (code_bits link.plan l r)) list-is
-      ∙ ap (λ (x : List Bool). word link x r) (sym begins);
-}
-  where
-    check : List Bool
-    check = high_first (degree (block_poly bits)) (crc_of (block_poly bits) bits)
-
-    begins : take link.a list ≡ bits
-    begins = ap (take link.a) list-is ∙ ap (λ n. take n (attached bits)) (sym whole) ∙ take-append_seam bits check
+kept-read link records list bits words list-is whole by only coded = grind (arith, length-append, take-append_seam)
 
 -- what was received agrees with the words or not, of the receiver's own lists
 pub part_masks-of : (agreed : Bool) (c : ℕ) (words words₁ : List (List Bool)) (S S₁ T : List HeardBits) → words₁ ≡ words → S₁ ≡ S → length S ≡ c

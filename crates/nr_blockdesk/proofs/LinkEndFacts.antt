@@ -19,9 +19,7 @@ use Rattle.nr_blockdesk.proofs.LinkFacts.{bind-ok, link-blocks, ok-same}
 -- what arrives of a marked transmission is as much as was sent
 arrived-long : (marks bits : List Bool) (g : ℕ) → length marks ≡ g → length bits ≡ g
     → length (map (λ at. arrived_bit at.0 at.1) (zip marks bits)) ≡ g
-arrived-long marks bits g marked whole =
-    let made = length-map (zip marks bits) (λ (at : Bool × Bool). arrived_bit at.0 at.1) in
-    grind (arith, made, length-zip marks bits, marked, whole)
+arrived-long marks bits g marked whole = grind (arith, length-map, length-zip)
 
 -- what arrives of a marked transmission is accepted
 arrived-accepted : AcceptedSendAll → (link : Link) (block : List Bool) (x : Tx × List Bool) → IsMarked link x

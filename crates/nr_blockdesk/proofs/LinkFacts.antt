@@ -1,12 +1,13 @@
 -- The steps by which a link is agreed on, and what they say of it.
-use Rattle.std.proofs.Common.{◌≡◌, ℕ, ◌==◌, Bool, true, false, cond, Option, Some, None, Result, Ok, Err, length, subst, refl, sym, ap, ◌∙◌}
+use Rattle.std.proofs.lemmas.Bool.Decides.{nat_tests}
+use Rattle.std.proofs.Common.{arith}
+use Rattle.std.proofs.Common.{◌≡◌, ℕ, Bool, true, Option, Result, Ok, Err, length, subst, sym, ap, ◌∙◌}
 use Rattle.nr_crcattach.specs.Attachment.{BlocksLengthen, attached, attached_length}
 use Rattle.nr_graphpick.specs.declared.Graph.{Graph}
 use Rattle.nr_graphpick.specs.Graph.{picked}
 use Rattle.nr_refusal.specs.Refusal.{◌>>=◌, with_fault}
 use Rattle.nr_ldpcenc.specs.Codeword.{CodewordsArePlain}
-use Rattle.nr_ratematch.specs.declared.fault.RmFault.TheVariants.{NoBuffer}
-use Rattle.nr_ratematch.specs.Selection.{BuffersAreCircular, Circular, buffer_said, circular_of, reference_size}
+use Rattle.nr_ratematch.specs.Selection.{BuffersAreCircular, Circular, buffer_said}
 use Rattle.nr_segment.specs.CodeBlock.{CodeBlocksAreLong}
 use Rattle.nr_segment.specs.Plan.{Numbers, plan_of}
 use Rattle.nr_shifttable.specs.Accepted.{Entries, has_graph}
@@ -21,16 +22,13 @@ ok-same e = cc e
 -- what a chain of steps that returns a value says of each step
 pub bind-ok : {X Y : Type 0} (r : Result X DeskFault) (f : X → Result Y DeskFault) (y : Y) → (r >>= f) ≡ Ok y
     → (x : X) × (r ≡ Ok x) × (f x ≡ Ok y)
-bind-ok (Ok x) f y e = (x, refl, e)
-bind-ok (Err d) f y e = cc e
+bind-ok x0 f y e = grind arith
 
 pub demanded-ok : (e : DeskFault) (b : Bool) (u : Unit {0}) → demanded e b ≡ Ok u → b ≡ true
-demanded-ok e true u h = refl
-demanded-ok e false u h = cc h
+demanded-ok e x1 u h = grind arith
 
 pub with_fault-ok : {X E : Type 0} (f : E → DeskFault) (r : Result X E) (x : X) → with_fault f r ≡ Ok x → r ≡ Ok x
-with_fault-ok f (Ok y) x e = ap Ok (ok-same e)
-with_fault-ok f (Err d) x e = cc e
+with_fault-ok f x1 x e = grind (arith, ok-same)
 
 -- a buffer is the plan's, but for Ncb
 abbrev buffer_with : Graph → Numbers → ℕ → Circular
@@ -38,16 +36,7 @@ buffer_with graph p ncb = record { graph = graph; z = p.z; kdash = p.kdash; k = 
 
 buffer-made : (graph : Graph) (p : Numbers) (lbrm : Option ℕ) (b : Circular) → buffer_said graph p lbrm ≡ Ok b
     → b ≡ buffer_with graph p b.ncb
-buffer-made graph p None b said =
-    let same : circular_of graph p None ≡ b = cc in
-    subst (λ (c : Circular). c ≡ buffer_with graph p c.ncb) same refl
-buffer-made graph p (Some tbs) b said = go (reference_size p.c tbs == 0) said
-  where
-    go : (none : Bool) → cond none (Err NoBuffer) (Ok (circular_of graph p (Some tbs))) ≡ Ok b → b ≡ buffer_with graph p b.ncb
-    go true e = cc e
-    go false e =
-        let same : circular_of graph p (Some tbs) ≡ b = cc in
-        subst (λ (c : Circular). c ≡ buffer_with graph p c.ncb) same refl
+buffer-made graph p x2 b said = grind (arith, nat_tests)
 
 pub link-sound : BuffersAreCircular → LinksAreSound
 unfolding link_said
@@ -72,13 +61,7 @@ link-sound circular table settings a link is said =
 -- the link is that of transport blocks of so many bits
 pub link-blocks : (table : Entries) (settings : Settings) (a : ℕ) (link : Link) → link_said table settings a ≡ Ok link → a ≡ link.a
 unfolding link_said
-link-blocks table settings a link said =
-    let whole = bind-ok (demanded fault.Size (is_size a)) _ link said in
-    let picks = bind-ok (with_fault fault.Pick (picked a settings.rate2048)) _ link whole.2 in
-    let plans = bind-ok (with_fault fault.Seg (plan_of picks.0 (attached_length a))) _ link picks.2 in
-    let there = bind-ok (demanded fault.Graph (has_graph picks.0 table)) _ link plans.2 in
-    let keeps = bind-ok (with_fault fault.Rm (buffer_said picks.0 plans.0 settings.lbrm)) _ link there.2 in
-    ap (λ (l : Link). l.a) (ok-same keeps.2)
+link-blocks table settings a link said = grind (arith, bind-ok, ok-same)
 
 pub words-plain : BlocksLengthen → CodeBlocksAreLong → CodewordsArePlain → WordsArePlain
 unfolding word
@@ -93,30 +76,21 @@ err-same e = cc e
 
 pub never-bind : {X Y : Type 0} (r : Result X DeskFault) (next : X → Result Y DeskFault) → (r ≡ Err fault.Memory → ⊥)
     → ((x : X) → next x ≡ Err fault.Memory → ⊥) → (r >>= next) ≡ Err fault.Memory → ⊥
-never-bind (Ok x) next first rest e = rest x e
-never-bind (Err d) next first rest e = first (ap Err (err-same e))
+never-bind x0 next first rest e = grind (arith, err-same)
 
 pub never-demanded : (d : DeskFault) (b : Bool) → (d ≡ fault.Memory → ⊥) → demanded d b ≡ Err fault.Memory → ⊥
-never-demanded d true other e = cc e
-never-demanded d false other e = other (err-same e)
+never-demanded d x1 other e = grind (arith, err-same)
 
 pub never-with_fault : {X E : Type 0} (f : E → DeskFault) (r : Result X E) → ((d : E) → f d ≡ fault.Memory → ⊥)
     → with_fault f r ≡ Err fault.Memory → ⊥
-never-with_fault f (Ok x) other e = cc e
-never-with_fault f (Err d) other e = other d (err-same e)
+never-with_fault f x1 other e = grind (arith, err-same)
 
 never-ok : {X : Type 0} (x : X) → ◌≡◌ {A = Result X DeskFault} (Ok x) (Err fault.Memory) → ⊥
 never-ok x e = cc e
 
 pub link-never_memory : (table : Entries) (settings : Settings) (a : ℕ) → link_said table settings a ≡ Err fault.Memory → ⊥
 unfolding link_said
-link-never_memory table settings a =
-    never-bind (demanded fault.Size (is_size a)) _ (never-demanded fault.Size (is_size a) (λ e. cc e))
-    (λ whole. never-bind (with_fault fault.Pick (picked a settings.rate2048)) _ (never-with_fault fault.Pick (picked a settings.rate2048) (λ d e. cc e))
-    (λ graph. never-bind (with_fault fault.Seg (plan_of graph (attached_length a))) _ (never-with_fault fault.Seg (plan_of graph (attached_length a)) (λ d e. cc e))
-    (λ p. never-bind (demanded fault.Graph (has_graph graph table)) _ (never-demanded fault.Graph (has_graph graph table) (λ e. cc e))
-    (λ there. never-bind (with_fault fault.Rm (buffer_said graph p settings.lbrm)) _ (never-with_fault fault.Rm (buffer_said graph p settings.lbrm) (λ d e. cc e))
-    (λ b. never-ok _)))))
+link-never_memory table settings a = grind (arith, never-bind, never-demanded, never-with_fault, never-ok)
 
 -- so a call that is refused by what was said is not refused for memory
 pub no-memory : {X Y G : Type 0} (said : Result X DeskFault) (r : Result Y DeskFault) (e : DeskFault) → r ≡ Err e → said ≡ Err e

@@ -1,5 +1,6 @@
 -- What two lists of bits say was received, place by place and piece by piece.
-use Rattle.std.proofs.Common.{◌≡◌, ℕ, ◌+◌, ◌-◌, ◌<◌, ◌≤◌, ◌==◌, ◌&&◌, ◌++◌, inl, inr, Bool, true, false, List, length, take, drop, refl, sym, ap, ◌∙◌, arith}
+use Rattle.std.proofs.lemmas.Bool.Decides.{nat_tests}
+use Rattle.std.proofs.Common.{◌≡◌, ℕ, ◌+◌, ◌<◌, ◌≤◌, ◌==◌, ◌&&◌, ◌++◌, Bool, true, List, length, take, drop, refl, sym, ◌∙◌, arith}
 use Rattle.std.specs.Prelude.{Some, sum, slice_index}
 use Rattle.std.specs.Bool.{beq}
 use Rattle.std.specs.Int.{bit_at}
@@ -30,13 +31,10 @@ heard-at marks bits from n m inside = get_or-map-range_with_len (λ m. place_hea
 
 -- what a mark and a bit say
 pub tells-marked : (mark b v : Bool) → tells (heard_bit (place_heard mark b)) v ≡ (mark && beq b v)
-tells-marked false b v = refl
-tells-marked true false v = refl
-tells-marked true true v = refl
+tells-marked x0 b v = grind arith
 
 pub some-marked : (b : Bool) → heard_bit (place_heard true b) ≡ Some b
-some-marked false = refl
-some-marked true = refl
+some-marked x0 = grind arith
 
 -- the places of code block r among all
 pub piece-heards : (marks bits : List Bool) (lengths : List ℕ) (r : ℕ) → sum lengths ≡ length marks → r < length lengths
@@ -68,19 +66,7 @@ pub heards-more : (places : List Heard) (marks bits : List Bool) (n wide now wor
     → ((m : ℕ) → m < n → place_heard (bit marks m) (bit bits m) ≡ heard_at places m)
     → ((j : ℕ) → j < wide → place_heard (bit_at now j == 1) (bit_at word j == 1) ≡ heard_at places (n + j))
     → (m : ℕ) → m < n + wide → place_heard (bit (marks ++ low_first wide now) m) (bit (bits ++ low_first wide word) m) ≡ heard_at places m
-heards-more places marks bits n wide now word long long-too before here m below = elim (cases_lt m n) [
-  | inl first ↦
-      ap (λ b. place_heard b (bit (bits ++ low_first wide word) m)) (get_or_append_left marks (low_first wide now) false m (omega (arith, first, long)))
-      ∙ ap (λ b. place_heard (bit marks m) b) (get_or_append_left bits (low_first wide word) false m (omega (arith, first, long-too)))
-      ∙ before m first
-  | inr later ↦
-      let there : n + (m - n) ≡ m = omega (arith, later) in
-      let low : m - n < wide = omega (arith, below, later) in
-      ap (λ b. place_heard b (bit (bits ++ low_first wide word) m)) (get_or-append_right marks (low_first wide now) n m false long later ∙ bit-low_first wide now (m - n) low)
-      ∙ ap (λ b. place_heard (bit_at now (m - n) == 1) b) (get_or-append_right bits (low_first wide word) n m false long-too later ∙ bit-low_first wide word (m - n) low)
-      ∙ here (m - n) low
-      ∙ ap (heard_at places) there
-]
+heards-more places marks bits n wide now word long long-too before here m below = grind (arith, nat_tests, cases_lt, get_or_append_left, get_or-append_right, bit-low_first)
 
 -- lists with room for more bits have room for fewer
 pub room-less : (most n : ℕ) (selected : Selected) → n ≤ most → HasRoomFor most selected → HasRoomFor n selected

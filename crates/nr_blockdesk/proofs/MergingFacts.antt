@@ -1,5 +1,6 @@
 -- What it does to a code block's store and its peeler to receive at once all that is told.
-use Rattle.std.proofs.Common.{◌≡◌, ℕ, ◌<◌, ◌≤◌, ◌==◌, ◌||◌, ◌&&◌, inl, inr, Bool, true, false, not, cond, List, ◌++◌, length, get_or, replicate, All, refl, sym, ap, subst, ◌∙◌, arith}
+use Rattle.std.proofs.lemmas.Bool.Decides.{nat_tests}
+use Rattle.std.proofs.Common.{◌≡◌, ℕ, ◌<◌, ◌==◌, ◌||◌, ◌&&◌, Bool, true, false, not, cond, List, ◌++◌, length, get_or, replicate, All, refl, sym, ap, subst, ◌∙◌, arith}
 use Rattle.std.specs.Prelude.{◌↔◌, IsTrue, Option, Some, None}
 use Rattle.std.specs.Bool.{beq}
 use Rattle.std.specs.List.{list_any, range_with_len}
@@ -10,17 +11,14 @@ use Rattle.std.proofs.lemmas.List.Folds.{list_any_at}
 use Rattle.nr_bitvec.specs.Bit.{bit}
 use Rattle.nr_bitvec.proofs.PlaceFacts.{same_from_bits}
 use Rattle.nr_harqbuf.specs.Masks.{AreMasks, RecordMerges, differs_at, first_merged, merged}
-use Rattle.nr_harqbuf.specs.Record.{HasFirsts, HeardBits, Observation, differs, first_at, heard_as, is_heard, record_of}
+use Rattle.nr_harqbuf.specs.Record.{HeardBits, Observation, differs, first_at, heard_as, is_heard, record_of}
 use Rattle.nr_blockdesk.specs.ReceivingInside.{Fits, IsNews, Agrees}
 use Rattle.nr_blockdesk.proofs.HearingFacts.{beq-self, same-bit}
 use Rattle.nr_blockdesk.proofs.SelectedBitFacts.{find_it, found}
 
 -- what is told stands at positions of the lists
 inside-long : (xs : List Bool) (p : ℕ) → bit xs p ≡ true → p < length xs
-inside-long xs p is = elim (cases_lt p (length xs)) [
-  | inl low ↦ low
-  | inr past ↦ absurd (true≢false (sym is ∙ get_or_past xs p false past))
-]
+inside-long xs p is = grind (arith, nat_tests, cases_lt, get_or_past)
 
 all-inside : (more : List Observation) (heard value : List Bool) → AreMasks more heard value → All (λ (h : Observation). h.0 < length heard) more
 unfolding heard_as
@@ -42,15 +40,10 @@ recorded-all merges s t heard value more long is masks hs of =
 
 -- lists without marks
 pub empty-all : (xs : List Bool) (n : ℕ) → length xs ≡ n → ((p : ℕ) → bit xs p ≡ false) → xs ≡ replicate n false
-empty-all xs n long none =
-    same_from_bits xs (replicate n false) (long ∙ sym (length-replicate n false))
-    (λ p below. none p ∙ sym (get_or-replicate n p false false (omega (arith, below, long))))
+empty-all xs n long none = grind (arith, same_from_bits, length-replicate, get_or-replicate)
 
 pub empty-bit : (xs : List Bool) (n p : ℕ) → xs ≡ replicate n false → bit xs p ≡ false
-empty-bit xs n p is = ap (λ l. bit l p) is ∙ elim (cases_lt p n) [
-  | inl low ↦ get_or-replicate n p false false low
-  | inr past ↦ get_or_past (replicate n false) p false (omega (arith, length-replicate n false, past))
-]
+empty-bit xs n p is = grind (arith, nat_tests, cases_lt, get_or-replicate, get_or_past, length-replicate)
 
 -- the bit of a position that was received with `old` before, and is told `part_masks` where `h` holds
 abbrev joined : Option Bool → Bool → Bool → Option Bool
@@ -60,15 +53,7 @@ joined old h part_masks = cond (is_heard old) old (cond h (Some part_masks) None
 module _ (s : HeardBits) (heard value : List Bool) (long : length heard ≡ length s.first) where
   first-is : (p : ℕ) → first_at (merged s heard value) p ≡ joined (first_at s p) (bit heard p) (bit value p)
   unfolding merged
-  first-is p = elim (cases_lt p (length s.first)) [
-    | inl low ↦ get_or-map-range_with_len (first_merged s heard value) 0 (length s.first) p p None low (omega arith)
-    | inr past ↦
-        let few : length (merged s heard value).first ≤ p = omega (arith, length-map-range_with_len (first_merged s heard value) 0 (length s.first), past) in
-        let none : first_at s p ≡ None = get_or_past s.first p None past in
-        let silent : bit heard p ≡ false = get_or_past heard p false (omega (arith, long, past)) in
-        get_or_past (merged s heard value).first p None few
-        ∙ sym (ap (λ o. joined o (bit heard p) (bit value p)) none ∙ ap (λ h. joined None h (bit value p)) silent)
-  ]
+  first-is p = grind (arith, nat_tests, cases_lt, get_or-map-range_with_len, length-map-range_with_len, get_or_past)
 
   clash-is : (merged s heard value).clash ≡ (s.clash || list_any (differs_at s heard value) (range_with_len 0 (length s.first)))
   unfolding merged
@@ -100,13 +85,10 @@ module _ (s : HeardBits) (heard value : List Bool) (long : length heard ≡ leng
       let parts = and_parts (bit heard it.at) (differs (first_at s it.at) (bit value it.at)) it.is in
       true≢false (sym parts.1 ∙ each it.at parts.0)))
 
-  firsts-before : (w : ℕ → Bool) → HasFirsts (merged s heard value) w → HasFirsts s w
-  firsts-before w has p b is = has p b (first-old p b is)
-
   pub fewer-merged : (w : ℕ → Bool) → Fits (merged s heard value) w → Fits s w
   fewer-merged w fits = (
     (or_parts s.clash (list_any (differs_at s heard value) (range_with_len 0 (length s.first))) (sym clash-is ∙ fits.0)).0,
-    firsts-before w fits.1,
+    λ p b is. fits.1 p b (first-old p b is),
   )
 
   fits-bits : (w : ℕ → Bool) → Fits (merged s heard value) w → (p : ℕ) → bit heard p ≡ true → w p ≡ bit value p
@@ -117,16 +99,7 @@ module _ (s : HeardBits) (heard value : List Bool) (long : length heard ≡ leng
       go (Some a) e = fits.1 p a (first-old p a e) ∙ same-bit a (bit value p) (rw e at (quiet fits.0 p part_masks))
 
   fits-all : (w : ℕ → Bool) → Fits s w → ((p : ℕ) → bit heard p ≡ true → w p ≡ bit value p) → Fits (merged s heard value) w
-  fits-all w fits has = (silent fits.0 (λ p part_masks. agree p part_masks (first_at s p) refl), λ p b is. firsts p b is (first_at s p) (bit heard p) refl refl)
-    where
-      agree : (p : ℕ) → bit heard p ≡ true → (o : Option Bool) → first_at s p ≡ o → differs (first_at s p) (bit value p) ≡ false
-      agree p part_masks None e = rw e refl
-      agree p part_masks (Some a) e = rw (e, ← fits.1 p a e, has p part_masks, beq-self (bit value p)) refl
-
-      firsts : (p : ℕ) (b : Bool) → first_at (merged s heard value) p ≡ Some b → (o : Option Bool) (h : Bool) → first_at s p ≡ o → bit heard p ≡ h → w p ≡ b
-      firsts p b is (Some a) h e f = fits.1 p a e ∙ cc (first-old p a e, is)
-      firsts p b is None true e f = has p f ∙ cc (first-new p (rw e refl) f, is)
-      firsts p b is None false e f = cc (rw (e, f) at (first-is p), is)
+  fits-all w fits has = grind (arith, silent, beq-self, first-old, first-new, first-is)
 
   pub tells-merged : (agreed : Bool) (word : List Bool) → IsTrue agreed ↔ ((p : ℕ) → bit heard p ≡ true → bit word p ≡ bit value p)
       → Agrees agreed (bit word) s (merged s heard value)
@@ -135,26 +108,8 @@ module _ (s : HeardBits) (heard value : List Bool) (long : length heard ≡ leng
 
   -- the marks of positions told for the first time
   marks : (p : ℕ) → is_heard (first_at (merged s heard value) p) ≡ (is_heard (first_at s p) || bit heard p)
-  marks p = ap is_heard (first-is p) ∙ go (first_at s p) (bit heard p)
-    where
-      go : (o : Option Bool) (h : Bool) → is_heard (joined o h (bit value p)) ≡ (is_heard o || h)
-      go (Some a) h = refl
-      go None true = refl
-      go None false = refl
+  marks p = grind (arith, first-is)
 
   -- what is told for the first time is what the record has after it and lacked
   pub news-merged : (fresh : List Bool) → ((p : ℕ) → bit fresh p ≡ (bit heard p && not (is_heard (first_at s p)))) → IsNews s (merged s heard value) fresh value
-  news-merged fresh are = record {
-    marks = λ p. are p ∙ same (is_heard (first_at s p)) (bit heard p) ∙ ap (λ b. b && not (is_heard (first_at s p))) (sym (marks p));
-    bits = λ p is.
-        let parts = and_parts (bit heard p) (not (is_heard (first_at s p))) (sym (are p) ∙ is) in
-        first-new p (not-true (is_heard (first_at s p)) parts.1) parts.0;
-    kept = first-old;
-    long = long-is;
-  }
-    where
-      same : (a h : Bool) → (h && not a) ≡ ((a || h) && not a)
-      same true true = refl
-      same true false = refl
-      same false true = refl
-      same false false = refl
+  news-merged fresh are = grind (arith, marks, and_parts, first-new, not-true, first-old, long-is)

@@ -1,13 +1,13 @@
 -- What is received from one record of a code block to a later one: marks of the positions that are new, and their bits.
-use Rattle.std.proofs.Common.{◌≡◌, ◌≢◌, ℕ, ◌<◌, ◌||◌, ◌&&◌, Bool, true, false, not, List, length, set, refl, sym, ap, subst, ◌∙◌, ⊎_elim}
+use Rattle.std.proofs.Common.{arith}
+use Rattle.std.proofs.Common.{◌≡◌, ◌≢◌, ℕ, ◌<◌, ◌||◌, Bool, true, false, List, length, set, refl, sym, ap, subst, ◌∙◌}
 use Rattle.std.specs.Prelude.{Option, Some, None}
-use Rattle.std.proofs.lemmas.Bool.{cases_eq, true≢false}
+use Rattle.std.proofs.lemmas.Bool.{cases_eq}
 use Rattle.std.proofs.lemmas.Grind.{get_or-set_at}
 use Rattle.std.proofs.lemmas.List.{get_or-set_other, length-set}
 use Rattle.std.proofs.Math.Bool.{or-false}
 use Rattle.nr_bitvec.specs.Bit.{bit}
-use Rattle.nr_harqbuf.specs.Record.{HasFirsts, HeardBits, first_at, is_heard}
-use Rattle.nr_ldpcenc.specs.Codeword.{filler}
+use Rattle.nr_harqbuf.specs.Record.{HeardBits, first_at, is_heard}
 use Rattle.nr_ldpcenc.specs.Rows.{Checks, Meets}
 use Rattle.nr_peel.specs.Peeling.{GivesAll, IsPeeled, IsSameCode, KeepsAllWords, Peeling}
 use Rattle.nr_blockdesk.specs.Link.{Link}
@@ -30,43 +30,15 @@ module _ (s t u : HeardBits) (marks value : List Bool) (pos : ℕ) (v : Bool) (i
 
   -- it was not received at first either
   lacked : (o : Option Bool) → first_at s pos ≡ o → is_heard o ≡ false
-  lacked None e = refl
-  lacked (Some a) e = absurd (true≢false (sym (ap is_heard (news.kept pos a e)) ∙ unheard))
+  lacked x0 e = grind arith
 
   pub news-more : IsNews s u (set marks pos true) (set value pos v)
-  news-more = record {
-    marks = λ p. ⊎_elim
-        (λ (e : p ≡ pos). rw (get_or-set_at marks pos p true false e marked, here p e, e, lacked (first_at s pos) refl) refl)
-        (λ (ne : p ≢ pos). rw (get_or-set_other marks pos p true false ne, there p ne) (news.marks p))
-        (cases_eq p pos);
-    bits = λ p is. ⊎_elim
-        (λ (e : p ≡ pos). rw (here p e, get_or-set_at value pos p v false e valued) refl)
-        (λ (ne : p ≢ pos). rw (there p ne, get_or-set_other value pos p v false ne) (news.bits p (rw (get_or-set_other marks pos p true false ne) at is)))
-        (cases_eq p pos);
-    kept = λ p b is. ⊎_elim
-        (λ (e : p ≡ pos). absurd (true≢false (sym (ap is_heard (ap (first_at s) (sym e) ∙ is)) ∙ lacked (first_at s pos) refl)))
-        (λ (ne : p ≢ pos). there p ne ∙ news.kept p b is)
-        (cases_eq p pos);
-    long = rw (firsts, length-set) news.long;
-  }
+  news-more = grind (arith, get_or-set_at, here, lacked, get_or-set_other, there, cases_eq, length-set)
 
 -- store and peeler after the news were learned, or where there was none
 module _ (s t : HeardBits) (marks value : List Bool) (news : IsNews s t marks value) (link : Link) (p : Peeling) (tied : IsTied link s p) where
-  firsts-before : (w : ℕ → Bool) → HasFirsts t w → HasFirsts s w
-  firsts-before w has k b is = has k b (news.kept k b is)
-
   given-is : (k : ℕ) → (given link s k || bit marks k) ≡ given link t k
-  given-is k = rw (news.marks k) (go (first_at s k) refl)
-    where
-      join : (b f : Bool) → (f || (b && true)) ≡ (b || f)
-      join true true = refl
-      join true false = refl
-      join false true = refl
-      join false false = refl
-
-      go : (o : Option Bool) → first_at s k ≡ o → (given link s k || (is_heard (first_at t k) && not (is_heard (first_at s k)))) ≡ given link t k
-      go None e = rw e (join (is_heard (first_at t k)) (filler link.plan.kdash link.plan.k k))
-      go (Some a) e = rw (e, news.kept k a e) refl
+  given-is k = grind arith
 
   pub tied-still : ((k : ℕ) → bit marks k ≡ false) → IsTied link t p
   tied-still none = record {
@@ -75,7 +47,7 @@ module _ (s t : HeardBits) (marks value : List Bool) (news : IsNews s t marks va
     numbers = tied.numbers;
     long = news.long ∙ tied.long;
     positions = λ k. tied.positions k ∙ sym (or-false (given link s k)) ∙ ap (λ m. given link s k || m) (sym (none k)) ∙ given-is k;
-    words = λ w plain has. tied.words w plain (firsts-before w has);
+    words = λ w plain has. tied.words w plain (λ k b is. has k b (news.kept k b is));
     peeled = tied.peeled;
   }
 
@@ -87,6 +59,6 @@ module _ (s t : HeardBits) (marks value : List Bool) (news : IsNews s t marks va
     long = news.long ∙ tied.long;
     positions = λ k. gives k ∙ ap (λ g. g || bit marks k) (tied.positions k) ∙ given-is k;
     words = λ w plain has. words w (subst (λ (c : Checks). Meets c w) (sym (same-checks link s p tied)) plain.meets)
-        (tied.words w plain (firsts-before w has)) (λ k is. has k (bit value k) (news.bits k is));
+        (tied.words w plain (λ k b is. has k b (news.kept k b is))) (λ k is. has k (bit value k) (news.bits k is));
     peeled = peeled;
   }

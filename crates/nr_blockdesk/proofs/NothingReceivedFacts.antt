@@ -1,5 +1,5 @@
 -- With nothing received the outcome is open, and all positions below K' are left.
-use Rattle.std.proofs.Common.{◌≡◌, ℕ, zero, suc, ◌+◌, ◌<◌, ◌≤◌, ◌==◌, ◌||◌, Bool, true, false, not, cond, List, [], length, refl, sym, ap, ◌∙◌, arith}
+use Rattle.std.proofs.Common.{◌≡◌, ℕ, zero, suc, ◌+◌, ◌<◌, ◌≤◌, ◌==◌, ◌||◌, Bool, true, false, not, cond, [], length, refl, sym, ap, ◌∙◌, arith}
 use Rattle.std.specs.Prelude.{count_by}
 use Rattle.std.specs.List.{find, range_with_len}
 use Rattle.std.proofs.lemmas.Bool.{false_from_ne_true, true≢false}
@@ -15,14 +15,13 @@ use Rattle.nr_shifttable.specs.Accepted.{entries_in}
 use Rattle.nr_blockdesk.specs.Explains.{explains}
 use Rattle.nr_blockdesk.specs.Heard.{heard_of, heard_record, hearings}
 use Rattle.nr_blockdesk.specs.Link.{IsLink, Link}
-use Rattle.nr_blockdesk.specs.Outcome.{all_fixed, blocks_of, fixed, given, left, open_still, outcome_of, verdict_on}
+use Rattle.nr_blockdesk.specs.Outcome.{all_fixed, blocks_of, fixed, given, open_still, outcome_of, verdict_on}
 use Rattle.nr_blockdesk.specs.ReceiverLaws.{NothingIsOpen, NothingLeavesAll}
 use Rattle.nr_blockdesk.proofs.ClosureDecisionFacts.{every_fixed}
 use Rattle.nr_blockdesk.proofs.RecordFacts.{none_heard, record-at}
 
 some_from : (n : ℕ) → not (n == 0) ≡ true → 0 < n
-some_from zero e = cc e
-some_from (suc n) e = omega arith
+some_from x0 e = grind arith
 
 -- no position below K' is fixed
 none_fixed : NothingHeardFixesNothing → PlansAreSound → (link : Link) (r p : ℕ) → IsLink link → r < link.plan.c → p < link.plan.kdash
@@ -63,7 +62,4 @@ count_full t a (suc n) each =
 
 -- so all K' are left
 pub nothing-leaves_all : NothingHeardFixesNothing → PlansAreSound → NothingLeavesAll
-nothing-leaves_all nothing plans link records r is of block =
-    ap (λ (l : List HeardBits). left link l r) of.same
-    ∙ count_full (λ p. not (fixed link (heard_of (heard_record link []) r) p)) 0 link.plan.kdash
-    (λ p low high. ap not (none_fixed nothing plans link r p is block (omega (arith, high))))
+nothing-leaves_all nothing plans link records r is of block = grind (arith, count_full, none_fixed)

@@ -1,5 +1,5 @@
 -- The laws of the outcome of a list of receptions.
-use Rattle.std.proofs.Common.{◌≡◌, ℕ, zero, suc, ◌<◌, Bool, true, false, cond, List, [], ◌∷◌, length, map, refl, sym, ap, ◌∙◌, arith}
+use Rattle.std.proofs.Common.{◌≡◌, ℕ, zero, suc, ◌<◌, Bool, true, cond, List, [], ◌∷◌, length, map, refl, sym, ◌∙◌, arith}
 use Rattle.std.specs.Prelude.{Option, Some, None}
 use Rattle.std.specs.List.{find, zip}
 use Rattle.std.proofs.lemmas.Bool.{and_from, eqb-true, true≢false}
@@ -9,7 +9,6 @@ use Rattle.nr_blockdesk.specs.Heard.{heard_record}
 use Rattle.nr_blockdesk.specs.Link.{IsBlock, Link}
 use Rattle.nr_blockdesk.specs.Outcome.{all_fixed, blocks_of, contradiction, delivered, open_still, outcome_of, verdict_on}
 use Rattle.nr_blockdesk.specs.ReceiverLaws.{DeliveredIsOnly, ErasuresAreSafe, ExplainedIsDelivered, ExplainedNeverContradicts, OneExplains, arrived, arrived_bit}
-use Rattle.nr_blockdesk.specs.Sent.{sent}
 use Rattle.nr_blockdesk.specs.declared.heard.Heard.{Heard}
 use Rattle.nr_transmission.specs.declared.tx.Tx.{Tx}
 use Rattle.nr_blockdesk.proofs.SearchFacts.{blocks_long, find_passes, is_long, none_passes}
@@ -18,14 +17,10 @@ use Rattle.nr_blockdesk.proofs.RangeTestFacts.{range_all}
 -- what an outcome says: where a block is delivered, all is fixed and the block was found
 pub was-found : (all : Bool) (o : Option (List Bool)) (x : List Bool) → cond all (verdict_on o) open_still ≡ delivered x
     → (all ≡ true) × (o ≡ Some x)
-was-found true (Some y) x e = let same : y ≡ x = cc e in (refl, ap Some same)
-was-found true None x e = cc e
-was-found false o x e = cc e
+was-found x0 o x e = grind arith
 
 was-none : (all : Bool) (o : Option (List Bool)) → cond all (verdict_on o) open_still ≡ contradiction → o ≡ None
-was-none true (Some y) e = cc e
-was-none true None e = refl
-was-none false o e = cc e
+was-none x0 o e = grind arith
 
 pub delivered-only : OneExplains → DeliveredIsOnly
 unfolding outcome_of
@@ -41,9 +36,7 @@ delivered-only one link list x is accepted e =
 
 pub never-contradicts : ExplainedNeverContradicts
 unfolding outcome_of
-never-contradicts link list y whole explained e =
-    let none = was-none (all_fixed link (heard_record link list)) (find (explains link list) (blocks_of link.a)) e in
-    true≢false (sym explained ∙ none_passes link.a (explains link list) none y whole)
+never-contradicts link list y whole explained e = grind (arith, was-none, none_passes)
 
 pub explained-delivered : OneExplains → ExplainedIsDelivered
 unfolding outcome_of
@@ -56,9 +49,7 @@ explained-delivered one link list y is accepted whole explained all = rw all (go
         rw (e, one link list x y is accepted (eqb-true (length x) link.a passes.1) whole passes.0 explained all) refl
 
 arrived-agrees : (mark b : Bool) → agrees (arrived_bit mark b) b ≡ true
-arrived-agrees true b = refl
-arrived-agrees false true = refl
-arrived-agrees false false = refl
+arrived-agrees x0 b = grind arith
 
 abbrev arrived_pair : Bool × Bool → Heard
 arrived_pair at = arrived_bit at.0 at.1
@@ -74,12 +65,7 @@ arrived-at (k ∷ ks) (b ∷ bs) (suc m) inside = arrived-at ks bs m (omega arit
 pub arrived-explained : (link : Link) (block : List Bool) (txs : List (Tx × List Bool)) → Explains link (arrived link block txs) block
 unfolding explains
 arrived-explained link block [] = refl
-arrived-explained link block (x ∷ xs) =
-    let bits : List Bool = sent link x.0 block in
-    let places : List Heard = map arrived_pair (zip x.1 bits) in
-    and_from _ _
-    (range_all (λ m. agrees (heard_at places m) (bit bits m)) 0 (length places) (λ m low high. arrived-at x.1 bits m (omega arith)))
-    (arrived-explained link block xs)
+arrived-explained link block (x ∷ xs) = grind (arith, and_from, range_all, arrived-at, arrived-explained link block xs)
 
 pub erasures-safe : OneExplains → ErasuresAreSafe
 erasures-safe one link block txs is whole accepted =

@@ -13,10 +13,7 @@ holds_if p (Some x) = p x
 
 -- a range in two parts
 pub range-split : (a n k : ℕ) → range_with_len a (n + k) ≡ range_with_len a n ++ range_with_len (a + n) k
-range-split a zero k =
-    let none : 0 + k ≡ k = omega arith in
-    let start : a ≡ a + 0 = omega arith in
-    ap (λ m. range_with_len a m) none ∙ ap (λ b. range_with_len b k) start
+range-split a zero k = grind arith
 range-split a (suc n) k =
     let longer : suc n + k ≡ suc (n + k) = omega arith in
     let next : a + 1 + n ≡ a + suc n = omega arith in
@@ -24,10 +21,7 @@ range-split a (suc n) k =
     ∙ ap (λ xs. a ∷ xs) (range-split (a + 1) n k ∙ ap (λ b. range_with_len (a + 1) n ++ range_with_len b k) next)
 
 pub range_all : (p : ℕ → Bool) (a n : ℕ) → ((m : ℕ) → a ≤ m → m < a + n → p m ≡ true) → list_all p (range_with_len a n) ≡ true
-range_all p a n each =
-    list_all-from_AllPass p (range_with_len a n) (λ k d below.
-    let inside : k < n = omega (arith, length-range_with_len a n, below) in
-    ap p (get_or-range_with_len a n k d inside) ∙ each (a + k) (omega arith) (omega (arith, inside)))
+range_all p a n each = grind (arith, list_all-from_AllPass, length-range_with_len, get_or-range_with_len)
 
 pub range_each : (p : ℕ → Bool) (a n : ℕ) → list_all p (range_with_len a n) ≡ true → (m : ℕ) → a ≤ m → m < a + n → p m ≡ true
 range_each p a n all m low high =
@@ -37,8 +31,7 @@ range_each p a n all m low high =
 
 cons_all : {X : Type 0} (p : X → Bool) (o : Option X) (xs : List X) (b : Bool) → list_all p xs ≡ b
     → list_all p (cons_option o xs) ≡ (holds_if p o && b)
-cons_all p None xs b rest = rest
-cons_all p (Some x) xs b rest = ap (λ t. p x && t) rest
+cons_all p x1 xs b rest = grind arith
 
 -- a test of all that the numbers give is one of each number
 pub given_all : {X : Type 0} (f : ℕ → Option X) (p : X → Bool) (ns : List ℕ) → list_all p (filter_map f ns) ≡ list_all (λ m. holds_if p (f m)) ns

@@ -1,5 +1,6 @@
 -- What a reception tells of each code block, and the record of one reception more.
-use Rattle.std.proofs.Common.{◌≡◌, ℕ, zero, suc, ◌+◌, ◌-◌, ◌<◌, ◌≤◌, ◌==◌, Bool, true, false, List, [], ◌∷◌, ◌++◌, length, get_or, take, drop, flat_map, refl, sym, ap, subst, ◌∙◌, arith}
+use Rattle.std.proofs.lemmas.Bool.Decides.{nat_tests}
+use Rattle.std.proofs.Common.{◌≡◌, ℕ, zero, suc, ◌+◌, ◌-◌, ◌<◌, ◌≤◌, false, List, [], ◌∷◌, ◌++◌, length, get_or, take, drop, flat_map, refl, sym, ap, subst, ◌∙◌, arith}
 use Rattle.std.specs.Prelude.{Option, None, Ok, Err, sum, slice_index}
 use Rattle.std.specs.List.{cons_option, filter_map, range_with_len}
 use Rattle.std.proofs.lemmas.Bool.{eqb-true, eq-eqb}
@@ -8,18 +9,17 @@ use Rattle.std.proofs.lemmas.List.{append-nil, get_or-drop, get_or-take, ext_get
 use Rattle.std.proofs.lemmas.List.Elements.{All-push, filter_map-append}
 use Rattle.std.proofs.lemmas.List.FromFn.{length-map-range_with_len}
 use Rattle.std.proofs.lemmas.List.Sums.{sum_by_more_le}
-use Rattle.nr_cbconcat.specs.Concatenation.{PlacesHaveOneOwner, owner_of}
+use Rattle.nr_cbconcat.specs.Concatenation.{PlacesHaveOneOwner}
 use Rattle.nr_harqbuf.specs.Record.{HeardBits, Observation, record_of}
 use Rattle.nr_segment.specs.Plan.{word_size}
 use Rattle.nr_peel.specs.Peeling.{Peeling}
 use Rattle.nr_blockdesk.specs.Explains.{IsAccepted, Reception, reception, reception_said, reception_said_of}
 use Rattle.nr_blockdesk.specs.Heard.{IsRecordOf, hearing_at, heard_of, heard_record, hearings, hearings_in}
-use Rattle.nr_blockdesk.specs.Link.{IsLink, Link, demanded}
+use Rattle.nr_blockdesk.specs.Link.{IsLink, Link}
 use Rattle.nr_blockdesk.specs.ReceivingInside.{HearsPart, IsDesk, part_hearing, part_hearings, piece}
-use Rattle.nr_blockdesk.specs.Sent.{AcceptedAreMatched, IsMatched, RateMatching, PartsAreAt, block_at, matching, tx_said, tx_said_of}
+use Rattle.nr_blockdesk.specs.Sent.{AcceptedAreMatched, IsMatched, RateMatching, PartsAreAt, matching, tx_said}
 use Rattle.nr_transmission.specs.declared.fault.DeskFault.TheVariants as fault
 use Rattle.nr_blockdesk.specs.declared.heard.Heard.{Heard}
-use Rattle.nr_blockdesk.specs.declared.heard.Heard.TheVariants as kind
 use Rattle.nr_transmission.specs.declared.tx.Tx.{Tx}
 use Rattle.nr_blockdesk.proofs.RangeTestFacts.{range-split}
 use Rattle.nr_blockdesk.proofs.LinkFacts.{bind-ok, never-bind, never-demanded}
@@ -36,17 +36,15 @@ same-part_masks : (f g : ℕ → Option Observation) (a b n : ℕ) → ((k : ℕ
     → filter_map f (range_with_len a n) ≡ filter_map g (range_with_len b n)
 same-part_masks f g a b zero each = refl
 same-part_masks f g a b (suc n) each =
-    let left : a ≡ a + 0 = omega arith in
+    let left : a + 0 ≡ a = omega arith in
     let right : b + 0 ≡ b = omega arith in
-    let first : f a ≡ g b = ap f left ∙ each 0 (omega arith) ∙ ap g right in
-    ap (λ o. cons_option o (filter_map f (range_with_len (a + 1) n))) first
-    ∙ ap (λ hs. cons_option (g b) hs) (same-part_masks f g (a + 1) (b + 1) n next)
+    rw (rw (left, right) at (each 0 (omega arith)), same-part_masks f g (a + 1) (b + 1) n next) refl
   where
     next : (k : ℕ) → k < n → f (a + 1 + k) ≡ g (b + 1 + k)
     next k inside =
-        let left : a + 1 + k ≡ a + suc k = omega arith in
+        let left : a + suc k ≡ a + 1 + k = omega arith in
         let right : b + suc k ≡ b + 1 + k = omega arith in
-        ap f left ∙ each (suc k) (omega arith) ∙ ap g right
+        rw (left, right) at (each (suc k) (omega (arith, inside)))
 
 nothing-before : (xs ys : List Observation) → xs ≡ [] → ys ≡ [] → (zs : List Observation) → xs ++ (zs ++ ys) ≡ zs
 nothing-before xs ys front back zs = rw (front, back, append-nil) refl
@@ -94,24 +92,10 @@ piece-part_masks parts owners t tx heard r rv qm together block =
     long = length-take-le e (drop start heard) (omega (arith, length-drop start heard, most, together))
 
     outside : (m : ℕ) → m < length heard → ((start ≤ m) × (m < start + e) → ⊥) → f m ≡ None
-    outside m within out = go (block_at t m == r) refl
-      where
-        go : (b : Bool) → (block_at t m == r) ≡ b → f m ≡ None
-        go false own = rw own refl
-        go true own =
-            let one = (owners t.lengths m (omega (arith, within, together))).owner in
-            let is : block_at t m ≡ r = eqb-true (block_at t m) r own in
-            let p : ℕ = (owner_of t.lengths m).1 in
-            let at : m ≡ start + p = one.joined ∙ ap (λ k. sum (take k t.lengths) + p) is in
-            let below : p < e = subst (λ k. p < slice_index t.lengths k) is one.inside in
-            absurd (out (omega (arith, at), omega (arith, at, below)))
+    outside m within out = grind (arith, nat_tests, f, eqb-true, start, e)
 
     inside : (k : ℕ) → k < e → f (0 + start + k) ≡ g (0 + k)
-    inside k below =
-        let zeros : 0 + start + k ≡ start + k = omega arith in
-        let none : 0 + k ≡ k = omega arith in
-        let both = parts t (start + k) r k (record { block = block; inside = below; joined = refl }) in
-        rw (zeros, none, eq-eqb (block_at t (start + k)) r both.0, both.1, rv, qm, long, get_or-take e (drop start heard) k kind.Erased below, get_or-drop start heard k kind.Erased) refl
+    inside k below = grind (arith, nat_tests, start, eq-eqb, long, get_or-take, e, get_or-drop)
 
 -- the peeler that stands for none
 abbrev pub none-of : Link → Peeling
@@ -144,10 +128,7 @@ length-record link list = length-map-range_with_len (λ r. record_of (word_size 
 
 -- what was said of a reception was said of its transmission
 pub tx-from : (link : Link) (x : Reception) (es : List ℕ) → reception_said link x ≡ Ok es → tx_said link x.tx ≡ Ok es
-tx-from link x es said =
-    let first = bind-ok (tx_said link x.tx) _ es said in
-    let second = bind-ok (demanded fault.Length (length x.heard == x.tx.g)) _ es first.2 in
-    first.1 ∙ second.2
+tx-from link x es said = grind (arith, nat_tests, bind-ok)
 
 -- so the record after a reception that was taken is that of the longer list
 pub all-taken : PartsAreAt → PlacesHaveOneOwner → AcceptedAreMatched → (link : Link) (tx : Tx) (es : List ℕ) (heard : List Heard)
@@ -177,15 +158,11 @@ all-taken parts owners matched link tx es heard S S' P P' is desk said whole man
 -- and stores and peelers belong together again
 pub desk-taken : (link : Link) (tx : Tx) (lengths : List ℕ) (heard : List Heard) (S S' : List HeardBits) (P P' : List Peeling)
     → IsDesk link S P → length S' ≡ link.plan.c → length P' ≡ link.plan.c → AreHeard link tx lengths heard S P S' P' → IsDesk link S' P'
-desk-taken link tx lengths heard S S' P P' desk stores peelers hears =
-    record { stores = stores; peelings = peelers; tied = λ r block. (hears r (none-of link) block).tied link (desk.tied r block) }
+desk-taken link tx lengths heard S S' P P' desk stores peelers hears = grind arith
 
 -- nothing that is said of a reception is `Memory`
 pub reception-never_memory : (c : ℕ) (x : Reception) → reception_said_of c x ≡ Err fault.Memory → ⊥
-reception-never_memory c x =
-    never-bind (tx_said_of c x.tx) _ (tx-never_memory c x.tx)
-    (λ lengths. never-bind (demanded fault.Length (length x.heard == x.tx.g)) _
-    (never-demanded fault.Length (length x.heard == x.tx.g) (λ e. cc e)) (λ u e. cc e))
+reception-never_memory c x = grind (arith, nat_tests, never-bind, x, tx-never_memory, never-demanded)
 
 -- the parts, of the receiver's own lists
 pub parts-are : (link : Link) (tx : Tx) (es es' : List ℕ) (heard : List Heard) (S S₁ S' : List HeardBits) (P P₁ P' : List Peeling)
@@ -193,5 +170,4 @@ pub parts-are : (link : Link) (tx : Tx) (es es' : List ℕ) (heard : List Heard)
     → ((r : ℕ) (d : Peeling) → r < length S₁
     → HearsPart link.buffer tx (piece es' heard r) (heard_of S₁ r) (get_or P₁ r d) (heard_of S' r) (get_or P' r d))
     → AreHeard link tx es heard S P S' P'
-parts-are link tx es es' heard S S₁ S' P P₁ P' es-is S-is P-is many parts r d block =
-    rw (← es-is, ← S-is, ← P-is) (parts r d (rw (S-is, many) block))
+parts-are link tx es es' heard S S₁ S' P P₁ P' es-is S-is P-is many parts r d block = grind arith

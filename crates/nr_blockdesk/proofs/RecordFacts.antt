@@ -1,7 +1,7 @@
 -- The law that a record says which transport blocks explain a list of receptions.
-use Rattle.std.proofs.Common.{◌≡◌, ℕ, ◌*◌, ◌<◌, ◌≤◌, ◌==◌, Bool, true, false, cond, nat_lt, List, [], ◌∷◌, length, map, get_or, All, refl, sym, ap, subst, ◌∙◌, ⊎_elim, arith}
-use Rattle.std.specs.Prelude.{Option, Some, None, option_map, Ok, sum}
-use Rattle.std.specs.List.{list_all, range_with_len}
+use Rattle.std.proofs.Common.{◌≡◌, ℕ, ◌*◌, ◌<◌, ◌≤◌, Bool, true, false, cond, nat_lt, List, [], ◌∷◌, length, get_or, All, refl, sym, ap, subst, ◌∙◌, ⊎_elim, arith}
+use Rattle.std.specs.Prelude.{Option, None, option_map, Ok, sum}
+use Rattle.std.specs.List.{list_all}
 use Rattle.std.specs.Option.{is_some}
 use Rattle.std.proofs.lemmas.Bool.{and_from, cases_lt, eqb-true}
 use Rattle.std.proofs.lemmas.Bool.Decides.{nat_tests}
@@ -12,14 +12,12 @@ use Rattle.nr_bitvec.specs.Bit.{bit}
 use Rattle.nr_graphpick.specs.Graph.{cols_of}
 use Rattle.nr_harqbuf.specs.Record.{FitsByRecord, HasFirsts, HeardBits, Observation, first_at, first_heard, is_heard, record_of}
 use Rattle.nr_segment.specs.Plan.{word_size}
-use Rattle.nr_blockdesk.specs.Explains.{Explains, IsAccepted, Reception, heard_at}
-use Rattle.nr_blockdesk.specs.Heard.{hearing_at, heard_of, heard_record, hearings, hearings_in}
-use Rattle.nr_blockdesk.specs.Hearing.{heard_bit}
-use Rattle.nr_blockdesk.specs.Link.{IsLink, Link, demanded, word}
+use Rattle.nr_blockdesk.specs.Explains.{Explains, IsAccepted, Reception}
+use Rattle.nr_blockdesk.specs.Heard.{heard_of, heard_record, hearings, hearings_in}
+use Rattle.nr_blockdesk.specs.Link.{IsLink, Link, word}
 use Rattle.nr_blockdesk.specs.Outcome.{ExplainedBy}
 use Rattle.nr_blockdesk.specs.ReceiverLaws.{ExplainsByRecord}
 use Rattle.nr_blockdesk.specs.Sent.{AcceptedAreMatched, IsMatched, RateMatching, SentBitsAreAt, block_at, matching, position_at, sent, tx_said}
-use Rattle.nr_transmission.specs.declared.fault.DeskFault.TheVariants as fault
 use Rattle.nr_blockdesk.proofs.ExplanationFacts.{IsOf, IsOwned, explained-fits, fits, fits-explained}
 use Rattle.nr_blockdesk.proofs.LinkFacts.{bind-ok, demanded-ok}
 use Rattle.nr_blockdesk.proofs.RangeTestFacts.{all-at, flat_all, given_all, holds_if, range_all}
@@ -31,10 +29,7 @@ pub record IsTaken (link : Link) (x : Reception) : Type 0 where
   pub heard : length x.heard ≡ x.tx.g
 
 pub taken-from : (link : Link) (x : Reception) → IsAccepted link x → IsTaken link x
-taken-from link x is =
-    let first = bind-ok (tx_said link x.tx) _ is.0 is.1 in
-    let second = bind-ok (demanded fault.Length (length x.heard == x.tx.g)) _ is.0 first.2 in
-    record { lengths = first.0; said = first.1; heard = eqb-true (length x.heard) x.tx.g (demanded-ok fault.Length (length x.heard == x.tx.g) second.0 second.1) }
+taken-from link x is = grind (arith, nat_tests, bind-ok, eqb-true, demanded-ok)
 
 -- each place of an accepted reception is a position of a code block, and has its word's bit
 pub record IsPlaced (link : Link) (x : Reception) (m : ℕ) : Type 0 where
@@ -64,18 +59,14 @@ placed matched at link x is accepted m inside =
 pub record-at : (link : Link) (list : List Reception) (r : ℕ) → r < link.plan.c
     → heard_of (heard_record link list) r ≡ record_of (word_size link.graph link.plan) (hearings link list r)
 unfolding heard_record
-record-at link list r inside =
-    get_or-map-range_with_len (λ k. record_of (word_size link.graph link.plan) (hearings link list k)) 0 link.plan.c r r
-    (record { first = []; clash = false }) inside (omega arith)
+record-at link list r inside = grind (arith, get_or-map-range_with_len)
 
 -- what a record keeps of a position: the first bit received there, and nothing of one that the word lacks
 pub first-inside : (n : ℕ) (hs : List Observation) (p : ℕ) → p < n → first_at (record_of n hs) p ≡ first_heard hs p
 first-inside n hs p inside = get_or-map-range_with_len (first_heard hs) 0 n p p None inside (omega arith)
 
 pub first-past : (n : ℕ) (hs : List Observation) (p : ℕ) → n ≤ p → first_at (record_of n hs) p ≡ None
-first-past n hs p past =
-    let long : length (map (first_heard hs) (range_with_len 0 n)) ≤ p = omega (arith, length-map-range_with_len (first_heard hs) 0 n, past) in
-    get_or_past (map (first_heard hs) (range_with_len 0 n)) p None long
+first-past n hs p past = grind (arith, length-map-range_with_len, get_or_past)
 
 -- nothing is kept where nothing was received
 pub none_heard : (n p : ℕ) → first_at (record_of n []) p ≡ None
@@ -88,18 +79,12 @@ is_below n h = nat_lt h.0 n
 
 place-below : (n p : ℕ) (own : Bool) (o : Option Bool) → p < n
     → holds_if (is_below n) (cond own (option_map (λ b. (p, b)) o) None) ≡ true
-place-below n p false o inside = refl
-place-below n p true None inside = refl
-place-below n p true (Some b) inside = grind (arith, nat_tests)
+place-below n p x2 o inside = grind (arith, nat_tests)
 
 below-in : AcceptedAreMatched → SentBitsAreAt → (link : Link) (r : ℕ) (x : Reception) → IsLink link → IsAccepted link x
     → list_all (is_below (word_size link.graph link.plan)) (hearings_in link r x) ≡ true
 unfolding hearings_in
-below-in matched at link r x is accepted =
-    given_all (hearing_at (matching link x.tx) x.heard r) (is_below (word_size link.graph link.plan)) (range_with_len 0 (length x.heard))
-    ∙ range_all (λ m. holds_if (is_below (word_size link.graph link.plan)) (hearing_at (matching link x.tx) x.heard r m)) 0 (length x.heard)
-    (λ m low high. place-below (word_size link.graph link.plan) (position_at (matching link x.tx) m) (block_at (matching link x.tx) m == r)
-    (heard_bit (heard_at x.heard m)) (placed matched at link x is accepted m (omega arith)).inside)
+below-in matched at link r x is accepted = grind (arith, nat_tests, given_all, range_all, holds_if, place-below, placed)
 
 below-all : AcceptedAreMatched → SentBitsAreAt → (link : Link) (list : List Reception) (r : ℕ) → IsLink link
     → All (IsAccepted link) list → list_all (is_below (word_size link.graph link.plan)) (hearings link list r) ≡ true
@@ -145,5 +130,4 @@ explains-by_record matched at by_record link list block is accepted whole = (for
 
 -- a bit was received, in other words
 pub heard-some : (o : Option Bool) → is_heard o ≡ is_some o
-heard-some None = refl
-heard-some (Some b) = refl
+heard-some x0 = grind arith

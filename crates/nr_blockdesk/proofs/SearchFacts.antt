@@ -1,5 +1,6 @@
 -- What a search through all lists of n bits finds.
-use Rattle.std.proofs.Common.{◌≡◌, ℕ, zero, suc, ◌==◌, Bool, true, false, cond, List, [], ◌∷◌, length, get_or, flat_map, refl, sym, ap, ◌∙◌, arith}
+use Rattle.std.proofs.lemmas.Bool.Decides.{nat_tests}
+use Rattle.std.proofs.Common.{◌≡◌, ℕ, zero, suc, ◌==◌, Bool, true, false, cond, List, [], ◌∷◌, length, get_or, flat_map, refl, ap, ◌∙◌, arith}
 use Rattle.std.specs.Prelude.{Option, Some, None}
 use Rattle.std.specs.List.{find, list_all}
 use Rattle.std.proofs.lemmas.Bool.{and_from, and_parts, eqb-true, eq-eqb}
@@ -10,10 +11,7 @@ use Rattle.nr_blockdesk.proofs.RangeTestFacts.{flat_all}
 first_found : {X : Type 0} (t q : X → Bool) (y x : X) (o : Option X) → q y ≡ true
     → (o ≡ Some x → (t x ≡ true) × (q x ≡ true)) → (b : Bool) → t y ≡ b → cond b (Some y) o ≡ Some x
     → (t x ≡ true) × (q x ≡ true)
-first_found t q y x o held later true e found =
-    let is : y ≡ x = cc in
-    (ap t (sym is) ∙ e, ap q (sym is) ∙ held)
-first_found t q y x o held later false e found = later found
+first_found t q y x o held later x7 e found = grind arith
 
 -- what is found passes the test, and every other test that all pass
 pub find_passes : {X : Type 0} (t q : X → Bool) (xs : List X) (x : X) → list_all q xs ≡ true → find t xs ≡ Some x
@@ -30,11 +28,7 @@ abbrev pub is_long : ℕ → List Bool → Bool
 is_long n bits = length bits == n
 
 doubled-long : (n : ℕ) (bits : List Bool) → is_long n bits ≡ true → list_all (is_long (suc n)) (doubled bits) ≡ true
-doubled-long n bits long =
-    let more : length bits ≡ n = eqb-true (length bits) n long in
-    let first : is_long (suc n) (false ∷ bits) ≡ true = eq-eqb (length (false ∷ bits)) (suc n) (ap suc more) in
-    let second : is_long (suc n) (true ∷ bits) ≡ true = eq-eqb (length (true ∷ bits)) (suc n) (ap suc more) in
-    and_from _ _ first (and_from _ _ second refl)
+doubled-long n bits long = grind (arith, nat_tests, eqb-true, eq-eqb, and_from)
 
 all_then : {X : Type 0} (q p : X → Bool) (xs : List X) → ((x : X) → q x ≡ true → p x ≡ true) → list_all q xs ≡ true → list_all p xs ≡ true
 all_then q p xs then all = list_all-from_AllPass p xs (λ k d inside. then (get_or xs k d) (AllPass-from_list_all q xs all k d inside))
@@ -42,15 +36,11 @@ all_then q p xs then all = list_all-from_AllPass p xs (λ k d inside. then (get_
 -- each of all lists of n bits has n bits
 pub blocks_long : (n : ℕ) → list_all (is_long n) (blocks_of n) ≡ true
 blocks_long zero = refl
-blocks_long (suc n) =
-    flat_all doubled (is_long (suc n)) (blocks_of n)
-    ∙ all_then (is_long n) (λ bits. list_all (is_long (suc n)) (doubled bits)) (blocks_of n) (doubled-long n) (blocks_long n)
+blocks_long (suc n) = grind (arith, flat_all, all_then, doubled-long, blocks_long n)
 
 step : {X : Type 0} (p q : Bool) (u v : X) (o : Option X) → cond p (Some u) (cond q (Some v) o) ≡ None
     → (p ≡ false) × (q ≡ false) × (o ≡ None)
-step true q u v o e = cc e
-step false true u v o e = cc e
-step false false u v o e = (refl, refl, e)
+step x0 q u v o e = grind arith
 
 find_doubled : (t : List Bool → Bool) (xs : List (List Bool)) → find t (flat_map doubled xs) ≡ None
     → (find (λ bits. t (false ∷ bits)) xs ≡ None) × (find (λ bits. t (true ∷ bits)) xs ≡ None)
@@ -63,8 +53,7 @@ find_doubled t (x ∷ xs) none =
     )
 
 one-none : (b : Bool) → cond {A = Option (List Bool)} b (Some []) None ≡ None → b ≡ false
-one-none true e = cc e
-one-none false e = refl
+one-none x0 e = grind arith
 
 -- where none is found, no list of n bits passes
 pub none_passes : (n : ℕ) (t : List Bool → Bool) → find t (blocks_of n) ≡ None → (y : List Bool) → length y ≡ n → t y ≡ false

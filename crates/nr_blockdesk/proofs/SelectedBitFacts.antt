@@ -1,4 +1,5 @@
 -- What words tell of selected bits is what their places tell one by one.
+use Rattle.std.proofs.lemmas.Bool.Decides.{nat_tests}
 use Rattle.std.proofs.Common.{◌≡◌, ℕ, ◌+◌, ◌-◌, ◌%◌, ◌<◌, ◌≤◌, ◌==◌, ◌||◌, ◌&&◌, Bool, true, false, nat_le, nat_lt, List, [], ◌∷◌, length, take, drop, refl, sym, ap, ◌∙◌, arith}
 use Rattle.std.specs.Prelude.{Option, Some, None, option_map}
 use Rattle.std.specs.Bool.{beq}
@@ -11,7 +12,7 @@ use Rattle.std.proofs.lemmas.List.Folds.{Any-from_list_any, list_any-append, lis
 use Rattle.std.proofs.lemmas.List.FromFn.{get_or-range_with_len, length-range_with_len}
 use Rattle.std.proofs.Math.Bool.{and-false, or-false, or_assoc}
 use Rattle.nr_bitvec.specs.Bit.{bit}
-use Rattle.nr_harqbuf.specs.Masks.{says, word_says}
+use Rattle.nr_harqbuf.specs.Masks.{word_says}
 use Rattle.nr_harqbuf.specs.Record.{Observation, heard_as}
 use Rattle.nr_interleave.proofs.SeatFacts.{seat-given, seat-inside}
 use Rattle.nr_interleave.specs.Interleaving.{interleaved, seat_of}
@@ -55,13 +56,7 @@ pub runs-more : (f : ℕ → Bool → ℕ → Bool) (a n count k : ℕ) → k �
     → (one ≡ true → (p : ℕ) (v : Bool) → old p v ≡ (first p v || list_any (f p v) (range_with_len a n)))
     → (more ≡ true → (p : ℕ) (v : Bool) → new p v ≡ (old p v || list_any (f p v) (range_with_len k count)))
     → (one && more) ≡ true → (p : ℕ) (v : Bool) → new p v ≡ (first p v || list_any (f p v) (range_with_len a (n + count)))
-runs-more f a n count k start first old new one more before said both p v =
-    let clean = and_parts one more both in
-    said clean.1 p v
-    ∙ ap (λ t. t || list_any (f p v) (range_with_len k count)) (before clean.0 p v)
-    ∙ or_assoc (first p v) (list_any (f p v) (range_with_len a n)) (list_any (f p v) (range_with_len k count))
-    ∙ ap (λ s. first p v || (list_any (f p v) (range_with_len a n) || list_any (f p v) (range_with_len s count))) start
-    ∙ ap (λ t. first p v || t) (sym (any-more (f p v) a n count))
+runs-more f a n count k start first old new one more before said both p v = grind (arith, and_parts, or_assoc, any-more)
 
 -- place j of a word of marks and a word of bits tells this bit
 abbrev bit_tells : ℕ → ℕ → ℕ → Bool → Bool
@@ -75,10 +70,7 @@ module _ (b : Circular) (rv : ℕ) (marks bits : List Bool) (k position count no
   -- selected bit k + j
   one-says : (p : ℕ) (v : Bool) (j : ℕ) → j < count
       → bit_says b rv marks bits p v (k + j) ≡ ((position + j == p) && bit_tells now word j v)
-  one-says p v j inside =
-      ap (λ q. (q == p) && says marks bits (k + j) v) (run j inside)
-      ∙ ap (λ m. (position + j == p) && (m && beq (bit bits (k + j)) v)) (sym (reads j inside))
-      ∙ ap (λ m. (position + j == p) && ((bit_at now j == 1) && beq m v)) (sym (reads-too j inside))
+  one-says p v j inside = grind (arith, nat_tests)
 
   pub word-tells : (p : ℕ) (v : Bool)
       → word_says position count now word p v ≡ list_any (bit_says b rv marks bits p v) (range_with_len k count)
@@ -123,8 +115,7 @@ told_by p v (Some h) = (h.0 == p) && beq h.1 v
 cons_any : (p : ℕ) (v : Bool) (o : Option Observation) (hs : List Observation) (b : Bool) → list_any (λ (h : Observation). (h.0 == p) && beq h.1 v) hs ≡ b
     → list_any (λ (h : Observation). (h.0 == p) && beq h.1 v) (cons_option o hs) ≡ (told_by p v o || b)
 unfolding told_by
-cons_any p v None hs b rest = rest
-cons_any p v (Some h) hs b rest = ap (λ t. ((h.0 == p) && beq h.1 v) || t) rest
+cons_any p v x2 hs b rest = grind (arith, nat_tests)
 
 any-part_masks : (f : ℕ → Option Observation) (p : ℕ) (v : Bool) (ns : List ℕ)
     → list_any (λ (h : Observation). (h.0 == p) && beq h.1 v) (filter_map f ns) ≡ list_any (λ m. told_by p v (f m)) ns
@@ -133,8 +124,7 @@ any-part_masks f p v (n ∷ ns) = cons_any p v (f n) (filter_map f ns) (list_any
 
 part_masks-at : (p q : ℕ) (v : Bool) (o : Option Bool) → told_by p v (option_map (λ b. (q, b)) o) ≡ ((q == p) && tells o v)
 unfolding told_by
-part_masks-at p q v None = sym (and-false (q == p))
-part_masks-at p q v (Some b) = refl
+part_masks-at p q v x3 = grind (arith, nat_tests, and-false)
 
 -- bits that interleave to the marks and bits of a part say what its places tell
 module _ (b : Circular) (tx : Tx) (marks bits chosen chosen-too : List Bool) (from n : ℕ) (some : 0 < tx.qm) (whole : n % tx.qm ≡ 0)
@@ -144,18 +134,11 @@ module _ (b : Circular) (tx : Tx) (marks bits chosen chosen-too : List Bool) (fr
   places = heards_from marks bits from n
 
   many : (xs ys : List Bool) → from + n ≤ length ys → interleaved tx.qm xs ≡ take n (drop from ys) → length xs ≡ n
-  many xs ys within e =
-      sym (length-interleaved tx.qm xs) ∙ ap length e ∙ length-take-le n (drop from ys) (omega (arith, length-drop from ys, within))
+  many xs ys within e = grind (arith, length-interleaved, length-take-le, length-drop)
 
   seated : (xs ys : List Bool) → from + n ≤ length ys → interleaved tx.qm xs ≡ take n (drop from ys)
       → (m : ℕ) → m < n → bit xs (seat_of tx.qm n m) ≡ bit ys (from + m)
-  seated xs ys within e m below =
-      let all : length xs ≡ n = many xs ys within e in
-      ap (λ k. bit xs (seat_of tx.qm k m)) (sym all)
-      ∙ sym (bit-interleaved tx.qm xs m (omega (arith, below, all)))
-      ∙ ap (λ l. bit l m) e
-      ∙ get_or-take n (drop from ys) m false below
-      ∙ get_or-drop from ys m false
+  seated xs ys within e m below = grind (arith, many, bit-interleaved, get_or-take, get_or-drop)
 
   abbrev by_place : ℕ → Bool → ℕ → Bool
   by_place p v m = told_by p v (part_hearing b tx places m)
@@ -191,9 +174,7 @@ module _ (b : Circular) (tx : Tx) (marks bits chosen chosen-too : List Bool) (fr
   pub says-part : (p : ℕ) (v : Bool) → list_any (bit_says b tx.rv chosen chosen-too p v) (range_with_len 0 (length chosen-too))
       ≡ heard_as (part_hearings b tx (heards_from marks bits from n) (length (heards_from marks bits from n))) p v
   unfolding heard_as
-  says-part p v =
-      same_from_decides {P = list_any (by_place p v) (range_with_len 0 (length places)) ≡ true} _ _ (forth p v, back p v) (λ e. e, λ e. e)
-      ∙ sym (any-part_masks (part_hearing b tx places) p v (range_with_len 0 (length places)))
+  says-part p v = grind (arith, same_from_decides, forth, back, any-part_masks)
 
 pub none-more : (a : Bool) → a ≡ (a || false)
 none-more a = sym (or-false a)

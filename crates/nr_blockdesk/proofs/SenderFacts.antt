@@ -3,9 +3,7 @@ use Rattle.std.proofs.Common.{◌≡◌, ℕ, ◌*◌, ◌%◌, ◌<◌, nat_le,
 use Rattle.std.proofs.lemmas.Bool.Decides.{nat_tests}
 use Rattle.std.proofs.lemmas.List.FromFn.{get_or-map-range_with_len, length-map-range_with_len}
 use Rattle.nr_graphpick.specs.Graph.{cols_of}
-use Rattle.nr_refusal.specs.Refusal.{◌>>=◌}
 use Rattle.nr_ratematch.specs.Lengths.{IsShared, LengthsAreShared, lengths_said, scheduled}
-use Rattle.nr_ratematch.specs.Selection.{Circular}
 use Rattle.nr_blockdesk.specs.Link.{IsBlock, IsLink, Link, WordsArePlain, demanded, word}
 use Rattle.nr_blockdesk.specs.Inside.{words_of}
 use Rattle.nr_blockdesk.specs.Sent.{AcceptedAreMatched, AcceptedSendAll, answered, matching, matching_of, sent, sent_of, sent_said, tx_said, tx_said_of}
@@ -24,18 +22,12 @@ word-at link block r d inside = get_or-map-range_with_len (word link block) 0 li
 
 pub words-long : WordsArePlain → (link : Link) (block : List Bool) → IsLink link → IsBlock link block
     → All (λ w. length w ≡ cols_of link.buffer.graph * link.buffer.z) (words_of link block)
-words-long plain link block is whole = λ r d inside.
-    let here : r < link.plan.c = subst (λ n. r < n) (length-words link block) inside in
-    ap length (word-at link block r d here)
-    ∙ (plain link block r is whole here).long
-    ∙ ap (λ (b : Circular). cols_of b.graph * b.z) (sym is.buffered)
+words-long plain link block is whole = grind (arith, length-words, word-at)
 
 -- nothing that is said of a transmission is `Memory`
 pub tx-never_memory : (c : ℕ) (tx : Tx) → tx_said_of c tx ≡ Err fault.Memory → ⊥
 unfolding tx_said_of
-tx-never_memory c tx =
-    never-bind (demanded fault.Rv (nat_le tx.rv 3)) _ (never-demanded fault.Rv (nat_le tx.rv 3) (λ e. cc e))
-    (λ version. never-with_fault fault.Rm (lengths_said (scheduled tx.mask) c tx.g tx.qm tx.nl) (λ d e. cc e))
+tx-never_memory c tx = grind (arith, nat_tests, never-bind, never-demanded, never-with_fault)
 
 -- the lengths of an accepted transmission share out its bits
 said-shared : LengthsAreShared → (c : ℕ) (tx : Tx) (lengths : List ℕ) → tx_said_of c tx ≡ Ok lengths → IsShared c tx.g tx.qm lengths
@@ -47,10 +39,7 @@ said-shared shared c tx lengths said =
 
 said-version : (c : ℕ) (tx : Tx) (lengths : List ℕ) → tx_said_of c tx ≡ Ok lengths → tx.rv < 4
 unfolding tx_said_of
-said-version c tx lengths said =
-    let first = bind-ok (demanded fault.Rv (nat_le tx.rv 3)) _ lengths said in
-    let version = demanded-ok fault.Rv (nat_le tx.rv 3) first.0 first.1 in
-    grind (arith, nat_tests)
+said-version c tx lengths said = grind (arith, nat_tests, bind-ok, demanded-ok)
 
 -- an accepted transmission's matching
 pub accepted-matched : LengthsAreShared → AcceptedAreMatched
@@ -85,11 +74,4 @@ pub sent-ok : (link : Link) (tx : Tx) (block : List Bool) (lengths : List ℕ) (
     → bits ≡ sent_of (matching_of link.buffer tx lengths) (λ r. slice_index_or words r [])
     → sent_said link tx block ≡ Ok bits
 unfolding sent
-sent-ok link tx block lengths words bits said counted encoded made =
-    let t = matching_of link.buffer tx lengths in
-    let same : sent_of t (word link block) ≡ sent_of t (λ r. slice_index_or words r []) =
-    sent-same t (word link block) (λ r. slice_index_or words r [])
-    (λ r inside. sym (word-at link block r [] (subst (λ n. r < n) counted inside)) ∙ ap (λ ws. slice_index_or ws r []) (sym encoded)) in
-    let all : sent link tx block ≡ bits =
-    ap (λ s. sent_of (matching_of link.buffer tx (answered s)) (word link block)) said ∙ same ∙ sym made in
-    ap (λ s. s >>= λ es. Ok (sent link tx block)) said ∙ ap Ok all
+sent-ok link tx block lengths words bits said counted encoded made = grind (arith, slice_index_or, sent-same, word-at)

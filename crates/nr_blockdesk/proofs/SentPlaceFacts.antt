@@ -1,5 +1,7 @@
 -- The bits sent, code block by code block, and whose bit stands at each place of them.
-use Rattle.std.proofs.Common.{◌≡◌, ℕ, suc, zero, ◌+◌, ◌%◌, ◌<◌, ◌≤◌, Bool, false, List, [], ◌∷◌, ◌++◌, length, flat_map, sum, take, get_or, slice_index, refl, sym, ◌∙◌, ap, subst, arith}
+use Rattle.std.proofs.lemmas.Bool.Decides.{nat_tests}
+use Rattle.std.proofs.Common.{rules}
+use Rattle.std.proofs.Common.{◌≡◌, ℕ, suc, zero, ◌+◌, ◌<◌, ◌≤◌, Bool, false, List, ◌++◌, length, flat_map, sum, take, get_or, slice_index, refl, sym, ◌∙◌, ap, subst, arith}
 use Rattle.std.specs.List.{range_with_len}
 use Rattle.std.proofs.lemmas.List.{flat_map_more, get_or-take, length-take-le, map-id, take_all}
 use Rattle.std.proofs.lemmas.List.Concat.{get_or-flat_map, length-flat_map}
@@ -26,24 +28,18 @@ length-interleaved qm bits = length-map-range_with_len (λ m. bit bits (seat_of 
 
 pub bit-interleaved : (qm : ℕ) (bits : List Bool) (p : ℕ) → p < length bits → bit (interleaved qm bits) p ≡ bit bits (seat_of qm (length bits) p)
 unfolding interleaved
-bit-interleaved qm bits p inside =
-    get_or-map-range_with_len (λ m. bit bits (seat_of qm (length bits) m)) 0 (length bits) p p false inside (omega arith)
+bit-interleaved qm bits p inside = grind (arith, get_or-map-range_with_len)
 
 pub length-block_sent : (t : RateMatching) (word : List Bool) (e : ℕ) → length (block_sent t word e) ≡ e
 length-block_sent t word e = length-interleaved t.qm (selected t.buffer word t.rv e) ∙ length-selected t.buffer word t.rv e
 
 bit-block_sent : (t : RateMatching) (word : List Bool) (e p : ℕ) → p < e → seat_of t.qm e p < e
     → bit (block_sent t word e) p ≡ bit word (place_of t.buffer t.rv (seat_of t.qm e p))
-bit-block_sent t word e p inside seat =
-    let long : length (selected t.buffer word t.rv e) ≡ e = length-selected t.buffer word t.rv e in
-    rw (bit-interleaved t.qm (selected t.buffer word t.rv e) p (omega (arith, long, inside)), long, bit-selected t.buffer word t.rv e (seat_of t.qm e p) seat) refl
+bit-block_sent t word e p inside seat = grind (arith, length-selected, bit-interleaved, bit-selected)
 
 -- one piece more
 pieces-more : (f : ℕ → List Bool) (n : ℕ) → flat_map f (range_with_len 0 n) ++ f n ≡ flat_map f (range_with_len 0 (n + 1))
-pieces-more f n =
-    let last : 0 + n ≡ n = omega arith in
-    flat_map_more f [] (range_with_len 0 n) n
-    ∙ ap (λ rs. flat_map f rs) (sym (range-split 0 n 1 ∙ ap (λ x. range_with_len 0 n ++ x ∷ []) last))
+pieces-more f n = search (rules, flat_map_more, flat_map, range-split)
 
 length-pieces : (f : ℕ → List Bool) (lengths : List ℕ) (n : ℕ) → ((r : ℕ) → length (f r) ≡ slice_index lengths r)
     → n ≤ length lengths → length (flat_map f (range_with_len 0 n)) ≡ sum (take n lengths)
@@ -61,23 +57,16 @@ front-more t words n = pieces-more (λ r. block_sent t (words r) (slice_index t.
 
 pub length-front : (t : RateMatching) (words : ℕ → List Bool) (n : ℕ) → n ≤ length t.lengths
     → length (front_sent t words n) ≡ sum (take n t.lengths)
-length-front t words n within =
-    length-pieces (λ r. block_sent t (words r) (slice_index t.lengths r)) t.lengths n
-    (λ r. length-block_sent t (words r) (slice_index t.lengths r)) within
+length-front t words n within = grind (arith, length-pieces, length-block_sent)
 
 -- there is room among all bits for those of one code block more
 pub front-inside : (t : RateMatching) (words : ℕ → List Bool) (n : ℕ) → n < length t.lengths
     → length (front_sent t words n) + length (block_sent t (words n) (slice_index t.lengths n)) ≤ sum t.lengths
-front-inside t words n within =
-    let before = length-front t words n (omega arith) in
-    let one = length-block_sent t (words n) (slice_index t.lengths n) in
-    let most = sum_by_more_le (λ (x : ℕ). x) t.lengths n 0 within in
-    omega (arith, before, one, most)
+front-inside t words n within = grind (arith, nat_tests, length-front, length-block_sent, sum_by_more_le)
 
 pub sent-long : SentIsLong
 unfolding sent_of
-sent-long t words =
-    length-front t words (length t.lengths) (omega arith) ∙ ap sum (take_all (length t.lengths) t.lengths (omega arith))
+sent-long t words = grind (arith, length-front, take_all)
 
 -- bit p of code block r's part, in the whole
 bit-sent : (t : RateMatching) (words : ℕ → List Bool) (r p : ℕ) → r < length t.lengths → p < slice_index t.lengths r
@@ -102,18 +91,7 @@ bit-sent t words r p block inside =
 
 pub sent-at : PlacesHaveOneOwner → PlacesAreSent → SeatsAreSeating → SentBitsAreAt
 unfolding position_at
-sent-at owners sents seats t m is inside =
-    let one = (owners t.lengths m inside).owner in
-    let r = (owner_of t.lengths m).0 in
-    let p = (owner_of t.lengths m).1 in
-    let e = slice_index t.lengths r in
-    let whole : e % t.qm ≡ 0 = is.whole r 0 one.block in
-    let seat = (seats t.qm e is.order_some whole).inside p one.inside in
-    record {
-      block = one.block;
-      position = sents t.buffer t.rv (seat_of t.qm e p) is.circular is.version;
-      value = λ words. ap (bit (sent_of t words)) one.joined ∙ bit-sent t words r p one.block one.inside ∙ bit-block_sent t (words r) e p one.inside seat;
-    }
+sent-at owners sents seats t m is inside = grind (arith, bit-sent, bit-block_sent)
 
 pub parts-at : PlacesHaveOneOwner → PartsAreAt
 unfolding position_at
@@ -133,6 +111,4 @@ flat-same f g a (suc n) each = rw (each a (omega arith), flat-same f g (a + 1) n
 
 pub sent-same : (t : RateMatching) (f g : ℕ → List Bool) → ((r : ℕ) → r < length t.lengths → f r ≡ g r) → sent_of t f ≡ sent_of t g
 unfolding sent_of
-sent-same t f g same =
-    flat-same (λ r. block_sent t (f r) (slice_index t.lengths r)) (λ r. block_sent t (g r) (slice_index t.lengths r)) 0 (length t.lengths)
-    (λ r low. ap (λ w. block_sent t w (slice_index t.lengths r)) (same r (omega arith)))
+sent-same t f g same = grind (arith, flat-same)

@@ -1,6 +1,6 @@
 //! A code block's part of a transmission.
 
-ghost use Rattle.std.specs.Prelude.{◌≡◌, ℕ, ◌+◌, ◌^◌, ◌<◌, ◌≤◌, true, length, IsTrue};
+ghost use Rattle.std.specs.Prelude.{◌≡◌, ◌↔◌, ℕ, ◌+◌, ◌^◌, ◌<◌, ◌≤◌, true, length, IsTrue};
 ghost use Rattle.nr_bitvec.specs.Bit.{bit};
 
 use nr_bitvec::Bits;
@@ -22,8 +22,8 @@ pub(crate) struct Part<'m> {
 impl Part<'_> {
     // Whether a bit was received at each place. Looks at 64 places at once.
     pub(crate) fn arrived_whole(&self) -> bool
-        ensures { IsTrue result → (m : ℕ) → m < self.now.count
-            → bit self.now.heard.now.items (self.now.from + m) ≡ true }
+        ensures { IsTrue result ↔ ((m : ℕ) → m < self.now.count
+            → bit self.now.heard.now.items (self.now.from + m) ≡ true) }
     {
         let (from, count) = (self.from as usize, self.count as usize);
         let whole = count / 64;

@@ -1,9 +1,8 @@
-use Rattle.std.proofs.Common.{◌≡◌, ℕ, ◌+◌, ◌-◌, ◌*◌, ◌/◌, ◌%◌, ◌<◌, length, ap, ◌∙◌, arith, length-append}
+use Rattle.std.proofs.Common.{◌≡◌, ℕ, ◌+◌, ◌-◌, ◌*◌, ◌/◌, ◌%◌, ◌<◌, length, refl, ap, ◌∙◌, arith, length-append}
 use Rattle.std.proofs.lemmas.List.{get_or_read}
 use Rattle.std.proofs.lemmas.Nat.{mod_below}
 use Rattle.std.proofs.Math.Nat.{div-lt_iff_lt-mul}
 use Rattle.nr_bitvec.proofs.PackedListFacts.{length-low_first}
-use Rattle.nr_bitvec.specs.BitList.{low_first}
 use Rattle.nr_peel.specs.Peeling.{Peeling}
 use Rattle.nr_segment.specs.CodeBlock.{numbers}
 use Rattle.nr_blockdesk.specs.ReceivingInside.{known_bit}
@@ -24,9 +23,7 @@ loop-i-preserved c =
     let block : n / s < plan.c = (div-lt_iff_lt-mul {k = s} {x = n} {y = plan.c} some).1 low in
     let inside : n / s < length c.args.peelers.now = omega (arith, block, c.requires.all) in
     let small : n % s < s = mod_below n s some in
-    let long : length c.push_word.new.self.items ≡ n + c.min-count.result =
-    ap length c.push_word.ensures.items ∙ length-append c.loop-i.list.items (low_first count word)
-    ∙ ap (λ m. m + length (low_first count word)) inv.long ∙ ap (λ m. n + m) (length-low_first count word) in
+    let long : length c.push_word.new.self.items ≡ n + count = rw (c.push_word.ensures.items, length-append, inv.long, length-low_first count word) refl in
     record {
       long = long;
       below = omega (arith, c.min-count.ensures, c.loop-i-test.true);

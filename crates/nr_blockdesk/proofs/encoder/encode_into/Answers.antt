@@ -3,7 +3,7 @@ use Rattle.std.proofs.lemmas.List.{get_or-drop}
 use Rattle.nr_bitvec.specs.Bit.{bit}
 use Rattle.nr_ldpcenc.specs.Codeword.{codeword, completed}
 use Rattle.nr_segment.specs.CodeBlock.{code_block, numbers, part_of, share}
-use Rattle.nr_blockdesk.proofs.EncodingFacts.{begins-with, code-shared, copied-more, k-fits, part-inside, same-more}
+use Rattle.nr_blockdesk.proofs.EncodingFacts.{begins-with, code-shared, k-fits, part-inside, same-more}
 use Rattle.nr_blockdesk.proofs.encoder.encode_into.Goals as goal
 
 pub loop-i-preserved : goal.loop-i-preserved
@@ -14,9 +14,9 @@ loop-i-preserved c =
     let at : ℕ = 64 * c.loop-i.i in
     record {
       long = c.put.ensures.long ∙ inv.long;
-      same = copied-more (c.args.plan.now.kdash - c.args.plan.now.l) c.loop-i.i c.window.result 64 (drop start items) c.loop-i.word c.put.new.self
-          (omega (arith, c.loop-i-test.true)) inv.same
-          (λ (t : ℕ) few. c.window.ensures t few ∙ ap (bit items) (omega arith) ∙ sym (get_or-drop start items (at + t) false))
+      same = same-more at (64 * (c.loop-i.i + 1)) (c.args.plan.now.kdash - c.args.plan.now.l) c.window.result 64 (drop start items) c.loop-i.word c.put.new.self
+          (omega arith) (omega (arith, c.loop-i-test.true)) inv.same
+          (λ (t : ℕ) few _. c.window.ensures t few ∙ ap (bit items) (omega arith) ∙ sym (get_or-drop start items (at + t) false))
           c.put.ensures.within c.put.ensures.before;
     }
 
@@ -31,9 +31,9 @@ loop-j-init c =
     let end = part-inside plan.c share-of r c.requires.block in
     let fits : part_of (numbers plan) r 0 + share (numbers plan) ≤ length items = omega (arith, end, plan.sound.shared, c.requires.whole) in
     let at : ℕ = 64 * (share-of / 64) in
-    let copied = copied-more share-of (share-of / 64) c.window-2.result (share-of % 64) (drop start items) c.loop-i.word c.put-2.new.self
-    (omega arith) (λ t below. inv.same t (omega (arith, below, c.loop-i-test.false)))
-    (λ (t : ℕ) few. c.window-2.ensures t few ∙ ap (bit items) (omega arith) ∙ sym (get_or-drop start items (at + t) false))
+    let copied = same-more at (at + 64) share-of c.window-2.result (share-of % 64) (drop start items) c.loop-i.word c.put-2.new.self
+    (omega arith) (omega arith) (λ t below. inv.same t (omega (arith, below, c.loop-i-test.false)))
+    (λ (t : ℕ) few _. c.window-2.ensures t few ∙ ap (bit items) (omega arith) ∙ sym (get_or-drop start items (at + t) false))
     c.put-2.ensures.within c.put-2.ensures.before in
     record {
       long = c.put-2.ensures.long ∙ inv.long;
@@ -44,9 +44,7 @@ loop-j-init c =
     }
 
 pub put-requires-in-loop-j-clause-inside : goal.put-requires-in-loop-j-clause-inside
-put-requires-in-loop-j-clause-inside c =
-    let plan = c.args.plan.now in
-    omega (arith, k-fits plan.graph (numbers plan) plan.sound.columns, c.loop-j.invariant.long, c.min-wide.ensures, c.loop-j-test.true, c.div_ceil-j-end.ensures)
+put-requires-in-loop-j-clause-inside c = grind (arith, k-fits)
 
 pub loop-j-preserved : goal.loop-j-preserved
 loop-j-preserved c =
@@ -55,9 +53,11 @@ loop-j-preserved c =
     let target = code_block (numbers plan) c.args.attached.now.items c.args.r in
     record {
       long = c.put-in-loop-j.ensures.long ∙ inv.long;
-      same = same-more (plan.kdash - plan.l) c.loop-j.j plan.k c.tail_word.result c.min-wide.result target c.loop-j.word c.put-in-loop-j.new.self
-          c.min-wide.ensures inv.same
-          c.tail_word.ensures
+      same = same-more (plan.kdash - plan.l + 64 * c.loop-j.j) (plan.kdash - plan.l + 64 * (c.loop-j.j + 1)) plan.k c.tail_word.result c.min-wide.result target c.loop-j.word
+          c.put-in-loop-j.new.self (omega arith) (omega (arith, c.min-wide.ensures)) inv.same
+          (λ t few low.
+          let place : plan.kdash - plan.l + 64 * c.loop-j.j + t ≡ plan.kdash - plan.l + (64 * c.loop-j.j + t) = omega arith in
+          rw place (c.tail_word.ensures t few (omega (arith, low))))
           c.put-in-loop-j.ensures.within c.put-in-loop-j.ensures.before;
     }
 

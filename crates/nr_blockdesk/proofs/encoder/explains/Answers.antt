@@ -1,4 +1,4 @@
-use Rattle.std.proofs.Common.{◌≡◌, ◌≢◌, ℕ, ◌<◌, [], Bool, false, List, length, ⊎_elim, arith}
+use Rattle.std.proofs.Common.{◌≡◌, ◌≢◌, ℕ, Bool, List, ⊎_elim, arith}
 use Rattle.std.proofs.lemmas.Bool.{cases_eq}
 use Rattle.std.proofs.lemmas.List.{get_or_read}
 use Rattle.nr_bitvec.specs.Bit.{bit}
@@ -12,15 +12,10 @@ use Rattle.nr_blockdesk.proofs.encoder.explains.Goals.{After-index-stores-r}
 use Rattle.nr_blockdesk.proofs.encoder.explains.Goals as goal
 
 pub encode_into-requires-clause-long : goal.encode_into-requires-clause-long
-encode_into-requires-clause-long c =
-    let r = c.loop-r.r in
-    let inv = c.loop-r.invariant in
-    let inside : r < length c.loop-r.words = omega (arith, inv.words.many, c.loop-r-test.true) in
-    inv.words.long r c.index-words-r.result inside
+encode_into-requires-clause-long c = grind arith
 
 stored : (c : After-index-stores-r) → c.index-stores-r.result ≡ heard_of c.args.stores.now c.loop-r.r
-stored c =
-    get_or_read c.args.stores.now c.loop-r.r c.index-stores-r.result (omega (arith, c.requires.all, c.loop-r-test.true)) c.index-stores-r.is (record { first = []; clash = false })
+stored c = grind (arith, get_or_read)
 
 pub agrees-requires : goal.agrees-requires
 agrees-requires c =

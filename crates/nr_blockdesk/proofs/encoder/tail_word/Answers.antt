@@ -1,4 +1,4 @@
-use Rattle.std.proofs.Common.{◌≡◌, ℕ, ◌+◌, ◌-◌, ◌*◌, ◌<◌, ◌≤◌, ◌==◌, inl, inr, Bool, true, false, cond, length, nat_lt, take, drop, ap, ◌∙◌, arith}
+use Rattle.std.proofs.Common.{◌≡◌, ℕ, ◌+◌, ◌-◌, ◌*◌, ◌<◌, ◌≤◌, ◌==◌, inl, inr, Bool, cond, length, nat_lt, take, drop, ap, ◌∙◌, arith}
 use Rattle.std.specs.Int.{bit_at}
 use Rattle.std.proofs.lemmas.Bool.{cases_lt}
 use Rattle.std.proofs.lemmas.Nat.Bits.{bit_at-zero, bit_at_above}
@@ -12,12 +12,10 @@ use Rattle.nr_blockdesk.proofs.encoder.tail_word.Goals as goal
 
 -- L is 24 or 0
 short : (several : Bool) (l : ℕ) → l ≡ cond several 24 0 → l ≤ 24
-short true l is = omega (arith, is)
-short false l is = omega (arith, is)
+short x0 l is = grind arith
 
 whole : (several : Bool) (l : ℕ) → l ≡ cond several 24 0 → 0 < l → l ≡ 24
-whole true l is some = is
-whole false l is some = absurd (omega (arith, is, some))
+whole x0 l is some = grind arith
 
 pub returns-then-plan-gt0 : goal.returns-then-plan-gt0
 returns-then-plan-gt0 c = λ t few inside.

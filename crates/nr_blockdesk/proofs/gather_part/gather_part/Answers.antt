@@ -1,8 +1,4 @@
-use Rattle.std.proofs.Common.{◌≡◌, ◌*◌, ◌||◌, ◌&&◌, false, refl, ap, ◌∙◌, length, arith}
-use Rattle.std.specs.Bool.{beq}
-use Rattle.std.specs.List.{list_any, range_with_len}
-use Rattle.nr_bitvec.specs.Bit.{bit}
-use Rattle.nr_graphpick.specs.Graph.{cols_of}
+use Rattle.std.proofs.Common.{◌∙◌, arith}
 use Rattle.nr_harqbuf.specs.Masks.{says}
 use Rattle.nr_blockdesk.specs.Inside.{bit_says, received_marks}
 use Rattle.nr_blockdesk.proofs.MergingFacts.{empty-bit}
@@ -10,12 +6,7 @@ use Rattle.nr_blockdesk.proofs.SelectedBitFacts.{none-more, runs-more}
 use Rattle.nr_blockdesk.proofs.gather_part.gather_part.Goals as goal
 
 pub loop-k-init : goal.loop-k-init
-loop-k-init c = record {
-  part_masks = λ _ p v. none-more (says c.args.part_masks.now.heard.items c.args.part_masks.now.value.items p v);
-  below = omega arith;
-  marks = refl;
-  bits = refl;
-}
+loop-k-init c = grind (arith, none-more)
 
 pub loop-k-preserved : goal.loop-k-preserved
 loop-k-preserved c = record {
@@ -32,12 +23,4 @@ loop-k-preserved c = record {
 }
 
 pub returns-then-one_bit-clause-part_masks : goal.returns-then-one_bit-clause-part_masks
-returns-then-one_bit-clause-part_masks c = λ _ p v.
-    let b = c.args.buffer.now in
-    let marks = received_marks c.args.selected.now in
-    let bits = c.args.selected.now.value.items in
-    let all : c.loop-k.k ≡ length bits = omega (arith, c.loop-k-test.false, c.loop-k.invariant.below, c.len-count.ensures.value) in
-    let none : bit c.args.part_masks.now.heard.items p ≡ false = empty-bit c.args.part_masks.now.heard.items (cols_of b.graph * b.z) p c.requires.empty.marks in
-    c.loop-k.invariant.part_masks c.if-one_bit.true p v
-    ∙ ap (λ t. t && beq (bit c.args.part_masks.now.value.items p) v || list_any (bit_says b c.args.rv marks bits p v) (range_with_len 0 c.loop-k.k)) none
-    ∙ ap (λ n. list_any (bit_says b c.args.rv marks bits p v) (range_with_len 0 n)) all
+returns-then-one_bit-clause-part_masks c = grind (arith, empty-bit)

@@ -13,11 +13,7 @@ further b rv k position count n few places inside j below =
     ap (place_of b rv) at ∙ places (n + j) (omega (arith, inside, below)) ∙ omega arith
 
 pub loop-i-init : goal.loop-i-init
-loop-i-init c = record {
-  part_masks = λ _ b rv places p v. none-more (says c.args.part_masks.now.heard.items c.args.part_masks.now.value.items p v);
-  marks = refl;
-  bits = refl;
-}
+loop-i-init c = grind (arith, none-more)
 
 pub loop-i-preserved : goal.loop-i-preserved
 loop-i-preserved c =

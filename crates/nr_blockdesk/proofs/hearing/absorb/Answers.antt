@@ -1,8 +1,7 @@
-use Rattle.std.proofs.Common.{◌≡◌, ◌∙◌, length, subst, sym}
-use Rattle.std.proofs.lemmas.Bool.{false≢true}
-use Rattle.nr_bitvec.specs.Bit.{bit}
+use Rattle.std.proofs.Common.{arith}
+use Rattle.std.proofs.Common.{◌≡◌, length, subst, sym}
 use Rattle.nr_harqbuf.specs.Record.{HeardBits}
-use Rattle.nr_blockdesk.specs.ReceivingInside.{Fits, IsNews, Agrees}
+use Rattle.nr_blockdesk.specs.ReceivingInside.{Fits, IsNews}
 use Rattle.nr_blockdesk.proofs.MergingFacts.{fewer-merged, news-merged, recorded-all, tells-merged}
 use Rattle.nr_blockdesk.proofs.hearing.absorb.Goals.{then-not-compare, else-not-compare}
 use Rattle.nr_blockdesk.proofs.hearing.absorb.Goals as goal
@@ -23,13 +22,4 @@ returns-clause-hears c = λ more masks.
     }
 
 pub returns-clause-agreed : goal.returns-clause-agreed
-returns-clause-agreed c =
-    let s : HeardBits = c.args.store.now in
-    let long : length c.args.part_masks.now.heard.items ≡ length s.first = sym c.requires.sized.stored in
-    elim c.if-not-compare.branch [
-      | then-not-compare w ↦ λ asked. absurd (false≢true (sym w.if-not-compare.true ∙ asked))
-      | else-not-compare w ↦ λ _.
-          rw w.agreed-is (subst (Agrees w.agrees-agreed.result (bit c.args.word.now) s) (sym c.hear_all.ensures.merged)
-          (tells-merged s c.args.part_masks.now.heard.items c.args.part_masks.now.value.items long w.agrees-agreed.result c.args.word.now
-          (rw w.bits.ensures at w.agrees-agreed.ensures)))
-    ]
+returns-clause-agreed c = grind (arith, then-not-compare, else-not-compare, tells-merged)

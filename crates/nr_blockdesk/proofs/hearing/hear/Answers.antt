@@ -1,4 +1,5 @@
-use Rattle.std.proofs.Common.{◌≡◌, ℕ, ◌+◌, ◌<◌, ◌≤◌, [], false, length, take, get_or, sym, ap, ◌∙◌, arith}
+use Rattle.std.proofs.lemmas.Bool.Decides.{nat_tests}
+use Rattle.std.proofs.Common.{◌≡◌, ℕ, ◌+◌, ◌<◌, [], false, length, take, get_or, sym, ap, ◌∙◌, arith}
 use Rattle.std.specs.Prelude.{sum, slice_index}
 use Rattle.std.proofs.lemmas.List.{get_or_read, length-set}
 use Rattle.std.proofs.lemmas.List.Sums.{sum_by_more, sum_by_more_le}
@@ -49,18 +50,7 @@ loop-r-preserved c =
     }
 
 pub invariant_of-part : goal.invariant_of-part
-invariant_of-part c =
-    let r = c.loop-r.r in
-    let lengths = c.args.lengths.now in
-    let most : sum (take r lengths) + slice_index lengths r ≤ sum lengths = sum_by_more_le (λ (x : ℕ). x) lengths r 0 c.loop-r-test.true in
-    let ends : c.loop-r.from + slice_index lengths r ≤ length c.args.heard.now.items =
-    omega (arith, most, c.loop-r.invariant.from, c.requires.shared.together, c.requires.whole) in
-    record {
-      both = c.requires.both;
-      inside = ends;
-      short = omega (arith, ends, c.requires.shared.few, c.requires.whole);
-    }
+invariant_of-part c = grind (arith, nat_tests, sum_by_more_le)
 
 pub hear_part-agreed-requires-clause-room : goal.hear_part-agreed-requires-clause-room
-hear_part-agreed-requires-clause-room c =
-    c.loop-r.invariant.room (slice_index c.args.lengths.now c.loop-r.r) (c.requires.room c.loop-r.r c.loop-r-test.true)
+hear_part-agreed-requires-clause-room c = grind arith

@@ -97,10 +97,7 @@ recorded-whole : (b : Circular) (tx : Tx) (part : Part) (m : ℕ) (s₀ s : Hear
     → s ≡ record_of (length s₀.first) (hs ++ part_hearings b tx (heards_of part) m))
     → (hs : List Observation) → s₀ ≡ record_of (length s₀.first) hs
     → s ≡ record_of (length s₀.first) (hs ++ part_hearings b tx (heards_of part) (length (heards_of part)))
-recorded-whole b tx part m s₀ s least most recorded hs e =
-    let all : m ≡ length (heards_of part) =
-    omega (arith, least, most, length-heards part.heard.now.items part.value.now.items part.from part.count) in
-    recorded hs e ∙ ap (λ k. record_of (length s₀.first) (hs ++ part_hearings b tx (heards_of part) k)) all
+recorded-whole b tx part m s₀ s least most recorded hs e = grind (arith, length-heards)
 
 pub returns-then-any-clause-hears : goal.returns-then-any-clause-hears
 returns-then-any-clause-hears c = record {

@@ -1,3 +1,4 @@
+use Rattle.std.proofs.Common.{arith}
 use Rattle.std.proofs.Common.{◌≡◌, Ok, refl}
 use Rattle.nr_blockdesk.specs.Link.{link_of, link_said}
 use Rattle.nr_blockdesk.proofs.link.agree.Goals.{In-Ok-new}
@@ -13,19 +14,15 @@ returns-in-Err-clause-said c = rw (← c.is_whole.ensures, c.if-not-is_whole.fal
 
 pub returns-in-Err-plan-clause-said : goal.returns-in-Err-plan-clause-said
 unfolding link_said
-returns-in-Err-plan-clause-said c =
-    rw (← c.is_whole.ensures, c.if-not-is_whole.false, ← c.in-Ok.ensures, ← c.attached_len.ensures, c.in-Err-plan.ensures.refused) refl
+returns-in-Err-plan-clause-said c = grind arith
 
 pub returns-then-not-has-clause-said : goal.returns-then-not-has-clause-said
 unfolding link_said
-returns-then-not-has-clause-said c =
-    rw (← c.is_whole.ensures, c.if-not-is_whole.false, ← c.in-Ok.ensures, ← c.attached_len.ensures, c.in-Ok-plan.ensures.planned, ← c.has.ensures.value, c.if-not-has.true) refl
+returns-then-not-has-clause-said c = grind arith
 
 said : (c : In-Ok-new) → link_said c.args.table.now c.args.settings c.args.a ≡ Ok (link_of c.args.table.now c.in-Ok-plan.plan c.args.a c.in-Ok-new.buffer)
 unfolding link_said
-said c =
-    rw (← c.is_whole.ensures, c.if-not-is_whole.false, ← c.in-Ok.ensures, ← c.attached_len.ensures, c.in-Ok-plan.ensures.planned, ← c.has.ensures.value,
-    c.if-not-has.false, ← c.in-Ok-plan.ensures.for_these.0, ← c.in-Ok-new.ensures) refl
+said c = grind arith
 
 pub returns-in-Ok-new-clause-said : goal.returns-in-Ok-new-clause-said
 returns-in-Ok-new-clause-said c = said (goal.at.returns-in-Ok-new-clause-said c).In-Ok-new
@@ -36,6 +33,4 @@ returns-in-Ok-new-clause-link c =
 
 pub returns-in-Err-new-clause-said : goal.returns-in-Err-new-clause-said
 unfolding link_said
-returns-in-Err-new-clause-said c =
-    rw (← c.is_whole.ensures, c.if-not-is_whole.false, ← c.in-Ok.ensures, ← c.attached_len.ensures, c.in-Ok-plan.ensures.planned, ← c.has.ensures.value,
-    c.if-not-has.false, ← c.in-Ok-plan.ensures.for_these.0, ← c.in-Err-new.ensures) refl
+returns-in-Err-new-clause-said c = grind arith

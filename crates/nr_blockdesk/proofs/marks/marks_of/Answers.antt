@@ -1,8 +1,5 @@
-use Rattle.std.proofs.Common.{◌≡◌, ◌+◌, ◌*◌, ◌++◌, min, length, ap, ◌∙◌, arith, length-append}
+use Rattle.std.proofs.Common.{◌≡◌, ◌+◌, ◌*◌, min, length, refl, ◌∙◌, arith, length-append}
 use Rattle.nr_bitvec.proofs.PackedListFacts.{length-low_first}
-use Rattle.nr_bitvec.specs.Bit.{bit}
-use Rattle.nr_bitvec.specs.BitList.{low_first}
-use Rattle.nr_blockdesk.specs.Marks.{place_heard}
 use Rattle.nr_blockdesk.proofs.MarkFacts.{heards-are, heards-more}
 use Rattle.nr_blockdesk.proofs.marks.marks_of.Goals as goal
 
@@ -17,24 +14,17 @@ loop-i-preserved c =
     let word = c.gather-marks.result.1 in
     let start : min (64 * c.loop-i.i) (length c.args.places.now) ≡ 64 * c.loop-i.i = omega (arith, c.loop-i-test.true, c.div_ceil-i-end.ensures) in
     let next : min (64 * (c.loop-i.i + 1)) (length c.args.places.now) ≡ 64 * c.loop-i.i + c.min-wide.result = omega (arith, c.min-wide.ensures, c.loop-i-test.true, c.div_ceil-i-end.ensures) in
-    let one : length c.push_word.new.self.items ≡ length c.loop-i.heard.items + c.min-wide.result =
-    ap length c.push_word.ensures.items ∙ length-append marks (low_first wide now) ∙ ap (λ n. length marks + n) (length-low_first wide now) in
-    let two : length c.push_word-in-loop-i.new.self.items ≡ length c.loop-i.value.items + c.min-wide.result =
-    ap length c.push_word-in-loop-i.ensures.items ∙ length-append bits (low_first wide word) ∙ ap (λ n. length bits + n) (length-low_first wide word) in
+    let one : length c.push_word.new.self.items ≡ length marks + wide = rw (c.push_word.ensures.items, length-append, length-low_first wide now) refl in
+    let two : length c.push_word-in-loop-i.new.self.items ≡ length bits + wide = rw (c.push_word-in-loop-i.ensures.items, length-append, length-low_first wide word) refl in
     record {
       marks = omega (arith, one, next, start, inv.marks);
       bits = omega (arith, two, next, start, inv.bits);
       marks_room = omega (arith, one, c.push_word.ensures.room, inv.marks_room);
       bits_room = omega (arith, two, c.push_word-in-loop-i.ensures.room, inv.bits_room);
-      part_masks = λ m below.
-          ap (λ l. place_heard (bit l m) (bit c.push_word-in-loop-i.new.self.items m)) c.push_word.ensures.items
-          ∙ ap (λ l. place_heard (bit (marks ++ low_first wide now) m) (bit l m)) c.push_word-in-loop-i.ensures.items
-          ∙ heards-more places marks bits (64 * c.loop-i.i) wide now word (inv.marks ∙ start) (inv.bits ∙ start)
-          (λ k low. inv.part_masks k (omega (arith, low, start))) c.gather-marks.ensures m (omega (arith, below, next));
+      part_masks = λ m below. rw (c.push_word.ensures.items, c.push_word-in-loop-i.ensures.items)
+          (heards-more places marks bits (64 * c.loop-i.i) wide now word (inv.marks ∙ start) (inv.bits ∙ start)
+          (λ k low. inv.part_masks k (omega (arith, low, start))) c.gather-marks.ensures m (omega (arith, below, next)));
     }
 
 pub returns-clause-same : goal.returns-clause-same
-returns-clause-same c =
-    let inv = c.loop-i.invariant in
-    let all : min (64 * c.loop-i.i) (length c.args.places.now) ≡ length c.args.places.now = omega (arith, c.loop-i-test.false, c.div_ceil-i-end.ensures) in
-    heards-are c.loop-i.heard.items c.loop-i.value.items c.args.places.now (inv.marks ∙ all) (λ m below. inv.part_masks m (omega (arith, below, all)))
+returns-clause-same c = grind (arith, heards-are)

@@ -1,4 +1,4 @@
-use Rattle.std.proofs.Common.{◌≡◌, ◌+◌, [], ◌∷◌, false, length, All, length-append, subst, sym, ap, ◌∙◌, arith}
+use Rattle.std.proofs.Common.{◌≡◌, ◌+◌, [], ◌∷◌, false, length, length-append, ap, ◌∙◌, arith}
 use Rattle.std.proofs.lemmas.List.{length-replicate}
 use Rattle.nr_segment.specs.Plan.{word_size}
 use Rattle.nr_segment.specs.CodeBlock.{numbers}
@@ -14,8 +14,7 @@ loop-preserved c =
     record {
       words = record {
         many = ap length c.push_reserved.ensures.items ∙ length-append c.loop.words.items (blank ∷ []) ∙ ap (λ k. k + 1) inv.words.many;
-        long = subst (All (λ w. length w ≡ n)) (sym c.push_reserved.ensures.items)
-            (All-push (λ w. length w ≡ n) c.loop.words.items blank inv.words.long (ap length c.in_ok-new.ensures ∙ length-replicate n false));
+        long = rw c.push_reserved.ensures.items (All-push (λ w. length w ≡ n) c.loop.words.items blank inv.words.long (ap length c.in_ok-new.ensures ∙ length-replicate n false));
       };
       room = omega (arith, inv.room, c.push_reserved.ensures.capacity);
     }

@@ -1,4 +1,4 @@
-use Rattle.std.proofs.Common.{◌≡◌, ◌+◌, [], ◌∷◌, length, All, length-append, subst, sym, ap, ◌∙◌, arith}
+use Rattle.std.proofs.Common.{◌≡◌, ◌+◌, [], ◌∷◌, length, length-append, ap, ◌∙◌, arith}
 use Rattle.nr_segment.specs.CodeBlock.{positions_of, numbers}
 use Rattle.nr_harqbuf.specs.Record.{HeardBits, record_of}
 use Rattle.nr_peel.specs.Peeling.{IsStarted}
@@ -14,10 +14,8 @@ loop-preserved c =
     record {
       stores = ap length c.push_reserved.ensures.items ∙ length-append c.loop.stores.items (store ∷ []) ∙ ap (λ n. n + 1) inv.stores;
       peelers = ap length c.push_reserved-in-loop.ensures.items ∙ length-append c.loop.peelers.items (peeler ∷ []) ∙ ap (λ n. n + 1) inv.peelers;
-      empty = subst (All (λ (s : HeardBits). s ≡ record_of (positions_of plan) [])) (sym c.push_reserved.ensures.items)
-          (All-push (λ (s : HeardBits). s ≡ record_of (positions_of plan) []) c.loop.stores.items store inv.empty c.in_ok-new.ensures);
-      started = subst (All (IsStarted c.args.table.now plan.graph (numbers plan))) (sym c.push_reserved-in-loop.ensures.items)
-          (All-push (IsStarted c.args.table.now plan.graph (numbers plan)) c.loop.peelers.items peeler inv.started c.in-Ok.ensures.started);
+      empty = rw c.push_reserved.ensures.items (All-push (λ (s : HeardBits). s ≡ record_of (positions_of plan) []) c.loop.stores.items store inv.empty c.in_ok-new.ensures);
+      started = rw c.push_reserved-in-loop.ensures.items (All-push (IsStarted c.args.table.now plan.graph (numbers plan)) c.loop.peelers.items peeler inv.started c.in-Ok.ensures.started);
       room = omega (arith, inv.room, c.push_reserved.ensures.capacity);
       room_too = omega (arith, inv.room_too, c.push_reserved-in-loop.ensures.capacity);
     }

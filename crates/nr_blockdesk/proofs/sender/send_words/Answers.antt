@@ -1,4 +1,4 @@
-use Rattle.std.proofs.Common.{◌≡◌, ℕ, ◌+◌, ◌%◌, ◌<◌, Bool, List, [], ◌++◌, length, slice_index, slice_index_or, length-append, subst, sym, ap, ◌∙◌, arith}
+use Rattle.std.proofs.Common.{◌≡◌, ℕ, ◌+◌, ◌<◌, Bool, List, [], ◌++◌, length, slice_index, slice_index_or, length-append, subst, sym, ap, ◌∙◌, arith}
 use Rattle.std.proofs.lemmas.List.{get_or_default}
 use Rattle.nr_interleave.specs.Interleaving.{interleaved}
 use Rattle.nr_ratematch.specs.Selection.{selected}
@@ -8,12 +8,7 @@ use Rattle.nr_blockdesk.proofs.sender.send_words.Goals as goal
 
 -- what is selected into the list that was cleared
 pub spread_onto-requires-clause-whole : goal.spread_onto-requires-clause-whole
-spread_onto-requires-clause-whole c =
-    let e = slice_index c.args.lengths.now c.loop-r.r in
-    let chosen = selected c.args.buffer.now c.index-words-r.result c.args.tx.now.rv e in
-    subst (λ n. n % c.args.tx.now.qm ≡ 0)
-    (sym (ap length (c.select_onto.ensures.items ∙ ap (λ xs. xs ++ chosen) c.clear.ensures.items) ∙ length-selected c.args.buffer.now c.index-words-r.result c.args.tx.now.rv e))
-    (c.requires.shared.whole c.loop-r.r 0 c.loop-r-test.true)
+spread_onto-requires-clause-whole c = grind (arith, length-selected)
 
 pub spread_onto-requires-clause-room : goal.spread_onto-requires-clause-room
 spread_onto-requires-clause-room c =
@@ -60,8 +55,4 @@ loop-r-preserved c =
 
 pub returns : goal.returns
 unfolding sent_of
-returns c =
-    let t = matching_of c.args.buffer.now c.args.tx.now c.args.lengths.now in
-    let words : ℕ → List Bool = λ r. slice_index_or c.args.words.now r [] in
-    let all : c.loop-r.r ≡ length c.args.lengths.now = omega arith in
-    c.loop-r.invariant.joined ∙ ap (front_sent t words) all
+returns c = grind (arith, slice_index_or, front_sent)

@@ -1,4 +1,4 @@
-use Rattle.std.proofs.Common.{◌≡◌, ℕ, Bool, List, [], ◌∷◌, ◌++◌, length, map, false, sym, ap, ◌∙◌, arith}
+use Rattle.std.proofs.Common.{◌≡◌, ℕ, Bool, List, length, map, false, refl, ap, ◌∙◌, arith}
 use Rattle.std.specs.List.{range_with_len}
 use Rattle.std.proofs.lemmas.List.{length-replicate}
 use Rattle.std.proofs.lemmas.List.FromFn.{length-map-range_with_len, map-range_with_len_more}
@@ -9,34 +9,22 @@ use Rattle.nr_blockdesk.specs.Link.{word}
 use Rattle.nr_blockdesk.proofs.sender.words_of.Goals as goal
 
 pub encode_into-requires-clause-whole : goal.encode_into-requires-clause-whole
-encode_into-requires-clause-whole c =
-    ap length c.in_ok-attached.ensures
-    ∙ c.attachment_lengthens.ensures.block c.args.block.now.items
-    ∙ sym c.requires.whole
+encode_into-requires-clause-whole c = grind arith
 
 pub encode_into-requires-clause-long : goal.encode_into-requires-clause-long
 encode_into-requires-clause-long c = ap length c.in_ok-word.ensures ∙ length-replicate (positions_of c.args.plan.now) false
 
 pub push_reserved-requires : goal.push_reserved-requires
-push_reserved-requires c =
-    let plan = c.args.plan.now in
-    let f : ℕ → List Bool = λ r. codeword c.args.table.now plan.graph (numbers plan) (code_bits (numbers plan) (attached c.args.block.now.items) r) in
-    let many = ap length c.loop-r.invariant.encoded ∙ length-map-range_with_len f 0 c.loop-r.r in
-    omega (arith, many, c.loop-r.invariant.room, c.loop-r-test.true)
+push_reserved-requires c = grind (arith, length-map-range_with_len)
 
 pub loop-r-preserved : goal.loop-r-preserved
 loop-r-preserved c =
     let plan = c.args.plan.now in
     let r = c.loop-r.r in
     let f : ℕ → List Bool = λ r. codeword c.args.table.now plan.graph (numbers plan) (code_bits (numbers plan) (attached c.args.block.now.items) r) in
-    let one : c.encode_into.new.word ≡ f r =
-    c.encode_into.ensures.encoded
-    ∙ ap (λ bits. codeword c.args.table.now plan.graph (numbers plan) (code_bits (numbers plan) bits r)) c.in_ok-attached.ensures in
+    let one : c.encode_into.new.word ≡ f r = rw (c.encode_into.ensures.encoded, c.in_ok-attached.ensures) refl in
     record {
-      encoded = c.push_reserved.ensures.items
-          ∙ ap (λ ws. ws ++ c.encode_into.new.word ∷ []) c.loop-r.invariant.encoded
-          ∙ ap (λ w. map f (range_with_len 0 r) ++ w ∷ []) one
-          ∙ sym (map-range_with_len_more f 0 r r (omega arith));
+      encoded = rw (c.push_reserved.ensures.items, c.loop-r.invariant.encoded, one, map-range_with_len_more f 0 r r (omega arith)) refl;
       room = omega (arith, c.loop-r.invariant.room, c.push_reserved.ensures.capacity);
     }
 

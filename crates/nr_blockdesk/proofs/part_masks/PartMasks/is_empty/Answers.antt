@@ -1,4 +1,5 @@
-use Rattle.std.proofs.Common.{◌≡◌, ◌+◌, ◌-◌, ◌*◌, ◌≤◌, ◌==◌, inl, inr, false, length, sym, ap, ◌∙◌, arith}
+use Rattle.std.proofs.lemmas.Bool.Decides.{nat_tests}
+use Rattle.std.proofs.Common.{◌≡◌, ◌+◌, ◌-◌, ◌*◌, ◌==◌, inl, inr, sym, ap, ◌∙◌, arith}
 use Rattle.std.specs.Int.{bit_at}
 use Rattle.std.proofs.lemmas.Bool.{cases_lt}
 use Rattle.std.proofs.lemmas.List.{get_or_past}
@@ -18,9 +19,4 @@ loop-i-preserved c = λ p below. elim (cases_lt p (64 * c.loop-i.i)) [
 ]
 
 pub returns : goal.returns
-returns c = λ _ p. elim (cases_lt p (64 * c.loop-i.i)) [
-  | inl before ↦ c.loop-i.invariant p before
-  | inr past ↦
-      let few : length c.args.self.now.heard.items ≤ p = omega (arith, past, c.loop-i-test.false, c.div_ceil-i-end.ensures, c.len.ensures.value) in
-      get_or_past c.args.self.now.heard.items p false few
-]
+returns c = grind (arith, nat_tests, cases_lt, get_or_past)

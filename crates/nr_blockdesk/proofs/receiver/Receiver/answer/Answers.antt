@@ -1,3 +1,4 @@
+use Rattle.std.proofs.Common.{arith}
 use Rattle.std.proofs.Common.{◌≡◌, ◌==◌, ◌++◌, List, length, take, subst, sym, ap, ◌∙◌}
 use Rattle.std.specs.List.{list_all}
 use Rattle.std.proofs.lemmas.List.{length-take-le}
@@ -19,12 +20,10 @@ fixed-is c =
     ∙ all-known c.plans_are_sound.ensures (link_of s.table.now s.plan s.a s.buffer) s.stores.items s.peelers.items c.self.invariant.is_link c.self.invariant.desk)
 
 pub returns-then-not-all_known-clause-decided : goal.returns-then-not-all_known-clause-decided
-returns-then-not-all_known-clause-decided c =
-    rw (← c.self.view_is) (fixed-is (goal.at.returns-then-not-all_known-clause-decided c).After-all_known ∙ c.if-not-all_known.true)
+returns-then-not-all_known-clause-decided c = grind (arith, fixed-is)
 
 pub read-requires-clause-all : goal.read-requires-clause-all
-read-requires-clause-all c =
-    rw (← c.self.view_is) (fixed-is (goal.at.read-requires-clause-all c).After-all_known ∙ c.if-not-all_known.false)
+read-requires-clause-all c = grind (arith, fixed-is)
 
 pub returns-in-Consistent-clause-decided : goal.returns-in-Consistent-clause-decided
 returns-in-Consistent-clause-decided c =

@@ -18,6 +18,4 @@ invariant_of-result c =
     }
 
 pub returns-clause-empty : goal.returns-clause-empty
-returns-clause-empty c =
-    let link = link_of c.args.table.now c.args.plan c.args.a c.args.buffer in
-    record-new link c.in_ok-stores.stores.items c.in_ok-stores.ensures.all.0 c.in_ok-stores.ensures.empty
+returns-clause-empty c = grind (arith, record-new)

@@ -1,8 +1,6 @@
-use Rattle.std.proofs.Common.{◌≡◌, ◌≤◌, Bool, true, false, ◌++◌, List, length, get_or, drop, take, subst, sym, ap, ◌∙◌, arith}
+use Rattle.std.proofs.Common.{◌≡◌, Bool, true, false, ◌++◌, List, length, drop, take, subst, ap, ◌∙◌, arith}
 use Rattle.std.proofs.lemmas.List.{take_at}
 use Rattle.std.specs.Vec.{vec_len}
-use Rattle.nr_crcattach.specs.Attachment.{attached_length}
-use Rattle.nr_peel.specs.Peeling.{Peeling, checks_for}
 use Rattle.nr_blockdesk.specs.Link.{IsBlock, Link, link_of}
 use Rattle.nr_blockdesk.specs.Outcome.{ExplainedBy, all_fixed}
 use Rattle.nr_blockdesk.specs.Receiving.{ReceiverView}
@@ -12,26 +10,13 @@ use Rattle.nr_blockdesk.proofs.receiver.Receiver.read.Goals.{After-explains}
 use Rattle.nr_blockdesk.proofs.receiver.Receiver.read.Goals as goal
 
 pub candidate-block-requires-clause-sized : goal.candidate-block-requires-clause-sized
-candidate-block-requires-clause-sized c = λ r d block.
-    let s = c.self.inside in
-    let inv = c.self.invariant in
-    let link = link_of s.table.now s.plan s.a s.buffer in
-    subst (λ (ps : List Peeling). s.plan.kdash ≤ (checks_for (get_or ps r d)).size) (sym c.deref.ensures.value)
-    (wide-peelers c.plans_are_sound.ensures link s.stores.items s.peelers.items inv.is_link inv.desk r d block)
+candidate-block-requires-clause-sized c = grind (arith, wide-peelers)
 
 pub attach_into-requires : goal.attach_into-requires
-attach_into-requires c =
-    let inv = c.self.invariant in
-    let long = c.attachment_lengthens.ensures.block c.candidate-block.result.items
-    ∙ ap attached_length c.candidate-block.ensures.long in
-    record { room = omega (arith, long, inv.whole, inv.room) }
+attach_into-requires c = grind arith
 
 pub explains-requires-clause-whole : goal.explains-requires-clause-whole
-explains-requires-clause-whole c =
-    ap length c.attach_into.ensures.items
-    ∙ c.attachment_lengthens.ensures.block c.candidate-block.result.items
-    ∙ ap attached_length c.candidate-block.ensures.long
-    ∙ sym c.self.invariant.whole
+explains-requires-clause-whole c = grind arith
 
 -- once the transport block was read, encoded and compared
 module _ (c : After-explains) where
@@ -59,8 +44,7 @@ module _ (c : After-explains) where
       (subst (ExplainedBy link c.self.inside.stores.items) (only y long y-by) y-by))
 
   kept : take (vec_len c.self.inside.words) (c.explains.new.words ++ drop (length c.explains.new.words) c.self.inside.words.items) ≡ c.explains.new.words
-  kept =
-      take_at c.explains.new.words (drop (length c.explains.new.words) c.self.inside.words.items) (vec_len c.self.inside.words) (omega (arith, c.explains.ensures.words.many, c.self.invariant.sized.many))
+  kept = grind (arith, take_at)
 
 pub invariant_of-self : goal.invariant_of-self
 invariant_of-self c =

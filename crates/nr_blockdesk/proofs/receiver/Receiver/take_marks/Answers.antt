@@ -1,6 +1,6 @@
-use Rattle.std.proofs.Common.{◌≡◌, ◌*◌, ◌<◌, ◌≤◌, [], ◌∷◌, ◌++◌, inr, ℕ, Bool, Err, List, length, drop, take, subst, sym, ap, ◌∙◌, arith}
+use Rattle.std.proofs.Common.{◌≡◌, ◌*◌, ◌≤◌, [], ◌∷◌, ◌++◌, ℕ, Bool, Err, List, length, drop, take, subst, sym, ap, ◌∙◌, arith}
 use Rattle.std.proofs.lemmas.Result.{err_from_is_err_and}
-use Rattle.std.specs.Prelude.{IsOk, Result, slice_index}
+use Rattle.std.specs.Prelude.{IsOk, Result}
 use Rattle.std.proofs.lemmas.List.{take_at}
 use Rattle.std.specs.Vec.{vec_len}
 use Rattle.nr_graphpick.specs.Graph.{cols_of}
@@ -30,8 +30,7 @@ use Rattle.nr_blockdesk.proofs.receiver.Receiver.take_marks.Goals.{After-hear-ag
 -- what was said of the lists, of the reception
 said-by : (c : ℕ) (tx : Tx) (marks bits : List Bool) (n : ℕ) (said : Result (List ℕ) DeskFault) → n ≡ length marks
     → hearing_said_of c tx n ≡ said → reception_said_of c (reception_by tx marks bits) ≡ said
-said-by c tx marks bits n said long is =
-    ap (hearing_said_of c tx) (length-heards marks bits 0 (length marks) ∙ sym long) ∙ is
+said-by c tx marks bits n said long is = grind (arith, length-heards)
 
 refused : (c : In_err-lengths) → reception_said_of c.self.inside.plan.c (reception_by c.args.tx.now c.args.heard.now.items c.args.value.now.items)
     ≡ Err c.in_err-lengths.field-0.0
@@ -41,9 +40,7 @@ accepted : (c : In_ok-lengths) → IsOk (reception_said_of c.self.inside.plan.c 
 accepted c = rw (said-by c.self.inside.plan.c c.args.tx.now c.args.heard.now.items c.args.value.now.items c.len.result _ c.len.ensures.value c.in_ok-lengths.ensures.said)
 
 pub returns-in_err-lengths-clause-refused : goal.returns-in_err-lengths-clause-refused
-returns-in_err-lengths-clause-refused c =
-    let p = err_from_is_err_and c.from_residual.result c.from_residual.ensures.1 in
-    rw (← c.self.view_is, p.1, p.2) (inr (refused (goal.at.returns-in_err-lengths-clause-refused c).In_err-lengths))
+returns-in_err-lengths-clause-refused c = grind (arith, err_from_is_err_and, refused)
 
 pub returns-in_err-lengths-clause-judged : goal.returns-in_err-lengths-clause-judged
 returns-in_err-lengths-clause-judged c =
@@ -68,10 +65,7 @@ pub returns-clause-err : goal.returns-clause-err
 returns-clause-err c = tt
 
 pub hear-agreed-requires-clause-room : goal.hear-agreed-requires-clause-room
-hear-agreed-requires-clause-room c = λ r inside.
-    let below : r < length c.deref.result.now = rw (c.deref.ensures.0, ← c.deref-2.ensures.0) inside in
-    let few : slice_index c.deref-2.result.now r ≤ c.longest.result = rw (c.deref-2.ensures.0, ← c.deref.ensures.0) (c.longest.ensures.all r below) in
-    room-less c.longest.result (slice_index c.deref-2.result.now r) c.in_ok-selected.selected few c.in_ok-selected.ensures
+hear-agreed-requires-clause-room c = grind (arith, room-less)
 
 pub hear-agreed-requires-clause-sized : goal.hear-agreed-requires-clause-sized
 hear-agreed-requires-clause-sized c = λ r d inside.
@@ -101,9 +95,7 @@ module _ (c : After-hear-agreed) where
   P' = c.hear-agreed.new.peelers
 
   are : AreHeard link c.args.tx.now c.in_ok-lengths.lengths.items places S P S' P'
-  are =
-      parts-are link c.args.tx.now c.in_ok-lengths.lengths.items c.deref-2.result.now places S c.deref_mut.result.now S' P c.deref_mut-2.result.now P'
-      c.deref-2.ensures.0 c.deref_mut.ensures.value c.deref_mut-2.ensures.value c.self.invariant.desk.stores c.hear-agreed.ensures.parts
+  are = grind (arith, parts-are)
 
   many : length S' ≡ length S
   many = c.hear-agreed.ensures.stores ∙ ap length c.deref_mut.ensures.value
@@ -125,9 +117,7 @@ module _ (c : After-hear-agreed) where
 
   outcome : (answer : Outcome) → IsDecided link (take (vec_len c.self.inside.stores) (S' ++ drop (length S') S)) answer
       → (list : List Reception) → IsRecordOf link list S → verdict answer ≡ outcome_of link (list ++ reception c.args.tx.now places ∷ [])
-  outcome answer decided list of =
-      outcome-of_record c.explains_by_record.ensures c.explained_is_delivered.ensures c.delivered_is_only.ensures link (list ++ reception c.args.tx.now places ∷ [])
-      S' answer c.self.invariant.is_link (recorded list of) (rw kept at decided)
+  outcome answer decided list of = grind (arith, outcome-of_record, recorded, kept)
 
 pub invariant_of-self : goal.invariant_of-self
 invariant_of-self c =

@@ -1,16 +1,14 @@
-use Rattle.std.proofs.Common.{◌≡◌, Ok, Err, length, refl, sym, ap, ◌∙◌}
+use Rattle.std.proofs.Common.{arith}
+use Rattle.std.proofs.Common.{◌≡◌, Ok, length, refl, sym, ap, ◌∙◌}
 use Rattle.std.proofs.lemmas.Result.{err_from_is_err_and}
 use Rattle.nr_blockdesk.specs.Link.{link_of}
-use Rattle.nr_blockdesk.specs.Sent.{tx_said, tx_said_of}
+use Rattle.nr_blockdesk.specs.Sent.{tx_said}
 use Rattle.nr_blockdesk.proofs.LinkFacts.{no-memory}
 use Rattle.nr_blockdesk.proofs.SenderFacts.{length-words, sent-ok, tx-never_memory, words-long}
 use Rattle.nr_blockdesk.proofs.sender.Sender.send.Goals as goal
 
 pub returns-in_err-lengths-clause-judged : goal.returns-in_err-lengths-clause-judged
-returns-in_err-lengths-clause-judged c =
-    let p = err_from_is_err_and c.from_residual.result c.from_residual.ensures.1 in
-    no-memory (tx_said_of c.self.inside.plan.c c.args.tx.now) c.from_residual.result c.in_err-lengths.field-0.0 (p.1 ∙ ap Err p.2)
-    c.in_err-lengths.ensures.said (tx-never_memory c.self.inside.plan.c c.args.tx.now)
+returns-in_err-lengths-clause-judged c = grind (arith, err_from_is_err_and, no-memory, tx-never_memory)
 
 pub send_words-requires-clause-long : goal.send_words-requires-clause-long
 send_words-requires-clause-long c =

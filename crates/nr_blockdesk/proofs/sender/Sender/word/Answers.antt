@@ -1,4 +1,4 @@
-use Rattle.std.proofs.Common.{◌≡◌, ◌<◌, [], length, slice_index_or, subst, refl, sym, ap, ◌∙◌, arith}
+use Rattle.std.proofs.Common.{◌≡◌, ◌<◌, length, slice_index_or, subst, refl, sym, ap, arith}
 use Rattle.std.proofs.lemmas.List.{get_or_default}
 use Rattle.nr_ldpcenc.specs.Codeword.{IsCodeword}
 use Rattle.nr_blockdesk.specs.Link.{code_bits_of, link_of, word}
@@ -8,24 +8,14 @@ use Rattle.nr_blockdesk.proofs.sender.Sender.word.Goals.{After-index}
 use Rattle.nr_blockdesk.proofs.sender.Sender.word.Goals as goal
 
 pub index-requires : goal.index-requires
-index-requires c =
-    let s = c.self.inside in
-    let many = ap length c.self.invariant.encoded ∙ length-words (link_of s.table.now s.plan (length s.block.items) s.buffer) s.block.items in
-    omega (arith, ap (λ (v : SenderView). v.link.plan.c) c.self.view_is, many, c.requires)
+index-requires c = grind (arith, length-words)
 
 inside : (c : After-index) → c.args.r < c.self.inside.plan.c
 inside c = omega (arith, ap (λ (v : SenderView). v.link.plan.c) c.self.view_is, c.requires)
 
 value : (c : After-index) → c.index.result.now
     ≡ word (link_of c.self.inside.table.now c.self.inside.plan (length c.self.inside.block.items) c.self.inside.buffer) c.self.inside.block.items c.args.r
-value c =
-    let s = c.self.inside in
-    let link = link_of s.table.now s.plan (length s.block.items) s.buffer in
-    let many : length s.words.items ≡ s.plan.c = ap length c.self.invariant.encoded ∙ length-words link s.block.items in
-    c.index.ensures
-    ∙ get_or_default s.words.items c.args.r c.index.result.now [] (omega (arith, many, inside c))
-    ∙ ap (λ ws. slice_index_or ws c.args.r []) c.self.invariant.encoded
-    ∙ word-at link s.block.items c.args.r [] (inside c)
+value c = grind (arith, length-words, get_or_default, inside, slice_index_or, word-at)
 
 pub returns-clause-value : goal.returns-clause-value
 returns-clause-value c = rw (← c.self.view_is) (value (goal.at.returns-clause-value c).After-index)
