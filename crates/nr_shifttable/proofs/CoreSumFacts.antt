@@ -1,4 +1,5 @@
 -- Equal shifts cancel: the four core rows add up to one rotated first parity column.
+use Rattle.std.proofs.Common.{rules}
 use Rattle.std.proofs.Common.{◌≡◌, ℕ, ◌+◌, ◌==◌, ◌%◌, Bool, true, false, ◌⊎◌, inl, inr, List, ap, refl, ◌∙◌, arith}
 use Rattle.std.proofs.lemmas.Bool.{eqb-true}
 use Rattle.std.proofs.lemmas.Bool.Decides.{nat_tests}
@@ -21,15 +22,7 @@ diagonal_after : (a b c p q r : Bool) → plus a (plus p (plus p (plus q (plus b
 diagonal_after a b c p q r = grind arith
 
 core-sum : (es : List Entry) (set n a b c : ℕ) → HasCore es set n a b c → (z : ℕ) (bit : ℕ → ℕ → Bool) → cells_sum z bit (core_cells es set n) ≡ bit n (third_of a b c % z)
-core-sum es set n a b c core z bit = by_middle core.middle ∙ third-sum (λ v. bit n (v % z)) a b c core.two_agree
-  where
-    by_middle : HasMiddle es set n b → cells_sum z bit (core_cells es set n) ≡ plus (bit n (a % z)) (plus (bit n (b % z)) (bit n (c % z)))
-    by_middle (inl rows) =
-        rw (core.first, rows.0, rows.1, core.last)
-        (diagonal (bit n (a % z)) (bit n (b % z)) (bit n (c % z)) (bit (n + 1) (0 % z)) (bit (n + 2) (0 % z)) (bit (n + 3) (0 % z)))
-    by_middle (inr rows) =
-        rw (core.first, rows.0, rows.1, core.last)
-        (diagonal_after (bit n (a % z)) (bit n (b % z)) (bit n (c % z)) (bit (n + 1) (0 % z)) (bit (n + 2) (0 % z)) (bit (n + 3) (0 % z)))
+core-sum es set n a b c core z bit = search (rules, third-sum, diagonal, diagonal_after)
 
 pub core_rows-add_up : CoreRowsAddUp
 core_rows-add_up t graph set table some small =

@@ -6,6 +6,7 @@ use Rattle.std.specs.Int.{IsInRange}
 use Rattle.std.specs.Str.{all_ascii_digits}
 use Rattle.std.specs.Str.Parse.{digits_value}
 use Rattle.std.proofs.Math.Bool.{and-true}
+use Rattle.std.proofs.lemmas.Bool.{and_right}
 use Rattle.std.proofs.lemmas.Int.Digits.{digits_value_more}
 use Rattle.std.proofs.lemmas.List.{length-take-le}
 use Rattle.std.proofs.lemmas.List.Folds.{list_all-append}
@@ -22,14 +23,10 @@ pub last-blank : (xs : List ℕ) (b : ℕ) → is_blank b ≡ true → to_last_m
 last-blank [] b h = rw h refl
 last-blank (x ∷ xs) b h = grind (arith, blank-behind, and-true, last-blank xs b h)
 
-and-false : (b : Bool) → (b && false) ≡ false
-and-false true = refl
-and-false false = refl
-
 -- another octet at the end stays, and all before it
 pub last-mark : (xs : List ℕ) (b : ℕ) → is_blank b ≡ false → to_last_mark (xs ++ b ∷ []) ≡ xs ++ b ∷ []
 last-mark [] b h = rw h refl
-last-mark (x ∷ xs) b h = grind (arith, blank-behind, and-false, last-mark xs b h)
+last-mark (x ∷ xs) b h = grind (arith, blank-behind, and_right, last-mark xs b h)
 
 -- the test of each octet is std's recursion
 digits-told : (ds : List ℕ) → list_all is_ascii_digit ds ≡ all_ascii_digits ds

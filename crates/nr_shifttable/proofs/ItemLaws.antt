@@ -1,4 +1,5 @@
 -- What holds of the items of every file: each is within its base graph, and no two stand at one place.
+use Rattle.std.proofs.lemmas.Grind.{common_steps}
 use Rattle.std.proofs.lemmas.Bool.Decides.{nat_tests}
 use Rattle.std.proofs.Common.{◌≡◌, ℕ, suc, ◌+◌, ◌<◌, List, [], ◌∷◌, ◌++◌, length, Bool, true, false, not, nat_lt, ◌&&◌, ◌==◌, cond, refl, ap, subst, sym, ◌∙◌, arith, Option, Some, None, Vec, Global}
 use Rattle.std.specs.Prelude.{All, IfOk, Result, Ok, Err, codes, option_and_then, option_map}
@@ -38,24 +39,13 @@ if-ok false d r y e = (refl, e)
 
 -- the tests of an item in range hold
 inside-in : (graph : Graph) (row col : ℕ) (values : List ℕ) (x : Item) → length values ≡ 8 → item_in graph row col values ≡ Some x → IsInside x
-inside-in graph row col values x eight e =
-    let whole = cond_some (nat_lt row (rows_of graph) && nat_lt col (cols_of graph) && list_all (λ v. nat_lt v 65536) values) _ x e in
-    let last = and_parts (nat_lt row (rows_of graph) && nat_lt col (cols_of graph)) (list_all (λ v. nat_lt v 65536) values) whole.0 in
-    let first = and_parts (nat_lt row (rows_of graph)) (nat_lt col (cols_of graph)) last.0 in
-    let short = Decides-by_and (λ v. nat_lt v 65536) (λ v. v < 65536) (list_all (λ v. nat_lt v 65536)) (λ v. Decides-ltb v 65536) refl (λ _ _. refl) values in
-    subst IsInside whole.1 (record {
-      row = ltb-true row (rows_of graph) first.0;
-      col = ltb-true col (cols_of graph) first.1;
-      eight = eight;
-      values = short.0 last.1;
-    })
+inside-in graph row col values x eight e = grind (arith, common_steps, nat_tests, cond_some, and_parts, ltb-true)
 
 inside-of : (numbers : List ℕ) (x : Item) → length numbers ≡ 11 → item_of_numbers numbers ≡ Some x → IsInside x
 inside-of [] x long e = cc e
 inside-of (g ∷ []) x long e = cc e
 inside-of (g ∷ row ∷ []) x long e = cc e
-inside-of (g ∷ row ∷ col ∷ values) x long e =
-    option_and_then_some (λ graph. item_in graph row col values) (graph_of g) x e (λ graph _ h. inside-in graph row col values x (omega arith) h)
+inside-of (g ∷ row ∷ col ∷ values) x long e = grind (arith, common_steps, nat_tests, option_and_then_some, inside-in)
 
 -- a number for each field
 numbers-long : (r : Record) (numbers : List ℕ) → short_numbers r ≡ Some numbers → length numbers ≡ length r

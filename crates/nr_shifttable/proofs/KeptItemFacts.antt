@@ -22,7 +22,7 @@ use Rattle.nr_shifttable.specs.Listed.{item_key, is_of_graph, graph_number, kept
 use Rattle.nr_shifttable.specs.Orders.{key_of}
 use Rattle.nr_refusal.specs.Refusal.{◌>>=◌}
 use Rattle.nr_shifttable.proofs.ParityShapeFacts.{accepted-parts}
-use Rattle.nr_shifttable.proofs.SliceFacts.{filter_within}
+use Rattle.nr_shifttable.proofs.SliceFacts.{filter_none, filter_within}
 
 -- each item is within its base graph and past those before it, and the first is not below `past`
 abbrev pub Ascend : ℕ → List Item → Type 0
@@ -82,40 +82,29 @@ fold-same low es up = fold-last low [] es (All-nil (λ x. entry_place x < low)) 
 low-key : (r c : ℕ) → (nat_lt r 46 && nat_lt c 68) ≡ true → 68 * r + c < 4096
 low-key r c room = grind (arith, nat_tests, and_parts, ltb-true)
 
--- past them no item is one of it
+-- past them no item is one of it, so none stands behind one of base graph 2
+past-all : (past : ℕ) (items : List Item) → Ascend past items → All (λ x. (is_of_graph x ≡ true) × (past ≤ item_key x)) items
+past-all past [] up = All-nil (λ x. (is_of_graph x ≡ true) × (past ≤ item_key x))
+past-all past (x ∷ xs) up =
+    let At : Item → Type 0 = λ y. (is_of_graph y ≡ true) × (past ≤ item_key y) in
+    let least = up.1 in
+    All-cons At x xs (up.0, up.1) (λ k d lt. let p = past-all (item_key x + 1) xs up.2 k d lt in (p.0, omega arith))
+
+one-before : (x y : Item) → is_of_graph y ≡ true → item_key x ≤ item_key y → graph_eq y.graph One ≡ true → graph_eq x.graph One ≡ true
+one-before x y room le is = grind (arith, nat_tests)
+
+no-one : (x : Item) → is_of_graph x ≡ true → 4096 ≤ item_key x → graph_eq x.graph One ≡ false
+no-one x room le = grind (arith, nat_tests)
+
 no-ones : (past : ℕ) (items : List Item) → Ascend past items → 4096 ≤ past → entries_for One items ≡ []
-no-ones past [] up far = refl
-no-ones past (x ∷ xs) up far = grind (arith, no-ones (item_key x + 1) xs up.2 (omega arith), low-key)
+no-ones past items up far = ap (map (λ i. i.entry)) (filter_none (λ x. graph_eq x.graph One) items (λ k d lt. let p = past-all past items up k d lt in no-one (get_or items k d) p.0 (omega arith)))
 
--- past them all items are of base graph 2, so no item of base graph 1 stands behind one of base graph 2
-all-twos : (past : ℕ) (items : List Item) → Ascend past items → 4096 ≤ past → All (λ x. graph_eq x.graph One ≡ false) items
-all-twos past [] up far = All-nil (λ x. graph_eq x.graph One ≡ false)
-all-twos past (x ∷ xs) up far = by x.graph x.entry up (let le = up.1 in all-twos (item_key x + 1) xs up.2 (omega arith))
-  where
-    IsTwo : Item → Type 0
-    IsTwo = λ x. graph_eq x.graph One ≡ false
-
-    by : (g : Graph) (e : Entry) → Ascend past (record { graph = g; entry = e } ∷ xs) → All IsTwo xs → All IsTwo (record { graph = g; entry = e } ∷ xs)
-    by One e up next = let short = low-key e.row e.col up.0 in let le = up.1 in absurd (omega arith)
-    by Two e up next = All-cons IsTwo (record { graph = Two; entry = e }) xs refl next
-
-pub ones-first : (past : ℕ) (items : List Item) → Ascend past items → IsPartitionedBy (λ x. graph_eq x.graph One) items
-ones-first past [] up = λ i j d le lt is. absurd (omega arith)
-ones-first past (x ∷ xs) up = by x.graph x.entry up (ones-first (item_key x + 1) xs up.2) (all-twos (item_key x + 1) xs up.2)
-  where
-    p : Item → Bool
-    p = λ x. graph_eq x.graph One
-
-    apart : true ≡ false → ⊥
-    apart e = cc
-
-    by : (g : Graph) (e : Entry) → Ascend past (record { graph = g; entry = e } ∷ xs) → IsPartitionedBy p xs → (4096 ≤ key_of g e.row e.col + 1 → All (λ x. p x ≡ false) xs)
-        → IsPartitionedBy p (record { graph = g; entry = e } ∷ xs)
-    by g e up rest twos zero zero d le lt is = is
-    by g e up rest twos (suc i) zero d le lt is = absurd (omega arith)
-    by g e up rest twos (suc i) (suc j) d le lt is = rest i j d (omega arith) (omega arith) is
-    by One e up rest twos zero (suc j) d le lt is = refl
-    by Two e up rest twos zero (suc j) d le lt is = let other = twos (omega arith) j d (omega arith) in absurd (apart (sym is ∙ other))
+ones-first : (past : ℕ) (items : List Item) → Ascend past items → IsPartitionedBy (λ x. graph_eq x.graph One) items
+ones-first past [] up i j d le lt is = absurd (omega arith)
+ones-first past (x ∷ xs) up zero zero d le lt is = is
+ones-first past (x ∷ xs) up zero (suc j) d le lt is = let p = past-all (item_key x + 1) xs up.2 j d (omega arith) in one-before x (get_or xs j d) p.0 (omega arith) is
+ones-first past (x ∷ xs) up (suc i) zero d le lt is = absurd (omega arith)
+ones-first past (x ∷ xs) up (suc i) (suc j) d le lt is = ones-first (item_key x + 1) xs up.2 i j d (omega arith) (omega arith) is
 
 -- entries that were kept are of base graph 1 by their number
 one-is : (e : KeptEntry) → graph_eq (item_kept e).graph One ≡ (e.graph == 1)
@@ -182,18 +171,11 @@ twos-ascend low past (x ∷ xs) up le =
 -- so their table is these entries
 pub parted-table : (items : List Item) (one two : List Entry) → Ascend 0 items → one ≡ entries_for One items → two ≡ entries_for Two items → table_of items ≡ record { one = one; two = two }
 parted-table items one two up ones twos =
-    let ones' : fold with_entry [] (entries_for One items) ≡ one = fold-same 0 (entries_for One items) (ones-ascend 0 0 items up (omega arith)) ∙ sym ones in
-    let twos' : fold with_entry [] (entries_for Two items) ≡ two = fold-same 0 (entries_for Two items) (twos-ascend 0 0 items up (omega arith)) ∙ sym twos in
-    λ i. record { one = ones' i; two = twos' i }
+    cc (fold-same 0 (entries_for One items) (ones-ascend 0 0 items up (omega arith)), fold-same 0 (entries_for Two items) (twos-ascend 0 0 items up (omega arith)), ones, twos)
 
 -- a table of items that ascend lists them
-pub ascend-listed : (items : List Item) → Ascend 0 items → items_listed (table_of items) ≡ items
-ascend-listed items up =
-    let ones = fold-same 0 (entries_for One items) (ones-ascend 0 0 items up (omega arith)) in
-    let twos = fold-same 0 (entries_for Two items) (twos-ascend 0 0 items up (omega arith)) in
-    ap (λ l. map (item_in_graph One) l ++ map (item_in_graph Two) (fold with_entry [] (entries_for Two items))) ones
-    ∙ ap (λ l. map (item_in_graph One) (entries_for One items) ++ map (item_in_graph Two) l) twos
-    ∙ items-are 0 items up
+ascend-listed : (items : List Item) → Ascend 0 items → items_listed (table_of items) ≡ items
+ascend-listed items up = ap items_listed (parted-table items (entries_for One items) (entries_for Two items) up refl refl) ∙ items-are 0 items up
 
 pub kept-listed : (es : List KeptEntry) (t : Entries) → places_said es ≡ Ok tt → accepted (table_of (map item_kept es)) ≡ Ok t → kept_listed t ≡ es
 kept-listed es t said judged = grind (arith, accepted-parts, ascend-listed, said-ascend, all-back)
@@ -229,21 +211,14 @@ ones-placed past low (e ∷ es) rest le short up inside after =
 listed-ascend : (t : Entries) → IsTable t → Ascend 0 (items_listed t)
 listed-ascend t table = ones-placed 0 0 t.one (map (item_in_graph Two) t.two) (omega arith) (omega arith) table.one table.one_in_range (twos-placed 4096 0 t.two (omega arith) table.two table.two_in_range)
 
--- and give the entries to it again
-ones-of_twos : (es : List Entry) → entries_for One (map (item_in_graph Two) es) ≡ []
-ones-of_twos [] = refl
-ones-of_twos (e ∷ es) = ones-of_twos es
-
-twos-of_twos : (es : List Entry) → entries_for Two (map (item_in_graph Two) es) ≡ es
-twos-of_twos [] = refl
-twos-of_twos (e ∷ es) = ap (λ l. e ∷ l) (twos-of_twos es)
-
 ones-listed : (es fs : List Entry) → entries_for One (map (item_in_graph One) es ++ map (item_in_graph Two) fs) ≡ es
-ones-listed [] fs = ones-of_twos fs
+ones-listed [] [] = refl
+ones-listed [] (f ∷ fs) = ones-listed [] fs
 ones-listed (e ∷ es) fs = ap (λ l. e ∷ l) (ones-listed es fs)
 
 twos-listed : (es fs : List Entry) → entries_for Two (map (item_in_graph One) es ++ map (item_in_graph Two) fs) ≡ fs
-twos-listed [] fs = twos-of_twos fs
+twos-listed [] [] = refl
+twos-listed [] (f ∷ fs) = ap (λ l. f ∷ l) (twos-listed [] fs)
 twos-listed (e ∷ es) fs = twos-listed es fs
 
 -- so what a table lists is that table

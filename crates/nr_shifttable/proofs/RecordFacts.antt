@@ -56,10 +56,7 @@ last-behind false fields p e = cc e
 
 step-behind : (b : Bool) (s : State) (c : ℕ) (fields : Record) (rest : List ℕ) (more : Option Read) (p : Read) → is_end (step default_config s c).1 ≡ b
     → cond b (Some (fields, (step default_config s c).0, rest)) more ≡ Some p → (more ≡ Some p → Behind rest p) → Behind (c ∷ rest) p
-step-behind true s c fields rest more p b e next = record {
-  between = ap (λ (r : Read). ends_at_end r.1) (sym (same_Some _ p e)) ∙ step-between s c b;
-  less = omega (arith, ap (λ (r : Read). length r.2) (same_Some _ p e));
-}
+step-behind true s c fields rest more p b e next = grind (arith, same_Some, step-between)
 step-behind false s c fields rest more p b e next = let q : Behind rest p = next e in record {
   between = q.between;
   less = omega arith;
@@ -68,9 +65,7 @@ step-behind false s c fields rest more p b e next = let q : Behind rest p = next
 pub next-behind : (s : State) (fields : Record) (field text : List ℕ) (p : Read) → next_record default_config s fields field text ≡ Some p → Behind text p
 unfolding next_record
 next-behind s fields field [] p e = last-behind (ends_at_end s) (fields ++ (field ∷ [])) p e
-next-behind s fields field (c ∷ rest) p e =
-    step-behind (is_end (step default_config s c).1) s c (fields_after (step default_config s c).1 fields field) rest _ p refl e
-    (next-behind (step default_config s c).0 (fields_after (step default_config s c).1 fields field) (field_after (step default_config s c).1 c field) rest p)
+next-behind s fields field (c ∷ rest) p e = grind (arith, step-behind, next-behind (step default_config s c).0 (fields_after (step default_config s c).1 fields field) (field_after (step default_config s c).1 c field) rest p)
 
 -- between two records a record takes at least one octet
 pub next-less : (s : State) (text : List ℕ) (p : Read) → ends_at_end s ≡ false → next_record default_config s [] [] text ≡ Some p → length p.2 < length text

@@ -1,4 +1,5 @@
 -- Between the start of a row and that of the next stand the row's entries, and so of a column.
+use Rattle.std.proofs.lemmas.Bool.Decides.{nat_tests}
 use Rattle.std.proofs.Common.{◌≡◌, ◌≢◌, ℕ, ◌+◌, ◌-◌, ◌<◌, ◌≤◌, ◌==◌, nat_lt, true, false, List, [], length, get_or, set, take, drop, sym, subst, ⊎_elim, below_more, get_or-set_other, get_or-set_same, arith}
 use Rattle.std.specs.Prelude.{slice_index}
 use Rattle.std.specs.List.{filter, All, AllWithin}
@@ -43,21 +44,12 @@ module _ (key : Entry → ℕ) (es : List Entry) (starts : List ℕ) (n i start 
       (cases_lt stop start)
 
   pub starts-slice : take (stop - start) (drop start es) ≡ filter (λ e. key e == i) es
-  starts-slice = filter_within (λ e. key e == i) es start stop starts-order high.within
-      (λ k d a b. let before = below_start key es i start low k d a b in ne_eqb (key (get_or es k d)) i (λ e. omega arith))
-      (λ k d a b.
-      let from = from_start key es i start low k d a (let room = high.within in omega arith) in
-      let before = below_start key es (i + 1) stop high k d (omega arith) b in
-      eq-eqb (key (get_or es k d)) i (omega arith))
-      (λ k d a b. let from = from_start key es (i + 1) stop high k d a b in ne_eqb (key (get_or es k d)) i (λ e. omega arith))
+  starts-slice = grind (arith, nat_tests, filter_within, starts-order, high, below_start, low, ne_eqb, from_start, eq-eqb)
 
 -- one start more
 pub starts-more : (key : Entry → ℕ) (es : List Entry) (starts : List ℕ) (i start : ℕ) → i < length starts → IsStart key es i start
     → ((k : ℕ) → k < i → IsStart key es k (slice_index starts k)) → (k : ℕ) → k < i + 1 → IsStart key es k (slice_index (set starts i start) k)
-starts-more key es starts i start room here before =
-    below_more (λ k. IsStart key es k (slice_index (set starts i start) k)) i
-    (λ k lt. let ne : k ≢ i = omega arith in subst (IsStart key es k) (sym (get_or-set_other starts i k start 0 ne)) (before k lt))
-    (subst (IsStart key es i) (sym (get_or-set_same starts i start 0 room)) here)
+starts-more key es starts i start room here before = grind (arith, below_more, get_or-set_other, get_or-set_same)
 
 -- a start is found where all before it are below the key, and the entry at it is not
 pub start-from : (key : Entry → ℕ) (es : List Entry) (i start : ℕ) → start ≤ length es → IsNonDecreasingBy key es

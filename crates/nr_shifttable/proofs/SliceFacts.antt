@@ -1,4 +1,5 @@
 -- In a list along which a key does not fall, the elements at one key are a slice.
+use Rattle.std.proofs.lemmas.Bool.Decides.{nat_tests}
 use Rattle.std.proofs.Common.{◌≡◌, ℕ, ◌+◌, ◌-◌, ◌<◌, ◌≤◌, nat_lt, nat_le, Bool, true, false, List, [], ◌∷◌, ◌++◌, length, get_or, take, drop, refl, sym, ap, subst, ◌∙◌, arith}
 use Rattle.std.specs.List.{filter, All, AllWithin}
 use Rattle.std.specs.List.Sorted.{IsPartitionPoint}
@@ -36,7 +37,4 @@ module _ {X : Type 0} (p : X → Bool) where
 -- the elements from a key on are the slice from the first of them
 pub slice_from_key : {X : Type 0} (n : X → ℕ) (xs : List X) (i start : ℕ) → start ≤ length xs
     → IsPartitionPoint (λ y. nat_lt (n y) i ≡ true) (λ y. nat_lt (n y) i ≡ false) xs start → take (length xs - start) (drop start xs) ≡ filter (λ y. nat_le i (n y)) xs
-slice_from_key n xs i start within point = filter_within (λ y. nat_le i (n y)) xs start (length xs) within (omega arith)
-    (λ k d a b. lt-leb i (n (get_or xs k d)) (ltb-true (n (get_or xs k d)) i (point.0 k d a b)))
-    (λ k d a b. le-leb i (n (get_or xs k d)) (ltb-false (n (get_or xs k d)) i (point.1 k d a b)))
-    (λ k d a b. absurd (omega arith))
+slice_from_key n xs i start within point = grind (arith, nat_tests, filter_within, lt-leb, ltb-true, le-leb, ltb-false)
