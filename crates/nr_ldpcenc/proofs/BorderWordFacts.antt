@@ -1,5 +1,5 @@
 -- Words that are read across the border of two words, and words that are written into a list one by one.
-use Rattle.std.proofs.Common.{◌≡◌, ℕ, ◌+◌, ◌-◌, ◌*◌, ◌/◌, ◌%◌, ◌^◌, ◌<◌, ◌≤◌, List, length, get_or, set, ap, ◌∙◌, inl, inr, arith, length-set}
+use Rattle.std.proofs.Common.{◌≡◌, ℕ, ◌+◌, ◌-◌, ◌*◌, ◌/◌, ◌%◌, ◌^◌, ◌<◌, ◌≤◌, List, length, get_or, set, arith, length-set}
 use Rattle.std.proofs.lemmas.Bool.{cases_eq}
 use Rattle.std.specs.Int.{bit_at}
 use Rattle.std.specs.Int.RustNames.{bit_or}
@@ -14,8 +14,7 @@ up_by n r = n * 2 ^ 1 % 2 ^ 64 * 2 ^ (63 - r) % 2 ^ 64
 -- a window of two words that were read, bit by bit
 pub window_read : (ws : List ℕ) (w r a b j : ℕ) → a ≡ get_or ws w 0 → b ≡ get_or ws (w + 1) 0 → get_or ws w 0 < 2 ^ 64 → r < 64 → j < 64
     → bit_at (bit_or (a / 2 ^ r) (up_by b r)) j ≡ place ws (64 * w + r + j)
-window_read ws w r a b j is_low is_up fits h short =
-    (λ i. bit_at (bit_or (is_low i / 2 ^ r) (up_by (is_up i) r)) j) ∙ span_bit ws w r j fits h short
+window_read ws w r a b j is_low is_up fits h short = grind (arith, span_bit)
 
 -- the k words from word `at` on have the places that G gives them, and no other place is another
 pub record IsPut (at k : ℕ) (G : ℕ → ℕ) (new old : List ℕ) : Type 0 where
@@ -27,14 +26,4 @@ pub record IsPut (at k : ℕ) (G : ℕ → ℕ) (new old : List ℕ) : Type 0 wh
 -- one word more is put
 pub put_more : (at k word : ℕ) (G : ℕ → ℕ) (next new old : List ℕ) → IsPut at k G new old → at + k < length new → next ≡ set new (at + k) word
     → ((j : ℕ) → j < 64 → bit_at word j ≡ G (64 * k + j)) → IsPut at (k + 1) G next old
-put_more at k word G next new old h inside is low = record {
-  within = λ t below. elim (cases_eq (t / 64) k) [
-    | inl e ↦
-        let split : 64 * k + t % 64 ≡ t = omega (arith, e) in
-        ap (λ w. place w (64 * at + t)) is ∙ place-set_same new (at + k) word (64 * at + t) (t % 64) inside (omega (arith, split)) (omega arith) ∙ low (t % 64) (omega arith) ∙ ap G split
-    | inr apart ↦ ap (λ w. place w (64 * at + t)) is ∙ place-set_other new (at + k) word (64 * at + t) (λ e. apart (omega (arith, e))) ∙ h.within t (omega (arith, below, apart))
-  ];
-  before = λ t below. ap (λ w. place w t) is ∙ place-set_other new (at + k) word t (λ e. omega (arith, e, below)) ∙ h.before t below;
-  after = λ t above. ap (λ w. place w t) is ∙ place-set_other new (at + k) word t (λ e. omega (arith, e, above)) ∙ h.after t (omega (arith, above));
-  long = ap length is ∙ length-set new (at + k) word ∙ h.long;
-}
+put_more at k word G next new old h inside is low = grind (arith, cases_eq, place-set_same, place-set_other, length-set)

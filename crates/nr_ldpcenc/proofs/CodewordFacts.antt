@@ -44,15 +44,11 @@ pub has_some : (n : ℕ) → not (n == 0) ≡ true → 0 < n
 has_some n h = grind (arith, nat_tests)
 
 pub take_agree : (k : ℕ) (a b : List Bool) → length a ≡ length b → AgreeBelow k (bit a) (bit b) → take k a ≡ take k b
-take_agree k a b same agree = same_from_bits (take k a) (take k b) (omega (arith, length-take k a, length-take k b)) (λ j lt.
-    let low : j < k = omega (arith, length-take k a, lt) in
-    get_or-take k a j false low ∙ agree j low ∙ sym (get_or-take k b j false low))
+take_agree k a b same agree = grind (arith, same_from_bits, length-take, get_or-take)
 
 module _ (g : Graph) (b : ℕ) (p : Numbers) (sound : IsSound g b p) where
   filled_long : (info : List Bool) → length info ≡ p.kdash → length (with_fillers p info) ≡ p.k
-  filled_long info whole =
-      let held : p.kdash ≤ p.k = sound.held in
-      omega (arith, length-append info (replicate (p.k - p.kdash) false), length-replicate {A = Bool} (p.k - p.kdash) false)
+  filled_long info whole = grind (arith, length-append, length-replicate)
 
   fill_first : (info : List Bool) → length info ≡ p.kdash → (k : ℕ) → k < p.kdash → bit (with_fillers p info) k ≡ bit info k
   fill_first info whole k lt = get_or_append_left info (replicate (p.k - p.kdash) false) false k (omega arith)
@@ -65,10 +61,7 @@ module _ (g : Graph) (b : ℕ) (p : Numbers) (sound : IsSound g b p) where
       ∙ get_or-replicate (p.k - p.kdash) (q - p.kdash) false false (omega arith)
 
   filled_take : (old : List Bool) → length old ≡ cols_of g * p.z → length (take p.k old) ≡ p.k
-  filled_take old long =
-      let columns : p.k ≡ info_cols_of g * p.z = sound.columns in
-      let fewer : info_cols_of g * p.z ≤ cols_of g * p.z = mul-le-mul_right p.z (omega (arith, columns-are g)) in
-      omega (arith, length-take p.k old)
+  filled_take old long = grind (arith, mul-le-mul_right, columns-are, length-take)
 
   -- a word of zeros that begins with the K' bits begins with the code block
   pub begins_filled : (info old new : List Bool) → length info ≡ p.kdash → old ≡ replicate (cols_of g * p.z) false → Copies (length info) (length info) info old new → take p.k new ≡ with_fillers p info
@@ -82,11 +75,7 @@ module _ (g : Graph) (b : ℕ) (p : Numbers) (sound : IsSound g b p) where
       ])
 
   pub kdash_inside : p.kdash ≤ cols_of g * p.z
-  kdash_inside =
-      let columns : p.k ≡ info_cols_of g * p.z = sound.columns in
-      let held : p.kdash ≤ p.k = sound.held in
-      let fewer : info_cols_of g * p.z ≤ cols_of g * p.z = mul-le-mul_right p.z (omega (arith, columns-are g)) in
-      omega arith
+  kdash_inside = grind (arith, mul-le-mul_right, columns-are)
 
 module _ (t : Entries) (g : Graph) (b : ℕ) (p : Numbers) (shape : HasShape (entries_in g t) p.set (info_cols_of g) (rows_of g)) (adds : CoreSum (entries_in g t) p.set (info_cols_of g)) (sound : IsSound g b p) where
   -- exactly one word begins with K bits

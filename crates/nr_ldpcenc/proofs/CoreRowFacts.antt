@@ -1,4 +1,5 @@
 -- The rows of an accepted base graph: what the four core rows add up to, and where each other row ends.
+use Rattle.std.proofs.lemmas.Bool.Decides.{nat_tests}
 use Rattle.std.proofs.Common.{◌≡◌, ℕ, zero, suc, ◌+◌, ◌-◌, ◌*◌, ◌%◌, ◌<◌, ◌≤◌, ◌==◌, nat_le, Bool, true, false, inl, inr, List, [], ◌∷◌, ◌++◌, map, refl, sym, ap, ◌∙◌, arith}
 use Rattle.std.specs.Prelude.{Some, None, option_map, slice_index}
 use Rattle.std.specs.List.{filter, find}
@@ -20,13 +21,7 @@ cell set e = (e.col, value_in set e)
 found : (set n : ℕ) (xs : List Entry)
     → option_map (λ values. slice_index values set) (option_map (λ e. e.values) (find (λ e. e.col == n) xs)) ≡ option_map (λ (c : ℕ × ℕ). c.1) (find (λ (c : ℕ × ℕ). c.0 == n) (map (cell set) (filter (λ e. nat_le n e.col) xs)))
 found set n [] = refl
-found set n (x ∷ xs) = elim (cases_eq x.col n) [
-  | inl e ↦ rw (le-leb n x.col (omega (arith, e)), eq-eqb x.col n e) refl
-  | inr apart ↦ elim (cases_lt x.col n) [
-    | inl below ↦ rw (lt-leb n x.col below, ne_eqb x.col n apart) (found set n xs)
-    | inr above ↦ rw (le-leb n x.col above, ne_eqb x.col n apart) (found set n xs)
-  ]
-]
+found set n (x ∷ xs) = grind (arith, nat_tests, cases_eq, le-leb, eq-eqb, cases_lt, lt-leb, ne_eqb, found set n xs)
 
 -- the value at a column, from what a row has from it on
 shift-found : (es : List Entry) (set n i : ℕ) (cs : List (ℕ × ℕ)) → tail_of es set n i ≡ cs → shift_at es set i n ≡ option_map (λ (c : ℕ × ℕ). c.1) (find (λ (c : ℕ × ℕ). c.0 == n) cs)
@@ -68,12 +63,7 @@ cells-are z t w (c ∷ cs) = ap (λ b. w (one_at z t c.0 c.1) ⊕ b) (cells-are 
 
 cells-append : (z : ℕ) (f : ℕ → ℕ → Bool) (cs ds : List (ℕ × ℕ)) → cells_sum z f (cs ++ ds) ≡ cells_sum z f cs ⊕ cells_sum z f ds
 cells-append z f [] ds = refl
-cells-append z f (c ∷ cs) ds =
-    ap (plus (f c.0 (c.1 % z))) (cells-append z f cs ds)
-    ∙ deeper (f c.0 (c.1 % z)) (cells_sum z f cs) (cells_sum z f ds)
-  where
-    deeper : (a b d : Bool) → plus a (b ⊕ d) ≡ plus a b ⊕ d
-    deeper a b d = grind arith
+cells-append z f (c ∷ cs) ds = grind (arith, cells-append z f cs ds)
 
 nested : (a b c d : Bool) → (a ⊕ b) ⊕ (c ⊕ d) ≡ ((a ⊕ b) ⊕ c) ⊕ d
 nested a b c d = grind arith
@@ -108,13 +98,7 @@ core_rows-add_up es set z n w t adds =
 -- what a row has from a later column on
 later : (set n m : ℕ) (xs : List Entry) → n ≤ m → map (cell set) (filter (λ e. nat_le m e.col) xs) ≡ filter (λ (c : ℕ × ℕ). nat_le m c.0) (map (cell set) (filter (λ e. nat_le n e.col) xs))
 later set n m [] le = refl
-later set n m (x ∷ xs) le = elim (cases_lt x.col m) [
-  | inl low ↦ elim (cases_lt x.col n) [
-    | inl below ↦ rw (lt-leb n x.col below, lt-leb m x.col low) (later set n m xs le)
-    | inr above ↦ rw (le-leb n x.col above, lt-leb m x.col low) (later set n m xs le)
-  ]
-  | inr high ↦ rw (le-leb n x.col (omega (arith, high, le)), le-leb m x.col high) (ap (λ l. cell set x ∷ l) (later set n m xs le))
-]
+later set n m (x ∷ xs) le = grind (arith, nat_tests, cases_lt, lt-leb, later set n m xs le, le-leb)
 
 tail-later : (es : List Entry) (set n m i : ℕ) (cs : List (ℕ × ℕ)) → n ≤ m → tail_of es set n i ≡ cs → tail_of es set m i ≡ filter (λ (c : ℕ × ℕ). nat_le m c.0) cs
 tail-later es set n m i cs le e = later set n m (row_of es i) le ∙ ap (filter (λ (c : ℕ × ℕ). nat_le m c.0)) e

@@ -1,5 +1,5 @@
 -- Sums over columns that stand twice in a row.
-use Rattle.std.proofs.Common.{◌≡◌, ℕ, ◌+◌, ◌-◌, ◌*◌, ◌/◌, ◌%◌, ◌<◌, ◌≤◌, ◌==◌, Bool, false, List, sym, ap, ◌∙◌, inl, inr, arith}
+use Rattle.std.proofs.Common.{◌≡◌, ℕ, ◌+◌, ◌*◌, ◌/◌, ◌%◌, ◌<◌, ◌≤◌, ◌==◌, Bool, false, List, sym, ap, ◌∙◌, inl, inr, arith}
 use Rattle.std.proofs.lemmas.Bool.{cases_lt}
 use Rattle.std.proofs.lemmas.Bool.Decides.{nat_tests}
 use Rattle.std.proofs.lemmas.Nat.{mod_below, div_below, div-mul-add, mod-mul-add}
@@ -21,15 +21,7 @@ col_at z cols c u lt = (λ i. place cols (768 * div-mul-add c z u lt i + mod-mul
 
 -- in a column that stands twice each rotation stands in one piece
 pub rotated_place : (z n : ℕ) (cols : List ℕ) (c t p : ℕ) → AreTwice z n cols → c < n → t < z → p < z → place cols (64 * (12 * c) + p + t) ≡ place cols (768 * c + (t + p) % z)
-rotated_place z n cols c t p twice column lt rotation = elim (cases_lt (t + p) z) [
-  | inl h ↦
-      let there : 64 * (12 * c) + p + t ≡ 768 * c + (t + p) % z = omega (arith, mod_small (t + p) z h) in
-      ap (place cols) there
-  | inr h ↦
-      let once : (t + p) % z ≡ t + p - z = mod_once (t + p) z h (omega (arith, lt, rotation)) in
-      let there : 64 * (12 * c) + p + t ≡ 768 * c + z + (t + p - z) = omega (arith, h) in
-      ap (place cols) there ∙ twice c (t + p - z) column (omega (arith, lt, rotation, h)) ∙ ap (λ u. place cols (768 * c + u)) (sym once)
-]
+rotated_place z n cols c t p twice column lt rotation = grind (arith, nat_tests, cases_lt, mod_small, mod_once)
 
 -- so what it gains at a place is a bit of the word
 pub rotated_bit : (z n : ℕ) (cols : List ℕ) (c t p v : ℕ) → AreTwice z n cols → c < n → t < z → p ≡ v % z → p < z

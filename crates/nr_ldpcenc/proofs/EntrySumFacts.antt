@@ -1,5 +1,6 @@
 -- Sums over the entries of a row so far.
-use Rattle.std.proofs.Common.{◌≡◌, ℕ, ◌+◌, ◌*◌, ◌%◌, ◌<◌, ◌≤◌, nat_lt, Bool, false, cond, inl, inr, List, [], ◌∷◌, ◌++◌, length, take, get_or, refl, ap, ◌∙◌, arith}
+use Rattle.std.proofs.lemmas.Bool.Decides.{nat_tests}
+use Rattle.std.proofs.Common.{◌≡◌, ℕ, ◌+◌, ◌*◌, ◌%◌, ◌<◌, ◌≤◌, nat_lt, Bool, false, cond, List, [], ◌∷◌, ◌++◌, length, take, get_or, refl, ap, ◌∙◌, arith}
 use Rattle.std.proofs.lemmas.Bool.{cases_lt, lt-ltb, le-ltb}
 use Rattle.std.proofs.lemmas.List.{take_more}
 use Rattle.nr_bitvec.specs.Bit.{◌⊕◌}
@@ -14,14 +15,8 @@ module _ (set z : ℕ) (w : ℕ → Bool) (j t : ℕ) where
   entry_bit e = cond (nat_lt e.col j) (w (one_at z t e.col (value_in set e))) false
 
   sum-last : (xs : List Entry) (x : Entry) → sum_before set z w j t (xs ++ x ∷ []) ≡ sum_before set z w j t xs ⊕ entry_bit x
-  sum-last [] x = elim (cases_lt x.col j) [
-    | inl below ↦ rw (lt-ltb x.col j below) (grind arith)
-    | inr above ↦ rw (le-ltb x.col j above) refl
-  ]
-  sum-last (y ∷ ys) x = elim (cases_lt y.col j) [
-    | inl below ↦ rw (lt-ltb y.col j below) (grind (arith, sum-last ys x))
-    | inr above ↦ rw (le-ltb y.col j above) (sum-last ys x)
-  ]
+  sum-last [] x = grind (arith, nat_tests, cases_lt, lt-ltb, le-ltb)
+  sum-last (y ∷ ys) x = grind (arith, nat_tests, cases_lt, lt-ltb, sum-last ys x, le-ltb)
 
   -- one more entry
   pub sum-next : (xs : List Entry) (i : ℕ) (d : Entry) → i < length xs → sum_before set z w j t (take (i + 1) xs) ≡ sum_before set z w j t (take i xs) ⊕ entry_bit (get_or xs i d)
@@ -34,10 +29,7 @@ gained first old new sum more bit_ e f g = grind arith
 -- the bit that an entry before the column adds
 pub entry_bit-there : (set z : ℕ) (w : ℕ → Bool) (j t : ℕ) (e : Entry) (col v : ℕ) → col ≡ e.col → v ≡ value_in set e → col < j
     → w (col * z + (t + v % z) % z) ≡ entry_bit set z w j t e
-entry_bit-there set z w j t e col v is_col is_value lt =
-    let inside : e.col < j = omega arith in
-    let here : w (col * z + (t + v % z) % z) ≡ w (one_at z t e.col (value_in set e)) = λ i. w (is_col i * z + (t + is_value i % z) % z) in
-    rw (lt-ltb e.col j inside) here
+entry_bit-there set z w j t e col v is_col is_value lt = grind (arith, nat_tests, lt-ltb)
 
 pub entry_bit-not : (set z : ℕ) (w : ℕ → Bool) (j t : ℕ) (e : Entry) (col : ℕ) → col ≡ e.col → j ≤ col → entry_bit set z w j t e ≡ false
 entry_bit-not set z w j t e col is_col le = rw (le-ltb e.col j (omega arith)) refl

@@ -20,15 +20,12 @@ begins-agree info w begins p lt = sym (get_or-take (length info) w p false lt) �
 
 -- a list begins with the bits that it has
 begins-from_agree : (info w : List Bool) → length info ≤ length w → AgreeBelow (length info) (bit w) (bit info) → take (length info) w ≡ info
-begins-from_agree info w le same = same_from_bits (take (length info) w) info (omega (arith, length-take (length info) w)) (λ k lt.
-    let low : k < length info = omega (arith, length-take (length info) w, lt) in
-    get_or-take (length info) w k false low ∙ same k low)
+begins-from_agree info w le same = grind (arith, same_from_bits, length-take, get_or-take)
 
 module _ (es : List Entry) (set n rows z : ℕ) (shape : HasShape es set n rows) (adds : CoreSum es set n) (four : 4 ≤ rows) (pos : 0 < z) (cols : ℕ) (counted : cols ≡ n + rows) where
   word_of-bits : (info : List Bool) → AgreeBelow ((n + rows) * z) (with_columns es set n z (bit info) (rows - 1)) (bit (word_of es set n rows z info))
   unfolding word_of
-  word_of-bits info p lt =
-      sym (get_or-map-range_with_len (with_columns es set n z (bit info) (rows - 1)) 0 ((n + rows) * z) p p false lt (omega arith))
+  word_of-bits info p lt = grind (arith, get_or-map-range_with_len)
 
   word_of-length : (info : List Bool) → length (word_of es set n rows z info) ≡ (n + rows) * z
   unfolding word_of

@@ -1,5 +1,5 @@
 -- Rows that a word meets, by the words of their sums.
-use Rattle.std.proofs.Common.{◌≡◌, ℕ, suc, ◌+◌, ◌*◌, ◌^◌, ◌<◌, Bool, false, List, [], ◌∷◌, get_or, All, refl, sym, ap, subst, ◌∙◌, arith}
+use Rattle.std.proofs.Common.{◌≡◌, ℕ, suc, ◌+◌, ◌*◌, ◌^◌, ◌<◌, Bool, false, List, [], ◌∷◌, get_or, All, refl, sym, ap, ◌∙◌, arith}
 use Rattle.std.proofs.lemmas.Bool.{lt-ltb}
 use Rattle.std.proofs.lemmas.Nat.Bits.{bit_at-zero, same_from_bits_below}
 use Rattle.nr_bitvec.specs.Bit.{◌⊕◌, bit}
@@ -31,11 +31,7 @@ sum-whole set z w n t (x ∷ xs) all = rw (lt-ltb x.col n (all 0 x (omega arith)
 pub row-sum : (g : Graph) (es : List Entry) (set z n i t : ℕ) (word : List Bool) (w : ℕ → Bool) (s : ℕ) (row : List Entry)
     → 0 < z → n ≡ cols_of g → s ≡ set → row ≡ row_of es i → All (IsInRange g) row → AgreeBelow (n * z) (bit word) w
     → parity (bit word) (row_at es set z i t) ≡ sum_before s z w n t row
-row-sum g es set z n i t word w s row pos columns is_set is all same =
-    let inside : All (λ e. e.col < n) row = λ k d lt. omega (arith, (all k d lt).col, columns) in
-    sym (sum-whole set z (bit word) n t (row_of es i) (subst (λ r. All (λ e. e.col < n) r) is inside))
-    ∙ heads-agree es set z (bit word) w n i t pos same
-    ∙ sym (λ k. sum_before (is_set k) z w n t (is k))
+row-sum g es set z n i t word w s row pos columns is_set is all same = grind (arith, sum-whole, heads-agree)
 
 -- every row is met where each row of blocks is
 abbrev pub AreMet : List Entry → ℕ → ℕ → ℕ → (ℕ → Bool) → Type 0

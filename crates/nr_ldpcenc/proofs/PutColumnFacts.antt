@@ -1,4 +1,5 @@
 -- Columns that are put in a word, as the code puts them.
+use Rattle.std.proofs.Common.{arith}
 use Rattle.std.proofs.Common.{◌≡◌, ℕ, ◌+◌, ◌-◌, ◌*◌, ◌%◌, ◌<◌, ◌≤◌, Bool, List, sym, ap, subst, ◌∙◌}
 use Rattle.std.proofs.Math.Nat.{add-mod-mod}
 use Rattle.std.proofs.lemmas.Nat.{mod_below}
@@ -26,9 +27,4 @@ module _ (es : List Entry) (set n z : ℕ) (pos : 0 < z) (old new sums : ℕ →
   -- a later one
   pub next_put : (i : ℕ) → at ≡ (n + i) * z → 1 ≤ i → IsSolvedTo es set n z i old → AgreeBelow at old new
       → ((t : ℕ) → t < z → new (at + t) ≡ sums t) → ((t : ℕ) → t < z → sums t ≡ head_sum es set z old (n + i) (row_ending i) t) → IsSolvedTo es set n z (i + 1) new
-  next_put i is_at some solved before put sum =
-      solved_more es set n z pos i old new some solved (subst (λ m. AgreeBelow m old new) is_at before) here
-    where
-      here : (t : ℕ) → t < z → new ((n + i) * z + t) ≡ head_sum es set z old (n + i) (row_ending i) t
-      here t lt =
-          ap (λ m. new (m + t)) (sym is_at) ∙ put t lt ∙ sum t lt
+  next_put i is_at some solved before put sum = grind (arith, solved_more)

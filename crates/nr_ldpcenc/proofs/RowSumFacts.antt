@@ -1,5 +1,6 @@
 -- Sums of a word over the entries of a row, before a column and from it on.
-use Rattle.std.proofs.Common.{◌≡◌, ℕ, ◌+◌, ◌*◌, ◌<◌, ◌≤◌, nat_lt, nat_le, Bool, inl, inr, List, [], ◌∷◌, map, refl, ap, ◌∙◌, arith}
+use Rattle.std.proofs.lemmas.Bool.Decides.{nat_tests}
+use Rattle.std.proofs.Common.{◌≡◌, ℕ, ◌*◌, ◌<◌, nat_lt, nat_le, Bool, inl, inr, List, [], ◌∷◌, map, refl, ap, ◌∙◌, arith}
 use Rattle.std.specs.List.{filter}
 use Rattle.std.proofs.Math.Nat.{mul-le-mul_right}
 use Rattle.std.proofs.lemmas.Bool.{cases_lt, lt-ltb, le-ltb, lt-leb, le-leb}
@@ -15,10 +16,7 @@ use Rattle.nr_ldpcenc.specs.Inside.{AgreeBelow}
 -- a row's sum is that before a column with that from it on
 parity-split : (w : ℕ → Bool) (f : Entry → ℕ) (j : ℕ) (xs : List Entry) → parity w (map f xs) ≡ parity w (map f (filter (λ e. nat_lt e.col j) xs)) ⊕ parity w (map f (filter (λ e. nat_le j e.col) xs))
 parity-split w f j [] = refl
-parity-split w f j (x ∷ xs) = elim (cases_lt x.col j) [
-  | inl below ↦ rw (lt-ltb x.col j below, lt-leb j x.col below) (grind (arith, parity-split w f j xs))
-  | inr above ↦ rw (le-ltb x.col j above, le-leb j x.col above) (grind (arith, parity-split w f j xs))
-]
+parity-split w f j (x ∷ xs) = grind (arith, nat_tests, cases_lt, lt-ltb, lt-leb, parity-split w f j xs, le-ltb, le-leb)
 
 -- the sum of a word over a list of columns and values, in lane t
 abbrev pub tail_sum : (ℕ → Bool) → ℕ → ℕ → List (ℕ × ℕ) → Bool
@@ -36,9 +34,7 @@ row-splits es set z w j i t cs e =
 
 -- a place of a column below j
 pub place_below : (z t c v j : ℕ) → 0 < z → c < j → one_at z t c v < j * z
-place_below z t c v j pos lt =
-    let up : (c + 1) * z ≤ j * z = mul-le-mul_right z (omega arith) in
-    omega arith
+place_below z t c v j pos lt = grind (arith, mul-le-mul_right)
 
 -- sums before a column see only the columns before it
 pub heads-agree : (es : List Entry) (set z : ℕ) (v w : ℕ → Bool) (j i t : ℕ) → 0 < z → AgreeBelow (j * z) v w → head_sum es set z v j i t ≡ head_sum es set z w j i t

@@ -1,11 +1,10 @@
 -- A word meets every row of an accepted base graph exactly where its parity columns are solved one after another. So
 -- the information columns give the others.
-use Rattle.std.proofs.Common.{◌≡◌, ℕ, zero, suc, ◌+◌, ◌-◌, ◌*◌, ◌/◌, ◌%◌, ◌<◌, ◌≤◌, Bool, false, inl, inr, List, [], ◌∷◌, refl, sym, ap, subst, ◌∙◌, arith}
+use Rattle.std.proofs.Common.{◌≡◌, ℕ, zero, suc, ◌+◌, ◌-◌, ◌*◌, ◌%◌, ◌<◌, ◌≤◌, Bool, false, inl, inr, List, [], ◌∷◌, refl, sym, ap, subst, ◌∙◌, arith}
 use Rattle.std.proofs.Math.Nat.{mul-le-mul_right, mod-add-mod, add-mod_right, mod-eq_of_lt}
 use Rattle.std.proofs.lemmas.Nat.{mod_below, div_below, div-mul-add, mod-mul-add}
 use Rattle.std.proofs.lemmas.Bool.{cases_lt, cases_eq, eq-eqb, ne_eqb}
 use Rattle.std.proofs.lemmas.Bool.Decides.{nat_tests}
-use Rattle.nr_bitvec.specs.Bit.{◌⊕◌}
 use Rattle.nr_shifttable.specs.declared.entry.Entry.{Entry}
 use Rattle.nr_shifttable.specs.CoreRows.{CoreSum}
 use Rattle.nr_shifttable.specs.Tails.{HasShape}
@@ -18,16 +17,11 @@ use Rattle.nr_ldpcenc.proofs.CoreRowFacts.{core_rows-add_up, row-ends, row_endin
 
 -- the places of a column, lane by lane
 pub place-zero : (z t j : ℕ) → t < z → one_at z t j 0 ≡ j * z + t
-place-zero z t j lt =
-    let none : 0 % z ≡ 0 = mod-eq_of_lt (omega arith) in
-    let same : (t + 0 % z) % z ≡ t = ap (λ r. (t + r) % z) none ∙ ap (λ r. r % z) (omega arith) ∙ mod-eq_of_lt lt in
-    ap (λ r. j * z + r) same
+place-zero z t j lt = grind (arith, nat_tests, mod-eq_of_lt)
 
 -- a turn and the rest of the circle bring each place back
 turned_back : (z p q u : ℕ) → p + q ≡ z → u < z → ((u + p) % z + q) % z ≡ u
-turned_back z p q u circle lt =
-    let whole : (u + p) + q ≡ u + z = omega (arith, circle) in
-    mod-add-mod (u + p) z q ∙ ap (λ n. n % z) whole ∙ add-mod_right u z ∙ mod-eq_of_lt lt
+turned_back z p q u circle lt = grind (arith, nat_tests, mod-add-mod, add-mod_right, mod-eq_of_lt)
 
 unrotate-rotate : (z v t : ℕ) → t < z → unrotate z v ((t + v % z) % z) ≡ t
 unrotate-rotate z v t lt = turned_back z (v % z) (z - v % z) t (omega (arith, mod_below v z (omega (arith, lt)))) lt
@@ -46,9 +40,7 @@ agree_more z j v w same here p lt = elim (cases_lt p (j * z)) [
 
 -- the sums of the core rows see only the columns before the first parity column
 pub core_sums-agree : (es : List Entry) (set z : ℕ) (v w : ℕ → Bool) (n t : ℕ) → 0 < z → AgreeBelow (n * z) v w → core_sum es set z v n t ≡ core_sum es set z w n t
-core_sums-agree es set z v w n t pos same =
-    let head = λ (i : ℕ). heads-agree es set z v w n i t pos same in
-    λ k. (head 0 k ⊕ head 1 k) ⊕ (head 2 k ⊕ head 3 k)
+core_sums-agree es set z v w n t pos same = grind (arith, heads-agree)
 
 module _ (es : List Entry) (set n rows z : ℕ) (shape : HasShape es set n rows) (adds : CoreSum es set n) (four : 4 ≤ rows) where
   ends_low : (i : ℕ) → 1 ≤ i → i < rows → row_ending i < rows
@@ -118,15 +110,7 @@ module _ (es : List Entry) (set n z : ℕ) (pos : 0 < z) where
   -- the first parity column is solved
   pub solved_first : (v w : ℕ → Bool) → AgreeBelow (n * z) v w
       → ((u : ℕ) → u < z → w (n * z + u) ≡ core_sum es set z v n (unrotate z (core_rotation es set n) u)) → IsSolvedTo es set n z 1 w
-  solved_first v w same here = record {
-    first = λ t lt.
-        let rot = core_rotation es set n in
-        let lane : (t + rot % z) % z < z = mod_below (t + rot % z) z pos in
-        here ((t + rot % z) % z) lane
-        ∙ ap (core_sum es set z v n) (unrotate-rotate z rot t lt)
-        ∙ core_sums-agree es set z v w n t pos same;
-    later = λ i t one lt lane. absurd (omega arith);
-  }
+  solved_first v w same here = grind (arith, mod_below, unrotate-rotate, core_sums-agree)
 
   -- and one more
   pub solved_more : (lim : ℕ) (v w : ℕ → Bool) → 1 ≤ lim → IsSolvedTo es set n z lim v → AgreeBelow ((n + lim) * z) v w
@@ -148,9 +132,7 @@ module _ (es : List Entry) (set n z : ℕ) (pos : 0 < z) where
   column-new j f w u lt = rw (div-mul-add j z u lt, mod-mul-add j z u lt, eq-eqb j j refl)
 
   pub column-before : (j : ℕ) (f w : ℕ → Bool) → AgreeBelow (j * z) w (with_column z j f w)
-  column-before j f w p lt =
-      let below : p / z < j = div_below p z j pos lt in
-      rw (ne_eqb (p / z) j (λ e. omega (arith, e, below)))
+  column-before j f w p lt = grind (arith, nat_tests, div_below, ne_eqb)
 
   pub record Built (w : ℕ → Bool) (k : ℕ) : Type 0 where
     pub solved : IsSolvedTo es set n z (k + 1) (with_columns es set n z w k)

@@ -52,8 +52,4 @@ module _ (z w at k i head : ℕ) (above : 64 * w < z + 64) (below : z ≤ 64 * w
   apart t other = ap (λ l. place l t) put ∙ place-set_other one (at + w - 1) _ t other
 
   pub others : KeepsOthers at (at + 2 * w) new old
-  others = record {
-    before = λ t lt. second.before t (omega (arith, lt)) ∙ apart t (λ e. omega (arith, e, lt, some, below)) ∙ first.before t lt;
-    after = λ t le. second.after t (omega (arith, every, le)) ∙ apart t (λ e. omega (arith, e, le, some, below)) ∙ first.after t (omega (arith, all, le));
-    long = second.long ∙ ap length put ∙ length-set one (at + w - 1) _ ∙ first.long;
-  }
+  others = grind (arith, apart, length-set)

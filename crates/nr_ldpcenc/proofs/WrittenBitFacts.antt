@@ -1,4 +1,5 @@
 -- Bits that are written into a list 64 at a time.
+use Rattle.std.proofs.lemmas.Bool.Decides.{nat_tests}
 use Rattle.std.proofs.Common.{◌≡◌, ℕ, ◌+◌, ◌-◌, ◌*◌, ◌<◌, ◌≤◌, ◌==◌, min, Bool, false, inl, inr, List, length, replicate, sym, ap, ◌∙◌, arith}
 use Rattle.std.specs.Int.{bit_at}
 use Rattle.std.proofs.lemmas.Bool.{cases_lt}
@@ -9,10 +10,7 @@ use Rattle.nr_ldpcenc.specs.Inside.{IsClearedTo, Copies}
 
 -- a list of zeros has zeros, and past its end too
 pub zero_bit : (n j : ℕ) → bit (replicate n false) j ≡ false
-zero_bit n j = elim (cases_lt j n) [
-  | inl h ↦ get_or-replicate n j false false h
-  | inr h ↦ get_or_past (replicate n false) j false (omega (arith, length-replicate n false, h))
-]
+zero_bit n j = grind (arith, nat_tests, cases_lt, get_or-replicate, get_or_past, length-replicate)
 
 -- one more word is cleared
 pub cleared_more : (n at i count : ℕ) (old xs ys : List Bool) → count ≡ min (n - at - 64 * i) 64 → IsClearedTo (min (at + 64 * i) n) at xs old

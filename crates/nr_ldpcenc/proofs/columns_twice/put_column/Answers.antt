@@ -1,5 +1,4 @@
-use Rattle.std.proofs.Common.{◌≡◌, ◌+◌, ◌*◌, ap, ◌∙◌, arith}
-use Rattle.nr_bitvec.specs.Packed.{place}
+use Rattle.std.proofs.Common.{arith}
 use Rattle.nr_lifting.proofs.RotationFacts.{mod_small}
 use Rattle.nr_ldpcenc.proofs.DoubledSumFacts.{twice_more}
 use Rattle.nr_ldpcenc.proofs.columns_twice.put_column.Goals as goal
@@ -9,9 +8,7 @@ returns-clause-twice g c =
     twice_more g.row.Z g.row.W c.args.j _ _ _ c.requires.below c.requires.most c.requires.twice c.put_twice.ensures.doubled c.put_twice.ensures.others
 
 pub returns-clause-column : goal.returns-clause-column
-returns-clause-column g c = λ t lt.
-    let there : 768 * c.args.j + t ≡ 64 * (12 * c.args.j) + t = omega arith in
-    ap (place c.put_twice.new.cols) there ∙ c.put_twice.ensures.doubled t (omega (arith, lt)) ∙ ap (place c.args.sum.now) (mod_small t g.row.Z lt)
+returns-clause-column g c = grind (arith, mod_small)
 
 pub returns-clause-before : goal.returns-clause-before
 returns-clause-before g c = λ t lt. c.put_twice.ensures.others.before t (omega (arith, lt))

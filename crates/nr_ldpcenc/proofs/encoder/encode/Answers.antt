@@ -1,7 +1,5 @@
-use Rattle.std.proofs.Common.{◌≡◌, ◌*◌, ◌≤◌, false, length, sym, ap, ◌∙◌, arith}
+use Rattle.std.proofs.Common.{sym, ap, ◌∙◌, arith}
 use Rattle.std.proofs.lemmas.List.{length-replicate}
-use Rattle.nr_bitvec.specs.Bit.{bit}
-use Rattle.nr_graphpick.specs.Graph.{cols_of}
 use Rattle.nr_segment.specs.CodeBlock.{numbers}
 use Rattle.nr_ldpcenc.specs.Codeword.{codeword, completed}
 use Rattle.nr_ldpcenc.proofs.CodewordFacts.{begins_filled, kdash_inside}
@@ -9,18 +7,10 @@ use Rattle.nr_ldpcenc.proofs.WrittenBitFacts.{zero_bit}
 use Rattle.nr_ldpcenc.proofs.encoder.encode.Goals as goal
 
 pub begin-requires : goal.begin-requires
-begin-requires c =
-    let plan = c.args.plan.now in
-    let size = cols_of plan.graph * plan.z in
-    let long : length c.in-Ok.word ≡ size = ap length c.in-Ok.ensures ∙ length-replicate size false in
-    omega (arith, kdash_inside plan.graph plan.b (numbers plan) plan.sound)
+begin-requires c = grind (arith, length-replicate, kdash_inside)
 
 pub finish-requires-clause-zeros : goal.finish-requires-clause-zeros
-finish-requires-clause-zeros c = λ j le.
-    let plan = c.args.plan.now in
-    let size = cols_of plan.graph * plan.z in
-    let held : plan.kdash ≤ plan.k = plan.sound.held in
-    c.begin.ensures.after j (omega (arith, le, held)) ∙ ap (λ l. bit l j) c.in-Ok.ensures ∙ zero_bit size j
+finish-requires-clause-zeros c = grind (arith, zero_bit)
 
 pub returns-clause-word : goal.returns-clause-word
 unfolding codeword

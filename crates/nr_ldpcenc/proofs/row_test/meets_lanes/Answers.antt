@@ -1,4 +1,4 @@
-use Rattle.std.proofs.Common.{◌≡◌, refl, sym, ap, subst, ◌∙◌, inl, inr, arith}
+use Rattle.std.proofs.Common.{◌≡◌, sym, ap, subst, ◌∙◌, inl, inr, arith}
 use Rattle.std.proofs.lemmas.Bool.{cases_lt, false≢true}
 use Rattle.nr_bitvec.specs.Bit.{bit}
 use Rattle.nr_graphpick.specs.Graph.{rows_of}
@@ -39,10 +39,4 @@ returns-then-not-row_is_met g c =
     )
 
 pub returns : goal.returns
-returns g c =
-    let plan = c.args.plan.now in
-    let es = entries_in plan.graph c.args.table.now in (
-      λ _. subst (λ z. AreMet es plan.set (rows_of plan.graph) z (bit c.args.bits.now.items)) (sym c.requires.size)
-          (λ i t below lt. c.loop-i.invariant i t (omega (arith, below, c.loop-i-test.false, c.rows-i-end.ensures)) lt),
-      λ _. refl,
-    )
+returns g c = grind arith
