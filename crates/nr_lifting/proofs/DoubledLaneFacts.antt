@@ -1,13 +1,13 @@
 -- Blocks that rings keep, as the list that they are seen as.
 use Rattle.std.proofs.lemmas.Bool.Decides.{nat_tests}
-use Rattle.std.proofs.Common.{zero, suc, ◌≡◌, ◌≢◌, ℕ, ◌+◌, ◌-◌, ◌*◌, ◌/◌, ◌%◌, ◌^◌, ◌<◌, ◌≤◌, ◌==◌, ◌&&◌, ◌||◌, min, Bool, true, false, not, List, [], ◌∷◌, ◌++◌, length, get_or, set, map, replicate, refl, sym, ap, ◌∙◌, subst, inl, inr, arith, length-set, get_or-set_same, get_or-set_other}
+use Rattle.std.proofs.Common.{zero, suc, ◌≡◌, ◌≢◌, ℕ, ◌+◌, ◌-◌, ◌*◌, ◌/◌, ◌%◌, ◌^◌, ◌<◌, ◌≤◌, ◌==◌, ◌&&◌, ◌||◌, min, false, not, List, [], ◌∷◌, ◌++◌, length, get_or, set, map, replicate, refl, sym, ap, ◌∙◌, subst, arith, length-set, get_or-set_same, get_or-set_other}
 use Rattle.std.specs.List.{range_with_len}
 use Rattle.std.specs.Int.{bit_at}
 use Rattle.std.specs.Int.RustNames.{bit_and}
 use Rattle.std.proofs.Math.Nat.{mul-le-mul_right}
-use Rattle.std.proofs.lemmas.Bool.{cases_lt, cases_eq, eq-eqb, ne_eqb}
-use Rattle.std.proofs.lemmas.Nat.{mod_below, div_below, div-mul-add, mod-mul-add, le-div}
-use Rattle.std.proofs.lemmas.Nat.Bits.{bit_at-zero, shr_and_one}
+use Rattle.std.proofs.lemmas.Bool.{cases_lt, cases_eq}
+use Rattle.std.proofs.lemmas.Nat.{mod_below, div_below, div-mul-add, mod-mul-add, le-div, and_mask}
+use Rattle.std.proofs.lemmas.Nat.Bits.{bit_at-zero, bit_at_lowest}
 use Rattle.std.proofs.lemmas.List.{get_or_past, get_or_read, get_or-replicate, length-replicate, replicate-append-replicate}
 use Rattle.std.proofs.lemmas.List.FromFn.{length-map-range_with_len, get_or-map-range_with_len}
 use Rattle.nr_bitvec.specs.Bit.{◌⊕◌, bit}
@@ -67,28 +67,13 @@ module _ (z : ℕ) (some : 0 < z) where
   kept_bit : (rings : List (List ℕ)) (j : ℕ) (ring : List ℕ) (p : ℕ) → p / z ≢ j → bit (block_bits z (set rings j ring)).items p ≡ bit (block_bits z rings).items p
   kept_bit rings j ring p apart = grind (arith, bit_is, get_or-set_other)
 
-  or_none : (a b c : Bool) → b ≡ false → a ≡ (a || (b && c))
-  or_none true b c h = refl
-  or_none false b c h = ap (λ d. d && c) (sym h)
-
-  and_yes : (a b c : Bool) → b ≡ true → (a || c) ≡ (a || (b && c))
-  and_yes a b c h = ap (λ d. a || (d && c)) (sym h)
-
   pub joined_bits : (rings : List (List ℕ)) (j : ℕ) (ring lane : List ℕ) → j < length rings → GainsTwice z ring (get_or rings j []) lane
       → (p : ℕ) → bit (block_bits z (set rings j ring)).items p ≡ (bit (block_bits z rings).items p || lane_marks z j (is_set lane) p)
-  joined_bits rings j ring lane within gains p = grind (arith, nat_tests, cases_eq, mod_below, bit_is, written_bit, max_bits, place-lt, mod_small, and_yes, eq-eqb, kept_bit, or_none, ne_eqb)
-
-  and_none : (a b : Bool) → b ≡ true → false ≡ (a && not b)
-  and_none true b h = sym (ap not h)
-  and_none false b h = refl
-
-  and_all : (a b : Bool) → b ≡ false → a ≡ (a && not b)
-  and_all true b h = sym (ap not h)
-  and_all false b h = refl
+  joined_bits rings j ring lane within gains p = grind (arith, nat_tests, cases_eq, mod_below, bit_is, written_bit, max_bits, place-lt, mod_small, kept_bit)
 
   pub cleared_bits : (rings : List (List ℕ)) (j w : ℕ) → j < length rings
       → (p : ℕ) → bit (block_bits z (set rings j (replicate w 0))).items p ≡ (bit (block_bits z rings).items p && not (p / z == j))
-  cleared_bits rings j w within p = grind (arith, nat_tests, cases_eq, written_bit, place-zeros, and_none, eq-eqb, kept_bit, and_all, ne_eqb)
+  cleared_bits rings j w within p = grind (arith, nat_tests, cases_eq, written_bit, place-zeros, kept_bit)
 
   -- ---- rings stay rings
 
@@ -128,10 +113,7 @@ zero_clear n w t past = place-zeros w t
 
 -- the lowest place of a word
 pub low_bit : (w : ℕ) → bit_and w 1 ≡ bit_at w 0
-low_bit w = ap (λ n. bit_and n 1) (whole w) ∙ shr_and_one w 0
-  where
-    whole : (w : ℕ) → w ≡ w / 2 ^ 0
-    whole w = omega arith
+low_bit w = and_mask w 1 ∙ sym (bit_at_lowest w)
 
 -- a list that is made by pushing
 pub made_more : {A : Type 0} (x : A) (n : ℕ) (next xs : List A) → xs ≡ replicate n x → next ≡ xs ++ x ∷ [] → next ≡ replicate (n + 1) x

@@ -1,8 +1,8 @@
 -- Lanes in words, word by word, and how many bits they have.
 use Rattle.std.proofs.lemmas.Bool.Decides.{nat_tests}
-use Rattle.std.proofs.Common.{◌≡◌, ℕ, zero, suc, ◌+◌, ◌-◌, ◌*◌, ◌/◌, ◌%◌, ◌^◌, ◌<◌, ◌≤◌, ◌==◌, ◌&&◌, min, Bool, true, false, not, if◌then◌else◌, List, length, get_or, set, refl, sym, ap, ◌∙◌, subst, inl, inr, arith}
+use Rattle.std.proofs.Common.{get_or-set_other, length-set, add-suc, ◌≡◌, ℕ, zero, suc, ◌+◌, ◌-◌, ◌*◌, ◌/◌, ◌%◌, ◌^◌, ◌<◌, ◌≤◌, ◌==◌, ◌&&◌, min, Bool, false, not, if◌then◌else◌, List, length, get_or, set, refl, sym, ap, ◌∙◌, inl, inr, arith}
 use Rattle.std.proofs.Math.Nat.{pow-suc}
-use Rattle.std.proofs.lemmas.Bool.{cases_lt}
+use Rattle.std.proofs.lemmas.Bool.{cases_eq, cases_lt}
 use Rattle.std.proofs.lemmas.Nat.{div-add-mod', div_below, mod_below, ones_cat, pow_pos}
 use Rattle.std.proofs.lemmas.Nat.Bits.{bit_at_and, bit_at_not, bit_at_xor, bit_at_cat_low}
 use Rattle.std.specs.Int.{bit_at, bit_not, w64}
@@ -10,9 +10,9 @@ use Rattle.std.specs.Int.RustNames.{bit_and, bit_xor, count_ones}
 use Rattle.nr_bitvec.specs.Bit.{◌⊕◌}
 use Rattle.nr_bitvec.specs.Packed.{place, IsClear}
 use Rattle.nr_bitvec.proofs.BitFacts.{place_past}
+use Rattle.nr_bitvec.proofs.PlaceFacts.{place-set_same, place-set_other}
 use Rattle.nr_lifting.specs.Rings.{is_set, marked}
 pub use Rattle.nr_lifting.proofs.LaneWordFacts.{word_bit}
-use Rattle.nr_lifting.proofs.LaneWordFacts.{IsWritten, written_more}
 use Rattle.nr_lifting.proofs.LaneViewFacts.{min_bits, place-lt, rest_bits, sum_bits}
 
 -- The places of the first n words are those that G gives them, and the others are the old ones.
@@ -23,10 +23,7 @@ pub record IsMade (n : ℕ) (G : ℕ → ℕ) (now old : List ℕ) : Type 0 wher
 
 pub made_next : (n : ℕ) (G : ℕ → ℕ) (next now old : List ℕ) (word : ℕ) → IsMade n G now old → n < length now → next ≡ set now n word
     → ((j : ℕ) → j < 64 → bit_at word j ≡ G (64 * n + j)) → IsMade (n + 1) G next old
-made_next n G next now old word h within put are =
-    let before : IsWritten (64 * (n + 1)) n G now old = record { done = λ t below _. h.done t below; clear = λ t below past. absurd (omega (arith, below, past)); kept = h.kept; long = h.long; } in
-    let after = written_more (64 * (n + 1)) n G next now old word before within put (λ j short _. are j short) (λ j short past. absurd (omega (arith, short, past))) in
-    record { done = λ t below. after.done t below below; kept = after.kept; long = after.long; }
+made_next n G next now old word h within put are = grind (arith, cases_eq, place-set_same, place-set_other, get_or-set_other, length-set)
 
 -- when all words are made, and G gives the others what they have
 pub made_whole : (n : ℕ) (G : ℕ → ℕ) (now old : List ℕ) → IsMade n G now old → ((t : ℕ) → 64 * n ≤ t → G t ≡ place old t) → (t : ℕ) → place now t ≡ G t
@@ -87,27 +84,20 @@ ones_below (suc (suc n)) h = absurd (omega (arith, h))
 
 pub marked-same : (u v : ℕ → Bool) (n : ℕ) → ((t : ℕ) → t < n → u t ≡ v t) → marked u n ≡ marked v n
 marked-same u v zero same = refl
-marked-same u v (suc n) same =
-    ap (λ m. m + (if u n then 1 else 0)) (marked-same u v n (λ t h. same t (omega (arith, h)))) ∙ ap (λ b. marked v n + (if b then 1 else 0)) (same n (omega arith))
+marked-same u v (suc n) same = grind (arith, marked-same u v n (λ t h. same t (omega (arith, h))), same n (omega arith))
 
 pub marked-append : (u : ℕ → Bool) (a b : ℕ) → marked u (a + b) ≡ marked u a + marked (λ j. u (a + j)) b
 marked-append u a zero = grind arith
-marked-append u a (suc b) = ap (marked u) (next a b) ∙ omega (arith, marked-append u a b)
-  where
-    next : (a b : ℕ) → a + suc b ≡ suc (a + b)
-    next a b = omega arith
+marked-append u a (suc b) = rw add-suc (omega (arith, marked-append u a b))
 
 pub marked-none : (u : ℕ → Bool) (a b : ℕ) → ((t : ℕ) → a ≤ t → u t ≡ false) → a ≤ b → marked u b ≡ marked u a
-marked-none u a b none le =
-    ap (marked u) (split a b le) ∙ marked-append u a (b - a)
-    ∙ ap (λ m. marked u a + m) (marked-same (λ j. u (a + j)) (λ _. false) (b - a) (λ t h. none (a + t) (omega arith)) ∙ zeros (b - a)) ∙ omega arith
-  where
-    split : (a b : ℕ) → a ≤ b → b ≡ a + (b - a)
-    split a b le = omega (arith, le)
-
-    zeros : (n : ℕ) → marked (λ _. false) n ≡ 0
-    zeros zero = refl
-    zeros (suc n) = omega (arith, zeros n)
+marked-none u a zero none le =
+    let first : 0 ≡ a = omega (arith, le) in
+    ap (marked u) first
+marked-none u a (suc b) none le = elim (cases_eq a (suc b)) [
+  | inl e ↦ ap (marked u) (sym e)
+  | inr apart ↦ rw (none b (omega (arith, le, apart))) (omega (arith, marked-none u a b none (omega (arith, le, apart))))
+]
 
 pub marked-le : (u : ℕ → Bool) (n : ℕ) → marked u n ≤ n
 marked-le u zero = omega arith
@@ -122,27 +112,19 @@ ones_marked (suc k) n h =
     let r = n % p in
     let whole_is : n ≡ a * p + r = sym (div-add-mod' n p) in
     let small : r < p = mod_below n p (pow_pos k) in
-    let twice : n < p * 2 = subst (λ m. n < m) (pow-suc 2 k) h in
-    let top : a < 2 = div_below n p 2 (pow_pos k) (omega (arith, twice)) in
+    let top : a < 2 = div_below n p 2 (pow_pos k) (omega (arith, pow-suc 2 k, h)) in
     let digit : bit_at n k ≡ a = omega (arith, top) in
-    ap count_ones whole_is ∙ ones_cat k a r small ∙ ap (λ m. m + count_ones r) (ones_below a top) ∙ ap (λ m. (if a == 1 then 1 else 0) + m) (ones_marked k r small)
-    ∙ ap (λ m. (if a == 1 then 1 else 0) + m) (marked-same (λ j. bit_at r j == 1) (λ j. bit_at n j == 1) k (λ j below. ap (λ m. m == 1) (sym (bit_at_cat_low a k r j below) ∙ ap (λ m. bit_at m j) (sym whole_is))))
-    ∙ swap (if a == 1 then 1 else 0) (marked (λ j. bit_at n j == 1) k)
-    ∙ ap (λ m. marked (λ j. bit_at n j == 1) k + (if m == 1 then 1 else 0)) (sym digit)
-  where
-    swap : (a b : ℕ) → a + b ≡ b + a
-    swap a b = omega arith
+    let same = marked-same (λ j. bit_at r j == 1) (λ j. bit_at n j == 1) k (λ j below. ap (λ m. m == 1) (sym (bit_at_cat_low a k r j below) ∙ ap (λ m. bit_at m j) (sym whole_is))) in
+    rw digit (omega (arith, ap count_ones whole_is, ones_cat k a r small, ones_below a top, ones_marked k r small, same))
 
 -- the bits of one word more are counted
 pub counted_more : (i count word : ℕ) (lane : List ℕ) → word ≡ get_or lane i 0 → word < 2 ^ 64 → count ≡ marked (is_set lane) (64 * i)
     → count + count_ones word ≡ marked (is_set lane) (64 * (i + 1))
 counted_more i count word lane is fits before =
+    let next : 64 * i + 64 ≡ 64 * (i + 1) = omega arith in
     ap (λ m. m + count_ones word) before
     ∙ ap (λ m. marked (is_set lane) (64 * i) + m) (ones_marked 64 word fits ∙ marked-same (λ j. bit_at word j == 1) (λ j. is_set lane (64 * i + j)) 64 (λ j short. ap (λ m. m == 1) (word_bit i j word lane is short)))
-    ∙ sym (marked-append (is_set lane) (64 * i) 64) ∙ ap (marked (is_set lane)) (next i)
-  where
-    next : (i : ℕ) → 64 * i + 64 ≡ 64 * (i + 1)
-    next i = omega arith
+    ∙ sym (marked-append (is_set lane) (64 * i) 64) ∙ ap (marked (is_set lane)) next
 
 -- the bits of a lane that is clear from place n on are below it
 pub counted_all : (k n : ℕ) (lane : List ℕ) → length lane ≤ k → IsClear lane n → marked (is_set lane) (64 * k) ≡ marked (is_set lane) n

@@ -1,10 +1,9 @@
 -- What the calls of a lane do to the list that it is seen as.
 use Rattle.std.proofs.lemmas.Bool.Decides.{nat_tests}
-use Rattle.std.proofs.Common.{◌≡◌, ℕ, ◌+◌, ◌-◌, ◌/◌, ◌%◌, ◌<◌, ◌==◌, zero, suc, min, max, not, false, ◌&&◌, ◌||◌, List, replicate, refl, ap, sym, ◌∙◌, inl, inr, get_or, arith}
+use Rattle.std.proofs.Common.{◌≡◌, ℕ, ◌+◌, ◌-◌, ◌/◌, ◌%◌, ◌<◌, ◌==◌, min, max, not, false, ◌&&◌, ◌||◌, List, replicate, get_or, arith}
 use Rattle.std.proofs.lemmas.Nat.Bits.{bit_at-zero, bit_at-lt}
 use Rattle.std.proofs.lemmas.Bool.{cases_lt}
 use Rattle.std.proofs.lemmas.List.{get_or-replicate, get_or_past, length-replicate}
-use Rattle.std.specs.Int.{bit_at}
 use Rattle.nr_bitvec.specs.Bit.{◌⊕◌, bit}
 use Rattle.nr_bitvec.specs.Packed.{place, IsClear, unpacked}
 use Rattle.nr_bitvec.proofs.PlaceFacts.{bit-place, length-unpacked, same_from_bits}
@@ -16,36 +15,16 @@ pub place-lt : (ws : List ℕ) (t : ℕ) → place ws t < 2
 place-lt ws t = bit_at-lt (get_or ws (t / 64) 0) (t % 64)
 
 pub sum_bits : (a b : ℕ) → a < 2 → b < 2 → ((a + b) % 2 == 1) ≡ (a == 1) ⊕ (b == 1)
-sum_bits zero zero h k = refl
-sum_bits zero (suc zero) h k = refl
-sum_bits (suc zero) zero h k = refl
-sum_bits (suc zero) (suc zero) h k = refl
-sum_bits (suc (suc a)) b h k = absurd (omega (arith, h))
-sum_bits a (suc (suc b)) h k = absurd (omega (arith, k))
+sum_bits a b h k = grind (arith, nat_tests)
 
 pub max_bits : (a b : ℕ) → a < 2 → b < 2 → (max a b == 1) ≡ ((a == 1) || (b == 1))
-max_bits zero zero h k = refl
-max_bits zero (suc zero) h k = refl
-max_bits (suc zero) zero h k = refl
-max_bits (suc zero) (suc zero) h k = refl
-max_bits (suc (suc a)) b h k = absurd (omega (arith, h))
-max_bits a (suc (suc b)) h k = absurd (omega (arith, k))
+max_bits a b h k = grind (arith, nat_tests)
 
 pub min_bits : (a b : ℕ) → a < 2 → b < 2 → (min a b == 1) ≡ ((a == 1) && (b == 1))
-min_bits zero zero h k = refl
-min_bits zero (suc zero) h k = refl
-min_bits (suc zero) zero h k = refl
-min_bits (suc zero) (suc zero) h k = refl
-min_bits (suc (suc a)) b h k = absurd (omega (arith, h))
-min_bits a (suc (suc b)) h k = absurd (omega (arith, k))
+min_bits a b h k = grind (arith, nat_tests)
 
 pub rest_bits : (a b : ℕ) → a < 2 → b < 2 → (min a (1 - b) == 1) ≡ ((a == 1) && not (b == 1))
-rest_bits zero zero h k = refl
-rest_bits zero (suc zero) h k = refl
-rest_bits (suc zero) zero h k = refl
-rest_bits (suc zero) (suc zero) h k = refl
-rest_bits (suc (suc a)) b h k = absurd (omega (arith, h))
-rest_bits a (suc (suc b)) h k = absurd (omega (arith, k))
+rest_bits a b h k = grind (arith, nat_tests)
 
 -- ---- the calls
 

@@ -1,6 +1,6 @@
 -- Loops that write the words of a lane one by one.
 use Rattle.std.proofs.lemmas.Bool.Decides.{nat_tests}
-use Rattle.std.proofs.Common.{◌≡◌, ℕ, ◌+◌, ◌*◌, ◌/◌, ◌%◌, ◌<◌, ◌≤◌, min, max, List, length, get_or, set, refl, sym, ap, ◌∙◌, inl, inr, arith, length-set, get_or-set_other}
+use Rattle.std.proofs.Common.{◌≡◌, ℕ, ◌+◌, ◌*◌, ◌%◌, ◌<◌, ◌≤◌, min, max, List, length, get_or, set, refl, sym, ap, ◌∙◌, arith, length-set, get_or-set_other}
 use Rattle.std.proofs.lemmas.Bool.{cases_lt, cases_eq}
 use Rattle.std.proofs.lemmas.Nat.Bits.{bit_at_and, bit_at_or, bit_at_xor}
 use Rattle.std.specs.Int.{bit_at}
@@ -49,26 +49,27 @@ written_lane z i G ws old h all above below = record {
 -- A word of a lane, and the word of a rotated block that meets it. Below place z each has the places of its list, and
 -- past it zeros.
 module _ (z i p now rotated : ℕ) (ws src : List ℕ) (kept : now ≡ get_or ws i 0) (clear : IsClear ws z)
-    (is : IsRotatedWord z src i p rotated) (none : (j : ℕ) → z ≤ 64 * i + j → bit_at rotated j ≡ 0) (j : ℕ) (short : j < 64) where
-  pub summed_low : 64 * i + j < z → bit_at (bit_xor now rotated) j ≡ (place ws (64 * i + j) + place src ((64 * i + j + p) % z)) % 2
-  summed_low below = omega (arith, bit_at_xor now rotated j, word_bit i j now ws kept short, is j short below)
+    (is : IsRotatedWord z src i p rotated) (none : (j : ℕ) → z ≤ 64 * i + j → bit_at rotated j ≡ 0) where
+  pub summed_low : (j : ℕ) → j < 64 → 64 * i + j < z → bit_at (bit_xor now rotated) j ≡ (place ws (64 * i + j) + place src ((64 * i + j + p) % z)) % 2
+  summed_low j short below = omega (arith, bit_at_xor now rotated j, word_bit i j now ws kept short, is j short below)
 
-  pub summed_high : z ≤ 64 * i + j → bit_at (bit_xor now rotated) j ≡ 0
-  summed_high past = omega (arith, bit_at_xor now rotated j, word_bit i j now ws kept short, clear (64 * i + j) past, none j past)
+  pub summed_high : (j : ℕ) → j < 64 → z ≤ 64 * i + j → bit_at (bit_xor now rotated) j ≡ 0
+  summed_high j short past = omega (arith, bit_at_xor now rotated j, word_bit i j now ws kept short, clear (64 * i + j) past, none j past)
 
-  pub joined_low : 64 * i + j < z → bit_at (bit_or now rotated) j ≡ max (place ws (64 * i + j)) (place src ((64 * i + j + p) % z))
-  joined_low below = omega (arith, bit_at_or now rotated j, word_bit i j now ws kept short, is j short below)
+  pub joined_low : (j : ℕ) → j < 64 → 64 * i + j < z → bit_at (bit_or now rotated) j ≡ max (place ws (64 * i + j)) (place src ((64 * i + j + p) % z))
+  joined_low j short below = omega (arith, bit_at_or now rotated j, word_bit i j now ws kept short, is j short below)
 
-  pub joined_high : z ≤ 64 * i + j → bit_at (bit_or now rotated) j ≡ 0
-  joined_high past = omega (arith, bit_at_or now rotated j, word_bit i j now ws kept short, clear (64 * i + j) past, none j past)
+  pub joined_high : (j : ℕ) → j < 64 → z ≤ 64 * i + j → bit_at (bit_or now rotated) j ≡ 0
+  joined_high j short past = omega (arith, bit_at_or now rotated j, word_bit i j now ws kept short, clear (64 * i + j) past, none j past)
 
   -- with a second lane, whose word gains the places that both have
   module _ (word : ℕ) (more : List ℕ) (other : word ≡ get_or more i 0) (free : IsClear more z) where
-    pub twice_low : 64 * i + j < z → bit_at (bit_or word (bit_and now rotated)) j ≡ max (place more (64 * i + j)) (min (place ws (64 * i + j)) (place src ((64 * i + j + p) % z)))
-    twice_low below = grind (arith, bit_at_or, bit_at_and, word_bit, kept)
+    pub twice_low : (j : ℕ) → j < 64 → 64 * i + j < z → bit_at (bit_or word (bit_and now rotated)) j ≡ max (place more (64 * i + j)) (min (place ws (64 * i + j)) (place src ((64 * i + j + p) % z)))
+    twice_low j short below =
+        omega (arith, bit_at_or word (bit_and now rotated) j, bit_at_and now rotated j, word_bit i j word more other short, word_bit i j now ws kept short, is j short below)
 
-    pub twice_high : z ≤ 64 * i + j → bit_at (bit_or word (bit_and now rotated)) j ≡ 0
-    twice_high past =
+    pub twice_high : (j : ℕ) → j < 64 → z ≤ 64 * i + j → bit_at (bit_or word (bit_and now rotated)) j ≡ 0
+    twice_high j short past =
         omega (arith, bit_at_or word (bit_and now rotated) j, bit_at_and now rotated j, word_bit i j word more other short, free (64 * i + j) past, none j past)
 
 -- ---- one word of a ring

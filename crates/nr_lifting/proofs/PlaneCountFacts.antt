@@ -1,9 +1,10 @@
 -- Counts that are kept as bit planes: their digits, and the calls that read and write words of them.
 use Rattle.std.proofs.lemmas.Bool.Decides.{nat_tests}
-use Rattle.std.proofs.Common.{◌≡◌, ◌≢◌, ℕ, zero, suc, ◌+◌, ◌-◌, ◌*◌, ◌/◌, ◌%◌, ◌^◌, ◌<◌, ◌≤◌, ◌==◌, if◌then◌else◌, min, max, List, [], length, get_or, set, refl, sym, ap, subst, ◌∙◌, inl, inr, arith, add-one, length-set, get_or-set_same, get_or-set_other}
+use Rattle.std.proofs.Common.{◌⊎◌, ◌≡◌, ◌≢◌, ℕ, zero, suc, ◌+◌, ◌-◌, ◌*◌, ◌/◌, ◌%◌, ◌^◌, ◌<◌, ◌≤◌, ◌==◌, if◌then◌else◌, min, max, List, [], length, get_or, set, refl, sym, ap, subst, ◌∙◌, inl, inr, arith, add-one, length-set, get_or-set_same, get_or-set_other}
 use Rattle.std.proofs.Math.Nat.{pow-suc}
-use Rattle.std.proofs.lemmas.Bool.{cases_eq, cases_lt, ne_eqb}
+use Rattle.std.proofs.lemmas.Bool.{cases_eq, cases_lt}
 use Rattle.std.proofs.lemmas.Nat.{pow_pos}
+use Rattle.std.proofs.lemmas.Grind.{pow_more}
 use Rattle.std.proofs.lemmas.Nat.Bits.{bit_at_and, bit_at_not}
 use Rattle.std.specs.Int.{bit_at, bit_not, w64}
 use Rattle.std.specs.Int.RustNames.{bit_and}
@@ -19,26 +20,23 @@ below-same zero D E same = refl
 below-same (suc n) D E same =
     ap (λ m. m + 2 ^ n * D n) (below-same n D E (λ k h. same k (omega (arith, h)))) ∙ ap (λ d. digits_below n E + 2 ^ n * d) (same n (omega arith))
 
-digit_fits : (a p x : ℕ) → a < p → x < 2 → a + p * x < p * 2
-digit_fits a p zero h k = omega arith
-digit_fits a p (suc zero) h k = omega arith
-digit_fits a p (suc (suc x)) h k = absurd (omega (arith, k))
+-- what a digit is worth
+digit_times : (p x : ℕ) → x < 2 → ((x ≡ 0) × (p * x ≡ 0)) ⊎ ((x ≡ 1) × (p * x ≡ p))
+digit_times p zero h = inl (refl, omega arith)
+digit_times p (suc zero) h = inr (refl, omega arith)
+digit_times p (suc (suc x)) h = absurd (omega (arith, h))
 
 -- n digits write a number below 2 ^ n
 below-lt : (n : ℕ) (D : ℕ → ℕ) → ((k : ℕ) → D k < 2) → digits_below n D < 2 ^ n
 below-lt zero D small = omega arith
-below-lt (suc n) D small = rw pow-suc (digit_fits (digits_below n D) (2 ^ n) (D n) (below-lt n D small) (small n))
+below-lt (suc n) D small = rw pow-suc (grind (arith, digit_times (2 ^ n) (D n) (small n), below-lt n D small))
 
 -- ---- one is taken off
 
 -- a borrow y comes to the digit x of worth p: the digit that is left, and the borrow that goes on
 plane : (a b p u x y : ℕ) → x < 2 → y < 2 → a + u ≡ b + p * y → a + p * ((x + y) % 2) + u ≡ b + p * x + p * 2 * min y (1 - x)
-plane a b p u zero zero h k e = omega (arith, e)
-plane a b p u zero (suc zero) h k e = omega (arith, e)
-plane a b p u (suc zero) zero h k e = omega (arith, e)
-plane a b p u (suc zero) (suc zero) h k e = omega (arith, e)
-plane a b p u (suc (suc x)) y h k e = absurd (omega (arith, h))
-plane a b p u x (suc (suc y)) h k e = absurd (omega (arith, k))
+plane a b p u x y h k e =
+    grind (arith, digit_times p x h, digit_times p y k, digit_times p ((x + y) % 2) (omega arith), digit_times (p * 2) (min y (1 - x)) (omega (arith, k)))
 
 -- u is taken off the first n digits, with a borrow y from the others, which are as they were
 pub record Borrows (n : ℕ) (now old : ℕ → ℕ) (u y : ℕ) : Type 0 where
@@ -54,25 +52,14 @@ pub borrows_more : (n : ℕ) (next now old : ℕ → ℕ) (u y x : ℕ) → Borr
 borrows_more n next now old u y x h is low high others here = record {
   number =
       let first : digits_below n next ≡ digits_below n now = below-same n next now (λ k below. others k (λ e. omega (arith, e, below))) in
-      let left : digits_below (n + 1) next ≡ digits_below n now + 2 ^ n * ((x + y) % 2) =
-      below-next n next ∙ ap (λ m. m + 2 ^ n * next n) first ∙ ap (λ m. digits_below n now + 2 ^ n * m) here in
-      let right : digits_below (n + 1) old ≡ digits_below n old + 2 ^ n * x =
-      below-next n old ∙ ap (λ m. digits_below n old + 2 ^ n * m) (sym (is ∙ h.kept n (omega arith))) in
-      let worth : 2 ^ (n + 1) * min y (1 - x) ≡ 2 ^ n * 2 * min y (1 - x) = ap (λ m. m * min y (1 - x)) (rw add-one (pow-suc 2 n)) in
-      ap (λ m. m + u) left
-      ∙ plane (digits_below n now) (digits_below n old) (2 ^ n) u x y low high h.number
-      ∙ sym (ap (λ m. m + 2 ^ (n + 1) * min y (1 - x)) right ∙ ap (λ m. digits_below n old + 2 ^ n * x + m) worth);
+      grind (arith, first, below-next n next, below-next n old, here, is, h.kept n (omega arith), pow_more 2 n, plane (digits_below n now) (digits_below n old) (2 ^ n) u x y low high h.number);
   kept = λ k above. others k (λ e. omega (arith, e, above)) ∙ h.kept k (omega (arith, above));
 }
 
 -- where no borrow is left, one digit more has fallen, as it was
 borrows_idle : (n : ℕ) (now old : ℕ → ℕ) (u y : ℕ) → Borrows n now old u y → y ≡ 0 → Borrows (n + 1) now old u y
 borrows_idle n now old u y h none = record {
-  number =
-      let same : 2 ^ n * now n ≡ 2 ^ n * old n = ap (λ d. 2 ^ n * d) (h.kept n (omega arith)) in
-      let below : digits_below n now + u ≡ digits_below n old + 2 ^ n * 0 = h.number ∙ ap (λ d. digits_below n old + 2 ^ n * d) none in
-      let goes : 2 ^ (n + 1) * y ≡ 2 ^ (n + 1) * 0 = ap (λ d. 2 ^ (n + 1) * d) none in
-      omega (arith, below-next n now, below-next n old, same, below, goes);
+  number = grind (arith, below-next n now, below-next n old, h.number, h.kept n (omega arith), digit_times (2 ^ n) y (omega (arith, none)), digit_times (2 ^ (n + 1)) y (omega (arith, none)));
   kept = λ k above. h.kept k (omega (arith, above));
 }
 
@@ -82,19 +69,16 @@ borrows_rest n zero now old u y h none within = subst (λ k. Borrows k now old u
 borrows_rest n (suc m) now old u y h none within = elim (cases_eq n (suc m)) [
   | inl at ↦ subst (λ k. Borrows k now old u y) at h
   | inr apart ↦
-      let before : n ≤ m = omega (arith, within, apart) in
-      subst (λ k. Borrows k now old u y) (add-one m) (borrows_idle m now old u y (borrows_rest n m now old u y h none before) none)
+      subst (λ k. Borrows k now old u y) (add-one m) (borrows_idle m now old u y (borrows_rest n m now old u y h none (omega (arith, within, apart))) none)
 ]
 
 -- no borrow is left where the number was not less
 no_borrow : (a b p u y : ℕ) → a < p → y < 2 → u ≤ b → a + u ≡ b + p * y → a + u ≡ b
-no_borrow a b p u zero h k enough e = omega (arith, e)
-no_borrow a b p u (suc zero) h k enough e = absurd (omega (arith, e, h, enough))
-no_borrow a b p u (suc (suc y)) h k enough e = absurd (omega (arith, k))
+no_borrow a b p u y h k enough e = grind (arith, digit_times p y k)
 
 pub borrows_all : (n : ℕ) (now old : ℕ → ℕ) (u y : ℕ) → Borrows n now old u y → ((k : ℕ) → now k < 2) → y < 2 → u ≤ digits_below n old
     → digits_below n now + u ≡ digits_below n old
-borrows_all n now old u y h small high enough = no_borrow (digits_below n now) (digits_below n old) (2 ^ n) u y (below-lt n now small) high enough h.number
+borrows_all n now old u y h small high enough = no_borrow _ _ (2 ^ n) u y (below-lt n now small) high enough h.number
 
 -- ---- counts of one
 
@@ -111,16 +95,10 @@ two_at_least zero h = absurd (omega (arith, h))
 two_at_least (suc n) h = rw pow-suc (omega (arith, pow_pos n))
 
 plane_none : (a p f m x : ℕ) → m < 2 → x < 2 → max m x ≡ 0 → (m ≡ 0 → a ≡ f) → a + p * x ≡ f
-plane_none a p f zero zero h k e none = omega (arith, none refl)
-plane_none a p f zero (suc x) h k e none = absurd (omega (arith, e))
-plane_none a p f (suc m) x h k e none = absurd (omega (arith, e))
+plane_none a p f m x h k e none = grind (arith, digit_times p x k)
 
 plane_some : (a p m x : ℕ) → m < 2 → x < 2 → 2 ≤ p → max m x ≡ 1 → (m ≡ 1 → 2 ≤ a) → 2 ≤ a + p * x
-plane_some a p zero zero h k two e some = absurd (omega (arith, e))
-plane_some a p zero (suc zero) h k two e some = omega (arith, two)
-plane_some a p (suc zero) x h k two e some = omega (arith, some refl)
-plane_some a p (suc (suc m)) x h k two e some = absurd (omega (arith, h))
-plane_some a p zero (suc (suc x)) h k two e some = absurd (omega (arith, k))
+plane_some a p m x h k two e some = grind (arith, digit_times p x k, digit_times 1 m h)
 
 pub has_more-next : (n : ℕ) (D : ℕ → ℕ) (m next : ℕ) → HasMore n D m → 0 < n → m < 2 → D n < 2 → next ≡ max m (D n) → HasMore (n + 1) D next
 has_more-next n D m next h above low high is = record {
@@ -128,16 +106,8 @@ has_more-next n D m next h above low high is = record {
   some = λ e. rw (below-next n D) (plane_some (digits_below n D) (2 ^ n) m (D n) low high (two_at_least n above) (sym is ∙ e) h.some);
 }
 
-not_one : (n : ℕ) → 2 ≤ n → ◌≡◌ {A = ℕ} 0 (if n == 1 then 1 else 0)
-not_one n h = sym (ap (λ b. if b then 1 else 0) (ne_eqb n 1 (λ e. omega (arith, h, e))))
-
 exactly_one : (n f m : ℕ) → f < 2 → m < 2 → (m ≡ 0 → n ≡ f) → (m ≡ 1 → 2 ≤ n) → min f (1 - m) ≡ (if n == 1 then 1 else 0)
-exactly_one n zero zero h k none some = ap (λ x. if x == 1 then 1 else 0) (sym (none refl))
-exactly_one n (suc zero) zero h k none some = ap (λ x. if x == 1 then 1 else 0) (sym (none refl))
-exactly_one n zero (suc zero) h k none some = not_one n (some refl)
-exactly_one n (suc zero) (suc zero) h k none some = not_one n (some refl)
-exactly_one n (suc (suc f)) m h k none some = absurd (omega (arith, h))
-exactly_one n f (suc (suc m)) h k none some = absurd (omega (arith, k))
+exactly_one n f m h k none some = grind (arith, nat_tests, digit_times 1 f h, digit_times 1 m k)
 
 pub ones_are : (n : ℕ) (D : ℕ → ℕ) (m : ℕ) → HasMore n D m → D 0 < 2 → m < 2 → min (D 0) (1 - m) ≡ (if digits_below n D == 1 then 1 else 0)
 ones_are n D m h first more = exactly_one (digits_below n D) (D 0) m first more h.none h.some
@@ -159,12 +129,9 @@ module _ (A : Type 0) (read : A → ℕ → ℕ) (none : A) (low : (x : A) (t : 
       → ((t : ℕ) → t < z → read plane t ≡ (read (get_or now n none) t + borrow t) % 2)
       → ((t : ℕ) → t < z → left t ≡ min (borrow t) (1 - read (get_or now n none) t)) → PlanesBorrow A read none z (n + 1) next old lane left
   planes_more next left plane within high put falls goes = record {
-    digits = λ t below.
-        subst (Borrows (n + 1) (digit_in read none next t) (digit_in read none old t) (lane t)) (sym (goes t below))
-        (borrows_more n (digit_in read none next t) (digit_in read none now t) (digit_in read none old t) (lane t) (borrow t) (digit_in read none now t n)
-        (h.digits t below) refl (low (get_or now n none) t) (high t)
-        (λ k apart. ap (λ ps. digit_in read none ps t k) put ∙ ap (λ p. read p t) (get_or-set_other now n k plane none apart))
-        (ap (λ ps. digit_in read none ps t n) put ∙ ap (λ p. read p t) (get_or-set_same now n plane none within) ∙ falls t below));
+    digits = λ t below. rw (goes t below) (borrows_more n _ (digit_in read none now t) _ (lane t) (borrow t) _ (h.digits t below) refl (low (get_or now n none) t) (high t)
+        (λ k apart. rw put (ap (λ p. read p t) (get_or-set_other now n k plane none apart)))
+        (rw put (ap (λ p. read p t) (get_or-set_same now n plane none within) ∙ falls t below)));
     long = ap length put ∙ length-set now n plane ∙ h.long;
   }
 
@@ -202,12 +169,9 @@ falls_more z n F next now old group bits h within put falls are = record {
   numbers = λ t below inside. elim (cases_eq (t / 64) n) [
     | inl e ↦
         let split : 64 * n + t % 64 ≡ t = omega (arith, e) in
-        let there : get_or next (t / 64) [] ≡ group = ap (λ k. get_or next k []) e ∙ ap (λ ws. get_or ws n []) put ∙ get_or-set_same now n group [] within in
-        let was : get_or now n [] ≡ get_or old (t / 64) [] = h.kept n (omega arith) ∙ ap (λ k. get_or old k []) (sym e) in
         let bit : F t ≡ bit_at bits (t % 64) = sym (are (t % 64) (omega arith) (omega (arith, split, inside)) ∙ ap F split) in
-        ap (λ g. number g (t % 64) + F t) there ∙ ap (λ m. number group (t % 64) + m) bit ∙ falls.numbers (t % 64) (omega arith) ∙ ap (λ g. number g (t % 64)) was
-    | inr apart ↦
-        ap (λ ws. number (get_or ws (t / 64) []) (t % 64) + F t) put ∙ ap (λ g. number g (t % 64) + F t) (get_or-set_other now n (t / 64) group [] apart) ∙ h.numbers t (omega (arith, below, apart)) inside
+        rw (put, e, get_or-set_same now n group [] within, bit, ← h.kept n (omega arith)) (falls.numbers (t % 64) (omega arith))
+    | inr apart ↦ rw (put, get_or-set_other now n (t / 64) group [] apart) (h.numbers t (omega (arith, below, apart)) inside)
   ];
   kept = λ w above. ap (λ ws. get_or ws w []) put ∙ get_or-set_other now n w group [] (λ e. omega (arith, e, above)) ∙ h.kept w (omega (arith, above));
   long = ap length put ∙ length-set now n group ∙ h.long;

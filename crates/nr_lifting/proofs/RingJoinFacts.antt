@@ -1,5 +1,5 @@
 -- A ring that gains a lane twice over, the second time by its words moved up.
-use Rattle.std.proofs.Common.{◌≡◌, ℕ, ◌+◌, ◌-◌, ◌*◌, ◌/◌, ◌%◌, ◌^◌, ◌<◌, ◌≤◌, if◌then◌else◌, max, nat_lt, List, length, get_or, set, replicate, refl, sym, subst, ap, ◌∙◌, inl, inr, arith}
+use Rattle.std.proofs.Common.{◌≡◌, ℕ, ◌+◌, ◌-◌, ◌*◌, ◌/◌, ◌%◌, ◌^◌, ◌<◌, ◌≤◌, if◌then◌else◌, max, nat_lt, List, length, get_or, set, replicate, sym, subst, ap, ◌∙◌, inl, inr, arith}
 use Rattle.std.proofs.lemmas.Bool.{cases_lt, lt-ltb, le-ltb}
 use Rattle.std.proofs.lemmas.Nat.{mod_below}
 use Rattle.std.proofs.lemmas.Nat.Bits.{bit_at_above, bit_at_or}
@@ -54,10 +54,8 @@ module _ (z i word : ℕ) (ws : List ℕ) (kept : word ≡ get_or ws i 0) where
       elim (cases_lt j (z % 64)) [
         | inl h ↦ omega (arith, both, cut, bit_at_shl_low word (z % 64) j h, carry.low j h)
         | inr h ↦
-            let from = j - z % 64 in
-            let there : 64 * i + from ≡ t - z = omega (arith, h) in
-            let up : bit_at word from ≡ moved z ws t = word_bit i from word ws kept (omega (arith, short)) ∙ ap (place ws) there ∙ sym (moved-high z ws t (omega (arith, h))) in
-            omega (arith, both, cut, bit_at_shl_high word (z % 64) j h, carry.high j h, up)
+            let there : 64 * i + (j - z % 64) ≡ t - z = omega (arith, h) in
+            omega (arith, both, cut, bit_at_shl_high word (z % 64) j h, carry.high j h, word_bit i (j - z % 64) word ws kept (omega (arith, short)), ap (place ws) there, moved-high z ws t (omega (arith, h)))
       ]
 
 -- ---- all words
@@ -88,16 +86,13 @@ module _ (z i : ℕ) (next now old ws : List ℕ) (h : IsMade (z / 64 + i) (λ t
   pub moved_last : (past : ℕ) → Carries z 6 ws past → i ≡ 6 → length ws ≤ 6 → next ≡ set now (z / 64 + 6) (bit_or (get_or now (z / 64 + 6) 0) past)
       → (t : ℕ) → place next t ≡ max (place old t) (moved z ws t)
   moved_last past carry six few put =
-      let here : next ≡ set now (z / 64 + i) (bit_or (get_or now (z / 64 + i) 0) past) = put ∙ ap (λ k. set now (z / 64 + k) (bit_or (get_or now (z / 64 + k) 0) past)) (sym six) in
-      moved_all z next old ws few (z / 64 + (i + 1)) (moved_next past here carried) (omega (arith, six))
-    where
-      carried : (j : ℕ) → j < 64 → bit_at past j ≡ moved z ws (64 * (z / 64 + i) + j)
-      carried j short = elim (cases_lt j (z % 64)) [
-        | inl low ↦ carry.low j low ∙ ap (λ k. moved z ws (64 * (z / 64 + k) + j)) (sym six)
+      let here = rw (← six) at put in
+      moved_all z next old ws few (z / 64 + (i + 1)) (moved_next past here (λ j short. elim (cases_lt j (z % 64)) [
+        | inl low ↦ rw (← six) at (carry.low j low)
         | inr high ↦
             let t = 64 * (z / 64 + i) + j in
-            carry.high j high ∙ sym (moved-high z ws t (omega (arith, high)) ∙ place_past ws (t - z) (omega (arith, few, six, high)))
-      ]
+            omega (arith, carry.high j high, moved-high z ws t (omega (arith, high)), place_past ws (t - z) (omega (arith, few, six, high)))
+      ])) (omega (arith, six))
 
 pub joined_all : (z : ℕ) (new now old ws : List ℕ) (n : ℕ) → IsMade n (λ t. max (place old t) (place ws t)) now old → length ws ≤ n
     → ((t : ℕ) → place new t ≡ max (place now t) (moved z ws t)) → (t : ℕ) → place new t ≡ max (max (place old t) (place ws t)) (moved z ws t)
@@ -116,24 +111,16 @@ pub joined_word : (z : ℕ) (old ws : List ℕ) → z ≤ 32 → 0 < length old 
     ≡ max (max (place old t) (place ws t)) (moved z ws t)
 joined_word z old ws few within clear t =
     let first = get_or ws 0 0 in
-    let word = bit_or (get_or old 0 0) (bit_or first (first * 2 ^ z % 2 ^ 64)) in
+    let both = bit_or first (first * 2 ^ z % 2 ^ 64) in
     elim (cases_lt t 64) [
       | inl short ↦
-          let there : place (set old 0 word) t ≡ bit_at word t = place-set_same old 0 word t t within (omega arith) short in
-          let outer : bit_at word t ≡ max (bit_at (get_or old 0 0) t) (bit_at (bit_or first (first * 2 ^ z % 2 ^ 64)) t) = bit_at_or (get_or old 0 0) (bit_or first (first * 2 ^ z % 2 ^ 64)) t in
-          let inner : bit_at (bit_or first (first * 2 ^ z % 2 ^ 64)) t ≡ max (bit_at first t) (bit_at (first * 2 ^ z % 2 ^ 64) t) = bit_at_or first (first * 2 ^ z % 2 ^ 64) t in
-          let was : place old t ≡ bit_at (get_or old 0 0) t = place_of old t 0 t (omega arith) short in
-          let low : place ws t ≡ bit_at first t = place_of ws t 0 t (omega arith) short in
-          let high : bit_at (first * 2 ^ z % 2 ^ 64) t ≡ moved z ws t =
-          bit_at_mod (first * 2 ^ z) 64 t short ∙ elim (cases_lt t z) [
+          let high : bit_at (first * 2 ^ z % 2 ^ 64) t ≡ moved z ws t = bit_at_mod (first * 2 ^ z) 64 t short ∙ elim (cases_lt t z) [
             | inl h ↦ bit_at_shl_low first z t h ∙ sym (moved-low z ws t h)
             | inr h ↦ bit_at_shl_high first z t h ∙ sym (moved-high z ws t h ∙ place_of ws (t - z) 0 (t - z) (omega arith) (omega (arith, short)))
           ] in
-          omega (arith, there, outer, inner, was, low, high)
-      | inr out ↦
-          let there : place (set old 0 word) t ≡ place old t = place-set_other old 0 word t (λ e. omega (arith, e, out)) in
-          let none : moved z ws t ≡ 0 = moved-high z ws t (omega (arith, out, few)) ∙ clear (t - z) (omega (arith, out, few)) in
-          omega (arith, there, none, clear t (omega (arith, out, few)))
+          omega (arith, place-set_same old 0 (bit_or (get_or old 0 0) both) t t within (omega arith) short, bit_at_or (get_or old 0 0) both t, bit_at_or first (first * 2 ^ z % 2 ^ 64) t,
+          place_of old t 0 t (omega arith) short, place_of ws t 0 t (omega arith) short, high)
+      | inr out ↦ omega (arith, place-set_other old 0 (bit_or (get_or old 0 0) both) t (λ e. omega (arith, e, out)), moved-high z ws t (omega (arith, out, few)), clear (t - z) (omega (arith, out, few)), clear t (omega (arith, out, few)))
     ]
 
 -- a ring of zeros that gains a block has the block's places

@@ -70,12 +70,12 @@ module _ (z i p w read : ℕ) (ring : List ℕ) (at : w ≡ p / 64 + i) (reads :
     ]
 
   -- A word of a lane loses the bits of the rotated block. Past place z the lane has none, whatever the block's word has there.
-  module _ (now : ℕ) (ws : List ℕ) (kept : now ≡ get_or ws i 0) (j : ℕ) (short : j < 64) where
-    pub less_low : read < 2 ^ 64 → 64 * i + j < z → bit_at (bit_and now (bit_not w64 read)) j ≡ min (place ws (64 * i + j)) (1 - place ring ((64 * i + j + p) % z))
-    less_low fits below = omega (arith, bit_at_and now (bit_not w64 read) j, bit_at_not w64 read j fits short, word_bit i j now ws kept short, spans j short below)
+  module _ (now : ℕ) (ws : List ℕ) (kept : now ≡ get_or ws i 0) where
+    pub less_low : read < 2 ^ 64 → (j : ℕ) → j < 64 → 64 * i + j < z → bit_at (bit_and now (bit_not w64 read)) j ≡ min (place ws (64 * i + j)) (1 - place ring ((64 * i + j + p) % z))
+    less_low fits j short below = omega (arith, bit_at_and now (bit_not w64 read) j, bit_at_not w64 read j fits short, word_bit i j now ws kept short, spans j short below)
 
-    pub less_high : IsClear ws z → z ≤ 64 * i + j → bit_at (bit_and now (bit_not w64 read)) j ≡ 0
-    less_high clear past = omega (arith, bit_at_and now (bit_not w64 read) j, word_bit i j now ws kept short, clear (64 * i + j) past)
+    pub less_high : IsClear ws z → (j : ℕ) → j < 64 → z ≤ 64 * i + j → bit_at (bit_and now (bit_not w64 read)) j ≡ 0
+    less_high clear j short past = omega (arith, bit_at_and now (bit_not w64 read) j, word_bit i j now ws kept short, clear (64 * i + j) past)
 
 -- A lane whose first word is known, and which ends in it.
 module _ (z word : ℕ) (lane : List ℕ) (first : (t : ℕ) → t < 64 → place lane t ≡ bit_at word t) where

@@ -1,6 +1,6 @@
 -- Which bit comes to a place when a block is rotated.
 use Rattle.std.proofs.lemmas.Bool.Decides.{nat_tests}
-use Rattle.std.proofs.Common.{◌≡◌, ℕ, ◌+◌, ◌-◌, ◌*◌, ◌%◌, ◌<◌, ◌≤◌, max, List, sym, ap, ◌∙◌, inl, inr, arith}
+use Rattle.std.proofs.Common.{◌≡◌, ℕ, ◌+◌, ◌-◌, ◌*◌, ◌%◌, ◌<◌, ◌≤◌, max, List, ◌∙◌, arith}
 use Rattle.std.proofs.Math.Nat.{mod-eq_of_lt, mod-eq-sub-mod}
 use Rattle.std.proofs.lemmas.Bool.{cases_lt}
 use Rattle.nr_bitvec.specs.Packed.{place, IsClear}
@@ -34,7 +34,4 @@ ring-rotated ring z t p below rotation twice = grind (arith, nat_tests, cases_lt
 pub ring-gains : (z : ℕ) (new old words : List ℕ) → IsRing z old → GainsTwice z new old words → IsRing z new
 ring-gains z new old words twice gains t below =
     let wraps : (z + t) % z ≡ t = mod_once (z + t) z (omega arith) (omega (arith, below)) ∙ omega arith in
-    gains (z + t) (omega (arith, below))
-    ∙ ap (λ n. max n (place words ((z + t) % z))) (twice t below)
-    ∙ ap (λ u. max (place old t) (place words u)) (wraps ∙ sym (mod_small t z below))
-    ∙ sym (gains t (omega (arith, below)))
+    grind (arith, gains (z + t) (omega (arith, below)), gains t (omega (arith, below)), twice t below, wraps, mod_small t z below)

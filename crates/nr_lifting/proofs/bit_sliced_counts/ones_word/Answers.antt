@@ -1,8 +1,6 @@
 use Rattle.std.proofs.lemmas.Bool.Decides.{nat_tests}
-use Rattle.std.proofs.Common.{◌==◌, if◌then◌else◌, ap, ◌∙◌, arith}
+use Rattle.std.proofs.Common.{arith}
 use Rattle.std.proofs.lemmas.Nat.Bits.{bit_at-lt, bit_at-zero, bit_at_or}
-use Rattle.std.specs.Int.{bit_at}
-use Rattle.nr_lifting.specs.Planes.{digits_below}
 use Rattle.nr_lifting.proofs.PlaneCountFacts.{has_more-first, has_more-next, lowered_digit, ones_are, digit_in}
 use Rattle.nr_lifting.proofs.bit_sliced_counts.ones_word.Goals as goal
 

@@ -1,7 +1,6 @@
 use Rattle.std.proofs.lemmas.Bool.Decides.{nat_tests}
-use Rattle.std.proofs.Common.{◌*◌, ◌/◌, ◌%◌, refl, ap, ◌∙◌, inl, inr, arith}
+use Rattle.std.proofs.Common.{◌*◌, refl, arith}
 use Rattle.std.proofs.lemmas.Bool.{cases_lt}
-use Rattle.std.specs.Int.{bit_at}
 use Rattle.nr_lifting.proofs.LaneWordFacts.{written_more, ring_low, ring_high}
 use Rattle.nr_lifting.proofs.doubled_lanes.join_ring.Goals as goal
 

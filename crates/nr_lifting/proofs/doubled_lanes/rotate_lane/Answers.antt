@@ -7,12 +7,11 @@ use Rattle.nr_lifting.proofs.RotationFacts.{ring-gains}
 use Rattle.nr_lifting.proofs.doubled_lanes.rotate_lane.Goals as goal
 
 -- one word
-pub returns-then-size-le64-clause-rotated : goal.returns-then-size-le64-clause-rotated
-returns-then-size-le64-clause-rotated c =
-    first_low c.args.size _ _ c.one_word.ensures.first (λ t. place c.args.words.now ((t + c.args.p) % c.args.size)) c.if-size-le64.true c.rotated_word.ensures.rotated
-
-pub returns-then-size-le64-clause-clear : goal.returns-then-size-le64-clause-clear
-returns-then-size-le64-clause-clear c = first_high c.args.size _ _ c.one_word.ensures.first c.one_word.ensures.rest (λ j _ past. c.rotated_word.ensures.clear j past)
+pub returns-then-size-le64 : goal.returns-then-size-le64
+returns-then-size-le64 c = record {
+  rotated = first_low c.args.size _ _ c.one_word.ensures.first (λ t. place c.args.words.now ((t + c.args.p) % c.args.size)) c.if-size-le64.true c.rotated_word.ensures.rotated;
+  clear = first_high c.args.size _ _ c.one_word.ensures.first c.one_word.ensures.rest (λ j _ past. c.rotated_word.ensures.clear j past);
+}
 
 -- several, which a ring is made of
 pub join_twice-requires-clause-ring_clear : goal.join_twice-requires-clause-ring_clear

@@ -6,8 +6,8 @@ use Rattle.nr_lifting.proofs.lane.add_words.Goals as goal
 pub loop-i-preserved : goal.loop-i-preserved
 loop-i-preserved c =
     written_more _ _ _ _ _ _ _ c.loop-i.invariant (omega arith) refl
-    (λ j short below. summed_low _ _ _ _ _ _ _ (c.loop-i.invariant.kept _ (omega arith)) c.requires.words.clear c.rotated_word.ensures.rotated c.rotated_word.ensures.clear j short below)
-    (λ j short past. summed_high _ _ _ _ _ _ _ (c.loop-i.invariant.kept _ (omega arith)) c.requires.words.clear c.rotated_word.ensures.rotated c.rotated_word.ensures.clear j short past)
+    (summed_low _ _ _ _ _ _ _ (c.loop-i.invariant.kept _ (omega arith)) c.requires.words.clear c.rotated_word.ensures.rotated c.rotated_word.ensures.clear)
+    (summed_high _ _ _ _ _ _ _ (c.loop-i.invariant.kept _ (omega arith)) c.requires.words.clear c.rotated_word.ensures.rotated c.rotated_word.ensures.clear)
 
 pub returns-clause-lane : goal.returns-clause-lane
 returns-clause-lane c = written_lane _ _ _ _ _ c.loop-i.invariant (omega arith) c.requires.words.above c.requires.words.below

@@ -11,11 +11,9 @@ loop-i-preserved c =
     let none = c.rotated_word-rotated.ensures.clear in
     record {
       ones_at = written_more _ _ _ _ _ _ _ c.loop-i.invariant.ones_at (omega arith) refl
-          (λ j short below. joined_low _ _ _ _ _ _ _ ones c.requires.ones.clear is none j short below)
-          (λ j short past. joined_high _ _ _ _ _ _ _ ones c.requires.ones.clear is none j short past);
+          (joined_low _ _ _ _ _ _ _ ones c.requires.ones.clear is none) (joined_high _ _ _ _ _ _ _ ones c.requires.ones.clear is none);
       more_at = written_more _ _ _ _ _ _ _ c.loop-i.invariant.more_at (omega arith) refl
-          (λ j short below. twice_low _ _ _ _ _ _ _ ones c.requires.ones.clear is none j short _ _ more c.requires.more.clear below)
-          (λ j short past. twice_high _ _ _ _ _ _ _ ones c.requires.ones.clear is none j short _ _ more c.requires.more.clear past);
+          (twice_low _ _ _ _ _ _ _ ones c.requires.ones.clear is none _ _ more c.requires.more.clear) (twice_high _ _ _ _ _ _ _ ones c.requires.ones.clear is none _ _ more c.requires.more.clear);
     }
 
 pub returns-clause-ones_lane : goal.returns-clause-ones_lane

@@ -1,6 +1,5 @@
-use Rattle.std.proofs.Common.{◌+◌, ◌-◌, ◌%◌, get_or, min, sym, ap, ◌∙◌, arith}
+use Rattle.std.proofs.Common.{arith}
 use Rattle.std.proofs.lemmas.Nat.Bits.{bit_at_xor}
-use Rattle.std.specs.Int.{bit_at}
 use Rattle.nr_bitvec.proofs.BitFacts.{place_of}
 use Rattle.nr_bitvec.proofs.PlaceFacts.{place-set_same}
 use Rattle.nr_lifting.proofs.PlaneCountFacts.{lowered_digit}

@@ -1,8 +1,7 @@
 use Rattle.std.proofs.lemmas.Bool.Decides.{nat_tests}
-use Rattle.std.proofs.Common.{◌≡◌, ◌*◌, ◌%◌, refl, ap, ◌∙◌, inl, inr, arith}
+use Rattle.std.proofs.Common.{refl, arith}
 use Rattle.std.proofs.lemmas.Bool.{cases_lt, eqb-true}
 use Rattle.std.proofs.lemmas.Nat.Bits.{bit_at-zero}
-use Rattle.std.specs.Int.{bit_at}
 use Rattle.nr_bitvec.proofs.BitFacts.{place_past}
 use Rattle.nr_lifting.proofs.PlaneLaneFacts.{joined_words}
 use Rattle.nr_lifting.proofs.planes.is_blank.Goals as goal

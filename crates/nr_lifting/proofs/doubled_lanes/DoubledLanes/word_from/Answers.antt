@@ -1,10 +1,10 @@
-use Rattle.std.proofs.Common.{◌≡◌, ◌≤◌, ◌<◌, ◌+◌, ◌*◌, ◌/◌, ◌%◌, ◌==◌, [], length, sym, ap, ◌∙◌, subst, arith}
+use Rattle.std.proofs.Common.{◌≡◌, ◌<◌, ◌+◌, ◌*◌, ◌/◌, ◌%◌, ◌==◌, [], sym, ap, ◌∙◌, arith}
 use Rattle.std.proofs.Math.Nat.{mul-le-mul_right}
 use Rattle.std.proofs.lemmas.List.{get_or_read}
 use Rattle.std.proofs.lemmas.Nat.{mod_below}
 use Rattle.nr_bitvec.specs.Bit.{bit}
 use Rattle.nr_bitvec.specs.Packed.{place}
-use Rattle.nr_lifting.specs.Rings.{BlockBits, block_bits, is_set}
+use Rattle.nr_lifting.specs.Rings.{block_bits, is_set}
 use Rattle.nr_lifting.proofs.DoubledLaneFacts.{bit_in, bit_within, long_is}
 use Rattle.nr_lifting.proofs.doubled_lanes.DoubledLanes.word_from.Goals as goal
 
