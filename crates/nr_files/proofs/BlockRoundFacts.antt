@@ -16,9 +16,7 @@ stale-all (x ∷ xs) all =
 
 pub own-block : (n : ℕ) (xs : List Transmission) → All IsOfBlock xs → of_process n xs ≡ filter (λ x. x.block == n) xs
 own-block n [] all = refl
-own-block n (x ∷ xs) all =
-    ap (λ q. cond (q == n) (x ∷ of_process n xs) (of_process n xs)) (All-head IsOfBlock x xs all).process
-    ∙ ap (λ ys. cond (x.block == n) (x ∷ ys) ys) (own-block n xs (All-tail IsOfBlock x xs all))
+own-block n (x ∷ xs) all = let same = All-head IsOfBlock x xs all in rw (same.process, own-block n xs (All-tail IsOfBlock x xs all)) refl
 
 pub blocks_are_rounds : BlocksAreRounds
 blocks_are_rounds schedule all n =

@@ -1,41 +1,23 @@
 -- The fields of a record by their places, and a record whose fields are the first of the columns' names.
-use Rattle.std.proofs.Common.{◌≡◌, ℕ, zero, suc, ◌+◌, ◌≤◌, ◌<◌, List, [], ◌∷◌, length, map, drop, get_or, ap, sym, ◌∙◌, refl, arith, Option, Some, None, Bor}
+use Rattle.std.proofs.Common.{◌≡◌, ℕ, ◌+◌, ◌≤◌, List, [], ◌∷◌, length, length-drop, map, drop, ap, sym, ◌∙◌, refl, arith, Option, Some, None, Bor}
 use Rattle.std.specs.Prelude.{◌&&◌, bytes_eq, IfSome}
 use Rattle.std.specs.List.{list_all, starts_with, zip}
 use Rattle.std.specs.Option.{option_map}
 use Rattle.std.proofs.lemmas.Iterator.{YieldsList}
 use Rattle.std.proofs.lemmas.Iterator.Consumers.{YieldsList-from_shown}
+use Rattle.csv.proofs.RecordFacts.{field-get, field-none, field-there}
+use Rattle.std.proofs.lemmas.List.{drop_more, get_or_default}
 use Rattle.csv.specs.Records.{field_at, fields_of}
 use Rattle.csv.specs.declared.record.ByteRecordIter.{ByteRecordIter}
 use Rattle.nr_shifttable.specs.Fields.{stripped}
 use Rattle.nr_shifttable.specs.Records.{Record}
 
--- a field by its place
-pub field_at-some : (r : Record) (i : ℕ) → i < length r → field_at r i ≡ Some (get_or r i [])
-unfolding field_at
-field_at-some [] i within = absurd (omega (arith, within))
-field_at-some (f ∷ r) zero within = refl
-field_at-some (f ∷ r) (suc i) within = field_at-some r i (omega (arith, within))
-
-pub field_at-none : (r : Record) (i : ℕ) → length r ≤ i → field_at r i ≡ None
-unfolding field_at
-field_at-none [] i behind = refl
-field_at-none (f ∷ r) zero behind = absurd (omega (arith, behind))
-field_at-none (f ∷ r) (suc i) behind = field_at-none r i (omega (arith, behind))
-
 -- what is left of a record from a place on
 left-none : (r : Record) (i : ℕ) → None ≡ field_at r i → length (drop i r) ≡ 0
-unfolding field_at
-left-none [] zero none = refl
-left-none [] (suc i) none = refl
-left-none (f ∷ r) zero none = absurd (cc)
-left-none (f ∷ r) (suc i) none = left-none r i none
+left-none r i none = grind (arith, length-drop, field-there r i)
 
 left-some : (r : Record) (i : ℕ) (f : List ℕ) → Some f ≡ field_at r i → drop i r ≡ f ∷ drop (i + 1) r
-unfolding field_at
-left-some [] i f some = absurd (cc)
-left-some (g ∷ r) zero f some = cc
-left-some (g ∷ r) (suc i) f some = let next : suc i + 1 ≡ suc (i + 1) = omega arith in rw next (left-some r i f some)
+left-some r i f some = grind (arith, drop_more r i f, field-get r i f, field-none r i, get_or_default r i f [])
 
 -- the fields of a record, one after another
 abbrev pub next_field : ByteRecordIter → Option (Bor (List ℕ)) → ByteRecordIter → Type 0

@@ -1,6 +1,6 @@
--- What holds of each result that steps give, and which fault they never return.
-use Rattle.std.proofs.Common.{◌≡◌, ◌≢◌, inl, inr, Bool, true, false, cond, Option, Some, None, Result, Ok, Err, IfOk, refl, ap, subst}
-use Rattle.nr_refusal.specs.Refusal.{◌>>=◌, Gives, or_fault}
+-- What holds of each result that steps give, which fault they never return, and lists that grow step by step.
+use Rattle.std.proofs.Common.{◌≡◌, ◌≢◌, ℕ, inl, inr, Bool, true, false, cond, Option, Some, None, Result, Ok, Err, IfOk, List, [], ◌++◌, refl, ap, sym, ◌∙◌, subst, append_assoc}
+use Rattle.nr_refusal.specs.Refusal.{◌>>=◌, FailsAs, Gives, or_fault}
 
 -- a choice
 pub holds_if : {X E : Type 0} (P : X → Type 0) (b : Bool) (r s : Result X E) → (b ≡ true → IfOk r P) → (b ≡ false → IfOk s P) → IfOk (cond b r s) P
@@ -11,6 +11,11 @@ holds_if P false r s at_true at_false = at_false refl
 pub holds_then : {X Y E : Type 0} (P : Y → Type 0) (r : Result X E) (next : X → Result Y E) → ((x : X) → r ≡ Ok x → IfOk (next x) P) → IfOk (r >>= next) P
 holds_then P (Ok x) next later = later x refl
 holds_then P (Err e) next later = tt
+
+-- a step of which something holds, and the next one
+pub holds_with : {X Y E : Type 0} (P : Y → Type 0) (Q : X → Type 0) (r : Result X E) (next : X → Result Y E) → IfOk r Q → ((x : X) → Q x → IfOk (next x) P) → IfOk (r >>= next) P
+holds_with P Q (Ok x) next first later = later x first
+holds_with P Q (Err e) next first later = tt
 
 -- the value that is returned
 pub of_ok : {X E : Type 0} (P : X → Type 0) (r : Result X E) (x : X) → r ≡ Ok x → IfOk r P → P x
@@ -34,8 +39,20 @@ pub never_or : {X E : Type 0} (told e : E) (o : Option X) → e ≢ told → or_
 never_or told e None other = λ is. other (cc)
 never_or told e (Some x) other = λ is. cc
 
--- a call that gives what is said never returns this fault
-pub never_given : {X Y E : Type 0} (told memory : E) (view : X → Y) (r : Result X E) (said : Result Y E) → memory ≢ told → said ≢ Err told → Gives memory view r said → r ≢ Err told
-never_given told memory view (Ok x) said other none given = λ is. cc
-never_given told memory view (Err e) said other none (inl wanted) = λ is. let same : e ≡ told = cc in other (cc)
-never_given told memory view (Err e) said other none (inr known) = λ is. let same : e ≡ told = cc in none (cc)
+-- a call that gives what is said, where that is never the fault that tells of a failure
+pub fails_as-said : {X Y E : Type 0} (told memory : E) (view : X → Y) (r : Result X E) (said : Result Y E) (before after : ℕ) → memory ≢ told → said ≢ Err told → Gives memory view r said → after ≡ before → FailsAs told r before after
+fails_as-said told memory view (Ok x) said before after other none given same = same
+fails_as-said told memory view (Err e) said before after other none (inl wanted) same = inr (λ is. other (sym wanted ∙ is), same)
+fails_as-said told memory view (Err e) said before after other none (inr known) same = inr (λ is. none (known ∙ ap Err is), same)
+
+-- items before those of a result
+abbrev pub with_front : {X E : Type 0} → List X → Result (List X) E → Result (List X) E
+with_front front said = said >>= λ more. Ok (front ++ more)
+
+pub with_front-none : {X E : Type 0} (said : Result (List X) E) → with_front [] said ≡ said
+with_front-none (Ok more) = refl
+with_front-none (Err e) = refl
+
+pub with_front-more : {X E : Type 0} (front items : List X) (said : Result (List X) E) → with_front front (said >>= λ more. Ok (items ++ more)) ≡ with_front (front ++ items) said
+with_front-more front items (Ok more) = ap Ok (sym (append_assoc front items more))
+with_front-more front items (Err e) = refl

@@ -1,6 +1,5 @@
 -- The block of the round that each process is in, kept in sixteen places.
-use Rattle.std.proofs.Common.{◌≡◌, ℕ, ◌<◌, Bool, true, false, cond, Option, Some, None, List, [], ◌∷◌, ◌++◌, length, replicate, get_or, set, ap, sym, refl, ◌∙◌, arith}
-use Rattle.std.specs.Prelude.{◌==◌, ◌&&◌}
+use Rattle.std.proofs.Common.{◌≡◌, ℕ, ◌<◌, true, false, Option, Some, None, List, [], ◌∷◌, ◌++◌, length, replicate, get_or, set, arith}
 use Rattle.std.proofs.lemmas.Bool.Decides.{nat_tests}
 use Rattle.std.proofs.lemmas.Grind.{get_or-set_at}
 use Rattle.std.proofs.lemmas.List.{get_or-replicate, get_or-set_other}
@@ -20,24 +19,8 @@ blocks-none p low = get_or-replicate 16 p None None low
 
 -- after a fresh transmission
 pub blocks-begun : (blocks : List (Option ℕ)) (before : List Transmission) (x : Transmission) → length blocks ≡ 16 → AreBlocks blocks before → x.fresh ≡ true → x.process < 16 → AreBlocks (set blocks x.process (Some x.block)) (before ++ x ∷ [])
-blocks-begun blocks before x long are fresh low p p_low = go (x.process == p) refl ∙ sym (fresh_block-more p before x)
-  where
-    go : (b : Bool) → (x.process == p) ≡ b → get_or (set blocks x.process (Some x.block)) p None ≡ cond ((x.process == p) && x.fresh) (Some x.block) (fresh_block (round_of p before))
-    go true own =
-        let same : p ≡ x.process = grind (arith, nat_tests) in
-        get_or-set_at blocks x.process p (Some x.block) None same (omega (arith, long))
-        ∙ sym (ap (λ a. cond (a && x.fresh) (Some x.block) (fresh_block (round_of p before))) own ∙ ap (λ a. cond a (Some x.block) (fresh_block (round_of p before))) fresh)
-    go false other =
-        get_or-set_other blocks x.process p (Some x.block) None (λ same. absurd (grind (arith, nat_tests)))
-        ∙ are p p_low
-        ∙ sym (ap (λ a. cond (a && x.fresh) (Some x.block) (fresh_block (round_of p before))) other)
+blocks-begun blocks before x long are fresh low p p_low = grind (arith, nat_tests, fresh_block-more, get_or-set_at, get_or-set_other)
 
 -- after one that is not, or is of another process
 pub blocks-stay : (blocks : List (Option ℕ)) (before : List Transmission) (x : Transmission) → AreBlocks blocks before → (x.process < 16 → x.fresh ≡ false) → AreBlocks blocks (before ++ x ∷ [])
-blocks-stay blocks before x are stale p p_low = are p p_low ∙ go (x.process == p) refl ∙ sym (fresh_block-more p before x)
-  where
-    go : (b : Bool) → (x.process == p) ≡ b → fresh_block (round_of p before) ≡ cond ((x.process == p) && x.fresh) (Some x.block) (fresh_block (round_of p before))
-    go true own =
-        let same : p ≡ x.process = grind (arith, nat_tests) in
-        sym (ap (λ a. cond (a && x.fresh) (Some x.block) (fresh_block (round_of p before))) own ∙ ap (λ a. cond a (Some x.block) (fresh_block (round_of p before))) (stale (omega arith)))
-    go false other = sym (ap (λ a. cond (a && x.fresh) (Some x.block) (fresh_block (round_of p before))) other)
+blocks-stay blocks before x are stale p p_low = grind (arith, nat_tests, fresh_block-more)

@@ -1,5 +1,6 @@
 -- Where the round of a process begins, one transmission after the other.
-use Rattle.std.proofs.Common.{◌≡◌, ℕ, ◌+◌, ◌<◌, ◌≤◌, Bool, true, false, cond, Some, List, [], ◌∷◌, ◌++◌, length, take, drop, get_or, slice_get, ap, sym, refl, ◌∙◌, arith}
+use Rattle.std.proofs.lemmas.Bool.Decides.{nat_tests}
+use Rattle.std.proofs.Common.{◌≡◌, ℕ, ◌+◌, ◌<◌, ◌≤◌, Bool, true, false, cond, Some, List, [], ◌∷◌, ◌++◌, length, take, drop, get_or, slice_get, ap, sym, ◌∙◌, arith}
 use Rattle.std.specs.Option.{option_map}
 use Rattle.std.specs.Prelude.{◌==◌, ◌&&◌}
 use Rattle.std.proofs.lemmas.List.{drop-append-le, drop_at, drop_more, length-take-le, take-append-drop, take_more}
@@ -10,35 +11,14 @@ use Rattle.nr_files.proofs.RoundFacts.{of_process-more, round-more}
 
 -- one transmission more
 start-more : (p : ℕ) (before : List Transmission) (x : Transmission) (start next : ℕ) → start ≤ length before → next ≡ cond ((x.process == p) && x.fresh) (length before) start → of_process p (drop start before) ≡ round_of p before → of_process p (drop next (before ++ x ∷ [])) ≡ round_of p (before ++ x ∷ [])
-start-more p before x start next low is so_far = go (x.process == p) x.fresh refl refl is ∙ sym (round-more p before x)
-  where
-    longer : (b : Bool) → (x.process == p) ≡ b → of_process p (drop start (before ++ x ∷ [])) ≡ cond b (round_of p before ++ x ∷ []) (round_of p before)
-    longer b own =
-        ap (of_process p) (drop-append-le start before (x ∷ []) low)
-        ∙ of_process-more p (drop start before) x
-        ∙ ap (λ t. cond t (of_process p (drop start before) ++ x ∷ []) (of_process p (drop start before))) own
-        ∙ ap (λ ys. cond b (ys ++ x ∷ []) ys) so_far
-
-    alone : (x.process == p) ≡ true → of_process p (drop (length before) (before ++ x ∷ [])) ≡ x ∷ []
-    alone own =
-        ap (of_process p) (drop_at before (x ∷ []) (length before) refl)
-        ∙ ap (λ t. cond t (x ∷ []) []) own
-
-    go : (a b : Bool) → (x.process == p) ≡ a → x.fresh ≡ b → next ≡ cond (a && b) (length before) start → of_process p (drop next (before ++ x ∷ [])) ≡ cond a (cond b (x ∷ []) (round_of p before ++ x ∷ [])) (round_of p before)
-    go true true own fresh at = ap (λ n. of_process p (drop n (before ++ x ∷ []))) at ∙ alone own
-    go true false own fresh at = ap (λ n. of_process p (drop n (before ++ x ∷ []))) at ∙ longer true own
-    go false b own fresh at = ap (λ n. of_process p (drop n (before ++ x ∷ []))) at ∙ longer false own
+start-more p before x start next low is so_far = grind (arith, nat_tests, round-more, drop-append-le, of_process-more, drop_at)
 
 -- after the transmission at index i
 pub start-turn : (p : ℕ) (xs : List Transmission) (i : ℕ) (x : Transmission) (start next : ℕ) → i < length xs → x ≡ get_or xs i x → start ≤ i → next ≡ cond ((x.process == p) && x.fresh) i start → of_process p (drop start (take i xs)) ≡ round_of p (take i xs)
     → of_process p (drop next (take (i + 1) xs)) ≡ round_of p (take (i + 1) xs)
-start-turn p xs i x start next within is low at so_far =
-    let long : length (take i xs) ≡ i = length-take-le i xs (omega (arith, within)) in
-    let more : take (i + 1) xs ≡ take i xs ++ x ∷ [] = take_more xs i x within ∙ ap (λ y. take i xs ++ y ∷ []) (sym is) in
-    let inside : start ≤ length (take i xs) = omega (arith, low, long) in
-    ap (λ ys. of_process p (drop next ys)) more
-    ∙ start-more p (take i xs) x start next inside (at ∙ ap (λ n. cond ((x.process == p) && x.fresh) n start) (sym long)) so_far
-    ∙ ap (round_of p) (sym more)
+start-turn p xs i x start next within is low there so_far =
+    let long : length (take i xs) ≡ i = length-take-le i xs (omega arith) in
+    rw (take_more xs i x within, sym is) (start-more p (take i xs) x start next (omega arith) (rw long there) so_far)
 
 -- it is no further than the transmissions so far
 pub start-within : (b : Bool) (i start next n : ℕ) → next ≡ cond b i start → i ≤ n → start ≤ n → next ≤ n
@@ -47,11 +27,7 @@ start-within false i start next n at here low = omega (arith, at, low)
 
 -- a transmission more that is not of the process
 pub none-turn : (p : ℕ) (xs : List Transmission) (i : ℕ) (x : Transmission) → i < length xs → x ≡ get_or xs i x → (x.process == p) ≡ false → of_process p (take i xs) ≡ [] → of_process p (take (i + 1) xs) ≡ []
-none-turn p xs i x within is other none =
-    ap (of_process p) (take_more xs i x within ∙ ap (λ y. take i xs ++ y ∷ []) (sym is))
-    ∙ of_process-more p (take i xs) x
-    ∙ ap (λ b. cond b (of_process p (take i xs) ++ x ∷ []) (of_process p (take i xs))) other
-    ∙ none
+none-turn p xs i x within is other none = rw (take_more xs i x within, sym is, of_process-more p (take i xs) x, other) none
 
 -- the first that is
 pub first-turn : (p : ℕ) (xs : List Transmission) (i : ℕ) (x : Transmission) → i < length xs → x ≡ get_or xs i x → (x.process == p) ≡ true → of_process p (take i xs) ≡ [] → Some x.block ≡ option_map (λ y. y.block) (slice_get (of_process p xs) 0)

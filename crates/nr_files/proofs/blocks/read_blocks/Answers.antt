@@ -1,15 +1,10 @@
-use Rattle.std.proofs.Common.{◌≡◌, inl, inr}
-use Rattle.std.proofs.lemmas.Option.{IfSome_then}
-use Rattle.nr_files.proofs.BlockLineFacts.{blocks_of-too_long}
-use Rattle.nr_files.proofs.ReadFailureFacts.{fails_as-not}
-use Rattle.nr_files.proofs.BlocksReadFacts.{given-unread}
+use Rattle.std.proofs.Common.{arith}
+use Rattle.nr_files.proofs.BlockLineFacts.{blocks_said-too_long, blocks_said-unread}
+use Rattle.nr_files.proofs.RefusalFacts.{fails_as-said}
 use Rattle.nr_files.proofs.blocks.read_blocks.Goals as goal
 
 pub returns-in-Err-TooLong-clause-said : goal.returns-in-Err-TooLong-clause-said
-returns-in-Err-TooLong-clause-said g c =
-    λ same. IfSome_then _ (c.in-Err-TooLong.ensures.too_long (cc)) (λ octets long. inr (blocks_of-too_long octets long))
+returns-in-Err-TooLong-clause-said g c = grind (arith, blocks_said-too_long)
 
 pub returns-clause-pulled : goal.returns-clause-pulled
-returns-clause-pulled g c =
-    let same : g.B.Source.failures c.read_to_end.new.source ≡ g.B.Source.failures c.args.source.now = elim c.in-Ok.ensures.failures [ inl same ↦ same | inr broken ↦ cc ] in
-    fails_as-not _ c.parse_blocks.result _ _ (given-unread _ c.parse_blocks.result _ c.parse_blocks.ensures.said) same
+returns-clause-pulled g c = grind (arith, fails_as-said, blocks_said-unread)

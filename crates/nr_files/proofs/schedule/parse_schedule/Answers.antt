@@ -1,33 +1,30 @@
 -- What is so of the transmissions that a schedule says is so of those that are returned.
-use Rattle.std.proofs.Common.{arith}
-use Rattle.std.proofs.lemmas.Result.{IfOk-weaker}
-use Rattle.nr_files.specs.Schedule.{Timetable, timetable_by}
-use Rattle.nr_files.proofs.RefusalFacts.{holds_given}
-use Rattle.nr_files.proofs.ScheduleProcessFacts.{AreOfProcesses, schedule_said-processes}
-use Rattle.nr_files.proofs.ScheduleRecordFacts.{AreRecords, schedule_said-records}
+use Rattle.std.proofs.Common.{ℕ, Result, Ok, Err, IfOk, List, [], subst, arith}
+use Rattle.nr_refusal.specs.Refusal.{Gives}
+use Rattle.nr_files.specs.Schedule.{Timetable, schedule_said, timetable_by}
+use Rattle.nr_files.specs.declared.schedule.Schedule.{Schedule}
+use Rattle.nr_files.specs.declared.schedule.ScheduleFault.{ScheduleFault}
+use Rattle.nr_files.specs.declared.schedule.ScheduleFault.TheVariants as fault
+use Rattle.nr_files.proofs.ScheduleTransmissionFacts.{AreSaid, schedule_said-holds}
 use Rattle.nr_files.proofs.schedule.parse_schedule.Goals as goal
 
+holds : (blocks : ℕ) (text : List ℕ) (r : Result Schedule ScheduleFault) (P : Schedule → Type 0) → Gives fault.Memory timetable_by r (schedule_said blocks text)
+    → ((s : Schedule) → AreSaid blocks s.by_process 2 [] s.transmissions.items → P s) → IfOk r P
+holds blocks text (Ok s) P given are =
+    are s (subst (λ r. IfOk r (λ (said : Timetable). AreSaid blocks said.by_process 2 [] said.transmissions)) given (schedule_said-holds blocks text))
+holds blocks text (Err e) P given are = tt
+
 pub returns-clause-few : goal.returns-clause-few
-returns-clause-few c =
-    IfOk-weaker c.judged.result _ _ (λ s are. omega (arith, are.few))
-    (holds_given (λ (said : Timetable). AreRecords c.args.blocks 2 said.transmissions) _ timetable_by c.judged.result _ c.judged.ensures (schedule_said-records c.args.blocks c.args.text.now))
+returns-clause-few c = holds c.args.blocks c.args.text.now c.judged.result _ c.judged.ensures (λ s are. omega (arith, are.few))
 
 pub returns-clause-blocks : goal.returns-clause-blocks
-returns-clause-blocks c =
-    IfOk-weaker c.judged.result _ _ (λ s are. are.blocks)
-    (holds_given (λ (said : Timetable). AreRecords c.args.blocks 2 said.transmissions) _ timetable_by c.judged.result _ c.judged.ensures (schedule_said-records c.args.blocks c.args.text.now))
+returns-clause-blocks c = holds c.args.blocks c.args.text.now c.judged.result _ c.judged.ensures (λ s are. are.blocks_are)
 
 pub returns-clause-numbers : goal.returns-clause-numbers
-returns-clause-numbers c =
-    IfOk-weaker c.judged.result _ _ (λ s are. are.numbers)
-    (holds_given (λ (said : Timetable). AreRecords c.args.blocks 2 said.transmissions) _ timetable_by c.judged.result _ c.judged.ensures (schedule_said-records c.args.blocks c.args.text.now))
+returns-clause-numbers c = holds c.args.blocks c.args.text.now c.judged.result _ c.judged.ensures (λ s are. are.numbers)
 
 pub returns-clause-placed : goal.returns-clause-placed
-returns-clause-placed c =
-    IfOk-weaker c.judged.result _ _ (λ s are. are.placed)
-    (holds_given AreOfProcesses _ timetable_by c.judged.result _ c.judged.ensures (schedule_said-processes c.args.blocks c.args.text.now))
+returns-clause-placed c = holds c.args.blocks c.args.text.now c.judged.result _ c.judged.ensures (λ s are. are.placed)
 
 pub returns-clause-rounds : goal.returns-clause-rounds
-returns-clause-rounds c =
-    IfOk-weaker c.judged.result _ _ (λ s are. are.goes_on)
-    (holds_given AreOfProcesses _ timetable_by c.judged.result _ c.judged.ensures (schedule_said-processes c.args.blocks c.args.text.now))
+returns-clause-rounds c = holds c.args.blocks c.args.text.now c.judged.result _ c.judged.ensures (λ s are. are.goes_on)

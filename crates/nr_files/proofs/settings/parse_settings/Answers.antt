@@ -1,4 +1,4 @@
-use Rattle.std.proofs.Common.{inr, ◌∙◌, sym, arith}
+use Rattle.std.proofs.Common.{inr, arith}
 use Rattle.nr_files.proofs.SettingsFacts.{gives-same, said-no_table, said-table, said-too_long}
 use Rattle.nr_files.proofs.settings.parse_settings.Goals as goal
 
@@ -6,9 +6,7 @@ pub returns-then-text-gt-MOST_OCTETS : goal.returns-then-text-gt-MOST_OCTETS
 returns-then-text-gt-MOST_OCTETS c = inr (said-too_long c.args.text.now c.if-text-gt-MOST_OCTETS.true)
 
 pub returns-in-Ok : goal.returns-in-Ok
-returns-in-Ok c =
-    let found = c.in-Ok.ensures.ok in
-    gives-same _ c.settings_of.result _ (said-table c.args.text.now _ (λ long. omega (arith, long)) found.0 found.1 ∙ sym c.settings_of.ensures)
+returns-in-Ok c = grind (arith, gives-same, said-table)
 
 pub returns-in-Err-2 : goal.returns-in-Err-2
 returns-in-Err-2 c = inr (said-no_table c.args.text.now (λ long. omega (arith, long)) (c.in-Err.ensures.refused (λ memory. cc (c.is_memory.ensures.1 memory))))

@@ -1,14 +1,10 @@
-use Rattle.std.proofs.Common.{◌≡◌, inl, inr}
-use Rattle.std.proofs.lemmas.Option.{IfSome_then}
-use Rattle.nr_files.proofs.ReadFailureFacts.{fails_as-not}
-use Rattle.nr_files.proofs.SettingsFacts.{given-unread, said-too_long}
+use Rattle.std.proofs.Common.{arith}
+use Rattle.nr_files.proofs.RefusalFacts.{fails_as-said}
+use Rattle.nr_files.proofs.SettingsFacts.{said-too_long, settings_said-unread}
 use Rattle.nr_files.proofs.settings.read_settings.Goals as goal
 
 pub returns-in-Err-TooLong-clause-said : goal.returns-in-Err-TooLong-clause-said
-returns-in-Err-TooLong-clause-said g c =
-    λ same. IfSome_then _ (c.in-Err-TooLong.ensures.too_long (cc)) (λ octets long. inr (said-too_long octets long))
+returns-in-Err-TooLong-clause-said g c = grind (arith, said-too_long)
 
 pub returns-clause-pulled : goal.returns-clause-pulled
-returns-clause-pulled g c =
-    let same : g.S.Source.failures c.read_to_end.new.source ≡ g.S.Source.failures c.args.source.now = elim c.in-Ok.ensures.failures [ inl same ↦ same | inr broken ↦ cc ] in
-    fails_as-not _ c.parse_settings.result _ _ (given-unread _ c.parse_settings.result _ c.parse_settings.ensures) same
+returns-clause-pulled g c = grind (arith, fails_as-said, settings_said-unread)

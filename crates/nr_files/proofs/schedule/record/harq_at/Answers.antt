@@ -1,7 +1,7 @@
 use Rattle.std.proofs.Common.{Err, Ok, sym}
 use Rattle.std.proofs.lemmas.Result.{err_from_is_err_and}
 use Rattle.csv.specs.Records.{fields_of}
-use Rattle.nr_files.proofs.ScheduleProcessFacts.{harq_at-said}
+use Rattle.nr_files.proofs.ScheduleTransmissionFacts.{harq_at-said}
 use Rattle.nr_files.proofs.schedule.record.harq_at.Goals as goal
 
 pub returns-in_err-fresh : goal.returns-in_err-fresh
