@@ -1,4 +1,5 @@
 -- The word of K bits, and what refuses them.
+use Rattle.std.proofs.lemmas.Bool.Decides.{nat_tests}
 use Rattle.std.proofs.Common.{◌≡◌, ◌≢◌, ℕ, ◌-◌, ◌*◌, ◌<◌, ◌≤◌, ◌==◌, Bool, true, false, Option, Some, unwrap_or, Ok, Err, List, length, map, take, get_or, refl, sym, ap, ◌∙◌, arith, eq-eqb}
 use Rattle.std.proofs.lemmas.Bool.{ne_eqb}
 use Rattle.std.proofs.lemmas.List.{ext_get_or, get_or-map, get_or-take, length-map, length-take-le}
@@ -32,8 +33,7 @@ info_most Two z k is = omega arith
 -- the word of a plan is that of its base graph and Zc
 pub word-for : (t : Entries) (g : Graph) (p : Numbers) (info : List Bool) → set_index p.z ≡ Some p.set → completed t g p info ≡ word_for t g p.z info
 unfolding completed word_for
-word-for t g p info is =
-    ap (λ s. word_of (entries_in g t) s (info_cols_of g) (rows_of g) p.z info) (sym (ap (λ (o : Option ℕ). unwrap_or o 0) is))
+word-for t g p info is = grind (arith, unwrap_or)
 
 -- a word that begins with the bits of K octets
 pub begins : (word : List Bool) (octets : List ℕ) (k : ℕ) → length octets ≡ k → k ≤ length word
@@ -59,8 +59,4 @@ pub room_refused : (t : Entries) (number z : ℕ) (octets : List ℕ) (room : �
     → can_lift g z ≡ true → length octets ≡ k → k ≡ info_cols_of g * z → list_all is_coded octets ≡ true → n ≢ room → n ≡ (cols_of g - 2) * z
     → encode_judged t number z octets room ≡ Err fault.Room
 unfolding encode_judged
-room_refused t number z octets room g k n picked there lift long is-k coded other is-n =
-    let differs : (cols_of g - 2) * z ≢ room = λ same. other (is-n ∙ same) in
-    room-steps (base_graph number) g (λ x. has_graph x t) (λ x. can_lift x z) (λ x. length octets == info_cols_of x * z) (list_all is_coded octets)
-    (λ x. (cols_of x - 2) * z == room) picked there lift (eq-eqb (length octets) (info_cols_of g * z) (long ∙ is-k)) coded
-    (ne_eqb ((cols_of g - 2) * z) room differs)
+room_refused t number z octets room g k n picked there lift long is-k coded other is-n = grind (arith, nat_tests, room-steps, eq-eqb, ne_eqb)

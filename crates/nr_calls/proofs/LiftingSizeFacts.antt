@@ -1,4 +1,6 @@
 -- Which lifting sizes the code blocks of a base graph have.
+use Rattle.std.proofs.lemmas.Bool.Decides.{nat_tests}
+use Rattle.std.proofs.Common.{arith}
 use Rattle.std.proofs.Common.{◌≡◌, ℕ, ◌*◌, ◌==◌, ◌&&◌, ◌||◌, not, nat_le, nat_eq, Bool, true, false, Result, Ok, Err, List, [], ◌∷◌, refl, sym, ap, ◌∙◌, ◌≢◌}
 use Rattle.std.proofs.lemmas.Bool.{true≢false, eqb-true}
 use Rattle.std.specs.List.{list_all}
@@ -22,13 +24,7 @@ lifts g z = not (nat_le 24 (info_columns g 24 * z)) || has_size z (plan_of g (he
 -- what holds of each number of a list holds of one that is in it
 all_listed : (test : ℕ → Bool) (xs : List ℕ) (z : ℕ) → list_all test xs ≡ true → is_in z xs ≡ true → test z ≡ true
 all_listed test [] z all listed = absurd (true≢false (sym listed))
-all_listed test (x ∷ xs) z all listed = go (test x) (nat_eq x z) refl refl all listed (all_listed test xs z)
-  where
-    go : (a b : Bool) → test x ≡ a → nat_eq x z ≡ b → (a && list_all test xs) ≡ true → (b || is_in z xs) ≡ true
-        → (list_all test xs ≡ true → is_in z xs ≡ true → test z ≡ true) → test z ≡ true
-    go true true is same all listed later = sym (ap test (eqb-true x z same)) ∙ is
-    go true false is other all listed later = later all listed
-    go false b is same all listed later = absurd (true≢false (sym all))
+all_listed test (x ∷ xs) z all listed = grind (arith, nat_tests, nat_eq, all_listed test xs z, eqb-true)
 
 all_lift : (g : Graph) → list_all (lifts g) sizes ≡ true
 unfolding plan_of numbers_of lifting_size least_size set_index

@@ -1,4 +1,5 @@
 -- How many octets a transport block has.
+use Rattle.std.proofs.lemmas.Bool.Decides.{nat_tests}
 use Rattle.std.proofs.Common.{◌≡◌, ℕ, ◌*◌, ◌%◌, ◌<◌, ◌&&◌, ◌==◌, nat_le, Bool, true, false, Result, Err, refl, arith}
 use Rattle.std.proofs.lemmas.Bool.{lt-leb}
 use Rattle.nr_refusal.specs.Refusal.{◌>>=◌}
@@ -20,6 +21,4 @@ refused true next is = cc
 -- a transport block of more octets is too large
 pub too_long : (rate2048 n : ℕ) → 163840 < n → planned_said rate2048 (8 * n) ≡ Err (fault.Desk desk.Size)
 unfolding planned_said
-too_long rate2048 n long =
-    let above : 1310720 < 8 * n = omega arith in
-    refused (is_size (8 * n)) _ (last-false ((8 * n) % 8 == 0) (nat_le 8 (8 * n)) (nat_le (8 * n) 1310720) (lt-leb (8 * n) 1310720 above))
+too_long rate2048 n long = grind (arith, nat_tests, refused, last-false, lt-leb)

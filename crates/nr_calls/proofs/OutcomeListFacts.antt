@@ -48,12 +48,7 @@ answered (Err e) w v is = cc
 pub outcomes_after : (link : Link) (list : List Reception) (x : Reception) (v : Verdict) (old new : List ℕ)
     → one_more_said link list x ≡ Ok v → old ≡ outcomes_of link list → new ≡ old ++ outcome_number v ∷ []
     → new ≡ outcomes_of link (list ++ x ∷ [])
-outcomes_after link list x v old new said before pushed =
-    let is : outcome_of link (list ++ x ∷ []) ≡ v = answered (reception_said link x) (outcome_of link (list ++ x ∷ [])) v said in
-    pushed
-    ∙ ap (λ l. l ++ outcome_number v ∷ []) before
-    ∙ ap (λ w. outcomes_of link list ++ outcome_number w ∷ []) (sym is)
-    ∙ sym (outcomes_more link list x)
+outcomes_after link list x v old new said before pushed = grind (arith, answered, outcomes_more)
 
 -- one more code block adds what is left of it
 pub lefts_more : (link : Link) (records : List HeardBits) (r n : ℕ) (old new : List ℕ) → old ≡ map (left link records) (range_with_len 0 r)

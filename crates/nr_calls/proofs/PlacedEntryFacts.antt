@@ -1,4 +1,5 @@
 -- Entries of a caller and the items that they are: which ones are placed, and which table they are.
+use Rattle.std.proofs.lemmas.Bool.Decides.{nat_tests}
 use Rattle.std.proofs.Common.{◌≡◌, ◌≢◌, ◌⊎◌, inl, inr, refl, sym, ap, ◌∙◌, ℕ, ◌+◌, ◌≤◌, set, below_more, get_or-set_other, get_or-set_same, nat_lt, Bool, true, false, not, if◌then◌else◌, Some, None, Result, Ok, Err, List, [], ◌∷◌, length, map, length-append, is_ok, get_or, ◌<◌, arith}
 use Rattle.std.specs.Prelude.{IfErr, IsErrOf, slice_get}
 use Rattle.std.proofs.lemmas.List.{length-map, get_or-map}
@@ -31,8 +32,7 @@ step-fault true false n rest e behind is = behind is
 places-fault : (n past : ℕ) (es : List KeptEntry) (f : EntriesFault) → places_from n past es ≡ Err f → fault_of f ≡ fault.Entries
 unfolding places_from
 places-fault n past [] f is = cc
-places-fault n past (e ∷ es) f is =
-    step-fault (is_placed e) (nat_lt (item_key (item_kept e)) past) n (places_from (n + 1) (item_key (item_kept e) + 1) es) f (places-fault (n + 1) (item_key (item_kept e) + 1) es f) is
+places-fault n past (e ∷ es) f is = grind (arith, nat_tests, step-fault, places-fault (n + 1) (item_key (item_kept e) + 1) es f)
 
 -- how many items a table lists
 pub listed-length : (t : Entries) → length (items_listed t) ≡ length t.one + length t.two
@@ -57,13 +57,7 @@ pub written-more : (xs : List Item) (old new : List KeptEntry) (n : ℕ) (x : It
     → slice_get xs n ≡ Some x → e ≡ kept_of x → new ≡ set old n e
     → ((k : ℕ) → k < n → get_or old k no_entry ≡ get_or (map kept_of xs) k no_entry)
     → (k : ℕ) → k < n + 1 → get_or new k no_entry ≡ get_or (map kept_of xs) k no_entry
-written-more xs old new n x e within long is made put so_far =
-    below_more _ _
-    (λ k lt.
-    let other : k ≢ n = omega arith in
-    ap (λ l. get_or l k no_entry) put ∙ get_or-set_other old n k e no_entry other ∙ so_far k lt)
-    (let inside : n < length xs = omega arith in
-    ap (λ l. get_or l n no_entry) put ∙ get_or-set_same old n e no_entry within ∙ made ∙ sym (entry-at xs n x no_entry inside is))
+written-more xs old new n x e within long is made put so_far = grind (arith, below_more, get_or-set_other, get_or-set_same, entry-at)
 
 -- what is said of entries, as the fault of a call
 pub answered : (es : List KeptEntry) (said : Result Entries EntriesFault) → entries_said es ≡ said → table_by es ≡ with_fault fault_of said
@@ -86,9 +80,4 @@ misplaced T es e wrong is = told T (places_said es) e (places-fault 1 0 es) wron
 
 -- a table lists few items
 pub listed-few : (t : Entries) → IsTable t → length (items_listed t) ≤ 6256
-listed-few t table =
-    let one : length t.one ≤ 3128 = entries-few t.one table.one (λ k d lt. (table.one_in_range k d lt).row) in
-    let two : length t.two ≤ 3128 =
-    entries-few t.two table.two (λ k d lt. let short : (get_or t.two k d).row < 42 = (table.two_in_range k d lt).row in omega arith) in
-    let both : length (items_listed t) ≡ length t.one + length t.two = listed-length t in
-    omega arith
+listed-few t table = grind (arith, entries-few, listed-length)

@@ -1,4 +1,5 @@
 -- What was received so far of a list of transmissions, and what is said of all of them.
+use Rattle.std.proofs.lemmas.Bool.Decides.{nat_tests}
 use Rattle.std.proofs.Common.{◌≡◌, ◌≢◌, ◌⊎◌, inl, inr, refl, sym, ap, subst, ◌∙◌, ℕ, ◌+◌, ◌<◌, ◌≤◌, nat_le, Bool, true, false, Result, Ok, Err, List, [], ◌∷◌, ◌++◌, length, drop, take, arith, length-append}
 use Rattle.std.proofs.lemmas.Bool.{le-leb, lt-leb}
 use Rattle.std.proofs.lemmas.List.FromFn.{length-map-range_with_len}
@@ -72,18 +73,7 @@ more-heard : (link : Link) (records later : List HeardBits) (outcomes more : Lis
     → more ≡ outcomes_of link (list ++ arrival t octets ∷ []))
     → HasHeard link later more next n said ts (drop t.g octets)
 unfolding heard_said
-more-heard link records later outcomes more last next n said t ts octets h fits recorded told-next outcomes-more = record {
-  list = h.list ++ arrival t octets ∷ [];
-  recorded = recorded h.list h.recorded;
-  outcomes_are = outcomes-more h.list h.recorded h.outcomes_are;
-  last_is = told (reception_said link (arrival t octets)) _ next (told-next h.list h.recorded);
-  many =
-      let longer = length-append h.list (arrival t octets ∷ []) in
-      let before = h.many in
-      omega (arith, longer, before);
-  said_is = h.said_is
-      ∙ step-ok (nat_le t.g (length octets)) (reception_said link (arrival t octets)) next _ _ (le-leb t.g (length octets) fits) (told-next h.list h.recorded);
-}
+more-heard link records later outcomes more last next n said t ts octets h fits recorded told-next outcomes-more = grind (arith, nat_tests, told, length-append, step-ok, le-leb)
 
 -- what a call says of all, with one transmission more received
 pub heard-more : (new link : Link) (records later : List HeardBits) (outcomes more : List ℕ) (last next : Verdict) (n : ℕ) (said : Result Findings Fault)
@@ -108,22 +98,15 @@ pub heard-err : (link : Link) (records : List HeardBits) (outcomes : List ℕ) (
     → ((e ≡ fault.Memory) ⊎ (with_fault {X = List ℕ} fault.Desk (reception_said link x) ≡ Err e)) → r ≡ Err e
     → all ≡ t ∷ ts → x ≡ arrival t octets → Gives fault.Memory findings_of r said
 unfolding heard_said
-heard-err link records outcomes last n said all t ts octets x e r h fits (inl memory) answer is arrives =
-    subst (λ (y : Result Found Fault). Gives fault.Memory findings_of y said) (sym answer) (inl memory)
-heard-err link records outcomes last n said all t ts octets x e r h fits (inr refused) answer is arrives =
-    let begun = split link records outcomes last n said all t ts octets h is in
-    subst (λ (y : Result Found Fault). Gives fault.Memory findings_of y said) (sym answer)
-    (inr (begun.said_is ∙ step-err (nat_le t.g (length octets)) (reception_said link (arrival t octets)) e _ (le-leb t.g (length octets) fits)
-    (ap (λ (y : Reception). with_fault {X = List ℕ} fault.Desk (reception_said link y)) (sym arrives) ∙ refused)))
+heard-err link records outcomes last n said all t ts octets x e r h fits (inl memory) answer is arrives = grind arith
+heard-err link records outcomes last n said all t ts octets x e r h fits (inr refused) answer is arrives = grind (arith, nat_tests, split, step-err, le-leb)
 
 -- the next one lacks places
 pub heard-short : (link : Link) (records : List HeardBits) (outcomes : List ℕ) (last : Verdict) (n : ℕ) (said : Result Findings Fault)
     (all : List NrTx) (t : NrTx) (ts : List NrTx) (octets : List ℕ) → HasHeard link records outcomes last n said all octets → length octets < t.g
     → all ≡ t ∷ ts → said ≡ Err (fault.Desk desk.Length)
 unfolding heard_said
-heard-short link records outcomes last n said all t ts octets h short is =
-    let begun = split link records outcomes last n said all t ts octets h is in
-    begun.said_is ∙ step-short (nat_le t.g (length octets)) _ (lt-leb t.g (length octets) short)
+heard-short link records outcomes last n said all t ts octets h short is = grind (arith, nat_tests, split, step-short, lt-leb)
 
 -- places are left over
 pub heard-over : (link : Link) (records : List HeardBits) (outcomes : List ℕ) (last : Verdict) (n : ℕ) (said : Result Findings Fault)
@@ -139,23 +122,14 @@ pub heard-all : (link : Link) (records : List HeardBits) (outcomes left : List �
     (ts : List NrTx) (octets : List ℕ) → HasHeard link records outcomes last n said ts octets → length ts ≡ 0 → length octets ≡ 0
     → left ≡ lefts link records → said ≡ Ok (record { outcomes = outcomes; left = left; last = last })
 unfolding heard_said
-heard-all link records outcomes left last n said [] [] h none whole is =
-    let same = h.recorded.same in
-    let outcomes-are = h.outcomes_are in
-    let last-is = h.last_is in
-    let left-is : left ≡ lefts link (heard_record link h.list) = is ∙ ap (lefts link) same in
-    h.said_is ∙ cc
+heard-all link records outcomes left last n said [] [] h none whole is = grind arith
 heard-all link records outcomes left last n said [] (o ∷ octets) h none whole is = absurd (omega (arith, whole))
 heard-all link records outcomes left last n said (t ∷ ts) octets h none whole is = absurd (omega (arith, none))
 
 -- an outcome for each transmission
 pub heard-many : (link : Link) (records : List HeardBits) (outcomes : List ℕ) (last : Verdict) (n : ℕ) (said : Result Findings Fault)
     (ts : List NrTx) (octets : List ℕ) → HasHeard link records outcomes last n said ts octets → length ts ≡ 0 → length outcomes ≡ n
-heard-many link records outcomes last n said ts octets h none =
-    let outcomes-are : length outcomes ≡ length h.list =
-    ap length h.outcomes_are ∙ length-map-range_with_len (λ k. outcome_number (outcome_of link (take (k + 1) h.list))) 0 (length h.list) in
-    let many = h.many in
-    omega (arith, outcomes-are, many, none)
+heard-many link records outcomes last n said ts octets h none = grind (arith, length-map-range_with_len)
 
 -- a block that is delivered has the link's bits
 pub heard-block : (link : Link) (records : List HeardBits) (outcomes : List ℕ) (last : Verdict) (n : ℕ) (said : Result Findings Fault)

@@ -1,4 +1,5 @@
 -- The room for what is found is the room that is asked for.
+use Rattle.std.proofs.lemmas.Bool.Decides.{nat_tests}
 use Rattle.std.proofs.Common.{◌≡◌, ℕ, ◌*◌, ◌/◌, ◌%◌, ◌&&◌, ◌==◌, Bool, true, false, Result, Ok, Err, length, IfOk, refl, sym, ap, ◌∙◌, arith, eq-eqb}
 use Rattle.std.proofs.lemmas.Bool.{eqb-true}
 use Rattle.nr_crcattach.specs.Attachment.{attached_length}
@@ -37,10 +38,7 @@ planned-ok x = Ok x
 last-step : (table : Entries) (graph : Graph) (q : Numbers) (b : Result Circular RmFault) (a : ℕ) (link : Link) (p : Planned)
     → with_fault fault.Desk (with_fault desk.Rm b >>= λ buffer. Ok (record { table = table; graph = graph; plan = q; a = a; buffer = buffer })) ≡ Ok link
     → planned-ok (record { graph = graph; plan = q }) ≡ Ok p → (link.plan ≡ p.plan) × (link.a ≡ a)
-last-step table graph q (Ok buffer) a link p linked planned =
-    let made = same-ok (link-ok (record { table = table; graph = graph; plan = q; a = a; buffer = buffer })) (record { table = table; graph = graph; plan = q; a = a; buffer = buffer }) link refl linked in
-    let told = same-ok (planned-ok (record { graph = graph; plan = q })) (record { graph = graph; plan = q }) p refl planned in
-    (sym (ap (λ (k : Link). k.plan) made) ∙ ap (λ (k : Planned). k.plan) told, sym (ap (λ (k : Link). k.a) made))
+last-step table graph q (Ok buffer) a link p linked planned = grind (arith, same-ok)
 last-step table graph q (Err e) a link p linked planned = cc
 
 plan-step : (table : Entries) (graph : Graph) (q : Result Numbers SegFault) (there : Bool) (b : Numbers → Result Circular RmFault) (a : ℕ) (link : Link) (p : Planned)
@@ -59,18 +57,14 @@ link-step : (table : Entries) (size : Bool) (g : Result Graph PickFault) (q : Gr
     → (demanded (fault.Desk desk.Size) size >>= λ _. with_fault (λ e. fault.Desk (desk.Pick e)) g >>= λ graph.
     with_fault (λ e. fault.Desk (desk.Seg e)) (q graph) >>= λ plan. Ok (record { graph = graph; plan = plan })) ≡ Ok p
     → (link.plan ≡ p.plan) × ((link.a ≡ a) × (size ≡ true))
-link-step table true (Ok graph) q there b a link p linked planned =
-    let both = plan-step table graph (q graph) (there graph) (b graph) a link p linked planned in
-    (both.0, (both.1, refl))
+link-step table true (Ok graph) q there b a link p linked planned = grind (arith, plan-step)
 link-step table true (Err e) q there b a link p linked planned = cc
 link-step table false g q there b a link p linked planned = cc
 
 pub same-plan : (table : Entries) (settings : Settings) (a : ℕ) (link : Link) (p : Planned) → with_fault fault.Desk (link_said table settings a) ≡ Ok link
     → planned_said settings.rate2048 a ≡ Ok p → (link.plan ≡ p.plan) × ((link.a ≡ a) × (is_size a ≡ true))
 unfolding link_said planned_said
-same-plan table settings a link p linked planned =
-    link-step table (is_size a) (picked a settings.rate2048) (λ graph. plan_of graph (attached_length a)) (λ graph. has_graph graph table)
-    (λ graph plan. buffer_said graph plan settings.lbrm) a link p linked planned
+same-plan table settings a link p linked planned = grind (arith, link-step)
 
 parts : (x y z : Bool) → (x && y && z) ≡ true → (x ≡ true) × ((y ≡ true) × (z ≡ true))
 parts true true true is = (refl, (refl, refl))
@@ -89,9 +83,7 @@ first-part true y is = refl
 first-part false y is = cc
 
 octets-of : (a : ℕ) → is_size a ≡ true → 8 * (a / 8) ≡ a
-octets-of a is =
-    let none : a % 8 ≡ 0 = eqb-true (a % 8) 0 (first-part (a % 8 == 0) _ is) in
-    omega (arith, none)
+octets-of a is = grind (arith, nat_tests, eqb-true, first-part)
 
 last-fits : (v : Verdict) (m a : ℕ) → IsLastBlock a v → a ≡ 8 * m → block_fits m v ≡ true
 last-fits (delivered block) m a last is = eq-eqb (length block) (8 * m) (last block refl ∙ is)
@@ -102,14 +94,5 @@ last-fits contradiction m a last is = refl
 pub filled : (r : Result Found Fault) (room : Room) (link : Link) (p : Planned) (a n : ℕ) → is_room room p.plan.c a n ≡ true
     → (link.plan ≡ p.plan) × ((link.a ≡ a) × (is_size a ≡ true)) → IfOk r (λ f. length f.outcomes.items ≡ n) → IfOk r (λ f. length f.left.items ≡ link.plan.c)
     → IfOk r (λ f. IsLastBlock link.a (verdict f.last)) → IfOk r (λ f. has_room room (findings_of f) ≡ true)
-filled (Ok f) room link p a n asked same outcomes left block =
-    let each = parts (room.outcomes == n) (room.left == p.plan.c) (room.block == a / 8) asked in
-    let first : room.outcomes ≡ n = eqb-true room.outcomes n each.0 in
-    let second : room.left ≡ p.plan.c = eqb-true room.left p.plan.c each.1.0 in
-    let third : room.block ≡ a / 8 = eqb-true room.block (a / 8) each.1.1 in
-    let octets : a ≡ 8 * room.block = sym (ap (λ m. 8 * m) third ∙ octets-of a same.1.1) in
-    whole (length f.outcomes.items == room.outcomes) (length f.left.items == room.left) (block_fits room.block (verdict f.last))
-    (eq-eqb (length f.outcomes.items) room.outcomes (outcomes ∙ sym first))
-    (eq-eqb (length f.left.items) room.left (left ∙ ap (λ (q : Numbers). q.c) same.0 ∙ sym second))
-    (last-fits (verdict f.last) room.block link.a block (same.1.0 ∙ octets))
+filled (Ok f) room link p a n asked same outcomes left block = grind (arith, nat_tests, parts, eqb-true, octets-of, whole, eq-eqb, last-fits)
 filled (Err e) room link p a n asked same outcomes left block = tt

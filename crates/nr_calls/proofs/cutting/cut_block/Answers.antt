@@ -5,15 +5,10 @@ use Rattle.nr_segment.specs.CodeBlock.{numbers}
 use Rattle.nr_calls.proofs.cutting.cut_block.Goals as goal
 
 pub attach-requires : goal.attach-requires
-attach-requires c =
-    let long : length c.in_ok-block.block.items ≡ 8 * length c.args.octets.now = ap length c.in_ok-block.ensures ∙ length-bits_of c.args.octets.now in
-    let short = c.requires.short in
-    omega (arith, long, short)
+attach-requires c = grind (arith, length-bits_of)
 
 pub cut-requires-clause-whole : goal.cut-requires-clause-whole
-cut-requires-clause-whole c =
-    ap length c.in_ok-whole.ensures ∙ c.attachment_lengthens.ensures.block c.in_ok-block.block.items
-    ∙ ap attached_length (ap length c.in_ok-block.ensures ∙ length-bits_of c.args.octets.now) ∙ sym c.requires.whole
+cut-requires-clause-whole c = grind (arith, length-bits_of)
 
 pub returns-clause-long : goal.returns-clause-long
 returns-clause-long c =

@@ -7,12 +7,7 @@ use Rattle.nr_calls.proofs.EncodedWordFacts.{begins, info_most, info_within, wor
 use Rattle.nr_calls.proofs.encoding.word_on.Goals as goal
 
 pub set-requires : goal.set-requires
-set-requires c =
-    let p = c.args.plan.now in
-    let long = c.loop-i.invariant.long in
-    let below : c.loop-i.i < p.k = omega (arith, c.requires.whole) in
-    let within = info_within p.graph p.z p.k c.loop-i.i below p.sound.columns in
-    omega (arith, long, within)
+set-requires c = grind (arith, info_within)
 
 -- one more bit is set
 pub loop-i-preserved : goal.loop-i-preserved
@@ -34,13 +29,4 @@ loop-i-preserved c =
     }
 
 pub returns-clause-word : goal.returns-clause-word
-returns-clause-word c =
-    let p = c.args.plan.now in
-    let most = info_most p.graph p.z p.k p.sound.columns in
-    let long = c.loop-i.invariant.long in
-    let fits : p.k ≤ length c.loop-i.word = omega (arith, most, long) in
-    c.fill.ensures.completed
-    ∙ ap (completed c.args.table.now p.graph (numbers p))
-    (begins c.loop-i.word c.args.octets.now p.k c.requires.whole fits
-    (λ i lt. let before : i < c.loop-i.i = omega (arith, lt, c.requires.whole) in c.loop-i.invariant.so_far i before))
-    ∙ word-for c.args.table.now p.graph (numbers p) (map is_one c.args.octets.now) p.sound.set_is
+returns-clause-word c = grind (arith, info_most, begins, word-for)

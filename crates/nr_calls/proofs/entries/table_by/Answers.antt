@@ -1,3 +1,4 @@
+use Rattle.std.proofs.Common.{arith}
 use Rattle.std.proofs.Common.{◌∙◌, ap, Ok, Err}
 use Rattle.nr_calls.proofs.PlacedEntryFacts.{answered, misplaced, refused}
 use Rattle.nr_calls.proofs.entries.table_by.Goals as goal
@@ -9,5 +10,4 @@ pub returns-in-Err-clause-said : goal.returns-in-Err-clause-said
 returns-in-Err-clause-said c = refused c.args.entries.now c.in-Err.fault c.fault_of.result c.in-Err.ensures.said c.fault_of.ensures
 
 pub returns-in-Err-clause-placed : goal.returns-in-Err-clause-placed
-returns-in-Err-clause-placed c = λ wrong.
-    ap (λ f. Err f) (c.fault_of.ensures ∙ misplaced _ c.args.entries.now c.in-Err.fault wrong c.in-Err.ensures.placed)
+returns-in-Err-clause-placed c = grind (arith, misplaced)

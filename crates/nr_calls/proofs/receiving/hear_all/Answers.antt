@@ -1,3 +1,4 @@
+use Rattle.std.proofs.Common.{arith}
 use Rattle.std.proofs.Common.{◌≡◌, ◌≢◌, inr, rules, Err, sym, ap, ◌∙◌, subst, length}
 use Rattle.std.proofs.lemmas.List.FromFn.{length-map-range_with_len}
 use Rattle.std.proofs.lemmas.Result.{err_from_is_err_and}
@@ -42,9 +43,7 @@ returns-clause-outcomes c =
     heard-many _ _ _ _ _ _ _ _ c.loop-tx.invariant.has none
 
 pub returns-clause-left : goal.returns-clause-left
-returns-clause-left c =
-    ap length c.in_ok-left.ensures ∙ length-map-range_with_len (left c.loop-tx.receiver.link c.loop-tx.receiver.heard) 0 c.loop-tx.receiver.link.plan.c
-    ∙ ap (λ (k : Link). k.plan.c) c.loop-tx.invariant.link
+returns-clause-left c = grind (arith, length-map-range_with_len)
 
 pub returns-clause-block : goal.returns-clause-block
 returns-clause-block c = λ block is.
