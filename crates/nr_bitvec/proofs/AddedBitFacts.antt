@@ -29,14 +29,11 @@ moved_up n at w s t r e h f b =
 
 -- the word's new bit
 flipped : (a x n r p m : ℕ) → n ≡ bit_xor a x → bit_at a r ≡ p → bit_at x r ≡ m → bit_at n r ≡ (p + m) % 2
-flipped a x n r p m e f g =
-    ap (λ k. bit_at k r) e ∙ bit_at_xor a x r ∙ ap (λ k. (k + bit_at x r) % 2) f ∙ ap (λ k. (p + k) % 2) g
+flipped a x n r p m e f g = grind (arith, bit_at_xor)
 
 -- a place to which nothing is added
 pub kept : (ws : List ℕ) (at n t : ℕ) → moved at n t ≡ 0 → place ws t ≡ (place ws t + moved at n t) % 2
-kept ws at n t e =
-    let low : place ws t < 2 = bit_at-lt (get_or ws (t / 64) 0) (t % 64) in
-    omega (arith, e, low)
+kept ws at n t e = grind (arith, bit_at-lt)
 
 -- the first word is written
 pub flip-first : (ws : List ℕ) (at n w s a t : ℕ) → at ≡ 64 * w + s → s < 64 → w < length ws → a ≡ get_or ws w 0 → n < 2 ^ 64

@@ -39,16 +39,11 @@ low_mask n k h = ap (λ m. bit_and n (m - 1)) (one_shl k 64 h) ∙ and_mask n k
 
 -- a place is a bit of a word
 pub place_of : (ws : List ℕ) (t w s : ℕ) → t ≡ 64 * w + s → s < 64 → place ws t ≡ bit_at (get_or ws w 0) s
-place_of ws t w s e h =
-    let i : t / 64 ≡ w = omega arith in
-    let j : t % 64 ≡ s = omega arith in
-    ap (λ k. bit_at (get_or ws k 0) (t % 64)) i ∙ ap (λ k. bit_at (get_or ws w 0) k) j
+place_of ws t w s e h = grind arith
 
 -- no place is set past the last word
 pub place_past : (ws : List ℕ) (t : ℕ) → 64 * length ws ≤ t → place ws t ≡ 0
-place_past ws t h =
-    let past : length ws ≤ t / 64 = omega arith in
-    ap (λ n. bit_at n (t % 64)) (get_or_past ws (t / 64) 0 past) ∙ bit_at-zero (t % 64)
+place_past ws t h = grind (arith, get_or_past, bit_at-zero)
 
 -- ---- what the words' calls read
 

@@ -1,5 +1,6 @@
 -- Bits that are put behind the places of packed words.
-use Rattle.std.proofs.Common.{◌≡◌, ℕ, ◌+◌, ◌-◌, ◌*◌, ◌/◌, ◌%◌, ◌^◌, ◌<◌, ◌≤◌, inl, inr, List, [], ◌∷◌, ◌++◌, length, get_or, set, ap, sym, ◌∙◌, arith, length-set}
+use Rattle.std.proofs.lemmas.Bool.Decides.{nat_tests}
+use Rattle.std.proofs.Common.{◌≡◌, ℕ, ◌+◌, ◌-◌, ◌*◌, ◌/◌, ◌%◌, ◌^◌, ◌<◌, ◌≤◌, List, [], ◌∷◌, ◌++◌, length, get_or, set, ap, sym, ◌∙◌, arith, length-set}
 use Rattle.std.proofs.lemmas.Bool.{cases_lt}
 use Rattle.std.proofs.lemmas.List.{length_push}
 use Rattle.std.proofs.lemmas.Nat.Bits.{bit_at-lt}
@@ -14,17 +15,7 @@ use Rattle.nr_bitvec.proofs.PlaceFacts.{place-push_old, place-push_new}
 -- One word more behind places that are there: the bits that it has, from place n on.
 pushed-within : (n bits by m : ℕ) (mid new : List ℕ) → new ≡ mid ++ m ∷ [] → 64 * length mid ≡ n + by → ((s : ℕ) → bit_at m s ≡ bit_at bits (by + s))
     → ((j : ℕ) → by + 64 ≤ j → bit_at bits j ≡ 0) → ((t : ℕ) → n ≤ t → t < 64 * length mid → place mid t ≡ bit_at bits (t - n)) → (t : ℕ) → n ≤ t → place new t ≡ bit_at bits (t - n)
-pushed-within n bits by m mid new e long up high within t h =
-    ap (λ ws. place ws t) e ∙ elim (cases_lt t (64 * length mid)) [
-      | inl old ↦ place-push_old mid m t old ∙ within t h old
-      | inr more ↦ elim (cases_lt t (64 * length mid + 64)) [
-        | inl here ↦
-            let s : ℕ = t - 64 * length mid in
-            let i : by + s ≡ t - n = omega (arith, more, long) in
-            place-push_new mid m t s (omega (arith, more)) (omega (arith, here, more)) ∙ up s ∙ ap (bit_at bits) i
-        | inr past ↦ place_past (mid ++ m ∷ []) t (omega (arith, past, length_push mid m)) ∙ sym (high (t - n) (omega (arith, past, long)))
-      ]
-    ]
+pushed-within n bits by m mid new e long up high within t h = grind (arith, nat_tests, cases_lt, place-push_old, place-push_new, place_past, length_push)
 
 -- The last word is written.
 module _ (n count bits : ℕ) (ws : List ℕ) (packed : IsPacked n ws) (few : count ≤ 64) (high : (j : ℕ) → count ≤ j → bit_at bits j ≡ 0) (a : ℕ) (read : a ≡ get_or ws (n / 64) 0) (fits : bits < 2 ^ 64) (some : 0 < n % 64) where
@@ -44,15 +35,7 @@ module _ (n count bits : ℕ) (ws : List ℕ) (packed : IsPacked n ws) (few : co
   mid-within t h b = omega (arith, flips t (omega (arith, b, long)), packed.clear t h, moved_from n bits t h, bit_at-lt bits (t - n))
 
   pub grows-last : n % 64 + count ≤ 64 → Grows n count bits ws mid
-  grows-last inside = record {
-    above = omega (arith, long);
-    below = omega (arith, long, inside);
-    before = mid-before;
-    within = λ t h. elim (cases_lt t (64 * length mid)) [
-      | inl here ↦ mid-within t h here
-      | inr past ↦ place_past mid t past ∙ sym (high (t - n) (omega (arith, past, long, inside)))
-    ];
-  }
+  grows-last inside = grind (arith, nat_tests, long, mid-before, cases_lt, mid-within, place_past)
 
   pub grows-both : (new : List ℕ) → new ≡ mid ++ bits / 2 ^ (64 - n % 64) ∷ [] → 64 < n % 64 + count → Grows n count bits ws new
   grows-both new e past =

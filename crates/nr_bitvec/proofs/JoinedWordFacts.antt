@@ -1,4 +1,5 @@
 -- Words that are added after the places of others.
+use Rattle.std.proofs.lemmas.Bool.Decides.{nat_tests}
 use Rattle.std.proofs.Common.{◌≡◌, ℕ, ◌+◌, ◌-◌, ◌*◌, ◌/◌, ◌%◌, ◌^◌, ◌<◌, ◌≤◌, ◌==◌, inl, inr, min, false, List, length, get_or, replicate, refl, ap, sym, ◌∙◌, arith}
 use Rattle.std.proofs.lemmas.Bool.{cases_lt}
 use Rattle.std.proofs.lemmas.List.{get_or_past, get_or-replicate, length-replicate}
@@ -13,18 +14,11 @@ use Rattle.nr_bitvec.proofs.PackedListFacts.{unpacked-is}
 -- ---- word by word
 
 pub joins_none : (n : ℕ) (old vs : List ℕ) → IsClear old n → Joins n old vs old 0
-joins_none n old vs clear = record {
-  before = λ t h. refl;
-  within = λ t h. absurd (omega (arith, h));
-  after = λ t h. clear (n + t) (omega arith);
-  long = refl;
-}
+joins_none n old vs clear = grind arith
 
 -- the bits that are added, which are those of word i
 added : (n : ℕ) (vs : List ℕ) (i w t : ℕ) → w ≡ get_or vs i 0 → 64 * i ≤ t → t < 64 * i + 64 → moved (n + 64 * i) w (n + t) ≡ place vs t
-added n vs i w t read low high =
-    let k : n + t - (n + 64 * i) ≡ t - 64 * i = omega (arith, low) in
-    moved_from (n + 64 * i) w (n + t) (omega (arith, low)) ∙ ap (bit_at w) k ∙ ap (λ m. bit_at m (t - 64 * i)) read ∙ sym (place_of vs t i (t - 64 * i) (omega (arith, low)) (omega (arith, low, high)))
+added n vs i w t read low high = grind (arith, moved_from, place_of)
 
 pub joins_more : (n : ℕ) (old vs new next : List ℕ) (i w : ℕ) → Joins n old vs new i → w ≡ get_or vs i 0 → w < 2 ^ 64 → length next ≡ length new
     → ((t : ℕ) → place next t ≡ (place new t + moved (n + 64 * i) w t) % 2) → Joins n old vs next (i + 1)
@@ -54,25 +48,14 @@ joins-fit n old vs new i w j joins read fits none h =
 
 -- an element of a list of zeros, past the end too
 zeros : (n i : ℕ) → get_or {A = ℕ} (replicate n 0) i 0 ≡ 0
-zeros n i =
-    elim (cases_lt i n) [
-      | inl within ↦ get_or-replicate {A = ℕ} n i 0 0 within
-      | inr past ↦ get_or_past {X = ℕ} (replicate n 0) i 0 (omega (arith, past, length-replicate {A = ℕ} n 0))
-    ]
+zeros n i = grind (arith, nat_tests, cases_lt, get_or-replicate, get_or_past, length-replicate)
 
 -- words of zeros, as many as n places need, and the list of n zero bits in them
 place-zeros : (count t : ℕ) → place (replicate count 0) t ≡ 0
 place-zeros count t = ap (λ k. bit_at k (t % 64)) (zeros count (t / 64)) ∙ bit_at-zero (t % 64)
 
 pub zeros-packed : (n count : ℕ) (ws : List ℕ) → n ≤ 2 ^ 24 → count ≡ n / 64 + min 1 (n % 64) → ws ≡ replicate count 0 → IsPacked n ws
-zeros-packed n count ws short e made =
-    let long : length ws ≡ count = ap length made ∙ length-replicate {A = ℕ} count 0 in
-    record {
-      short = short;
-      above = omega (arith, e, long);
-      below = omega (arith, e, long);
-      clear = λ t h. ap (λ vs. place vs t) made ∙ place-zeros count t;
-    }
+zeros-packed n count ws short e made = grind (arith, length-replicate, place-zeros)
 
 pub zeros-items : (n count : ℕ) (ws : List ℕ) → ws ≡ replicate count 0 → unpacked n ws ≡ replicate n false
 zeros-items n count ws made =

@@ -1,5 +1,6 @@
 -- The bits of octets, and the octets of bits.
-use Rattle.std.proofs.Common.{◌≡◌, ℕ, ◌+◌, ◌-◌, ◌*◌, ◌/◌, ◌%◌, inl, inr, ◌^◌, ◌<◌, ◌≤◌, ◌==◌, suc, zero, Bool, true, false, if◌then◌else◌, List, [], ◌∷◌, length, get_or, take, drop, refl, ap, sym, ◌∙◌, arith, length-append, length-drop, get_or-drop, one-mul}
+use Rattle.std.proofs.Common.{rules, ◌≡◌, ℕ, ◌+◌, ◌-◌, ◌*◌, ◌/◌, ◌%◌, inl, inr, ◌^◌, ◌<◌, ◌≤◌, ◌==◌, suc, zero, Bool, true, false, if◌then◌else◌, List, [], ◌∷◌, length, get_or, take, drop, refl, ap, sym, ◌∙◌, arith, length-append, length-drop, get_or-drop, one-mul}
+use Rattle.std.proofs.lemmas.Bool.Decides.{nat_tests}
 use Rattle.std.proofs.Math.Nat.{two-pow-succ}
 use Rattle.std.proofs.lemmas.Bool.{cases_lt, true≢false, false≢true}
 use Rattle.std.proofs.lemmas.List.{get_or_append_left, get_or-append_right, drop-drop, nil_from_length}
@@ -20,8 +21,7 @@ length-octet_bits o = refl
 -- octets have eight bits each
 pub length-bits_of : (octets : List ℕ) → length (bits_of octets) ≡ 8 * length octets
 length-bits_of [] = refl
-length-bits_of (o ∷ octets) =
-    length-append (octet_bits o) (bits_of octets) ∙ omega (arith, length-octet_bits o, length-bits_of octets)
+length-bits_of (o ∷ octets) = grind (arith, length-append, length-octet_bits, length-bits_of octets)
 
 -- n bits write a number below 2 ^ n
 pub number_of-lt : (n : ℕ) (bits : List Bool) → number_of n bits < 2 ^ n
@@ -63,19 +63,7 @@ octet_bit o (suc (suc (suc (suc (suc (suc (suc (suc t)))))))) h = absurd (omega 
 -- a bit of octets is a place of them, past the end too
 pub bit-bits_of : (octets : List ℕ) (t : ℕ) → bit (bits_of octets) t ≡ (octet_place octets t == 1)
 bit-bits_of [] t = sym (ap (λ k. k == 1) (bit_at-zero (7 - t % 8)))
-bit-bits_of (o ∷ octets) t =
-    elim (cases_lt t 8) [
-      | inl low ↦
-          let q : 0 ≡ t / 8 = omega (arith, low) in
-          let r : t ≡ t % 8 = omega (arith, low) in
-          get_or_append_left (octet_bits o) (bits_of octets) false t (omega (arith, low, length-octet_bits o)) ∙ octet_bit o t low
-          ∙ ap (λ k. bit_at o (7 - k) == 1) r ∙ ap (λ k. bit_at (get_or (o ∷ octets) k 0) (7 - t % 8) == 1) q
-      | inr high ↦
-          let q : suc ((t - 8) / 8) ≡ t / 8 = omega (arith, high) in
-          let r : (t - 8) % 8 ≡ t % 8 = omega (arith, high) in
-          get_or-append_right (octet_bits o) (bits_of octets) 8 t false (length-octet_bits o) high ∙ bit-bits_of octets (t - 8)
-          ∙ ap (λ k. bit_at (get_or octets ((t - 8) / 8) 0) (7 - k) == 1) r ∙ ap (λ k. bit_at (get_or (o ∷ octets) k 0) (7 - t % 8) == 1) q
-    ]
+bit-bits_of (o ∷ octets) t = grind (arith, nat_tests, cases_lt, get_or_append_left, length-octet_bits, octet_bit, get_or-append_right, bit-bits_of octets (t - 8))
 
 -- a bit of the number that n bits write
 pub bit-number_of : (n : ℕ) (bits : List Bool) (j : ℕ) → j < n → (bit_at (number_of n bits) j == 1) ≡ bit bits (n - 1 - j)
@@ -114,9 +102,7 @@ same_bit a (suc (suc b)) h g e = absurd (omega (arith, g))
 
 -- an octet is the number that eight bits write, if it has their bits
 pub number_of-is : (o : ℕ) (bits : List Bool) → o < 2 ^ 8 → ((j : ℕ) → j < 8 → (bit_at o j == 1) ≡ bit bits (7 - j)) → o ≡ number_of 8 bits
-number_of-is o bits fits same =
-    same_from_bits_below 8 o (number_of 8 bits) fits (number_of-lt 8 bits)
-    (λ j h. same_bit (bit_at o j) (bit_at (number_of 8 bits) j) (bit_at-lt o j) (bit_at-lt (number_of 8 bits) j) (same j h ∙ sym (bit-number_of 8 bits j h)))
+number_of-is o bits fits same = search (rules, same_from_bits_below, number_of-lt, same_bit, bit_at-lt, bit-number_of)
 
 -- the octet of a window, of which the first eight bits are turned over
 pub octet-window : (window n at : ℕ) (bits : List Bool) → ((j : ℕ) → j < 64 → (bit_at window j == 1) ≡ bit bits (at + j)) → ((j : ℕ) → j < 64 → bit_at n j ≡ bit_at window (8 * (j / 8) + (7 - j % 8))) → bit_and n 255 ≡ number_of 8 (drop at bits)
@@ -149,8 +135,7 @@ none = refl
 length-octets_of_at : (n : ℕ) (bits : List Bool) → length bits ≤ 8 * n → length (octets_of bits) ≡ (length bits + 7) / 8
 length-octets_of_at zero bits h = ap (λ (b : List Bool). length (octets_of b)) (nil_from_length bits (omega (arith, h))) ∙ none ∙ omega (arith, h)
 length-octets_of_at (suc n) [] h = none
-length-octets_of_at (suc n) (b ∷ bits) h =
-    ap length (octets_of-step (b ∷ bits) (omega arith)) ∙ ap suc (length-octets_of_at n (drop 8 (b ∷ bits)) (omega (arith, h, length-drop 8 (b ∷ bits)))) ∙ omega (arith, length-drop 8 (b ∷ bits))
+length-octets_of_at (suc n) (b ∷ bits) h = grind (arith, octets_of-step, length-octets_of_at n (drop 8 (b ∷ bits)) (omega (arith, h, length-drop 8 (b ∷ bits))), length-drop)
 
 pub length-octets_of : (bits : List Bool) → length (octets_of bits) ≡ (length bits + 7) / 8
 length-octets_of bits = length-octets_of_at (length bits) bits (omega arith)

@@ -1,4 +1,5 @@
 -- Words whose octets are turned over, and words of octets.
+use Rattle.std.proofs.lemmas.Bool.Decides.{nat_tests}
 use Rattle.std.proofs.Common.{◌≡◌, ℕ, ◌+◌, ◌-◌, ◌*◌, ◌/◌, ◌%◌, ◌^◌, ◌<◌, ◌≤◌, ◌==◌, inl, inr, if◌then◌else◌, Bool, true, false, ◌&&◌, ◌||◌, nat_lt, nat_le, min, max, List, length, get_or, refl, ap, sym, ◌∙◌, arith}
 use Rattle.std.proofs.lemmas.Bool.{cases_lt, and_parts, or_cases, ltb-true, leb-true, eqb-true, agree_below, agree_below_at}
 use Rattle.std.proofs.lemmas.List.{get_or_past}
@@ -37,29 +38,12 @@ masks by m j = if j / by % 2 == 0 then upper by m j else lower by m j
 
 -- nothing is moved up to a place above one that the mask does not have
 moved-masked : (w m by j : ℕ) → bit_at m (j - by) ≡ 0 → moved by (bit_and w m) j ≡ 0
-moved-masked w m by j e =
-    elim (cases_lt j by) [
-      | inl low ↦ moved_below by (bit_and w m) j low
-      | inr high ↦ omega (arith, e, moved_from by (bit_and w m) j high, bit_at_and w m (j - by), bit_at-lt w (j - by))
-    ]
+moved-masked w m by j e = grind (arith, nat_tests, cases_lt, moved_below, moved_from, bit_at_and, bit_at-lt)
 
 swapped-partner_at : (b : Bool) (by m w r j : ℕ) → (if b then upper by m j else lower by m j) ≡ true
     → bit_at r j ≡ max (min (bit_at w (by + j)) (bit_at m j)) (moved by (bit_and w m) j) → bit_at r j ≡ bit_at w (if b then by + j else j - by)
-swapped-partner_at true by m w r j g h =
-    let parts : (bit_at m j == 1) ≡ true × (nat_lt j by || bit_at m (j - by) == 0) ≡ true = and_parts (bit_at m j == 1) (nat_lt j by || bit_at m (j - by) == 0) g in
-    let one : bit_at m j ≡ 1 = eqb-true (bit_at m j) 1 parts.0 in
-    let none : moved by (bit_and w m) j ≡ 0 =
-    elim (or_cases (nat_lt j by) (bit_at m (j - by) == 0) parts.1) [
-      | inl low ↦ moved_below by (bit_and w m) j (ltb-true j by low)
-      | inr zero ↦ moved-masked w m by j (eqb-true (bit_at m (j - by)) 0 zero)
-    ] in
-    omega (arith, h, one, none, bit_at-lt w (by + j))
-swapped-partner_at false by m w r j g h =
-    let parts : (bit_at m j == 0) ≡ true × (nat_le by j && bit_at m (j - by) == 1) ≡ true = and_parts (bit_at m j == 0) (nat_le by j && bit_at m (j - by) == 1) g in
-    let more : (nat_le by j) ≡ true × (bit_at m (j - by) == 1) ≡ true = and_parts (nat_le by j) (bit_at m (j - by) == 1) parts.1 in
-    let zero : bit_at m j ≡ 0 = eqb-true (bit_at m j) 0 parts.0 in
-    let one : bit_at m (j - by) ≡ 1 = eqb-true (bit_at m (j - by)) 1 more.1 in
-    omega (arith, h, zero, one, moved_from by (bit_and w m) j (leb-true by j more.0), bit_at_and w m (j - by), bit_at-lt w (j - by))
+swapped-partner_at true by m w r j g h = grind (arith, nat_tests, and_parts, eqb-true, or_cases, moved_below, ltb-true, moved-masked, bit_at-lt)
+swapped-partner_at false by m w r j g h = grind (arith, nat_tests, and_parts, eqb-true, moved_from, leb-true, bit_at_and, bit_at-lt)
 
 swapped-partner : (by m w r : ℕ) → agree_below (masks by m) (λ _. true) 64 ≡ true
     → ((j : ℕ) → j < 64 → bit_at r j ≡ max (min (bit_at w (by + j)) (bit_at m j)) (moved by (bit_and w m) j)) → (j : ℕ) → j < 64 → bit_at r j ≡ bit_at w (partner by j)

@@ -1,4 +1,5 @@
 -- Lists of bits over packed words: what each change of the words makes of the list, and that the words stay packed.
+use Rattle.std.proofs.lemmas.Bool.Decides.{nat_tests}
 use Rattle.std.proofs.Common.{◌≡◌, ◌≢◌, ℕ, ◌+◌, ◌-◌, ◌*◌, ◌/◌, ◌%◌, ◌^◌, ◌<◌, ◌≤◌, ◌==◌, inl, inr, Bool, true, false, List, [], ◌∷◌, ◌++◌, length, get_or, set, refl, ap, sym, ◌∙◌, arith, length-append, length-set, get_or-set_same, get_or-set_other}
 use Rattle.std.proofs.lemmas.Bool.{cases_lt, cases_eq}
 use Rattle.std.proofs.lemmas.List.{get_or_append_left, get_or-append_right}
@@ -15,9 +16,7 @@ use Rattle.nr_bitvec.proofs.AddedBitFacts.{moved_below, moved_from, kept}
 
 -- a list that has n bits, each of them the place of the words, is their view
 pub unpacked-is : (n : ℕ) (ws : List ℕ) (items : List Bool) → length items ≡ n → ((t : ℕ) → t < n → (place ws t == 1) ≡ bit items t) → unpacked n ws ≡ items
-unpacked-is n ws items e same =
-    same_from_bits (unpacked n ws) items (length-unpacked n ws ∙ sym e)
-    (λ t h. let b : t < n = omega (arith, h, length-unpacked n ws) in get_or-map-range_with_len (λ u. place ws u == 1) 0 n t t false b (omega arith) ∙ same t b)
+unpacked-is n ws items e same = grind (arith, nat_tests, same_from_bits, length-unpacked, get_or-map-range_with_len)
 
 -- the first bits of a word
 pub length-low_first : (n word : ℕ) → length (low_first n word) ≡ n
@@ -40,14 +39,11 @@ bit-within n ws t h = get_or-map-range_with_len (λ u. place ws u == 1) 0 n t t 
 
 -- a test of one bit of a word
 pub get-place : (n : ℕ) (ws : List ℕ) (t m : ℕ) → t < n → m ≡ get_or ws (t / 64) 0 → (bit_and (m / 2 ^ (t % 64)) 1 == 1) ≡ bit (unpacked n ws) t
-get-place n ws t m h e =
-    ap (λ k. k == 1) (shr_and_one m (t % 64)) ∙ ap (λ k. bit_at k (t % 64) == 1) e ∙ sym (bit-within n ws t h)
+get-place n ws t m h e = grind (arith, nat_tests, shr_and_one, bit-within)
 
 -- what is read at a window
 pub window-place : (n : ℕ) (ws : List ℕ) (at r j : ℕ) → IsPacked n ws → bit_at r j ≡ place ws (64 * (at / 64) + at % 64 + j) → (bit_at r j == 1) ≡ bit (unpacked n ws) (at + j)
-window-place n ws at r j packed e =
-    let i : 64 * (at / 64) + at % 64 + j ≡ at + j = omega arith in
-    ap (λ k. k == 1) (e ∙ ap (place ws) i) ∙ sym (bit-place n ws (at + j) packed.clear)
+window-place n ws at r j packed e = grind (arith, nat_tests, bit-place)
 
 -- ---- a word's bits more
 
@@ -63,20 +59,14 @@ word-items n count ws new word bits grows same =
     ])
 
 pub word-packed : (n count : ℕ) (ws new : List ℕ) (bits : ℕ) → n + count ≤ 2 ^ 24 → Grows n count bits ws new → ((j : ℕ) → count ≤ j → bit_at bits j ≡ 0) → IsPacked (n + count) new
-word-packed n count ws new bits short grows high =
-    record { short = short; above = grows.above; below = grows.below; clear = λ t h. grows.within t (omega (arith, h)) ∙ high (t - n) (omega (arith, h)) }
+word-packed n count ws new bits short grows high = grind arith
 
 -- ---- bits put in their places
 
 -- by what was there
 pub changes-from : (ws : List ℕ) (at count n window change : ℕ) → count ≤ 64 → ((j : ℕ) → j < 64 → bit_at window j ≡ place ws (64 * (at / 64) + at % 64 + j))
     → ((j : ℕ) → j < count → bit_at change j ≡ bit_at (bit_xor window n) j) → ((j : ℕ) → count ≤ j → bit_at change j ≡ 0) → Changes ws at count n change
-changes-from ws at count n window change few read low high = record {
-  low = λ j h.
-      let i : 64 * (at / 64) + at % 64 + j ≡ at + j = omega arith in
-      low j h ∙ bit_at_xor window n j ∙ ap (λ k. (k + bit_at n j) % 2) (read j (omega (arith, h, few)) ∙ ap (place ws) i);
-  high = high;
-}
+changes-from ws at count n window change few read low high = grind (arith, bit_at_xor)
 
 pub put-none : (n : ℕ) (ws : List ℕ) (at count word change j : ℕ) → IsPacked n ws → at + count ≤ n → Changes ws at count word change → 64 * length ws ≤ at + j → bit_at change j ≡ 0
 put-none n ws at count word change j packed inside changes h = changes.high j (omega (arith, packed.below, inside, h))
@@ -85,17 +75,11 @@ put-kept : (ws new : List ℕ) (at change t : ℕ) → place new t ≡ (place ws
 put-kept ws new at change t e none = e ∙ sym (kept ws at change t none)
 
 put-after_place : (ws new : List ℕ) (at count word change t : ℕ) → Changes ws at count word change → place new t ≡ (place ws t + moved at change t) % 2 → at + count ≤ t → place new t ≡ place ws t
-put-after_place ws new at count word change t changes e h =
-    put-kept ws new at change t e (moved_from at change t (omega (arith, h)) ∙ changes.high (t - at) (omega (arith, h)))
+put-after_place ws new at count word change t changes e h = grind (arith, put-kept, moved_from)
 
 put-packed : (n : ℕ) (ws new : List ℕ) (at count word change : ℕ) → IsPacked n ws → at + count ≤ n → Changes ws at count word change → length new ≡ length ws
     → ((t : ℕ) → place new t ≡ (place ws t + moved at change t) % 2) → IsPacked n new
-put-packed n ws new at count word change packed inside changes long flips = record {
-  short = packed.short;
-  above = omega (arith, packed.above, long);
-  below = omega (arith, packed.below, long);
-  clear = λ t h. put-after_place ws new at count word change t changes (flips t) (omega (arith, inside, h)) ∙ packed.clear t h;
-}
+put-packed n ws new at count word change packed inside changes long flips = grind (arith, put-after_place)
 
 -- a bit that is added twice
 twice : (p b : ℕ) → p < 2 → b < 2 → (p + (p + b) % 2) % 2 ≡ b
@@ -110,13 +94,11 @@ put-within n ws new at count word change t inside changes flips h =
 
 put-before : (n : ℕ) (ws new : List ℕ) (at count word change t : ℕ) → IsPacked n ws → IsPacked n new
     → ((t : ℕ) → place new t ≡ (place ws t + moved at change t) % 2) → t < at → bit (unpacked n new) t ≡ bit (unpacked n ws) t
-put-before n ws new at count word change t old packed flips h =
-    bit-place n new t packed.clear ∙ ap (λ k. k == 1) (put-kept ws new at change t (flips t) (moved_below at change t h)) ∙ sym (bit-place n ws t old.clear)
+put-before n ws new at count word change t old packed flips h = grind (arith, nat_tests, bit-place, put-kept, moved_below)
 
 put-after : (n : ℕ) (ws new : List ℕ) (at count word change t : ℕ) → IsPacked n ws → IsPacked n new → Changes ws at count word change
     → ((t : ℕ) → place new t ≡ (place ws t + moved at change t) % 2) → at + count ≤ t → bit (unpacked n new) t ≡ bit (unpacked n ws) t
-put-after n ws new at count word change t old packed changes flips h =
-    bit-place n new t packed.clear ∙ ap (λ k. k == 1) (put-after_place ws new at count word change t changes (flips t) h) ∙ sym (bit-place n ws t old.clear)
+put-after n ws new at count word change t old packed changes flips h = grind (arith, nat_tests, bit-place, put-after_place)
 
 -- all that a write by `Changes` makes of the list
 pub record Puts (n at count word : ℕ) (ws new : List ℕ) : Type 0 where
@@ -178,14 +160,4 @@ lowest false = refl
 -- one bit put, as a write of the list
 pub set-items : (old new : List Bool) (i : ℕ) (b : Bool) → i < length old → length new ≡ length old → ((t : ℕ) → t < 1 → bit new (i + t) ≡ (bit_at (from_bool b) t == 1))
     → ((t : ℕ) → t < i → bit new t ≡ bit old t) → ((t : ℕ) → i + 1 ≤ t → bit new t ≡ bit old t) → new ≡ set old i b
-set-items old new i b h long within before after =
-    same_from_bits new (set old i b) (long ∙ sym (length-set old i b))
-    (λ t k. elim (cases_eq t i) [
-      | inl here ↦
-          let e : i + 0 ≡ i = omega arith in
-          ap (bit new) here ∙ ap (bit new) (sym e) ∙ within 0 (omega arith) ∙ lowest b ∙ sym (get_or-set_same old i b false h) ∙ ap (bit (set old i b)) (sym here)
-      | inr other ↦ elim (cases_lt t i) [
-        | inl low ↦ before t low ∙ sym (get_or-set_other old i t b false other)
-        | inr high ↦ after t (omega (arith, other, high)) ∙ sym (get_or-set_other old i t b false other)
-      ]
-    ])
+set-items old new i b h long within before after = grind (arith, nat_tests, same_from_bits, length-set, cases_eq, lowest, get_or-set_same, cases_lt, get_or-set_other)

@@ -1,5 +1,6 @@
 -- The places of packed words: a write of one word, one word more, and the bits that a view shows.
-use Rattle.std.proofs.Common.{◌≡◌, ℕ, ◌+◌, ◌*◌, ◌/◌, ◌%◌, ◌<◌, ◌==◌, ◌≢◌, inl, inr, Bool, false, List, [], ◌∷◌, ◌++◌, length, set, refl, ap, sym, ◌∙◌, arith, get_or-set_same, get_or-set_other}
+use Rattle.std.proofs.Common.{rules, ◌≡◌, ℕ, ◌+◌, ◌*◌, ◌/◌, ◌%◌, ◌<◌, ◌==◌, ◌≢◌, Bool, List, [], ◌∷◌, ◌++◌, length, set, ap, arith, get_or-set_same, get_or-set_other}
+use Rattle.std.proofs.lemmas.Bool.Decides.{nat_tests}
 use Rattle.std.proofs.lemmas.Bool.{cases_lt}
 use Rattle.std.proofs.lemmas.List.{get_or_past, get_or_push, get_or_append_left, same_lists, get_or_default}
 use Rattle.std.proofs.lemmas.List.FromFn.{length-map-range_with_len, get_or-map-range_with_len}
@@ -11,8 +12,7 @@ use Rattle.nr_bitvec.proofs.BitFacts.{place_of}
 -- ---- a write of one word
 
 pub place-set_same : (ws : List ℕ) (i n t s : ℕ) → i < length ws → t ≡ 64 * i + s → s < 64 → place (set ws i n) t ≡ bit_at n s
-place-set_same ws i n t s within e h =
-    place_of (set ws i n) t i s e h ∙ ap (λ m. bit_at m s) (get_or-set_same ws i n 0 within)
+place-set_same ws i n t s within e h = grind (arith, place_of, get_or-set_same)
 
 pub place-set_other : (ws : List ℕ) (i n t : ℕ) → t / 64 ≢ i → place (set ws i n) t ≡ place ws t
 place-set_other ws i n t apart = ap (λ m. bit_at m (t % 64)) (get_or-set_other ws i (t / 64) n 0 apart)
@@ -20,13 +20,10 @@ place-set_other ws i n t apart = ap (λ m. bit_at m (t % 64)) (get_or-set_other 
 -- ---- one word more
 
 pub place-push_old : (ws : List ℕ) (n t : ℕ) → t < 64 * length ws → place (ws ++ n ∷ []) t ≡ place ws t
-place-push_old ws n t h =
-    let within : t / 64 < length ws = omega (arith, h) in
-    ap (λ m. bit_at m (t % 64)) (get_or_append_left ws (n ∷ []) 0 (t / 64) within)
+place-push_old ws n t h = grind (arith, get_or_append_left)
 
 pub place-push_new : (ws : List ℕ) (n t s : ℕ) → t ≡ 64 * length ws + s → s < 64 → place (ws ++ n ∷ []) t ≡ bit_at n s
-place-push_new ws n t s e h =
-    place_of (ws ++ n ∷ []) t (length ws) s e h ∙ ap (λ m. bit_at m s) (get_or_push ws n 0 (length ws) refl)
+place-push_new ws n t s e h = grind (arith, place_of, get_or_push)
 
 -- ---- the view of packed words
 
@@ -35,13 +32,8 @@ length-unpacked n ws = length-map-range_with_len (λ t. place ws t == 1) 0 n
 
 -- a bit of the view is its place, past the end too, where no place is set there
 pub bit-place : (n : ℕ) (ws : List ℕ) (t : ℕ) → IsClear ws n → bit (unpacked n ws) t ≡ (place ws t == 1)
-bit-place n ws t clear =
-    elim (cases_lt t n) [
-      | inl h ↦ get_or-map-range_with_len (λ u. place ws u == 1) 0 n t t false h (omega arith)
-      | inr h ↦ get_or_past (unpacked n ws) t false (omega (arith, length-unpacked n ws, h)) ∙ ap (λ m. m == 1) (sym (clear t h))
-    ]
+bit-place n ws t clear = grind (arith, nat_tests, cases_lt, get_or-map-range_with_len, get_or_past, length-unpacked)
 
 -- two lists of one length with the same bits are equal
 pub same_from_bits : (xs ys : List Bool) → length xs ≡ length ys → ((t : ℕ) → t < length xs → bit xs t ≡ bit ys t) → xs ≡ ys
-same_from_bits xs ys e same =
-    same_lists xs ys e (λ k d h. get_or_default xs k d false h ∙ same k h ∙ get_or_default ys k false d (omega (arith, e, h)))
+same_from_bits xs ys e same = search (rules, same_lists, get_or_default)

@@ -1,5 +1,6 @@
 -- Words that are pushed one after another: of octets, and of a range of other words. Octets that are written word by
 -- word.
+use Rattle.std.proofs.lemmas.Bool.Decides.{nat_tests}
 use Rattle.std.proofs.Common.{◌≡◌, ℕ, ◌+◌, ◌-◌, ◌*◌, ◌/◌, ◌%◌, ◌^◌, ◌<◌, ◌≤◌, ◌==◌, inl, inr, if◌then◌else◌, suc, zero, min, Bool, false, List, [], ◌∷◌, ◌++◌, length, get_or, take, drop, refl, ap, sym, ◌∙◌, arith, length-append, length-take, length-drop, get_or-take, get_or-drop}
 use Rattle.std.proofs.lemmas.Bool.{cases_lt, lt-ltb, le-ltb}
 use Rattle.std.proofs.lemmas.List.{get_or_past, get_or_append_left, get_or-append_right, length_push, same_lists, get_or_default}
@@ -14,29 +15,13 @@ use Rattle.nr_bitvec.proofs.PackedListFacts.{unpacked-is, bit-within}
 use Rattle.nr_bitvec.proofs.OctetListFacts.{length-bits_of, bit-bits_of, number_of-is, octets_of-octet, length-octets_of}
 
 pub loads_more : (G : ℕ → ℕ) (ws next : List ℕ) (i n : ℕ) → Loads G ws i → next ≡ ws ++ n ∷ [] → ((j : ℕ) → j < 64 → bit_at n j ≡ G (64 * i + j)) → Loads G next (i + 1)
-loads_more G ws next i n loads e word = record {
-  long = ap length e ∙ length_push ws n ∙ omega (arith, loads.long);
-  places = λ t h. ap (λ vs. place vs t) e ∙ elim (cases_lt t (64 * i)) [
-    | inl old ↦ place-push_old ws n t (omega (arith, old, loads.long)) ∙ loads.places t old
-    | inr new ↦
-        let k : 64 * i + (t - 64 * i) ≡ t = omega (arith, new) in
-        place-push_new ws n t (t - 64 * i) (omega (arith, new, loads.long)) (omega (arith, h, new)) ∙ word (t - 64 * i) (omega (arith, h, new)) ∙ ap G k
-  ];
-}
+loads_more G ws next i n loads e word = grind (arith, nat_tests, length_push, cases_lt, place-push_old, place-push_new)
 
 -- ---- of octets
 
 -- the places of eight octets among others
 pub group-place : (os : List ℕ) (i n j : ℕ) → min (length os - 8 * i) 8 ≤ n → j < 64 → octet_place (take n (drop (8 * i) os)) j ≡ octet_place os (64 * i + j)
-group-place os i n j e h =
-    let q : 8 * i + j / 8 ≡ (64 * i + j) / 8 = omega arith in
-    let r : j % 8 ≡ (64 * i + j) % 8 = omega arith in
-    let there : get_or (take n (drop (8 * i) os)) (j / 8) 0 ≡ get_or os (8 * i + j / 8) 0 =
-    elim (cases_lt (j / 8) n) [
-      | inl within ↦ get_or-take n (drop (8 * i) os) (j / 8) 0 within ∙ get_or-drop (8 * i) os (j / 8) 0
-      | inr past ↦ get_or_past (take n (drop (8 * i) os)) (j / 8) 0 (omega (arith, past, length-take n (drop (8 * i) os))) ∙ sym (get_or_past os (8 * i + j / 8) 0 (omega (arith, past, e, h)))
-    ] in
-    ap (λ k. bit_at k (7 - j % 8)) there ∙ ap (λ k. bit_at (get_or os k 0) (7 - j % 8)) q ∙ ap (λ k. bit_at (get_or os ((64 * i + j) / 8) 0) (7 - k)) r
+group-place os i n j e h = grind (arith, nat_tests, cases_lt, get_or-take, get_or-drop, get_or_past, length-take)
 
 pub octets-items : (os ws : List ℕ) (i : ℕ) → i ≡ length os / 8 + min 1 (length os % 8) → Loads (octet_place os) ws i → unpacked (8 * length os) ws ≡ bits_of os
 octets-items os ws i e loads =
@@ -68,18 +53,11 @@ whole-word vs w turn i j none h = sym (place_of vs (64 * w + turn + (64 * i + j)
 
 pub turned-word : (vs : List ℕ) (w turn i j : ℕ) → get_or vs (w + i) 0 < 2 ^ 64 → turn < 64 → 0 < turn → j < 64
     → bit_at (bit_or (get_or vs (w + i) 0 / 2 ^ turn) (get_or vs (w + i + 1) 0 * 2 ^ (64 - turn) % 2 ^ 64)) j ≡ place vs (64 * w + turn + (64 * i + j))
-turned-word vs w turn i j fits short some h =
-    let m : 64 * (w + i) + turn + j ≡ 64 * w + turn + (64 * i + j) = omega arith in
-    window-both vs (w + i) turn j fits short some h ∙ ap (place vs) m
+turned-word vs w turn i j fits short some h = grind (arith, window-both)
 
 -- the list of n bits that fill their words, and of the bits that follow
 pub filled-packed : (n count : ℕ) (ws new : List ℕ) (G : ℕ → ℕ) → n ≡ 64 * length ws → n + 64 * count ≤ 2 ^ 24 → Loads G new (length ws + count) → IsPacked (n + 64 * count) new
-filled-packed n count ws new G filled short loads = record {
-  short = short;
-  above = omega (arith, filled, loads.long);
-  below = omega (arith, filled, loads.long);
-  clear = λ t h. place_past new t (omega (arith, h, filled, loads.long));
-}
+filled-packed n count ws new G filled short loads = grind (arith, place_past)
 
 pub filled-items : (n m p at count : ℕ) (ws vs new : List ℕ) → n ≡ 64 * length ws → p ≡ at → at + 64 * count ≤ m → Loads (followed ws vs p) new (length ws + count) → unpacked (n + 64 * count) new ≡ unpacked n ws ++ take (64 * count) (drop at (unpacked m vs))
 filled-items n m p at count ws vs new filled here inside loads =
@@ -97,11 +75,7 @@ filled-items n m p at count ws vs new filled here inside loads =
 -- ---- octets of words
 
 pub writes_none : (ws os : List ℕ) → os ≡ [] → HoldsOctets ws os 0
-writes_none ws os e = record {
-  long = ap length e;
-  places = λ t h. absurd (omega (arith, h));
-  small = λ k. let none : get_or os k 0 ≡ 0 = ap (λ (xs : List ℕ). get_or xs k 0) e in omega (arith, none);
-}
+writes_none ws os e = grind arith
 
 -- an octet of a word
 pub le-octet : (n k : ℕ) → k < 8 → get_or (to_le_bytes w64 n) k 0 ≡ n / 2 ^ (8 * k) % 2 ^ 8

@@ -1,4 +1,4 @@
-use Rattle.std.proofs.Common.{◌≡◌, refl, arith, length}
+use Rattle.std.proofs.Common.{◌≡◌, arith, length}
 use Rattle.nr_bitvec.proofs.OctetReversalFacts.{gathers_none, gathers_more, gathers_all, gathers_eight}
 use Rattle.nr_bitvec.proofs.octets.word_of_octets.Goals as goal
 
@@ -14,9 +14,7 @@ pub loop-i-init : goal.loop-i-init
 loop-i-init c = gathers_none c.args.group.now
 
 pub loop-i-preserved : goal.loop-i-preserved
-loop-i-preserved c =
-    gathers_more c.args.group.now c.loop-i.word _ _ c.loop-i.i (omega (arith, c.loop-i-test.true, c.requires)) refl ((c.type_inv.group c.loop-i.i).fits) refl c.loop-i.invariant
+loop-i-preserved c = grind (arith, gathers_more)
 
 pub returns : goal.returns
-returns c =
-    gathers_all c.args.group.now c.loop-i.word c.turned-2.result c.loop-i.i c.loop-i-test.false c.loop-i.invariant c.turned-2.ensures
+returns c = grind (arith, gathers_all)

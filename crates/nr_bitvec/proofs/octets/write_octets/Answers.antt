@@ -1,4 +1,4 @@
-use Rattle.std.proofs.Common.{◌≡◌, ◌+◌, ◌*◌, ◌++◌, ap, ◌∙◌, refl, take, length, arith}
+use Rattle.std.proofs.Common.{◌+◌, ◌*◌, ◌++◌, ap, ◌∙◌, refl, take, arith}
 use Rattle.std.proofs.lemmas.Slice.{take-put_mid}
 use Rattle.std.proofs.lemmas.List.{take_all}
 use Rattle.nr_bitvec.proofs.PushedWordFacts.{writes_none, writes_more}
@@ -14,6 +14,4 @@ loop-i-preserved c =
     (take-put_mid (8 * c.loop-i.i) _ c.loop-i.octets _ (8 * (c.loop-i.i + 1)) (omega arith) (omega arith) ∙ ap (λ xs. take (8 * c.loop-i.i) c.loop-i.octets ++ xs) (c.copy_from_slice.ensures.after ∙ c.to_le_bytes.ensures))
 
 pub returns : goal.returns
-returns c =
-    let all : c.loop-i.i ≡ length c.args.words.now = omega arith in
-    rw (← all) (rw (take_all (8 * c.loop-i.i) c.loop-i.octets (omega (arith, c.loop-i.auto.octets, c.requires))) at c.loop-i.invariant)
+returns c = grind (arith, take_all)

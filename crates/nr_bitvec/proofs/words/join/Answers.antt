@@ -1,16 +1,12 @@
-use Rattle.std.proofs.Common.{refl, arith, ◌∙◌}
+use Rattle.std.proofs.Common.{rules, refl, arith, ◌∙◌}
 use Rattle.nr_bitvec.proofs.JoinedWordFacts.{joins_none, joins_more, joins-fit}
 use Rattle.nr_bitvec.proofs.words.join.Goals as goal
 
 pub loop-i-init : goal.loop-i-init
-loop-i-init c = record {
-  joined = joins_none c.args.len c.args.words.now.items c.args.more.now c.requires.clear;
-  room = refl;
-}
+loop-i-init c = grind (arith, joins_none)
 
 pub flip-requires : goal.flip-requires
-flip-requires c = λ j.
-    joins-fit c.args.len c.args.words.now.items c.args.more.now c.loop-i.words.items c.loop-i.i _ j c.loop-i.invariant.joined refl ((c.type_inv.more c.loop-i.i).fits) c.requires.fits
+flip-requires c = search (rules, joins-fit)
 
 pub loop-i-preserved : goal.loop-i-preserved
 loop-i-preserved c = record {

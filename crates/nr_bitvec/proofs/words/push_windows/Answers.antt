@@ -1,4 +1,4 @@
-use Rattle.std.proofs.Common.{refl, arith, ◌∙◌}
+use Rattle.std.proofs.Common.{rules, refl, arith, ◌∙◌}
 use Rattle.nr_bitvec.proofs.PushedWordFacts.{follows_none, follows_more, whole-word, turned-word}
 use Rattle.nr_bitvec.proofs.words.push_windows.Goals as goal
 
@@ -7,11 +7,7 @@ loop-i-init c = record { loads = follows_none c.args.words.now.items c.args.from
 
 -- a word as it stands
 pub loop-i-preserved : goal.loop-i-preserved
-loop-i-preserved c = record {
-  loads = follows_more c.args.words.now.items c.args.from.now c.loop-i.words.items _ _ c.loop-i.i _ c.loop-i.invariant.loads c.push_reserved.ensures.items
-      (λ j. whole-word c.args.from.now c.args.word c.args.turn c.loop-i.i j c.if-turn-eq0.true);
-  room = c.push_reserved.ensures.capacity ∙ c.loop-i.invariant.room;
-}
+loop-i-preserved c = search (rules, follows_more, whole-word)
 
 pub loop-i-2-init : goal.loop-i-2-init
 loop-i-2-init c = record { loads = follows_none c.args.words.now.items c.args.from.now _; room = refl }

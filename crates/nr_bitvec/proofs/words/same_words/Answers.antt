@@ -5,8 +5,7 @@ use Rattle.nr_bitvec.proofs.words.same_words.Goals as goal
 
 -- a word that differs has another place
 pub returns-then-word-b-clause-places : goal.returns-then-word-b-clause-places
-returns-then-word-b-clause-places c = λ long same.
-    absurd (c.if-word-b.true (same-word c.args.a.now c.args.b.now c.loop-i.i (c.type_inv.a c.loop-i.i).fits (c.type_inv.b c.loop-i.i).fits same))
+returns-then-word-b-clause-places c = grind (arith, same-word)
 
 pub returns-clause-equal : goal.returns-clause-equal
 returns-clause-equal c = λ yes.

@@ -1,12 +1,10 @@
-use Rattle.std.proofs.Common.{◌≡◌, ◌+◌, ◌-◌, ◌++◌, ◌∙◌, take, drop, ap, sym, length, length-append, drop-drop, arith}
-use Rattle.nr_bitvec.specs.BitList.{low_first}
+use Rattle.std.proofs.Common.{◌≡◌, ◌+◌, ◌-◌, ◌++◌, ◌∙◌, take, drop, ap, sym, length-append, drop-drop, arith}
 use Rattle.nr_bitvec.proofs.PackedListFacts.{length-low_first}
 use Rattle.nr_bitvec.proofs.RangeWordFacts.{range-word, taken-more}
 use Rattle.nr_bitvec.proofs.packed.Bits.extend_range.Goals as goal
 
 pub extend_filled-requires-clause-filled : goal.extend_filled-requires-clause-filled
-extend_filled-requires-clause-filled c =
-    omega (arith, ap length c.push_word.ensures.items, length-append c.args.self.now.items (low_first c.min-first.result c.window.result), length-low_first c.min-first.result c.window.result, c.min-first.ensures, c.len.ensures.value, c.if-first-count.true)
+extend_filled-requires-clause-filled c = grind (arith, length-append, length-low_first)
 
 pub returns-then-first-count-clause-items : goal.returns-then-first-count-clause-items
 returns-then-first-count-clause-items c =

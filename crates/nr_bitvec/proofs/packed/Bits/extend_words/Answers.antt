@@ -5,8 +5,7 @@ use Rattle.nr_bitvec.proofs.PushedWordFacts.{filled-packed, filled-items}
 use Rattle.nr_bitvec.proofs.packed.Bits.extend_words.Goals as goal
 
 pub push_windows-requires-clause-inside : goal.push_windows-requires-clause-inside
-push_windows-requires-clause-inside c =
-    omega (arith, c.requires.inside, c.from.invariant.below, c.deref.ensures.len, length-unpacked c.from.inside.len c.from.inside.words.items, ap (λ (b : BitList). length b.items) c.from.view_is)
+push_windows-requires-clause-inside c = grind (arith, length-unpacked)
 
 pub invariant_of-self : goal.invariant_of-self
 invariant_of-self c =

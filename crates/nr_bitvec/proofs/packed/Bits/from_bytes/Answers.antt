@@ -20,5 +20,4 @@ loop-i-2-preserved c = record {
 }
 
 pub returns : goal.returns
-returns c =
-    octets-items c.args.octets.now c.loop-i-2.words.items c.loop-i-2.i (omega (arith, c.div_ceil-count.ensures, c.loop-i-2-test.false, c.loop-i-2.auto.i-end)) c.loop-i-2.invariant.loads
+returns c = grind (arith, octets-items)

@@ -1,8 +1,6 @@
-use Rattle.std.proofs.Common.{◌∙◌, ap, sym, length}
-use Rattle.nr_bitvec.specs.BitList.{BitList}
+use Rattle.std.proofs.Common.{arith}
 use Rattle.nr_bitvec.proofs.PlaceFacts.{length-unpacked}
 use Rattle.nr_bitvec.proofs.packed.Bits.len.Goals as goal
 
 pub returns-clause-value : goal.returns-clause-value
-returns-clause-value c =
-    sym (length-unpacked c.self.inside.len c.self.inside.words.items) ∙ ap (λ (b : BitList). length b.items) c.self.view_is
+returns-clause-value c = grind (arith, length-unpacked)

@@ -1,4 +1,4 @@
-use Rattle.std.proofs.Common.{rules, ◌≡◌, replicate}
+use Rattle.std.proofs.Common.{arith, rules, ◌≡◌, replicate}
 use Rattle.nr_bitvec.proofs.JoinedWordFacts.{zeros-packed, zeros-items}
 use Rattle.nr_bitvec.proofs.packed.Bits.zeros.Goals as goal
 
@@ -8,6 +8,4 @@ invariant_of-result c =
     zeros-packed c.args.n c.div_ceil.result c.in_ok-words.words.items c.requires c.div_ceil.ensures made
 
 pub returns : goal.returns
-returns c =
-    let made : c.in_ok-words.words.items ≡ replicate c.div_ceil.result 0 = search rules in
-    zeros-items c.args.n c.div_ceil.result c.in_ok-words.words.items made
+returns c = grind (arith, zeros-items)

@@ -1,4 +1,4 @@
-use Rattle.std.proofs.Common.{ap}
+use Rattle.std.proofs.Common.{arith, ap}
 use Rattle.nr_bitvec.specs.BitList.{BitList}
 use Rattle.nr_bitvec.proofs.SameBitsFacts.{same-packed, other-lengths}
 use Rattle.nr_bitvec.proofs.packed.BitsPartialEq.eq.Goals as goal
@@ -11,6 +11,4 @@ returns-then-self-other c =
     (rw (c.deref.ensures.value, c.deref-then-self-other.ensures.value) at c.same_words.ensures.places)
 
 pub returns-else-self-other : goal.returns-else-self-other
-returns-else-self-other c =
-    other-lengths c.self.inside.len c.other.inside.len c.self.inside.words.items c.other.inside.words.items c.args.self.now c.args.other.now c.if-self-other.false
-    (ap (λ (b : BitList). b.items) c.self.view_is) (ap (λ (b : BitList). b.items) c.other.view_is)
+returns-else-self-other c = grind (arith, other-lengths)
