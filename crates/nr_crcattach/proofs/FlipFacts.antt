@@ -1,4 +1,5 @@
 -- The lowest bits of a number in the other order.
+use Rattle.std.proofs.lemmas.Bool.Decides.{nat_tests}
 use Rattle.std.proofs.Common.{◌≡◌, ℕ, ◌+◌, ◌-◌, ◌*◌, ◌/◌, ◌%◌, ◌^◌, ◌<◌, ◌≤◌, ◌==◌, inl, inr, zero, suc, false, get_or, sym, ◌∙◌, ap, arith, bit_xor}
 use Rattle.std.specs.Int.{bit_at}
 use Rattle.std.proofs.lemmas.Bool.{cases_lt}
@@ -78,21 +79,10 @@ get_or-high_first : (n v j : ℕ) → j < n → get_or (high_first n v) j false 
 unfolding high_first
 get_or-high_first zero v j h = absurd (omega (arith, h))
 get_or-high_first (suc n) v zero h = let i : n ≡ suc n - 1 - 0 = omega arith in ap (λ k. bit_at v k == 1) i
-get_or-high_first (suc n) v (suc j) h =
-    let i : n - 1 - j ≡ suc n - 1 - suc j = omega arith in
-    get_or-high_first n v j (omega (arith, h)) ∙ ap (λ k. bit_at v k == 1) i
+get_or-high_first (suc n) v (suc j) h = grind (arith, nat_tests, get_or-high_first n v j (omega (arith, h)))
 
 pub low_first-flip : (n v : ℕ) → low_first n (flip n v) ≡ high_first n v
-low_first-flip n v =
-    same_from_bits (low_first n (flip n v)) (high_first n v) (length-low_first n (flip n v) ∙ sym (length-high_first n v))
-    (λ j h.
-    let b : j < n = omega (arith, h, length-low_first n (flip n v)) in
-    bit-low_first n (flip n v) j b ∙ ap (λ k. k == 1) (bit-flip n v j b) ∙ sym (get_or-high_first n v j b))
+low_first-flip n v = grind (arith, nat_tests, same_from_bits, length-low_first, length-high_first, bit-low_first, bit-flip, get_or-high_first)
 
 pub high_first-flip : (n v : ℕ) → high_first n (flip n v) ≡ low_first n v
-high_first-flip n v =
-    same_from_bits (high_first n (flip n v)) (low_first n v) (length-high_first n (flip n v) ∙ sym (length-low_first n v))
-    (λ j h.
-    let b : j < n = omega (arith, h, length-high_first n (flip n v)) in
-    let i : n - 1 - (n - 1 - j) ≡ j = omega (arith, b) in
-    get_or-high_first n (flip n v) j b ∙ ap (λ k. k == 1) (bit-flip n v (n - 1 - j) (omega (arith, b)) ∙ ap (bit_at v) i) ∙ sym (bit-low_first n v j b))
+high_first-flip n v = grind (arith, nat_tests, same_from_bits, length-high_first, length-low_first, get_or-high_first, bit-flip, bit-low_first)

@@ -1,4 +1,5 @@
 -- The bits of a number, the highest first.
+use Rattle.std.proofs.lemmas.Bool.Decides.{nat_tests}
 use Rattle.std.proofs.Common.{◌≡◌, ℕ, ◌+◌, ◌*◌, ◌/◌, ◌%◌, ◌^◌, ◌≤◌, ◌==◌, zero, suc, ◌∷◌, ◌++◌, refl, sym, ◌∙◌, ap, arith}
 use Rattle.std.specs.Int.{bit_at}
 use Rattle.std.proofs.lemmas.Nat.{shr-shr}
@@ -21,6 +22,4 @@ high_first-split (suc j) k v =
 pub high_first-low : (k n a w : ℕ) → k ≤ n → high_first k (a * 2 ^ n + w) ≡ high_first k w
 unfolding high_first
 high_first-low zero n a w short = refl
-high_first-low (suc k) n a w short =
-    ap (λ b. (b == 1) ∷ high_first k (a * 2 ^ n + w)) (bit_at_cat_low a n w k (omega arith))
-    ∙ ap (λ bits. (bit_at w k == 1) ∷ bits) (high_first-low k n a w (omega arith))
+high_first-low (suc k) n a w short = grind (arith, nat_tests, bit_at_cat_low, high_first-low k n a w (omega arith))

@@ -1,6 +1,6 @@
 -- 64 bits more at a turn, octet by octet.
-use Rattle.std.proofs.Common.{◌≡◌, ℕ, ◌+◌, ◌-◌, ◌*◌, ◌/◌, ◌%◌, ◌^◌, ◌<◌, ◌==◌, if◌then◌else◌, zero, suc, Bool, List, [], ◌++◌, length, get_or, refl, sym, ◌∙◌, ap, arith, bit_and, bit_xor}
-use Rattle.std.specs.Int.{bit_at}
+use Rattle.std.proofs.lemmas.Bool.Decides.{nat_tests}
+use Rattle.std.proofs.Common.{◌≡◌, ℕ, ◌+◌, ◌-◌, ◌*◌, ◌/◌, ◌%◌, ◌^◌, ◌<◌, ◌==◌, if◌then◌else◌, zero, suc, Bool, List, [], ◌++◌, get_or, refl, sym, ◌∙◌, ap, arith, bit_and, bit_xor}
 use Rattle.std.proofs.lemmas.List.FromFn.{get_or-map-range_with_len}
 use Rattle.std.proofs.Math.Nat.{mod-eq_of_lt}
 use Rattle.std.proofs.lemmas.Nat.{and_mask, shl-shr, shr-shr, shr_below, shr_split, xor_lt}
@@ -8,7 +8,7 @@ use Rattle.std.proofs.lemmas.Nat.Bits.{bit_at-lt, bit_at_xor}
 use lib.Bits.{xor_self, xor_zero_l, xor_zero_r}
 use Rattle.nr_bitvec.specs.BitList.{low_first}
 use Rattle.nr_crcattach.specs.declared.Poly.{Poly}
-use Rattle.nr_crcattach.specs.Crc.{degree, times_d, rho, residue, high_first}
+use Rattle.nr_crcattach.specs.Crc.{degree, times_d, residue, high_first}
 use Rattle.nr_crcattach.specs.Octets.{Continues, flip, octet_residues, octet_tables}
 use Rattle.nr_crcattach.proofs.FlipFacts.{flip-flip, flip-lt, flip-moved, flip-octet, flip-xor, high_first-flip}
 use Rattle.nr_crcattach.proofs.RemainderFacts.{length-high_first, residue-own}
@@ -36,18 +36,7 @@ digits (suc (suc x)) y r is_digit is_digit' = absurd (omega arith)
 pub residue-xor : (p : Poly) (s n a b : ℕ) → residue p s (high_first n (bit_xor a b)) ≡ bit_xor (residue p s (high_first n a)) (residue p s (high_first n b))
 unfolding residue high_first
 residue-xor p s zero a b = refl
-residue-xor p s (suc n) a b =
-    let power : (v : ℕ) → rho p (length (high_first n v) + s) ≡ rho p (n + s) = λ v. ap (λ m. rho p (m + s)) (length-high_first n v) in
-    let top : ℕ → ℕ = λ x. if x == 1 then rho p (n + s) else 0 in
-    let head : (v : ℕ) → residue p s (high_first (suc n) v) ≡ bit_xor (top (bit_at v n)) (residue p s (high_first n v)) =
-    λ v. ap (λ r. bit_xor (if bit_at v n == 1 then r else 0) (residue p s (high_first n v))) (power v) in
-    let sum : top (bit_at (bit_xor a b) n) ≡ bit_xor (top (bit_at a n)) (top (bit_at b n)) =
-    ap top (bit_at_xor a b n) ∙ digits (bit_at a n) (bit_at b n) (rho p (n + s)) (bit_at-lt a n) (bit_at-lt b n) in
-    head (bit_xor a b)
-    ∙ ap (λ r. bit_xor r (residue p s (high_first n (bit_xor a b)))) sum
-    ∙ ap (bit_xor (bit_xor (top (bit_at a n)) (top (bit_at b n)))) (residue-xor p s n a b)
-    ∙ xor_pairs (top (bit_at a n)) (top (bit_at b n)) (residue p s (high_first n a)) (residue p s (high_first n b))
-    ∙ sym (ap (λ r. bit_xor r (residue p s (high_first (suc n) b))) (head a) ∙ ap (bit_xor (bit_xor (top (bit_at a n)) (residue p s (high_first n a)))) (head b))
+residue-xor p s (suc n) a b = grind (arith, nat_tests, length-high_first, bit_at_xor, digits, bit_at-lt, residue-xor p s n a b, xor_pairs)
 
 -- ---- more powers of D
 
@@ -150,8 +139,7 @@ looked-up p k octet is_table is_octet =
 
 -- octet k of a word, looked up behind the octets that follow it
 looked-up_octet : (p : Poly) (v k octet : ℕ) → k < 8 → octet ≡ v / 2 ^ (8 * k) % 2 ^ 8 → get_or (get_or (octet_tables p) (7 - k) []) octet 0 ≡ flip (degree p) (checked p (7 - k) (flip 64 v / 2 ^ (8 * (7 - k)) % 2 ^ 8))
-looked-up_octet p v k octet is_table is_octet =
-    looked-up p (7 - k) octet (omega arith) (omega (arith, is_octet)) ∙ ap (λ o. flip (degree p) (checked p (7 - k) o)) (ap (flip 8) is_octet ∙ sym (flip-octet v k is_table))
+looked-up_octet p v k octet is_table is_octet = grind (arith, looked-up, flip-octet)
 
 -- what the code computes from the tables and a word, to which the check is added
 abbrev pub summed : List (List ℕ) → ℕ → ℕ
@@ -185,8 +173,7 @@ summed-is p v is_word =
 
 -- it is a remainder
 pub summed-lt : (p : Poly) (tables : List (List ℕ)) (v : ℕ) → tables ≡ octet_tables p → v < 2 ^ 64 → summed tables v < 2 ^ degree p
-summed-lt p tables v are_tables is_word =
-    rw (are_tables, summed-is p v is_word) (flip-lt (degree p) (residue p (degree p) (high_first 64 (flip 64 v))))
+summed-lt p tables v are_tables is_word = grind (arith, summed-is, flip-lt)
 
 -- a word to which the check is added is a word
 pub joined-lt : (p : Poly) (r word : ℕ) → r < 2 ^ degree p → word < 2 ^ 64 → bit_xor r word < 2 ^ 64

@@ -32,8 +32,7 @@ module _ (f : ℕ → ℕ) (sums : (a b : ℕ) → f (bit_xor a b) ≡ bit_xor (
   length-doubled : (n : ℕ) → length (doubled f n) ≡ 2 ^ n
   unfolding doubled with_top
   length-doubled zero = refl
-  length-doubled (suc n) =
-      length-append (doubled f n) (map (bit_xor (f (2 ^ n))) (doubled f n)) ∙ omega (arith, length-map (doubled f n) (bit_xor (f (2 ^ n))), length-doubled n)
+  length-doubled (suc n) = grind (arith, length-append, length-map, length-doubled n)
 
   get_or-doubled : (n k : ℕ) → k < 2 ^ n → get_or (doubled f n) k 0 ≡ f k
   unfolding doubled with_top

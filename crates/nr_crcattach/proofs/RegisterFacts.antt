@@ -34,10 +34,4 @@ residue-one p false = sym (times_d-zero p)
 
 -- one more bit at the end: it is added to the register's top, and all is multiplied by D
 pub residue-next : (p : Poly) (bits : List Bool) (bit : Bool) → residue p (degree p) (bits ++ bit ∷ []) ≡ times_d p (bit_xor (residue p (degree p) bits) (entering (degree p) bit))
-residue-next p bits bit =
-    let joined : residue p (degree p) (bits ++ bit ∷ []) ≡ bit_xor (residue p (1 + degree p) bits) (residue p (degree p) (bit ∷ [])) = residue-append p (degree p) bits (bit ∷ []) in
-    let raised : residue p (1 + degree p) bits ≡ times_d p (residue p (degree p) bits) =
-    let next : 1 + degree p ≡ suc (degree p) = omega arith in
-    ap (λ s. residue p s bits) next ∙ residue-suc p (degree p) bits in
-    let last : residue p (degree p) (bit ∷ []) ≡ times_d p (entering (degree p) bit) = residue-one p bit in
-    cc (times_d-xor p (residue p (degree p) bits) (entering (degree p) bit) (residue-lt p (degree p) bits) (entering-lt (degree p) bit (degree-positive p)))
+residue-next p bits bit = grind (arith, residue-append, residue-suc, residue-one, times_d-xor, residue-lt, entering-lt, degree-positive)

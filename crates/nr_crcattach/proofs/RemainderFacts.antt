@@ -1,5 +1,6 @@
 -- A list followed by its parity bits leaves remainder 0.
-use Rattle.std.proofs.Common.{◌≡◌, ℕ, ◌+◌, ◌*◌, ◌/◌, ◌%◌, ◌^◌, ◌<◌, ◌≤◌, ◌==◌, if◌then◌else◌, cond, nat_lt, true, false, zero, suc, Bool, List, [], ◌∷◌, ◌++◌, length, refl, sym, ◌∙◌, ap, arith, bit_xor, length-append, append_assoc}
+use Rattle.std.proofs.lemmas.Bool.Decides.{nat_tests}
+use Rattle.std.proofs.Common.{◌≡◌, ℕ, ◌+◌, ◌*◌, ◌/◌, ◌%◌, ◌^◌, ◌<◌, ◌≤◌, ◌==◌, if◌then◌else◌, cond, nat_lt, true, false, zero, suc, Bool, List, length, refl, sym, ◌∙◌, ap, arith, bit_xor, length-append}
 use Rattle.std.specs.Int.{bit_at}
 use Rattle.std.proofs.lemmas.Bool.{cond_below, cond_above}
 use Rattle.std.proofs.lemmas.Nat.{mod-pow-add, mod_below, pow-add, pow_pos, shl_below}
@@ -8,7 +9,7 @@ use Rattle.std.proofs.Math.Nat.{mod-eq_of_lt, zero-mul}
 use lib.Bits.{xor_self, xor_shifted}
 use Rattle.nr_crcattach.specs.declared.Poly.{Poly}
 use Rattle.nr_crcattach.specs.declared.Poly.TheVariants.{A24, C16}
-use Rattle.nr_crcattach.specs.Crc.{degree, times_d, rho, residue, high_first, crc_of, IsDivided}
+use Rattle.nr_crcattach.specs.Crc.{degree, rho, residue, high_first, crc_of, IsDivided}
 use Rattle.nr_crcattach.specs.Attachment.{attached, attached_length, block_poly, length_poly, with_check}
 use Rattle.nr_crcattach.proofs.ResidueFacts.{times_d-zero, times_d-zero_only, residue-lt, residue-append, residue-suc, rho-pow}
 
@@ -18,15 +19,9 @@ unfolding high_first
 length-high_first zero v = refl
 length-high_first (suc n) v = ap suc (length-high_first n v)
 
--- the highest of suc n bits stands before the others
-pub high_first-next : (n v : ℕ) (bits : List Bool) → (bits ++ (bit_at v n == 1) ∷ []) ++ high_first n v ≡ bits ++ high_first (suc n) v
-unfolding high_first
-high_first-next n v bits = append_assoc bits ((bit_at v n == 1) ∷ []) (high_first n v)
-
 -- parity bits lengthen a list by their number
 pub length-with_check : (p : Poly) (bits : List Bool) → length (with_check p bits) ≡ length bits + degree p
-length-with_check p bits =
-    length-append bits (high_first (degree p) (crc_of p bits)) ∙ ap (λ n. length bits + n) (length-high_first (degree p) (crc_of p bits))
+length-with_check p bits = grind (arith, length-append, length-high_first)
 
 -- the generator of a transport block of more than 3824 bits
 block_poly-long : (block : List Bool) → 3824 < length block → block_poly block ≡ A24
@@ -38,13 +33,11 @@ block_poly-short block short = sym (cond_above 3824 (length block) A24 C16 C16 s
 
 -- a transport block of more than 3824 bits has 24 bits more
 pub length-attached_long : (block : List Bool) → 3824 < length block → length (attached block) ≡ length block + 24
-length-attached_long block long =
-    length-with_check (block_poly block) block ∙ ap (λ p. length block + degree p) (block_poly-long block long)
+length-attached_long block long = grind (arith, length-with_check, block_poly-long)
 
 -- any other has 16 bits more
 pub length-attached_short : (block : List Bool) → length block ≤ 3824 → length (attached block) ≡ length block + 16
-length-attached_short block short =
-    length-with_check (block_poly block) block ∙ ap (λ p. length block + degree p) (block_poly-short block short)
+length-attached_short block short = grind (arith, length-with_check, block_poly-short)
 
 -- a generator's degree added to a length, by the test that chooses the generator
 added-degree : (a : ℕ) (long : Bool) → a + degree (cond long A24 C16) ≡ cond long (a + 24) (a + 16)
@@ -57,8 +50,7 @@ attached_length-degree a = added-degree a (nat_lt 3824 a)
 
 -- a transport block has as many bits with its parity bits as attached_length says
 pub length-attached : (block : List Bool) → length (attached block) ≡ attached_length (length block)
-length-attached block =
-    length-with_check (block_poly block) block ∙ attached_length-degree (length block)
+length-attached block = grind (arith, length-with_check, attached_length-degree)
 
 -- a bit above n lower bits
 top_bit : (bit n low : ℕ) → bit < 2 → low < 2 ^ n → bit_xor (if bit == 1 then 2 ^ n else 0) low ≡ bit * 2 ^ n + low
@@ -86,10 +78,7 @@ residue-high_first p s (suc n) v short =
 
 -- a remainder's bits are their own remainder
 pub residue-own : (p : Poly) (v : ℕ) → v < 2 ^ degree p → residue p 0 (high_first (degree p) v) ≡ v
-residue-own p v below =
-    let small : v % 2 ^ degree p ≡ v = mod-eq_of_lt below in
-    let one : (v % 2 ^ degree p) * 2 ^ 0 ≡ v % 2 ^ degree p = omega arith in
-    residue-high_first p 0 (degree p) v (omega arith) ∙ one ∙ small
+residue-own p v below = grind (arith, nat_tests, mod-eq_of_lt, residue-high_first)
 
 -- a list followed by its parity bits is divided by their generator
 pub IsDivided-with_check : (p : Poly) (bits : List Bool) → IsDivided p (with_check p bits)
@@ -106,11 +95,9 @@ IsDivided-with_check p bits =
 -- a power of D leaves remainder 0 only where the list does
 pub residue-zero_only : (p : Poly) (s : ℕ) (bits : List Bool) → residue p s bits ≡ 0 → residue p 0 bits ≡ 0
 residue-zero_only p zero bits none = none
-residue-zero_only p (suc s) bits none =
-    residue-zero_only p s bits (times_d-zero_only p (residue p s bits) (sym (residue-suc p s bits) ∙ none))
+residue-zero_only p (suc s) bits none = grind (arith, residue-zero_only p s bits (times_d-zero_only p (residue p s bits) (sym (residue-suc p s bits) ∙ none)), times_d-zero_only, residue-suc)
 
 -- and it does so there
 pub residue-zero : (p : Poly) (s : ℕ) (bits : List Bool) → residue p 0 bits ≡ 0 → residue p s bits ≡ 0
 residue-zero p zero bits none = none
-residue-zero p (suc s) bits none =
-    residue-suc p s bits ∙ ap (times_d p) (residue-zero p s bits none) ∙ times_d-zero p
+residue-zero p (suc s) bits none = grind (arith, residue-suc, residue-zero p s bits none, times_d-zero)

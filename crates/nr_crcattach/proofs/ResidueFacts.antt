@@ -1,4 +1,5 @@
 -- Remainders: times D, the powers of D, and the residue of a list.
+use Rattle.std.proofs.lemmas.Bool.Decides.{nat_tests}
 use Rattle.std.proofs.Common.{◌≡◌, ℕ, ◌+◌, ◌*◌, ◌^◌, ◌%◌, ◌<◌, ◌≤◌, zero, suc, Bool, true, false, List, [], ◌∷◌, ◌++◌, length, refl, sym, ◌∙◌, ap, inl, inr, arith, bit_xor, length-append}
 use Rattle.std.proofs.lemmas.Bool.{cases_lt, cond_below, cond_above}
 use Rattle.std.proofs.lemmas.Nat.{pow_below, pow_pos, xor_comm, xor_lt}
@@ -21,12 +22,7 @@ times_d-high p r high = sym (cond_above (2 * r) (2 ^ degree p) (2 * r) (bit_xor 
 
 -- a remainder times D is a remainder
 pub times_d-lt : (p : Poly) (r : ℕ) → r < 2 ^ degree p → times_d p r < 2 ^ degree p
-times_d-lt p r small =
-    elim (cases_lt (2 * r) (2 ^ degree p)) [
-      | inl low ↦ omega (arith, times_d-low p r low)
-      | inr high ↦
-          omega (arith, times_d-high p r high, xor_tops (degree p) (2 * r) (generator p) high (omega (arith, pow_next (degree p))) (generator-above p) (generator-below p))
-    ]
+times_d-lt p r small = grind (arith, nat_tests, cases_lt, times_d-low, times_d-high, xor_tops, pow_next, generator-above, generator-below)
 
 -- nothing times D is nothing
 pub times_d-zero : (p : Poly) → times_d p 0 ≡ 0
@@ -88,19 +84,14 @@ rho-lt p (suc n) = times_d-lt p (rho p n) (rho-lt p n)
 pub rho-pow : (p : Poly) (n : ℕ) → n < degree p → rho p n ≡ 2 ^ n
 unfolding rho
 rho-pow p zero below = refl
-rho-pow p (suc n) below =
-    let here : rho p n ≡ 2 ^ n = rho-pow p n (omega arith) in
-    let double : 2 ^ suc n ≡ 2 * 2 ^ n = pow-succ' 2 n in
-    let small : 2 ^ suc n < 2 ^ degree p = pow_below (suc n) (degree p) below in
-    ap (times_d p) here ∙ times_d-low p (2 ^ n) (omega arith) ∙ sym double
+rho-pow p (suc n) below = grind (arith, rho-pow p n (omega arith), pow-succ', pow_below, times_d-low)
 
 -- the residue of a list is a remainder
 pub residue-lt : (p : Poly) (s : ℕ) (bits : List Bool) → residue p s bits < 2 ^ degree p
 unfolding residue
 residue-lt p s [] = pow_pos (degree p)
 residue-lt p s (false ∷ bits) = residue-lt p s bits
-residue-lt p s (true ∷ bits) =
-    xor_lt (degree p) (rho p (length bits + s)) (residue p s bits) (rho-lt p (length bits + s)) (residue-lt p s bits)
+residue-lt p s (true ∷ bits) = grind (arith, nat_tests, xor_lt, rho-lt, residue-lt p s bits)
 
 -- the residue of two lists joined: what stands behind the first raises its powers
 pub residue-append : (p : Poly) (s : ℕ) (xs ys : List Bool) → residue p s (xs ++ ys) ≡ bit_xor (residue p (length ys + s) xs) (residue p s ys)

@@ -27,6 +27,4 @@ loop-i-preserved c =
     }
 
 pub returns-clause-value : goal.returns-clause-value
-returns-clause-value c =
-    let all : c.loop-i.i ≡ c.args.words = omega arith in
-    rw (← all) (c.flipped.ensures.value ∙ c.loop-i.invariant.value)
+returns-clause-value c = grind arith

@@ -1,5 +1,6 @@
 -- One more bit enters the register: `residue-next` at the code's numbers.
-use Rattle.std.proofs.Common.{◌≡◌, ℕ, ◌+◌, ◌-◌, ◌*◌, ◌%◌, ◌^◌, ◌<◌, Bool, true, false, [], ◌∷◌, ◌++◌, length-drop, take, drop, sym, ◌∙◌, ap, arith, bit_xor}
+use Rattle.std.proofs.lemmas.Bool.Decides.{nat_tests}
+use Rattle.std.proofs.Common.{◌≡◌, ℕ, ◌+◌, ◌-◌, ◌*◌, ◌%◌, ◌^◌, Bool, true, false, [], ◌∷◌, ◌++◌, length-drop, take, drop, sym, ◌∙◌, ap, arith, bit_xor}
 use Rattle.std.proofs.lemmas.Nat.{one_shl, xor_lt}
 use Rattle.std.proofs.lemmas.List.{take_more, get_or-drop}
 use Rattle.nr_crcattach.specs.declared.Poly.{Poly}
@@ -11,22 +12,14 @@ use mir.Val.{bool_byte}
 
 -- the code's bit << top
 shl-entering : (p : Poly) (byte top : ℕ) (bit : Bool) → byte ≡ bool_byte bit → top ≡ degree p → byte * 2 ^ (top - 1) % 2 ^ 32 ≡ entering (degree p) bit
-shl-entering p byte top true is_bit is_top =
-    ap (λ b. b * 2 ^ (top - 1) % 2 ^ 32) is_bit ∙ one_shl (top - 1) 32 (omega (arith, degree-le p)) ∙ ap (λ n. 2 ^ (n - 1)) is_top
-shl-entering p byte top false is_bit is_top =
-    let none : 0 * 2 ^ (top - 1) % 2 ^ 32 ≡ 0 = omega arith in
-    ap (λ b. b * 2 ^ (top - 1) % 2 ^ 32) is_bit ∙ none
+shl-entering p byte top true is_bit is_top = grind (arith, one_shl, degree-le)
+shl-entering p byte top false is_bit is_top = grind arith
 
 pub loop-i-init : goal.loop-i-init
 loop-i-init c = record { value = c.crc_of_words-register.ensures.value; fits = c.crc_of_words-register.ensures.fits }
 
 pub times_d-register-requires : goal.times_d-register-requires
-times_d-register-requires c =
-    let p = c.args.poly in
-    let bit = shl-entering p c.from.result c.degree-top.result c.get.result c.from.ensures c.degree-top.ensures in
-    let added : bit_xor c.loop-i.register (entering (degree p) c.get.result) < 2 ^ degree p =
-    xor_lt (degree p) c.loop-i.register (entering (degree p) c.get.result) c.loop-i.invariant.fits (entering-lt (degree p) c.get.result (degree-positive p)) in
-    rw bit added
+times_d-register-requires c = grind (arith, nat_tests, shl-entering, xor_lt, entering-lt, degree-positive)
 
 pub loop-i-preserved : goal.loop-i-preserved
 loop-i-preserved c =
@@ -50,9 +43,4 @@ loop-i-preserved c =
     }
 
 pub returns : goal.returns
-returns c =
-    let all : c.loop-i.i ≡ c.args.len = omega arith in
-    record {
-      value = rw (← all) c.loop-i.invariant.value;
-      fits = c.loop-i.invariant.fits;
-    }
+returns c = grind arith

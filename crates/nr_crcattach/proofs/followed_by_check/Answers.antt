@@ -3,5 +3,4 @@ use Rattle.nr_crcattach.proofs.RemainderFacts.{length-with_check}
 use Rattle.nr_crcattach.proofs.followed_by_check.Goals as goal
 
 pub put_with_check-requires : goal.put_with_check-requires
-put_with_check-requires c =
-    omega (arith, length-with_check c.args.poly c.args.bits.now.items, c.degree.ensures, c.in_ok-checked.ensures.room)
+put_with_check-requires c = grind (arith, length-with_check)

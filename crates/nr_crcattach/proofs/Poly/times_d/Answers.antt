@@ -1,5 +1,5 @@
 -- The test of the code is that of the definition: doubled, the remainder still fits its number of bits.
-use Rattle.std.proofs.Common.{◌≡◌, ℕ, ◌*◌, ◌%◌, ◌^◌, sym, ◌∙◌, ap, arith, bit_xor}
+use Rattle.std.proofs.Common.{◌≡◌, ℕ, ◌*◌, ◌%◌, ◌^◌, ◌∙◌, ap, arith}
 use Rattle.std.proofs.lemmas.Nat.{one_shl}
 use Rattle.nr_crcattach.specs.declared.Poly.{Poly}
 use Rattle.nr_crcattach.specs.Crc.{degree}
@@ -15,19 +15,10 @@ pub overflow_mul-doubled : goal.overflow_mul-doubled
 overflow_mul-doubled c = omega (arith, remainders-le c.args.self)
 
 pub returns-then-doubled-degree-clause-value : goal.returns-then-doubled-degree-clause-value
-returns-then-doubled-degree-clause-value c =
-    let p = c.args.self in
-    let bound : 1 * 2 ^ c.degree.result % 2 ^ 32 ≡ 2 ^ degree p = one_shl-degree p c.degree.result c.degree.ensures in
-    sym (times_d-low p c.args.remainder (omega arith))
+returns-then-doubled-degree-clause-value c = grind (arith, one_shl-degree, times_d-low)
 
 pub returns-else-doubled-degree-clause-value : goal.returns-else-doubled-degree-clause-value
-returns-else-doubled-degree-clause-value c =
-    let p = c.args.self in
-    let bound : 1 * 2 ^ c.degree.result % 2 ^ 32 ≡ 2 ^ degree p = one_shl-degree p c.degree.result c.degree.ensures in
-    ap (bit_xor (2 * c.args.remainder)) c.generator.ensures
-    ∙ sym (times_d-high p c.args.remainder (omega arith))
+returns-else-doubled-degree-clause-value c = grind (arith, one_shl-degree, times_d-high)
 
 pub returns-else-doubled-degree-clause-fits : goal.returns-else-doubled-degree-clause-fits
-returns-else-doubled-degree-clause-fits c =
-    let p = c.args.self in
-    omega (arith, returns-else-doubled-degree-clause-value c, times_d-lt p c.args.remainder c.requires)
+returns-else-doubled-degree-clause-fits c = grind (arith, returns-else-doubled-degree-clause-value, times_d-lt)
