@@ -1,5 +1,5 @@
 -- Bits of words that change places in steps, and eight columns that become octets of their rows.
-use Rattle.std.proofs.Common.{◌≡◌, ℕ, ◌+◌, ◌-◌, ◌*◌, ◌/◌, ◌%◌, ◌^◌, ◌<◌, ◌≤◌, ◌==◌, ◌||◌, ◌&&◌, inl, inr, min, max, if◌then◌else◌, Bool, true, false, List, [], ◌∷◌, ◌++◌, length, get_or, set, refl, sym, ap, subst, ◌∙◌, arith, get_or-set_same, get_or-set_other}
+use Rattle.std.proofs.Common.{rules, ◌≡◌, ℕ, ◌+◌, ◌-◌, ◌*◌, ◌/◌, ◌%◌, ◌^◌, ◌<◌, ◌≤◌, ◌==◌, ◌||◌, ◌&&◌, inl, inr, min, max, if◌then◌else◌, Bool, true, false, List, [], ◌∷◌, length, get_or, set, refl, sym, ap, ◌∙◌, arith, get_or-set_same, get_or-set_other}
 use Rattle.std.specs.Int.{bit_at}
 use Rattle.std.specs.Int.RustNames.{bit_and, bit_or}
 use Rattle.std.specs.List.{flat_map, list_any}
@@ -90,9 +90,7 @@ marked x k true false same = refl
 marked x k false false same = refl
 
 in-mask : (x n mask p k : ℕ) → (bit_at mask p ≡ 1 → bit_at n p ≡ bit_at x k) → (bit_at (bit_and n mask) p == 1) ≡ list_any (λ k. bit_at x k == 1) (only_in mask p k)
-in-mask x n mask p k same =
-    and-one n mask p
-    ∙ marked x k (bit_at n p == 1) (bit_at mask p == 1) (λ mark. ap (λ b. b == 1) (same (eqb-true (bit_at mask p) 1 mark)))
+in-mask x n mask p k same = search (rules, and-one, marked, eqb-true)
 
 -- a raised mask has places of the word alone, from there on
 pub record IsRaised (by p : ℕ) : Type 0 where
@@ -119,26 +117,14 @@ moved-up x mask lane by p few =
     bit_at_mod (x * 2 ^ by) 64 p there.inside ∙ bit_at_shl_high x by p (omega (arith, few, there.above)))
 
 pub apart-gets : (x mask lane by : ℕ) → by ≤ lane → Gets (apart_from mask lane by) x (bit_or (bit_and x mask) (bit_and (x * 2 ^ by % 2 ^ 64) (mask * 2 ^ lane % 2 ^ 64)))
-apart-gets x mask lane by few = record {
-  bits = λ p. cc (or-one (bit_and x mask) (bit_and (x * 2 ^ by % 2 ^ 64) (moved_up mask lane)) p, in-mask x x mask p p (λ mark. refl), moved-up x mask lane by p few, list_any-append (λ k. bit_at x k == 1) (only_in mask p p) (only_in (moved_up mask lane) p (p - by)));
-}
+apart-gets x mask lane by few = grind (arith, nat_tests, or-one, in-mask, moved-up, list_any-append)
 
 pub together-gets : (x mask lane by : ℕ) → Gets (together_from mask lane by) x (bit_or (bit_and x mask) (bit_and (x / 2 ^ by) (mask * 2 ^ (lane - by) % 2 ^ 64)))
-together-gets x mask lane by = record {
-  bits = λ p. cc (or-one (bit_and x mask) (bit_and (x / 2 ^ by) (moved_up mask (lane - by))) p, in-mask x x mask p p (λ mark. refl), in-mask x (x / 2 ^ by) (moved_up mask (lane - by)) p (by + p) (λ mark. bit_at_shr x by p), list_any-append (λ k. bit_at x k == 1) (only_in mask p p) (only_in (moved_up mask (lane - by)) p (by + p)));
-}
+together-gets x mask lane by = grind (arith, nat_tests, or-one, in-mask, bit_at_shr, list_any-append)
 
 pub exchanged-gets : (x mask by : ℕ) → Gets (exchanged_from mask by) x
     (bit_or (bit_or (bit_and x (neither mask (moved_up mask by))) (bit_and (x * 2 ^ by % 2 ^ 64) (moved_up mask by))) (bit_and (x / 2 ^ by) mask))
-exchanged-gets x mask by = record {
-  bits = λ p.
-      let test : ℕ → Bool = λ k. bit_at x k == 1 in
-      let kept : ℕ = bit_and x (neither mask (moved_up mask by)) in
-      let up : ℕ = bit_and (x * 2 ^ by % 2 ^ 64) (moved_up mask by) in
-      let stays : List ℕ = only_in (neither mask (moved_up mask by)) p p in
-      let comes : List ℕ = only_in (moved_up mask by) p (p - by) in
-      cc (or-one (bit_or kept up) (bit_and (x / 2 ^ by) mask) p, or-one kept up p, in-mask x x (neither mask (moved_up mask by)) p p (λ mark. refl), moved-up x mask by by p (omega arith), in-mask x (x / 2 ^ by) mask p (by + p) (λ mark. bit_at_shr x by p), list_any-append test stays comes, list_any-append test (stays ++ comes) (only_in mask p (by + p)));
-}
+exchanged-gets x mask by = grind (arith, nat_tests, or-one, in-mask, moved-up, bit_at_shr, list_any-append)
 
 through : (earlier : ℕ → List ℕ) (x w : ℕ) → Gets earlier x w → (ks : List ℕ)
     → list_any (λ k. bit_at w k == 1) ks ≡ list_any (λ k. bit_at x k == 1) (flat_map earlier ks)
@@ -205,11 +191,4 @@ module _ (octets : List ℕ) (row eight word : ℕ) (inside : eight < 8)
 -- what is true of each word so far is true of one more
 pub each-more : (P : ℕ → ℕ → Type 0) (xs : List ℕ) (i v : ℕ) → i < length xs → P i v → ((k : ℕ) → k < i → P k (get_or xs k 0))
     → (k : ℕ) → k < i + 1 → P k (get_or (set xs i v) k 0)
-each-more P xs i v inside here before k below = elim (cases_eq k i) [
-  | inl same ↦
-      let now : get_or (set xs i v) k 0 ≡ v = ap (λ n. get_or (set xs i v) n 0) same ∙ get_or-set_same xs i v 0 inside in
-      let at_i : P k v = subst (λ (n : ℕ). P n v) (sym same) here in
-      subst (λ (w : ℕ). P k w) (sym now) at_i
-  | inr other ↦
-      subst (λ (w : ℕ). P k w) (sym (get_or-set_other xs i k v 0 other)) (before k (omega (arith, below, other)))
-]
+each-more P xs i v inside here before k below = grind (arith, cases_eq, get_or-set_same, get_or-set_other)

@@ -1,5 +1,6 @@
 -- The seats of interleaving: each index is given once.
-use Rattle.std.proofs.Common.{◌≡◌, ℕ, ◌+◌, ◌*◌, ◌/◌, ◌%◌, ◌<◌, ◌≤◌, inl, inr, sym, ◌∙◌, ap, arith}
+use Rattle.std.proofs.Common.{rules, ◌≡◌, ℕ, ◌+◌, ◌*◌, ◌/◌, ◌%◌, ◌<◌, ◌≤◌, sym, ◌∙◌, ap, arith}
+use Rattle.std.proofs.lemmas.Bool.Decides.{nat_tests}
 use Rattle.std.proofs.Math.Nat.{div-add-mod, div-lt_iff_lt-mul, mod-lt, mul-le-mul_right, mul_comm}
 use Rattle.std.proofs.lemmas.Bool.{cases_lt}
 use Rattle.std.proofs.lemmas.Nat.{div-mul-add, mod-mul-add, mul-add-lt}
@@ -11,10 +12,7 @@ whole-is qm e whole = let split = div-add-mod e qm in omega arith
 
 -- a place's column is one of the matrix
 pub column-below : (qm e m : ℕ) → 0 < qm → e % qm ≡ 0 → m < e → m / qm < e / qm
-column-below qm e m some whole inside =
-    let all = whole-is qm e whole in
-    let below : m < e / qm * qm = omega arith in
-    (div-lt_iff_lt-mul some).1 below
+column-below qm e m some whole inside = search (rules, whole-is, div-lt_iff_lt-mul)
 
 pub seat-inside : (qm e m : ℕ) → 0 < qm → e % qm ≡ 0 → m < e → seat_of qm e m < e
 seat-inside qm e m some whole inside =
@@ -41,10 +39,7 @@ seat-apart qm e m n some whole inside other same =
     places ∙ div-add-mod n qm
 
 pub seating : (qm e : ℕ) → 0 < qm → e % qm ≡ 0 → IsSeating qm e
-seating qm e some whole = record {
-  inside = λ m inside. seat-inside qm e m some whole inside;
-  apart = λ m n inside other same. seat-apart qm e m n some whole inside other same;
-}
+seating qm e some whole = grind (arith, seat-inside, seat-apart)
 
 -- each index is given: a place of it
 pub record IsGiven (qm e k : ℕ) : Type 0 where
@@ -54,17 +49,10 @@ pub record IsGiven (qm e k : ℕ) : Type 0 where
 
 -- a matrix that has an index has a column
 pub columns-some : (qm e k : ℕ) → e % qm ≡ 0 → k < e → 0 < e / qm
-columns-some qm e k whole inside = elim (cases_lt 0 (e / qm)) [
-  | inl some ↦ some
-  | inr none ↦
-      let zero-is : e / qm ≡ 0 = omega (arith, none) in
-      let product : qm * (e / qm) ≡ qm * 0 = ap (λ n. qm * n) zero-is in
-      absurd (omega (arith, whole-is qm e whole, product, inside))
-]
+columns-some qm e k whole inside = grind (arith, nat_tests, cases_lt, whole-is)
 
 pub row-below : (qm e k : ℕ) → e % qm ≡ 0 → k < e → k / (e / qm) < qm
-row-below qm e k whole inside =
-    (div-lt_iff_lt-mul (columns-some qm e k whole inside)).1 (omega (arith, inside, whole-is qm e whole))
+row-below qm e k whole inside = search (rules, div-lt_iff_lt-mul, columns-some, whole-is)
 
 -- the place of row k / columns in column k % columns
 pub place-below : (qm e k : ℕ) → e % qm ≡ 0 → k < e → qm * (k % (e / qm)) + k / (e / qm) < e

@@ -43,26 +43,13 @@ columns-word xs qm wide columns column n word some whole e few inside reads =
 -- all columns are all bits
 pub columns-all : (xs : List Bool) (qm n : ℕ) → length xs % qm ≡ 0 → n ≡ length xs / qm → take (qm * n) (interleaved qm xs) ≡ interleaved qm xs
 unfolding interleaved
-columns-all xs qm n whole e =
-    let placed : ℕ → Bool = λ m. bit xs (seat_of qm (length xs) m) in
-    let all : qm * n ≡ length xs = ap (λ k. qm * k) e ∙ whole-is qm (length xs) whole in
-    take_all (qm * n) (map placed (range_with_len 0 (length xs))) (omega (arith, all, length-map-range_with_len placed 0 (length xs)))
+columns-all xs qm n whole e = grind (arith, whole-is, take_all, length-map-range_with_len)
 
 -- one row stays as it is
 pub one-row : (xs : List Bool) → take (length xs) (drop 0 xs) ≡ interleaved 1 xs
 unfolding interleaved
-one-row xs =
-    let placed : ℕ → Bool = λ m. bit xs (seat_of 1 (length xs) m) in
-    let long : length (map placed (range_with_len 0 (length xs))) ≡ length xs = length-map-range_with_len placed 0 (length xs) in
-    take_all (length xs) xs (omega arith) ∙ same_from_bits xs (map placed (range_with_len 0 (length xs))) (sym long)
-    (λ t h.
-    let none : t % 1 ≡ 0 = omega arith in
-    let row : t % 1 * (length xs / 1) ≡ 0 = ap (λ k. k * (length xs / 1)) none ∙ omega arith in
-    let seat : seat_of 1 (length xs) t ≡ t = omega (arith, row) in
-    ap (bit xs) (sym seat) ∙ sym (get_or-map-range_with_len placed 0 (length xs) t t false h (omega arith)))
+one-row xs = grind (arith, length-map-range_with_len, take_all, same_from_bits, get_or-map-range_with_len)
 
 -- columns have room among all bits
 pub columns-inside : (long qm column n : ℕ) → long % qm ≡ 0 → column + n ≤ long / qm → qm * column + qm * n ≤ long
-columns-inside long qm column n whole inside =
-    let part : qm * (column + n) ≤ qm * (long / qm) = mul-le-mul_left qm inside in
-    omega (arith, part, whole-is qm long whole)
+columns-inside long qm column n whole inside = grind (arith, mul-le-mul_left, whole-is)

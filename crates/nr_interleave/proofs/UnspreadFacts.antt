@@ -12,15 +12,11 @@ use Rattle.nr_interleave.specs.Unspreading.{row_by_row}
 
 -- a place of a row before another row's column
 pub place-before : (columns r row k column : ℕ) → r ≤ row → k < column → r * columns + k < row * columns + column
-place-before columns r row k column order below =
-    let rows : r * columns ≤ row * columns = mul-le-mul_right columns order in
-    omega (arith, rows, below)
+place-before columns r row k column order below = grind (arith, mul-le-mul_right)
 
 -- and one of a later row, behind it
 pub place-behind : (columns r row k past : ℕ) → row < r → past ≤ columns → row * columns + past ≤ r * columns + k
-place-behind columns r row k past order inside =
-    let rows : (row + 1) * columns ≤ r * columns = mul-le-mul_right columns (omega (arith, order)) in
-    omega (arith, rows, inside)
+place-behind columns r row k past order inside = grind (arith, mul-le-mul_right)
 
 -- all rows
 pub rows-are : (qm from count : ℕ) (bits xs : List Bool) → count % qm ≡ 0 → length xs ≡ count
@@ -69,6 +65,4 @@ rows-unspread qm from count bits some whole inside =
 -- they are so many
 pub rows-many : (qm from count : ℕ) (bits old new : List Bool) → old ≡ [] → new ≡ old ++ row_by_row qm bits from count → length new ≡ count
 unfolding row_by_row
-rows-many qm from count bits old new none is =
-    ap length (is ∙ ap (λ xs. xs ++ row_by_row qm bits from count) none)
-    ∙ length-map-range_with_len (λ k. bit bits (from + (qm * (k % (count / qm)) + k / (count / qm)))) 0 count
+rows-many qm from count bits old new none is = grind (arith, length-map-range_with_len)

@@ -25,10 +25,4 @@ loop-m-preserved c =
 
 pub returns-clause-items : goal.returns-clause-items
 unfolding interleaved
-returns-clause-items c =
-    let bits = c.args.bits.now.items in
-    let placed : ℕ → Bool = λ m. bit bits (seat_of c.args.qm (length bits) m) in
-    let last = c.loop-m-test.false in
-    let most = c.loop-m.auto.m-end in
-    let all : c.loop-m.m ≡ length bits = let e = c.len-e.ensures.value in omega arith in
-    c.loop-m.invariant.placed ∙ ap (λ n. c.args.spread.now.items ++ map placed (range_with_len 0 n)) all
+returns-clause-items c = grind arith

@@ -1,4 +1,4 @@
-use Rattle.std.proofs.Common.{◌≡◌, ◌+◌, ◌*◌, ◌/◌, ◌%◌, ◌<◌, ◌≤◌, ◌++◌, ◌∙◌, min, length, slice_index_or, take, ap, sym, arith}
+use Rattle.std.proofs.Common.{◌≡◌, ◌+◌, ◌*◌, ◌/◌, ◌%◌, ◌<◌, ◌++◌, ◌∙◌, min, length, slice_index_or, take, ap, sym, arith}
 use Rattle.std.proofs.Math.Nat.{mul-le-mul_left}
 use Rattle.nr_bitvec.proofs.RangeWordFacts.{taken-more}
 use Rattle.nr_bitvec.specs.Bit.{bit}
@@ -8,20 +8,10 @@ use Rattle.nr_interleave.proofs.SpreadFacts.{columns-word, columns-all, columns-
 use Rattle.nr_interleave.proofs.columns.by_columns.Goals as goal
 
 pub push_word-requires-clause-count : goal.push_word-requires-clause-count
-push_word-requires-clause-count g c =
-    let part : g.row.QM * c.min-wide.result ≤ g.row.QM * 8 = mul-le-mul_left g.row.QM (omega (arith, c.min-wide.ensures)) in
-    omega (arith, part, c.requires.few)
+push_word-requires-clause-count g c = grind (arith, mul-le-mul_left)
 
 pub push_word-requires-clause-room : goal.push_word-requires-clause-room
-push_word-requires-clause-room g c =
-    let eight = c.loop-eight.eight in
-    let columns : c.len-columns.result / g.row.QM ≡ length c.args.bits.now.items / g.row.QM = ap (λ n. n / g.row.QM) c.len-columns.ensures.value in
-    let more : 8 * eight < c.len-columns.result / g.row.QM = omega (arith, c.loop-eight-test.true, c.loop-eight.auto.eight-end, c.div_ceil-eight-end.ensures) in
-    let so_far : min (8 * eight) (c.len-columns.result / g.row.QM) ≡ 8 * eight = omega (arith, more) in
-    let placed : g.row.QM * min (8 * eight) (c.len-columns.result / g.row.QM) ≡ g.row.QM * (8 * eight) = ap (λ n. g.row.QM * n) so_far in
-    let inside : g.row.QM * (8 * eight) + g.row.QM * c.min-wide.result ≤ length c.args.bits.now.items =
-    columns-inside (length c.args.bits.now.items) g.row.QM (8 * eight) c.min-wide.result c.requires.whole (omega (arith, more, c.min-wide.ensures, columns)) in
-    omega (arith, placed, inside, c.loop-eight.invariant.room, c.requires.room)
+push_word-requires-clause-room g c = grind (arith, columns-inside)
 
 pub loop-eight-preserved : goal.loop-eight-preserved
 loop-eight-preserved g c =
@@ -49,9 +39,4 @@ loop-eight-preserved g c =
     }
 
 pub returns-clause-items : goal.returns-clause-items
-returns-clause-items g c =
-    let columns : c.len-columns.result / g.row.QM ≡ length c.args.bits.now.items / g.row.QM = ap (λ n. n / g.row.QM) c.len-columns.ensures.value in
-    let last : min (8 * c.loop-eight.eight) (c.len-columns.result / g.row.QM) ≡ length c.args.bits.now.items / g.row.QM = omega (arith, c.loop-eight-test.false, c.div_ceil-eight-end.ensures, columns) in
-    let old = c.args.spread.now.items in
-    let bits = c.args.bits.now.items in
-    c.loop-eight.invariant.spread ∙ ap (λ xs. old ++ xs) (columns-all bits g.row.QM (min (8 * c.loop-eight.eight) (c.len-columns.result / g.row.QM)) c.requires.whole last)
+returns-clause-items g c = grind (arith, columns-all)

@@ -28,7 +28,4 @@ loop-column-preserved g c =
     }
 
 pub returns-clause-items : goal.returns-clause-items
-returns-clause-items g c =
-    rows-are g.row.QM c.args.from c.args.count c.args.bits.now.items c.loop-column.selected.items c.requires.whole
-    (c.loop-column.invariant.long ∙ c.lengthen.ensures.long)
-    (λ r k low below. c.loop-column.invariant.put r k low (omega (arith, below, c.loop-column-test.false)))
+returns-clause-items g c = grind (arith, rows-are)

@@ -1,4 +1,4 @@
-use Rattle.std.proofs.Common.{◌≡◌, ℕ, ◌+◌, ◌*◌, ◌/◌, ◌%◌, ◌++◌, Bool, [], ◌∷◌, map, sym, ap, ◌∙◌, arith}
+use Rattle.std.proofs.Common.{ℕ, ◌+◌, ◌*◌, ◌/◌, ◌%◌, ◌++◌, Bool, [], ◌∷◌, map, sym, ap, ◌∙◌, arith}
 use Rattle.std.specs.List.{range_with_len}
 use Rattle.std.proofs.lemmas.List.{append_assoc}
 use Rattle.std.proofs.lemmas.List.FromFn.{map-range_with_len_more}
@@ -8,8 +8,7 @@ use Rattle.nr_interleave.proofs.SeatFacts.{place-below}
 use Rattle.nr_interleave.proofs.rows.by_seats.Goals as goal
 
 pub overflow_add-from : goal.overflow_add-from
-overflow_add-from c =
-    omega (arith, place-below c.args.qm c.args.count c.loop-k.k c.requires.whole c.loop-k-test.true, c.requires.short)
+overflow_add-from c = grind (arith, place-below)
 
 pub get-requires : goal.get-requires
 get-requires c = omega (arith, place-below c.args.qm c.args.count c.loop-k.k c.requires.whole c.loop-k-test.true, c.requires.inside)
@@ -31,8 +30,4 @@ loop-k-preserved c =
 
 pub returns-clause-items : goal.returns-clause-items
 unfolding row_by_row
-returns-clause-items c =
-    let columns : ℕ = c.args.count / c.args.qm in
-    let f : ℕ → Bool = λ k. bit c.args.bits.now.items (c.args.from + (c.args.qm * (k % columns) + k / columns)) in
-    let all : c.loop-k.k ≡ c.args.count = omega (arith, c.loop-k-test.false, c.loop-k.auto.k-end) in
-    c.loop-k.invariant.items ∙ ap (λ n. c.args.selected.now.items ++ map f (range_with_len 0 n)) all
+returns-clause-items c = grind arith
