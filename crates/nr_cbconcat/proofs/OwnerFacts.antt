@@ -18,10 +18,7 @@ owner-later e lengths m behind = let is : nat_lt m e ≡ false = grind (arith, n
 
 pub owner-only : (lengths : List ℕ) (m r p : ℕ) → IsOwner lengths m r p → (r, p) ≡ owner_of lengths m
 owner-only [] m r p owner = let block : r < 0 = owner.block in let none : ⊥ = omega arith in absurd none
-owner-only (e ∷ lengths) m zero p owner =
-    let here : m ≡ p = owner.joined ∙ omega arith in
-    let below : p < e = owner.inside in
-    ap (λ q. (0, q)) (sym here) ∙ owner-first e lengths m (omega arith)
+owner-only (e ∷ lengths) m zero p owner = grind (arith, owner-first)
 owner-only (e ∷ lengths) m (suc r) p owner =
     let front = sum-cons e (take r lengths) in
     let joined = owner.joined in
@@ -35,13 +32,7 @@ owner-only (e ∷ lengths) m (suc r) p owner =
 -- one code block more stands before the owner
 owner-behind : (e : ℕ) (lengths : List ℕ) (m r p : ℕ) → e ≤ m → IsOwner lengths (m - e) r p
     → IsOwner (e ∷ lengths) m (1 + r) p
-owner-behind e lengths m r p behind rest =
-    let goal : ℕ → Type 0 = λ k. IsOwner (e ∷ lengths) m k p in
-    let next : suc r ≡ 1 + r = omega arith in
-    let block = rest.block in
-    let joined = rest.joined in
-    let front = sum-cons e (take r lengths) in
-    subst goal next (record { block = omega arith; inside = rest.inside; joined = omega arith })
+owner-behind e lengths m r p behind rest = grind (arith, sum-cons)
 
 pub owner-is : (lengths : List ℕ) (m : ℕ) → m < sum lengths → IsOwner lengths m (owner_of lengths m).0 (owner_of lengths m).1
 owner-is [] m inside = let below : m < 0 = inside in let none : ⊥ = omega arith in absurd none
