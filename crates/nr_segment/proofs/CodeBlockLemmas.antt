@@ -1,4 +1,5 @@
 -- Cutting into code blocks and joining them.
+use Rattle.std.proofs.lemmas.Bool.Decides.{nat_tests}
 use Rattle.std.proofs.Common.{◌≡◌, ℕ, ◌+◌, ◌-◌, ◌*◌, ◌<◌, ◌≤◌, ◌++◌, nat_lt, suc, zero, Bool, true, false, cond, List, [], ◌∷◌, length, map, take, drop, slice_index_or, get_or, flat_map, All, Ok, refl, arith, ap, ◌∙◌, sym, length-append, length-drop, append-nil, replicate}
 use Rattle.std.proofs.lemmas.Grind.{flat_map-append}
 use Rattle.std.proofs.lemmas.List.{length-replicate, length-take-le, take-append-le, take_all, get_or-take}
@@ -18,22 +19,16 @@ use Rattle.nr_segment.proofs.PlanLemmas.{sound-plan}
 
 -- the share of a code block is inside the transport block
 pub share-inside : (c s b r : ℕ) → c * s ≡ b → r < c → r * s + s ≤ b
-share-inside c s b r whole one =
-    let next : r + 1 ≤ c = omega arith in
-    let up : (r + 1) * s ≤ c * s = mul-le-mul_right s next in
-    omega arith
+share-inside c s b r whole one = grind (arith, mul-le-mul_right)
 
 -- a piece that is inside a list has its whole length
 length-piece : (s from : ℕ) (bits : List Bool) → from + s ≤ length bits → length (take s (drop from bits)) ≡ s
-length-piece s from bits inside =
-    length-take-le s (drop from bits) (simp length-drop (omega arith))
+length-piece s from bits inside = grind (arith, length-take-le, length-drop)
 
 -- each code block has K - L bits of the transport block
 length-shared_bits : (graph : Graph) (b : ℕ) (p : Numbers) (bits : List Bool) (r : ℕ) → IsSound graph b p → length bits ≡ b → r < p.c
     → length (shared_bits p bits r) ≡ share p
-length-shared_bits graph b p bits r sound long one =
-    let inside : r * share p + share p ≤ b = share-inside p.c (share p) b r sound.shared one in
-    length-piece (share p) (part_of p r 0) bits (omega arith)
+length-shared_bits graph b p bits r sound long one = grind (arith, share-inside, length-piece)
 
 -- each code block has K' bits
 pub length-code_bits : (graph : Graph) (b : ℕ) (p : Numbers) (bits : List Bool) (r : ℕ) → plan_of graph b ≡ Ok p
@@ -63,17 +58,7 @@ length-code_block graph b p bits r planned long one =
 -- the bits before its CRC are the share of a code block
 take-code_bits : (graph : Graph) (b : ℕ) (p : Numbers) (bits : List Bool) (r : ℕ) → IsSound graph b p → length bits ≡ b → r < p.c
     → take (share p) (code_bits p bits r) ≡ shared_bits p bits r
-take-code_bits graph b p bits r sound long one = go (nat_lt 1 p.c) (length-shared_bits graph b p bits r sound long one)
-  where
-    go : (many : Bool) → length (shared_bits p bits r) ≡ share p
-        → take (share p) (cond many (shared_bits p bits r ++ high_first 24 (crc_of B24 (shared_bits p bits r))) (shared_bits p bits r)) ≡ shared_bits p bits r
-    go true shared =
-        let fits : share p ≤ length (shared_bits p bits r) = omega arith in
-        let all : length (shared_bits p bits r) ≤ share p = omega arith in
-        take-append-le (share p) (shared_bits p bits r) _ fits ∙ take_all (share p) (shared_bits p bits r) all
-    go false shared =
-        let all : length (shared_bits p bits r) ≤ share p = omega arith in
-        take_all (share p) (shared_bits p bits r) all
+take-code_bits graph b p bits r sound long one = grind (arith, nat_tests, length-shared_bits, take-append-le, take_all)
 
 -- the first n code blocks join to their shares of the transport block
 joined-front : (graph : Graph) (b : ℕ) (p : Numbers) (bits : List Bool) (n : ℕ) → IsSound graph b p → length bits ≡ b → n ≤ p.c

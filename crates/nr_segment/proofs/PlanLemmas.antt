@@ -48,18 +48,7 @@ several most b c kdash most_some b_some covers some total = (above (cases_lt 24 
 -- all b bits stand in one code block
 one-block : (b kb cols : ℕ) → 24 ≤ b → b ≤ kb * 384 → 4 ≤ kb → kb ≤ cols → cols ≤ 22
     → IsShared b 0 1 ((b + 1 * 0) / 1) kb cols
-one-block b kb cols least spread wide narrow cols_most = record {
-  some = omega arith;
-  few = omega arith;
-  several = refl;
-  checked = omega arith;
-  total = omega arith;
-  least = omega arith;
-  spread = omega arith;
-  wide = wide;
-  narrow = narrow;
-  cols_most = cols_most;
-}
+one-block b kb cols least spread wide narrow cols_most = grind (arith, several)
 
 -- they are shared out to c code blocks
 several-blocks : (most b c kb cols : ℕ) → 0 < most → 0 < b → 1 < c → c ≤ 344 → b ≤ c * most
@@ -86,19 +75,7 @@ several-blocks most b c kb cols most_some b_some many few covers spread wide nar
 -- with base graph 1
 shared-one : (b : ℕ) → 24 ≤ b → b ≤ 1310744 → total_bits One b % block_count One b ≡ 0
     → IsShared b (check_bits One b) (block_count One b) (kdash_of One b) (info_columns One b) 22
-shared-one b least most even = go (nat_le b 8448) refl even
-  where
-    go : (one : Bool) → nat_le b 8448 ≡ one
-        → (b + cond one 1 (div_ceil b 8424) * cond one 0 24) % cond one 1 (div_ceil b 8424) ≡ 0
-        → IsShared b (cond one 0 24) (cond one 1 (div_ceil b 8424))
-        ((b + cond one 1 (div_ceil b 8424) * cond one 0 24) / cond one 1 (div_ceil b 8424)) 22 22
-    go true is even =
-        let short : b ≤ 8448 = grind (arith, nat_tests) in
-        one-block b 22 22 least short (lit≤ tt) (lit≤ tt) (lit≤ tt)
-    go false is even =
-        let long : 8448 < b = grind (arith, nat_tests) in
-        several-blocks 8424 b (div_ceil b 8424) 22 22 (lit< tt) (omega arith) (omega arith) (omega arith) (omega arith)
-        (lit≤ tt) (lit≤ tt) (lit≤ tt) (lit≤ tt) even
+shared-one b least most even = grind (arith, nat_tests, one-block, least, several-blocks)
 
 -- the columns of base graph 2 are enough for one code block
 columns-two : (b : ℕ) → b ≤ 3840 → b ≤ info_columns Two b * 384
@@ -111,22 +88,7 @@ columns-two-range b = (grind (arith, nat_tests), grind (arith, nat_tests))
 -- with base graph 2
 shared-two : (b : ℕ) → 24 ≤ b → b ≤ 1310744 → total_bits Two b % block_count Two b ≡ 0
     → IsShared b (check_bits Two b) (block_count Two b) (kdash_of Two b) (info_columns Two b) 10
-shared-two b least most even = go (nat_le b 3840) refl even
-  where
-    go : (one : Bool) → nat_le b 3840 ≡ one
-        → (b + cond one 1 (div_ceil b 3816) * cond one 0 24) % cond one 1 (div_ceil b 3816) ≡ 0
-        → IsShared b (cond one 0 24) (cond one 1 (div_ceil b 3816))
-        ((b + cond one 1 (div_ceil b 3816) * cond one 0 24) / cond one 1 (div_ceil b 3816)) (info_columns Two b) 10
-    go true is even =
-        let short : b ≤ 3840 = grind (arith, nat_tests) in
-        let range : (4 ≤ info_columns Two b) × (info_columns Two b ≤ 10) = columns-two-range b in
-        one-block b (info_columns Two b) 10 least (columns-two b short) range.0 range.1 (lit≤ tt)
-    go false is even =
-        let long : 3840 < b = grind (arith, nat_tests) in
-        let range : (4 ≤ info_columns Two b) × (info_columns Two b ≤ 10) = columns-two-range b in
-        let ten : info_columns Two b ≡ 10 = grind (arith, nat_tests) in
-        several-blocks 3816 b (div_ceil b 3816) (info_columns Two b) 10 (lit< tt) (omega arith) (omega arith)
-        (omega arith) (omega arith) (omega arith) range.0 range.1 (lit≤ tt) even
+shared-two b least most even = grind (arith, nat_tests, columns-two-range, one-block, least, columns-two, several-blocks)
 
 -- the bits are shared out so with either base graph
 pub shared : (graph : Graph) (b : ℕ) → 24 ≤ b → b ≤ 1310744 → total_bits graph b % block_count graph b ≡ 0
@@ -195,46 +157,25 @@ sound-numbers graph b least most s =
 -- the numbers of every plan are sound
 pub sound-plan : (graph : Graph) (b : ℕ) (p : Numbers) → plan_of graph b ≡ Ok p → IsSound graph b p
 unfolding plan_of
-sound-plan graph b p planned =
-    go (nat_lt b 24) (nat_lt 1310744 b) (nat_eq (total_bits graph b % block_count graph b) 0) refl refl refl planned
-  where
-    go : (short long even : Bool) → nat_lt b 24 ≡ short → nat_lt 1310744 b ≡ long
-        → nat_eq (total_bits graph b % block_count graph b) 0 ≡ even
-        → cond short (Err Short) (cond long (Err Long) (cond (not even) (Err Uneven) (Ok (numbers_of graph b)))) ≡ Ok p
-        → IsSound graph b p
-    go true long even is_short is_long is_even planned = cc
-    go false true even is_short is_long is_even planned = cc
-    go false false false is_short is_long is_even planned = cc
-    go false false true is_short is_long is_even planned =
-        let least : 24 ≤ b = grind (arith, nat_tests) in
-        let most : b ≤ 1310744 = grind (arith, nat_tests) in
-        let whole : total_bits graph b % block_count graph b ≡ 0 = grind (arith, nat_tests) in
-        let same : numbers_of graph b ≡ p = cc in
-        subst (IsSound graph b) same (sound-numbers graph b least most (shared graph b least most whole))
+sound-plan graph b p planned = grind (arith, nat_tests, nat_eq, sound-numbers, shared)
 
 -- there is a plan where no fault stands
 accepted : (graph : Graph) (b : ℕ) → 24 ≤ b → b ≤ 1310744 → total_bits graph b % block_count graph b ≡ 0
     → plan_of graph b ≡ Ok (numbers_of graph b)
 unfolding plan_of
-accepted graph b least most whole =
-    let is_short : nat_lt b 24 ≡ false = grind (arith, nat_tests) in
-    let is_long : nat_lt 1310744 b ≡ false = grind (arith, nat_tests) in
-    let is_even : nat_eq (total_bits graph b % block_count graph b) 0 ≡ true = eq-eqb _ _ whole in
-    rw (is_short, is_long, is_even)
+accepted graph b least most whole = grind (arith, nat_tests, nat_eq, eq-eqb)
 
 -- Zc is found where no fault stands
 size-planned : (graph : Graph) (b l c : ℕ) → 24 ≤ b → b ≤ 1310744 → l ≡ check_bits graph b
     → c ≡ block_count graph b → (b + c * l) % c ≡ 0
     → least_size (info_columns graph b) ((b + c * l) / c) ≡ Some (lifting_size graph b)
-size-planned graph b l c least most checks blocks whole =
-    rw (checks, blocks) (size-found graph b (shared graph b least most (rw (checks, blocks) at whole)).spread)
+size-planned graph b l c least most checks blocks whole = grind (arith, size-found, shared, least)
 
 -- so there is a size
 pub some-size : (graph : Graph) (b l c kb : ℕ) → 24 ≤ b → b ≤ 1310744 → l ≡ check_bits graph b
     → c ≡ block_count graph b → (b + c * l) % c ≡ 0 → kb ≡ info_columns graph b
     → IsSome (least_size kb ((b + c * l) / c))
-some-size graph b l c kb least most checks blocks whole is_kb =
-    rw (is_kb, size-planned graph b l c least most checks blocks whole)
+some-size graph b l c kb least most checks blocks whole is_kb = grind (arith, size-planned, least)
 
 -- and it has a set index
 pub some-set : (kb need z : ℕ) → least_size kb need ≡ Some z → IsSome (set_index z)
@@ -246,11 +187,4 @@ pub planned-numbers : (graph : Graph) (b l c kb z set : ℕ) → 24 ≤ b → b 
     → least_size kb ((b + c * l) / c) ≡ Some z → set_index z ≡ Some set
     → plan_of graph b ≡ Ok (record { l = l; c = c; kdash = (b + c * l) / c; kb = kb; z = z; set = set; k = info_cols_of graph * z; n = (cols_of graph - 2) * z })
 unfolding numbers_of
-planned-numbers graph b l c kb z set least most checks blocks whole is_kb is_z is_set =
-    let found : least_size (info_columns graph b) ((b + c * l) / c) ≡ Some (lifting_size graph b) =
-    size-planned graph b l c least most checks blocks whole in
-    let size : lifting_size graph b ≡ z = cc in
-    let index : unwrap_or (set_index (lifting_size graph b)) 0 ≡ set =
-    ap (λ o. unwrap_or o 0) (ap set_index size ∙ is_set) in
-    let fits : total_bits graph b % block_count graph b ≡ 0 = rw (← checks, ← blocks) whole in
-    accepted graph b least most fits ∙ rw (← checks, ← blocks, ← is_kb, index, size)
+planned-numbers graph b l c kb z set least most checks blocks whole is_kb is_z is_set = grind (arith, size-planned, least, unwrap_or, accepted)

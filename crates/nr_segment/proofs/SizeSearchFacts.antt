@@ -8,30 +8,16 @@ use Rattle.nr_lifting.specs.Sizes.{sizes, is_in, least_size, set_index, climbs}
 -- what a search finds passes the test
 find-passes : (test : ℕ → Bool) (xs : List ℕ) (z : ℕ) → find test xs ≡ Some z → test z ≡ true
 find-passes test [] z found = cc
-find-passes test (x ∷ xs) z found = go (test x) refl (find-passes test xs z) found
-  where
-    go : (b : Bool) → test x ≡ b → (find test xs ≡ Some z → test z ≡ true)
-        → cond b (Some x) (find test xs) ≡ Some z → test z ≡ true
-    go true passes later found = cc
-    go false fails later found = later found
+find-passes test (x ∷ xs) z found = grind (arith, find-passes test xs z, find)
 
 -- what a search finds is in the list
 find-listed : (test : ℕ → Bool) (xs : List ℕ) (z : ℕ) → find test xs ≡ Some z → is_in z xs ≡ true
 find-listed test [] z found = cc
-find-listed test (x ∷ xs) z found = go (test x) (find-listed test xs z) found
-  where
-    go : (b : Bool) → (find test xs ≡ Some z → is_in z xs ≡ true)
-        → cond b (Some x) (find test xs) ≡ Some z → is_in z (x ∷ xs) ≡ true
-    go true later found = let same : x ≡ z = cc in grind (arith, nat_tests)
-    go false later found = let listed : is_in z xs ≡ true = later found in grind (arith, nat_tests)
+find-listed test (x ∷ xs) z found = grind (arith, nat_tests, find-listed test xs z, find)
 
 -- a number of a list is its first one or is among the later ones
 listed-cases : (z x : ℕ) (xs : List ℕ) → is_in z (x ∷ xs) ≡ true → (x ≡ z) ⊎ (is_in z xs ≡ true)
-listed-cases z x xs listed = go (nat_eq x z) refl listed
-  where
-    go : (b : Bool) → nat_eq x z ≡ b → (b || is_in z xs) ≡ true → (x ≡ z) ⊎ (is_in z xs ≡ true)
-    go true same listed = inl (grind (arith, nat_tests))
-    go false other listed = inr listed
+listed-cases z x xs listed = grind (arith, nat_tests, nat_eq)
 
 -- a search finds something where a number of the list passes
 find-some : (test : ℕ → Bool) (xs : List ℕ) (z : ℕ) → is_in z xs ≡ true → test z ≡ true → IsSome (find test xs)
@@ -48,14 +34,7 @@ find-some test (x ∷ xs) z listed passes =
 -- what holds of each number of a list holds of one
 all-listed : (test : ℕ → Bool) (xs : List ℕ) (z : ℕ) → list_all test xs ≡ true → is_in z xs ≡ true → test z ≡ true
 all-listed test [] z all listed = cc
-all-listed test (x ∷ xs) z all listed =
-    go (test x) refl all (listed-cases z x xs listed) (all-listed test xs z)
-  where
-    go : (b : Bool) → test x ≡ b → (b && list_all test xs) ≡ true → (x ≡ z) ⊎ (is_in z xs ≡ true)
-        → (list_all test xs ≡ true → is_in z xs ≡ true → test z ≡ true) → test z ≡ true
-    go true is all (inl same) later = sym (ap test same) ∙ is
-    go true is all (inr listed) later = later all listed
-    go false is all which later = cc
+all-listed test (x ∷ xs) z all listed = grind (arith, listed-cases, all-listed test xs z)
 
 -- where the sizes climb by at most twice, the one found for `need` is below half of `need`
 find-half : (kb need before : ℕ) (xs : List ℕ) (z : ℕ) → 4 ≤ kb → climbs before xs ≡ true → kb * before < need
@@ -87,9 +66,7 @@ find-half kb need before (x ∷ xs) z wide climb low found =
 -- the least size holds what it is asked to hold
 pub least_size-holds : (kb need z : ℕ) → least_size kb need ≡ Some z → need ≤ kb * z
 unfolding least_size
-least_size-holds kb need z found =
-    let holds : nat_le need (kb * z) ≡ true = find-passes (λ size. nat_le need (kb * size)) sizes z found in
-    grind (arith, nat_tests)
+least_size-holds kb need z found = grind (arith, nat_tests, find-passes)
 
 -- the least size is a lifting size
 pub least_size-listed : (kb need z : ℕ) → least_size kb need ≡ Some z → is_in z sizes ≡ true
@@ -99,9 +76,7 @@ least_size-listed kb need z found = find-listed (λ size. nat_le need (kb * size
 -- there is a size where the largest one, 384, is enough
 pub least_size-some : (kb need : ℕ) → need ≤ kb * 384 → IsSome (least_size kb need)
 unfolding least_size
-least_size-some kb need enough =
-    let holds : nat_le need (kb * 384) ≡ true = grind (arith, nat_tests) in
-    find-some (λ size. nat_le need (kb * size)) sizes 384 refl holds
+least_size-some kb need enough = grind (arith, nat_tests, find-some)
 
 -- twice the least size is below what it is asked to hold, as each size is at most twice the next smaller one
 pub least_size-half : (kb need z : ℕ) → 4 ≤ kb → kb < need → least_size kb need ≡ Some z → 2 * z < need
@@ -115,6 +90,4 @@ set_index-some z listed = all-listed (λ size. is_some (set_index size)) sizes z
 
 -- no lifting size is above 384
 pub listed-most : (z : ℕ) → is_in z sizes ≡ true → z ≤ 384
-listed-most z listed =
-    let most : nat_le z 384 ≡ true = all-listed (λ size. nat_le size 384) sizes z refl listed in
-    grind (arith, nat_tests)
+listed-most z listed = grind (arith, nat_tests, all-listed)

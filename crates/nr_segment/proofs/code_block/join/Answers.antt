@@ -1,4 +1,6 @@
 -- The share of one more code block stands behind those before.
+use Rattle.std.proofs.lemmas.Bool.Decides.{nat_tests}
+use Rattle.std.proofs.lemmas.Grind.{common_steps}
 use Rattle.std.proofs.Common.{◌≡◌, ℕ, ◌+◌, ◌-◌, ◌<◌, ◌++◌, List, [], ◌∷◌, Bool, length, map, take, drop, get_or, flat_map, append-nil, length-append, arith, ap, sym, ◌∙◌}
 use Rattle.std.proofs.lemmas.Grind.{flat_map-append}
 use Rattle.std.proofs.lemmas.List.{length-take-le, map_more, take_all}
@@ -9,20 +11,10 @@ use Rattle.nr_segment.proofs.code_block.join.Goals as goal
 one-more : {A : Type 0} (f : A → List Bool) (s : ℕ) (xs : List A) (i : ℕ) (x : A) (before all piece : List Bool) → i < length xs → x ≡ get_or xs i x
     → before ≡ flat_map (take s) (map f (take i xs)) → piece ≡ take s (drop 0 (f x)) → all ≡ before ++ piece
     → all ≡ flat_map (take s) (map f (take (i + 1) xs))
-one-more f s xs i x before all piece within is so_far is_piece is_all =
-    is_all
-    ∙ ap (λ b. b ++ piece) so_far
-    ∙ ap (λ b. flat_map (take s) (map f (take i xs)) ++ b) (is_piece ∙ ap (λ y. take s (f y)) is ∙ sym (append-nil (take s (f (get_or xs i x)))))
-    ∙ sym (flat_map-append (take s) (map f (take i xs)) (f (get_or xs i x) ∷ []))
-    ∙ ap (flat_map (take s)) (sym (map_more f xs i x within))
+one-more f s xs i x before all piece within is so_far is_piece is_all = grind (arith, common_steps, nat_tests, flat_map, append-nil, flat_map-append, map_more)
 
 pub extend-requires : goal.extend-requires
-extend-requires c =
-    let p = c.args.plan.now in
-    let long : length c.block-item.result.items ≡ p.kdash = ap (λ b. length b.items) c.block-item.is ∙ c.requires.long c.loop-block.block-index c.block-item.result c.loop-block-test.true in
-    let inside = share-inside p.c (p.kdash - p.l) p.b c.loop-block.block-index p.sound.shared (omega arith) in
-    let piece = ap length c.in_ok-copy_range.ensures ∙ length-take-le (p.kdash - p.l) c.block-item.result.items (omega arith) in
-    omega (arith, piece, inside)
+extend-requires c = grind (arith, share-inside, length-take-le)
 
 pub loop-block-preserved : goal.loop-block-preserved
 loop-block-preserved c =

@@ -1,19 +1,15 @@
 -- `smallest` and `set_of` find something, and the numbers are the plan's.
+use Rattle.std.proofs.Common.{arith}
 use Rattle.std.proofs.Common.{Some, is_some, ap, ◌∙◌, sym}
 use Rattle.nr_lifting.specs.Sizes.{set_index}
 use Rattle.nr_segment.proofs.PlanLemmas.{some-size, some-set, planned-numbers, sound-plan}
 use Rattle.nr_segment.proofs.segmentation.plan.Goals as goal
 
 pub unwrap-size-requires : goal.unwrap-size-requires
-unwrap-size-requires c =
-    ap is_some c.smallest.ensures
-    ∙ some-size c.args.graph c.args.b _ _ _ c.if-b-lt-LEAST_BITS.false c.if-b-gt-MOST_BITS.false
-    c.checks_and_blocks-l.ensures.checks c.checks_and_blocks-l.ensures.blocks c.if-total-c-ne0.false
-    c.info_columns_of-kb.ensures
+unwrap-size-requires c = grind (arith, is_some, some-size)
 
 pub unwrap-requires : goal.unwrap-requires
-unwrap-requires c =
-    ap is_some c.set_of.ensures ∙ some-set _ _ _ (sym c.smallest.ensures ∙ c.unwrap-size.ensures)
+unwrap-requires c = grind (arith, is_some, some-set)
 
 pub invariant_of-result : goal.invariant_of-result
 invariant_of-result c =
