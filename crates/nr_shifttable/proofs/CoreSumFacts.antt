@@ -1,28 +1,20 @@
 -- Equal shifts cancel: the four core rows add up to one rotated first parity column.
 use Rattle.std.proofs.Common.{rules}
-use Rattle.std.proofs.Common.{◌≡◌, ℕ, ◌+◌, ◌==◌, ◌%◌, Bool, true, false, ◌⊎◌, inl, inr, List, ap, refl, ◌∙◌, arith}
-use Rattle.std.proofs.lemmas.Bool.{eqb-true}
+use Rattle.std.proofs.Common.{◌≡◌, ℕ, ◌%◌, Bool, ◌⊎◌, List, arith}
 use Rattle.std.proofs.lemmas.Bool.Decides.{nat_tests}
 use Rattle.nr_graphpick.specs.Graph.{info_cols_of}
 use Rattle.nr_shifttable.specs.declared.entry.Entry.{Entry}
 use Rattle.nr_shifttable.specs.Accepted.{entries_in}
-use Rattle.nr_shifttable.specs.Tails.{HasCore, HasMiddle}
+use Rattle.nr_shifttable.specs.Tails.{HasCore}
 use Rattle.nr_shifttable.specs.CoreRows.{plus, cells_sum, core_cells, third_of, CoreRowsAddUp}
 use Rattle.nr_shifttable.proofs.ParityShapeFacts.{accepted-has_shape}
 
 -- of three bits two of which are equal, the third is the sum
 third-sum : (f : ℕ → Bool) (a b c : ℕ) → (a ≡ b) ⊎ ((b ≡ c) ⊎ (a ≡ c)) → plus (f a) (plus (f b) (f c)) ≡ f (third_of a b c)
-third-sum f a b c two = grind (arith, nat_tests, eqb-true)
-
--- the diagonal's zeros cancel, with the first parity column in row 1 or in row 2
-diagonal : (a b c p q r : Bool) → plus a (plus p (plus b (plus p (plus q (plus q (plus r (plus c (plus r false)))))))) ≡ plus a (plus b c)
-diagonal a b c p q r = grind arith
-
-diagonal_after : (a b c p q r : Bool) → plus a (plus p (plus p (plus q (plus b (plus q (plus r (plus c (plus r false)))))))) ≡ plus a (plus b c)
-diagonal_after a b c p q r = grind arith
+third-sum f a b c two = grind (arith, nat_tests)
 
 core-sum : (es : List Entry) (set n a b c : ℕ) → HasCore es set n a b c → (z : ℕ) (bit : ℕ → ℕ → Bool) → cells_sum z bit (core_cells es set n) ≡ bit n (third_of a b c % z)
-core-sum es set n a b c core z bit = search (rules, third-sum, diagonal, diagonal_after)
+core-sum es set n a b c core z bit = search (rules, third-sum)
 
 pub core_rows-add_up : CoreRowsAddUp
 core_rows-add_up t graph set table some small =

@@ -12,7 +12,6 @@ use Rattle.csv.proofs.RecordFacts.{field-there}
 use Rattle.nr_shifttable.specs.Fields.{short_number, stripped}
 use Rattle.nr_shifttable.specs.Items.{is_header, item_of, items_from, short_numbers, with_item}
 use Rattle.nr_shifttable.specs.Records.{Record}
-use Rattle.nr_refusal.specs.Refusal.{◌>>=◌}
 use Rattle.nr_shifttable.specs.declared.entry.Item.{Item}
 use Rattle.nr_shifttable.specs.declared.fault.TableFault.{TableFault}
 

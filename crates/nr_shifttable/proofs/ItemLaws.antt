@@ -1,23 +1,21 @@
 -- What holds of the items of every file: each is within its base graph, and no two stand at one place.
 use Rattle.std.proofs.lemmas.Grind.{common_steps}
 use Rattle.std.proofs.lemmas.Bool.Decides.{nat_tests}
-use Rattle.std.proofs.Common.{◌≡◌, ℕ, suc, ◌+◌, ◌<◌, List, [], ◌∷◌, ◌++◌, length, Bool, true, false, not, nat_lt, ◌&&◌, ◌==◌, cond, refl, ap, subst, sym, ◌∙◌, arith, Option, Some, None, Vec, Global}
+use Rattle.std.proofs.Common.{◌≡◌, ℕ, ◌+◌, List, [], ◌∷◌, ◌++◌, length, Bool, true, false, ◌&&◌, ◌==◌, cond, refl, ap, subst, sym, ◌∙◌, arith, Option, Some, None, Vec, Global}
 use Rattle.std.specs.Prelude.{All, IfOk, Result, Ok, Err, codes, option_and_then, option_map}
-use Rattle.std.specs.List.{list_all, list_any}
-use Rattle.std.proofs.lemmas.Bool.{and_parts, both_ways, eqb-true, false_from_ne_true, ltb-true, not-false}
-use Rattle.std.proofs.lemmas.Bool.Decides.{Decides-by_and, Decides-ltb}
-use Rattle.std.proofs.lemmas.Option.{cond_some, option_and_then_some, same_Some}
+use Rattle.std.specs.List.{list_any}
+use Rattle.std.proofs.lemmas.Bool.{both_ways, false_from_ne_true}
+use Rattle.std.proofs.lemmas.Option.{option_and_then_some, same_Some}
 use Rattle.std.proofs.lemmas.Slice.Eq.{bytes_eq-Decides}
 use Rattle.std.proofs.lemmas.List.Elements.{All-nil, All-push}
 use Rattle.std.proofs.lemmas.List.Folds.{list_any_at}
 use Rattle.std.proofs.lemmas.List.Quantifiers.{all_pairs_push}
-use Rattle.nr_graphpick.specs.Graph.{cols_of, rows_of}
 use Rattle.nr_graphpick.specs.declared.Graph.{Graph}
 use Rattle.nr_shifttable.specs.Fields.{numeral, short_number, stripped}
-use Rattle.nr_shifttable.specs.Items.{Apart, IsInside, graph_of, has_place, is_header, item_in, item_of, item_of_numbers, items_from, short_numbers, same_place, with_item}
+use Rattle.nr_shifttable.specs.Items.{Apart, IsInside, has_place, is_header, item_in, item_of, item_of_numbers, items_from, short_numbers, same_place, with_item}
 use Rattle.nr_shifttable.specs.Records.{Record}
 use Rattle.nr_shifttable.specs.Written.{item_written}
-use Rattle.nr_refusal.specs.Refusal.{◌>>=◌, Gives, or_fault}
+use Rattle.nr_refusal.specs.Refusal.{◌>>=◌, Gives}
 use Rattle.nr_shifttable.specs.declared.entry.Item.{Item}
 use Rattle.nr_shifttable.specs.declared.fault.TableFault.{TableFault}
 use Rattle.nr_shifttable.specs.declared.fault.TableFault.TheVariants as fault
@@ -29,17 +27,13 @@ pub bind-ok : {X Y : Type 0} (r : Result X TableFault) (f : X → Result Y Table
 bind-ok (Ok x) f y e = (x, refl, e)
 bind-ok (Err d) f y e = cc e
 
-or-ok : {X : Type 0} (d : TableFault) (o : Option X) (x : X) → or_fault d o ≡ Ok x → o ≡ Some x
-or-ok d None x e = cc e
-or-ok d (Some z) x e = cc e
-
 pub if-ok : {Y : Type 0} (b : Bool) (d : TableFault) (r : Result Y TableFault) (y : Y) → cond b (Err d) r ≡ Ok y → (b ≡ false) × (r ≡ Ok y)
 if-ok true d r y e = cc e
 if-ok false d r y e = (refl, e)
 
 -- the tests of an item in range hold
 inside-in : (graph : Graph) (row col : ℕ) (values : List ℕ) (x : Item) → length values ≡ 8 → item_in graph row col values ≡ Some x → IsInside x
-inside-in graph row col values x eight e = grind (arith, common_steps, nat_tests, cond_some, and_parts, ltb-true)
+inside-in graph row col values x eight e = grind (arith, common_steps, nat_tests)
 
 inside-of : (numbers : List ℕ) (x : Item) → length numbers ≡ 11 → item_of_numbers numbers ≡ Some x → IsInside x
 inside-of [] x long e = cc e
@@ -50,7 +44,7 @@ inside-of (g ∷ row ∷ col ∷ values) x long e = grind (arith, common_steps, 
 -- a number for each field
 numbers-long : (r : Record) (numbers : List ℕ) → short_numbers r ≡ Some numbers → length numbers ≡ length r
 numbers-long [] numbers e = sym (ap length (same_Some [] numbers e))
-numbers-long (f ∷ fs) numbers e = grind (arith, option_and_then_some, numbers-long fs, same_Some)
+numbers-long (f ∷ fs) numbers e = grind (arith, numbers-long fs)
 
 -- What a record without a fault says: nothing, in a header, or the item that it writes, at the place of none before it.
 abbrev pub Says : ℕ → List Item → Record → Option Item → Type 0
@@ -59,13 +53,13 @@ Says k earlier r (Some x) = (((k == 1) && is_header r) ≡ false) × (item_writt
 
 pub item-said : (k : ℕ) (earlier : List Item) (r : Record) (found : Option Item) → item_of k earlier r ≡ Ok found → (length r ≡ 11) × Says k earlier r found
 unfolding item_of
-item-said k earlier r found e = grind (arith, nat_tests, if-ok, eqb-true, not-false, ok-same, bind-ok, or-ok)
+item-said k earlier r found e = grind (arith, nat_tests)
 
 -- and back
 pub said-item : (k : ℕ) (earlier : List Item) (r : Record) (found : Option Item) → length r ≡ 11 → Says k earlier r found → item_of k earlier r ≡ Ok found
 unfolding item_of
 said-item k earlier r None long header = rw (long, header) refl
-said-item k earlier r (Some x) long said = grind (arith, option_and_then_some)
+said-item k earlier r (Some x) long said = grind arith
 
 -- the item that a record of eleven fields writes is within its base graph
 inside-written : (r : Record) (x : Item) → length r ≡ 11 → item_written r ≡ Some x → IsInside x

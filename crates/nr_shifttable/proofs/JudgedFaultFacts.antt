@@ -1,20 +1,18 @@
 -- The faults that judging a text's records and their table returns: neither a failed read nor too long a text.
 use Rattle.std.proofs.lemmas.Bool.Decides.{nat_tests}
 use Rattle.std.proofs.Common.{arith}
-use Rattle.std.proofs.Common.{◌≡◌, ℕ, ◌+◌, ◌==◌, Bool, true, false, cond, not, ◌&&◌, ◌<◌, ◌⊎◌, inl, inr, List, [], ◌∷◌, length, refl, sym, subst}
+use Rattle.std.proofs.Common.{◌≡◌, ℕ, ◌+◌, Bool, true, false, ◌<◌, ◌⊎◌, inl, inr, List, [], ◌∷◌, length, refl, sym, subst}
 use Rattle.std.specs.Prelude.{Option, Some, None, Result, Ok, Err, IsErrOf, IfSome}
 use Rattle.std.proofs.lemmas.Bool.{lt-ltb}
 use Rattle.nr_graphpick.specs.declared.Graph.{Graph}
-use Rattle.nr_graphpick.specs.declared.Graph.TheVariants.{One, Two}
-use Rattle.nr_graphpick.specs.Graph.{rows_of, info_cols_of}
 use Rattle.nr_shifttable.specs.declared.entry.Entry.{Entry}
 use Rattle.nr_shifttable.specs.declared.entry.Item.{Item}
 use Rattle.nr_shifttable.specs.declared.fault.TableFault.{TableFault}
 use Rattle.nr_shifttable.specs.declared.fault.TableFault.TheVariants as fault
-use Rattle.nr_refusal.specs.Refusal.{◌>>=◌, or_fault, Gives}
+use Rattle.nr_refusal.specs.Refusal.{◌>>=◌, Gives}
 use Rattle.nr_shifttable.specs.Records.{Record}
-use Rattle.nr_shifttable.specs.Items.{is_header, short_numbers, item_of_numbers, has_place, item_of, with_item, items_from}
-use Rattle.nr_shifttable.specs.Accepted.{Entries, core_ok, extension_ok, rows_present, graph_checked, accepted, table_said}
+use Rattle.nr_shifttable.specs.Items.{item_of, with_item, items_from}
+use Rattle.nr_shifttable.specs.Accepted.{Entries, graph_checked, accepted, table_said}
 
 -- a fault of reading the octets
 abbrev pub is_of_octets : TableFault → Bool
@@ -27,26 +25,13 @@ abbrev pub IsJudged : {X : Type 0} → Result X TableFault → Type 0
 IsJudged (Ok x) = Unit {0}
 IsJudged (Err e) = is_of_octets e ≡ false
 
-module _ {X : Type 0} where
-  judged-if : (b : Bool) (x y : Result X TableFault) → IsJudged x → IsJudged y → IsJudged (cond b x y)
-  judged-if true x y p q = p
-  judged-if false x y p q = q
-
-  judged-or : (e : TableFault) (o : Option X) → is_of_octets e ≡ false → IsJudged (or_fault e o)
-  judged-or e None other = other
-  judged-or e (Some x) other = tt
-
-  judged-bind : {Y : Type 0} (r : Result Y TableFault) (next : Y → Result X TableFault) → IsJudged r → ((y : Y) → IsJudged (next y)) → IsJudged (r >>= next)
-  judged-bind (Ok y) next p q = q y
-  judged-bind (Err e) next p q = p
-
-judged-fault : (b : Bool) (e f : TableFault) → is_of_octets e ≡ false → is_of_octets f ≡ false → is_of_octets (cond b e f) ≡ false
-judged-fault true e f p q = p
-judged-fault false e f p q = q
+judged-bind : {X Y : Type 0} (r : Result Y TableFault) (next : Y → Result X TableFault) → IsJudged r → ((y : Y) → IsJudged (next y)) → IsJudged (r >>= next)
+judged-bind (Ok y) next p q = q y
+judged-bind (Err e) next p q = p
 
 item-judged : (k : ℕ) (earlier : List Item) (r : Record) → IsJudged (item_of k earlier r)
 unfolding item_of
-item-judged k earlier r = grind (arith, nat_tests, judged-if, judged-fault, judged-bind, judged-or)
+item-judged k earlier r = grind (arith, nat_tests)
 
 pub items-judged : (k : ℕ) (items : List Item) (rs : List Record) → IsJudged (items_from k items rs)
 unfolding items_from
@@ -55,11 +40,11 @@ items-judged k items (r ∷ rs) = judged-bind (item_of k items r) _ (item-judged
 
 graph-judged : (g : Graph) (es : List Entry) → IsJudged (graph_checked g es)
 unfolding graph_checked
-graph-judged g es = grind (arith, nat_tests, judged-if)
+graph-judged g es = grind (arith, nat_tests)
 
 pub accepted-judged : (t : Entries) → IsJudged (accepted t)
 unfolding accepted
-accepted-judged t = grind (arith, nat_tests, judged-if, judged-bind, graph-judged)
+accepted-judged t = grind (arith, graph-judged)
 
 -- nor does a call return such a fault that gives what is said so
 pub fault-judged : {Y : Type 0} (e : TableFault) (said : Result Y TableFault) → (e ≡ fault.Memory) ⊎ (said ≡ Err e) → IsJudged said → is_of_octets e ≡ false

@@ -1,10 +1,10 @@
 -- Items in ascending order are the items of their table, and entries that a caller kept say what their items say.
 use Rattle.std.proofs.lemmas.Bool.Decides.{nat_tests}
-use Rattle.std.proofs.Common.{◌≡◌, ℕ, zero, suc, ◌+◌, ◌-◌, ◌*◌, ◌<◌, ◌≤◌, ◌==◌, nat_lt, Bool, true, false, cond, not, ◌&&◌, ◌||◌, List, [], ◌∷◌, ◌++◌, length, get_or, take, drop, map, refl, sym, ap, subst, ◌∙◌, append_assoc, arith}
-use Rattle.std.specs.Prelude.{Result, Ok, Err}
+use Rattle.std.proofs.Common.{◌≡◌, ℕ, zero, suc, ◌+◌, ◌-◌, ◌*◌, ◌<◌, ◌≤◌, ◌==◌, nat_lt, true, false, not, ◌&&◌, List, [], ◌∷◌, ◌++◌, length, get_or, take, drop, map, refl, sym, ap, subst, ◌∙◌, append_assoc, arith}
+use Rattle.std.specs.Prelude.{Ok}
 use Rattle.std.specs.List.{All, filter, fold}
 use Rattle.std.specs.List.Sorted.{IsPartitionedBy, IsPartitionPoint}
-use Rattle.std.proofs.lemmas.Bool.{and_parts, eqb-true, ltb-true, ltb-false, lt-ltb, le-ltb}
+use Rattle.std.proofs.lemmas.Bool.{and_parts, ltb-true, lt-ltb}
 use Rattle.std.proofs.lemmas.List.{append-nil, get_or-map, length-map}
 use Rattle.std.proofs.lemmas.List.Elements.{All-nil, All-cons, All-head, All-tail, All-push, All-weaker}
 use Rattle.nr_graphpick.specs.declared.Graph.{Graph}
@@ -13,14 +13,10 @@ use Rattle.nr_graphpick.specs.Graph.{rows_of, cols_of}
 use Rattle.nr_shifttable.specs.declared.entry.Entry.{Entry}
 use Rattle.nr_shifttable.specs.declared.entry.Item.{Item}
 use Rattle.nr_shifttable.specs.declared.entry.KeptEntry.{KeptEntry}
-use Rattle.nr_shifttable.specs.declared.fault.TableFault.{TableFault}
-use Rattle.nr_shifttable.specs.declared.fault.TableFault.TheVariants.{Empty}
-use Rattle.nr_shifttable.specs.declared.fault.EntriesFault.TheVariants as fault
-use Rattle.nr_shifttable.specs.Accepted.{Entries, entry_place, with_entry, entries_for, table_of, Ascending, IsInRange, graph_checked, accepted, IsTable}
+use Rattle.nr_shifttable.specs.Accepted.{Entries, entry_place, with_entry, entries_for, table_of, Ascending, IsInRange, accepted, IsTable}
 use Rattle.nr_shifttable.specs.Items.{graph_eq}
-use Rattle.nr_shifttable.specs.Listed.{item_key, is_of_graph, graph_number, kept_of, names_graph, item_kept, is_placed, places_from, places_said, entries_said, item_in_graph, items_listed, kept_listed}
+use Rattle.nr_shifttable.specs.Listed.{item_key, is_of_graph, kept_of, names_graph, item_kept, places_from, places_said, entries_said, item_in_graph, items_listed, kept_listed}
 use Rattle.nr_shifttable.specs.Orders.{key_of}
-use Rattle.nr_refusal.specs.Refusal.{◌>>=◌}
 use Rattle.nr_shifttable.proofs.ParityShapeFacts.{accepted-parts}
 use Rattle.nr_shifttable.proofs.SliceFacts.{filter_none, filter_within}
 
@@ -33,29 +29,25 @@ Ascend past (x ∷ xs) = (is_of_graph x ≡ true) × (past ≤ item_key x) × As
 pub said-ascend : (k past : ℕ) (es : List KeptEntry) → places_from k past es ≡ Ok tt → Ascend past (map item_kept es)
 unfolding places_from
 said-ascend k past [] said = tt
-said-ascend k past (e ∷ es) said = grind (arith, nat_tests, said-ascend (k + 1) (item_key (item_kept e) + 1) es, and_parts, ltb-false)
+said-ascend k past (e ∷ es) said = grind (arith, nat_tests, said-ascend (k + 1) (item_key (item_kept e) + 1) es)
 
 pub ascend-said : (k past : ℕ) (items : List Item) → Ascend past items → places_from k past (map kept_of items) ≡ Ok tt
 unfolding places_from
 ascend-said k past [] up = refl
-ascend-said k past (x ∷ xs) up = grind (arith, nat_tests, ascend-said (k + 1) (item_key x + 1) xs up.2, le-ltb)
+ascend-said k past (x ∷ xs) up = grind (arith, nat_tests, ascend-said (k + 1) (item_key x + 1) xs up.2)
 
 -- An item is that of what is kept of it. What is kept is that of its item, where its base graph is 1 or 2.
-item-back : (g : Graph) (e : Entry) → item_kept (kept_of (record { graph = g; entry = e })) ≡ record { graph = g; entry = e }
-item-back One e = refl
-item-back Two e = refl
-
 pub items-back : (xs : List Item) → map item_kept (map kept_of xs) ≡ xs
 items-back [] = refl
-items-back (x ∷ xs) = grind (arith, item-back, items-back xs)
+items-back (x ∷ xs) = grind (arith, items-back xs)
 
 kept-back : (e : KeptEntry) → names_graph e ≡ true → kept_of (item_kept e) ≡ e
-kept-back e has = grind (arith, nat_tests, eqb-true)
+kept-back e has = grind (arith, nat_tests)
 
 all-back : (k past : ℕ) (es : List KeptEntry) → places_from k past es ≡ Ok tt → map kept_of (map item_kept es) ≡ es
 unfolding places_from
 all-back k past [] said = refl
-all-back k past (e ∷ es) said = grind (arith, nat_tests, all-back (k + 1) (item_key (item_kept e) + 1) es, kept-back, and_parts)
+all-back k past (e ∷ es) said = grind (arith, nat_tests, all-back (k + 1) (item_key (item_kept e) + 1) es, kept-back)
 
 -- an insertion past all entries goes behind them
 with_entry-last : (acc : List Entry) (e : Entry) → All (λ x. entry_place x < entry_place e) acc → with_entry acc e ≡ acc ++ e ∷ []
@@ -80,7 +72,7 @@ fold-same low es up = fold-last low [] es (All-nil (λ x. entry_place x < low)) 
 
 -- the keys of base graph 1 are below those of base graph 2
 low-key : (r c : ℕ) → (nat_lt r 46 && nat_lt c 68) ≡ true → 68 * r + c < 4096
-low-key r c room = grind (arith, nat_tests, and_parts, ltb-true)
+low-key r c room = grind (arith, nat_tests)
 
 -- past them no item is one of it, so none stands behind one of base graph 2
 past-all : (past : ℕ) (items : List Item) → Ascend past items → All (λ x. (is_of_graph x ≡ true) × (past ≤ item_key x)) items

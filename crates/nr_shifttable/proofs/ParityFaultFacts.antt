@@ -1,9 +1,9 @@
 -- Which fault of the parity columns is named, from the tests that decide acceptance.
-use Rattle.std.proofs.Common.{◌≡◌, ℕ, ◌<◌, ◌==◌, Bool, true, false, cond, not, ◌&&◌, ◌↔◌, List, length, refl, sym, ap, ◌∙◌, arith}
+use Rattle.std.proofs.Common.{◌≡◌, ℕ, ◌<◌, ◌==◌, Bool, true, false, cond, ◌&&◌, ◌↔◌, List, length, refl, ap, arith}
 use Rattle.std.specs.Prelude.{Result, Ok, Err, Option, Some, None}
 use Rattle.std.specs.List.{All}
 use Rattle.std.proofs.Math.Nat.{pos_of_ne-zero}
-use Rattle.std.proofs.lemmas.Bool.{eqb-false, false_from_ne_true, iff_false, ne_eqb}
+use Rattle.std.proofs.lemmas.Bool.{eqb-false, ne_eqb}
 use Rattle.std.proofs.lemmas.Bool.Decides.{nat_tests}
 use Rattle.std.proofs.lemmas.List.Elements.{All-weaker}
 use Rattle.nr_graphpick.specs.declared.Graph.{Graph}
@@ -15,21 +15,8 @@ use Rattle.nr_shifttable.specs.declared.fault.TableFault.{TableFault}
 use Rattle.nr_shifttable.specs.declared.fault.TableFault.TheVariants.{Core, Extension, MissingRow, Empty}
 use Rattle.nr_shifttable.specs.Accepted.{Entries, row_of, core_ok, extension_ok, rows_present, graph_checked, accepted, Ascending, IsInRange}
 use Rattle.nr_shifttable.specs.Faults.{CoreIsWell, ExtensionIsWell, RowsAreThere, IsWell, AreEntries, CoreIsNamed, ExtensionIsNamed, MissingRowIsNamed}
-use Rattle.nr_shifttable.proofs.ParityShapeFacts.{core-from_tests, judged, row-from_tests, row-is_there, well-said}
+use Rattle.nr_shifttable.proofs.ParityShapeFacts.{core-from_tests, row-from_tests, row-is_there}
 use Rattle.nr_shifttable.proofs.ShapeConverseFacts.{Eight, core_ok-from, extension_ok-from, rows_present-from}
-
--- what each fault says of the four tests, and what is said where all hold
-core-said : (g : Graph) (none a b c : Bool) → judged g none a b c ≡ Err (Core g) → (none ≡ false) × (a ≡ false)
-core-said g none a b c h = grind arith
-
-extension-said : (g : Graph) (none a b c : Bool) → judged g none a b c ≡ Err (Extension g) → (none ≡ false) × (a ≡ true) × (b ≡ false)
-extension-said g none a b c h = grind arith
-
-missing-said : (g : Graph) (none a b c : Bool) → judged g none a b c ≡ Err (MissingRow g) → (none ≡ false) × (a ≡ true) × (b ≡ true) × (c ≡ false)
-missing-said g none a b c h = grind arith
-
-well-back : (g : Graph) (none a b c : Bool) → (none ≡ false → (a ≡ true) × (b ≡ true) × (c ≡ true)) → judged g none a b c ≡ Ok tt
-well-back g none a b c h = grind arith
 
 -- the base graph of a fault of the parity columns
 abbrev graph_named : TableFault → Option Graph
@@ -38,12 +25,9 @@ graph_named (Extension g) = Some g
 graph_named (MissingRow g) = Some g
 graph_named f = None
 
-own_graph : (g : Graph) (none a b c : Bool) (f : TableFault) → judged g none a b c ≡ Err f → graph_named f ≡ Some g
-own_graph g none a b c f h = grind arith
-
 checked-own : (g : Graph) (es : List Entry) (f : TableFault) → graph_checked g es ≡ Err f → graph_named f ≡ Some g
 unfolding graph_checked
-checked-own g es f h = own_graph g (length es == 0) (core_ok (info_cols_of g) es) (extension_ok (info_cols_of g) (rows_of g) es) (rows_present (rows_of g) es) f h
+checked-own g es f h = grind arith
 
 -- the tests of a base graph's entries, what they mean, and the fault that is named
 module _ (g : Graph) (es : List Entry) (up : Ascending 0 es) (range : All (IsInRange g) es) where
@@ -73,19 +57,19 @@ module _ (g : Graph) (es : List Entry) (up : Ascending 0 es) (range : All (IsInR
 
   core-named : (graph_checked g es ≡ Err (Core g)) ↔ ((0 < length es) × (CoreIsWell g es → ⊥))
   unfolding graph_checked
-  core-named = grind (arith, nat_tests, core-said, filled, iff_false, core-means, false_from_ne_true)
+  core-named = grind (arith, nat_tests, filled, core-means)
 
   extension-named : (graph_checked g es ≡ Err (Extension g)) ↔ ((0 < length es) × CoreIsWell g es × (ExtensionIsWell g es → ⊥))
   unfolding graph_checked
-  extension-named = grind (arith, nat_tests, extension-said, filled, core-means, iff_false, extension-means, false_from_ne_true)
+  extension-named = grind (arith, nat_tests, filled, core-means, extension-means)
 
   missing-named : (graph_checked g es ≡ Err (MissingRow g)) ↔ ((0 < length es) × CoreIsWell g es × ExtensionIsWell g es × (RowsAreThere g es → ⊥))
   unfolding graph_checked
-  missing-named = grind (arith, nat_tests, missing-said, filled, core-means, extension-means, iff_false, rows-mean, false_from_ne_true)
+  missing-named = grind (arith, nat_tests, filled, core-means, extension-means, rows-mean)
 
   well-named : (graph_checked g es ≡ Ok tt) ↔ (0 < length es → IsWell g es)
   unfolding graph_checked
-  well-named = grind (arith, nat_tests, well-said, filled, core-means, extension-means, rows-mean, well-back)
+  well-named = grind (arith, nat_tests, filled, core-means, extension-means, rows-mean)
 
 -- what is said of both base graphs, one after the other
 abbrev Well : Type 0

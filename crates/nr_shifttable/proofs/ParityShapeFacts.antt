@@ -1,22 +1,20 @@
 -- From the tests that decide acceptance to the shape of the parity columns, as lists of columns and values.
-use Rattle.std.proofs.Common.{◌≡◌, ℕ, zero, suc, ◌+◌, ◌<◌, ◌≤◌, ◌==◌, nat_lt, nat_le, Bool, true, false, cond, not, ◌&&◌, ◌||◌, ◌⊎◌, inl, inr, List, [], ◌∷◌, ◌++◌, length, get_or, map, refl, ap, ◌∙◌, arith}
+use Rattle.std.proofs.Common.{◌≡◌, ℕ, zero, suc, ◌+◌, ◌<◌, ◌≤◌, ◌==◌, nat_le, Bool, true, false, cond, not, ◌&&◌, ◌⊎◌, inl, inr, List, [], ◌∷◌, ◌++◌, length, get_or, map, refl, ap, arith}
 use Rattle.std.specs.Prelude.{Option, Some, None, Result, Ok, Err, option_map, slice_index}
 use Rattle.std.specs.List.{filter, find, list_all, All}
 use Rattle.std.proofs.lemmas.List.Recursion.{found_nowhere}
-use Rattle.std.proofs.lemmas.Bool.{and_parts, cases_order, eq-eqb, eqb-true, le-leb, lt-leb, ne_eqb, or_cases}
+use Rattle.std.proofs.lemmas.Bool.{and_parts, cases_order, eq-eqb, eqb-true, le-leb, lt-leb, ne_eqb}
 use Rattle.std.proofs.lemmas.Bool.Decides.{nat_tests}
 use Rattle.nr_graphpick.specs.declared.Graph.{Graph}
 use Rattle.nr_graphpick.specs.declared.Graph.TheVariants.{One, Two}
 use Rattle.nr_graphpick.specs.Graph.{rows_of, info_cols_of}
 use Rattle.nr_shifttable.specs.declared.entry.Entry.{Entry}
 use Rattle.nr_shifttable.specs.declared.fault.TableFault.{TableFault}
-use Rattle.nr_shifttable.specs.declared.fault.TableFault.TheVariants.{Core, Extension, MissingRow, Empty}
-use Rattle.nr_refusal.specs.Refusal.{◌>>=◌}
-use Rattle.nr_shifttable.specs.Accepted.{Entries, row_of, tail, zero_at, lone_zero, zero_pair, two_agree, each_below, three_agree, rows_agree, first_column_ok, diagonals_ok, core_ok, lacks_row, own_column_ok, extension_ok, is_present, rows_present, graph_checked, accepted, Ascending, ColumnsAscend}
+use Rattle.nr_shifttable.specs.declared.fault.TableFault.TheVariants.{Core, Extension, MissingRow}
+use Rattle.nr_shifttable.specs.Accepted.{Entries, row_of, zero_at, lone_zero, zero_pair, two_agree, three_agree, rows_agree, first_column_ok, diagonals_ok, core_ok, lacks_row, extension_ok, rows_present, graph_checked, accepted, Ascending, ColumnsAscend}
 use Rattle.nr_shifttable.specs.Faults.{HasCoreRows}
 use Rattle.nr_shifttable.specs.Tails.{value_in, tail_of, HasMiddle, HasShape, AcceptedHasShape}
 use Rattle.nr_shifttable.proofs.BoundedLoopFacts.{each_below-tells}
-use Rattle.nr_shifttable.proofs.ItemLaws.{bind-ok, if-ok, ok-same}
 use Rattle.nr_shifttable.proofs.RowOrderFacts.{row-ascends}
 use Rattle.nr_shifttable.proofs.SliceFacts.{filter_all}
 
@@ -177,7 +175,7 @@ well-said g none a b c h some = grind arith
 
 pub accepted-parts : (t u : Entries) → accepted t ≡ Ok u → (graph_checked One t.one ≡ Ok tt) × (graph_checked Two t.two ≡ Ok tt) × (t ≡ u)
 unfolding accepted
-accepted-parts t u h = grind (arith, bind-ok, if-ok, ok-same)
+accepted-parts t u h = grind arith
 
 shape-of_graph : (g : Graph) (es : List Entry) (set : ℕ) → Ascending 0 es → graph_checked g es ≡ Ok tt → 0 < length es → set < 8 → HasShape es set (info_cols_of g) (rows_of g)
 unfolding graph_checked

@@ -1,71 +1,30 @@
 -- How the reads of a reader, one after another, give the records of its text.
 use Rattle.std.proofs.lemmas.Bool.Decides.{nat_tests}
 use Rattle.std.proofs.Common.{◌≡◌, ℕ, ◌+◌, ◌-◌, ◌<◌, ◌≤◌, zero, suc, List, [], ◌∷◌, ◌++◌, length, Option, Some, None, Bool, Bor, true, false, cond, not, drop, take, refl, ap, sym, ◌∙◌, arith, add-one}
-use Rattle.std.specs.Prelude.{◌==◌, ◌&&◌, ◌||◌, Result, Ok, Err, is_ok, IfOk, MatchResult}
-use Rattle.std.proofs.lemmas.Option.{same_Some}
+use Rattle.std.specs.Prelude.{◌==◌, ◌&&◌, Result, Ok, Err, is_ok, IfOk, MatchResult}
 use Rattle.csv.specs.Machine.{Read, ends_at_end, field_after, fields_after, is_end, next_record, step}
 use Rattle.csv.proofs.ReadFacts.{rows-end, rows-more}
 use Rattle.csv.specs.Reading.{Reached, ReadRecord, ReadsOn, Ready, default_config, has_failed, reader_trim, records_from, records_next, strip_bom}
-use Rattle.csv.specs.declared.parser.Action.{Action}
-use Rattle.csv.specs.declared.parser.Action.TheVariants as act
 use Rattle.csv.specs.declared.parser.State.{State}
-use Rattle.csv.specs.declared.parser.State.TheVariants as st
 use Rattle.csv.specs.declared.reader.Reader.{Reader}
 use Rattle.csv.specs.declared.reader.Trim.TheVariants as trim
 use Rattle.nr_shifttable.specs.Records.{Record, records_left, rows_before_end, text_left}
 use Rattle.nr_shifttable.specs.Inside.{IsPlainReader}
 
--- what the machine does with an octet of a field, by what the octet is: a comma, a line's end, a carriage return
-abbrev in_field_by : Bool → Bool → Bool → State × Action
-in_field_by comma end return = cond comma (st.StartField, act.EndField) (cond end (cond return st.AfterCr st.StartRecord, act.EndRecord) (st.InField, act.Copy))
-
-field-between : (comma end return : Bool) → is_end (in_field_by comma end return).1 ≡ true → ends_at_end (in_field_by comma end return).0 ≡ false
-field-between true end return h = cc h
-field-between false true true h = refl
-field-between false true false h = refl
-field-between false false return h = cc h
-
--- what ends with an octet does not end again at the text's end: at the start of a field, and of a record
-start-between : (quote : Bool) (p : State × Action) → (is_end p.1 ≡ true → ends_at_end p.0 ≡ false)
-    → is_end (cond quote (st.InQuoted, act.Skip) p).1 ≡ true → ends_at_end (cond quote (st.InQuoted, act.Skip) p).0 ≡ false
-start-between true p more h = cc h
-start-between false p more h = more h
-
-skip-between : (end : Bool) (s : State) (p : State × Action) → (is_end p.1 ≡ true → ends_at_end p.0 ≡ false)
-    → is_end (cond end (s, act.Skip) p).1 ≡ true → ends_at_end (cond end (s, act.Skip) p).0 ≡ false
-skip-between true s p more h = cc h
-skip-between false s p more h = more h
-
-copy-between : (quote : Bool) (p : State × Action) → (is_end p.1 ≡ true → ends_at_end p.0 ≡ false)
-    → is_end (cond quote (st.InQuoted, act.Copy) p).1 ≡ true → ends_at_end (cond quote (st.InQuoted, act.Copy) p).0 ≡ false
-copy-between true p more h = cc h
-copy-between false p more h = more h
-
 -- an octet that ends a record leaves the machine between two records
 pub step-between : (s : State) (c : ℕ) → is_end (step default_config s c).1 ≡ true → ends_at_end (step default_config s c).0 ≡ false
-step-between s c h = grind (arith, nat_tests, field-between, skip-between, start-between, copy-between)
+step-between s c h = grind (arith, nat_tests)
 
 -- what is left behind a record: the machine between two records, and no more text than behind its first octet
 pub record Behind (text : List ℕ) (p : Read) : Type 0 where
   pub between : ends_at_end p.1 ≡ false
   pub less : length p.2 ≤ length text - 1
 
-last-behind : (b : Bool) (fields : Record) (p : Read) → cond b (Some (fields, st.StartRecord, [])) None ≡ Some p → Behind [] p
-last-behind true fields p e = grind (arith, same_Some)
-last-behind false fields p e = cc e
-
-step-behind : (b : Bool) (s : State) (c : ℕ) (fields : Record) (rest : List ℕ) (more : Option Read) (p : Read) → is_end (step default_config s c).1 ≡ b
-    → cond b (Some (fields, (step default_config s c).0, rest)) more ≡ Some p → (more ≡ Some p → Behind rest p) → Behind (c ∷ rest) p
-step-behind true s c fields rest more p b e next = grind (arith, same_Some, step-between)
-step-behind false s c fields rest more p b e next = let q : Behind rest p = next e in record {
-  between = q.between;
-  less = omega arith;
-}
-
 pub next-behind : (s : State) (fields : Record) (field text : List ℕ) (p : Read) → next_record default_config s fields field text ≡ Some p → Behind text p
 unfolding next_record
-next-behind s fields field [] p e = last-behind (ends_at_end s) (fields ++ (field ∷ [])) p e
-next-behind s fields field (c ∷ rest) p e = grind (arith, step-behind, next-behind (step default_config s c).0 (fields_after (step default_config s c).1 fields field) (field_after (step default_config s c).1 c field) rest p)
+next-behind s fields field [] p e = grind arith
+next-behind s fields field (c ∷ rest) p e =
+    grind (arith, step-between, next-behind (step default_config s c).0 (fields_after (step default_config s c).1 fields field) (field_after (step default_config s c).1 c field) rest p)
 
 -- between two records a record takes at least one octet
 pub next-less : (s : State) (text : List ℕ) (p : Read) → ends_at_end s ≡ false → next_record default_config s [] [] text ≡ Some p → length p.2 < length text

@@ -1,9 +1,7 @@
 -- The order of a file's records: what they write does not depend on it, but for the header.
-use Rattle.std.proofs.lemmas.Grind.{common_steps}
-use Rattle.std.proofs.Common.{rules}
 use Rattle.std.proofs.lemmas.Bool.Decides.{nat_tests}
-use Rattle.std.proofs.Common.{◌≡◌, ℕ, ◌+◌, ◌<◌, ◌≤◌, Bool, true, false, cond, List, [], ◌∷◌, length, get_or, map, refl, sym, ap, subst, ◌∙◌, arith}
-use Rattle.std.specs.Prelude.{Option, Some, None, Result, Ok, Err, IfSome, IsOk, is_ok, All, option_and_then}
+use Rattle.std.proofs.Common.{◌≡◌, ℕ, ◌+◌, ◌<◌, ◌≤◌, Bool, true, false, cond, List, [], ◌∷◌, length, map, refl, sym, ap, subst, ◌∙◌, arith}
+use Rattle.std.specs.Prelude.{Option, Some, None, Result, Ok, Err, IfSome, IsOk, is_ok, All}
 use Rattle.std.specs.List.{IsDistinct, fold, sum_by}
 use Rattle.std.specs.List.Sorted.{IsPermutation}
 use Rattle.std.proofs.lemmas.List.{get_or-map, length-map}
@@ -14,15 +12,15 @@ use Rattle.std.proofs.lemmas.Map.Keys.{IsDistinct-IsPermutation, IsDistinct-cons
 use Rattle.std.proofs.lemmas.Bool.{le-ltb}
 use Rattle.nr_graphpick.specs.declared.Graph.{Graph}
 use Rattle.nr_graphpick.specs.declared.Graph.TheVariants.{One, Two}
-use Rattle.nr_shifttable.specs.Accepted.{Entries, entries_for, with_entry, table_of, table_said, accepted}
-use Rattle.nr_shifttable.specs.Items.{Apart, is_header, item_of_numbers, items_from, items_said, same_place}
+use Rattle.nr_shifttable.specs.Accepted.{Entries, entries_for, with_entry, table_of, table_said}
+use Rattle.nr_shifttable.specs.Items.{Apart, items_from, items_said, same_place}
 use Rattle.nr_shifttable.specs.Records.{Record, records_of}
 use Rattle.nr_shifttable.specs.RecordOrder.{RecordsMayMove, has_header}
 use Rattle.nr_shifttable.specs.Written.{IsWritten, item_written, without_header}
 use Rattle.nr_shifttable.specs.declared.entry.Item.{Item}
 use Rattle.nr_shifttable.specs.declared.fault.TableFault.{TableFault}
 use Rattle.nr_shifttable.specs.declared.fault.TableFault.TheVariants.{TooLong}
-use Rattle.nr_shifttable.proofs.ItemLaws.{bind-ok, header-numbers, if-ok, items-apart, items-inside}
+use Rattle.nr_shifttable.proofs.ItemLaws.{bind-ok, header-numbers, if-ok, items-inside}
 use Rattle.nr_shifttable.proofs.EntryOrderFacts.{GivesEntry, entries_for-has, same_entries, same_place-flips}
 use Rattle.nr_shifttable.proofs.WrittenItemFacts.{items-are_written}
 

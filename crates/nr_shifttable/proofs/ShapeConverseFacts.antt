@@ -1,5 +1,5 @@
 -- From the shape of the parity columns, in all sets, back to the tests that decide acceptance.
-use Rattle.std.proofs.Common.{◌≡◌, ℕ, zero, suc, ◌+◌, ◌<◌, ◌≤◌, ◌==◌, nat_lt, nat_le, Bool, true, false, not, ◌&&◌, ◌||◌, ◌⊎◌, inl, inr, List, [], ◌∷◌, ◌++◌, length, map, refl, sym, ap, ◌∙◌, arith}
+use Rattle.std.proofs.Common.{◌≡◌, ℕ, ◌+◌, ◌<◌, ◌≤◌, ◌==◌, nat_le, true, false, ◌&&◌, ◌⊎◌, inl, inr, List, [], ◌∷◌, ◌++◌, length, map, refl, sym, ap, ◌∙◌, arith}
 use Rattle.std.specs.Prelude.{Option, Some, None, Ok, slice_index}
 use Rattle.std.specs.List.{filter, list_all, All}
 use Rattle.std.proofs.lemmas.List.Elements.{All-head, All-tail, All-filter, All-weaker, filter_passes}
@@ -10,9 +10,9 @@ use Rattle.nr_graphpick.specs.declared.Graph.{Graph}
 use Rattle.nr_graphpick.specs.declared.Graph.TheVariants.{One, Two}
 use Rattle.nr_graphpick.specs.Graph.{rows_of, info_cols_of}
 use Rattle.nr_shifttable.specs.declared.entry.Entry.{Entry}
-use Rattle.nr_shifttable.specs.Accepted.{row_of, tail, zero_at, lone_zero, zero_pair, two_agree, three_agree, rows_agree, first_column_ok, diagonals_ok, core_ok, lacks_row, own_column_ok, extension_ok, is_present, rows_present, graph_checked, Ascending, IsInRange}
+use Rattle.nr_shifttable.specs.Accepted.{row_of, tail, zero_at, lone_zero, zero_pair, two_agree, three_agree, rows_agree, first_column_ok, diagonals_ok, core_ok, own_column_ok, extension_ok, rows_present, graph_checked, Ascending, IsInRange}
 use Rattle.nr_shifttable.specs.Faults.{HasCoreRows}
-use Rattle.nr_shifttable.specs.Tails.{value_in, tail_of, HasMiddle, HasCore, HasShape, ShapeIsAccepted}
+use Rattle.nr_shifttable.specs.Tails.{value_in, tail_of, HasCore, HasShape, ShapeIsAccepted}
 use Rattle.nr_shifttable.proofs.BoundedLoopFacts.{each_below-tells}
 use Rattle.nr_shifttable.proofs.EntryOrderFacts.{accepted-from}
 use Rattle.nr_shifttable.proofs.ParityShapeFacts.{Diagonals, FirstColumn, at_column, cell, cell_at, row-cells, value_of, values_of}
@@ -59,12 +59,12 @@ module _ (es : List Entry) (set n i : ℕ) (up : Ascending 0 es) where
       by None e = absurd (clash (tail es i (n + 1)) (filter_passes (λ x. nat_le (n + 1) x.col) (row_of es i)) e)
 
   missing : (m v : ℕ) (rest : List (ℕ × ℕ)) → n < m → tail_of es set n i ≡ (m, v) ∷ rest → (value_of set (at_column es n i) ≡ None) × (tail_of es set (n + 1) i ≡ (m, v) ∷ rest)
-  missing m v rest lt h = grind (arith, value_of, at_column, row-cells, cell_at)
+  missing m v rest lt h = grind (arith, row-cells)
 
 -- the first parity column and the diagonal, in one set
 core-parts : (es : List Entry) (set n a b c : ℕ) → Ascending 0 es → HasCore es set n a b c
     → FirstColumn set (at_column es n 0) (at_column es n 1) (at_column es n 2) (at_column es n 3) × Diagonals es set n
-core-parts es set n a b c up core = grind (arith, present, value_of, at_column, missing)
+core-parts es set n a b c up core = grind (arith, present, missing)
 
 two_agree-from : (a b c x y z : ℕ) → (x ≡ y) ⊎ ((y ≡ z) ⊎ (x ≡ z)) → ◌≡◌ {A = Option ℕ} (Some a) (Some x) → ◌≡◌ {A = Option ℕ} (Some b) (Some y) → ◌≡◌ {A = Option ℕ} (Some c) (Some z) → two_agree a b c ≡ true
 two_agree-from a b c x y z two e f g = grind (arith, nat_tests)

@@ -1,4 +1,4 @@
-use Rattle.std.proofs.Common.{◌≤◌, length, sym, subst, ◌∙◌, ◌<◌, ◌^◌, arith}
+use Rattle.std.proofs.Common.{arith}
 use Rattle.nr_shifttable.proofs.FieldFacts.{numeral-below}
 use Rattle.nr_shifttable.proofs.fields.numeral.Goals as goal
 

@@ -1,7 +1,5 @@
 -- What a blank at the end leaves out, and another octet keeps.
 use Rattle.std.proofs.Common.{arith}
-use Rattle.std.proofs.Common.{ap, sym, ◌∙◌}
-use Rattle.nr_shifttable.specs.Fields.{to_last_mark}
 use Rattle.nr_shifttable.proofs.FieldFacts.{last-blank, last-mark}
 use Rattle.nr_shifttable.proofs.fields.to_last_mark.Goals as goal
 

@@ -1,5 +1,5 @@
 -- Each turn reads one digit behind at most nine.
-use Rattle.std.proofs.Common.{arith, refl}
+use Rattle.std.proofs.Common.{arith}
 use Rattle.nr_shifttable.proofs.FieldFacts.{Digit, one-digit}
 use Rattle.nr_shifttable.proofs.fields.value_of.Goals as goal
 

@@ -1,5 +1,5 @@
 -- Each record adds its item, or its fault is the file's.
-use Rattle.std.proofs.Common.{List, inr, ap, sym, ◌+◌, ◌∙◌, arith, length}
+use Rattle.std.proofs.Common.{List, inr, ap, sym, ◌+◌, ◌∙◌, arith}
 use Rattle.std.proofs.lemmas.Bool.Decides.{when_false, when_true}
 use Rattle.std.proofs.lemmas.Result.{err_from_is_err_and}
 use Rattle.csv.specs.Records.{fields_of}

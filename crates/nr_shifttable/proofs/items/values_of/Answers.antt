@@ -1,7 +1,7 @@
 -- Each value that fits 16 bits stands as it was read.
 use Rattle.std.proofs.lemmas.Bool.Decides.{nat_tests}
 use Rattle.std.proofs.lemmas.Grind.{common_steps}
-use Rattle.std.proofs.Common.{◌+◌, ◌∙◌, get_or, refl, arith}
+use Rattle.std.proofs.Common.{arith}
 use Rattle.std.proofs.lemmas.List.{length-set}
 use Rattle.nr_shifttable.proofs.ItemFacts.{converted, values-more, values-all}
 use Rattle.nr_shifttable.proofs.items.values_of.Goals as goal

@@ -1,7 +1,5 @@
 use Rattle.std.proofs.Common.{rules}
-use Rattle.std.proofs.Common.{◌∙◌, arith}
 use Rattle.std.proofs.lemmas.List.{length-set}
-use Rattle.nr_shifttable.specs.declared.entry.Entry.{Entry}
 use Rattle.nr_shifttable.proofs.SliceBoundFacts.{start-before, starts-more}
 use Rattle.nr_shifttable.proofs.starts.row_starts.Goals as goal
 

@@ -1,6 +1,4 @@
 use Rattle.std.proofs.Common.{refl, arith}
-use Rattle.csv.specs.Reading.{strip_bom}
-use Rattle.csv.specs.declared.parser.State.TheVariants as st
 use Rattle.nr_shifttable.specs.Records.{records_left}
 use Rattle.nr_shifttable.proofs.RecordFacts.{records-few, strip-length}
 use Rattle.nr_shifttable.proofs.records.Records.new.Goals as goal

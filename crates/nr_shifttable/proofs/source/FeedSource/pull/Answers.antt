@@ -2,12 +2,9 @@
 use Rattle.std.proofs.lemmas.Bool.Decides.{nat_tests}
 use Rattle.std.proofs.lemmas.Grind.{common_steps}
 use Rattle.std.proofs.Common.{arith}
-use Rattle.std.proofs.Common.{ap, sym, drop, ◌∙◌, ◌≡◌, ◌<◌, ◌≤◌, length, subst}
 use Rattle.nr_shifttable.proofs.FeedFacts.{feed-pulls}
-use Rattle.nr_shifttable.specs.Source.{Feeding}
-use Rattle.nr_shifttable.specs.declared.source.Feed.TheInside.{Inside}
 use Rattle.nr_shifttable.proofs.source.FeedSource.pull.Goals as goal
 use Rattle.nr_shifttable.proofs.source.FeedSource.pull.Goals.{in-Some, in-None}
 
 pub returns-clause-octets : goal.returns-clause-octets
-returns-clause-octets c = grind (arith, common_steps, nat_tests, feed-pulls, in-Some, in-None)
+returns-clause-octets c = grind (arith, common_steps, nat_tests, feed-pulls)

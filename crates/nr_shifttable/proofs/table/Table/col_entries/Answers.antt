@@ -1,7 +1,4 @@
 use Rattle.std.proofs.Common.{arith}
-use Rattle.std.proofs.Common.{◌∙◌, ap, sym, subst}
-use Rattle.std.specs.List.{All}
-use Rattle.nr_shifttable.specs.Accepted.{entries_in, column_of, RowsAscend, IsInRange}
 use Rattle.nr_shifttable.proofs.RowOrderFacts.{in_table-order, column-ascends, column-range}
 use Rattle.nr_shifttable.proofs.table.Table.col_entries.Goals as goal
 

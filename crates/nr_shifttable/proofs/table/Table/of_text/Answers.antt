@@ -1,10 +1,5 @@
-use Rattle.std.proofs.Common.{[], refl, arith}
-use Rattle.std.specs.Prelude.{Err}
+use Rattle.std.proofs.Common.{arith}
 use Rattle.std.proofs.lemmas.Result.{err_from_is_err_and}
-use Rattle.nr_shifttable.specs.Accepted.{Entries, table_of, accepted}
-use Rattle.nr_shifttable.specs.Items.{items_from}
-use Rattle.nr_shifttable.specs.Records.{records_of}
-use Rattle.nr_shifttable.specs.declared.fault.TableFault.TheVariants.{Read, TooLong}
 use Rattle.nr_shifttable.proofs.JudgedFaultFacts.{items-judged, accepted-judged, fault-judged, gives-judged, judged-not}
 use Rattle.nr_shifttable.proofs.table.Table.of_text.Goals as goal
 

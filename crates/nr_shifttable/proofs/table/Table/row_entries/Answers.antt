@@ -1,7 +1,4 @@
 use Rattle.std.proofs.Common.{arith}
-use Rattle.std.proofs.Common.{◌∙◌, ap, sym, subst}
-use Rattle.std.specs.List.{All}
-use Rattle.nr_shifttable.specs.Accepted.{entries_in, row_of, ColumnsAscend, IsInRange}
 use Rattle.nr_shifttable.proofs.RowOrderFacts.{in_table-order, row-ascends, row-range}
 use Rattle.nr_shifttable.proofs.table.Table.row_entries.Goals as goal
 
