@@ -1,6 +1,6 @@
 -- The text of `audit`, line by line.
 use Rattle.std.proofs.lemmas.Bool.Decides.{nat_tests}
-use Rattle.std.proofs.Common.{◌≡◌, ℕ, ◌+◌, ◌<◌, ◌==◌, Bool, true, false, List, [], ◌∷◌, ◌++◌, All, length, take, get_or, ap, sym, ◌∙◌, arith, length-append, cond}
+use Rattle.std.proofs.Common.{◌≡◌, ℕ, ◌+◌, ◌<◌, ◌==◌, Bool, true, false, List, [], ◌∷◌, ◌++◌, All, length, take, get_or, ap, sym, arith, length-append, cond}
 use Rattle.std.proofs.lemmas.Grind.{flat_map-append}
 use Rattle.std.proofs.lemmas.List.{append-nil, take_more}
 use Rattle.std.proofs.lemmas.List.Elements.{filter-append}
@@ -76,9 +76,7 @@ unknown-unfixed link s p of = grind (arith, same_known, same_size)
 pub received-next : (p : ℕ) (sender : SenderView) (xs : List Transmission) (i : ℕ) (x none : Transmission) → i < length xs → x ≡ get_or xs i none
     → received sender (of_process p (take (i + 1) xs)) ≡ received sender (of_process p (take i xs)) ++ received sender (of_process p (x ∷ []))
 received-next p sender xs i x none within is =
-    ap (λ (l : List Transmission). received sender (of_process p l)) (take_more xs i none within ∙ ap (λ (y : Transmission). take i xs ++ y ∷ []) (sym is))
-    ∙ ap (received sender) (filter-append (λ y. y.process == p) (take i xs) (x ∷ []))
-    ∙ flat_map-append (received_of sender) (of_process p (take i xs)) (of_process p (x ∷ []))
+    rw (take_more xs i none within, sym is, filter-append (λ y. y.process == p) (take i xs) (x ∷ [])) (flat_map-append (received_of sender) (of_process p (take i xs)) (of_process p (x ∷ [])))
 
 -- one transmission is the process's own, or is not
 pub received-own : (p : ℕ) (sender : SenderView) (x : Transmission) → (x.process == p) ≡ true → received sender (of_process p (x ∷ [])) ≡ received_of sender x
@@ -108,5 +106,4 @@ behind-some head n link records r = grind (arith, audit_line-some, length-append
 -- a block's lines are not empty, since there is a code block
 pub audit_block-some : PlansAreSound → (head : List ℕ) (n : ℕ) (link : Link) (records : List HeardBits) → IsLink link → 0 < length (audit_block head n link records)
 audit_block-some sound head n link records is =
-    let plan = sound link.graph (attached_length link.a) link.plan is.planned in
-    some-lines (λ r. head ++ audit_line n link records r) link.plan.c (behind-some head n link records) plan.some
+    some-lines (λ r. head ++ audit_line n link records r) link.plan.c (behind-some head n link records) (sound link.graph (attached_length link.a) link.plan is.planned).some

@@ -36,7 +36,7 @@ round-named blocks number p before all is = first-named blocks number (round_of 
 pub lines-some : (senders : List SenderView) (p number : ℕ) (round : List Transmission) (sender : SenderView) → Some number ≡ block_of round → slice_get senders (number - 1) ≡ Some sender
     → round_lines audit_words senders p round ≡ audit_block (process_words p) number sender.link (heard_record sender.link (received sender round))
 lines-some senders p number [] sender is there = absurd (cc)
-lines-some senders p number (x ∷ more) sender is there = grind (arith, slice_get)
+lines-some senders p number (x ∷ more) sender is there = grind arith
 
 -- they are not empty
 pub lines-there : PlansAreSound → (senders : List SenderView) (p number : ℕ) (round : List Transmission) (sender : SenderView) → Some number ≡ block_of round → slice_get senders (number - 1) ≡ Some sender → IsLink sender.link

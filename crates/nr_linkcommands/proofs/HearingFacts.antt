@@ -1,6 +1,7 @@
 -- What is received of a transmission, place by place and word by word.
+use Rattle.std.proofs.Common.{rules}
 use Rattle.std.proofs.lemmas.Bool.Decides.{nat_tests}
-use Rattle.std.proofs.Common.{◌≡◌, ℕ, zero, suc, ◌+◌, ◌-◌, ◌%◌, ◌^◌, ◌<◌, ◌==◌, inl, inr, not, Bool, true, false, List, ◌++◌, length, map, ap, sym, refl, ◌∙◌, arith, length-append}
+use Rattle.std.proofs.Common.{◌≡◌, ℕ, ◌+◌, ◌-◌, ◌%◌, ◌^◌, ◌<◌, ◌==◌, not, Bool, false, List, ◌++◌, length, map, ap, ◌∙◌, arith, length-append}
 use Rattle.std.specs.Int.{bit_at, bit_not, w64}
 use Rattle.std.specs.Int.RustNames.{bit_xor}
 use Rattle.std.specs.List.{range_with_len}
@@ -46,28 +47,11 @@ none-flipped p bits is = grind (arith, same_from_bits, length-firsts, bit-firsts
 -- a word more
 pub firsts-more : (f : ℕ → Bool) (n wide next word : ℕ) (old new : List Bool) → new ≡ old ++ low_first wide word
     → ((j : ℕ) → j < wide → (bit_at word j == 1) ≡ f (n + j)) → next ≡ n + wide → old ≡ firsts f n → new ≡ firsts f next
-firsts-more f n wide next word old new pushed here there so_far =
-    let before : length old ≡ n = ap length so_far ∙ length-firsts f n in
-    let long : length new ≡ next = ap length pushed ∙ length-append old (low_first wide word) ∙ omega (arith, before, there, length-low_first wide word) in
-    same_from_bits new (firsts f next) (long ∙ sym (length-firsts f next))
-    (λ m below.
-    let inside : m < next = omega (arith, below, long) in
-    ap (λ l. bit l m) pushed
-    ∙ elim (cases_lt m n) [
-      | inl first ↦
-          get_or_append_left old (low_first wide word) false m (omega (arith, first, before)) ∙ ap (λ l. bit l m) so_far ∙ bit-firsts f n m first
-      | inr later ↦
-          let low : m - n < wide = omega (arith, inside, later, there) in
-          let at : n + (m - n) ≡ m = omega (arith, later) in
-          get_or-append_right old (low_first wide word) n m false before later ∙ bit-low_first wide word (m - n) low ∙ here (m - n) low ∙ ap f at
-    ]
-    ∙ sym (bit-firsts f next m inside))
+firsts-more f n wide next word old new pushed here there so_far = search (rules, length-firsts, length-append, length-low_first, same_from_bits, cases_lt, get_or_append_left, bit-firsts, get_or-append_right, bit-low_first)
 
 -- a word with the other bits
 not-tested : (a b : ℕ) → a < 2 → b ≡ 1 - a → (b == 1) ≡ not (a == 1)
-not-tested zero b small is = ap (λ k. k == 1) is
-not-tested (suc zero) b small is = ap (λ k. k == 1) is
-not-tested (suc (suc a)) b small is = absurd (omega (arith, small))
+not-tested a b small is = grind (arith, nat_tests)
 
 pub not-marked : (erased : List Bool) (n word j : ℕ) → word < 2 ^ 64 → j < 64 → (bit_at word j == 1) ≡ bit erased (n + j)
     → (bit_at (bit_not w64 word) j == 1) ≡ not (bit erased (n + j))
@@ -76,21 +60,14 @@ not-marked erased n word j fits below is =
 
 -- the sum of two words
 xor-tested : (a b r : ℕ) → a < 2 → b < 2 → r ≡ (a + b) % 2 → (r == 1) ≡ ((a == 1) ⊕ (b == 1))
-xor-tested zero zero r _ _ is = ap (λ k. k == 1) is
-xor-tested zero (suc zero) r _ _ is = ap (λ k. k == 1) is
-xor-tested (suc zero) zero r _ _ is = ap (λ k. k == 1) is
-xor-tested (suc zero) (suc zero) r _ _ is = ap (λ k. k == 1) is
-xor-tested (suc (suc a)) b r small _ is = absurd (omega (arith, small))
-xor-tested a (suc (suc b)) r _ small is = absurd (omega (arith, small))
+xor-tested a b r small few is = grind (arith, nat_tests)
 
 pub xor-marked : (x y j : ℕ) (f b : Bool) → (bit_at x j == 1) ≡ f → (bit_at y j == 1) ≡ b → (bit_at (bit_xor x y) j == 1) ≡ (f ⊕ b)
 xor-marked x y j f b is is-too = grind (arith, nat_tests, xor-tested, bit_at-lt, bit_at_xor)
 
 -- what a mark of a place that is not erased and a bit say
 place-arrives : (e b : Bool) → place_heard (not e) b ≡ arrived_bit e b
-place-arrives true b = refl
-place-arrives false true = refl
-place-arrives false false = refl
+place-arrives e b = grind arith
 
 -- all of them
 pub heard-all : (x : Transmission) (bits heard value : List Bool) (count : ℕ) → count ≡ length bits

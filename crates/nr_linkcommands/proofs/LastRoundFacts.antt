@@ -1,5 +1,5 @@
 -- The rounds that no transmission ends, one process after the other.
-use Rattle.std.proofs.Common.{◌≡◌, ℕ, ◌+◌, ◌<◌, List, [], ◌∷◌, ◌++◌, length, flat_map, get_or, map, ap, ◌∙◌, refl, sym, arith, append_assoc}
+use Rattle.std.proofs.Common.{◌≡◌, ℕ, ◌+◌, ◌<◌, List, [], ◌∷◌, ◌++◌, length, flat_map, get_or, map, ap, refl, arith, append_assoc}
 use Rattle.std.specs.List.{range_with_len}
 use Rattle.std.proofs.lemmas.List.FromFn.{map-range_with_len_more}
 use Rattle.std.proofs.lemmas.List.{get_or_default}
@@ -22,8 +22,7 @@ last-lines words senders schedule = joined-map (λ p. round_lines words senders 
 pub last-more : (ended : List (List Transmission)) (schedule : List Transmission) (p : ℕ)
     → (ended ++ map (λ q. round_of q schedule) (range_with_len 0 p)) ++ round_of p schedule ∷ [] ≡ ended ++ map (λ q. round_of q schedule) (range_with_len 0 (p + 1))
 last-more ended schedule p =
-    append_assoc ended (map (λ q. round_of q schedule) (range_with_len 0 p)) (round_of p schedule ∷ [])
-    ∙ ap (λ (rounds : List (List Transmission)). ended ++ rounds) (sym (map-range_with_len_more (λ q. round_of q schedule) 0 p p (omega arith)))
+    rw (append_assoc, map-range_with_len_more (λ q. round_of q schedule) 0 p p (omega arith)) refl
 
 -- what the slot of a process has received
 pub holds-round : (senders : List SenderView) (schedule later : List Transmission) (slots : List Slot) (p : ℕ) (slot : Slot) → p < length slots → slot ≡ get_or slots p slot → HoldRounds senders schedule later slots → HoldsRound (goes_on p later) senders (round_of p schedule) slot

@@ -1,7 +1,6 @@
 -- What is received of a sender's transmissions: each reception is accepted, and without flips the sender's block
 -- explains it.
 use Rattle.std.proofs.Common.{◌≡◌, ℕ, ◌<◌, Bool, true, false, Result, Ok, Err, IsOk, List, [], ◌∷◌, All, length, ap, sym, subst, refl, ◌∙◌, arith}
-use Rattle.std.specs.Prelude.{◌&&◌}
 use Rattle.std.specs.List.{list_all}
 use Rattle.std.proofs.lemmas.Bool.Decides.{nat_tests}
 use Rattle.std.proofs.lemmas.List.Elements.{All-append, All-cons, All-head, All-nil, All-tail}
@@ -40,7 +39,7 @@ of_said sender x said is = ap (λ (r : Result (List ℕ) DeskFault). received_if
 sent-long : AcceptedSendAll → (sender : SenderView) (x : Transmission) (lengths : List ℕ) → tx_said sender.link x.tx ≡ Ok lengths → length (sent sender.link x.tx sender.block) ≡ x.tx.g
 sent-long all sender x lengths is = all sender.link x.tx sender.block (subst IsOk (sym is) refl)
 
-one-accepted : AcceptedSendAll → (sender : SenderView) (x : Transmission) → All (IsAccepted sender.link) (received_of sender x)
+pub one-accepted : AcceptedSendAll → (sender : SenderView) (x : Transmission) → All (IsAccepted sender.link) (received_of sender x)
 one-accepted all sender x = go (tx_said sender.link x.tx) refl
   where
     go : (said : Result (List ℕ) DeskFault) → tx_said sender.link x.tx ≡ said → All (IsAccepted sender.link) (received_of sender x)
@@ -57,9 +56,6 @@ received-accepted all sender [] = All-nil (IsAccepted sender.link)
 received-accepted all sender (x ∷ xs) =
     All-append (IsAccepted sender.link) (received_of sender x) (received sender xs) (one-accepted all sender x) (received-accepted all sender xs)
 
-pub one_received-accepted : AcceptedSendAll → (sender : SenderView) (x : Transmission) → All (IsAccepted sender.link) (received_of sender x)
-one_received-accepted = one-accepted
-
 -- so is what arrives of the bits that a sender sends
 pub sent-accepted : AcceptedSendAll → (sender : SenderView) (x : Transmission) (bits : List Bool) → sent_said sender.link x.tx sender.block ≡ Ok bits → IsAccepted sender.link (reception x.tx (heard_through x bits))
 sent-accepted all sender x bits said =
@@ -68,9 +64,7 @@ sent-accepted all sender x bits said =
 
 -- what arrives of a bit that is not flipped agrees with it
 arrived-agrees : (e b : Bool) → agrees (arrived_bit e (false ⊕ b)) b ≡ true
-arrived-agrees true b = refl
-arrived-agrees false true = refl
-arrived-agrees false false = refl
+arrived-agrees e b = grind arith
 
 place-agrees : (x : Transmission) (bits : List Bool) (m : ℕ) → m < length bits → is_named x.flip m ≡ false → agrees (heard_at (heard_through x bits) m) (bit bits m) ≡ true
 unfolding heard_through
@@ -89,9 +83,8 @@ one-explained all sender x steady = grind (arith, of_said, all-agree, sent-long)
 all-explained : AcceptedSendAll → (sender : SenderView) (xs : List Transmission) → All OnlyErases xs → explained sender (received sender xs) ≡ true
 all-explained all sender [] steady = refl
 all-explained all sender (x ∷ xs) steady =
-    list_all-append (λ (y : Reception). all_agree y.heard (sent sender.link y.tx sender.block)) (received_of sender x) (received sender xs)
-    ∙ ap (λ b. b && explained sender (received sender xs)) (one-explained all sender x (All-head OnlyErases x xs steady))
-    ∙ all-explained all sender xs (All-tail OnlyErases x xs steady)
+    let more = all-explained all sender xs (All-tail OnlyErases x xs steady) in
+    rw (list_all-append, one-explained all sender x (All-head OnlyErases x xs steady)) more
 
 pub received-explained : AcceptedSendAll → (sender : SenderView) (xs : List Transmission) → All OnlyErases xs → explains sender.link (received sender xs) sender.block ≡ true
 unfolding explains

@@ -20,7 +20,7 @@ use Rattle.nr_files.specs.Rounds.{round_of, since_fresh}
 use Rattle.nr_linkcommands.specs.RunText.{received, received_of}
 use Rattle.nr_files.specs.Schedule.{EachGoesOn, GoesOn, HasBlock, fresh_block}
 use Rattle.nr_files.specs.declared.schedule.Transmission.{Transmission}
-use Rattle.nr_linkcommands.proofs.ReceptionFacts.{one_received-accepted}
+use Rattle.nr_linkcommands.proofs.ReceptionFacts.{one-accepted}
 use Rattle.nr_files.proofs.RefusalFacts.{of_ok}
 use Rattle.nr_files.proofs.RoundFacts.{round-more}
 use Rattle.nr_linkcommands.proofs.RoundTextFacts.{received-more}
@@ -74,8 +74,7 @@ fresh-calls table settings p o sender x own linked accepted =
 
 -- the sender of a round that goes on with a transmission's block
 begun-block : (y x : Transmission) (b : Bool) → cond b (Some y.block) None ≡ Some x.block → y.block ≡ x.block
-begun-block y x true is = cc
-begun-block y x false is = absurd (cc)
+begun-block y x b is = grind arith
 
 going-on : (table : Entries) (settings : Settings) (p : ℕ) (senders : List SenderView) (sender : SenderView) (x : Transmission) (round : List Transmission) → (x.process == p) ≡ true → sender_of senders x ≡ Some sender → fresh_block round ≡ Some x.block → All (IsAccepted sender.link) (received_of sender x)
     → round_from table settings p (round_given senders round) (calls_in sender x false) ≡ round_given senders (round ++ x ∷ [])
@@ -102,8 +101,8 @@ module _ (all : AcceptedSendAll) (table : Entries) (settings : Settings) (sender
       → (mine ≡ true → fresh ≡ false → fresh_block round ≡ Some x.block)
       → round_from table settings p (round_given senders round) (calls_in sender x fresh) ≡ round_given senders (cond mine (cond fresh (x ∷ []) (round ++ x ∷ [])) round)
   turn round sender x false fresh mine is there linked goes_on = other-calls table settings p (round_given senders round) sender x fresh mine
-  turn round sender x true true mine is there linked goes_on = grind (arith, fresh-calls, one_received-accepted)
-  turn round sender x true false mine is there linked goes_on = grind (arith, going-on, one_received-accepted)
+  turn round sender x true true mine is there linked goes_on = grind (arith, fresh-calls, one-accepted)
+  turn round sender x true false mine is there linked goes_on = grind (arith, going-on, one-accepted)
 
   agree-more : (before : List Transmission) (sender : SenderView) (x : Transmission) → sender_of senders x ≡ Some sender → link_said table settings (length sender.block) ≡ Ok sender.link → GoesOn before x → Agree before → Agree (before ++ x ∷ [])
   agree-more before sender x there linked goes_on agree = grind (arith, nat_tests, flat_map-append, append-nil, from-append, turn, round-more)

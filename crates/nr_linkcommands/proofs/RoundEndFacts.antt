@@ -51,7 +51,7 @@ pub record EndsAs (senders : List SenderView) (p number : ℕ) (sender : SenderV
 
 pub ends-as : (senders : List SenderView) (p number : ℕ) (sender : SenderView) (round : List Transmission) (slot : Slot) → slot.block ≡ Some number → slice_get senders (number - 1) ≡ Some sender → HoldsRound false senders round slot → EndsAs senders p number sender round slot
 ends-as senders p number sender [] slot named there held = absurd (cc)
-ends-as senders p number sender (x ∷ more) slot named there held = grind (arith, slice_get)
+ends-as senders p number sender (x ∷ more) slot named there held = grind arith
 
 -- a slot that names none is in no round
 pub round-none : (senders : List SenderView) (round : List Transmission) (slot : Slot) → slot.block ≡ None → HoldsRound false senders round slot → round ≡ []
@@ -76,7 +76,7 @@ goes_on-other p x later other = ap (λ b. cond b (not x.fresh) (goes_on p later)
 -- what is received of the round that a transmission goes on with, by the sender of its block
 holds-by : (senders : List SenderView) (round : List Transmission) (x : Transmission) (sender : SenderView) (slot : Slot) → sender_of senders x ≡ Some sender → IsOfRound round x → HoldsRound true senders round slot → HoldsSlot true sender.link (received sender round) slot
 holds-by senders [] x sender slot there of held = subst (HoldsSlot true sender.link []) (sym held) (refl, refl)
-holds-by senders (y ∷ more) x sender slot there of held = grind (arith, slice_get)
+holds-by senders (y ∷ more) x sender slot there of held = grind arith
 
 -- where a fresh one forgets what was received
 begun-holds : (senders : List SenderView) (before later : List Transmission) (x : Transmission) (old new : Slot) → new ≡ cond x.fresh empty_slot old → HoldsRound (goes_on x.process (x ∷ later)) senders (round_of x.process before) old → HoldsRound true senders (continued before x) new
@@ -99,7 +99,7 @@ held-over link list (Some state) held = held.same_link
 -- and with the transmission
 holds-more : (goes : Bool) (senders : List SenderView) (round : List Transmission) (x : Transmission) (sender : SenderView) (slot : Slot) → sender_of senders x ≡ Some sender → IsOfRound round x → slot.block ≡ Some x.block → HoldsSlot goes sender.link (received sender round ++ received_of sender x) slot → HoldsRound goes senders (round ++ x ∷ []) slot
 holds-more goes senders [] x sender slot there of named holds = grind (arith, received-more)
-holds-more goes senders (y ∷ more) x sender slot there of named holds = grind (arith, slice_get, received-more)
+holds-more goes senders (y ∷ more) x sender slot there of named holds = grind (arith, received-more)
 
 -- before any transmission no slot has received anything
 pub rounds-first : (senders : List SenderView) (later : List Transmission) (n : ℕ) → HoldRounds senders [] later (replicate n empty_slot)

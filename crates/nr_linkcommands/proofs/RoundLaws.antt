@@ -5,7 +5,7 @@ use Rattle.std.proofs.lemmas.Bool.Decides.{nat_tests}
 use Rattle.std.proofs.lemmas.List.Elements.{filter-append}
 use Rattle.nr_blockdesk.specs.Sent.{SenderView}
 use Rattle.nr_linkcommands.specs.RoundTexts.{LinesAreOwn, Piece, Words, is_about, last_rounds, round_lines, turn_lines, turns}
-use Rattle.nr_files.specs.Rounds.{of_process, round_of, since_fresh}
+use Rattle.nr_files.specs.Rounds.{of_process, round_of}
 use Rattle.nr_files.specs.declared.schedule.Transmission.{Transmission}
 use Rattle.nr_files.proofs.RoundFacts.{of_process-more}
 
@@ -14,7 +14,7 @@ own-own p [] = refl
 own-own p (x ∷ xs) = grind (arith, nat_tests, own-own p xs)
 
 round-own : (p q : ℕ) (xs : List Transmission) → q ≡ p → round_of q (of_process p xs) ≡ round_of q xs
-round-own p q xs is = ap (λ n. round_of n (of_process p xs)) is ∙ ap since_fresh (own-own p xs) ∙ ap (λ n. round_of n xs) (sym is)
+round-own p q xs is = rw (is, own-own) refl
 
 turn-own : (words : Words) (senders : List SenderView) (p : ℕ) (before : List Transmission) (x : Transmission) → x.process ≡ p → turn_lines words senders (of_process p before) x ≡ turn_lines words senders before x
 turn-own words senders p before x is = grind (arith, round-own)

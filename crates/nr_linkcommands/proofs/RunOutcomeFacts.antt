@@ -1,6 +1,5 @@
 -- How transport blocks end: their lines, and their totals.
-use Rattle.std.proofs.Common.{◌≡◌, ◌≢◌, ℕ, zero, suc, ◌+◌, ◌<◌, ◌≤◌, ◌==◌, Bool, true, false, not, cond, ltb, Option, None, Some, List, [], length, codes, ap, sym, refl, ◌∙◌, arith, length-append}
-use mir.Val.{bool_byte}
+use Rattle.std.proofs.Common.{◌≡◌, ℕ, zero, suc, ◌+◌, ◌<◌, ◌≤◌, ◌==◌, Bool, true, false, not, cond, Option, None, Some, List, [], length, codes, ap, sym, refl, ◌∙◌, arith, length-append}
 use Rattle.std.specs.Prelude.{count_by}
 use Rattle.std.specs.List.{find, list_all, range_with_len}
 use Rattle.std.proofs.lemmas.Bool.{true≢false}
@@ -11,7 +10,7 @@ use Rattle.std.proofs.lemmas.Bool.Decides.{nat_tests}
 use Rattle.nr_harqbuf.specs.Record.{HeardBits, record_of}
 use Rattle.nr_segment.specs.Plan.{word_size}
 use Rattle.nr_blockdesk.specs.Explains.{Reception, explains}
-use Rattle.nr_blockdesk.specs.Heard.{heard_of, heard_record, hearings}
+use Rattle.nr_blockdesk.specs.Heard.{heard_record, hearings}
 use Rattle.nr_blockdesk.specs.Link.{IsLink, Link}
 use Rattle.nr_blockdesk.specs.Outcome.{all_fixed, blocks_of, fixed, left, open_still, outcome_of, verdict_on}
 use Rattle.nr_blockdesk.specs.ReceiverLaws.{NothingIsOpen}
@@ -24,51 +23,26 @@ use Rattle.nr_files.specs.Schedule.{Timetable}
 use Rattle.nr_linkcommands.specs.declared.run_command.totals.Totals.{Totals}
 use Rattle.nr_files.specs.declared.schedule.Transmission.{Transmission}
 
--- a number that isn't zero is greater than zero
-pub some-tested : (n m : ℕ) → n ≡ m → ltb 0 n ≡ not (m == 0)
-some-tested n m same = grind (arith, nat_tests)
-
 -- one number more is counted, or is not
-count-more : (test : ℕ → Bool) (n : ℕ) → count_by test (range_with_len 0 (n + 1)) ≡ count_by test (range_with_len 0 n) + cond (test n) 1 0
-count-more test n =
-    ap (count_by test) (sym (map-id (range_with_len 0 (n + 1))))
-    ∙ sum_by-map-range_with_len_more (λ k. cond (test k) 1 0) (λ (x : ℕ). x) 0 n n (omega arith)
-    ∙ ap (λ (xs : List ℕ). count_by test xs + cond (test n) 1 0) (map-id (range_with_len 0 n))
-
-pub count-next : (test : ℕ → Bool) (n count step : ℕ) → count ≡ count_by test (range_with_len 0 n) → step ≡ cond (test n) 1 0 → count + step ≡ count_by test (range_with_len 0 (n + 1))
-count-next test n count step is more = omega (arith, is, more, count-more test n)
-
--- a truth value as a number
-pub byte-step : (b t : Bool) (step : ℕ) → step ≡ bool_byte b → b ≡ t → step ≡ cond t 1 0
-byte-step b t step is same = grind arith
-
-pub step-few : (b : Bool) (step : ℕ) → step ≡ cond b 1 0 → step ≤ 1
-step-few true step is = omega (arith, is)
-step-few false step is = omega (arith, is)
+pub count_more : (test : ℕ → Bool) (n : ℕ) → count_by test (range_with_len 0 (n + 1)) ≡ count_by test (range_with_len 0 n) + cond (test n) 1 0
+count_more test n = simp map-id at (sum_by-map-range_with_len_more (λ k. cond (test k) 1 0) (λ (x : ℕ). x) 0 n n (omega arith))
 
 -- how many pass where all do
 count-all : (f : ℕ → Bool) (a n : ℕ) → ((r : ℕ) → a ≤ r → r < a + n → f r ≡ true) → count_by f (range_with_len a n) ≡ n
 count-all f a zero each = refl
 count-all f a (suc n) each =
-    let first : f a ≡ true = each a (omega arith) (omega arith) in
-    let more : count_by f (range_with_len (a + 1) n) ≡ n = count-all f (a + 1) n (λ r low high. each r (omega (arith, low)) (omega (arith, high))) in
-    let one : ◌≡◌ {A = ℕ} (cond (f a) 1 0) 1 = ap (λ b. cond b 1 0) first in
-    omega (arith, sum_by-cons (λ r. cond (f r) 1 0) a (range_with_len (a + 1) n), one, more)
+    rw (sum_by-cons (λ r. cond (f r) 1 0) a (range_with_len (a + 1) n), each a (omega arith) (omega arith))
+    (omega (arith, count-all f (a + 1) n (λ r low high. each r (omega (arith, low)) (omega (arith, high)))))
 
 pub all-all : (f : ℕ → Bool) (a n : ℕ) → ((r : ℕ) → a ≤ r → r < a + n → f r ≡ true) → list_all f (range_with_len a n) ≡ true
 all-all f a zero each = refl
 all-all f a (suc n) each =
-    let first : f a ≡ true = each a (omega arith) (omega arith) in
-    let more : list_all f (range_with_len (a + 1) n) ≡ true = all-all f (a + 1) n (λ r low high. each r (omega (arith, low)) (omega (arith, high))) in
-    rw (first, more) refl
+    rw (each a (omega arith) (omega arith), all-all f (a + 1) n (λ r low high. each r (omega (arith, low)) (omega (arith, high)))) refl
 
 -- an open outcome is one where not all is fixed
-verdict-closed : (o : Option (List Bool)) → verdict_on o ≢ open_still
-verdict-closed (Some block) = λ is. cc
-verdict-closed None = λ is. cc
-
 open-if : (b : Bool) (o : Option (List Bool)) → cond b (verdict_on o) open_still ≡ open_still → b ≡ false
-open-if true o is = absurd (verdict-closed o is)
+open-if true (Some block) is = absurd (cc)
+open-if true None is = absurd (cc)
 open-if false o is = refl
 
 open-unfixed : (link : Link) (list : List Reception) → outcome_of link list ≡ open_still → all_fixed link (heard_record link list) ≡ false
@@ -79,14 +53,11 @@ open-unfixed link list is = open-if (all_fixed link (heard_record link list)) (f
 abbrev left_by : Link → HeardBits → ℕ
 left_by link s = count_by (λ p. not (fixed link s p)) (range_with_len 0 link.plan.kdash)
 
--- with nothing received every code block has the same record
-record-nothing : (link : Link) (r : ℕ) → r < link.plan.c → heard_of (heard_record link []) r ≡ record_of (word_size link.graph link.plan) []
-unfolding heard_record hearings
-record-nothing link r within =
-    get_or-map-range_with_len (λ r. record_of (word_size link.graph link.plan) []) 0 link.plan.c r r (record { first = []; clash = false }) within (omega arith)
-
+-- with nothing received every code block has as many
 left-nothing : (link : Link) (r : ℕ) → r < link.plan.c → left link (heard_record link []) r ≡ left_by link (record_of (word_size link.graph link.plan) [])
-left-nothing link r within = ap (left_by link) (record-nothing link r within)
+unfolding heard_record hearings
+left-nothing link r within =
+    ap (left_by link) (get_or-map-range_with_len (λ r. record_of (word_size link.graph link.plan) []) 0 link.plan.c r r (record { first = []; clash = false }) within (omega arith))
 
 -- so each one has a position left
 unfixed-if : (link : Link) (b : Bool) → (left_by link (record_of (word_size link.graph link.plan) []) == 0) ≡ b → all_fixed link (heard_record link []) ≡ false → unfixed_blocks link (heard_record link []) ≡ link.plan.c

@@ -30,10 +30,10 @@ first-stopped old new r e line rest at stops = left-stopped old old new r e line
 
 -- the lines for the numbers from r on: that for r, and those behind it
 pub range-turn : (f : ℕ → List ℕ) (r c : ℕ) → r < c → flat_map f (range_with_len r (c - r)) ≡ f r ++ flat_map f (range_with_len (r + 1) (c - (r + 1)))
-range-turn f r c below = grind (arith, flat_map)
+range-turn f r c below = grind arith
 
 pub range-end : (f : ℕ → List ℕ) (r c : ℕ) → c ≤ r → flat_map f (range_with_len r (c - r)) ≡ []
-range-end f r c all = grind (arith, flat_map)
+range-end f r c all = grind arith
 
 -- nothing is left
 pub left-last : (old new : Option (List ℕ)) (whole : List ℕ) → IsLeft old new [] whole → new ≡ with_text old whole

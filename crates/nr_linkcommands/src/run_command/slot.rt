@@ -142,6 +142,7 @@ fn hear_more(state: &mut RxState, tx: &Tx, arrival: &Arrival) -> Result<(), Allo
 }
 
 /// How many code blocks have a position below K' that isn't fixed.
+#[tactic(auto, using(crate::proofs::RunOutcomeFacts::count_more), unfolding(crate::specs::RunLines::unfixed_blocks))]
 pub fn unfixed(receiver: &Receiver) -> u32
     ensures value { result ≡ unfixed_blocks receiver.now.link receiver.now.heard }
     ensures few { result < 2 ^ 32 }
@@ -149,7 +150,9 @@ pub fn unfixed(receiver: &Receiver) -> u32
     let blocks = receiver.plan().c;
     let mut count = 0;
     for r in 0..blocks {
-        count += u32::from(receiver.left(r) > 0);
+        if receiver.left(r) > 0 {
+            count += 1;
+        }
     }
     count
 }

@@ -1,4 +1,5 @@
-use Rattle.std.proofs.Common.{◌≤◌, ◌∙◌, length, refl, arith}
+use Rattle.std.proofs.Common.{rules}
+use Rattle.std.proofs.Common.{◌∙◌, refl}
 use Rattle.std.proofs.lemmas.List.{drop_all}
 use Rattle.nr_linkcommands.specs.AuditText.{audit_lines}
 use Rattle.nr_linkcommands.proofs.RoundTextFacts.{left-turn}
@@ -25,6 +26,4 @@ loop-index-preserved g c =
 
 pub returns-clause-text : goal.returns-clause-text
 unfolding audit_lines
-returns-clause-text g c =
-    let none : length c.args.ready.now.senders.items ≤ c.loop-index.index = omega arith in
-    left-last _ _ _ (rw (drop_all c.loop-index.index c.args.ready.now.senders.items none) at c.loop-index.invariant.lines)
+returns-clause-text g c = search (rules, left-last, drop_all)

@@ -1,4 +1,5 @@
-use Rattle.std.proofs.Common.{◌≡◌, ℕ, ◌+◌, ◌<◌, ◌≤◌, List, length, drop, get_or, ap, ◌∙◌, arith}
+use Rattle.std.proofs.Common.{rules}
+use Rattle.std.proofs.Common.{◌≡◌, ℕ, ◌+◌, ◌<◌, List, length, drop, get_or, ap, ◌∙◌, arith}
 use Rattle.std.proofs.lemmas.List.{drop_all, get_or_default}
 use Rattle.std.proofs.lemmas.Result.{IfOk-weaker}
 use Rattle.nr_blockdesk.specs.Sent.{SenderView}
@@ -52,9 +53,7 @@ loop-index-preserved g c =
 
 pub returns-clause-text : goal.returns-clause-text
 unfolding outcome_lines
-returns-clause-text g c = λ schedule held.
-    let none : length c.args.ready.now.senders.items ≤ c.loop-index.index = omega arith in
-    left-last _ _ _ (rw (drop_all c.loop-index.index c.args.ready.now.senders.items none) at (c.loop-index.invariant.lines schedule held))
+returns-clause-text g c = search (rules, left-last, drop_all)
 
 pub returns-clause-totals : goal.returns-clause-totals
 unfolding totals_from

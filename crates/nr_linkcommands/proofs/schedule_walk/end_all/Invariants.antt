@@ -1,15 +1,16 @@
-use Rattle.std.proofs.Common.{◌≡◌, ◌++◌, [], flat_map, map}
+use Rattle.std.proofs.Common.{◌≡◌, ◌-◌, ◌++◌, [], flat_map, map}
 use Rattle.std.specs.List.{range_with_len}
-use Rattle.nr_linkcommands.specs.RoundTexts.{round_lines}
+use Rattle.nr_linkcommands.specs.RoundTexts.{last_rounds, pieces_joined, round_lines}
 use Rattle.nr_files.specs.Rounds.{ended_rounds, round_of}
-use Rattle.nr_commands.specs.Written.{with_text}
+use Rattle.nr_linkcommands.proofs.RunTextFacts.{IsLeft}
 use Rattle.nr_linkcommands.proofs.schedule_walk.end_all.Given as goal
 
 -- the lines of the processes so far are written, what is kept of their rounds is kept, and no put failed
 abbrev pub invariant-loop-process : goal.invariant-loop-process
 invariant-loop-process g l = record {
-  written : g.O.Sink.written l.out ≡ with_text (g.O.Sink.written l.fn.out)
-      (flat_map (λ p. round_lines g.W.Walk.words l.ready.senders.items p (round_of p l.ready.inputs.now.schedule.transmissions.items)) (range_with_len 0 l.process));
+  lines : IsLeft (g.O.Sink.written l.fn.out) (g.O.Sink.written l.out)
+      (flat_map (λ p. round_lines g.W.Walk.words l.ready.senders.items p (round_of p l.ready.inputs.now.schedule.transmissions.items)) (range_with_len l.process (16 - l.process)))
+      (pieces_joined (last_rounds g.W.Walk.words l.ready.senders.items l.ready.inputs.now.schedule.transmissions.items));
   keeps : g.W.Walk.Keeps l.walk l.ready.senders.items l.ready.inputs.now.schedule.transmissions.items []
       (ended_rounds [] l.ready.inputs.now.schedule.transmissions.items ++ map (λ p. round_of p l.ready.inputs.now.schedule.transmissions.items) (range_with_len 0 l.process));
   slots : g.W.Walk.slots l.walk ≡ g.W.Walk.slots l.fn.walk;

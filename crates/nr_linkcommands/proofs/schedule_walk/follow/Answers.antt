@@ -1,4 +1,5 @@
-use Rattle.std.proofs.Common.{◌≡◌, ◌<◌, ◌≤◌, ◌+◌, ◌++◌, ◌∷◌, [], List, get_or, length, take, drop, sym, subst, refl, ◌∙◌, arith}
+use Rattle.std.proofs.Common.{rules}
+use Rattle.std.proofs.Common.{◌≡◌, ◌<◌, ◌+◌, ◌++◌, ◌∷◌, [], List, get_or, length, take, drop, sym, subst, refl, ◌∙◌, arith}
 use Rattle.std.proofs.lemmas.List.{drop_all, length-take-le}
 use Rattle.std.proofs.lemmas.List.Elements.{All-take}
 use Rattle.nr_files.specs.Rounds.{ended_by, ended_rounds}
@@ -91,8 +92,4 @@ loop-index-preserved g c =
     }
 
 pub returns-clause-text : goal.returns-clause-text
-returns-clause-text g c =
-    let xs = c.args.ready.now.inputs.now.schedule.transmissions.items in
-    let i = c.loop-index.index in
-    let none : length xs ≤ i = rw c.as_slice-schedule.ensures.value at c.loop-index-test.false in
-    left-last _ _ _ (rw (turns-end g.W.Walk.words c.args.ready.now.senders.items (take i xs) (drop i xs) (drop_all i xs none)) at c.loop-index.invariant.lines)
+returns-clause-text g c = search (rules, left-last, turns-end, drop_all)

@@ -1,7 +1,6 @@
 use Rattle.std.proofs.Common.{arith}
-use Rattle.nr_linkcommands.specs.RunText.{received_of}
-use Rattle.nr_linkcommands.proofs.AuditLemmas.{heard_same}
 use Rattle.nr_linkcommands.proofs.RunLineFacts.{received_of-refused, received_of-sent}
+use Rattle.std.proofs.lemmas.List.{append-nil}
 use Rattle.nr_linkcommands.proofs.audit_command.replay.replay_one.Goals as goal
 
 pub receive-requires-clause-both : goal.receive-requires-clause-both
@@ -14,8 +13,4 @@ pub returns-in_ok-receive-in-Ok : goal.returns-in_ok-receive-in-Ok
 returns-in_ok-receive-in-Ok c = grind (arith, received_of-sent)
 
 pub returns-in-Err : goal.returns-in-Err
-returns-in-Err c = λ list has.
-    let sender = c.args.sender.now in
-    let x = c.args.transmission.now in
-    let said = rw c.in-Err.is at c.in_ok-exchange.ensures.made in
-    heard_same sender list (received_of sender x) c.args.receiver.now (received_of-refused sender x c.in-Err.field-0 said) has
+returns-in-Err c = grind (arith, received_of-refused, append-nil)

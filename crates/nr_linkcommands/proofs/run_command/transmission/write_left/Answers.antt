@@ -1,4 +1,5 @@
-use Rattle.std.proofs.Common.{◌≡◌, ℕ, ◌-◌, ◌<◌, ◌≤◌, List, ap, refl, arith, ◌∙◌}
+use Rattle.std.proofs.Common.{rules}
+use Rattle.std.proofs.Common.{◌≡◌, ℕ, ◌-◌, ◌<◌, List, ap, refl, arith, ◌∙◌}
 use Rattle.nr_blockdesk.specs.Outcome.{left}
 use Rattle.nr_segment.specs.Plan.{Numbers}
 use Rattle.nr_linkcommands.specs.RunLines.{left_line}
@@ -29,6 +30,4 @@ loop-r-preserved g c =
     }
 
 pub returns-clause-text : goal.returns-clause-text
-returns-clause-text g c =
-    let all : c.args.receiver.now.link.plan.c ≤ c.loop-r.r = omega (arith, ap (λ (n : Numbers). n.c) c.plan.ensures.numbers) in
-    left-last _ _ _ (rw (range-end _ c.loop-r.r _ all) at c.loop-r.invariant.lines)
+returns-clause-text g c = search (rules, left-last, range-end)

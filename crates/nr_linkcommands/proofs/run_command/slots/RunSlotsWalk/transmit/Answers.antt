@@ -1,3 +1,4 @@
+use Rattle.std.proofs.Common.{rules}
 use Rattle.std.proofs.Common.{List, Option, refl, ap, arith, ◌∷◌, true, Bool, false, ℕ}
 use Rattle.std.proofs.lemmas.Result.{err_from_is_err_and}
 use Rattle.nr_blockdesk.specs.Explains.{Reception}
@@ -23,8 +24,7 @@ named false link list slot block holds = holds
 held : (g : given.Over) (c : After-begin_round g) (before : List Transmission) (ended : List (List Transmission)) → IsOfRound (continued before c.args.transmission.now) c.args.transmission.now
     → KeepsRounds c.args.ready.now.senders.items before (c.args.transmission.now ∷ c.args.later.now) ended c.args.self.now.slots.items c.args.self.now.totals
     → HoldsSlot true c.sender-sender.result.now.link (received c.sender-sender.result.now (continued before c.args.transmission.now)) c.begin_round.new.slot
-held g c before ended of keeps =
-    made-held c.args.ready.now.senders.items before c.args.later.now ended c.args.transmission.now c.sender-sender.result.now c.args.self.now.slots.items c.args.self.now.totals c.index_mut-slot.result.now c.begin_round.new.slot keeps of c.requires.placed c.index_mut-slot.ensures.value c.begin_round.ensures c.sender-sender.ensures.is
+held g c before ended of keeps = search (rules, made-held)
 
 pub send_and_receive-requires-clause-room : goal.send_and_receive-requires-clause-room
 send_and_receive-requires-clause-room g c =
