@@ -36,11 +36,6 @@ pub audit_line-stuck : (n : ℕ) (link : Link) (records : List HeardBits) (r : �
 unfolding audit_line
 audit_line-stuck n link records r some = grind arith
 
--- a line is not empty
-audit_line-some : (n : ℕ) (link : Link) (records : List HeardBits) (r : ℕ) → 0 < length (audit_line n link records r)
-unfolding audit_line order_line stuck_line
-audit_line-some n link records r = grind (arith, nat_tests, length-append)
-
 -- the peeler of a code block: its positions are given by the record of what was received
 pub record IsPeelerOf (link : Link) (s : HeardBits) (p : Peeling) : Type 0 where
   pub table : p.table ≡ link.table
@@ -52,42 +47,22 @@ pub record IsPeelerOf (link : Link) (s : HeardBits) (p : Peeling) : Type 0 where
 same_checks : (link : Link) (s : HeardBits) (p : Peeling) → IsPeelerOf link s p → checks_for p ≡ block_checks link.table link.graph link.plan
 same_checks link s p of = grind arith
 
-same_given : (link : Link) (s : HeardBits) (p : Peeling) → IsPeelerOf link s p → bit p.given ≡ given link s
-same_given link s p of = λ i k. of.positions k i
-
 -- what it knows is what is fixed
 known_fixed : (link : Link) (s : HeardBits) (p : Peeling) → IsPeelerOf link s p → (k : ℕ) → bit p.known k ≡ fixed link s k
-known_fixed link s p of k = grind (arith, same_checks, same_given)
-
-same_known : (link : Link) (s : HeardBits) (p : Peeling) → IsPeelerOf link s p → bit p.known ≡ fixed link s
-same_known link s p of = λ i k. known_fixed link s p of k i
-
-same_size : (link : Link) (s : HeardBits) (p : Peeling) → IsPeelerOf link s p → (checks_for p).size ≡ word_size link.graph link.plan
-same_size link s p of = ap (λ (c : Checks). c.size) (same_checks link s p of)
+known_fixed link s p of k = grind (arith, same_checks)
 
 -- what it gained are the steps, and what it does not know is not fixed
 pub gained-steps : (link : Link) (s : HeardBits) (p : Peeling) → IsPeelerOf link s p → gained_in p.known p.given ≡ steps_of link s
-gained-steps link s p of = grind (arith, same_known, same_given, same_size)
+gained-steps link s p of = grind (arith, known_fixed, same_checks)
 
 pub unknown-unfixed : (link : Link) (s : HeardBits) (p : Peeling) → IsPeelerOf link s p → unknown_in p.known ≡ unfixed link s
-unknown-unfixed link s p of = grind (arith, same_known, same_size)
+unknown-unfixed link s p of = grind (arith, known_fixed, same_checks)
 
 -- what is received of a process with one transmission more: its own, and that of another process
 pub received-next : (p : ℕ) (sender : SenderView) (xs : List Transmission) (i : ℕ) (x none : Transmission) → i < length xs → x ≡ get_or xs i none
     → received sender (of_process p (take (i + 1) xs)) ≡ received sender (of_process p (take i xs)) ++ received sender (of_process p (x ∷ []))
 received-next p sender xs i x none within is =
     rw (take_more xs i none within, sym is, filter-append (λ y. y.process == p) (take i xs) (x ∷ [])) (flat_map-append (received_of sender) (of_process p (take i xs)) (of_process p (x ∷ [])))
-
--- one transmission is the process's own, or is not
-pub received-own : (p : ℕ) (sender : SenderView) (x : Transmission) → (x.process == p) ≡ true → received sender (of_process p (x ∷ [])) ≡ received_of sender x
-received-own p sender x mine = grind (arith, append-nil)
-
-pub received-other : (p : ℕ) (sender : SenderView) (x : Transmission) → (x.process == p) ≡ false → received sender (of_process p (x ∷ [])) ≡ []
-received-other p sender x other = ap (λ (b : Bool). received sender (cond b (x ∷ []) [])) other
-
--- a receiver that hears nothing more
-pub heard_same : (sender : SenderView) (list more : List Reception) (receiver : ReceiverView) → more ≡ [] → HasHeard sender list receiver → HasHeard sender (list ++ more) receiver
-heard_same sender list more receiver none has = grind (arith, append-nil)
 
 -- a block's lines by the receiver that received this list
 pub audit_block-heard : (head : List ℕ) (n : ℕ) (sender : SenderView) (list : List Reception) (receiver : ReceiverView) → HasHeard sender list receiver
@@ -101,7 +76,8 @@ audit_of-heard schedule n sender receiver placed has = grind (arith, audit_block
 
 -- a line behind its first words is not empty
 pub behind-some : (head : List ℕ) (n : ℕ) (link : Link) (records : List HeardBits) (r : ℕ) → 0 < length (head ++ audit_line n link records r)
-behind-some head n link records r = grind (arith, audit_line-some, length-append)
+unfolding audit_line order_line stuck_line
+behind-some head n link records r = grind (arith, nat_tests, length-append)
 
 -- a block's lines are not empty, since there is a code block
 pub audit_block-some : PlansAreSound → (head : List ℕ) (n : ℕ) (link : Link) (records : List HeardBits) → IsLink link → 0 < length (audit_block head n link records)

@@ -92,18 +92,9 @@ unfolding senders_from
 senders_turn-err table settings front n blocks octets whole e so_far h is (inl memory) = inl memory
 senders_turn-err table settings front n blocks octets whole e so_far h is (inr said) = grind (arith, left-turn)
 
--- behind the last block
-pub senders_last : (table : Entries) (settings : Settings) (front : List SenderView) (n : ℕ) (blocks : List (List ℕ)) → length blocks ≤ n → after_senders front (senders_from table settings (n + 1) (drop n blocks)) ≡ Ok front
-unfolding senders_from
-senders_last table settings front n blocks h = rw (drop_all n blocks h) (ap Ok (append-nil front))
-
 -- a fault of a transport block is no other fault but `Memory`
 pub of_block_or_memory : (e told : RunFault) → (e ≢ faults.Memory → IsBlockFault e) → told ≢ faults.Memory → (IsBlockFault told → ⊥) → e ≢ told
 of_block_or_memory e told of_block memory other same = grind arith
-
--- a file that was read has no fault
-pub no_fault : {X E : Type 0} (said : List ℕ → Result X E) (x : X) (file : Option (List ℕ)) → Says said (Ok x) file → HasNoFault said file
-no_fault said x file is = IfSome_then file is (λ octets same. subst IsOk (sym same) refl)
 
 -- what holds of a returned refusal, by what does of `Memory` and of each other fault of the file
 pub by_table : {X : Type 0} (P : RunFault → Type 0) (r : Result X RunFault) (e : TableFault) → IsErrAnd r (λ told. told ≡ table_refusal e) → P faults.Memory → (e ≢ table_fault.Memory → P (faults.Table e)) → IfErr r P

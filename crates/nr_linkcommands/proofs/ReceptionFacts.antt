@@ -62,23 +62,13 @@ sent-accepted all sender x bits said =
     All-head (IsAccepted sender.link) (reception x.tx (heard_through x bits)) []
     (subst (All (IsAccepted sender.link)) (received_of-sent sender x bits said) (one-accepted all sender x))
 
--- what arrives of a bit that is not flipped agrees with it
-arrived-agrees : (e b : Bool) → agrees (arrived_bit e (false ⊕ b)) b ≡ true
-arrived-agrees e b = grind arith
-
-place-agrees : (x : Transmission) (bits : List Bool) (m : ℕ) → m < length bits → is_named x.flip m ≡ false → agrees (heard_at (heard_through x bits) m) (bit bits m) ≡ true
-unfolding heard_through
-place-agrees x bits m within steady = grind (arith, get_or-map-range_with_len, arrived-agrees)
-
-all-agree : (x : Transmission) (bits : List Bool) → length bits ≡ x.tx.g → OnlyErases x → all_agree (heard_through x bits) bits ≡ true
-all-agree x bits long steady = grind (arith, all-all, place-agrees, heard-long)
-
 -- so the sender's block explains it
 abbrev explained : SenderView → List Reception → Bool
 explained sender list = list_all (λ (x : Reception). all_agree x.heard (sent sender.link x.tx sender.block)) list
 
 one-explained : AcceptedSendAll → (sender : SenderView) (x : Transmission) → OnlyErases x → explained sender (received_of sender x) ≡ true
-one-explained all sender x steady = grind (arith, of_said, all-agree, sent-long)
+unfolding heard_through
+one-explained all sender x steady = grind (arith, of_said, all-all, get_or-map-range_with_len, heard-long, sent-long)
 
 all-explained : AcceptedSendAll → (sender : SenderView) (xs : List Transmission) → All OnlyErases xs → explained sender (received sender xs) ≡ true
 all-explained all sender [] steady = refl

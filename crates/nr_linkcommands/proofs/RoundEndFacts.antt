@@ -1,4 +1,5 @@
 -- What each slot has received of the round that its process is in, one transmission after the other.
+use Rattle.nr_files.proofs.RoundFacts.{round-more}
 use Rattle.std.proofs.Common.{◌≡◌, ℕ, ◌+◌, ◌-◌, ◌<◌, ◌≤◌, ◌==◌, All, Bool, true, false, not, cond, Option, None, Some, List, [], ◌∷◌, ◌++◌, length, take, drop, set, replicate, slice_get, get_or, ap, sym, subst, refl, ◌∙◌, arith, append_assoc, length-append, IfSome}
 use Rattle.std.proofs.Math.ListN.{length-set}
 use Rattle.std.proofs.lemmas.Bool.{cases_eq}
@@ -20,7 +21,7 @@ use Rattle.nr_linkcommands.specs.declared.run_command.slot.Slot.{Slot}
 use Rattle.nr_linkcommands.specs.declared.run_command.totals.Totals.{Totals}
 use Rattle.nr_files.specs.declared.schedule.Transmission.{Transmission}
 use Rattle.nr_linkcommands.proofs.LastRoundFacts.{holds-round}
-use Rattle.nr_linkcommands.proofs.RoundTextFacts.{continued-more, other-more, received-more, turns-turn}
+use Rattle.nr_linkcommands.proofs.RoundTextFacts.{received-more, turns-turn}
 use Rattle.nr_linkcommands.proofs.RunLineFacts.{has_received, received-few}
 use Rattle.nr_linkcommands.proofs.RunOutcomeFacts.{outcome_line-some}
 
@@ -33,9 +34,6 @@ since_fresh-few (x ∷ xs) = grind (arith, since_fresh-few xs)
 of_process-few : (p : ℕ) (xs : List Transmission) → length (of_process p xs) ≤ length xs
 of_process-few p [] = omega arith
 of_process-few p (x ∷ xs) = grind (arith, nat_tests, of_process-few p xs)
-
-continued-few : (before : List Transmission) (x : Transmission) → length (continued before x) ≤ length before
-continued-few before x = grind (arith, since_fresh-few, of_process-few)
 
 -- the block that a slot names is one of so many
 pub block-named : (n : ℕ) (senders : List SenderView) (round : List Transmission) (slot : Slot) → HoldsRound false senders round slot → All (HasBlock n) round → IfSome slot.block (λ number. (1 ≤ number) × (number ≤ n))
@@ -58,20 +56,9 @@ pub round-none : (senders : List SenderView) (round : List Transmission) (slot :
 round-none senders [] slot none held = refl
 round-none senders (x ∷ more) slot none held = absurd (cc)
 
--- a line about a round is not empty
-pub round_line-some : (p number : ℕ) (link : Link) (list : List Reception) → 0 < length (process_words p ++ outcome_line number link list)
-round_line-some p number link list = grind (arith, length-append, outcome_line-some)
-
 -- a transmission is of the block of the round that it goes on with
 pub of-continued : (before : List Transmission) (x : Transmission) → (x.fresh ≡ false → IsOfRound (round_of x.process before) x) → IsOfRound (continued before x) x
 of-continued before x goes = grind arith
-
--- whether a round goes on, by the next transmission: it is fresh or not where it is of the round's process
-pub goes_on-turn : (x : Transmission) (later : List Transmission) → goes_on x.process (x ∷ later) ≡ not x.fresh
-goes_on-turn x later = grind (arith, nat_tests)
-
-pub goes_on-other : (p : ℕ) (x : Transmission) (later : List Transmission) → (x.process == p) ≡ false → goes_on p (x ∷ later) ≡ goes_on p later
-goes_on-other p x later other = ap (λ b. cond b (not x.fresh) (goes_on p later)) other
 
 -- what is received of the round that a transmission goes on with, by the sender of its block
 holds-by : (senders : List SenderView) (round : List Transmission) (x : Transmission) (sender : SenderView) (slot : Slot) → sender_of senders x ≡ Some sender → IsOfRound round x → HoldsRound true senders round slot → HoldsSlot true sender.link (received sender round) slot
@@ -80,7 +67,7 @@ holds-by senders (y ∷ more) x sender slot there of held = grind arith
 
 -- where a fresh one forgets what was received
 begun-holds : (senders : List SenderView) (before later : List Transmission) (x : Transmission) (old new : Slot) → new ≡ cond x.fresh empty_slot old → HoldsRound (goes_on x.process (x ∷ later)) senders (round_of x.process before) old → HoldsRound true senders (continued before x) new
-begun-holds senders before later x old new is held = grind (arith, goes_on-turn)
+begun-holds senders before later x old new is held = grind (arith, nat_tests)
 
 pub made-held : (senders : List SenderView) (before later : List Transmission) (ended : List (List Transmission)) (x : Transmission) (sender : SenderView) (slots : List Slot) (totals : Totals) (old new : Slot)
     → KeepsRounds senders before (x ∷ later) ended slots totals → IsOfRound (continued before x) x → x.process < length slots → old ≡ get_or slots x.process old → new ≡ cond x.fresh empty_slot old → sender_of senders x ≡ Some sender → HoldsSlot true sender.link (received sender (continued before x)) new
@@ -89,7 +76,7 @@ made-held senders before later ended x sender slots totals old new keeps of insi
 
 -- it is no more than the transmissions before
 pub continued-room : (sender : SenderView) (before : List Transmission) (n : ℕ) (x : Transmission) (state : Option RxState) → length before ≤ n → HoldsState sender.link (received sender (continued before x)) state → HasReceived n state
-continued-room sender before n x state few held = grind (arith, has_received, received-few, continued-few)
+continued-room sender before n x state few held = grind (arith, has_received, received-few, since_fresh-few, of_process-few)
 
 -- and its receiver has the sender's link
 pub held-over : (link : Link) (list : List Reception) (state : Option RxState) → HoldsState link list state → IsOver link state
@@ -101,15 +88,10 @@ holds-more : (goes : Bool) (senders : List SenderView) (round : List Transmissio
 holds-more goes senders [] x sender slot there of named holds = grind (arith, received-more)
 holds-more goes senders (y ∷ more) x sender slot there of named holds = grind (arith, received-more)
 
--- before any transmission no slot has received anything
-pub rounds-first : (senders : List SenderView) (later : List Transmission) (n : ℕ) → HoldRounds senders [] later (replicate n empty_slot)
-unfolding since_fresh
-rounds-first senders later n = λ p within. get_or-replicate n p empty_slot empty_slot (omega (arith, within, length-replicate {A = Slot} n empty_slot))
-
 -- after a transmission more
 pub rounds-more : (senders : List SenderView) (before later : List Transmission) (x : Transmission) (sender : SenderView) (slots : List Slot) (after : Slot) → IsOfRound (continued before x) x → sender_of senders x ≡ Some sender → x.process < length slots → after.block ≡ Some x.block → HoldRounds senders before (x ∷ later) slots
     → HoldsSlot (goes_on x.process later) sender.link (received sender (continued before x) ++ received_of sender x) after → HoldRounds senders (before ++ x ∷ []) later (set slots x.process after)
-rounds-more senders before later x sender slots after of there inside named held holds = grind (arith, nat_tests, cases_eq, holds-more, continued-more, get_or-set_at, length-set, other-more, goes_on-other, get_or-set_other)
+rounds-more senders before later x sender slots after of there inside named held holds = grind (arith, nat_tests, cases_eq, holds-more, round-more, get_or-set_at, length-set, get_or-set_other)
 
 -- the lines of the transmission at index i: those of the round that it ends, its own, and those behind them
 pub turn-parts : (words : Words) (senders : List SenderView) (xs : List Transmission) (i : ℕ) (x : Transmission) → i < length xs → x ≡ get_or xs i x

@@ -13,20 +13,14 @@ own-own : (p : ℕ) (xs : List Transmission) → of_process p (of_process p xs) 
 own-own p [] = refl
 own-own p (x ∷ xs) = grind (arith, nat_tests, own-own p xs)
 
-round-own : (p q : ℕ) (xs : List Transmission) → q ≡ p → round_of q (of_process p xs) ≡ round_of q xs
-round-own p q xs is = rw (is, own-own) refl
-
-turn-own : (words : Words) (senders : List SenderView) (p : ℕ) (before : List Transmission) (x : Transmission) → x.process ≡ p → turn_lines words senders (of_process p before) x ≡ turn_lines words senders before x
-turn-own words senders p before x is = grind (arith, round-own)
-
 turns-own : (words : Words) (senders : List SenderView) (p : ℕ) (before xs : List Transmission) → filter (is_about p) (turns words senders before xs) ≡ turns words senders (of_process p before) (of_process p xs)
 unfolding turns
 turns-own words senders p before [] = refl
-turns-own words senders p before (x ∷ xs) = grind (arith, nat_tests, turns-own words senders p (before ++ x ∷ []) xs, of_process-more, turn-own)
+turns-own words senders p before (x ∷ xs) = grind (arith, nat_tests, turns-own words senders p (before ++ x ∷ []) xs, of_process-more, own-own)
 
 last-own : (words : Words) (senders : List SenderView) (p : ℕ) (schedule : List Transmission) (qs : List ℕ) → filter (is_about p) (map (λ q. (q, round_lines words senders q (round_of q schedule))) qs) ≡ filter (is_about p) (map (λ q. (q, round_lines words senders q (round_of q (of_process p schedule)))) qs)
 last-own words senders p schedule [] = refl
-last-own words senders p schedule (q ∷ qs) = grind (arith, nat_tests, last-own words senders p schedule qs, round-own)
+last-own words senders p schedule (q ∷ qs) = grind (arith, nat_tests, last-own words senders p schedule qs, own-own)
 
 pub lines_are_own : LinesAreOwn
 lines_are_own words senders schedule p =

@@ -32,10 +32,6 @@ pub turns-turn : (words : Words) (senders : List SenderView) (xs : List Transmis
 unfolding turns
 turns-turn words senders xs i x within is = grind (arith, left-turn, taken-more)
 
-pub turns-end : (words : Words) (senders : List SenderView) (before xs : List Transmission) → xs ≡ [] → pieces_joined (turns words senders before xs) ≡ []
-unfolding turns
-turns-end words senders before xs is = ap (λ ys. pieces_joined (turns words senders before ys)) is
-
 -- what holds of each transmission holds of each one of a round
 pub round-all : (P : Transmission → Type 0) (p : ℕ) (xs : List Transmission) → All P xs → All P (round_of p xs)
 unfolding since_fresh
@@ -48,14 +44,6 @@ round-all P p xs all = since (of_process p xs) (All-filter (λ x. x.process == p
     since : (ys : List Transmission) → All P ys → All P (since_fresh ys)
     since [] here = here
     since (y ∷ ys) here = either y ys (list_any (λ z. z.fresh) ys) here (since ys (All-tail P y ys here))
-
--- the round of a transmission's process once it is made
-pub continued-more : (before : List Transmission) (x : Transmission) → round_of x.process (before ++ x ∷ []) ≡ continued before x ++ x ∷ []
-continued-more before x = grind (arith, nat_tests, round-more)
-
--- the round of another process
-pub other-more : (p : ℕ) (before : List Transmission) (x : Transmission) → (x.process == p) ≡ false → round_of p (before ++ x ∷ []) ≡ round_of p before
-other-more p before x other = grind (arith, round-more)
 
 -- what is received of a round with a transmission more
 pub received-more : (sender : SenderView) (round : List Transmission) (x : Transmission) → received sender (round ++ x ∷ []) ≡ received sender round ++ received_of sender x
@@ -70,14 +58,10 @@ ended-behind before (y ∷ ys) x = grind (arith, ended-behind (before ++ y ∷ [
 pub ended-more : (before : List Transmission) (x : Transmission) → ended_rounds [] (before ++ x ∷ []) ≡ ended_rounds [] before ++ ended_by before x
 ended-more before x = ended-behind [] before x
 
--- they are no more than the transmissions
-ended_by-few : (before : List Transmission) (x : Transmission) → length (ended_by before x) ≤ 1
-ended_by-few before x = grind arith
-
 pub ended-few : (before xs : List Transmission) → length (ended_rounds before xs) ≤ length xs
 unfolding ended_rounds
 ended-few before [] = omega arith
-ended-few before (x ∷ xs) = grind (arith, ended_by-few, ended-few (before ++ x ∷ []) xs, length-append)
+ended-few before (x ∷ xs) = grind (arith, ended-few (before ++ x ∷ []) xs, length-append)
 
 -- their totals
 counted-append : (t : Totals) (senders : List SenderView) (xs ys : List (List Transmission)) → rounds_counted t senders (xs ++ ys) ≡ rounds_counted (rounds_counted t senders xs) senders ys

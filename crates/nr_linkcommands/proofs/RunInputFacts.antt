@@ -7,10 +7,6 @@ use Rattle.nr_blockdesk.specs.Link.{Link, link_said}
 use Rattle.nr_transmission.specs.declared.fault.DeskFault.{DeskFault}
 use Rattle.nr_transmission.specs.declared.settings.Settings.{Settings}
 
--- two links that a call returns are one
-pub same-ok : (x y : Link) → ◌≡◌ {A = Result Link DeskFault} (Ok x) (Ok y) → x ≡ y
-same-ok x y is = cc
-
 -- what a chain of steps that returns a value says of each step
 bind-ok : {X Y : Type 0} (r : Result X DeskFault) (f : X → Result Y DeskFault) (y : Y) → (r >>= f) ≡ Ok y → (x : X) × (r ≡ Ok x) × (f x ≡ Ok y)
 bind-ok (Ok x) f y e = (x, refl, e)
@@ -19,4 +15,4 @@ bind-ok (Err d) f y e = cc e
 -- a link is for transport blocks of the size that it was said for
 pub link-sized : (table : Entries) (settings : Settings) (a : ℕ) (link : Link) → link_said table settings a ≡ Ok link → link.a ≡ a
 unfolding link_said
-link-sized table settings a link said = grind (arith, bind-ok, same-ok)
+link-sized table settings a link said = grind (arith, bind-ok)

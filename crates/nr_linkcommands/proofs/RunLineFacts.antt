@@ -48,17 +48,10 @@ lines_of-refused sender list x e is = lines_of-said sender list x (Err e) is
 pub received_of-sent : (sender : SenderView) (x : Transmission) (bits : List Bool) → sent_said sender.link x.tx sender.block ≡ Ok bits → received_of sender x ≡ reception x.tx (heard_through x bits) ∷ []
 received_of-sent sender x bits is = ap (received_if x) is
 
-pub received_of-refused : (sender : SenderView) (x : Transmission) (e : DeskFault) → sent_said sender.link x.tx sender.block ≡ Err e → received_of sender x ≡ []
-received_of-refused sender x e is = ap (received_if x) is
-
 -- the lines are not empty
-lines_if-some : (x : Transmission) (link : Link) (list : List Reception) (said : Result (List Bool) DeskFault) → 0 < length (lines_if x link list said)
+pub lines_if-some : (x : Transmission) (link : Link) (list : List Reception) (said : Result (List Bool) DeskFault) → 0 < length (lines_if x link list said)
 lines_if-some x link list (Ok bits) = simp length-append (omega (arith, answer_line-some x.number x.block (Ok bits)))
 lines_if-some x link list (Err e) = answer_line-some x.number x.block (Err e)
-
-pub lines_of-some : (sender : SenderView) (list : List Reception) (x : Transmission) → 0 < length (lines_of sender list x)
-unfolding lines_of
-lines_of-some sender list x = lines_if-some x sender.link (list ++ received_of sender x) (sent_said sender.link x.tx sender.block)
 
 pub some-lines : (f : ℕ → List ℕ) (c : ℕ) → ((r : ℕ) → 0 < length (f r)) → 0 < c → 0 < length (flat_map f (range_with_len 0 c))
 some-lines f zero each some = absurd (omega (arith, some))

@@ -40,14 +40,10 @@ all-all f a (suc n) each =
     rw (each a (omega arith) (omega arith), all-all f (a + 1) n (λ r low high. each r (omega (arith, low)) (omega (arith, high)))) refl
 
 -- an open outcome is one where not all is fixed
-open-if : (b : Bool) (o : Option (List Bool)) → cond b (verdict_on o) open_still ≡ open_still → b ≡ false
+pub open-if : (b : Bool) (o : Option (List Bool)) → cond b (verdict_on o) open_still ≡ open_still → b ≡ false
 open-if true (Some block) is = absurd (cc)
 open-if true None is = absurd (cc)
 open-if false o is = refl
-
-open-unfixed : (link : Link) (list : List Reception) → outcome_of link list ≡ open_still → all_fixed link (heard_record link list) ≡ false
-unfolding outcome_of
-open-unfixed link list is = open-if (all_fixed link (heard_record link list)) (find (explains link list) (blocks_of link.a)) is
 
 -- how many positions of a code block are left, by its record alone
 abbrev left_by : Link → HeardBits → ℕ
@@ -60,7 +56,7 @@ left-nothing link r within =
     ap (left_by link) (get_or-map-range_with_len (λ r. record_of (word_size link.graph link.plan) []) 0 link.plan.c r r (record { first = []; clash = false }) within (omega arith))
 
 -- so each one has a position left
-unfixed-if : (link : Link) (b : Bool) → (left_by link (record_of (word_size link.graph link.plan) []) == 0) ≡ b → all_fixed link (heard_record link []) ≡ false → unfixed_blocks link (heard_record link []) ≡ link.plan.c
+pub unfixed-if : (link : Link) (b : Bool) → (left_by link (record_of (word_size link.graph link.plan) []) == 0) ≡ b → all_fixed link (heard_record link []) ≡ false → unfixed_blocks link (heard_record link []) ≡ link.plan.c
 unfolding unfixed_blocks
 unfixed-if link true is unfixed =
     absurd (true≢false (sym (all-all (λ r. left link (heard_record link []) r == 0) 0 link.plan.c
@@ -68,9 +64,6 @@ unfixed-if link true is unfixed =
 unfixed-if link false is unfixed =
     count-all (λ r. not (left link (heard_record link []) r == 0)) 0 link.plan.c
     (λ r low high. ap (λ n. not (n == 0)) (left-nothing link r (omega (arith, high))) ∙ ap not is)
-
-pub unfixed-nothing : NothingIsOpen → (link : Link) → IsLink link → unfixed_blocks link (heard_record link []) ≡ link.plan.c
-unfixed-nothing nothing link is = grind (arith, nat_tests, unfixed-if, open-unfixed)
 
 -- a line is not empty
 pub left_line-some : (t n r count : ℕ) → 0 < length (left_line t n r count)
@@ -85,10 +78,6 @@ pub last_line-some : (name : List ℕ) (t : Totals) → 0 < length (last_line na
 unfolding last_line
 last_line-some name t = simp length-append (omega arith)
 
--- no block is within any bound
-pub none-within : IsWithin 0 no_totals
-none-within = grind arith
-
 -- a bound of the totals, and a greater one
 pub within-more : (n m : ℕ) (t : Totals) → n ≤ m → IsWithin n t → IsWithin m t
 within-more n m t more is = grind arith
@@ -100,11 +89,3 @@ run_ends-some false senders schedule = simp length-append (omega (arith, last_li
 
 pub text_of_run-some : (senders : List SenderView) (schedule : Timetable) → 0 < length (text_of_run senders schedule)
 text_of_run-some senders schedule = simp length-append (omega (arith, run_ends-some schedule.by_process senders schedule.transmissions))
-
--- the line of a block of c code blocks: nothing was received
-pub line-none : NothingIsOpen → (n c : ℕ) (link : Link) (list : List Reception) → IsLink link → c ≡ link.plan.c → list ≡ [] → open_line n 0 c c ≡ outcome_line n link list
-line-none nothing n c link list is count none = grind (arith, unfixed-nothing)
-
--- the totals with it
-pub counted-none : NothingIsOpen → (t : Totals) (c : ℕ) (link : Link) (list : List Reception) → IsLink link → c ≡ link.plan.c → list ≡ [] → open_counted t c c ≡ counted t link list
-counted-none nothing t c link list is count none = grind (arith, unfixed-nothing)

@@ -40,10 +40,6 @@ of_rounds false xs placed goes_on = λ i x within at stale.
 pub timetable-of_rounds : (n : ℕ) (s : Timetable) → IsTimetable n s → AreOfRounds s.transmissions
 timetable-of_rounds n s is = of_rounds s.by_process s.transmissions is.placed is.rounds
 
--- each has a slot: one of sixteen, or that of its block
-pub placed-in : (b : Bool) (n slots : ℕ) (xs : List Transmission) → All (IsPlaced b) xs → All (HasBlock n) xs → slots ≡ cond b 16 (n + 1) → All (λ (x : Transmission). x.process < slots) xs
-placed-in b n slots xs placed named count = grind arith
-
 -- a slot that holds a round of transmissions of one block
 round-holds : (senders : List SenderView) (n : ℕ) (sender : SenderView) (round : List Transmission) (slot : Slot) → slice_get senders (n - 1) ≡ Some sender → All (λ (y : Transmission). (y.block == n) ≡ true) round → HoldsRound false senders round slot → HoldsSlot false sender.link (received sender round) slot
 round-holds senders n sender [] slot there all holds = subst (HoldsSlot false sender.link []) (sym holds) (refl, refl)

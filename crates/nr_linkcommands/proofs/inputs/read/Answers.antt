@@ -1,9 +1,10 @@
+use Rattle.nr_linkcommands.proofs.FoundFaultFacts.{kept}
 use Rattle.std.proofs.Common.{◌≡◌, ◌∙◌, length, map, ap, sym, arith}
 use Rattle.std.proofs.lemmas.List.{length-map}
 use Rattle.std.proofs.lemmas.Result.{err_from_is_err_and}
 use Rattle.nr_files.specs.Schedule.{timetable_by}
-use Rattle.nr_linkcommands.proofs.FoundFaultFacts.{found_blocks, found_schedule, found_settings, found_table}
-use Rattle.nr_linkcommands.proofs.InputLemmas.{any, by_blocks, by_schedule, by_settings, by_table, given-all, given-blocks, given-schedule, given-settings, given-table, no_fault, of_all, told-table}
+use Rattle.nr_linkcommands.proofs.FoundFaultFacts.{found_schedule}
+use Rattle.nr_linkcommands.proofs.InputLemmas.{any, by_blocks, by_schedule, by_settings, by_table, given-all, given-blocks, given-schedule, given-settings, given-table, of_all, told-table}
 use Rattle.nr_linkcommands.proofs.inputs.read.Given as given
 use Rattle.nr_linkcommands.proofs.inputs.read.Goals as goal
 use Rattle.nr_linkcommands.proofs.inputs.read.Goals.{After-deref}
@@ -55,28 +56,28 @@ pub returns-in_err-table-clause-later : goal.returns-in_err-table-clause-later
 returns-in_err-table-clause-later g c = grind (arith, by_table)
 
 pub returns-in_err-table-clause-found : goal.returns-in_err-table-clause-found
-returns-in_err-table-clause-found g c = grind (arith, found_table)
+returns-in_err-table-clause-found g c = grind (arith, by_table)
 
 pub returns-in_err-settings-clause-first : goal.returns-in_err-settings-clause-first
-returns-in_err-settings-clause-first g c = grind (arith, by_settings, no_fault, told-table)
+returns-in_err-settings-clause-first g c = grind (arith, by_settings, told-table)
 
 pub returns-in_err-settings-clause-later : goal.returns-in_err-settings-clause-later
 returns-in_err-settings-clause-later g c = grind (arith, by_settings)
 
 pub returns-in_err-settings-clause-found : goal.returns-in_err-settings-clause-found
-returns-in_err-settings-clause-found g c = grind (arith, found_settings)
+returns-in_err-settings-clause-found g c = grind (arith, by_settings, kept)
 
 pub returns-in_err-blocks-clause-first : goal.returns-in_err-blocks-clause-first
-returns-in_err-blocks-clause-first g c = grind (arith, by_blocks, no_fault, told-table)
+returns-in_err-blocks-clause-first g c = grind (arith, by_blocks, told-table)
 
 pub returns-in_err-blocks-clause-later : goal.returns-in_err-blocks-clause-later
 returns-in_err-blocks-clause-later g c = grind (arith, by_blocks)
 
 pub returns-in_err-blocks-clause-found : goal.returns-in_err-blocks-clause-found
-returns-in_err-blocks-clause-found g c = grind (arith, found_blocks)
+returns-in_err-blocks-clause-found g c = grind (arith, by_blocks, kept)
 
 pub returns-in_err-schedule-clause-first : goal.returns-in_err-schedule-clause-first
-returns-in_err-schedule-clause-first g c = grind (arith, by_schedule, no_fault, told-table)
+returns-in_err-schedule-clause-first g c = grind (arith, by_schedule, told-table)
 
 pub returns-in_err-schedule-clause-later : goal.returns-in_err-schedule-clause-later
 returns-in_err-schedule-clause-later g c = grind (arith, by_schedule)

@@ -1,9 +1,12 @@
+use Rattle.std.proofs.lemmas.List.{drop_all}
+use Rattle.std.proofs.lemmas.List.{append-nil}
+use Rattle.nr_linkcommands.specs.Inputs.{senders_from}
 use Rattle.std.proofs.Common.{◌≡◌, ◌<◌, ◌++◌, ◌∷◌, [], length, map, ◌∙◌, arith}
 use Rattle.std.proofs.lemmas.Grind.{common_steps}
 use Rattle.std.proofs.lemmas.List.{length-map}
 use Rattle.std.proofs.lemmas.Result.{err_from_is_err_and}
 use Rattle.nr_commands.proofs.BlockTextFacts.{octets_at}
-use Rattle.nr_linkcommands.proofs.InputLemmas.{senders_last, senders_turn-err, senders_turn-ok}
+use Rattle.nr_linkcommands.proofs.InputLemmas.{senders_turn-err, senders_turn-ok}
 use Rattle.nr_linkcommands.proofs.inputs.senders.Goals as goal
 
 pub returns-in_err-sender-clause-said : goal.returns-in_err-sender-clause-said
@@ -28,4 +31,5 @@ loop-index-preserved c =
     }
 
 pub returns-clause-said : goal.returns-clause-said
-returns-clause-said c = grind (arith, length-map, senders_last)
+unfolding senders_from
+returns-clause-said c = grind (arith, length-map, drop_all, append-nil)

@@ -1,9 +1,10 @@
+use Rattle.std.proofs.lemmas.List.FromFn.{length-map-range_with_len}
 use Rattle.std.proofs.Common.{arith}
-use Rattle.nr_linkcommands.proofs.HearingFacts.{heard-all, length-firsts}
+use Rattle.nr_linkcommands.proofs.HearingFacts.{heard-all}
 use Rattle.nr_linkcommands.proofs.link.heard_through.Goals as goal
 
 pub returns-clause-both : goal.returns-clause-both
-returns-clause-both c = grind (arith, length-firsts)
+returns-clause-both c = grind (arith, length-map-range_with_len)
 
 pub returns-clause-same : goal.returns-clause-same
 returns-clause-same c =

@@ -1,3 +1,4 @@
+use Rattle.nr_linkcommands.specs.RoundTexts.{turns}
 use Rattle.std.proofs.Common.{rules}
 use Rattle.std.proofs.Common.{◌≡◌, ◌<◌, ◌+◌, ◌++◌, ◌∷◌, [], List, get_or, length, take, drop, sym, subst, refl, ◌∙◌, arith}
 use Rattle.std.proofs.lemmas.List.{drop_all, length-take-le}
@@ -6,7 +7,7 @@ use Rattle.nr_files.specs.Rounds.{ended_by, ended_rounds}
 use Rattle.nr_files.specs.Schedule.{HasBlock}
 use Rattle.nr_files.specs.declared.schedule.Transmission.{Transmission}
 use Rattle.nr_linkcommands.proofs.RoundEndFacts.{of-continued, turn-parts}
-use Rattle.nr_linkcommands.proofs.RoundTextFacts.{all-behind, ended-few, ended-more, left-turn, taken-more, turns-end}
+use Rattle.nr_linkcommands.proofs.RoundTextFacts.{all-behind, ended-few, ended-more, left-turn, taken-more}
 use Rattle.nr_linkcommands.proofs.RunLineFacts.{all-at}
 use Rattle.nr_linkcommands.proofs.RunTextFacts.{left-first, left-last, left-more, left-stopped}
 use Rattle.nr_linkcommands.proofs.TimetableFacts.{timetable-of_rounds}
@@ -92,4 +93,5 @@ loop-index-preserved g c =
     }
 
 pub returns-clause-text : goal.returns-clause-text
-returns-clause-text g c = search (rules, left-last, turns-end, drop_all)
+unfolding turns
+returns-clause-text g c = search (rules, left-last, drop_all)

@@ -1,5 +1,5 @@
 use Rattle.std.proofs.Common.{arith}
-use Rattle.nr_linkcommands.proofs.RunLineFacts.{received_of-refused, received_of-sent}
+use Rattle.nr_linkcommands.proofs.RunLineFacts.{received_of-sent}
 use Rattle.std.proofs.lemmas.List.{append-nil}
 use Rattle.nr_linkcommands.proofs.audit_command.replay.replay_one.Goals as goal
 
@@ -13,4 +13,4 @@ pub returns-in_ok-receive-in-Ok : goal.returns-in_ok-receive-in-Ok
 returns-in_ok-receive-in-Ok c = grind (arith, received_of-sent)
 
 pub returns-in-Err : goal.returns-in-Err
-returns-in-Err c = grind (arith, received_of-refused, append-nil)
+returns-in-Err c = grind (arith, append-nil)

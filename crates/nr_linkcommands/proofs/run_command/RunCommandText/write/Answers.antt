@@ -1,3 +1,5 @@
+use Rattle.std.proofs.lemmas.List.{get_or-replicate}
+use Rattle.nr_files.specs.Rounds.{since_fresh}
 use Rattle.std.proofs.Common.{◌≡◌, ◌+◌, [], All, false, length, ap, sym, subst, arith}
 use Rattle.std.proofs.lemmas.List.{length-replicate}
 use Rattle.std.proofs.lemmas.Result.{err_from_is_err_and}
@@ -7,9 +9,8 @@ use Rattle.nr_linkcommands.specs.RoundTexts.{pieces_joined, turns}
 use Rattle.nr_files.specs.Rounds.{IsOfBlock}
 use Rattle.nr_files.specs.Schedule.{timetable_by}
 use Rattle.nr_linkcommands.specs.declared.run_command.slot.Slot.{Slot}
-use Rattle.nr_linkcommands.proofs.RoundEndFacts.{rounds-first}
-use Rattle.nr_linkcommands.proofs.RunOutcomeFacts.{none-within, text_of_run-some}
-use Rattle.nr_linkcommands.proofs.TimetableFacts.{blocks-hold, placed-in}
+use Rattle.nr_linkcommands.proofs.RunOutcomeFacts.{text_of_run-some}
+use Rattle.nr_linkcommands.proofs.TimetableFacts.{blocks-hold}
 use Rattle.nr_commands.proofs.WrittenLemmas.{writes_last, writes_none}
 use Rattle.nr_linkcommands.proofs.RunTextFacts.{first-stopped}
 use Rattle.nr_linkcommands.proofs.run_command.RunCommandText.write.Goals as goal
@@ -20,8 +21,8 @@ returns-in_err-rounds-clause-text g c =
     writes_none _ _ p.0 _ p.1 p.2 (text_of_run-some c.args.ready.now.senders.items (timetable_by c.args.ready.now.inputs.now.schedule))
 
 pub follow-requires : goal.follow-requires
-unfolding rounds_counted
-follow-requires g c = grind (arith, length-replicate, placed-in, rounds-first, none-within)
+unfolding rounds_counted since_fresh
+follow-requires g c = grind (arith, length-replicate, get_or-replicate)
 
 pub returns-in_err-follow-clause-text : goal.returns-in_err-follow-clause-text
 returns-in_err-follow-clause-text g c = first-stopped _ _ c.from_residual-in_err-follow.result _ _ _ c.from_residual-in_err-follow.ensures.1 c.in_err-follow.ensures.text

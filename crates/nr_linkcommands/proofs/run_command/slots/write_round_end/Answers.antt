@@ -1,9 +1,11 @@
+use Rattle.std.proofs.Common.{length-append}
+use Rattle.nr_linkcommands.proofs.RunOutcomeFacts.{outcome_line-some}
 use Rattle.std.proofs.Common.{List, arith, false}
 use Rattle.std.proofs.lemmas.List.{append-nil}
 use Rattle.std.proofs.lemmas.Result.{err_from_is_err_and}
 use Rattle.nr_files.specs.declared.schedule.Transmission.{Transmission}
 use Rattle.nr_linkcommands.specs.Ends.{HoldsRound}
-use Rattle.nr_linkcommands.proofs.RoundEndFacts.{EndsAs, ends-as, round-none, round_line-some}
+use Rattle.nr_linkcommands.proofs.RoundEndFacts.{EndsAs, ends-as, round-none}
 use Rattle.nr_linkcommands.proofs.RunOutcomeFacts.{within-more}
 use Rattle.nr_commands.proofs.WrittenLemmas.{with_text-nil, writes_behind}
 use Rattle.nr_linkcommands.proofs.run_command.slots.write_round_end.Given as given
@@ -24,10 +26,10 @@ ends : (g : given.Over) (c : After-round_line g) (round : List Transmission) →
 ends g c round held = grind (arith, ends-as)
 
 pub returns-in_err-put_line-in-Some-clause-text : goal.returns-in_err-put_line-in-Some-clause-text
-returns-in_err-put_line-in-Some-clause-text g c = grind (arith, ends, err_from_is_err_and, writes_behind, append-nil, with_text-nil, round_line-some)
+returns-in_err-put_line-in-Some-clause-text g c = grind (arith, ends, err_from_is_err_and, writes_behind, append-nil, with_text-nil, length-append, outcome_line-some)
 
 pub returns-in_ok-put_line-in-Some-clause-text : goal.returns-in_ok-put_line-in-Some-clause-text
-returns-in_ok-put_line-in-Some-clause-text g c = grind (arith, ends, round_line-some)
+returns-in_ok-put_line-in-Some-clause-text g c = grind (arith, ends, length-append, outcome_line-some)
 
 pub returns-in_ok-put_line-in-Some-clause-totals : goal.returns-in_ok-put_line-in-Some-clause-totals
 returns-in_ok-put_line-in-Some-clause-totals g c = grind (arith, ends)

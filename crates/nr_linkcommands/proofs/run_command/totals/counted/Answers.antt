@@ -1,6 +1,10 @@
+use Rattle.std.proofs.lemmas.Bool.Decides.{nat_tests}
+use Rattle.nr_linkcommands.proofs.RunOutcomeFacts.{unfixed-if}
+use Rattle.nr_linkcommands.proofs.RunOutcomeFacts.{open-if}
+use Rattle.nr_blockdesk.specs.Outcome.{outcome_of}
 use Rattle.std.proofs.Common.{arith}
-use Rattle.nr_linkcommands.proofs.RunOutcomeFacts.{counted-none}
 use Rattle.nr_linkcommands.proofs.run_command.totals.counted.Goals as goal
 
 pub returns-in-None-clause-value : goal.returns-in-None-clause-value
-returns-in-None-clause-value c = grind (arith, counted-none)
+unfolding outcome_of
+returns-in-None-clause-value c = grind (arith, nat_tests, unfixed-if, open-if)

@@ -1,9 +1,11 @@
+use Rattle.nr_linkcommands.proofs.RunLineFacts.{lines_if-some}
+use Rattle.nr_linkcommands.specs.RunText.{lines_of}
 use Rattle.std.proofs.Common.{arith}
 use Rattle.std.proofs.Common.{Err, Ok}
 use Rattle.std.proofs.lemmas.List.{append-nil}
 use Rattle.std.proofs.lemmas.Result.{err_from_is_err_and}
 use Rattle.nr_linkcommands.specs.Exchanges.{IsExchanged}
-use Rattle.nr_linkcommands.proofs.RunLineFacts.{left_lines-some, lines_of-refused, lines_of-sent, lines_of-some, on_ok-any, received_of-refused, received_of-sent}
+use Rattle.nr_linkcommands.proofs.RunLineFacts.{left_lines-some, lines_of-refused, lines_of-sent, on_ok-any, received_of-sent}
 use Rattle.nr_linkcommands.proofs.RunTextFacts.{first-stopped}
 use Rattle.nr_linkcommands.proofs.SendLemmas.{answer_line-some}
 use Rattle.nr_commands.proofs.WrittenLemmas.{prefix_so_far, writes_last, writes_none}
@@ -16,7 +18,8 @@ pub next_state-requires-clause-accepted : goal.next_state-requires-clause-accept
 next_state-requires-clause-accepted g c = grind arith
 
 pub returns-in_err-exchange-clause-text : goal.returns-in_err-exchange-clause-text
-returns-in_err-exchange-clause-text g c = grind (arith, err_from_is_err_and, writes_none, lines_of-some)
+unfolding lines_of
+returns-in_err-exchange-clause-text g c = grind (arith, err_from_is_err_and, writes_none, lines_if-some)
 
 pub returns-in_err-put_line-in-Ok-clause-text : goal.returns-in_err-put_line-in-Ok-clause-text
 returns-in_err-put_line-in-Ok-clause-text g c = λ list holds.
@@ -56,4 +59,4 @@ returns-in-Err-clause-text g c = λ list holds.
     rw (lines_of-refused c.args.sender.now list c.args.transmission.now c.in-Err.fault said) (c.put_line-in-Err.ensures.text _ (answer_line-some _ _ (Err c.in-Err.fault)) c.refused_line.ensures)
 
 pub returns-in-Err-clause-held : goal.returns-in-Err-clause-held
-returns-in-Err-clause-held g c = grind (arith, on_ok-any, received_of-refused, append-nil)
+returns-in-Err-clause-held g c = grind (arith, on_ok-any, append-nil)
