@@ -118,8 +118,15 @@ joined_word z old ws few within clear t =
             | inl h ↦ bit_at_shl_low first z t h ∙ sym (moved-low z ws t h)
             | inr h ↦ bit_at_shl_high first z t h ∙ sym (moved-high z ws t h ∙ place_of ws (t - z) 0 (t - z) (omega arith) (omega (arith, short)))
           ] in
-          omega (arith, place-set_same old 0 (bit_or (get_or old 0 0) both) t t within (omega arith) short, bit_at_or (get_or old 0 0) both t, bit_at_or first (first * 2 ^ z % 2 ^ 64) t,
-          place_of old t 0 t (omega arith) short, place_of ws t 0 t (omega arith) short, high)
+          omega (
+            arith,
+            place-set_same old 0 (bit_or (get_or old 0 0) both) t t within (omega arith) short,
+            bit_at_or (get_or old 0 0) both t,
+            bit_at_or first (first * 2 ^ z % 2 ^ 64) t,
+            place_of old t 0 t (omega arith) short,
+            place_of ws t 0 t (omega arith) short,
+            high,
+          )
       | inr out ↦ omega (arith, place-set_other old 0 (bit_or (get_or old 0 0) both) t (λ e. omega (arith, e, out)), moved-high z ws t (omega (arith, out, few)), clear (t - z) (omega (arith, out, few)), clear t (omega (arith, out, few)))
     ]
 
