@@ -108,9 +108,6 @@ module _ (z count w : ℕ) where
 pub zero_ring : (z w : ℕ) → IsRing z (replicate w 0)
 zero_ring z w t below = place-zeros w (z + t) ∙ sym (place-zeros w t)
 
-pub zero_clear : (n w : ℕ) → IsClear (replicate w 0) n
-zero_clear n w t past = place-zeros w t
-
 -- the lowest place of a word
 pub low_bit : (w : ℕ) → bit_and w 1 ≡ bit_at w 0
 low_bit w = and_mask w 1 ∙ sym (bit_at_lowest w)

@@ -9,10 +9,9 @@ use Rattle.std.specs.Int.{bit_at, bit_not, w64}
 use Rattle.std.specs.Int.RustNames.{bit_and, bit_xor, count_ones}
 use Rattle.nr_bitvec.specs.Bit.{◌⊕◌}
 use Rattle.nr_bitvec.specs.Packed.{place, IsClear}
-use Rattle.nr_bitvec.proofs.BitFacts.{place_past}
+use Rattle.nr_bitvec.proofs.BitFacts.{place_past, place_of}
 use Rattle.nr_bitvec.proofs.PlaceFacts.{place-set_same, place-set_other}
 use Rattle.nr_lifting.specs.Rings.{is_set, marked}
-pub use Rattle.nr_lifting.proofs.LaneWordFacts.{word_bit}
 use Rattle.nr_lifting.proofs.LaneViewFacts.{min_bits, place-lt, rest_bits, sum_bits}
 
 -- The places of the first n words are those that G gives them, and the others are the old ones.
@@ -24,6 +23,10 @@ pub record IsMade (n : ℕ) (G : ℕ → ℕ) (now old : List ℕ) : Type 0 wher
 pub made_next : (n : ℕ) (G : ℕ → ℕ) (next now old : List ℕ) (word : ℕ) → IsMade n G now old → n < length now → next ≡ set now n word
     → ((j : ℕ) → j < 64 → bit_at word j ≡ G (64 * n + j)) → IsMade (n + 1) G next old
 made_next n G next now old word h within put are = grind (arith, cases_eq, place-set_same, place-set_other, get_or-set_other, length-set)
+
+-- the place of a word that is still the old one
+pub word_bit : (n j word : ℕ) (ws : List ℕ) → word ≡ get_or ws n 0 → j < 64 → bit_at word j ≡ place ws (64 * n + j)
+word_bit n j word ws is short = ap (λ w. bit_at w j) is ∙ sym (place_of ws (64 * n + j) n j refl short)
 
 -- when all words are made, and G gives the others what they have
 pub made_whole : (n : ℕ) (G : ℕ → ℕ) (now old : List ℕ) → IsMade n G now old → ((t : ℕ) → 64 * n ≤ t → G t ≡ place old t) → (t : ℕ) → place now t ≡ G t
@@ -91,9 +94,7 @@ marked-append u a zero = grind arith
 marked-append u a (suc b) = rw add-suc (omega (arith, marked-append u a b))
 
 pub marked-none : (u : ℕ → Bool) (a b : ℕ) → ((t : ℕ) → a ≤ t → u t ≡ false) → a ≤ b → marked u b ≡ marked u a
-marked-none u a zero none le =
-    let first : 0 ≡ a = omega (arith, le) in
-    ap (marked u) first
+marked-none u a zero none le = grind arith
 marked-none u a (suc b) none le = elim (cases_eq a (suc b)) [
   | inl e ↦ ap (marked u) (sym e)
   | inr apart ↦ rw (none b (omega (arith, le, apart))) (omega (arith, marked-none u a b none (omega (arith, le, apart))))

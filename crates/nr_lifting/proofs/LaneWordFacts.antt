@@ -1,6 +1,7 @@
 -- Loops that write the words of a lane one by one.
+use Rattle.nr_lifting.proofs.LaneBitFacts.{word_bit}
 use Rattle.std.proofs.lemmas.Bool.Decides.{nat_tests}
-use Rattle.std.proofs.Common.{◌≡◌, ℕ, ◌+◌, ◌*◌, ◌%◌, ◌<◌, ◌≤◌, min, max, List, length, get_or, set, refl, sym, ap, ◌∙◌, arith, length-set, get_or-set_other}
+use Rattle.std.proofs.Common.{◌≡◌, ℕ, ◌+◌, ◌*◌, ◌%◌, ◌<◌, ◌≤◌, min, max, List, length, get_or, set, arith, length-set, get_or-set_other}
 use Rattle.std.proofs.lemmas.Bool.{cases_lt, cases_eq}
 use Rattle.std.proofs.lemmas.Nat.Bits.{bit_at_and, bit_at_or, bit_at_xor}
 use Rattle.std.specs.Int.{bit_at}
@@ -8,12 +9,8 @@ use Rattle.std.specs.Int.RustNames.{bit_and, bit_or, bit_xor}
 use Rattle.nr_bitvec.specs.Packed.{place, IsClear}
 use Rattle.nr_lifting.specs.Lane.{IsRotatedWord}
 use Rattle.nr_lifting.specs.LaneInside.{IsLane}
-use Rattle.nr_bitvec.proofs.BitFacts.{place_of, place_past}
+use Rattle.nr_bitvec.proofs.BitFacts.{place_past}
 use Rattle.nr_bitvec.proofs.PlaceFacts.{place-set_same, place-set_other}
-
--- the place of a word that is still the old one
-pub word_bit : (n j word : ℕ) (ws : List ℕ) → word ≡ get_or ws n 0 → j < 64 → bit_at word j ≡ place ws (64 * n + j)
-word_bit n j word ws is short = ap (λ w. bit_at w j) is ∙ sym (place_of ws (64 * n + j) n j refl short)
 
 -- The first i words have the places that G gives them, below place z, and zeros past it; the other words are the old
 -- ones.
@@ -65,8 +62,7 @@ module _ (z i p now rotated : ℕ) (ws src : List ℕ) (kept : now ≡ get_or ws
   -- with a second lane, whose word gains the places that both have
   module _ (word : ℕ) (more : List ℕ) (other : word ≡ get_or more i 0) (free : IsClear more z) where
     pub twice_low : (j : ℕ) → j < 64 → 64 * i + j < z → bit_at (bit_or word (bit_and now rotated)) j ≡ max (place more (64 * i + j)) (min (place ws (64 * i + j)) (place src ((64 * i + j + p) % z)))
-    twice_low j short below =
-        omega (arith, bit_at_or word (bit_and now rotated) j, bit_at_and now rotated j, word_bit i j word more other short, word_bit i j now ws kept short, is j short below)
+    twice_low j short below = grind (arith, bit_at_or, bit_at_and, word_bit)
 
     pub twice_high : (j : ℕ) → j < 64 → z ≤ 64 * i + j → bit_at (bit_or word (bit_and now rotated)) j ≡ 0
     twice_high j short past =

@@ -3,7 +3,7 @@ use Rattle.std.proofs.lemmas.Bool.Decides.{nat_tests}
 use Rattle.std.proofs.Common.{◌⊎◌, ◌≡◌, ◌≢◌, ℕ, zero, suc, ◌+◌, ◌-◌, ◌*◌, ◌/◌, ◌%◌, ◌^◌, ◌<◌, ◌≤◌, ◌==◌, if◌then◌else◌, min, max, List, [], length, get_or, set, refl, sym, ap, subst, ◌∙◌, inl, inr, arith, add-one, length-set, get_or-set_same, get_or-set_other}
 use Rattle.std.proofs.Math.Nat.{pow-suc}
 use Rattle.std.proofs.lemmas.Bool.{cases_eq, cases_lt}
-use Rattle.std.proofs.lemmas.Nat.{pow_pos}
+use Rattle.std.proofs.lemmas.Nat.{pow_below}
 use Rattle.std.proofs.lemmas.Grind.{pow_more}
 use Rattle.std.proofs.lemmas.Nat.Bits.{bit_at_and, bit_at_not}
 use Rattle.std.specs.Int.{bit_at, bit_not, w64}
@@ -35,8 +35,7 @@ below-lt (suc n) D small = rw pow-suc (grind (arith, digit_times (2 ^ n) (D n) (
 
 -- a borrow y comes to the digit x of worth p: the digit that is left, and the borrow that goes on
 plane : (a b p u x y : ℕ) → x < 2 → y < 2 → a + u ≡ b + p * y → a + p * ((x + y) % 2) + u ≡ b + p * x + p * 2 * min y (1 - x)
-plane a b p u x y h k e =
-    grind (arith, digit_times p x h, digit_times p y k, digit_times p ((x + y) % 2) (omega arith), digit_times (p * 2) (min y (1 - x)) (omega (arith, k)))
+plane a b p u x y h k e = grind (arith, digit_times)
 
 -- u is taken off the first n digits, with a borrow y from the others, which are as they were
 pub record Borrows (n : ℕ) (now old : ℕ → ℕ) (u y : ℕ) : Type 0 where
@@ -73,12 +72,9 @@ borrows_rest n (suc m) now old u y h none within = elim (cases_eq n (suc m)) [
 ]
 
 -- no borrow is left where the number was not less
-no_borrow : (a b p u y : ℕ) → a < p → y < 2 → u ≤ b → a + u ≡ b + p * y → a + u ≡ b
-no_borrow a b p u y h k enough e = grind (arith, digit_times p y k)
-
 pub borrows_all : (n : ℕ) (now old : ℕ → ℕ) (u y : ℕ) → Borrows n now old u y → ((k : ℕ) → now k < 2) → y < 2 → u ≤ digits_below n old
     → digits_below n now + u ≡ digits_below n old
-borrows_all n now old u y h small high enough = no_borrow _ _ (2 ^ n) u y (below-lt n now small) high enough h.number
+borrows_all n now old u y h small high enough = grind (arith, below-lt n now small, h.number, digit_times (2 ^ n) y high)
 
 -- ---- counts of one
 
@@ -90,27 +86,12 @@ pub record HasMore (n : ℕ) (D : ℕ → ℕ) (m : ℕ) : Type 0 where
 pub has_more-first : (D : ℕ → ℕ) (m : ℕ) → m ≡ 0 → HasMore 1 D m
 has_more-first D m e = grind arith
 
-two_at_least : (n : ℕ) → 0 < n → 2 ≤ 2 ^ n
-two_at_least zero h = absurd (omega (arith, h))
-two_at_least (suc n) h = rw pow-suc (omega (arith, pow_pos n))
-
-plane_none : (a p f m x : ℕ) → m < 2 → x < 2 → max m x ≡ 0 → (m ≡ 0 → a ≡ f) → a + p * x ≡ f
-plane_none a p f m x h k e none = grind (arith, digit_times p x k)
-
-plane_some : (a p m x : ℕ) → m < 2 → x < 2 → 2 ≤ p → max m x ≡ 1 → (m ≡ 1 → 2 ≤ a) → 2 ≤ a + p * x
-plane_some a p m x h k two e some = grind (arith, digit_times p x k, digit_times 1 m h)
-
 pub has_more-next : (n : ℕ) (D : ℕ → ℕ) (m next : ℕ) → HasMore n D m → 0 < n → m < 2 → D n < 2 → next ≡ max m (D n) → HasMore (n + 1) D next
-has_more-next n D m next h above low high is = record {
-  none = λ e. below-next n D ∙ plane_none (digits_below n D) (2 ^ n) (D 0) m (D n) low high (sym is ∙ e) h.none;
-  some = λ e. rw (below-next n D) (plane_some (digits_below n D) (2 ^ n) m (D n) low high (two_at_least n above) (sym is ∙ e) h.some);
-}
-
-exactly_one : (n f m : ℕ) → f < 2 → m < 2 → (m ≡ 0 → n ≡ f) → (m ≡ 1 → 2 ≤ n) → min f (1 - m) ≡ (if n == 1 then 1 else 0)
-exactly_one n f m h k none some = grind (arith, nat_tests, digit_times 1 f h, digit_times 1 m k)
+has_more-next n D m next h above low high is =
+    grind (arith, below-next n D, h.none, h.some, is, digit_times (2 ^ n) (D n) high, digit_times 1 m low, pow_below 0 n above)
 
 pub ones_are : (n : ℕ) (D : ℕ → ℕ) (m : ℕ) → HasMore n D m → D 0 < 2 → m < 2 → min (D 0) (1 - m) ≡ (if digits_below n D == 1 then 1 else 0)
-ones_are n D m h first more = exactly_one (digits_below n D) (D 0) m first more h.none h.some
+ones_are n D m h first more = grind (arith, nat_tests, h.none, h.some, digit_times 1 (D 0) first, digit_times 1 m more)
 
 -- ---- planes, each with one digit of every count
 

@@ -70,9 +70,6 @@ pub moved_all : (z : ℕ) (now old ws : List ℕ) → length ws ≤ 6 → (n : �
     → (t : ℕ) → place now t ≡ max (place old t) (moved z ws t)
 moved_all z now old ws few n h enough = grind (arith, made_whole, moved-high, place_past)
 
-pub carries_six : (z i : ℕ) (ws : List ℕ) (past : ℕ) → Carries z i ws past → i ≡ 6 → Carries z 6 ws past
-carries_six z i ws past carry six = subst (λ n. Carries z n ws past) six carry
-
 module _ (z i : ℕ) (next now old ws : List ℕ) (h : IsMade (z / 64 + i) (λ t. max (place old t) (moved z ws t)) now old) (within : z / 64 + i < length now) where
   -- one word more is joined where it is moved up
   pub moved_next : (word : ℕ) → next ≡ set now (z / 64 + i) (bit_or (get_or now (z / 64 + i) 0) word) → ((j : ℕ) → j < 64 → bit_at word j ≡ moved z ws (64 * (z / 64 + i) + j))

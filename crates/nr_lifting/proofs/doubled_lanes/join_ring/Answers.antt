@@ -11,8 +11,5 @@ loop-k-preserved c =
     (λ j short below. ring_low (2 * c.args.size) c.loop-k.k _ c.args.ring.now _ j short (c.loop-k.invariant.kept _ (omega arith)) (c.twice_word.ensures.twice j short below))
     (λ j short past. ring_high (2 * c.args.size) c.loop-k.k _ c.args.ring.now _ j short (c.loop-k.invariant.kept _ (omega arith)) c.requires.ring_clear past (c.twice_word.ensures.clear j short past))
 
-pub returns-clause-joined : goal.returns-clause-joined
-returns-clause-joined c = λ t below. c.loop-k.invariant.done t (omega (arith, below)) below
-
-pub returns-clause-ring_clear : goal.returns-clause-ring_clear
-returns-clause-ring_clear c = grind (arith, nat_tests, cases_lt)
+pub returns : goal.returns
+returns c = grind (arith, nat_tests, cases_lt)

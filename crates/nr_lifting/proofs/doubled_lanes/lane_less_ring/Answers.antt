@@ -18,8 +18,5 @@ loop-i-preserved c =
     written_more _ _ _ _ _ _ _ c.loop-i.invariant (omega arith) refl
     (less_low c.args.size c.loop-i.i c.args.p _ c.span-in-loop-i.result c.args.ring.now refl c.span-in-loop-i.ensures c.requires.rotation c.requires.ring _ c.args.lane.now (c.loop-i.invariant.kept _ (omega arith)) (omega arith)) (less_high c.args.size c.loop-i.i c.args.p _ c.span-in-loop-i.result c.args.ring.now refl c.span-in-loop-i.ensures c.requires.rotation c.requires.ring _ c.args.lane.now (c.loop-i.invariant.kept _ (omega arith)) c.requires.clear)
 
-pub returns-clause-less : goal.returns-clause-less
-returns-clause-less c = λ t below. c.loop-i.invariant.done t (omega (arith, below)) below
-
-pub returns-clause-clear : goal.returns-clause-clear
-returns-clause-clear c = written_clear _ _ _ c.loop-i.rest _ c.loop-i.invariant (omega (arith, c.loop-i.invariant.long))
+pub returns : goal.returns
+returns c = grind (arith, written_clear)

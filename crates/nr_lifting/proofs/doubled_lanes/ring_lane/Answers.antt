@@ -16,8 +16,5 @@ pub loop-i-preserved : goal.loop-i-preserved
 loop-i-preserved c =
     written_more _ _ _ _ _ _ _ c.loop-i.invariant (omega arith) refl (cut_spans c.args.size c.loop-i.i c.args.p _ c.span-in-loop-i.result c.args.ring.now refl c.span-in-loop-i.ensures c.requires.rotation c.requires.ring _ c.args.mask.now c.requires.mask refl) (λ j _ past. cut_clear c.args.size c.loop-i.i c.args.p _ c.span-in-loop-i.result c.args.ring.now refl c.span-in-loop-i.ensures c.requires.rotation c.requires.ring _ c.args.mask.now c.requires.mask refl (omega arith) j past)
 
-pub returns-clause-rotated : goal.returns-clause-rotated
-returns-clause-rotated c = λ t below. c.loop-i.invariant.done t (omega (arith, below)) below
-
-pub returns-clause-clear : goal.returns-clause-clear
-returns-clause-clear c = written_clear _ _ _ c.loop-i.lane _ c.loop-i.invariant (omega (arith, c.loop-i.invariant.long))
+pub returns : goal.returns
+returns c = grind (arith, written_clear)

@@ -1,6 +1,7 @@
 use Rattle.std.proofs.Common.{◌+◌, ◌%◌, replicate, ◌∙◌, arith}
 use Rattle.nr_bitvec.specs.Packed.{place}
-use Rattle.nr_lifting.proofs.DoubledLaneFacts.{zero_ring, zero_clear}
+use Rattle.nr_lifting.proofs.LaneViewFacts.{place-zeros}
+use Rattle.nr_lifting.proofs.DoubledLaneFacts.{zero_ring}
 use Rattle.nr_lifting.proofs.RingJoinFacts.{ring_of_zeros}
 use Rattle.nr_lifting.proofs.RingSpanFacts.{first_low, first_high}
 use Rattle.nr_lifting.proofs.RotationFacts.{ring-gains}
@@ -15,7 +16,7 @@ returns-then-size-le64 c = record {
 
 -- several, which a ring is made of
 pub join_twice-requires-clause-ring_clear : goal.join_twice-requires-clause-ring_clear
-join_twice-requires-clause-ring_clear c = zero_clear _ 12
+join_twice-requires-clause-ring_clear c = λ t _. place-zeros 12 t
 
 pub ring_lane-requires-clause-ring : goal.ring_lane-requires-clause-ring
 ring_lane-requires-clause-ring c =

@@ -9,8 +9,5 @@ loop-i-preserved c =
     (summed_low _ _ _ _ _ _ _ (c.loop-i.invariant.kept _ (omega arith)) c.requires.words.clear c.rotated_word.ensures.rotated c.rotated_word.ensures.clear)
     (summed_high _ _ _ _ _ _ _ (c.loop-i.invariant.kept _ (omega arith)) c.requires.words.clear c.rotated_word.ensures.rotated c.rotated_word.ensures.clear)
 
-pub returns-clause-lane : goal.returns-clause-lane
-returns-clause-lane c = written_lane _ _ _ _ _ c.loop-i.invariant (omega arith) c.requires.words.above c.requires.words.below
-
-pub returns-clause-sum : goal.returns-clause-sum
-returns-clause-sum c = λ t below. c.loop-i.invariant.done t (omega (arith, below)) below
+pub returns : goal.returns
+returns c = grind (arith, written_lane)

@@ -16,14 +16,5 @@ loop-i-preserved c =
           (twice_low _ _ _ _ _ _ _ ones c.requires.ones.clear is none _ _ more c.requires.more.clear) (twice_high _ _ _ _ _ _ _ ones c.requires.ones.clear is none _ _ more c.requires.more.clear);
     }
 
-pub returns-clause-ones_lane : goal.returns-clause-ones_lane
-returns-clause-ones_lane c = grind (arith, written_lane)
-
-pub returns-clause-more_lane : goal.returns-clause-more_lane
-returns-clause-more_lane c = grind (arith, written_lane)
-
-pub returns-clause-ones : goal.returns-clause-ones
-returns-clause-ones c = λ t below. c.loop-i.invariant.ones_at.done t (omega (arith, below)) below
-
-pub returns-clause-more : goal.returns-clause-more
-returns-clause-more c = λ t below. c.loop-i.invariant.more_at.done t (omega (arith, below)) below
+pub returns : goal.returns
+returns c = grind (arith, written_lane)

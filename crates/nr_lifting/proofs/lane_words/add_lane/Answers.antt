@@ -8,8 +8,8 @@ loop-i-preserved c =
     made_next _ _ _ _ _ _ c.loop-i.invariant (omega arith) refl (λ j short.
     added_bit _ _ c.loop-i.i j _ _ (c.loop-i.invariant.kept _ (omega arith)) refl short)
 
-pub returns-clause-bits : goal.returns-clause-bits
-returns-clause-bits c = added_all c.loop-i.i c.loop-i.sum _ _ (omega arith) (omega arith) c.loop-i.invariant
-
-pub returns-clause-clear : goal.returns-clause-clear
-returns-clause-clear c = added_clear c.loop-i.i c.loop-i.sum _ _ (omega arith) (omega arith) c.loop-i.invariant
+pub returns : goal.returns
+returns c = record {
+  bits = added_all c.loop-i.i c.loop-i.sum _ _ (omega arith) (omega arith) c.loop-i.invariant;
+  clear = added_clear c.loop-i.i c.loop-i.sum _ _ (omega arith) (omega arith) c.loop-i.invariant;
+}

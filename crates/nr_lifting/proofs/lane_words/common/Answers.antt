@@ -8,8 +8,8 @@ loop-i-preserved c =
     made_next _ _ _ _ _ _ c.loop-i.invariant (omega arith) refl (λ j short.
     common_bit _ _ c.loop-i.i j _ _ (c.loop-i.invariant.kept _ (omega arith)) refl short)
 
-pub returns-clause-bits : goal.returns-clause-bits
-returns-clause-bits c = common_all c.loop-i.i c.loop-i.both _ _ (omega arith) c.loop-i.invariant
-
-pub returns-clause-clear : goal.returns-clause-clear
-returns-clause-clear c = common_clear c.loop-i.i c.loop-i.both _ _ (omega arith) c.loop-i.invariant
+pub returns : goal.returns
+returns c = record {
+  bits = common_all c.loop-i.i c.loop-i.both _ _ (omega arith) c.loop-i.invariant;
+  clear = common_clear c.loop-i.i c.loop-i.both _ _ (omega arith) c.loop-i.invariant;
+}

@@ -1,4 +1,4 @@
-use Rattle.std.proofs.Common.{◌+◌, ◌*◌, ◌∙◌, refl, arith}
+use Rattle.std.proofs.Common.{◌+◌, ◌*◌, refl, arith}
 use Rattle.nr_lifting.specs.Rings.{is_set}
 use Rattle.nr_lifting.proofs.LaneBitFacts.{counted_all, counted_more, marked-le}
 use Rattle.nr_lifting.proofs.lane_words.lane_count.Goals as goal
@@ -12,8 +12,5 @@ overflow_add-count c =
 pub loop-i-preserved : goal.loop-i-preserved
 loop-i-preserved c = counted_more c.loop-i.i c.loop-i.count _ c.args.lane.now refl (omega arith) c.loop-i.invariant
 
-pub returns-clause-marked : goal.returns-clause-marked
-returns-clause-marked c = λ n clear. c.loop-i.invariant ∙ counted_all c.loop-i.i n c.args.lane.now (omega arith) clear
-
-pub returns-clause-few : goal.returns-clause-few
-returns-clause-few c = omega (arith, c.loop-i.invariant, marked-le (is_set c.args.lane.now) (64 * c.loop-i.i))
+pub returns : goal.returns
+returns c = grind (arith, counted_all, marked-le)

@@ -8,8 +8,8 @@ loop-i-preserved c =
     made_next _ _ _ _ _ _ c.loop-i.invariant (omega arith) refl (λ j short.
     without_bit _ _ c.loop-i.i j _ _ (c.loop-i.invariant.kept _ (omega arith)) refl (omega arith) short)
 
-pub returns-clause-bits : goal.returns-clause-bits
-returns-clause-bits c = without_all c.loop-i.i c.loop-i.rest _ _ (omega arith) c.loop-i.invariant
-
-pub returns-clause-clear : goal.returns-clause-clear
-returns-clause-clear c = without_clear c.loop-i.i c.loop-i.rest _ _ (omega arith) c.loop-i.invariant
+pub returns : goal.returns
+returns c = record {
+  bits = without_all c.loop-i.i c.loop-i.rest _ _ (omega arith) c.loop-i.invariant;
+  clear = without_clear c.loop-i.i c.loop-i.rest _ _ (omega arith) c.loop-i.invariant;
+}

@@ -1,7 +1,7 @@
-use Rattle.std.proofs.Common.{◌+◌, ◌*◌, refl, ap, ◌∙◌, arith}
+use Rattle.std.proofs.Common.{subst, ◌+◌, ◌*◌, refl, ap, ◌∙◌, arith}
 use Rattle.nr_lifting.proofs.LaneBitFacts.{made_next, word_bit}
 use Rattle.nr_lifting.proofs.LaneWordFacts.{ring_low}
-use Rattle.nr_lifting.proofs.RingJoinFacts.{carries_more, carries_six, gains_twice, joined_all, joined_word, moved, moved_all, moved_last, moved_next, moved_word, twice_clear}
+use Rattle.nr_lifting.proofs.RingJoinFacts.{Carries, carries_more, gains_twice, joined_all, joined_word, moved, moved_all, moved_last, moved_next, moved_word, twice_clear}
 use Rattle.nr_lifting.proofs.ring_spans.join_twice.Goals as goal
 
 -- one word
@@ -31,7 +31,7 @@ loop-m-preserved c =
 -- what is left over is joined
 pub returns-then-word-lt6 : goal.returns-then-word-lt6
 returns-then-word-lt6 c =
-    let carry = carries_six c.args.size c.loop-i.i c.args.words.now c.loop-i.past c.loop-i.invariant.carry (omega arith) in
+    let carry = subst (λ n. Carries c.args.size n c.args.words.now c.loop-i.past) (omega arith) c.loop-i.invariant.carry in
     let is = joined_all c.args.size _ c.loop-k.ring c.args.ring.now c.args.words.now c.loop-k.k c.loop-k.invariant (omega arith)
     (moved_last c.args.size c.loop-m.m _ c.loop-m.ring c.loop-k.ring c.args.words.now c.loop-m.invariant (omega arith) c.loop-i.past carry (omega arith) (omega arith) refl) in
     record {

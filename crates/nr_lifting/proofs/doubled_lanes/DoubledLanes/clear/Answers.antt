@@ -1,5 +1,6 @@
 use Rattle.std.proofs.Common.{replicate, arith}
-use Rattle.nr_lifting.proofs.DoubledLaneFacts.{block_within, cleared_bits, rings_set, zero_ring, zero_clear}
+use Rattle.nr_lifting.proofs.LaneViewFacts.{place-zeros}
+use Rattle.nr_lifting.proofs.DoubledLaneFacts.{block_within, cleared_bits, rings_set, zero_ring}
 use Rattle.nr_lifting.proofs.doubled_lanes.DoubledLanes.clear.Goals as goal
 
 pub index_mut-requires : goal.index_mut-requires
@@ -8,7 +9,7 @@ index_mut-requires c = omega (arith, block_within c.self.invariant c.self.view_i
 pub invariant_of-self : goal.invariant_of-self
 invariant_of-self c =
     rings_set c.self.inside.size c.self.invariant.some c.self.inside.mask c.self.inside.rings.items c.args.j (replicate 12 0) c.self.invariant
-    (block_within c.self.invariant c.self.view_is c.args.j c.requires) (zero_ring _ 12) (zero_clear _ 12)
+    (block_within c.self.invariant c.self.view_is c.args.j c.requires) (zero_ring _ 12) ((λ t _. place-zeros 12 t))
 
 pub returns-clause-cleared : goal.returns-clause-cleared
 returns-clause-cleared c =
