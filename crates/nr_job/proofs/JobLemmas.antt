@@ -1,5 +1,5 @@
 -- What the results of clap's calls say of the options.
-use Rattle.std.proofs.Common.{◌≡◌, ◌∙◌, ℕ, ◌^◌, ◌<◌, true, List, [], Option, None, Some, ap, codes, sym, refl, subst}
+use Rattle.std.proofs.Common.{◌≡◌, ◌∙◌, ◌⊎◌, inl, inr, ℕ, ◌^◌, ◌<◌, Bool, true, false, ◌&&◌, List, [], Option, None, Some, ap, codes, sym, refl, subst}
 use Rattle.std.specs.Prelude.{IsSomeAnd}
 use Rattle.std.specs.Str.Parse.{IsNumeral, digits_value, without_leading_plus}
 use Rattle.clap.proofs.OnLiterals.{clap_on_literals}
@@ -8,47 +8,33 @@ use Rattle.clap.specs.Words.{App, HasMatchesOf, Row, Text, fault_of, found_of, i
 use Rattle.clap.specs.declared.parser.matches.ArgMatches.{ArgMatches}
 use Rattle.clap.specs.declared.parser.matches.Found.{Found}
 use Rattle.nr_job.specs.Commands.{check_app, cut_app, files_app}
-use Rattle.nr_job.specs.Jobs.{BeginsWith, HasFiles, IsJobOf, IsNumberAt, check_faults, check_rows, cut_faults, cut_rows, faults_at, files_faults, files_rows, is_taken_as_check, is_taken_as_cut, is_taken_as_files}
+use Rattle.nr_job.specs.Jobs.{BeginsWith, HasFiles, IsJobOf, IsNumberAt, check_faults, check_rows, cut_faults, cut_rows, faults_at, files_faults}
 use Rattle.nr_job.specs.JobsInside.{IsCheckBy, IsCutBy, files_job, name_of}
 use Rattle.nr_job.specs.declared.command_line.apps.FilesCommand.{FilesCommand}
 use Rattle.nr_job.specs.declared.command_line.apps.FilesCommand.TheVariants as over
 use Rattle.nr_job.specs.declared.jobs.Files.{Files}
 use Rattle.nr_job.specs.declared.jobs.Job.{Job}
-use Rattle.nr_job.specs.declared.jobs.Job.TheVariants.{Audit, Check, Cut, Run, Send}
+use Rattle.nr_job.specs.declared.jobs.Job.TheVariants.{Check, Cut}
 
 -- The words that begin with `cut` or `check` ask for the job that its options give. The faults at it are those at the
 -- command.
-pub cut-job : (words : List Text) (job : Job) → BeginsWith (codes "cut") words → IsCutBy (cut_rows words) job
-    → IsJobOf words job
+pub cut-job : (words : List Text) (job : Job) → BeginsWith (codes "cut") words → IsCutBy (cut_rows words) job → IsJobOf words job
 cut-job words (Cut rate path) first given = (first, given)
-cut-job words (Check path) first given = absurd given
-cut-job words (Send files) first given = absurd given
-cut-job words (Run files) first given = absurd given
-cut-job words (Audit files) first given = absurd given
+cut-job words job first given = absurd given
 
-pub cut-job-faults : (rows : List Row) (words : List Text) (job : Job) → cut_faults words ≡ [] → IsCutBy rows job
-    → faults_at words job ≡ []
+pub cut-job-faults : (rows : List Row) (words : List Text) (job : Job) → fault_of cut_app words ≡ [] → IsCutBy rows job → faults_at words job ≡ []
+unfolding cut_faults
 cut-job-faults rows words (Cut rate path) none given = none
-cut-job-faults rows words (Check path) none given = absurd given
-cut-job-faults rows words (Send files) none given = absurd given
-cut-job-faults rows words (Run files) none given = absurd given
-cut-job-faults rows words (Audit files) none given = absurd given
+cut-job-faults rows words job none given = absurd given
 
-pub check-job : (words : List Text) (job : Job) → BeginsWith (codes "check") words → IsCheckBy (check_rows words) job
-    → IsJobOf words job
+pub check-job : (words : List Text) (job : Job) → BeginsWith (codes "check") words → IsCheckBy (check_rows words) job → IsJobOf words job
 check-job words (Check path) first given = (first, given)
-check-job words (Cut rate path) first given = absurd given
-check-job words (Send files) first given = absurd given
-check-job words (Run files) first given = absurd given
-check-job words (Audit files) first given = absurd given
+check-job words job first given = absurd given
 
-pub check-job-faults : (rows : List Row) (words : List Text) (job : Job) → check_faults words ≡ [] → IsCheckBy rows job
-    → faults_at words job ≡ []
+pub check-job-faults : (rows : List Row) (words : List Text) (job : Job) → fault_of check_app words ≡ [] → IsCheckBy rows job → faults_at words job ≡ []
+unfolding check_faults
 check-job-faults rows words (Check path) none given = none
-check-job-faults rows words (Cut rate path) none given = absurd given
-check-job-faults rows words (Send files) none given = absurd given
-check-job-faults rows words (Run files) none given = absurd given
-check-job-faults rows words (Audit files) none given = absurd given
+check-job-faults rows words job none given = absurd given
 
 -- the words that begin with the name of a command over four files and give it these files ask for its job
 pub files-job : (name : FilesCommand) (words : List Text) (files : Files) → BeginsWith (name_of name) words
@@ -65,103 +51,34 @@ files-job-faults over.Run words files none = none
 files-job-faults over.Audit words files none = none
 
 -- clap's functions of the words speak of each command
-cut_simple : is_simple cut_app ≡ true
-unfolding clap_on_literals
-cut_simple = refl
-
-check_simple : is_simple check_app ≡ true
-unfolding clap_on_literals
-check_simple = refl
-
-files_simple : (name : Text) → is_simple (files_app name) ≡ true
-unfolding clap_on_literals
-files_simple name = refl
-
--- the matches of a command are those of the simple command that it is
-rows_from : (a b : App) (words : List Text) (m : ArgMatches) → a ≡ b → is_simple b ≡ true
-    → HasMatchesOf a words m → rows_of (found_of m) ≡ matches_of b words
-rows_from a b words m is simple matches =
-    (matches (ap is_simple is ∙ simple)).0 ∙ ap (λ app. matches_of app words) is
-
--- what clap found for a command are the rows that its job cites
-pub cut_rows-matches : (a : App) (words : List Text) (m : ArgMatches) → a ≡ cut_app
-    → HasMatchesOf a words m → rows_of (found_of m) ≡ cut_rows words
-unfolding cut_rows
-cut_rows-matches a words m is matches = rows_from a cut_app words m is cut_simple matches
-
-pub check_rows-matches : (a : App) (words : List Text) (m : ArgMatches) → a ≡ check_app
-    → HasMatchesOf a words m → rows_of (found_of m) ≡ check_rows words
-unfolding check_rows
-check_rows-matches a words m is matches = rows_from a check_app words m is check_simple matches
-
-pub files_rows-matches : (name : Text) (a : App) (words : List Text) (m : ArgMatches) → a ≡ files_app name
-    → HasMatchesOf a words m → rows_of (found_of m) ≡ files_rows name words
-unfolding files_rows
-files_rows-matches name a words m is matches = rows_from a (files_app name) words m is (files_simple name) matches
-
--- clap takes the words at a command that is `cut`, `check`, or over four files, where it is said to
-pub cut-takes : (a : App) (words : List Text) → a ≡ cut_app → is_taken_as_cut words ≡ true → takes a words ≡ true
-unfolding is_taken_as_cut
-cut-takes a words is taken = ap (λ app. takes app words) is ∙ taken
-
-pub check-takes : (a : App) (words : List Text) → a ≡ check_app → is_taken_as_check words ≡ true → takes a words ≡ true
-unfolding is_taken_as_check
-check-takes a words is taken = ap (λ app. takes app words) is ∙ taken
-
-pub files-takes : (name : Text) (a : App) (words : List Text) → a ≡ files_app name
-    → is_taken_as_files name words ≡ true → takes a words ≡ true
-unfolding is_taken_as_files
-files-takes name a words is taken = ap (λ app. takes app words) is ∙ taken
-
--- clap finds no fault in the words of a job where it found none at its command
-cut_free : is_simple_and_free cut_app ≡ true
+pub cut_free : is_simple_and_free cut_app ≡ true
 unfolding clap_on_literals
 cut_free = refl
 
-check_free : is_simple_and_free check_app ≡ true
+pub check_free : is_simple_and_free check_app ≡ true
 unfolding clap_on_literals
 check_free = refl
 
-files_free : (name : Text) → is_simple_and_free (files_app name) ≡ true
+pub files_free : (name : Text) → is_simple_and_free (files_app name) ≡ true
 unfolding clap_on_literals
 files_free name = refl
 
-pub cut-faultless : (a : App) (words : List Text) → a ≡ cut_app → (is_simple_and_free a ≡ true → fault_of a words ≡ [])
-    → cut_faults words ≡ []
-unfolding cut_faults
-cut-faultless a words is none =
-    ap (λ app. fault_of app words) (sym is) ∙ none (ap is_simple_and_free is ∙ cut_free)
+both-first : (x y : Bool) → (x && y) ≡ true → x ≡ true
+both-first true y is = refl
+both-first false y is = is
 
-pub check-faultless : (a : App) (words : List Text) → a ≡ check_app
-    → (is_simple_and_free a ≡ true → fault_of a words ≡ []) → check_faults words ≡ []
-unfolding check_faults
-check-faultless a words is none =
-    ap (λ app. fault_of app words) (sym is) ∙ none (ap is_simple_and_free is ∙ check_free)
+-- what clap says of a command is what it says of the one that it is, of which its functions speak
+module _ (a b : App) (words : List Text) (is : a ≡ b) (free : is_simple_and_free b ≡ true) where
+  pub rows_from : (m : ArgMatches) → HasMatchesOf a words m → rows_of (found_of m) ≡ matches_of b words
+  rows_from m matches = (matches (both-first (is_simple a) _ (ap is_simple_and_free is ∙ free))).0 ∙ ap (λ app. matches_of app words) is
 
-pub files-faultless : (name : Text) (a : App) (words : List Text) → a ≡ files_app name
-    → (is_simple_and_free a ≡ true → fault_of a words ≡ []) → files_faults name words ≡ []
-unfolding files_faults
-files-faultless name a words is none =
-    ap (λ app. fault_of app words) (sym is) ∙ none (ap is_simple_and_free is ∙ files_free name)
+  pub faultless_from : (is_simple_and_free a ≡ true → fault_of a words ≡ []) → fault_of b words ≡ []
+  faultless_from none = ap (λ app. fault_of app words) (sym is) ∙ none (ap is_simple_and_free is ∙ free)
 
--- where clap finds no fault in the words of a job, it finds none at its command
-pub cut-free : (a : App) (words : List Text) → a ≡ cut_app → cut_faults words ≡ []
-    → (is_simple_and_free a ≡ true) × (fault_of a words ≡ [])
-unfolding cut_faults
-cut-free a words is none =
-    (ap is_simple_and_free is ∙ cut_free, ap (λ app. fault_of app words) is ∙ none)
-
-pub check-free : (a : App) (words : List Text) → a ≡ check_app → check_faults words ≡ []
-    → (is_simple_and_free a ≡ true) × (fault_of a words ≡ [])
-unfolding check_faults
-check-free a words is none =
-    (ap is_simple_and_free is ∙ check_free, ap (λ app. fault_of app words) is ∙ none)
-
-pub files-free : (name : Text) (a : App) (words : List Text) → a ≡ files_app name → files_faults name words ≡ []
-    → (is_simple_and_free a ≡ true) × (fault_of a words ≡ [])
-unfolding files_faults
-files-free name a words is none =
-    (ap is_simple_and_free is ∙ files_free name, ap (λ app. fault_of app words) is ∙ none)
+  -- it takes the words by its test, or since it finds no fault in them
+  pub taken_from : {P : Type 0} → (takes a words ≡ true → P) → (is_simple_and_free a ≡ true → fault_of a words ≡ [] → P) → (takes b words ≡ true) ⊎ (fault_of b words ≡ []) → P
+  taken_from tested faultless (inl taken) = tested (ap (λ app. takes app words) is ∙ taken)
+  taken_from tested faultless (inr none) = faultless (ap is_simple_and_free is ∙ free) (ap (λ app. fault_of app words) is ∙ none)
 
 -- the text is a numeral that fits 32 bits
 abbrev pub IsWord : Text → Type 0
