@@ -3,22 +3,23 @@ use Rattle.std.proofs.lemmas.Result.{err_from_is_err_and}
 use Rattle.nr_bitvec.specs.BitList.{bits_of}
 use Rattle.nr_crcattach.specs.Attachment.{attached, attached_length}
 use Rattle.nr_segment.specs.CodeBlock.{numbers}
-use Rattle.nr_commands.proofs.BlockTextFacts.{length-bits_of, block_lines-unpicked, block_lines-unplanned, block_lines-planned}
+use Rattle.nr_bitvec.proofs.OctetListFacts.{length-bits_of}
+use Rattle.nr_commands.proofs.BlockTextFacts.{block_lines-unpicked, block_lines-unplanned, block_lines-planned}
 use Rattle.nr_commands.proofs.text.judge_block.Goals as goal
 
 pub returns-in_err-graph-clause-said : goal.returns-in_err-graph-clause-said
 returns-in_err-graph-clause-said c =
     let p = err_from_is_err_and c.from_residual.result c.from_residual.ensures.1 in
-    rw (p.1, p.2) (block_lines-unpicked _ _ _ c.args.octets.now _ refl c.in_err-graph.ensures)
+    rw (p.1, p.2) (block_lines-unpicked _ _ _ c.args.octets.now refl _ c.in_err-graph.ensures)
 
 pub returns-in_err-plan_for-clause-said : goal.returns-in_err-plan_for-clause-said
 returns-in_err-plan_for-clause-said c =
     let p = err_from_is_err_and c.from_residual-in_err-plan_for.result c.from_residual-in_err-plan_for.ensures.1 in
     let long : c.attached_len.result ≡ length (attached (bits_of c.args.octets.now)) = c.attached_len.ensures ∙ ap attached_length (sym (length-bits_of c.args.octets.now)) ∙ sym (c.attachment_lengthens.ensures.block (bits_of c.args.octets.now)) in
-    rw (p.1, p.2) (block_lines-unplanned _ _ _ _ c.args.octets.now _ _ refl c.in_ok-graph.ensures long c.in_err-plan_for.ensures.refused)
+    rw (p.1, p.2) (block_lines-unplanned _ _ _ c.args.octets.now refl _ _ _ c.in_ok-graph.ensures long c.in_err-plan_for.ensures.refused)
 
 pub returns-clause-said : goal.returns-clause-said
 returns-clause-said c =
     let plan = c.in_ok-plan_for.field-0 in
     let long : plan.b ≡ length (attached (bits_of c.args.octets.now)) = c.in_ok-plan_for.ensures.for_these.1 ∙ c.attached_len.ensures ∙ ap attached_length (sym (length-bits_of c.args.octets.now)) ∙ sym (c.attachment_lengthens.ensures.block (bits_of c.args.octets.now)) in
-    rw (block_lines-planned _ _ _ _ c.args.octets.now plan.graph (numbers plan) refl (ap Ok c.in_ok-plan_for.ensures.for_these.0 ∙ c.in_ok-graph.ensures) long plan.planned) refl
+    rw (block_lines-planned _ _ _ c.args.octets.now refl _ plan.graph (numbers plan) (ap Ok c.in_ok-plan_for.ensures.for_these.0 ∙ c.in_ok-graph.ensures) long plan.planned) refl

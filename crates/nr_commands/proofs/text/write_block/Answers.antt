@@ -3,31 +3,32 @@ use Rattle.std.proofs.lemmas.Result.{err_from_is_err_and}
 use Rattle.nr_bitvec.specs.BitList.{bits_of}
 use Rattle.nr_crcattach.specs.Attachment.{attached}
 use Rattle.nr_segment.specs.CodeBlock.{numbers}
-use Rattle.nr_commands.proofs.BlockTextFacts.{length-bits_of, block_lines-unpicked, block_lines-unplanned, block_lines-planned, block_none, judged-not}
+use Rattle.nr_bitvec.proofs.OctetListFacts.{length-bits_of}
+use Rattle.nr_commands.proofs.BlockTextFacts.{block_lines-planned, block_lines-some, block_lines-unpicked, block_lines-unplanned, judged-not, judged_none}
 use Rattle.nr_commands.proofs.CommandLemmas.{writes_said}
 use Rattle.nr_commands.proofs.text.write_block.Goals as goal
 
 pub returns-in_err-bits-clause-text : goal.returns-in_err-bits-clause-text
 returns-in_err-bits-clause-text g c =
     let p = err_from_is_err_and c.from_residual.result c.from_residual.ensures.1 in
-    block_none _ _ p.0 _ _ _ c.requires.judged p.1 p.2
+    judged_none _ _ p.0 _ c.requires.judged (block_lines-some _ _ _) p.1 p.2
 
 pub returns-in_err-graph : goal.returns-in_err-graph
 returns-in_err-graph g c =
     let size : c.len-a.result ≡ 8 * length c.args.octets.now = c.len-a.ensures.value ∙ ap length c.in_ok-bits.ensures ∙ length-bits_of c.args.octets.now in
-    absurd (judged-not _ _ c.requires.judged (block_lines-unpicked _ _ _ _ _ size c.in_err-graph.ensures))
+    absurd (judged-not _ _ c.requires.judged (block_lines-unpicked _ _ _ _ size _ c.in_err-graph.ensures))
 
 pub returns-in_err-attached-clause-text : goal.returns-in_err-attached-clause-text
 returns-in_err-attached-clause-text g c =
     let p = err_from_is_err_and c.from_residual-in_err-attached.result c.from_residual-in_err-attached.ensures.1 in
-    block_none _ _ p.0 _ _ _ c.requires.judged p.1 p.2
+    judged_none _ _ p.0 _ c.requires.judged (block_lines-some _ _ _) p.1 p.2
 
 pub returns-in_err-plan : goal.returns-in_err-plan
 returns-in_err-plan g c =
     let size : c.len-a.result ≡ 8 * length c.args.octets.now = c.len-a.ensures.value ∙ ap length c.in_ok-bits.ensures ∙ length-bits_of c.args.octets.now in
     let bits : c.in_ok-attached.attached.items ≡ attached (bits_of c.args.octets.now) = c.in_ok-attached.ensures ∙ ap attached c.in_ok-bits.ensures in
     let long : c.len.result ≡ length (attached (bits_of c.args.octets.now)) = c.len.ensures.value ∙ ap length bits in
-    absurd (judged-not _ _ c.requires.judged (block_lines-unplanned _ _ _ _ _ _ _ size c.in_ok-graph.ensures long c.in_err-plan.ensures.refused))
+    absurd (judged-not _ _ c.requires.judged (block_lines-unplanned _ _ _ _ size _ _ _ c.in_ok-graph.ensures long c.in_err-plan.ensures.refused))
 
 pub returns-clause-text : goal.returns-clause-text
 returns-clause-text g c =
@@ -35,4 +36,4 @@ returns-clause-text g c =
     let bits : c.in_ok-attached.attached.items ≡ attached (bits_of c.args.octets.now) = c.in_ok-attached.ensures ∙ ap attached c.in_ok-bits.ensures in
     let long : c.in_ok-plan.plan.b ≡ length (attached (bits_of c.args.octets.now)) = c.in_ok-plan.ensures.for_these.1 ∙ c.len.ensures.value ∙ ap length bits in
     let text = rw bits at c.write_planned.ensures.text in
-    writes_said _ _ c.write_planned.result _ _ (block_lines-planned _ _ _ _ _ c.in_ok-plan.plan.graph (numbers c.in_ok-plan.plan) size (ap Ok c.in_ok-plan.ensures.for_these.0 ∙ c.in_ok-graph.ensures) long c.in_ok-plan.plan.planned) text
+    writes_said _ _ c.write_planned.result _ _ (block_lines-planned _ _ _ _ size _ c.in_ok-plan.plan.graph (numbers c.in_ok-plan.plan) (ap Ok c.in_ok-plan.ensures.for_these.0 ∙ c.in_ok-graph.ensures) long c.in_ok-plan.plan.planned) text
