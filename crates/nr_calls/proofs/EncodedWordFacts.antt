@@ -1,19 +1,18 @@
 -- The word of K bits, and what refuses them.
 use Rattle.std.proofs.lemmas.Bool.Decides.{nat_tests}
-use Rattle.std.proofs.Common.{◌≡◌, ◌≢◌, ℕ, ◌-◌, ◌*◌, ◌<◌, ◌≤◌, ◌==◌, Bool, true, false, Option, Some, unwrap_or, Ok, Err, List, length, map, take, get_or, refl, sym, ap, ◌∙◌, arith, eq-eqb}
+use Rattle.std.proofs.Common.{◌≡◌, ◌≢◌, ℕ, ◌-◌, ◌*◌, ◌<◌, ◌≤◌, Bool, true, false, Option, Some, unwrap_or, Ok, Err, List, length, map, take, get_or, refl, sym, ◌∙◌, arith, eq-eqb}
 use Rattle.std.proofs.lemmas.Bool.{ne_eqb}
 use Rattle.std.proofs.lemmas.List.{ext_get_or, get_or-map, get_or-take, length-map, length-take-le}
 use Rattle.std.specs.List.{list_all}
 use Rattle.nr_bitvec.specs.Bit.{bit}
-use Rattle.nr_graphpick.specs.Graph.{cols_of, info_cols_of, rows_of}
+use Rattle.nr_graphpick.specs.Graph.{cols_of, info_cols_of}
 use Rattle.nr_graphpick.specs.declared.Graph.{Graph}
 use Rattle.nr_graphpick.specs.declared.Graph.TheVariants.{One, Two}
 use Rattle.nr_refusal.specs.Refusal.{◌>>=◌, or_fault}
 use Rattle.nr_lifting.specs.Sizes.{set_index}
 use Rattle.nr_segment.specs.Plan.{Numbers}
-use Rattle.nr_shifttable.specs.Accepted.{Entries, entries_in, has_graph}
+use Rattle.nr_shifttable.specs.Accepted.{Entries, has_graph}
 use Rattle.nr_ldpcenc.specs.Codeword.{completed}
-use Rattle.nr_ldpcenc.specs.Solving.{word_of}
 use Rattle.nr_blockdesk.specs.Link.{demanded}
 use Rattle.nr_transmission.specs.declared.fault.DeskFault.TheVariants as desk
 use Rattle.nr_calls.specs.Coding.{is_one}

@@ -1,8 +1,8 @@
 -- Which lifting sizes the code blocks of a base graph have.
 use Rattle.std.proofs.lemmas.Bool.Decides.{nat_tests}
-use Rattle.std.proofs.Common.{arith}
-use Rattle.std.proofs.Common.{◌≡◌, ℕ, ◌*◌, ◌==◌, ◌&&◌, ◌||◌, not, nat_le, nat_eq, Bool, true, false, Result, Ok, Err, List, [], ◌∷◌, refl, sym, ap, ◌∙◌, ◌≢◌}
-use Rattle.std.proofs.lemmas.Bool.{true≢false, eqb-true}
+use Rattle.std.proofs.Common.{inl, inr, arith}
+use Rattle.std.proofs.Common.{◌≡◌, ℕ, ◌*◌, ◌==◌, ◌||◌, not, nat_le, nat_eq, Bool, true, false, Result, Ok, Err, List, [], ◌∷◌, refl, sym, ◌∙◌}
+use Rattle.std.proofs.lemmas.Bool.{cases_Bool, eqb-true, true≢false}
 use Rattle.std.specs.List.{list_all}
 use Rattle.nr_graphpick.specs.declared.Graph.{Graph}
 use Rattle.nr_graphpick.specs.declared.Graph.TheVariants.{One, Two}
@@ -32,28 +32,12 @@ all_lift One = refl
 all_lift Two = refl
 
 -- a size that code blocks have is that of the plan
-pub lifted : (g : Graph) (z : ℕ) → can_lift g z ≡ true → has_size z (plan_of g (held_columns g z * z)) ≡ true
-lifted g z can = go (is_in z sizes) (nat_le 24 (info_columns g 24 * z)) refl can
-    (all_listed (lifts g) sizes z (all_lift g))
-  where
-    go : (a b : Bool) → is_in z sizes ≡ a → (a && b) ≡ true
-        → (is_in z sizes ≡ true → (not b || has_size z (plan_of g (held_columns g z * z))) ≡ true)
-        → has_size z (plan_of g (held_columns g z * z)) ≡ true
-    go true true is can found = found is
-    go true false is can found = absurd (true≢false (sym can))
-    go false b is can found = absurd (true≢false (sym can))
+lifted : (g : Graph) (z : ℕ) → can_lift g z ≡ true → has_size z (plan_of g (held_columns g z * z)) ≡ true
+lifted g z can = grind (arith, all_listed (lifts g) sizes z (all_lift g))
 
 -- where the plan has another size, or there is none, code blocks do not have the size
-pub other_size : (g : Graph) (z b : ℕ) (p : Numbers) → b ≡ held_columns g z * z → plan_of g b ≡ Ok p → p.z ≢ z → can_lift g z ≡ false
-other_size g z b p is planned other = go (can_lift g z) refl
-  where
-    go : (can : Bool) → can_lift g z ≡ can → can ≡ false
-    go true can = absurd (other (eqb-true p.z z (sym (ap (has_size z) (ap (plan_of g) (sym is) ∙ planned)) ∙ lifted g z can)))
-    go false can = refl
-
-pub no_plan : (g : Graph) (z b : ℕ) (e : SegFault) → b ≡ held_columns g z * z → plan_of g b ≡ Err e → can_lift g z ≡ false
-no_plan g z b e is refused = go (can_lift g z) refl
-  where
-    go : (can : Bool) → can_lift g z ≡ can → can ≡ false
-    go true can = absurd (true≢false (sym (lifted g z can) ∙ ap (has_size z) (ap (plan_of g) (sym is) ∙ refused)))
-    go false can = refl
+pub not_lifted : (g : Graph) (z b : ℕ) → b ≡ held_columns g z * z → has_size z (plan_of g b) ≡ false → can_lift g z ≡ false
+not_lifted g z b is other = elim (cases_Bool (can_lift g z)) [
+  | inl can ↦ absurd (true≢false (sym (lifted g z can) ∙ rw is at other))
+  | inr cannot ↦ cannot
+]

@@ -1,7 +1,7 @@
 -- The lowest eight bits of a word, lane by lane, and where they are put.
-use Rattle.std.proofs.Common.{◌≡◌, ℕ, zero, suc, ◌+◌, ◌-◌, ◌*◌, ◌/◌, ◌^◌, ◌<◌, ◌≤◌, nat_lt, Bool, true, false, if◌then◌else◌, List, [], ◌∷◌, length, get_or, bit_and, ap, sym, ◌∙◌, arith, refl}
+use Rattle.std.proofs.Common.{inl, inr, ◌≡◌, ℕ, zero, suc, ◌+◌, ◌-◌, ◌*◌, ◌/◌, ◌^◌, ◌<◌, ◌≤◌, nat_lt, if◌then◌else◌, List, [], ◌∷◌, length, get_or, bit_and, ap, sym, ◌∙◌, arith}
 use Rattle.std.specs.Int.{bit_at}
-use Rattle.std.proofs.lemmas.Bool.{le-ltb, ltb-false, ltb-true}
+use Rattle.std.proofs.lemmas.Bool.{cases_lt, le-ltb}
 use Rattle.std.proofs.lemmas.Nat.{shr-shr, pow_pos}
 use Rattle.std.proofs.lemmas.Nat.Bits.{and_pow, bit_at_and, bit_at_ones, bit_at-lt, shr_and_one}
 use Rattle.std.proofs.lemmas.Simd.{get_or-put_chunk_at, get_or-put_chunk_below}
@@ -45,16 +45,13 @@ bit_further word n k = sym (shr_and_one (word / 2 ^ n) k) ∙ ap (λ v. bit_and 
 -- eight octets more
 pub eight_more : (word rest i : ℕ) (out eight : List ℕ) → rest ≡ word / 2 ^ (8 * i) → length eight ≡ 8 → 8 * i + 8 ≤ length out → ((k : ℕ) → k < 8 → get_or eight k 0 ≡ bit_at rest k)
     → ((k : ℕ) → k < 8 * i → get_or out k 0 ≡ bit_at word k) → (k : ℕ) → k < 8 * (i + 1) → get_or (put_chunk (8 * i) out eight) k 0 ≡ bit_at word k
-eight_more word rest i out eight left long within each so_far k below = by (nat_lt k (8 * i)) refl
-  where
-    by : (b : Bool) → nat_lt k (8 * i) ≡ b → get_or (put_chunk (8 * i) out eight) k 0 ≡ bit_at word k
-    by true e =
-        let before : k < 8 * i = omega (arith, ltb-true k (8 * i) e) in
-        get_or-put_chunk_below (8 * i) out eight k 0 before ∙ so_far k before
-    by false e =
-        let j : ℕ = k - 8 * i in
-        let at : 8 * i + j ≡ k = omega (arith, ltb-false k (8 * i) e) in
-        let lt : j < 8 = omega (arith, ltb-false k (8 * i) e, below) in
-        ap (λ m. get_or (put_chunk (8 * i) out eight) m 0) (sym at)
-        ∙ get_or-put_chunk_at (8 * i) out eight j 0 (omega (arith, lt, long)) (omega (arith, within, long))
-        ∙ each j lt ∙ ap (λ v. bit_at v j) left ∙ bit_further word (8 * i) j ∙ ap (bit_at word) at
+eight_more word rest i out eight left long within each so_far k below = elim (cases_lt k (8 * i)) [
+  | inl before ↦ get_or-put_chunk_below (8 * i) out eight k 0 before ∙ so_far k before
+  | inr past ↦
+      let j : ℕ = k - 8 * i in
+      let place : 8 * i + j ≡ k = omega arith in
+      let lt : j < 8 = omega arith in
+      ap (λ m. get_or (put_chunk (8 * i) out eight) m 0) (sym place)
+      ∙ get_or-put_chunk_at (8 * i) out eight j 0 (omega (arith, lt, long)) (omega arith)
+      ∙ each j lt ∙ ap (λ v. bit_at v j) left ∙ bit_further word (8 * i) j ∙ ap (bit_at word) place
+]

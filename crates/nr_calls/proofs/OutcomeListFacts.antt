@@ -7,7 +7,7 @@ use Rattle.std.specs.List.{range_with_len}
 use Rattle.std.specs.Prelude.{Result, Ok, Err}
 use Rattle.nr_refusal.specs.Refusal.{◌>>=◌, with_fault}
 use Rattle.nr_harqbuf.specs.Record.{HeardBits}
-use Rattle.nr_blockdesk.specs.Explains.{Reception, reception_said}
+use Rattle.nr_blockdesk.specs.Explains.{Reception}
 use Rattle.nr_blockdesk.specs.Link.{Link}
 use Rattle.nr_blockdesk.specs.Outcome.{Verdict, left, outcome_of}
 use Rattle.nr_transmission.specs.declared.fault.DeskFault.{DeskFault}
@@ -40,7 +40,7 @@ outcomes_more link list x =
     ∙ ap (λ v. map g (range_with_len 0 n) ++ v ∷ []) last
 
 -- a step that is not refused returns what follows it
-answered : (said : Result (List ℕ) DeskFault) (w v : Verdict) → (with_fault fault.Desk said >>= λ _. Ok w) ≡ Ok v → w ≡ v
+pub answered : (said : Result (List ℕ) DeskFault) (w v : Verdict) → (with_fault fault.Desk said >>= λ _. Ok w) ≡ Ok v → w ≡ v
 answered (Ok lengths) w v is = cc
 answered (Err e) w v is = cc
 
@@ -53,8 +53,4 @@ outcomes_after link list x v old new said before pushed = grind (arith, answered
 -- one more code block adds what is left of it
 pub lefts_more : (link : Link) (records : List HeardBits) (r n : ℕ) (old new : List ℕ) → old ≡ map (left link records) (range_with_len 0 r)
     → new ≡ old ++ n ∷ [] → n ≡ left link records r → new ≡ map (left link records) (range_with_len 0 (r + 1))
-lefts_more link records r n old new before pushed is =
-    pushed
-    ∙ ap (λ l. l ++ n ∷ []) before
-    ∙ ap (λ v. map (left link records) (range_with_len 0 r) ++ v ∷ []) is
-    ∙ sym (map-range_with_len_more (left link records) 0 r r (omega arith))
+lefts_more link records r n old new before pushed is = rw (pushed, before, is) (sym (map-range_with_len_more (left link records) 0 r r (omega arith)))

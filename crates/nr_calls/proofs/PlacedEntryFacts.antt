@@ -1,6 +1,6 @@
 -- Entries of a caller and the items that they are: which ones are placed, and which table they are.
 use Rattle.std.proofs.lemmas.Bool.Decides.{nat_tests}
-use Rattle.std.proofs.Common.{◌≡◌, ◌≢◌, ◌⊎◌, inl, inr, refl, sym, ap, ◌∙◌, ℕ, ◌+◌, ◌≤◌, set, below_more, get_or-set_other, get_or-set_same, nat_lt, Bool, true, false, not, if◌then◌else◌, Some, None, Result, Ok, Err, List, [], ◌∷◌, length, map, length-append, is_ok, get_or, ◌<◌, arith}
+use Rattle.std.proofs.Common.{◌≡◌, ◌⊎◌, inl, inr, refl, sym, ap, ◌∙◌, ℕ, ◌+◌, ◌≤◌, set, below_more, get_or-set_other, get_or-set_same, Bool, true, false, not, if◌then◌else◌, Some, None, Result, Ok, Err, List, [], ◌∷◌, length, map, length-append, is_ok, get_or, ◌<◌, arith}
 use Rattle.std.specs.Prelude.{IfErr, IsErrOf, slice_get}
 use Rattle.std.proofs.lemmas.List.{length-map, get_or-map}
 use Rattle.std.proofs.lemmas.Option.{slice_get-get_or}
@@ -11,7 +11,7 @@ use Rattle.nr_shifttable.specs.declared.fault.EntriesFault.{EntriesFault}
 use Rattle.nr_shifttable.specs.declared.fault.EntriesFault.TheVariants as kept
 use Rattle.nr_shifttable.specs.Accepted.{Entries, IsTable}
 use Rattle.nr_shifttable.proofs.EntryOrderFacts.{entries-few}
-use Rattle.nr_shifttable.specs.Listed.{entries_said, is_placed, item_key, item_kept, items_listed, kept_of, places_from, places_said}
+use Rattle.nr_shifttable.specs.Listed.{entries_said, item_key, item_kept, items_listed, kept_of, places_from, places_said}
 use Rattle.nr_calls.specs.Entries.{are_placed, fault_of, table_by}
 use Rattle.nr_shifttable.specs.declared.entry.KeptEntry.{KeptEntry}
 use Rattle.nr_calls.specs.declared.fault.Fault.{Fault}

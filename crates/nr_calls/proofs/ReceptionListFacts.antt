@@ -1,24 +1,25 @@
 -- What was received so far of a list of transmissions, and what is said of all of them.
 use Rattle.std.proofs.lemmas.Bool.Decides.{nat_tests}
-use Rattle.std.proofs.Common.{◌≡◌, ◌≢◌, ◌⊎◌, inl, inr, refl, sym, ap, subst, ◌∙◌, ℕ, ◌+◌, ◌<◌, ◌≤◌, nat_le, Bool, true, false, Result, Ok, Err, List, [], ◌∷◌, ◌++◌, length, drop, take, arith, length-append}
+use Rattle.std.proofs.Common.{◌≡◌, ◌≢◌, ◌⊎◌, inl, inr, refl, sym, ◌∙◌, ℕ, ◌+◌, ◌<◌, ◌≤◌, Bool, true, false, Result, Ok, Err, List, [], ◌∷◌, ◌++◌, length, drop, arith, length-append}
 use Rattle.std.proofs.lemmas.Bool.{le-leb, lt-leb}
 use Rattle.std.proofs.lemmas.List.FromFn.{length-map-range_with_len}
 use Rattle.nr_refusal.specs.Refusal.{◌>>=◌, Gives, with_fault}
 use Rattle.nr_harqbuf.specs.Record.{HeardBits}
 use Rattle.nr_blockdesk.specs.Explains.{Reception, reception_said}
-use Rattle.nr_blockdesk.specs.Heard.{IsRecordOf, heard_record}
+use Rattle.nr_blockdesk.specs.Heard.{IsRecordOf}
 use Rattle.nr_blockdesk.specs.Link.{IsLink, Link, demanded}
 use Rattle.nr_blockdesk.specs.Outcome.{Verdict, outcome_of}
 use Rattle.nr_blockdesk.specs.ReceiverLaws.{DeliveredIsOnly}
 use Rattle.nr_transmission.specs.declared.fault.DeskFault.{DeskFault}
 use Rattle.nr_transmission.specs.declared.fault.DeskFault.TheVariants as desk
-use Rattle.nr_calls.specs.Findings.{Findings, lefts, outcome_number, outcomes_of}
+use Rattle.nr_calls.specs.Findings.{Findings, lefts, outcomes_of}
 use Rattle.nr_calls.specs.Inside.{IsLastBlock, findings_of, one_more_said}
 use Rattle.nr_calls.specs.Receiving.{arrival, heard_said}
 use Rattle.nr_calls.specs.declared.crossing.NrTx.{NrTx}
 use Rattle.nr_calls.specs.declared.fault.Fault.{Fault}
 use Rattle.nr_calls.specs.declared.fault.Fault.TheVariants as fault
 use Rattle.nr_calls.specs.declared.findings.Found.{Found}
+use Rattle.nr_calls.proofs.OutcomeListFacts.{answered}
 
 -- Some of n transmissions were received, and these are their record, the outcomes after each, and the last one. What is
 -- said of all is said of them and the transmissions ts that are left.
@@ -53,87 +54,60 @@ step-short : (fits : Bool) (rest : Result Findings Fault) → fits ≡ false
 step-short false rest is = refl
 step-short true rest is = cc
 
--- the outcome that is returned is that of the longer list
-told : (said : Result (List ℕ) DeskFault) (w v : Verdict) → (with_fault fault.Desk said >>= λ _. Ok w) ≡ Ok v → v ≡ w
-told (Ok l) w v is = cc
-told (Err e) w v is = cc
+module _ (link : Link) (records : List HeardBits) (outcomes : List ℕ) (last : Verdict) (n : ℕ) (said : Result Findings Fault) where
+  -- what is left begins with the next transmission
+  split : (all : List NrTx) (t : NrTx) (ts : List NrTx) (octets : List ℕ) → HasHeard link records outcomes last n said all octets → all ≡ t ∷ ts → HasHeard link records outcomes last n said (t ∷ ts) octets
+  split all t ts octets h is = rw is at h
 
--- what is left begins with the next transmission
-split : (link : Link) (records : List HeardBits) (outcomes : List ℕ) (last : Verdict) (n : ℕ) (said : Result Findings Fault) (all : List NrTx)
-    (t : NrTx) (ts : List NrTx) (octets : List ℕ) → HasHeard link records outcomes last n said all octets → all ≡ t ∷ ts
-    → HasHeard link records outcomes last n said (t ∷ ts) octets
-split link records outcomes last n said all t ts octets h is = subst (λ (l : List NrTx). HasHeard link records outcomes last n said l octets) is h
+  -- one more was received
+  more-heard : (later : List HeardBits) (more : List ℕ) (next : Verdict) (t : NrTx) (ts : List NrTx) (octets : List ℕ) → HasHeard link records outcomes last n said (t ∷ ts) octets → t.g ≤ length octets
+      → ((list : List Reception) → IsRecordOf link list records → IsRecordOf link (list ++ arrival t octets ∷ []) later)
+      → ((list : List Reception) → IsRecordOf link list records → one_more_said link list (arrival t octets) ≡ Ok next)
+      → ((list : List Reception) → IsRecordOf link list records → outcomes ≡ outcomes_of link list → more ≡ outcomes_of link (list ++ arrival t octets ∷ []))
+      → HasHeard link later more next n said ts (drop t.g octets)
+  unfolding heard_said
+  more-heard later more next t ts octets h fits recorded told-next outcomes-more = grind (arith, nat_tests, answered, length-append, step-ok, le-leb)
 
--- one more was received
-more-heard : (link : Link) (records later : List HeardBits) (outcomes more : List ℕ) (last next : Verdict) (n : ℕ) (said : Result Findings Fault)
-    (t : NrTx) (ts : List NrTx) (octets : List ℕ) → HasHeard link records outcomes last n said (t ∷ ts) octets → t.g ≤ length octets
-    → ((list : List Reception) → IsRecordOf link list records → IsRecordOf link (list ++ arrival t octets ∷ []) later)
-    → ((list : List Reception) → IsRecordOf link list records → one_more_said link list (arrival t octets) ≡ Ok next)
-    → ((list : List Reception) → IsRecordOf link list records → outcomes ≡ outcomes_of link list
-    → more ≡ outcomes_of link (list ++ arrival t octets ∷ []))
-    → HasHeard link later more next n said ts (drop t.g octets)
-unfolding heard_said
-more-heard link records later outcomes more last next n said t ts octets h fits recorded told-next outcomes-more = grind (arith, nat_tests, told, length-append, step-ok, le-leb)
+  -- what a call says of all, with one transmission more received
+  pub heard-more : (new : Link) (later : List HeardBits) (more : List ℕ) (next : Verdict) (all : List NrTx) (t : NrTx) (ts : List NrTx) (octets behind : List ℕ) (x : Reception) → HasHeard link records outcomes last n said all octets → t.g ≤ length octets
+      → ((list : List Reception) → IsRecordOf link list records → IsRecordOf link (list ++ x ∷ []) later)
+      → ((list : List Reception) → IsRecordOf link list records → one_more_said link list x ≡ Ok next)
+      → ((list : List Reception) → IsRecordOf link list records → outcomes ≡ outcomes_of link list → more ≡ outcomes_of link (list ++ x ∷ []))
+      → new ≡ link → all ≡ t ∷ ts → x ≡ arrival t octets → behind ≡ drop t.g octets → HasHeard new later more next n said ts behind
+  heard-more new later more next all t ts octets behind x h fits recorded told-next outcomes-more one is arrives rest =
+      rw (one, rest) (more-heard later more next t ts octets (split all t ts octets h is) fits (rw arrives at recorded) (rw arrives at told-next) (rw arrives at outcomes-more))
 
--- what a call says of all, with one transmission more received
-pub heard-more : (new link : Link) (records later : List HeardBits) (outcomes more : List ℕ) (last next : Verdict) (n : ℕ) (said : Result Findings Fault)
-    (all : List NrTx) (t : NrTx) (ts : List NrTx) (octets behind : List ℕ) (x : Reception) → HasHeard link records outcomes last n said all octets
-    → t.g ≤ length octets
-    → ((list : List Reception) → IsRecordOf link list records → IsRecordOf link (list ++ x ∷ []) later)
-    → ((list : List Reception) → IsRecordOf link list records → one_more_said link list x ≡ Ok next)
-    → ((list : List Reception) → IsRecordOf link list records → outcomes ≡ outcomes_of link list → more ≡ outcomes_of link (list ++ x ∷ []))
-    → new ≡ link → all ≡ t ∷ ts → x ≡ arrival t octets → behind ≡ drop t.g octets → HasHeard new later more next n said ts behind
-heard-more new link records later outcomes more last next n said all t ts octets behind x h fits recorded told-next outcomes-more one is arrives rest =
-    subst (λ (k : Link). HasHeard k later more next n said ts behind) (sym one)
-    (subst (λ (o : List ℕ). HasHeard link later more next n said ts o) (sym rest)
-    (more-heard link records later outcomes more last next n said t ts octets (split link records outcomes last n said all t ts octets h is) fits
-    (subst (λ (y : Reception). (list : List Reception) → IsRecordOf link list records → IsRecordOf link (list ++ y ∷ []) later) arrives recorded)
-    (subst (λ (y : Reception). (list : List Reception) → IsRecordOf link list records → one_more_said link list y ≡ Ok next) arrives told-next)
-    (subst (λ (y : Reception). (list : List Reception) → IsRecordOf link list records → outcomes ≡ outcomes_of link list → more ≡ outcomes_of link (list ++ y ∷ [])) arrives outcomes-more)))
+  -- the next one is refused
+  pub heard-err : (all : List NrTx) (t : NrTx) (ts : List NrTx) (octets : List ℕ) (x : Reception) (e : Fault) (r : Result Found Fault) → HasHeard link records outcomes last n said all octets → t.g ≤ length octets
+      → ((e ≡ fault.Memory) ⊎ (with_fault {X = List ℕ} fault.Desk (reception_said link x) ≡ Err e)) → r ≡ Err e → all ≡ t ∷ ts → x ≡ arrival t octets → Gives fault.Memory findings_of r said
+  unfolding heard_said
+  heard-err all t ts octets x e r h fits (inl memory) answer is arrives = grind arith
+  heard-err all t ts octets x e r h fits (inr refused) answer is arrives = grind (arith, nat_tests, split, step-err, le-leb)
 
--- the next one is refused
-pub heard-err : (link : Link) (records : List HeardBits) (outcomes : List ℕ) (last : Verdict) (n : ℕ) (said : Result Findings Fault)
-    (all : List NrTx) (t : NrTx) (ts : List NrTx) (octets : List ℕ) (x : Reception) (e : Fault) (r : Result Found Fault)
-    → HasHeard link records outcomes last n said all octets → t.g ≤ length octets
-    → ((e ≡ fault.Memory) ⊎ (with_fault {X = List ℕ} fault.Desk (reception_said link x) ≡ Err e)) → r ≡ Err e
-    → all ≡ t ∷ ts → x ≡ arrival t octets → Gives fault.Memory findings_of r said
-unfolding heard_said
-heard-err link records outcomes last n said all t ts octets x e r h fits (inl memory) answer is arrives = grind arith
-heard-err link records outcomes last n said all t ts octets x e r h fits (inr refused) answer is arrives = grind (arith, nat_tests, split, step-err, le-leb)
+  -- the next one lacks places
+  pub heard-short : (all : List NrTx) (t : NrTx) (ts : List NrTx) (octets : List ℕ) → HasHeard link records outcomes last n said all octets → length octets < t.g → all ≡ t ∷ ts → said ≡ Err (fault.Desk desk.Length)
+  unfolding heard_said
+  heard-short all t ts octets h short is = grind (arith, nat_tests, split, step-short, lt-leb)
 
--- the next one lacks places
-pub heard-short : (link : Link) (records : List HeardBits) (outcomes : List ℕ) (last : Verdict) (n : ℕ) (said : Result Findings Fault)
-    (all : List NrTx) (t : NrTx) (ts : List NrTx) (octets : List ℕ) → HasHeard link records outcomes last n said all octets → length octets < t.g
-    → all ≡ t ∷ ts → said ≡ Err (fault.Desk desk.Length)
-unfolding heard_said
-heard-short link records outcomes last n said all t ts octets h short is = grind (arith, nat_tests, split, step-short, lt-leb)
+  -- places are left over
+  pub heard-over : (ts : List NrTx) (octets : List ℕ) → HasHeard link records outcomes last n said ts octets → length ts ≡ 0 → length octets ≢ 0 → said ≡ Err (fault.Desk desk.Length)
+  unfolding heard_said
+  heard-over [] (o ∷ octets) h none some = h.said_is
+  heard-over [] [] h none some = absurd (some refl)
+  heard-over (t ∷ ts) octets h none some = absurd (omega (arith, none))
 
--- places are left over
-pub heard-over : (link : Link) (records : List HeardBits) (outcomes : List ℕ) (last : Verdict) (n : ℕ) (said : Result Findings Fault)
-    (ts : List NrTx) (octets : List ℕ) → HasHeard link records outcomes last n said ts octets → length ts ≡ 0 → length octets ≢ 0
-    → said ≡ Err (fault.Desk desk.Length)
-unfolding heard_said
-heard-over link records outcomes last n said [] (o ∷ octets) h none some = h.said_is
-heard-over link records outcomes last n said [] [] h none some = absurd (some refl)
-heard-over link records outcomes last n said (t ∷ ts) octets h none some = absurd (omega (arith, none))
+  -- all were received
+  pub heard-all : (left : List ℕ) (ts : List NrTx) (octets : List ℕ) → HasHeard link records outcomes last n said ts octets → length ts ≡ 0 → length octets ≡ 0
+      → left ≡ lefts link records → said ≡ Ok (record { outcomes = outcomes; left = left; last = last })
+  unfolding heard_said
+  heard-all left [] [] h none whole is = grind arith
+  heard-all left [] (o ∷ octets) h none whole is = absurd (omega (arith, whole))
+  heard-all left (t ∷ ts) octets h none whole is = absurd (omega (arith, none))
 
--- all were received
-pub heard-all : (link : Link) (records : List HeardBits) (outcomes left : List ℕ) (last : Verdict) (n : ℕ) (said : Result Findings Fault)
-    (ts : List NrTx) (octets : List ℕ) → HasHeard link records outcomes last n said ts octets → length ts ≡ 0 → length octets ≡ 0
-    → left ≡ lefts link records → said ≡ Ok (record { outcomes = outcomes; left = left; last = last })
-unfolding heard_said
-heard-all link records outcomes left last n said [] [] h none whole is = grind arith
-heard-all link records outcomes left last n said [] (o ∷ octets) h none whole is = absurd (omega (arith, whole))
-heard-all link records outcomes left last n said (t ∷ ts) octets h none whole is = absurd (omega (arith, none))
+  -- an outcome for each transmission
+  pub heard-many : (ts : List NrTx) (octets : List ℕ) → HasHeard link records outcomes last n said ts octets → length ts ≡ 0 → length outcomes ≡ n
+  heard-many ts octets h none = grind (arith, length-map-range_with_len)
 
--- an outcome for each transmission
-pub heard-many : (link : Link) (records : List HeardBits) (outcomes : List ℕ) (last : Verdict) (n : ℕ) (said : Result Findings Fault)
-    (ts : List NrTx) (octets : List ℕ) → HasHeard link records outcomes last n said ts octets → length ts ≡ 0 → length outcomes ≡ n
-heard-many link records outcomes last n said ts octets h none = grind (arith, length-map-range_with_len)
-
--- a block that is delivered has the link's bits
-pub heard-block : (link : Link) (records : List HeardBits) (outcomes : List ℕ) (last : Verdict) (n : ℕ) (said : Result Findings Fault)
-    (ts : List NrTx) (octets : List ℕ) → DeliveredIsOnly → IsLink link → HasHeard link records outcomes last n said ts octets
-    → IsLastBlock link.a last
-heard-block link records outcomes last n said ts octets only sound h block is =
-    (only link h.list block sound h.recorded.accepted (sym h.last_is ∙ is)).is_block
+  -- a block that is delivered has the link's bits
+  pub heard-block : (ts : List NrTx) (octets : List ℕ) → DeliveredIsOnly → IsLink link → HasHeard link records outcomes last n said ts octets → IsLastBlock link.a last
+  heard-block ts octets only sound h block is = (only link h.list block sound h.recorded.accepted (sym h.last_is ∙ is)).is_block

@@ -1,4 +1,4 @@
-use Rattle.std.proofs.Common.{◌≡◌, ◌*◌, sym, ap, ◌∙◌, arith, length}
+use Rattle.std.proofs.Common.{sym, ap, ◌∙◌, arith, length}
 use Rattle.nr_bitvec.proofs.OctetListFacts.{length-bits_of}
 use Rattle.nr_crcattach.specs.Attachment.{attached_length}
 use Rattle.nr_segment.specs.CodeBlock.{numbers}

@@ -1,8 +1,5 @@
-use Rattle.std.proofs.Common.{◌≡◌, ◌≢◌, ◌≤◌, ◌<◌, ap, ◌∙◌, arith, below_more, get_or, get_or-set_other, get_or-set_same, false, length, map}
+use Rattle.std.proofs.Common.{◌≡◌, ◌≢◌, ◌<◌, ap, ◌∙◌, arith, below_more, get_or, get_or-set_other, get_or-set_same, false, length}
 use Rattle.std.proofs.Math.ListN.{length-set}
-use Rattle.nr_ldpcenc.specs.Codeword.{completed}
-use Rattle.nr_segment.specs.CodeBlock.{numbers}
-use Rattle.nr_calls.specs.Coding.{is_one}
 use Rattle.nr_calls.proofs.EncodedWordFacts.{begins, info_most, info_within, word-for}
 use Rattle.nr_calls.proofs.encoding.word_on.Goals as goal
 

@@ -1,5 +1,5 @@
 use Rattle.std.proofs.Common.{arith}
-use Rattle.std.proofs.Common.{◌∙◌, ap, Ok, Err}
+use Rattle.std.proofs.Common.{Ok}
 use Rattle.nr_calls.proofs.PlacedEntryFacts.{answered, misplaced, refused}
 use Rattle.nr_calls.proofs.entries.table_by.Goals as goal
 

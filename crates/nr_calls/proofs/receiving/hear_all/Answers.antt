@@ -1,9 +1,8 @@
 use Rattle.std.proofs.Common.{arith}
-use Rattle.std.proofs.Common.{◌≡◌, ◌≢◌, inr, rules, Err, sym, ap, ◌∙◌, subst, length}
+use Rattle.std.proofs.Common.{inr, rules, Err, sym, ap, ◌∙◌, subst}
 use Rattle.std.proofs.lemmas.List.FromFn.{length-map-range_with_len}
 use Rattle.std.proofs.lemmas.Result.{err_from_is_err_and}
 use Rattle.nr_blockdesk.specs.Link.{IsLink, Link}
-use Rattle.nr_blockdesk.specs.Outcome.{left}
 use Rattle.nr_calls.proofs.ReceptionListFacts.{heard-all, heard-block, heard-err, heard-many, heard-more, heard-over, heard-short}
 use Rattle.nr_calls.proofs.receiving.hear_all.Goals as goal
 
@@ -20,27 +19,19 @@ returns-in_err-last-clause-said c =
 pub loop-tx-preserved : goal.loop-tx-preserved
 loop-tx-preserved c = record {
   link = c.in_ok-last.ensures.link ∙ c.loop-tx.invariant.link;
-  has = heard-more c.hear_next.new.receiver.link c.loop-tx.receiver.link _ _ _ _ _ _ _ _ _ c.in-Some.tx.now c.in-Some.rest.now c.loop-tx.places.now _ _
+  has = heard-more c.loop-tx.receiver.link _ _ _ _ _ c.hear_next.new.receiver.link _ _ _ _ c.in-Some.tx.now c.in-Some.rest.now c.loop-tx.places.now _ _
       c.loop-tx.invariant.has c.if-places-g.false c.in_ok-last.ensures.heard c.in_ok-last.ensures.outcome c.in_ok-last.ensures.outcomes
       c.in_ok-last.ensures.link c.in-Some.ensures.cases.0 (cc) (cc);
 }
 
 pub returns-then-not-is_empty-clause-said : goal.returns-then-not-is_empty-clause-said
-returns-then-not-is_empty-clause-said c =
-    let none : length c.loop-tx.later.now ≡ 0 = search rules in
-    let some : length c.loop-tx.places.now ≢ 0 = search rules in
-    inr (heard-over _ _ _ _ _ _ _ c.loop-tx.places.now c.loop-tx.invariant.has none some)
+returns-then-not-is_empty-clause-said c = inr (heard-over _ _ _ _ _ _ _ c.loop-tx.places.now c.loop-tx.invariant.has (search rules) (search rules))
 
 pub returns-clause-said : goal.returns-clause-said
-returns-clause-said c =
-    let none : length c.loop-tx.later.now ≡ 0 = search rules in
-    let whole : length c.loop-tx.places.now ≡ 0 = search rules in
-    heard-all _ _ _ _ _ _ _ _ c.loop-tx.places.now c.loop-tx.invariant.has none whole c.in_ok-left.ensures
+returns-clause-said c = heard-all _ _ _ _ _ _ _ _ c.loop-tx.places.now c.loop-tx.invariant.has (search rules) (search rules) c.in_ok-left.ensures
 
 pub returns-clause-outcomes : goal.returns-clause-outcomes
-returns-clause-outcomes c =
-    let none : length c.loop-tx.later.now ≡ 0 = search rules in
-    heard-many _ _ _ _ _ _ _ _ c.loop-tx.invariant.has none
+returns-clause-outcomes c = heard-many _ _ _ _ _ _ _ _ c.loop-tx.invariant.has (search rules)
 
 pub returns-clause-left : goal.returns-clause-left
 returns-clause-left c = grind (arith, length-map-range_with_len)

@@ -1,7 +1,4 @@
 use Rattle.std.proofs.Common.{arith}
-use Rattle.std.proofs.Common.{ap, ◌∙◌, Ok}
-use Rattle.nr_shifttable.specs.Listed.{kept_listed}
-use Rattle.nr_calls.specs.Entries.{table_by}
 use Rattle.nr_calls.proofs.PlacedEntryFacts.{answered}
 use Rattle.nr_calls.proofs.table.list_of.Goals as goal
 

@@ -1,4 +1,4 @@
-use Rattle.std.proofs.Common.{◌≡◌, ◌≤◌, ◌<◌, sym, ◌∙◌, length, arith}
+use Rattle.std.proofs.Common.{◌≡◌, ◌<◌, sym, ◌∙◌, length, arith}
 use Rattle.std.proofs.lemmas.List.{ext_get_or, length-map}
 use Rattle.nr_shifttable.specs.Listed.{items_listed, kept_listed, kept_of}
 use Rattle.nr_calls.proofs.PlacedEntryFacts.{listed-few, no_entry, some-within, written-more}
