@@ -1,6 +1,7 @@
 -- Bits that are put behind the places of packed words.
+use Rattle.std.proofs.lemmas.Grind.{common_steps}
 use Rattle.std.proofs.lemmas.Bool.Decides.{nat_tests}
-use Rattle.std.proofs.Common.{◌≡◌, ℕ, ◌+◌, ◌-◌, ◌*◌, ◌/◌, ◌%◌, ◌^◌, ◌<◌, ◌≤◌, List, [], ◌∷◌, ◌++◌, length, get_or, set, ap, sym, ◌∙◌, arith, length-set}
+use Rattle.std.proofs.Common.{◌≡◌, ℕ, ◌+◌, ◌-◌, ◌*◌, ◌/◌, ◌%◌, ◌^◌, ◌<◌, ◌≤◌, List, [], ◌∷◌, ◌++◌, length, get_or, set, sym, ◌∙◌, arith, length-set}
 use Rattle.std.proofs.lemmas.Bool.{cases_lt}
 use Rattle.std.proofs.lemmas.List.{length_push}
 use Rattle.std.proofs.lemmas.Nat.Bits.{bit_at-lt}
@@ -38,11 +39,4 @@ module _ (n count bits : ℕ) (ws : List ℕ) (packed : IsPacked n ws) (few : co
   grows-last inside = grind (arith, nat_tests, long, mid-before, cases_lt, mid-within, place_past)
 
   pub grows-both : (new : List ℕ) → new ≡ mid ++ bits / 2 ^ (64 - n % 64) ∷ [] → 64 < n % 64 + count → Grows n count bits ws new
-  grows-both new e past =
-      let longer : length new ≡ length mid + 1 = ap length e ∙ length_push mid (bits / 2 ^ (64 - n % 64)) in
-      record {
-        above = omega (arith, long, longer, past);
-        below = omega (arith, long, longer, few);
-        before = λ t h. ap (λ vs. place vs t) e ∙ place-push_old mid (bits / 2 ^ (64 - n % 64)) t (omega (arith, h, long)) ∙ mid-before t h;
-        within = pushed-within n bits (64 - n % 64) (bits / 2 ^ (64 - n % 64)) mid new e (omega (arith, long)) (bit_at_shr bits (64 - n % 64)) (λ j h. high j (omega (arith, h, few))) mid-within;
-      }
+  grows-both new e past = grind (arith, common_steps, nat_tests, length_push, long, place-push_old, mid-before, pushed-within, bit_at_shr, mid-within)

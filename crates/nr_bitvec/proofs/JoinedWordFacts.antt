@@ -1,6 +1,7 @@
 -- Words that are added after the places of others.
+use Rattle.std.proofs.lemmas.Grind.{common_steps}
 use Rattle.std.proofs.lemmas.Bool.Decides.{nat_tests}
-use Rattle.std.proofs.Common.{◌≡◌, ℕ, ◌+◌, ◌-◌, ◌*◌, ◌/◌, ◌%◌, ◌^◌, ◌<◌, ◌≤◌, ◌==◌, inl, inr, min, false, List, length, get_or, replicate, refl, ap, sym, ◌∙◌, arith}
+use Rattle.std.proofs.Common.{◌≡◌, ℕ, ◌+◌, ◌-◌, ◌*◌, ◌/◌, ◌%◌, ◌^◌, ◌<◌, ◌≤◌, inl, inr, min, false, List, length, get_or, replicate, refl, ap, sym, ◌∙◌, arith}
 use Rattle.std.proofs.lemmas.Bool.{cases_lt}
 use Rattle.std.proofs.lemmas.List.{get_or_past, get_or-replicate, length-replicate}
 use Rattle.std.proofs.lemmas.Nat.Bits.{bit_at-zero, bit_at_above}
@@ -47,7 +48,7 @@ joins-fit n old vs new i w j joins read fits none h =
 -- ---- lists of bits, one after another
 
 -- an element of a list of zeros, past the end too
-zeros : (n i : ℕ) → get_or {A = ℕ} (replicate n 0) i 0 ≡ 0
+pub zeros : (n i : ℕ) → get_or {A = ℕ} (replicate n 0) i 0 ≡ 0
 zeros n i = grind (arith, nat_tests, cases_lt, get_or-replicate, get_or_past, length-replicate)
 
 -- words of zeros, as many as n places need, and the list of n zero bits in them
@@ -58,6 +59,4 @@ pub zeros-packed : (n count : ℕ) (ws : List ℕ) → n ≤ 2 ^ 24 → count �
 zeros-packed n count ws short e made = grind (arith, length-replicate, place-zeros)
 
 pub zeros-items : (n count : ℕ) (ws : List ℕ) → ws ≡ replicate count 0 → unpacked n ws ≡ replicate n false
-zeros-items n count ws made =
-    unpacked-is n ws (replicate n false) (length-replicate n false)
-    (λ t h. ap (λ vs. place vs t == 1) made ∙ ap (λ k. k == 1) (place-zeros count t) ∙ sym (get_or-replicate n t false false h))
+zeros-items n count ws made = grind (arith, common_steps, nat_tests, unpacked-is, length-replicate, place-zeros, get_or-replicate)

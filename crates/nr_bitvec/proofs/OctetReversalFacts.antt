@@ -1,15 +1,16 @@
 -- Words whose octets are turned over, and words of octets.
 use Rattle.std.proofs.lemmas.Bool.Decides.{nat_tests}
-use Rattle.std.proofs.Common.{◌≡◌, ℕ, ◌+◌, ◌-◌, ◌*◌, ◌/◌, ◌%◌, ◌^◌, ◌<◌, ◌≤◌, ◌==◌, inl, inr, if◌then◌else◌, Bool, true, false, ◌&&◌, ◌||◌, nat_lt, nat_le, min, max, List, length, get_or, refl, ap, sym, ◌∙◌, arith}
+use Rattle.std.proofs.Common.{◌≡◌, ℕ, ◌+◌, ◌-◌, ◌*◌, ◌/◌, ◌%◌, ◌^◌, ◌<◌, ◌≤◌, ◌==◌, if◌then◌else◌, Bool, true, false, ◌&&◌, ◌||◌, nat_lt, nat_le, min, max, List, length, get_or, ◌++◌, drop, replicate, get_or-drop, length-append, length-drop, refl, ap, sym, ◌∙◌, arith}
 use Rattle.std.proofs.lemmas.Bool.{cases_lt, and_parts, or_cases, ltb-true, leb-true, eqb-true, agree_below, agree_below_at}
-use Rattle.std.proofs.lemmas.List.{get_or_past}
-use Rattle.std.proofs.lemmas.Nat.Bits.{bit_at-lt, bit_at-zero, bit_at_above, bit_at_and, bit_at_or}
+use Rattle.std.proofs.lemmas.List.{get_or_past, get_or_append_left, get_or-append_right}
+use Rattle.std.proofs.lemmas.Nat.Bits.{bit_at-lt, bit_at_and, bit_at_or}
 use Rattle.std.proofs.lemmas.Nat.{be_bytes_8, le_bytes_8}
 use Rattle.std.specs.Int.{bit_at, from_le_bytes, swap_bytes, to_le_bytes, w64}
 use Rattle.std.specs.Int.RustNames.{bit_and, bit_or}
 use Rattle.nr_bitvec.specs.PackedInside.{moved, octet_place}
-use Rattle.nr_bitvec.proofs.BitFacts.{bit_at_shr, bit_at_shl_low, bit_at_shl_high, bit_at_mod, bit_at_mod_above}
+use Rattle.nr_bitvec.proofs.BitFacts.{bit_at_shr}
 use Rattle.nr_bitvec.proofs.AddedBitFacts.{moved_below, moved_from, moved_up}
+use Rattle.nr_bitvec.proofs.JoinedWordFacts.{zeros}
 use Rattle.nr_bitvec.proofs.PushedWordFacts.{be-octet, le-octet, octet-bit, small-octet}
 
 -- ---- runs of places, swapped
@@ -81,58 +82,22 @@ reversed-place w o r swaps turns j h =
     let there : 8 * k + (7 - j % 8) ≡ 63 - j = omega (arith, h) in
     turns j h ∙ ap (bit_at o) here ∙ sym (octet-bit o (7 - k) (7 - j % 8) low) ∙ ap (λ b. bit_at b (7 - j % 8)) octet ∙ octet-bit w k (7 - j % 8) low ∙ ap (bit_at w) there
 
--- ---- one octet after another makes a word
+-- ---- a word of octets
 
--- the first i octets stand in the word, each with its lowest bit lowest, and nothing above them
-pub record Gathers (group : List ℕ) (word i : ℕ) : Type 0 where
-  pub below : (j : ℕ) → j < 8 * i → bit_at word j ≡ bit_at (get_or group (j / 8) 0) (j % 8)
-  pub above : (j : ℕ) → 8 * i ≤ j → bit_at word j ≡ 0
+-- octets that are copied, with zeros behind them
+module _ (group part : List ℕ) (copied : part ≡ group) (few : length group ≤ 8) where
+  abbrev zeros_behind : List ℕ
+  zeros_behind = drop (length group) (replicate 8 0)
 
-pub gathers_none : (group : List ℕ) → Gathers group 0 0
-gathers_none group = record { below = λ j h. absurd (omega (arith, h)); above = λ j h. bit_at-zero j }
+  pub filled-octet : (k : ℕ) → get_or (part ++ zeros_behind) k 0 ≡ get_or group k 0
+  filled-octet k = grind (arith, nat_tests, cases_lt, get_or_append_left, get_or-append_right, get_or-drop, zeros, get_or_past)
 
--- the bits of the octet that is added
-added-above : (o i j : ℕ) → o < 2 ^ 8 → 8 * i + 8 ≤ j → bit_at (o * 2 ^ (8 * i) % 2 ^ 64) j ≡ 0
-added-above o i j fits h =
-    elim (cases_lt j 64) [
-      | inl low ↦ bit_at_mod (o * 2 ^ (8 * i)) 64 j low ∙ bit_at_shl_high o (8 * i) j (omega (arith, h)) ∙ bit_at_above o 8 (j - 8 * i) fits (omega (arith, h))
-      | inr high ↦ bit_at_mod_above (o * 2 ^ (8 * i)) 64 j high
-    ]
+  pub filled-long : length (part ++ zeros_behind) ≡ 8
+  filled-long = length-append part zeros_behind ∙ omega (arith, few, ap length copied, length-drop (length group) (replicate {A = ℕ} 8 0))
 
-pub gathers_more : (group : List ℕ) (word next o i : ℕ) → i < 8 → o ≡ get_or group i 0 → o < 2 ^ 8 → next ≡ bit_or word (o * 2 ^ (8 * i) % 2 ^ 64) → Gathers group word i → Gathers group next (i + 1)
-gathers_more group word next o i few read fits e gathers =
-    let split : (j : ℕ) → bit_at next j ≡ max (bit_at word j) (bit_at (o * 2 ^ (8 * i) % 2 ^ 64) j) = λ j. ap (λ k. bit_at k j) e ∙ bit_at_or word (o * 2 ^ (8 * i) % 2 ^ 64) j in
-    record {
-      below = λ j h. elim (cases_lt j (8 * i)) [
-        | inl old ↦
-            let zero : bit_at (o * 2 ^ (8 * i) % 2 ^ 64) j ≡ 0 = bit_at_mod (o * 2 ^ (8 * i)) 64 j (omega (arith, old, few)) ∙ bit_at_shl_low o (8 * i) j old in
-            omega (arith, split j, zero, gathers.below j old)
-        | inr new ↦
-            let m : bit_at (o * 2 ^ (8 * i) % 2 ^ 64) j ≡ bit_at o (j - 8 * i) = bit_at_mod (o * 2 ^ (8 * i)) 64 j (omega (arith, h, few)) ∙ bit_at_shl_high o (8 * i) j new in
-            let q : i ≡ j / 8 = omega (arith, h, new) in
-            let r : j - 8 * i ≡ j % 8 = omega (arith, h, new) in
-            let here : bit_at o (j - 8 * i) ≡ bit_at (get_or group (j / 8) 0) (j % 8) = ap (bit_at o) r ∙ ap (λ k. bit_at k (j % 8)) (read ∙ ap (λ k. get_or group k 0) q) in
-            omega (arith, split j, m, here, gathers.above j new)
-      ];
-      above = λ j h. omega (arith, split j, added-above o i j fits (omega (arith, h)), gathers.above j (omega (arith, h)));
-    }
-
--- eight octets are gathered by one load
-pub gathers_eight : (group : List ℕ) (word : ℕ) → length group ≡ 8 → ((i : ℕ) → get_or group i 0 < 256) → word < 2 ^ 64 → word ≡ from_le_bytes w64 group → Gathers group word 8
-gathers_eight group word eight small fits read = record {
-  below = λ j h.
-      let k : 8 * (j / 8) + j % 8 ≡ j = omega arith in
-      ap (bit_at word) (sym k) ∙ sym (bit_at_shr word (8 * (j / 8)) (j % 8)) ∙ sym (bit_at_mod (word / 2 ^ (8 * (j / 8))) 8 (j % 8) (omega arith))
-      ∙ ap (λ o. bit_at o (j % 8)) (sym (le-octet word (j / 8) (omega (arith, h)))) ∙ ap (λ os. bit_at (get_or os (j / 8) 0) (j % 8)) (le_bytes_8 group word eight small read);
-  above = λ j h. bit_at_above word 64 j fits (omega (arith, h));
-}
-
--- the gathered octets, turned over, have the places of the octets
-pub gathers_all : (group : List ℕ) (word r i : ℕ) → length group ≤ i → Gathers group word i → ((j : ℕ) → j < 64 → bit_at r j ≡ bit_at word (8 * (j / 8) + (7 - j % 8))) → (j : ℕ) → j < 64 → bit_at r j ≡ octet_place group j
-gathers_all group word r i all gathers turns j h =
-    let q : (8 * (j / 8) + (7 - j % 8)) / 8 ≡ j / 8 = omega arith in
-    let m : (8 * (j / 8) + (7 - j % 8)) % 8 ≡ 7 - j % 8 = omega arith in
-    turns j h ∙ elim (cases_lt (8 * (j / 8) + (7 - j % 8)) (8 * i)) [
-      | inl within ↦ gathers.below (8 * (j / 8) + (7 - j % 8)) within ∙ ap (λ k. bit_at (get_or group k 0) ((8 * (j / 8) + (7 - j % 8)) % 8)) q ∙ ap (bit_at (get_or group (j / 8) 0)) m
-      | inr past ↦ gathers.above (8 * (j / 8) + (7 - j % 8)) past ∙ sym (bit_at-zero (7 - j % 8)) ∙ sym (ap (λ k. bit_at k (7 - j % 8)) (get_or_past group (j / 8) 0 (omega (arith, past, all))))
-    ]
+-- the word of them, turned over, has their places
+pub octets-place : (group eight : List ℕ) (word r : ℕ) → length eight ≡ 8 → ((k : ℕ) → get_or eight k 0 ≡ get_or group k 0) → ((i : ℕ) → get_or group i 0 < 256) → word < 2 ^ 64 → word ≡ from_le_bytes w64 eight
+    → ((j : ℕ) → j < 64 → bit_at r j ≡ bit_at word (8 * (j / 8) + (7 - j % 8))) → (j : ℕ) → j < 64 → bit_at r j ≡ octet_place group j
+octets-place group eight word r long same small fits read turns j h =
+    turns j h ∙ sym (octet-bit word (j / 8) (7 - j % 8) (omega arith))
+    ∙ ap (λ o. bit_at o (7 - j % 8)) (sym (le-octet word (j / 8) (omega (arith, h))) ∙ ap (λ os. get_or os (j / 8) 0) (le_bytes_8 eight word long (λ i. omega (arith, same i, small i)) read) ∙ same (j / 8))

@@ -1,4 +1,6 @@
 -- What `==` on two lists of bits says.
+use Rattle.std.proofs.lemmas.Bool.Decides.{nat_tests}
+use Rattle.std.proofs.lemmas.Grind.{common_steps}
 use Rattle.std.proofs.Common.{◌≡◌, ℕ, ◌+◌, ◌*◌, ◌/◌, ◌%◌, ◌^◌, ◌<◌, ◌==◌, Bool, true, false, List, length, get_or, refl, ap, sym, ◌∙◌, arith}
 use Rattle.std.proofs.lemmas.Bool.{false≢true, false_from_ne_true, eqb-true}
 use Rattle.std.proofs.lemmas.Nat.Bits.{bit_at-lt, same_from_bits_below}
@@ -40,7 +42,4 @@ same-packed n m ws vs r a b p q e f g equal places =
 
 -- lists of different lengths differ
 pub other-lengths : (n m : ℕ) (ws vs : List ℕ) (a b : BitList) → (n ≡ m → ⊥) → unpacked n ws ≡ a.items → unpacked m vs ≡ b.items → (n == m) ≡ same_bits a b
-other-lengths n m ws vs a b apart f g =
-    same-answer (n == m) a b
-    (λ h. absurd (apart (eqb-true n m h)))
-    (λ h. absurd (apart (sym (length-unpacked n ws) ∙ ap length (f ∙ h ∙ sym g) ∙ length-unpacked m vs)))
+other-lengths n m ws vs a b apart f g = grind (arith, common_steps, nat_tests, same-answer, eqb-true, length-unpacked)

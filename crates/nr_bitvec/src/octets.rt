@@ -29,19 +29,14 @@ fn swapped(word: u64, by: u32, mask: u64) -> u64
     word >> by & mask | (word & mask) << by
 }
 
-// The word of at most eight octets, with their places. Eight of them are read at once.
+// The word of at most eight octets, with their places.
 pub(crate) fn word_of_octets(group: &[u8]) -> u64
     requires { length group.now ≤ 8 }
     ensures { (j : ℕ) → j < 64 → bit_at result j ≡ octet_place group.now j }
 {
-    if let Ok(eight) = <[u8; 8]>::try_from(group) {
-        return turned(u64::from_le_bytes(eight));
-    }
-    let mut word = 0;
-    for (i, octet) in group.iter().enumerate() {
-        word |= (*octet as u64) << (8 * i);
-    }
-    turned(word)
+    let mut eight = [0; 8];
+    eight[..group.len()].copy_from_slice(group);
+    turned(u64::from_le_bytes(eight))
 }
 
 // Writes the octets of words, with the places of each.

@@ -1,3 +1,5 @@
+use Rattle.std.proofs.lemmas.Bool.Decides.{nat_tests}
+use Rattle.std.proofs.lemmas.Grind.{common_steps}
 use Rattle.std.proofs.Common.{◌≡◌, ◌*◌, ap, length, arith}
 use Rattle.nr_bitvec.specs.BitList.{BitList}
 use Rattle.nr_bitvec.proofs.PlaceFacts.{length-unpacked}
@@ -8,10 +10,7 @@ pub push_windows-requires-clause-inside : goal.push_windows-requires-clause-insi
 push_windows-requires-clause-inside c = grind (arith, length-unpacked)
 
 pub invariant_of-self : goal.invariant_of-self
-invariant_of-self c =
-    let size = ap (λ (b : BitList). length b.items) c.self.view_is in
-    let filled : c.self.inside.len ≡ 64 * length c.self.inside.words.items = omega (arith, c.requires.filled, c.self.invariant.above, c.self.invariant.below, length-unpacked c.self.inside.len c.self.inside.words.items, size) in
-    filled-packed c.self.inside.len c.args.count c.self.inside.words.items c.push_windows.new.words.items _ filled (omega (arith, c.requires.room, ap (λ (b : BitList). b.room) c.self.view_is)) c.push_windows.ensures.places
+invariant_of-self c = grind (arith, common_steps, nat_tests, length-unpacked, filled-packed)
 
 pub returns-clause-items : goal.returns-clause-items
 returns-clause-items c =
