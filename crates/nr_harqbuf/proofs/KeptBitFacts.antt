@@ -1,5 +1,6 @@
 -- Two lists of truth values that keep a bit for some positions: what is kept at one, and one bit more.
-use Rattle.std.proofs.Common.{◌≡◌, ℕ, ◌<◌, ◌≤◌, ◌||◌, Bool, true, false, not, cond, List, [], length, get_or, set, replicate, refl, sym, ap, ◌∙◌, ⊎_elim, arith}
+use Rattle.std.proofs.lemmas.Bool.Decides.{nat_tests}
+use Rattle.std.proofs.Common.{◌≡◌, ℕ, ◌<◌, ◌||◌, Bool, true, false, not, cond, List, [], length, get_or, set, replicate, refl, ap, ◌∙◌, ⊎_elim, arith}
 use Rattle.std.specs.Prelude.{Some, None, map}
 use Rattle.std.specs.Bool.{beq}
 use Rattle.std.specs.List.{range_with_len}
@@ -9,37 +10,19 @@ use Rattle.std.proofs.lemmas.List.FromFn.{fill_by_all, get_or-map-range_with_len
 use Rattle.std.proofs.Math.Bool.{or-false}
 use Rattle.nr_bitvec.specs.Bit.{bit}
 use Rattle.nr_harqbuf.specs.Positions.{kept, kept_at}
-use Rattle.nr_harqbuf.specs.Record.{HasFirsts, HeardBits, first_at, first_heard, with_hearing, record_of, clashes}
+use Rattle.nr_harqbuf.specs.Record.{HasFirsts, HeardBits, first_heard, with_hearing, record_of, clashes}
 
 pub length-kept : (heard value : List Bool) → length (kept heard value) ≡ length heard
 length-kept heard value = length-map-range_with_len (kept_at heard value) 0 (length heard)
 
 -- what is kept at a position
 pub kept-at : (heard value : List Bool) (p : ℕ) → get_or (kept heard value) p None ≡ kept_at heard value p
-kept-at heard value p = ⊎_elim inside past (cases_lt p (length heard))
-  where
-    inside : p < length heard → get_or (kept heard value) p None ≡ kept_at heard value p
-    inside lt = get_or-map-range_with_len (kept_at heard value) 0 (length heard) p p None lt (omega arith)
-
-    past : length heard ≤ p → get_or (kept heard value) p None ≡ kept_at heard value p
-    past le =
-        let e : bit heard p ≡ false = get_or_past heard p false le in
-        let long : length (kept heard value) ≤ p = omega (arith, length-kept heard value) in
-        get_or_past (kept heard value) p None long ∙ sym (ap (λ b. cond b (Some (bit value p)) None) e)
+kept-at heard value p = grind (arith, nat_tests, cases_lt, get_or-map-range_with_len, get_or_past, length-kept)
 
 -- a word has the first bits where it has the bit that the masks say at each position that they mark
 pub firsts-by-masks : (heard value : List Bool) (clash : Bool) (w : ℕ → Bool)
     → ((p : ℕ) → bit heard p ≡ true → w p ≡ bit value p) → HasFirsts (record { first = kept heard value; clash = clash }) w
-firsts-by-masks heard value clash w are p b first = go (bit heard p) refl
-  where
-    go : (h : Bool) → bit heard p ≡ h → w p ≡ b
-    go true e =
-        let same : Some (bit value p) ≡ Some b = sym (kept-at heard value p ∙ ap (λ h. cond h (Some (bit value p)) None) e) ∙ first in
-        let value-is : bit value p ≡ b = cc in
-        are p e ∙ value-is
-    go false e =
-        let bad : None ≡ Some b = sym (kept-at heard value p ∙ ap (λ h. cond h (Some (bit value p)) None) e) ∙ first in
-        cc
+firsts-by-masks heard value clash w are p b first = grind (arith, kept-at)
 
 pub masks-by-firsts : (heard value : List Bool) (clash : Bool) (w : ℕ → Bool)
     → HasFirsts (record { first = kept heard value; clash = clash }) w → (p : ℕ) → bit heard p ≡ true → w p ≡ bit value p
@@ -55,14 +38,10 @@ kept-set heard value p b lt same = ext_get_or None (kept (set heard p true) (set
     long = rw (length-kept (set heard p true) (set value p b), length-set, length-set, length-kept heard value) refl
 
     here : (k : ℕ) → k ≡ p → get_or (kept (set heard p true) (set value p b)) k None ≡ get_or (set (kept heard value) p (Some b)) k None
-    here k e =
-        rw (e, kept-at (set heard p true) (set value p b) p, get_or-set_same heard p true false lt, get_or-set_same value p b false (omega (arith, lt, same)),
-        get_or-set_same (kept heard value) p (Some b) None (omega (arith, lt, length-kept heard value))) refl
+    here k e = grind (arith, kept-at, get_or-set_same, length-kept)
 
     there : (k : ℕ) → (k ≡ p → ⊥) → get_or (kept (set heard p true) (set value p b)) k None ≡ get_or (set (kept heard value) p (Some b)) k None
-    there k other =
-        rw (kept-at (set heard p true) (set value p b) k, get_or-set_other heard p k true false other, get_or-set_other value p k b false other,
-        get_or-set_other (kept heard value) p k (Some b) None other, kept-at heard value k) refl
+    there k other = grind (arith, kept-at, get_or-set_other)
 
 -- nothing is kept yet
 pub kept-none : (n : ℕ) → kept (replicate n false) (replicate n false) ≡ map (first_heard []) (range_with_len 0 n)
@@ -74,16 +53,12 @@ kept-none n = fill_by_all (first_heard []) (kept (replicate n false) (replicate 
 pub heard_again : (heard value : List Bool) (clash : Bool) (p : ℕ) (b : Bool) → bit heard p ≡ true
     → ◌≡◌ {A = HeardBits} (record { first = kept heard value; clash = clash || not (beq (bit value p) b) }) (with_hearing (record { first = kept heard value; clash = clash }) (p, b))
 unfolding with_hearing
-heard_again heard value clash p b h =
-    let e : first_at (record { first = kept heard value; clash = clash }) p ≡ Some (bit value p) = kept-at heard value p ∙ ap (λ t. cond t (Some (bit value p)) None) h in
-    rw e refl
+heard_again heard value clash p b h = grind (arith, kept-at)
 
 pub heard_first : (heard value : List Bool) (clash : Bool) (p : ℕ) (b : Bool) → p < length heard → length value ≡ length heard → bit heard p ≡ false
     → ◌≡◌ {A = HeardBits} (record { first = kept (set heard p true) (set value p b); clash = clash }) (with_hearing (record { first = kept heard value; clash = clash }) (p, b))
 unfolding with_hearing
-heard_first heard value clash p b lt same h =
-    let e : first_at (record { first = kept heard value; clash = clash }) p ≡ None = kept-at heard value p ∙ ap (λ t. cond t (Some (bit value p)) None) h in
-    rw (e, kept-set heard value p b lt same) (ap (λ t. record { first = set (kept heard value) p (Some b); clash = t }) (sym (or-false clash)))
+heard_first heard value clash p b lt same h = grind (arith, kept-at, kept-set, or-false)
 
 pub record-none : (n : ℕ) → ◌≡◌ {A = HeardBits} (record { first = kept (replicate n false) (replicate n false); clash = false }) (record_of n [])
 unfolding clashes

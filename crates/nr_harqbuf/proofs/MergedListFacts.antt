@@ -1,11 +1,20 @@
 -- The lists of a store while all that masks say is merged into them, 64 positions at a time.
-use Rattle.std.proofs.Common.{◌≡◌, ℕ, ◌+◌, ◌-◌, ◌^◌, ◌<◌, ◌≤◌, ◌==◌, ◌&&◌, ◌||◌, inl, inr, Bool, true, false, not, List, length, refl, ap, sym, ◌∙◌, arith}
+use Rattle.std.proofs.Common.{◌≡◌, ℕ, ◌+◌, ◌-◌, ◌^◌, ◌<◌, ◌≤◌, ◌==◌, ◌&&◌, ◌||◌, inl, inr, Bool, false, not, List, length, refl, ap, sym, ◌∙◌, arith, cond, get_or}
 use Rattle.std.specs.Int.{bit_not, w64}
 use Rattle.std.specs.Int.Bits.{bit_and, bit_or, bit_xor, and_lt, xor_lt}
-use Rattle.std.proofs.lemmas.Bool.{cases_lt, true≢false, or_from, or_parts, eqb-true, eq-eqb}
+use Rattle.std.proofs.lemmas.Bool.{cases_lt, not-false, not_from_true, true≢false, or_from, or_parts, eqb-true, eq-eqb, false_from_ne_true}
 use Rattle.std.proofs.lemmas.List.{get_or_past}
 use Rattle.nr_bitvec.specs.Bit.{◌⊕◌, bit}
 use Rattle.nr_harqbuf.proofs.MaskWordFacts.{on, on-or, IsPut, put-in, read-at, merged_bit, clashing, news-word, value-word, clash-word, word-zero, zero-none}
+use Rattle.std.proofs.lemmas.Bool.Decides.{nat_tests}
+use Rattle.std.specs.Prelude.{Some, None, map}
+use Rattle.std.specs.List.{list_any, range_with_len}
+use Rattle.std.proofs.lemmas.List.Folds.{list_any_at, list_any_none}
+use Rattle.std.proofs.lemmas.List.FromFn.{fill_by_all, length-range_with_len, get_or-range_with_len}
+use Rattle.nr_harqbuf.specs.Masks.{merged, first_merged, differs_at}
+use Rattle.nr_harqbuf.specs.Positions.{kept, kept_at}
+use Rattle.nr_harqbuf.specs.Record.{HeardBits, first_at, is_heard, differs}
+use Rattle.nr_harqbuf.proofs.KeptBitFacts.{length-kept, kept-at}
 
 -- a store's lists and its clash, and the marks of a mask
 pub record Lists : Type 0 where
@@ -36,18 +45,7 @@ pub record IsMerged (k : ℕ) (old : Lists) (bits : List Bool) (new : Lists) : T
   pub marks_long : length new.marks ≡ length old.marks
 
 pub merged-none : (k : ℕ) (old : Lists) (bits : List Bool) → k ≡ 0 → IsMerged k old bits old
-merged-none k old bits none = record {
-  below = λ p h. absurd (omega (arith, h, none));
-  beyond = λ p h. refl;
-  quiet = λ e. (e, λ p h. absurd (omega (arith, h, none)));
-  silent = λ e f. e;
-  heard_long = refl;
-  value_long = refl;
-  marks_long = refl;
-}
-
-triple : (a b c d e f : Bool) → a ≡ d → b ≡ e → c ≡ f → ◌≡◌ {A = Bool × Bool × Bool} (a, b, c) (d, e, f)
-triple a b c d e f h i j = cc
+merged-none k old bits none = grind arith
 
 -- the words that a step reads and puts
 pub record IsStep (at count before old now bits : ℕ) (s : Lists) (word : List Bool) (new : Lists) : Type 0 where
@@ -79,41 +77,32 @@ step-in at count before old now bits s word new step p from below =
     let v : on old (p - at) ≡ bit s.value p = read-at s.value at old p step.reads_old from here in
     let n : on now (p - at) ≡ bit s.marks p = read-at s.marks at now p step.reads_now from here in
     let b : on bits (p - at) ≡ bit word p = read-at word at bits p step.reads_bits from here in
-    triple _ _ _ _ _ _
-    (put-in s.heard new.heard at count (bit_or before now) p step.put_heard from below ∙ on-or before now (p - at) ∙ rw (h, n) refl)
-    (put-in s.value new.value at count (bit_xor old (bit_and (bit_and now (bit_not w64 before)) (bit_xor old bits))) p step.put_value from below ∙ value-word before old now bits (p - at) step.before_fits j ∙ rw (h, v, n, b) refl)
-    (put-in s.marks new.marks at count (bit_and now (bit_not w64 before)) p step.put_marks from below ∙ news-word before now (p - at) step.before_fits j ∙ rw (h, n) refl)
+    rw (put-in s.heard new.heard at count (bit_or before now) p step.put_heard from below, on-or before now (p - at),
+    put-in s.value new.value at count (bit_xor old (bit_and (bit_and now (bit_not w64 before)) (bit_xor old bits))) p step.put_value from below,
+    value-word before old now bits (p - at) step.before_fits j,
+    put-in s.marks new.marks at count (bit_and now (bit_not w64 before)) p step.put_marks from below, news-word before now (p - at) step.before_fits j, h, v, n, b) refl
 
 -- a clash at a position of the word
 step-clash : (at count before old now bits : ℕ) (s : Lists) (word : List Bool) (new : Lists) → IsStep at count before old now bits s word new
     → (j : ℕ) → j < 64 → on (bit_and (bit_and now before) (bit_xor old bits)) j ≡ clashes_at (at_position s (at + j)) (bit word (at + j))
-step-clash at count before old now bits s word new step j lt =
-    clash-word before old now bits j ∙ rw (step.reads_before j lt, step.reads_old j lt, step.reads_now j lt, step.reads_bits j lt) refl
-
-unequal : (b : Bool) → not b ≡ false → b ≡ true
-unequal true e = refl
-unequal false e = absurd (true≢false e)
-
-equal : (b : Bool) → b ≡ true → not b ≡ false
-equal true e = refl
-equal false e = sym e
+step-clash at count before old now bits s word new step j lt = grind (arith, clash-word)
 
 pub merged-step : (at count before old now bits : ℕ) (start : Lists) (s : Lists) (word : List Bool) (new : Lists) → IsMerged at start word s → IsStep at count before old now bits s word new
     → IsMerged (at + count) start word new
 merged-step at count before old now bits start s word new merged step = record {
   below = λ p h. elim (cases_lt p at) [
-    | inl low ↦ triple _ _ _ _ _ _ (step.put_heard.before p low) (step.put_value.before p low) (step.put_marks.before p low) ∙ merged.below p low
+    | inl low ↦ rw (step.put_heard.before p low, step.put_value.before p low, step.put_marks.before p low) (merged.below p low)
     | inr from ↦ step-in at count before old now bits s word new step p from h ∙ ap (λ (t : Bool × Bool × Bool). after_hearing t (bit word p)) (merged.beyond p from)
   ];
-  beyond = λ p h. triple _ _ _ _ _ _ (step.put_heard.after p h) (step.put_value.after p h) (step.put_marks.after p h) ∙ merged.beyond p (omega (arith, h));
+  beyond = λ p h. rw (step.put_heard.after p h, step.put_value.after p h, step.put_marks.after p h) (merged.beyond p (omega (arith, h)));
   quiet = λ e.
       let parts = or_parts s.clash (not (bit_and (bit_and now before) (bit_xor old bits) == 0)) (sym step.clash ∙ e) in
-      let zero : bit_and (bit_and now before) (bit_xor old bits) ≡ 0 = eqb-true _ 0 (unequal (bit_and (bit_and now before) (bit_xor old bits) == 0) parts.1) in
+      let zero : bit_and (bit_and now before) (bit_xor old bits) ≡ 0 = eqb-true _ 0 (not-false (bit_and (bit_and now before) (bit_xor old bits) == 0) parts.1) in
       let first = merged.quiet parts.0 in
       (first.0, λ p h. elim (cases_lt p at) [ inl low ↦ first.1 p low | inr from ↦ none zero p from h ]);
   silent = λ e f.
       step.clash ∙ or_from s.clash (not (bit_and (bit_and now before) (bit_xor old bits) == 0)) (merged.silent e (λ p h. f p (omega (arith, h))))
-      (equal (bit_and (bit_and now before) (bit_xor old bits) == 0) (eq-eqb (bit_and (bit_and now before) (bit_xor old bits)) 0
+      (not_from_true (bit_and (bit_and now before) (bit_xor old bits) == 0) (eq-eqb (bit_and (bit_and now before) (bit_xor old bits)) 0
       (word-zero (bit_and (bit_and now before) (bit_xor old bits)) (and_lt 64 (bit_and now before) (bit_xor old bits) (and_lt 64 now before step.now_fits step.before_fits) (xor_lt 64 old bits step.old_fits step.bits_fits)) (clear f))));
   heard_long = step.heard_long ∙ merged.heard_long;
   value_long = step.value_long ∙ merged.value_long;
@@ -136,11 +125,7 @@ merged-step at count before old now bits start s word new merged step = record {
         ]
 
 idle : (h v n b : Bool) → n ≡ false → ◌≡◌ {A = Bool × Bool × Bool} (h, v, n) (after_hearing (h, v, n) b)
-idle true true false b e = refl
-idle true false false b e = refl
-idle false true false b e = refl
-idle false false false b e = refl
-idle h v true b e = absurd (true≢false e)
+idle h v n b e = grind arith
 
 -- no position from `at` to `next` is marked, so nothing changes there
 pub merged-idle : (at next now : ℕ) (start s : Lists) (word : List Bool) → at ≤ next → next ≤ at + 64 → now ≡ 0
@@ -165,3 +150,64 @@ merged-idle at next now start s word up few none reads merged = record {
         ap (λ (t : Bool × Bool × Bool). t.2) (sym (merged.beyond p from))
         ∙ sym (read-at s.marks at now p reads from (omega (arith, below, few)))
         ∙ zero-none now (p - at) none
+
+-- the record of a store's lists
+abbrev pub record_in : Lists → HeardBits
+record_in s = record { first = kept s.heard s.value; clash = s.clash }
+
+-- the bit kept at a position whose mark is h and whose bit is v, received with mark n and bit b
+first_bits : (h v n b : Bool) → cond (h || n) (Some (merged_bit h v n b)) None ≡ cond (is_heard (cond h (Some v) None)) (cond h (Some v) None) (cond n (Some b) None)
+first_bits h v n b = grind (arith, merged_bit)
+
+clash_bits : (h v n b : Bool) → (n && differs (cond h (Some v) None) b) ≡ clashing h v n b
+clash_bits h v n b = grind arith
+
+fresh_bits : (h v n : Bool) → (n && not h) ≡ (n && not (is_heard (cond h (Some v) None)))
+fresh_bits h v n = grind arith
+
+-- the fresh marks stay
+pub news-done : (old : Lists) (bits : List Bool) (new : Lists) (k : ℕ) → IsMerged k old bits new → length old.marks ≤ k
+    → (p : ℕ) → bit new.marks p ≡ (bit old.marks p && not (is_heard (first_at (record_in old) p)))
+news-done old bits new k m long p = grind (arith, nat_tests, cases_lt, fresh_bits, kept-at, get_or_past)
+
+pub in_range : (n i d : ℕ) → i < n → get_or (range_with_len 0 n) i d ≡ i
+in_range n i d lt = omega (arith, get_or-range_with_len 0 n i d lt)
+
+-- a test that none of the first n numbers passes
+none_below : (f : ℕ → Bool) (n : ℕ) → ((p : ℕ) → p < n → f p ≡ false) → list_any f (range_with_len 0 n) ≡ false
+none_below f n none = grind (arith, list_any_none, length-range_with_len, in_range)
+
+below_none : (f : ℕ → Bool) (n : ℕ) → list_any f (range_with_len 0 n) ≡ false → (p : ℕ) → p < n → f p ≡ false
+below_none f n none p lt =
+    false_from_ne_true (f p) (λ e. true≢false (sym (list_any_at f (range_with_len 0 n) p 0 (omega (arith, lt, length-range_with_len 0 n)) (ap f (in_range n p 0 lt) ∙ e)) ∙ none))
+
+same_falsehood : (a b : Bool) → (a ≡ false → b ≡ false) → (b ≡ false → a ≡ false) → a ≡ b
+same_falsehood a b f g = grind arith
+
+pub merged-done : (old : Lists) (bits : List Bool) (new : Lists) (k : ℕ) → IsMerged k old bits new → k ≡ length old.heard → record_in new ≡ merged (record_in old) old.marks bits
+unfolding merged
+merged-done old bits new k m whole = rw (firsts, clash) refl
+  where
+    count : ℕ
+    count = length (kept old.heard old.value)
+
+    long : count ≡ length old.heard
+    long = length-kept old.heard old.value
+
+    first : (p : ℕ) → p < length old.heard → kept_at new.heard new.value p ≡ first_merged (record_in old) old.marks bits p
+    first p lt = grind (arith, at_position, after_hearing, first_bits, kept-at)
+
+    firsts : kept new.heard new.value ≡ map (first_merged (record_in old) old.marks bits) (range_with_len 0 count)
+    firsts = fill_by_all (first_merged (record_in old) old.marks bits) (kept new.heard new.value) count None (length-kept new.heard new.value ∙ m.heard_long ∙ sym long)
+        (λ p lt. kept-at new.heard new.value p ∙ first p (omega (arith, lt, long)))
+
+    differ : (p : ℕ) → differs_at (record_in old) old.marks bits p ≡ clashes_at (at_position old p) (bit bits p)
+    differ p = ap (λ o. bit old.marks p && differs o (bit bits p)) (kept-at old.heard old.value p) ∙ clash_bits (bit old.heard p) (bit old.value p) (bit old.marks p) (bit bits p)
+
+    clash : new.clash ≡ (old.clash || list_any (differs_at (record_in old) old.marks bits) (range_with_len 0 count))
+    clash = same_falsehood new.clash (old.clash || list_any (differs_at (record_in old) old.marks bits) (range_with_len 0 count))
+        (λ e. let q = m.quiet e in
+        or_from old.clash (list_any (differs_at (record_in old) old.marks bits) (range_with_len 0 count)) q.0
+        (none_below (differs_at (record_in old) old.marks bits) count (λ p lt. differ p ∙ q.1 p (omega (arith, lt, long, whole)))))
+        (λ e. let parts = or_parts old.clash (list_any (differs_at (record_in old) old.marks bits) (range_with_len 0 count)) e in
+        m.silent parts.0 (λ p lt. sym (differ p) ∙ below_none (differs_at (record_in old) old.marks bits) count parts.1 p (omega (arith, lt, long, whole))))

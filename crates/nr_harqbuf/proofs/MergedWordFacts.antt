@@ -1,6 +1,6 @@
 -- What masks say after a word of up to 64 positions was merged into them.
+use Rattle.std.proofs.lemmas.Bool.Decides.{nat_tests}
 use Rattle.std.proofs.Common.{◌≡◌, ℕ, ◌+◌, ◌-◌, ◌^◌, ◌<◌, ◌≤◌, ◌==◌, ◌&&◌, ◌||◌, inl, inr, Bool, true, false, not, List, refl, ap, sym, ◌∙◌, arith}
-use Rattle.std.specs.Prelude.{nat_le, nat_lt}
 use Rattle.std.specs.Bool.{beq}
 use Rattle.std.specs.Int.{bit_at, bit_not, w64}
 use Rattle.std.specs.Int.Bits.{bit_and, bit_or, bit_xor}
@@ -12,35 +12,17 @@ use Rattle.nr_harqbuf.proofs.MaskWordFacts.{on, on-or, IsPut, put-in, read-at, m
 
 -- a position that does not clash says what it said, and what is received
 says_bits : (h v n b x : Bool) → clashing h v n b ≡ false → ((h || n) && beq (merged_bit h v n b) x) ≡ ((h && beq v x) || (n && beq b x))
-says_bits false v false b x e = refl
-says_bits false false true b x e = refl
-says_bits false true true true x e = refl
-says_bits false true true false x e = refl
-says_bits true false false b true e = refl
-says_bits true false false b false e = refl
-says_bits true true false b true e = refl
-says_bits true true false b false e = refl
-says_bits true false true true x e = absurd (true≢false e)
-says_bits true true true false x e = absurd (true≢false e)
-says_bits true false true false true e = refl
-says_bits true false true false false e = refl
-says_bits true true true true true e = refl
-says_bits true true true true false e = refl
+says_bits h v n b x e = grind arith
 
 -- a word says nothing of other positions
 word_says-below : (at count now bits p : ℕ) (b : Bool) → p < at → word_says at count now bits p b ≡ false
-word_says-below at count now bits p b h =
-    ap (λ t. ((t && nat_lt p (at + count)) && (bit_at now (p - at) == 1)) && beq (bit_at bits (p - at) == 1) b) (lt-leb at p h)
+word_says-below at count now bits p b h = grind (arith, nat_tests, lt-leb)
 
 word_says-above : (at count now bits p : ℕ) (b : Bool) → at + count ≤ p → word_says at count now bits p b ≡ false
-word_says-above at count now bits p b h =
-    ap (λ t. ((nat_le at p && t) && (bit_at now (p - at) == 1)) && beq (bit_at bits (p - at) == 1) b) (le-ltb p (at + count) h)
-    ∙ ap (λ t. (t && (bit_at now (p - at) == 1)) && beq (bit_at bits (p - at) == 1) b) (and-false (nat_le at p))
+word_says-above at count now bits p b h = grind (arith, nat_tests, le-ltb, and-false)
 
 word_says-in : (at count now bits p : ℕ) (b : Bool) → at ≤ p → p < at + count → word_says at count now bits p b ≡ (on now (p - at) && beq (on bits (p - at)) b)
-word_says-in at count now bits p b from below =
-    ap (λ t. ((t && nat_lt p (at + count)) && (bit_at now (p - at) == 1)) && beq (bit_at bits (p - at) == 1) b) (le-leb at p from)
-    ∙ ap (λ t. (t && (bit_at now (p - at) == 1)) && beq (bit_at bits (p - at) == 1) b) (lt-ltb p (at + count) below)
+word_says-in at count now bits p b from below = grind (arith, nat_tests, le-leb, lt-ltb)
 
 pub merge-says : (heard value heard' value' : List Bool) (at count before old now low bits : ℕ) → count ≤ 64 → before < 2 ^ 64
     → ((j : ℕ) → j < 64 → on before j ≡ bit heard (at + j)) → ((j : ℕ) → j < 64 → on old j ≡ bit value (at + j)) → ((j : ℕ) → j < count → bit_at low j ≡ bit_at now j)
@@ -88,25 +70,13 @@ agreed_bits true true true false agree = agree false refl
 agreed_bits true false true true agree = agree true refl
 
 bits_agreed : (h v n b x : Bool) → clashing h v n b ≡ false → (n && beq b x) ≡ true → (h && beq v (not x)) ≡ false
-bits_agreed false v n b x quiet said = refl
-bits_agreed true true true true true quiet said = refl
-bits_agreed true false true false false quiet said = refl
-bits_agreed true v false b x quiet said = absurd (true≢false (sym said))
-bits_agreed true true true false x quiet said = absurd (true≢false quiet)
-bits_agreed true false true true x quiet said = absurd (true≢false quiet)
-bits_agreed true true true true false quiet said = absurd (true≢false (sym said))
-bits_agreed true false true false true quiet said = absurd (true≢false (sym said))
+bits_agreed h v n b x quiet said = grind arith
 
 module _ (heard value : List Bool) (at count before old now low bits : ℕ) (few : count ≤ 64)
     (reads : (j : ℕ) → j < 64 → on before j ≡ bit heard (at + j)) (reads_old : (j : ℕ) → j < 64 → on old j ≡ bit value (at + j)) (lows : (j : ℕ) → j < count → bit_at low j ≡ bit_at now j) where
   -- the word of clashes at a position
   clash-at : (p : ℕ) → at ≤ p → p < at + count → on (bit_and (bit_and low before) (bit_xor old bits)) (p - at) ≡ clashing (bit heard p) (bit value p) (on now (p - at)) (on bits (p - at))
-  clash-at p from below =
-      let word : p < at + 64 = omega (arith, below, few) in
-      let h : on before (p - at) ≡ bit heard p = read-at heard at before p reads from word in
-      let v : on old (p - at) ≡ bit value p = read-at value at old p reads_old from word in
-      let n : on low (p - at) ≡ on now (p - at) = ap (λ m. m == 1) (lows (p - at) (omega (arith, from, below))) in
-      clash-word before old low bits (p - at) ∙ rw (h, v, n) refl
+  clash-at p from below = grind (arith, nat_tests, on, read-at, clash-word)
 
   -- no clash: nothing that the word says contradicts what was said
   pub quiet-agrees : bit_and (bit_and low before) (bit_xor old bits) ≡ 0 → (p : ℕ) (b : Bool) → word_says at count now bits p b ≡ true → says heard value p (not b) ≡ false

@@ -1,5 +1,5 @@
 use Rattle.std.proofs.Common.{◌+◌, ◌*◌, arith}
-use Rattle.nr_harqbuf.proofs.MaskAgreementFacts.{agrees-more, agrees-always, agrees-all}
+use Rattle.nr_harqbuf.proofs.MaskWordFacts.{agrees-more, agrees-always, agrees-all}
 use Rattle.nr_harqbuf.proofs.masks.agrees.Goals as goal
 
 pub loop-i-preserved : goal.loop-i-preserved

@@ -1,4 +1,4 @@
-use Rattle.std.proofs.Common.{◌<◌, sym, ap, ◌∙◌, length, arith}
+use Rattle.std.proofs.Common.{ap, length, arith}
 use Rattle.nr_harqbuf.specs.Record.{HeardBits}
 use Rattle.nr_harqbuf.proofs.KeptBitFacts.{length-kept, heard_again, heard_first}
 use Rattle.nr_harqbuf.proofs.store.Store.hear.Goals as goal
@@ -13,14 +13,7 @@ pub set-requires-else-get : goal.set-requires-else-get
 set-requires-else-get c = omega (arith, length-kept c.self.inside.heard.items c.self.inside.value.items, ap (λ (s : HeardBits). length s.first) c.self.view_is, c.requires, c.self.invariant)
 
 pub returns-then-get : goal.returns-then-get
-returns-then-get c =
-    let heard = c.self.inside.heard.items in
-    let value = c.self.inside.value.items in
-    rw (c.get-then-get.ensures, ← c.self.view_is) (heard_again heard value c.self.inside.clash c.args.pos c.args.bit (sym c.get.ensures ∙ c.if-get.true))
+returns-then-get c = grind (arith, heard_again)
 
 pub returns-else-get : goal.returns-else-get
-returns-else-get c =
-    let heard = c.self.inside.heard.items in
-    let value = c.self.inside.value.items in
-    let lt : c.args.pos < length heard = omega (arith, length-kept heard value, ap (λ (s : HeardBits). length s.first) c.self.view_is, c.requires) in
-    rw (c.set.ensures.items, c.set-else-get.ensures.items, ← c.self.view_is) (heard_first heard value c.self.inside.clash c.args.pos c.args.bit lt c.self.invariant (sym c.get.ensures ∙ c.if-get.false))
+returns-else-get c = grind (arith, length-kept, heard_first)

@@ -1,8 +1,7 @@
 use Rattle.std.proofs.Common.{◌≡◌, ◌+◌, ◌*◌, min, length, ap, refl, arith}
 use Rattle.nr_harqbuf.specs.Record.{HeardBits}
 use Rattle.nr_harqbuf.proofs.KeptBitFacts.{length-kept}
-use Rattle.nr_harqbuf.proofs.MergedListFacts.{merged-idle, merged-none, merged-step}
-use Rattle.nr_harqbuf.proofs.MergedStoreFacts.{merged-done, news-done}
+use Rattle.nr_harqbuf.proofs.MergedListFacts.{merged-idle, merged-none, merged-step, merged-done, news-done}
 use Rattle.nr_harqbuf.proofs.store.Store.hear_all.Goals.{then-now-ne0, else-now-ne0}
 use Rattle.nr_harqbuf.proofs.store.Store.hear_all.Goals as goal
 
@@ -10,37 +9,10 @@ pub loop-i-init : goal.loop-i-init
 loop-i-init c = merged-none _ _ c.args.value.now.items (omega arith)
 
 pub put-requires-clause-inside : goal.put-requires-clause-inside
-put-requires-clause-inside c =
-    omega (
-      arith,
-      c.loop-i-test.true,
-      c.div_ceil-i-end.ensures,
-      c.len.ensures.value,
-      c.len-then-now-ne0.ensures.value,
-      c.min-count.ensures,
-      c.loop-i.invariant.marks_long,
-      c.loop-i.invariant.heard_long,
-      length-kept c.self.inside.heard.items c.self.inside.value.items,
-      ap (λ (s : HeardBits). length s.first) c.self.view_is,
-      c.requires.marks,
-    )
+put-requires-clause-inside c = grind (arith, length-kept)
 
 pub put-requires-then-now-ne0-clause-inside : goal.put-requires-then-now-ne0-clause-inside
-put-requires-then-now-ne0-clause-inside c =
-    omega (
-      arith,
-      c.loop-i-test.true,
-      c.div_ceil-i-end.ensures,
-      c.len.ensures.value,
-      c.len-then-now-ne0.ensures.value,
-      c.min-count.ensures,
-      c.loop-i.invariant.marks_long,
-      c.loop-i.invariant.value_long,
-      c.self.invariant,
-      length-kept c.self.inside.heard.items c.self.inside.value.items,
-      ap (λ (s : HeardBits). length s.first) c.self.view_is,
-      c.requires.marks,
-    )
+put-requires-then-now-ne0-clause-inside c = grind (arith, length-kept)
 
 pub loop-i-preserved : goal.loop-i-preserved
 loop-i-preserved c =
