@@ -25,7 +25,7 @@ module _ (table : Entries) (settings : Settings) (p : ℕ) where
   round-more round (c ∷ calls) call = round-more (after_call table settings p round c) calls call
 
   call-apart : (round : Option Round) (call : Call) → is_on p call ≡ false → after_call table settings p round call ≡ round
-  call-apart round x1 off = grind (arith, nat_tests, cond-false, option_map)
+  call-apart round call off = grind (arith, nat_tests, cond-false, option_map)
 
   own-step : (round : Option Round) (call : Call) (calls : List Call)
       → ((r : Option Round) → round_from table settings p r calls ≡ round_from table settings p r (filter (is_on p) calls))
@@ -33,7 +33,7 @@ module _ (table : Entries) (settings : Settings) (p : ℕ) where
       → round_from table settings p (after_call table settings p round call) calls
       ≡ round_from table settings p round (cond b (call ∷ filter (is_on p) calls) (filter (is_on p) calls))
   unfolding round_from
-  own-step round call calls rest x4 on = grind (arith, call-apart)
+  own-step round call calls rest b on = grind (arith, call-apart)
 
   round-own : (round : Option Round) (calls : List Call)
       → round_from table settings p round calls ≡ round_from table settings p round (filter (is_on p) calls)
@@ -87,7 +87,7 @@ module _ (s : ProcessesView) (p a : ℕ) (calls : List Call) where
 pub begin-after : (s t : ProcessesView) (p a : ℕ) (result : Result (Unit {0}) DeskFault) → length s.places ≡ 16 → p < 16
     → RefusesAs fault.Memory result (link_said s.table s.settings a) → OnOk result (BeginsAt s t p a) → OnErr result (t ≡ s)
     → HadMemory result → (calls : List Call) → IsAfter s calls → IsAfter t (calls ++ begin p a ∷ [])
-begin-after s t p a x4 long low refused begins kept had = grind (arith, begin-accepted, begin-refused)
+begin-after s t p a result long low refused begins kept had = grind (arith, begin-accepted, begin-refused)
 
 -- The round that a receiver holds.
 record HasRound (r : ReceiverView) (o : Option Round) : Type 0 where
@@ -102,7 +102,7 @@ has_round r (Some round) holds = record { round = round; is = refl; link = holds
 
 heard-ok : {X : Type 0} (said : Result X DeskFault) (x : Reception) (round : Round) → IsOk said
     → taken_as said x round ≡ record { link = round.link; list = round.list ++ x ∷ [] }
-heard-ok x0 x round ok = grind arith
+heard-ok said x round ok = grind arith
 
 -- `take` of process p.
 module _ (s t : ProcessesView) (p : ℕ) (x : Reception) (calls : List Call) (low : p < 16) (before : IsAfter s calls) where

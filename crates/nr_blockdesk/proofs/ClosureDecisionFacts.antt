@@ -44,7 +44,7 @@ count_none t a n none m low high =
     go (t m) (range_each (λ x. cond (t x) 1 0 == 0) a n (sym (sum_by-zero (λ x. cond (t x) 1 0) (range_with_len a n)) ∙ eq-eqb _ 0 none) m low high)
   where
     go : (b : Bool) → (cond b 1 0 == 0) ≡ true → b ≡ false
-    go x0 e = grind arith
+    go b e = grind arith
 
 -- where all are fixed, each position below K' is
 pub every_fixed : (link : Link) (records : List HeardBits) → all_fixed link records ≡ true → (r : ℕ) → r < link.plan.c

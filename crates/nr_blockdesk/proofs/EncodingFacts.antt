@@ -30,7 +30,7 @@ length-shared : (p : Numbers) (bits : List Bool) (r : ℕ) → part_of p r 0 + s
 length-shared p bits r inside = grind (arith, length-drop, length-take-le)
 
 in-front : (more : Bool) (xs check fill : List Bool) (k : ℕ) → k < length xs → bit (cond more (xs ++ check) xs ++ fill) k ≡ bit xs k
-in-front x0 xs check fill k inside = grind (arith, get_or_append_left, length-append)
+in-front more xs check fill k inside = grind (arith, get_or_append_left, length-append)
 
 pub code-shared : (p : Numbers) (bits : List Bool) (r k : ℕ) → part_of p r 0 + share p ≤ length bits → k < share p
     → bit bits (part_of p r k) ≡ bit (code_block p bits r) k
@@ -75,7 +75,7 @@ begins-with xs target n fits long same = search (rules, same_lists, length-take-
 
 -- K bits fit into a word
 pub k-fits : (g : Graph) (p : Numbers) → p.k ≡ info_cols_of g * p.z → p.k ≤ cols_of g * p.z
-k-fits x0 p columns = grind arith
+k-fits g p columns = grind arith
 
 -- a word of bits more is read, of one code block
 pub read-more : (p : Numbers) (ps : List Peeling) (xs ys : List Bool) (n count word : ℕ) → 0 < share p → length xs ≡ n

@@ -1,26 +1,28 @@
--- What hearing does to a code block's store and its peeler.
-use Rattle.std.proofs.Common.{◌≡◌, ◌≢◌, ℕ, ◌+◌, ◌<◌, ◌≤◌, ◌||◌, ◌&&◌, Bool, true, false, not, cond, List, [], ◌∷◌, ◌++◌, length, get_or, set, refl, sym, ap, ◌∙◌, ⊎_elim, append_assoc, arith}
+-- What hearing does to a code block's store and its peeler, and what is new from one record to a later one.
+use Rattle.std.proofs.Common.{◌≡◌, ◌≢◌, ℕ, ◌+◌, ◌<◌, ◌≤◌, ◌||◌, ◌&&◌, Bool, true, false, not, cond, List, [], ◌∷◌, ◌++◌, length, get_or, set, refl, sym, ap, ◌∙◌, ⊎_elim, append_assoc, arith, subst}
 use Rattle.std.specs.Prelude.{Option, Some, None}
 use Rattle.std.specs.Bool.{beq}
 use Rattle.std.specs.List.{cons_option}
 use Rattle.std.proofs.lemmas.Bool.{cases_eq, or_parts}
 use Rattle.std.proofs.lemmas.Grind.{get_or-set_at}
-use Rattle.std.proofs.lemmas.List.{append-nil, get_or-set_other, get_or-set_same, get_or_read}
+use Rattle.std.proofs.lemmas.List.{append-nil, get_or-set_other, get_or-set_same, get_or_read, length-set}
 use Rattle.std.proofs.lemmas.List.Elements.{filter_map-append}
 use Rattle.nr_bitvec.specs.Bit.{bit}
 use Rattle.nr_harqbuf.specs.Record.{HasFirsts, HeardBits, Observation, RecordContinues, differs, first_at, is_heard, record_of, with_hearing}
 use Rattle.nr_interleave.specs.Interleaving.{seat_of}
-use Rattle.nr_ldpcenc.specs.Rows.{block_checks}
-use Rattle.nr_peel.specs.Peeling.{Peeling, checks_for}
+use Rattle.nr_ldpcenc.specs.Rows.{block_checks, Checks, Meets}
+use Rattle.nr_peel.specs.Peeling.{Peeling, checks_for, GivesAll, IsPeeled, IsSameCode, KeepsAllWords}
 use Rattle.nr_ratematch.specs.Selection.{Circular, place_of}
 use Rattle.nr_blockdesk.specs.Explains.{heard_at}
 use Rattle.nr_blockdesk.specs.Heard.{heard_of}
 use Rattle.nr_blockdesk.specs.Hearing.{heard_bit}
 use Rattle.nr_blockdesk.specs.Link.{Link}
-use Rattle.nr_blockdesk.specs.ReceivingInside.{AllAgree, Fits, HearsPart, IsTied, Agrees, part_hearing, part_hearings, word_at}
+use Rattle.nr_blockdesk.specs.ReceivingInside.{AllAgree, Fits, HearsPart, IsTied, Agrees, part_hearing, part_hearings, word_at, IsNews}
 use Rattle.nr_blockdesk.specs.declared.heard.Heard.{Heard}
 use Rattle.nr_transmission.specs.declared.tx.Tx.{Tx}
 use Rattle.nr_blockdesk.proofs.RangeTestFacts.{range-split}
+use Rattle.std.proofs.Math.Bool.{or-false}
+use Rattle.nr_blockdesk.specs.Outcome.{given}
 
 -- what one place more tells
 part-more : (b : Circular) (tx : Tx) (heard : List Heard) (m : ℕ)
@@ -57,10 +59,10 @@ firsts-before : (s t : HeardBits) (pos : ℕ) (v : Bool) (w : ℕ → Bool) → 
 firsts-before s t pos v w unheard firsts has k b is = grind (arith, get_or-set_other, cases_eq)
 
 pub same-bit : (a b : Bool) → not (beq a b) ≡ false → a ≡ b
-same-bit x0 x1 e = grind arith
+same-bit a b e = grind arith
 
 pub beq-self : (b : Bool) → beq b b ≡ true
-beq-self x0 = grind arith
+beq-self b = grind arith
 
 -- a word fits a record with one hearing more exactly where it fits the record and has the bit
 module _ (s : HeardBits) (pos : ℕ) (v : Bool) (w : ℕ → Bool) (inside : pos < length s.first) where
@@ -94,7 +96,7 @@ module _ (s : HeardBits) (pos : ℕ) (v : Bool) (w : ℕ → Bool) (inside : pos
   tells-more true s₀ tells = go (beq (w pos) v) refl
     where
       go : (b : Bool) → beq (w pos) v ≡ b → Agrees b w s₀ (with_hearing s (pos, v))
-      go x0 e = grind (arith, beq-self, fits-bit, fits-more, same-bit)
+      go b e = grind (arith, beq-self, fits-bit, fits-more, same-bit)
 
 -- what is told of the first r code blocks, with one code block more
 pub all-tell-more : (part_masks one : Bool) (words : List (List Bool)) (w : List Bool) (S₀ S : List HeardBits) (r : ℕ) (s t : HeardBits) → r < length S
@@ -132,3 +134,51 @@ later-kept S₀ S r t later k above = grind (arith, get_or-set_other)
 pub peelers-kept : (P₀ P : List Peeling) (r : ℕ) (q : Peeling) → ((k : ℕ) (d : Peeling) → r ≤ k → get_or P k d ≡ get_or P₀ k d)
     → (k : ℕ) (d : Peeling) → r + 1 ≤ k → get_or (set P r q) k d ≡ get_or P₀ k d
 peelers-kept P₀ P r q later k d above = grind (arith, get_or-set_other)
+
+-- a position that was received before
+pub news-again : (s t u : HeardBits) (marks value : List Bool) → u.first ≡ t.first → IsNews s t marks value → IsNews s u marks value
+news-again s t u marks value same news = record { marks = rw same news.marks; bits = rw same news.bits; kept = rw same news.kept; long = rw same news.long }
+
+-- one that was not
+module _ (s t u : HeardBits) (marks value : List Bool) (pos : ℕ) (v : Bool) (inside : pos < length t.first) (marked : pos < length marks) (valued : pos < length value)
+    (unheard : is_heard (first_at t pos) ≡ false) (firsts : u.first ≡ set t.first pos (Some v)) (news : IsNews s t marks value) where
+  here : (p : ℕ) → p ≡ pos → first_at u p ≡ Some v
+  here p e = rw (firsts, get_or-set_at t.first pos p (Some v) None e inside) refl
+
+  there : (p : ℕ) → p ≢ pos → first_at u p ≡ first_at t p
+  there p ne = rw (firsts, get_or-set_other t.first pos p (Some v) None ne) refl
+
+  -- it was not received at first either
+  lacked : (o : Option Bool) → first_at s pos ≡ o → is_heard o ≡ false
+  lacked o e = grind arith
+
+  pub news-more : IsNews s u (set marks pos true) (set value pos v)
+  news-more = grind (arith, get_or-set_at, here, lacked, get_or-set_other, there, cases_eq, length-set)
+
+-- store and peeler after the news were learned, or where there was none
+module _ (s t : HeardBits) (marks value : List Bool) (news : IsNews s t marks value) (link : Link) (p : Peeling) (tied : IsTied link s p) where
+  given-is : (k : ℕ) → (given link s k || bit marks k) ≡ given link t k
+  given-is k = grind arith
+
+  pub tied-still : ((k : ℕ) → bit marks k ≡ false) → IsTied link t p
+  tied-still none = record {
+    table = tied.table;
+    graph = tied.graph;
+    numbers = tied.numbers;
+    long = news.long ∙ tied.long;
+    positions = λ k. tied.positions k ∙ sym (or-false (given link s k)) ∙ ap (λ m. given link s k || m) (sym (none k)) ∙ given-is k;
+    words = λ w plain has. tied.words w plain (λ k b is. has k b (news.kept k b is));
+    peeled = tied.peeled;
+  }
+
+  pub tied-news : (q : Peeling) → IsSameCode p q → GivesAll (bit marks) p q → KeepsAllWords (bit marks) (bit value) p q → IsPeeled q → IsTied link t q
+  tied-news q same gives words peeled = record {
+    table = same.table ∙ tied.table;
+    graph = same.graph ∙ tied.graph;
+    numbers = same.numbers ∙ tied.numbers;
+    long = news.long ∙ tied.long;
+    positions = λ k. gives k ∙ ap (λ g. g || bit marks k) (tied.positions k) ∙ given-is k;
+    words = λ w plain has. words w (subst (λ (c : Checks). Meets c w) (sym (same-checks link s p tied)) plain.meets)
+        (tied.words w plain (λ k b is. has k b (news.kept k b is))) (λ k is. has k (bit value k) (news.bits k is));
+    peeled = peeled;
+  }

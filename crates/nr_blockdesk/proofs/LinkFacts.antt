@@ -1,7 +1,6 @@
--- The steps by which a link is agreed on, and what they say of it.
+-- The steps by which a link is agreed on, what they say of it, and that a sender and a receiver that agreed are its ends.
 use Rattle.std.proofs.lemmas.Bool.Decides.{nat_tests}
-use Rattle.std.proofs.Common.{arith}
-use Rattle.std.proofs.Common.{◌≡◌, ℕ, Bool, true, Option, Result, Ok, Err, length, subst, sym, ap, ◌∙◌}
+use Rattle.std.proofs.Common.{arith, ◌≡◌, ℕ, Bool, true, Option, Result, Ok, Err, length, subst, sym, ap, ◌∙◌, ◌==◌, IsOk, List, map, All, refl}
 use Rattle.nr_crcattach.specs.Attachment.{BlocksLengthen, attached, attached_length}
 use Rattle.nr_graphpick.specs.declared.Graph.{Graph}
 use Rattle.nr_graphpick.specs.Graph.{picked}
@@ -11,10 +10,20 @@ use Rattle.nr_ratematch.specs.Selection.{BuffersAreCircular, Circular, buffer_sa
 use Rattle.nr_segment.specs.CodeBlock.{CodeBlocksAreLong}
 use Rattle.nr_segment.specs.Plan.{Numbers, plan_of}
 use Rattle.nr_shifttable.specs.Accepted.{Entries, has_graph}
-use Rattle.nr_blockdesk.specs.Link.{IsLink, Link, LinksAreSound, WordsArePlain, demanded, is_size, link_said, word}
+use Rattle.nr_blockdesk.specs.Link.{IsLink, Link, LinksAreSound, WordsArePlain, demanded, is_size, link_said, word, IsBlock}
 use Rattle.nr_transmission.specs.declared.settings.Settings.{Settings}
 use Rattle.nr_transmission.specs.declared.fault.DeskFault.{DeskFault}
 use Rattle.nr_transmission.specs.declared.fault.DeskFault.TheVariants as fault
+use Rattle.std.specs.List.{zip}
+use Rattle.std.proofs.lemmas.Bool.{eq-eqb}
+use Rattle.std.proofs.lemmas.List.{length-map}
+use Rattle.std.proofs.lemmas.List.Elements.{All-map}
+use Rattle.std.proofs.lemmas.Slice.Zip.{length-zip}
+use Rattle.nr_blockdesk.specs.Explains.{IsAccepted, reception}
+use Rattle.nr_blockdesk.specs.ReceiverLaws.{AreEnds, EndsAreSafe, ErasuresAreSafe, IsMarked, arrived, arrived_bit}
+use Rattle.nr_blockdesk.specs.Sent.{AcceptedSendAll, SenderView, sent, tx_said}
+use Rattle.nr_blockdesk.specs.declared.heard.Heard.{Heard}
+use Rattle.nr_transmission.specs.declared.tx.Tx.{Tx}
 
 pub ok-same : {X : Type 0} {x y : X} → ◌≡◌ {A = Result X DeskFault} (Ok x) (Ok y) → x ≡ y
 ok-same e = cc e
@@ -22,13 +31,13 @@ ok-same e = cc e
 -- what a chain of steps that returns a value says of each step
 pub bind-ok : {X Y : Type 0} (r : Result X DeskFault) (f : X → Result Y DeskFault) (y : Y) → (r >>= f) ≡ Ok y
     → (x : X) × (r ≡ Ok x) × (f x ≡ Ok y)
-bind-ok x0 f y e = grind arith
+bind-ok r f y e = grind arith
 
 pub demanded-ok : (e : DeskFault) (b : Bool) (u : Unit {0}) → demanded e b ≡ Ok u → b ≡ true
-demanded-ok e x1 u h = grind arith
+demanded-ok e b u h = grind arith
 
 pub with_fault-ok : {X E : Type 0} (f : E → DeskFault) (r : Result X E) (x : X) → with_fault f r ≡ Ok x → r ≡ Ok x
-with_fault-ok f x1 x e = grind (arith, ok-same)
+with_fault-ok f r x e = grind (arith, ok-same)
 
 -- a buffer is the plan's, but for Ncb
 abbrev buffer_with : Graph → Numbers → ℕ → Circular
@@ -36,7 +45,7 @@ buffer_with graph p ncb = record { graph = graph; z = p.z; kdash = p.kdash; k = 
 
 buffer-made : (graph : Graph) (p : Numbers) (lbrm : Option ℕ) (b : Circular) → buffer_said graph p lbrm ≡ Ok b
     → b ≡ buffer_with graph p b.ncb
-buffer-made graph p x2 b said = grind (arith, nat_tests)
+buffer-made graph p lbrm b said = grind (arith, nat_tests)
 
 pub link-sound : BuffersAreCircular → LinksAreSound
 unfolding link_said
@@ -76,14 +85,14 @@ err-same e = cc e
 
 pub never-bind : {X Y : Type 0} (r : Result X DeskFault) (next : X → Result Y DeskFault) → (r ≡ Err fault.Memory → ⊥)
     → ((x : X) → next x ≡ Err fault.Memory → ⊥) → (r >>= next) ≡ Err fault.Memory → ⊥
-never-bind x0 next first rest e = grind (arith, err-same)
+never-bind r next first rest e = grind (arith, err-same)
 
 pub never-demanded : (d : DeskFault) (b : Bool) → (d ≡ fault.Memory → ⊥) → demanded d b ≡ Err fault.Memory → ⊥
-never-demanded d x1 other e = grind (arith, err-same)
+never-demanded d b other e = grind (arith, err-same)
 
 pub never-with_fault : {X E : Type 0} (f : E → DeskFault) (r : Result X E) → ((d : E) → f d ≡ fault.Memory → ⊥)
     → with_fault f r ≡ Err fault.Memory → ⊥
-never-with_fault f x1 other e = grind (arith, err-same)
+never-with_fault f r other e = grind (arith, err-same)
 
 never-ok : {X : Type 0} (x : X) → ◌≡◌ {A = Result X DeskFault} (Ok x) (Err fault.Memory) → ⊥
 never-ok x e = cc e
@@ -96,3 +105,44 @@ link-never_memory table settings a = grind (arith, never-bind, never-demanded, n
 pub no-memory : {X Y G : Type 0} (said : Result X DeskFault) (r : Result Y DeskFault) (e : DeskFault) → r ≡ Err e → said ≡ Err e
     → (said ≡ Err fault.Memory → ⊥) → r ≡ Err fault.Memory → G
 no-memory said r e is refused never memory = absurd (never (refused ∙ ap Err (err-same (sym is ∙ memory))))
+
+-- what arrives of a marked transmission is as much as was sent
+arrived-long : (marks bits : List Bool) (g : ℕ) → length marks ≡ g → length bits ≡ g
+    → length (map (λ at. arrived_bit at.0 at.1) (zip marks bits)) ≡ g
+arrived-long marks bits g marked whole = grind (arith, length-map, length-zip)
+
+-- what arrives of a marked transmission is accepted
+arrived-accepted : AcceptedSendAll → (link : Link) (block : List Bool) (x : Tx × List Bool) → IsMarked link x
+    → IsAccepted link (reception x.0 (map (λ at. arrived_bit at.0 at.1) (zip x.1 (sent link x.0 block))))
+arrived-accepted all link block x marked = go (tx_said link x.0) refl marked.0
+  where
+    places : List Heard
+    places = map (λ at. arrived_bit at.0 at.1) (zip x.1 (sent link x.0 block))
+
+    whole : (length places == x.0.g) ≡ true
+    whole = eq-eqb (length places) x.0.g (arrived-long x.1 (sent link x.0 block) x.0.g marked.1 (all link x.0 block marked.0))
+
+    go : (said : Result (List ℕ) DeskFault) → tx_said link x.0 ≡ said → IsOk said → IsAccepted link (reception x.0 places)
+    go (Ok lengths) said some = (
+      lengths,
+      ap (λ s. s >>= λ es. (demanded fault.Length (length places == x.0.g) >>= λ w. Ok es)) said
+          ∙ ap (λ b. demanded fault.Length b >>= λ w. Ok lengths) whole,
+    )
+    go (Err e) said none = cc none
+
+abbrev made : Link → List Bool → SenderView
+made link block = record { link = link; block = block }
+
+pub ends-safe : LinksAreSound → AcceptedSendAll → ErasuresAreSafe → EndsAreSafe
+ends-safe sound all safe table settings block sender link txs is-table said agreed marked =
+    let first = bind-ok (link_said table settings (length block)) _ sender said in
+    let same : link ≡ first.0 = ok-same (sym agreed ∙ first.1) in
+    let is-sender : made link block ≡ sender = ap (λ (l : Link). made l block) same ∙ ok-same first.2 in
+    let is : IsLink link = sound table settings (length block) link is-table agreed in
+    let whole : IsBlock link block = link-blocks table settings (length block) link agreed in
+    let accepted : All (IsAccepted link) (arrived link block txs) =
+    All-map (IsAccepted link)
+    (λ (x : Tx × List Bool). reception x.0 (map (λ at. arrived_bit at.0 at.1) (zip x.1 (sent link x.0 block)))) txs
+    (λ k d inside. arrived-accepted all link block _ (marked k d inside)) in
+    subst (λ (s : SenderView). AreEnds s link txs) is-sender
+    (record { same = refl; accepted = accepted; safe = safe link block txs is whole accepted })

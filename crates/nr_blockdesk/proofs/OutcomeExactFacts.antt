@@ -17,8 +17,7 @@ use Rattle.nr_blockdesk.specs.Outcome.{all_fixed, blocks_of, contradiction, deli
 use Rattle.nr_blockdesk.specs.OutcomeLaws.{AreAllFixed, IsExact, IsExplainer, IsOneLeft, NoneExplains, OutcomesAreExact, OutcomesSettle, is_fixed}
 use Rattle.nr_blockdesk.specs.ReceiverLaws.{DeliveredIsOnly, ExplainedIsDelivered}
 use Rattle.nr_blockdesk.proofs.ClosureDecisionFacts.{every_fixed}
-use Rattle.nr_blockdesk.proofs.SearchFacts.{blocks_long, find_passes, is_long}
-use Rattle.nr_blockdesk.proofs.OutcomeFacts.{never-contradicts, was-found}
+use Rattle.nr_blockdesk.proofs.OutcomeFacts.{blocks_long, find_passes, is_long, never-contradicts, was-found}
 use Rattle.nr_blockdesk.proofs.RecordFacts.{first-inside, first-past, record-at}
 use Rattle.nr_blockdesk.proofs.RangeTestFacts.{range_all}
 
@@ -37,10 +36,10 @@ none_left link records each = grind (arith, nat_tests, range_all, counted, not-t
 
 -- what an outcome says of the steps to it
 was-open : (all : Bool) (o : Option (List Bool)) → cond all (verdict_on o) open_still ≡ open_still → all ≡ false
-was-open x0 o e = grind arith
+was-open all o e = grind arith
 
 was-decided : (all : Bool) (o : Option (List Bool)) → cond all (verdict_on o) open_still ≡ contradiction → all ≡ true
-was-decided x0 o e = grind arith
+was-decided all o e = grind arith
 
 module _ (only : DeliveredIsOnly) (delivers : ExplainedIsDelivered) (link : Link) (list : List Reception) (is : IsLink link) (accepted : All (IsAccepted link) list) where
   abbrev found : Option (List Bool)
@@ -82,7 +81,7 @@ module _ (only : DeliveredIsOnly) (delivers : ExplainedIsDelivered) (link : Link
 
 -- a position that was received stays received
 found-more : (o p : Option Observation) → is_heard (option_map (λ h. h.1) o) ≡ true → is_heard (option_map (λ h. h.1) (option_or o p)) ≡ true
-found-more x0 p e = grind arith
+found-more o p e = grind arith
 
 heard-more : (n : ℕ) (hs more : List Observation) (p : ℕ) → is_heard (first_at (record_of n hs) p) ≡ true
     → is_heard (first_at (record_of n (hs ++ more)) p) ≡ true
@@ -90,7 +89,7 @@ unfolding first_heard
 heard-more n hs more p e = grind (arith, nat_tests, cases_lt, first-inside, find-append, found-more, first-past)
 
 or-more : (a b c : Bool) → (a ≡ true → b ≡ true) → (a || c) ≡ true → (b || c) ≡ true
-or-more x0 b c then e = grind arith
+or-more a b c then e = grind arith
 
 -- a position that is fixed stays fixed
 fixed-more : ClosureIsMonotone → (link : Link) (list more : List Reception) (r : ℕ) → r < link.plan.c
@@ -143,4 +142,4 @@ outcomes-settle monotone only exact link list more is accepted = record {
       where
         go : (b : Bool) → explains link (list ++ more) x ≡ b
             → (outcome_of link (list ++ more) ≡ delivered x) ⊎ (outcome_of link (list ++ more) ≡ contradiction)
-        go x0 by = grind (arith, before, after, still, first, explains-before)
+        go b by = grind (arith, before, after, still, first, explains-before)

@@ -1,26 +1,94 @@
--- The laws of the outcome of a list of receptions.
-use Rattle.std.proofs.Common.{◌≡◌, ℕ, zero, suc, ◌<◌, Bool, true, cond, List, [], ◌∷◌, length, map, refl, sym, ◌∙◌, arith}
-use Rattle.std.specs.Prelude.{Option, Some, None}
-use Rattle.std.specs.List.{find, zip}
-use Rattle.std.proofs.lemmas.Bool.{and_from, eqb-true, true≢false}
+-- The laws of the outcome of a list of receptions: what a search through all lists of n bits finds, and where nothing was received.
+use Rattle.std.proofs.Common.{◌≡◌, ℕ, zero, suc, ◌<◌, Bool, true, cond, List, [], ◌∷◌, length, map, refl, sym, ◌∙◌, arith, ◌==◌, false, get_or, flat_map, ap, ◌+◌, ◌≤◌, ◌||◌, not}
+use Rattle.std.specs.Prelude.{Option, Some, None, count_by}
+use Rattle.std.specs.List.{find, zip, list_all, range_with_len}
+use Rattle.std.proofs.lemmas.Bool.{and_from, eqb-true, true≢false, and_parts, eq-eqb, false_from_ne_true}
 use Rattle.nr_bitvec.specs.Bit.{bit}
 use Rattle.nr_blockdesk.specs.Explains.{Explains, agrees, explains, heard_at}
-use Rattle.nr_blockdesk.specs.Heard.{heard_record}
-use Rattle.nr_blockdesk.specs.Link.{IsBlock, Link}
-use Rattle.nr_blockdesk.specs.Outcome.{all_fixed, blocks_of, contradiction, delivered, open_still, outcome_of, verdict_on}
-use Rattle.nr_blockdesk.specs.ReceiverLaws.{DeliveredIsOnly, ErasuresAreSafe, ExplainedIsDelivered, ExplainedNeverContradicts, OneExplains, arrived, arrived_bit}
+use Rattle.nr_blockdesk.specs.Heard.{heard_record, heard_of, hearings}
+use Rattle.nr_blockdesk.specs.Link.{IsBlock, Link, IsLink}
+use Rattle.nr_blockdesk.specs.Outcome.{all_fixed, blocks_of, contradiction, delivered, open_still, outcome_of, verdict_on, fixed, given}
+use Rattle.nr_blockdesk.specs.ReceiverLaws.{DeliveredIsOnly, ErasuresAreSafe, ExplainedIsDelivered, ExplainedNeverContradicts, OneExplains, arrived, arrived_bit, NothingIsOpen, NothingLeavesAll}
 use Rattle.nr_blockdesk.specs.declared.heard.Heard.{Heard}
 use Rattle.nr_transmission.specs.declared.tx.Tx.{Tx}
-use Rattle.nr_blockdesk.proofs.SearchFacts.{blocks_long, find_passes, is_long, none_passes}
-use Rattle.nr_blockdesk.proofs.RangeTestFacts.{range_all}
+use Rattle.nr_blockdesk.proofs.RangeTestFacts.{range_all, flat_all}
+use Rattle.std.proofs.lemmas.Bool.Decides.{nat_tests}
+use Rattle.std.proofs.lemmas.List.Sums.{AllPass-from_list_all, list_all-from_AllPass, sum_by-cons}
+use Rattle.nr_crcattach.specs.Attachment.{attached_length}
+use Rattle.nr_harqbuf.specs.Record.{HeardBits, first_at, is_heard, record_of}
+use Rattle.nr_ldpcenc.specs.Codeword.{filler}
+use Rattle.nr_ldpcenc.specs.Rows.{block_checks}
+use Rattle.nr_segment.specs.Plan.{word_size, PlansAreSound, IsSound}
+use Rattle.nr_peel.specs.Closure.{closure}
+use Rattle.nr_peel.specs.Laws.{NothingHeardFixesNothing}
+use Rattle.nr_shifttable.specs.Accepted.{entries_in}
+use Rattle.nr_blockdesk.proofs.ClosureDecisionFacts.{every_fixed}
+use Rattle.nr_blockdesk.proofs.RecordFacts.{none_heard, record-at}
+
+first_found : {X : Type 0} (t q : X → Bool) (y x : X) (o : Option X) → q y ≡ true
+    → (o ≡ Some x → (t x ≡ true) × (q x ≡ true)) → (b : Bool) → t y ≡ b → cond b (Some y) o ≡ Some x
+    → (t x ≡ true) × (q x ≡ true)
+first_found t q y x o held later b e found = grind arith
+
+-- what is found passes the test, and every other test that all pass
+pub find_passes : {X : Type 0} (t q : X → Bool) (xs : List X) (x : X) → list_all q xs ≡ true → find t xs ≡ Some x
+    → (t x ≡ true) × (q x ≡ true)
+find_passes t q [] x all found = cc found
+find_passes t q (y ∷ ys) x all found =
+    let both = and_parts (q y) (list_all q ys) all in
+    first_found t q y x (find t ys) both.0 (find_passes t q ys x both.1) (t y) refl found
+
+abbrev doubled : List Bool → List (List Bool)
+doubled bits = (false ∷ bits) ∷ (true ∷ bits) ∷ []
+
+abbrev pub is_long : ℕ → List Bool → Bool
+is_long n bits = length bits == n
+
+doubled-long : (n : ℕ) (bits : List Bool) → is_long n bits ≡ true → list_all (is_long (suc n)) (doubled bits) ≡ true
+doubled-long n bits long = grind (arith, nat_tests, eqb-true, eq-eqb, and_from)
+
+all_then : {X : Type 0} (q p : X → Bool) (xs : List X) → ((x : X) → q x ≡ true → p x ≡ true) → list_all q xs ≡ true → list_all p xs ≡ true
+all_then q p xs then all = list_all-from_AllPass p xs (λ k d inside. then (get_or xs k d) (AllPass-from_list_all q xs all k d inside))
+
+-- each of all lists of n bits has n bits
+pub blocks_long : (n : ℕ) → list_all (is_long n) (blocks_of n) ≡ true
+blocks_long zero = refl
+blocks_long (suc n) = grind (arith, flat_all, all_then, doubled-long, blocks_long n)
+
+step : {X : Type 0} (p q : Bool) (u v : X) (o : Option X) → cond p (Some u) (cond q (Some v) o) ≡ None
+    → (p ≡ false) × (q ≡ false) × (o ≡ None)
+step p q u v o e = grind arith
+
+find_doubled : (t : List Bool → Bool) (xs : List (List Bool)) → find t (flat_map doubled xs) ≡ None
+    → (find (λ bits. t (false ∷ bits)) xs ≡ None) × (find (λ bits. t (true ∷ bits)) xs ≡ None)
+find_doubled t [] none = (refl, refl)
+find_doubled t (x ∷ xs) none =
+    let parts = step (t (false ∷ x)) (t (true ∷ x)) (false ∷ x) (true ∷ x) (find t (flat_map doubled xs)) none in
+    let rest = find_doubled t xs parts.2 in (
+      ap (λ b. cond b (Some x) (find (λ bits. t (false ∷ bits)) xs)) parts.0 ∙ rest.0,
+      ap (λ b. cond b (Some x) (find (λ bits. t (true ∷ bits)) xs)) parts.1 ∙ rest.1,
+    )
+
+one-none : (b : Bool) → cond {A = Option (List Bool)} b (Some []) None ≡ None → b ≡ false
+one-none b e = grind arith
+
+-- where none is found, no list of n bits passes
+pub none_passes : (n : ℕ) (t : List Bool → Bool) → find t (blocks_of n) ≡ None → (y : List Bool) → length y ≡ n → t y ≡ false
+none_passes zero t none [] long = one-none (t []) none
+none_passes zero t none (b ∷ bs) long = absurd (omega (arith, long))
+none_passes (suc n) t none [] long = absurd (omega (arith, long))
+none_passes (suc n) t none (false ∷ bs) long =
+    none_passes n (λ bits. t (false ∷ bits)) (find_doubled t (blocks_of n) none).0 bs (omega (arith, long))
+none_passes (suc n) t none (true ∷ bs) long =
+    none_passes n (λ bits. t (true ∷ bits)) (find_doubled t (blocks_of n) none).1 bs (omega (arith, long))
 
 -- what an outcome says: where a block is delivered, all is fixed and the block was found
 pub was-found : (all : Bool) (o : Option (List Bool)) (x : List Bool) → cond all (verdict_on o) open_still ≡ delivered x
     → (all ≡ true) × (o ≡ Some x)
-was-found x0 o x e = grind arith
+was-found all o x e = grind arith
 
 was-none : (all : Bool) (o : Option (List Bool)) → cond all (verdict_on o) open_still ≡ contradiction → o ≡ None
-was-none x0 o e = grind arith
+was-none all o e = grind arith
 
 pub delivered-only : OneExplains → DeliveredIsOnly
 unfolding outcome_of
@@ -49,7 +117,7 @@ explained-delivered one link list y is accepted whole explained all = rw all (go
         rw (e, one link list x y is accepted (eqb-true (length x) link.a passes.1) whole passes.0 explained all) refl
 
 arrived-agrees : (mark b : Bool) → agrees (arrived_bit mark b) b ≡ true
-arrived-agrees x0 b = grind arith
+arrived-agrees mark b = grind arith
 
 abbrev arrived_pair : Bool × Bool → Heard
 arrived_pair at = arrived_bit at.0 at.1
@@ -74,3 +142,47 @@ erasures-safe one link block txs is whole accepted =
       no_contradiction = never-contradicts link (arrived link block txs) block whole explained;
       sent_one = λ x e. sym ((delivered-only one link (arrived link block txs) x is accepted e).only block whole explained);
     }
+
+some_from : (n : ℕ) → not (n == 0) ≡ true → 0 < n
+some_from n e = grind arith
+
+-- no position below K' is fixed
+none_fixed : NothingHeardFixesNothing → PlansAreSound → (link : Link) (r p : ℕ) → IsLink link → r < link.plan.c → p < link.plan.kdash
+    → fixed link (heard_of (heard_record link []) r) p ≡ false
+unfolding hearings
+none_fixed nothing plans link r p is block low =
+    let s : HeardBits = heard_of (heard_record link []) r in
+    let same : s ≡ record_of (word_size link.graph link.plan) [] = record-at link [] r block in
+    let sets : given link s ≡ filler link.plan.kdash link.plan.k =
+    λ i k. (ap (λ (h : HeardBits). is_heard (first_at h k) || filler link.plan.kdash link.plan.k k) same
+    ∙ ap (λ o. is_heard o || filler link.plan.kdash link.plan.k k) (none_heard (word_size link.graph link.plan) k)) i in
+    ap (λ (S : ℕ → Bool). closure (block_checks link.table link.graph link.plan) S p) sets
+    ∙ nothing link.table link.graph (attached_length link.a) link.plan p is.table
+    (some_from (length (entries_in link.graph link.table)) is.there) (plans link.graph (attached_length link.a) link.plan is.planned) low
+
+pub nothing-open : NothingHeardFixesNothing → PlansAreSound → NothingIsOpen
+unfolding outcome_of
+nothing-open nothing plans link is =
+    ap (λ b. cond b (verdict_on (find (explains link []) (blocks_of link.a))) open_still) (false_from_ne_true _ never)
+  where
+    sound : IsSound link.graph (attached_length link.a) link.plan
+    sound = plans link.graph (attached_length link.a) link.plan is.planned
+
+    never : all_fixed link (heard_record link []) ≡ true → ⊥
+    never all =
+        let low : 0 < link.plan.kdash = omega (arith, sound.unpunctured) in
+        let is-fixed : fixed link (heard_of (heard_record link []) 0) 0 ≡ true = every_fixed link (heard_record link []) all 0 sound.some 0 low in
+        true≢false (sym is-fixed ∙ none_fixed nothing plans link 0 0 is sound.some low)
+
+-- a test that each number of a range passes counts them all
+count_full : (t : ℕ → Bool) (a n : ℕ) → ((m : ℕ) → a ≤ m → m < a + n → t m ≡ true) → count_by t (range_with_len a n) ≡ n
+count_full t a zero each = refl
+count_full t a (suc n) each =
+    let first : t a ≡ true = each a (omega arith) (omega arith) in
+    let one : ◌≡◌ {A = ℕ} (cond (t a) 1 0) 1 = ap (λ b. cond b 1 0) first in
+    let rest = count_full t (a + 1) n (λ m low high. each m (omega arith) (omega arith)) in
+    omega (arith, sum_by-cons (λ x. cond (t x) 1 0) a (range_with_len (a + 1) n), one, rest)
+
+-- so all K' are left
+pub nothing-leaves_all : NothingHeardFixesNothing → PlansAreSound → NothingLeavesAll
+nothing-leaves_all nothing plans link records r is of block = grind (arith, count_full, none_fixed)

@@ -31,7 +31,7 @@ range_each p a n all m low high =
 
 cons_all : {X : Type 0} (p : X → Bool) (o : Option X) (xs : List X) (b : Bool) → list_all p xs ≡ b
     → list_all p (cons_option o xs) ≡ (holds_if p o && b)
-cons_all p x1 xs b rest = grind arith
+cons_all p o xs b rest = grind arith
 
 -- a test of all that the numbers give is one of each number
 pub given_all : {X : Type 0} (f : ℕ → Option X) (p : X → Bool) (ns : List ℕ) → list_all p (filter_map f ns) ≡ list_all (λ m. holds_if p (f m)) ns

@@ -1,13 +1,12 @@
--- What words tell of selected bits is what their places tell one by one.
-use Rattle.std.proofs.lemmas.Bool.Decides.{nat_tests}
-use Rattle.std.proofs.Common.{◌≡◌, ℕ, ◌+◌, ◌-◌, ◌%◌, ◌<◌, ◌≤◌, ◌==◌, ◌||◌, ◌&&◌, Bool, true, false, nat_le, nat_lt, List, [], ◌∷◌, length, take, drop, refl, sym, ap, ◌∙◌, arith}
+-- What words tell of selected bits is what their places tell one by one, and marks of a whole part are the same in any order.
+use Rattle.std.proofs.lemmas.Bool.Decides.{nat_tests, same_from_decides}
+use Rattle.std.proofs.Common.{◌≡◌, ℕ, ◌+◌, ◌-◌, ◌%◌, ◌<◌, ◌≤◌, ◌==◌, ◌||◌, ◌&&◌, Bool, true, false, nat_le, nat_lt, List, [], ◌∷◌, length, take, drop, refl, sym, ap, ◌∙◌, arith, ◌^◌, replicate}
 use Rattle.std.specs.Prelude.{Option, Some, None, option_map}
 use Rattle.std.specs.Bool.{beq}
-use Rattle.std.specs.Int.{bit_at}
+use Rattle.std.specs.Int.{bit_at, bit_not, w64}
 use Rattle.std.specs.List.{cons_option, filter_map, list_any, range_with_len}
 use Rattle.std.proofs.lemmas.Bool.{and_from, and_parts, eq-eqb, eqb-true, le-leb, lt-ltb, leb-true, ltb-true}
-use Rattle.std.proofs.lemmas.Bool.Decides.{same_from_decides}
-use Rattle.std.proofs.lemmas.List.{get_or-drop, get_or-take, length-drop, length-take-le}
+use Rattle.std.proofs.lemmas.List.{get_or-drop, get_or-take, length-drop, length-take-le, get_or-replicate, length-replicate}
 use Rattle.std.proofs.lemmas.List.Folds.{Any-from_list_any, list_any-append, list_any_at}
 use Rattle.std.proofs.lemmas.List.FromFn.{get_or-range_with_len, length-range_with_len}
 use Rattle.std.proofs.Math.Bool.{and-false, or-false, or_assoc}
@@ -26,7 +25,9 @@ use Rattle.nr_blockdesk.specs.declared.heard.Heard.{Heard}
 use Rattle.nr_transmission.specs.declared.tx.Tx.{Tx}
 use Rattle.nr_blockdesk.proofs.RangeTestFacts.{range-split}
 use Rattle.nr_blockdesk.proofs.MarkFacts.{heard-at, length-heards, tells-marked}
-use Rattle.nr_blockdesk.proofs.SentPlaceFacts.{bit-interleaved, length-interleaved}
+use Rattle.nr_blockdesk.proofs.SenderFacts.{bit-interleaved, length-interleaved}
+use Rattle.std.proofs.lemmas.Nat.Bits.{bit_at-lt, bit_at_not}
+use Rattle.nr_bitvec.proofs.PlaceFacts.{same_from_bits}
 
 -- a number of a range passes a test
 pub found : (f : ℕ → Bool) (a n k : ℕ) → a ≤ k → k < a + n → f k ≡ true → list_any f (range_with_len a n) ≡ true
@@ -115,7 +116,7 @@ told_by p v (Some h) = (h.0 == p) && beq h.1 v
 cons_any : (p : ℕ) (v : Bool) (o : Option Observation) (hs : List Observation) (b : Bool) → list_any (λ (h : Observation). (h.0 == p) && beq h.1 v) hs ≡ b
     → list_any (λ (h : Observation). (h.0 == p) && beq h.1 v) (cons_option o hs) ≡ (told_by p v o || b)
 unfolding told_by
-cons_any p v x2 hs b rest = grind (arith, nat_tests)
+cons_any p v o hs b rest = grind (arith, nat_tests)
 
 any-part_masks : (f : ℕ → Option Observation) (p : ℕ) (v : Bool) (ns : List ℕ)
     → list_any (λ (h : Observation). (h.0 == p) && beq h.1 v) (filter_map f ns) ≡ list_any (λ m. told_by p v (f m)) ns
@@ -124,7 +125,7 @@ any-part_masks f p v (n ∷ ns) = cons_any p v (f n) (filter_map f ns) (list_any
 
 part_masks-at : (p q : ℕ) (v : Bool) (o : Option Bool) → told_by p v (option_map (λ b. (q, b)) o) ≡ ((q == p) && tells o v)
 unfolding told_by
-part_masks-at p q v x3 = grind (arith, nat_tests, and-false)
+part_masks-at p q v o = grind (arith, nat_tests, and-false)
 
 -- bits that interleave to the marks and bits of a part say what its places tell
 module _ (b : Circular) (tx : Tx) (marks bits chosen chosen-too : List Bool) (from n : ℕ) (some : 0 < tx.qm) (whole : n % tx.qm ≡ 0)
@@ -178,3 +179,20 @@ module _ (b : Circular) (tx : Tx) (marks bits chosen chosen-too : List Bool) (fr
 
 pub none-more : (a : Bool) → a ≡ (a || false)
 none-more a = sym (or-false a)
+
+-- where the complement of a word has a zero, the word has a one
+pub marked : (word j : ℕ) → word < 2 ^ 64 → j < 64 → bit_at (bit_not w64 word) j ≡ 0 → (bit_at word j == 1) ≡ true
+marked word j fits few none =
+    let one : bit_at word j ≡ 1 = omega (arith, bit_at_not w64 word j fits few, none, bit_at-lt word j) in
+    ap (λ b. b == 1) one
+
+-- interleaving leaves ones alone as they are
+ones-interleaved : (qm n : ℕ) (ones : List Bool) → 0 < qm → n % qm ≡ 0 → length ones ≡ n → ((m : ℕ) → m < n → bit ones m ≡ true)
+    → interleaved qm ones ≡ ones
+ones-interleaved qm n ones some whole long all = grind (arith, length-interleaved, same_from_bits, bit-interleaved, seat-inside)
+
+-- marks of a part whose places are all marked
+pub whole-interleaved : (qm from n many : ℕ) (marks : List Bool) → 0 < qm → n % qm ≡ 0 → from + n ≤ length marks
+    → ((m : ℕ) → m < n → bit marks (from + m) ≡ true) → many ≡ n
+    → interleaved qm (replicate many true) ≡ take n (drop from marks)
+whole-interleaved qm from n many marks some whole inside all is = grind (arith, length-take-le, length-drop, length-replicate, ones-interleaved, get_or-replicate, same_from_bits, get_or-take, get_or-drop)

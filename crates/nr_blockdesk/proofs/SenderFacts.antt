@@ -1,17 +1,124 @@
--- What a sender's codewords are, and what is said of a transmission.
-use Rattle.std.proofs.Common.{◌≡◌, ℕ, ◌*◌, ◌%◌, ◌<◌, nat_le, Bool, Result, Ok, Err, IsOk, List, [], length, sum, slice_index_or, All, subst, refl, sym, ap, ◌∙◌, arith}
+-- The bits sent, code block by code block, whose bit stands at each place of them, and what is said of a transmission.
+use Rattle.std.proofs.Common.{◌≡◌, ℕ, ◌*◌, ◌%◌, ◌<◌, nat_le, Bool, Result, Ok, Err, IsOk, List, [], length, sum, slice_index_or, All, subst, refl, sym, ap, ◌∙◌, arith, rules, suc, zero, ◌+◌, ◌≤◌, false, ◌++◌, flat_map, take, get_or, slice_index}
 use Rattle.std.proofs.lemmas.Bool.Decides.{nat_tests}
-use Rattle.std.proofs.lemmas.List.FromFn.{get_or-map-range_with_len, length-map-range_with_len}
+use Rattle.std.proofs.lemmas.List.FromFn.{get_or-map-range_with_len, length-map-range_with_len, fill_by_all, length-range_with_len, get_or-range_with_len, take-map-range_with_len}
 use Rattle.nr_graphpick.specs.Graph.{cols_of}
 use Rattle.nr_ratematch.specs.Lengths.{IsShared, LengthsAreShared, lengths_said, scheduled}
 use Rattle.nr_blockdesk.specs.Link.{IsBlock, IsLink, Link, WordsArePlain, demanded, word}
 use Rattle.nr_blockdesk.specs.Inside.{words_of}
-use Rattle.nr_blockdesk.specs.Sent.{AcceptedAreMatched, AcceptedSendAll, answered, matching, matching_of, sent, sent_of, sent_said, tx_said, tx_said_of}
+use Rattle.nr_blockdesk.specs.Sent.{AcceptedAreMatched, AcceptedSendAll, answered, matching, matching_of, sent, sent_of, sent_said, tx_said, tx_said_of, RateMatching, PartsAreAt, SentBitsAreAt, SentIsLong, block_sent, position_at}
 use Rattle.nr_transmission.specs.declared.fault.DeskFault.{DeskFault}
 use Rattle.nr_transmission.specs.declared.fault.DeskFault.TheVariants as fault
 use Rattle.nr_transmission.specs.declared.tx.Tx.{Tx}
 use Rattle.nr_blockdesk.proofs.LinkFacts.{bind-ok, demanded-ok, never-bind, never-demanded, never-with_fault, with_fault-ok}
-use Rattle.nr_blockdesk.proofs.SentPlaceFacts.{sent-long, sent-same}
+use Rattle.std.specs.List.{range_with_len}
+use Rattle.std.proofs.lemmas.List.{flat_map_more, get_or-take, length-take-le, map-id, take_all}
+use Rattle.std.proofs.lemmas.List.Concat.{get_or-flat_map, length-flat_map}
+use Rattle.std.proofs.lemmas.List.Sums.{sum-map, sum_by_more_le}
+use Rattle.nr_bitvec.specs.Bit.{bit}
+use Rattle.nr_cbconcat.specs.Concatenation.{PlacesHaveOneOwner, owner_of}
+use Rattle.nr_interleave.specs.Interleaving.{SeatsAreSeating, interleaved, seat_of}
+use Rattle.nr_ratematch.specs.Selection.{Circular, PlacesAreSent, place_of, selected}
+use Rattle.nr_blockdesk.proofs.RangeTestFacts.{range-split}
+
+pub length-selected : (b : Circular) (word : List Bool) (rv e : ℕ) → length (selected b word rv e) ≡ e
+unfolding selected
+length-selected b word rv e = length-map-range_with_len (λ k. bit word (place_of b rv k)) 0 e
+
+bit-selected : (b : Circular) (word : List Bool) (rv e p : ℕ) → p < e → bit (selected b word rv e) p ≡ bit word (place_of b rv p)
+unfolding selected
+bit-selected b word rv e p inside = get_or-map-range_with_len (λ k. bit word (place_of b rv k)) 0 e p p false inside (omega arith)
+
+pub length-interleaved : (qm : ℕ) (bits : List Bool) → length (interleaved qm bits) ≡ length bits
+unfolding interleaved
+length-interleaved qm bits = length-map-range_with_len (λ m. bit bits (seat_of qm (length bits) m)) 0 (length bits)
+
+pub bit-interleaved : (qm : ℕ) (bits : List Bool) (p : ℕ) → p < length bits → bit (interleaved qm bits) p ≡ bit bits (seat_of qm (length bits) p)
+unfolding interleaved
+bit-interleaved qm bits p inside = grind (arith, get_or-map-range_with_len)
+
+pub length-block_sent : (t : RateMatching) (word : List Bool) (e : ℕ) → length (block_sent t word e) ≡ e
+length-block_sent t word e = length-interleaved t.qm (selected t.buffer word t.rv e) ∙ length-selected t.buffer word t.rv e
+
+bit-block_sent : (t : RateMatching) (word : List Bool) (e p : ℕ) → p < e → seat_of t.qm e p < e
+    → bit (block_sent t word e) p ≡ bit word (place_of t.buffer t.rv (seat_of t.qm e p))
+bit-block_sent t word e p inside seat = grind (arith, length-selected, bit-interleaved, bit-selected)
+
+-- one piece more
+pieces-more : (f : ℕ → List Bool) (n : ℕ) → flat_map f (range_with_len 0 n) ++ f n ≡ flat_map f (range_with_len 0 (n + 1))
+pieces-more f n = search (rules, flat_map_more, flat_map, range-split)
+
+length-pieces : (f : ℕ → List Bool) (lengths : List ℕ) (n : ℕ) → ((r : ℕ) → length (f r) ≡ slice_index lengths r)
+    → n ≤ length lengths → length (flat_map f (range_with_len 0 n)) ≡ sum (take n lengths)
+length-pieces f lengths n long within =
+    length-flat_map f (range_with_len 0 n) ∙ sym (sum-map (λ r. length (f r)) (range_with_len 0 n))
+    ∙ ap sum (sym (fill_by_all (λ r. length (f r)) (take n lengths) n 0 (length-take-le n lengths within) (λ k low. get_or-take n lengths k 0 low ∙ sym (long k))))
+
+-- the bits sent of the first n code blocks
+abbrev pub front_sent : RateMatching → (ℕ → List Bool) → ℕ → List Bool
+front_sent t words n = flat_map (λ r. block_sent t (words r) (slice_index t.lengths r)) (range_with_len 0 n)
+
+pub front-more : (t : RateMatching) (words : ℕ → List Bool) (n : ℕ)
+    → front_sent t words n ++ block_sent t (words n) (slice_index t.lengths n) ≡ front_sent t words (n + 1)
+front-more t words n = pieces-more (λ r. block_sent t (words r) (slice_index t.lengths r)) n
+
+pub length-front : (t : RateMatching) (words : ℕ → List Bool) (n : ℕ) → n ≤ length t.lengths
+    → length (front_sent t words n) ≡ sum (take n t.lengths)
+length-front t words n within = grind (arith, length-pieces, length-block_sent)
+
+-- there is room among all bits for those of one code block more
+pub front-inside : (t : RateMatching) (words : ℕ → List Bool) (n : ℕ) → n < length t.lengths
+    → length (front_sent t words n) + length (block_sent t (words n) (slice_index t.lengths n)) ≤ sum t.lengths
+front-inside t words n within = grind (arith, nat_tests, length-front, length-block_sent, sum_by_more_le)
+
+pub sent-long : SentIsLong
+unfolding sent_of
+sent-long t words = grind (arith, length-front, take_all)
+
+-- bit p of code block r's part, in the whole
+bit-sent : (t : RateMatching) (words : ℕ → List Bool) (r p : ℕ) → r < length t.lengths → p < slice_index t.lengths r
+    → bit (sent_of t words) (sum (take r t.lengths) + p) ≡ bit (block_sent t (words r) (slice_index t.lengths r)) p
+unfolding sent_of
+bit-sent t words r p block inside =
+    let f : ℕ → List Bool = λ r. block_sent t (words r) (slice_index t.lengths r) in
+    let c : ℕ = length t.lengths in
+    let at : get_or (range_with_len 0 c) r 0 ≡ r = get_or-range_with_len 0 c r 0 block ∙ omega arith in
+    let there : r < length (range_with_len 0 c) = subst (λ n. r < n) (sym (length-range_with_len 0 c)) block in
+    let long : length (f r) ≡ slice_index t.lengths r = length-block_sent t (words r) (slice_index t.lengths r) in
+    let short : p < length (f (get_or (range_with_len 0 c) r 0)) =
+    subst (λ q. p < length (f q)) (sym at) (subst (λ n. p < n) (sym long) inside) in
+    let front : length (flat_map f (take r (range_with_len 0 c))) ≡ sum (take r t.lengths) =
+    ap (λ rs. length (flat_map f rs)) (take-range c r (omega arith)) ∙ length-front t words r (omega arith) in
+    ap (λ n. bit (flat_map f (range_with_len 0 c)) (n + p)) (sym front)
+    ∙ get_or-flat_map f (range_with_len 0 c) r p 0 false there short
+    ∙ ap (λ q. bit (f q) p) at
+  where
+    take-range : (c r : ℕ) → r ≤ c → take r (range_with_len 0 c) ≡ range_with_len 0 r
+    take-range c r within = simp map-id at (take-map-range_with_len (λ (x : ℕ). x) 0 c r within)
+
+pub sent-at : PlacesHaveOneOwner → PlacesAreSent → SeatsAreSeating → SentBitsAreAt
+unfolding position_at
+sent-at owners sents seats t m is inside = grind (arith, bit-sent, bit-block_sent)
+
+pub parts-at : PlacesHaveOneOwner → PartsAreAt
+unfolding position_at
+parts-at owners t m r p owner =
+    let most = sum_by_more_le (λ (x : ℕ). x) t.lengths r 0 owner.block in
+    let joined = owner.joined in
+    let below = owner.inside in
+    let same : owner_of t.lengths m ≡ (r, p) = sym ((owners t.lengths m (omega arith)).only r p owner) in (
+      ap (λ (q : ℕ × ℕ). q.0) same,
+      ap (λ (q : ℕ × ℕ). place_of t.buffer t.rv (seat_of t.qm (slice_index t.lengths q.0) q.1)) same,
+    )
+
+-- codewords that are the same send the same
+flat-same : (f g : ℕ → List Bool) (a n : ℕ) → ((r : ℕ) → r < a + n → f r ≡ g r) → flat_map f (range_with_len a n) ≡ flat_map g (range_with_len a n)
+flat-same f g a zero each = refl
+flat-same f g a (suc n) each = rw (each a (omega arith), flat-same f g (a + 1) n (λ r low. each r (omega arith))) refl
+
+pub sent-same : (t : RateMatching) (f g : ℕ → List Bool) → ((r : ℕ) → r < length t.lengths → f r ≡ g r) → sent_of t f ≡ sent_of t g
+unfolding sent_of
+sent-same t f g same = grind (arith, flat-same)
 
 pub length-words : (link : Link) (block : List Bool) → length (words_of link block) ≡ link.plan.c
 length-words link block = length-map-range_with_len (word link block) 0 link.plan.c

@@ -7,7 +7,7 @@ use Rattle.nr_segment.specs.Plan.{word_size}
 use Rattle.nr_segment.specs.CodeBlock.{code_bits, numbers}
 use Rattle.nr_blockdesk.specs.Heard.{heard_of}
 use Rattle.nr_blockdesk.specs.ReceivingInside.{Fits}
-use Rattle.nr_blockdesk.proofs.KeptCandidateFacts.{words-more, words-set}
+use Rattle.nr_blockdesk.proofs.CandidateFacts.{words-more, words-set}
 use Rattle.nr_blockdesk.proofs.encoder.explains.Goals.{After-index-stores-r}
 use Rattle.nr_blockdesk.proofs.encoder.explains.Goals as goal
 

@@ -12,10 +12,10 @@ use Rattle.nr_blockdesk.proofs.encoder.tail_word.Goals as goal
 
 -- L is 24 or 0
 short : (several : Bool) (l : ℕ) → l ≡ cond several 24 0 → l ≤ 24
-short x0 l is = grind arith
+short several l is = grind arith
 
 whole : (several : Bool) (l : ℕ) → l ≡ cond several 24 0 → 0 < l → l ≡ 24
-whole x0 l is some = grind arith
+whole several l is some = grind arith
 
 pub returns-then-plan-gt0 : goal.returns-then-plan-gt0
 returns-then-plan-gt0 c = λ t few inside.

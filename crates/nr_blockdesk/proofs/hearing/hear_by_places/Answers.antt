@@ -13,10 +13,9 @@ use Rattle.nr_blockdesk.specs.Inside.{heards_of}
 use Rattle.nr_blockdesk.specs.ReceivingInside.{Fits, Agrees, part_hearings}
 use Rattle.nr_blockdesk.specs.declared.part.Part.{Part}
 use Rattle.nr_transmission.specs.declared.tx.Tx.{Tx}
-use Rattle.nr_blockdesk.proofs.HearingFacts.{first-kept, first-set, fits-before, part-none, part-some, recorded-more, tells-more}
+use Rattle.nr_blockdesk.proofs.HearingFacts.{first-kept, first-set, fits-before, part-none, part-some, recorded-more, tells-more, news-again, news-more, tied-still}
 use Rattle.nr_blockdesk.proofs.MarkFacts.{heard-at, length-heards, some-marked}
 use Rattle.nr_blockdesk.proofs.MergingFacts.{empty-bit}
-use Rattle.nr_blockdesk.proofs.NewPositionFacts.{news-again, news-more, tied-still}
 use Rattle.nr_blockdesk.proofs.RecordFacts.{heard-some}
 use Rattle.nr_blockdesk.proofs.hearing.hear_by_places.Goals as goal
 use Rattle.nr_blockdesk.proofs.hearing.hear_by_places.Goals.{then-get, then-is_none, else-is_none, else-get}

@@ -1,7 +1,7 @@
 use Rattle.std.proofs.Common.{arith}
 use Rattle.std.proofs.Common.{rules}
 use Rattle.nr_blockdesk.proofs.MergingFacts.{empty-all}
-use Rattle.nr_blockdesk.proofs.NewPositionFacts.{tied-news, tied-still}
+use Rattle.nr_blockdesk.proofs.HearingFacts.{tied-news, tied-still}
 use Rattle.nr_blockdesk.proofs.hearing.learn_masks.Goals as goal
 
 pub returns-then-is_empty-clause-tied : goal.returns-then-is_empty-clause-tied

@@ -1,4 +1,4 @@
-use Rattle.nr_blockdesk.proofs.SentPlaceFacts.{parts-at}
+use Rattle.nr_blockdesk.proofs.SenderFacts.{parts-at}
 use Rattle.nr_blockdesk.proofs.laws.parts_are_at.Goals as goal
 
 pub returns : goal.returns

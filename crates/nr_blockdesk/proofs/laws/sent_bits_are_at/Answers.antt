@@ -1,4 +1,4 @@
-use Rattle.nr_blockdesk.proofs.SentPlaceFacts.{sent-at}
+use Rattle.nr_blockdesk.proofs.SenderFacts.{sent-at}
 use Rattle.nr_blockdesk.proofs.laws.sent_bits_are_at.Goals as goal
 
 pub returns : goal.returns

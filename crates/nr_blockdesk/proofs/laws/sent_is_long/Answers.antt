@@ -1,4 +1,4 @@
-use Rattle.nr_blockdesk.proofs.SentPlaceFacts.{sent-long}
+use Rattle.nr_blockdesk.proofs.SenderFacts.{sent-long}
 use Rattle.nr_blockdesk.proofs.laws.sent_is_long.Goals as goal
 
 pub returns : goal.returns

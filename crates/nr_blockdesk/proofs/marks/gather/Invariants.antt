@@ -1,5 +1,5 @@
 -- The places so far stand in the words, and no marks behind them.
-use Rattle.nr_blockdesk.proofs.GatheredWordFacts.{IsGathered}
+use Rattle.nr_blockdesk.proofs.MarkFacts.{IsGathered}
 use Rattle.nr_blockdesk.proofs.marks.gather.Given as goal
 
 abbrev pub invariant-loop-j : goal.invariant-loop-j

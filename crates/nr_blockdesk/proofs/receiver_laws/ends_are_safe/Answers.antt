@@ -1,4 +1,4 @@
-use Rattle.nr_blockdesk.proofs.LinkEndFacts.{ends-safe}
+use Rattle.nr_blockdesk.proofs.LinkFacts.{ends-safe}
 use Rattle.nr_blockdesk.proofs.receiver_laws.ends_are_safe.Goals as goal
 
 pub returns : goal.returns

@@ -1,4 +1,4 @@
-use Rattle.nr_blockdesk.proofs.NothingReceivedFacts.{nothing-open}
+use Rattle.nr_blockdesk.proofs.OutcomeFacts.{nothing-open}
 use Rattle.nr_blockdesk.proofs.receiver_laws.nothing_is_open.Goals as goal
 
 pub returns : goal.returns

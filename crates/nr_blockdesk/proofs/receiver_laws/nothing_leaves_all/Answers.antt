@@ -1,4 +1,4 @@
-use Rattle.nr_blockdesk.proofs.NothingReceivedFacts.{nothing-leaves_all}
+use Rattle.nr_blockdesk.proofs.OutcomeFacts.{nothing-leaves_all}
 use Rattle.nr_blockdesk.proofs.receiver_laws.nothing_leaves_all.Goals as goal
 
 pub returns : goal.returns

@@ -3,7 +3,7 @@ use Rattle.std.proofs.lemmas.List.{get_or_default}
 use Rattle.nr_interleave.specs.Interleaving.{interleaved}
 use Rattle.nr_ratematch.specs.Selection.{selected}
 use Rattle.nr_blockdesk.specs.Sent.{block_sent, matching_of, sent_of}
-use Rattle.nr_blockdesk.proofs.SentPlaceFacts.{front-inside, front-more, front_sent, length-selected, length-block_sent}
+use Rattle.nr_blockdesk.proofs.SenderFacts.{front-inside, front-more, front_sent, length-selected, length-block_sent}
 use Rattle.nr_blockdesk.proofs.sender.send_words.Goals as goal
 
 -- what is selected into the list that was cleared

@@ -4,7 +4,7 @@ use Rattle.std.proofs.lemmas.Bool.{cases_lt, eq-eqb, eqb-true, false≢true}
 use Rattle.std.proofs.lemmas.Nat.Bits.{bit_at-zero, bit_at_not, bit_at_ones, same_from_bits_below}
 use Rattle.std.specs.Int.{w64}
 use Rattle.nr_bitvec.specs.Bit.{bit}
-use Rattle.nr_blockdesk.proofs.SelectedMarkFacts.{marked}
+use Rattle.nr_blockdesk.proofs.SelectedBitFacts.{marked}
 use Rattle.nr_blockdesk.proofs.part.Part.arrived_whole.Goals as goal
 
 pub loop-i-preserved : goal.loop-i-preserved

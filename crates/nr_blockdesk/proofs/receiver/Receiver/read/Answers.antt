@@ -4,8 +4,7 @@ use Rattle.std.specs.Vec.{vec_len}
 use Rattle.nr_blockdesk.specs.Link.{IsBlock, Link, link_of}
 use Rattle.nr_blockdesk.specs.Outcome.{ExplainedBy, all_fixed}
 use Rattle.nr_blockdesk.specs.Receiving.{ReceiverView}
-use Rattle.nr_blockdesk.proofs.CandidateFacts.{candidate-only, explained-by, explained-to, wide-peelers}
-use Rattle.nr_blockdesk.proofs.KeptCandidateFacts.{kept-read}
+use Rattle.nr_blockdesk.proofs.CandidateFacts.{candidate-only, explained-by, explained-to, wide-peelers, kept-read}
 use Rattle.nr_blockdesk.proofs.receiver.Receiver.read.Goals.{After-explains}
 use Rattle.nr_blockdesk.proofs.receiver.Receiver.read.Goals as goal
 

@@ -20,8 +20,7 @@ use Rattle.nr_blockdesk.specs.Link.{Link, link_of}
 use Rattle.nr_blockdesk.specs.Receiving.{ReceiverView, peeling_of, verdict}
 use Rattle.nr_blockdesk.specs.ReceivingInside.{IsDecided}
 use Rattle.nr_blockdesk.specs.Telling.{AreEmpty}
-use Rattle.nr_blockdesk.proofs.CandidateFacts.{outcome-of_record, sized-of}
-use Rattle.nr_blockdesk.proofs.KeptCandidateFacts.{stands-after, part_masks-of}
+use Rattle.nr_blockdesk.proofs.CandidateFacts.{outcome-of_record, sized-of, stands-after, part_masks-of}
 use Rattle.nr_blockdesk.proofs.LinkFacts.{no-memory}
 use Rattle.nr_blockdesk.proofs.ReceptionFacts.{AreHeard, all-taken, desk-taken, none-of, parts-are, reception-never_memory}
 use Rattle.nr_blockdesk.proofs.receiver.Receiver.take_marks.Goals as goal

@@ -1,7 +1,7 @@
 use Rattle.std.proofs.Common.{arith}
 use Rattle.std.proofs.lemmas.List.{length-drop, length-take-le}
-use Rattle.nr_blockdesk.proofs.SelectedMarkFacts.{whole-interleaved}
-use Rattle.nr_blockdesk.proofs.SentPlaceFacts.{length-interleaved}
+use Rattle.nr_blockdesk.proofs.SelectedBitFacts.{whole-interleaved}
+use Rattle.nr_blockdesk.proofs.SenderFacts.{length-interleaved}
 use Rattle.nr_blockdesk.proofs.selected.Selected.read.Goals.{then-not-self, else-not-self}
 use Rattle.nr_blockdesk.proofs.selected.Selected.read.Goals as goal
 
