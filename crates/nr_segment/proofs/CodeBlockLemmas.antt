@@ -1,6 +1,6 @@
 -- Cutting into code blocks and joining them.
 use Rattle.std.proofs.lemmas.Bool.Decides.{nat_tests}
-use Rattle.std.proofs.Common.{◌≡◌, ℕ, ◌+◌, ◌-◌, ◌*◌, ◌<◌, ◌≤◌, ◌++◌, nat_lt, suc, zero, Bool, true, false, cond, List, [], ◌∷◌, length, map, take, drop, slice_index_or, get_or, flat_map, All, Ok, refl, arith, ap, ◌∙◌, sym, length-append, length-drop, append-nil, replicate}
+use Rattle.std.proofs.Common.{◌≡◌, ℕ, ◌+◌, ◌-◌, ◌*◌, ◌<◌, ◌≤◌, ◌++◌, nat_lt, suc, zero, Bool, true, false, cond, List, [], ◌∷◌, length, map, take, drop, slice_index_or, get_or, flat_map, All, Ok, arith, ap, ◌∙◌, sym, length-append, length-drop, append-nil, replicate}
 use Rattle.std.proofs.lemmas.Grind.{flat_map-append}
 use Rattle.std.proofs.lemmas.List.{length-replicate, length-take-le, take-append-le, take_all, get_or-take}
 use Rattle.std.proofs.lemmas.List.Concat.{get_or-flat_map}
@@ -35,16 +35,13 @@ pub length-code_bits : (graph : Graph) (b : ℕ) (p : Numbers) (bits : List Bool
     → length bits ≡ b → r < p.c → length (code_bits p bits r) ≡ p.kdash
 length-code_bits graph b p bits r planned long one =
     let sound : IsSound graph b p = sound-plan graph b p planned in
-    let shared : length (shared_bits p bits r) ≡ share p = length-shared_bits graph b p bits r sound long one in
-    go (nat_lt 1 p.c) refl sound.several shared sound.checked
+    go (nat_lt 1 p.c) (shared_bits p bits r) sound.several (length-shared_bits graph b p bits r sound long one) sound.checked
   where
-    go : (many : Bool) → nat_lt 1 p.c ≡ many → p.l ≡ cond many 24 0 → length (shared_bits p bits r) ≡ share p
-        → p.l < p.kdash
-        → length (cond many (shared_bits p bits r ++ high_first 24 (crc_of B24 (shared_bits p bits r))) (shared_bits p bits r)) ≡ p.kdash
-    go true is checks shared checked =
-        let end : length (high_first 24 (crc_of B24 (shared_bits p bits r))) ≡ 24 = length-high_first 24 _ in
+    go : (many : Bool) (piece : List Bool) → p.l ≡ cond many 24 0 → length piece ≡ share p → p.l < p.kdash → length (cond many (piece ++ high_first 24 (crc_of B24 piece)) piece) ≡ p.kdash
+    go true piece checks shared checked =
+        let end : length (high_first 24 (crc_of B24 piece)) ≡ 24 = length-high_first 24 _ in
         simp length-append (omega arith)
-    go false is checks shared checked = omega arith
+    go false piece checks shared checked = omega arith
 
 -- each code block has K bits with its fillers
 pub length-code_block : (graph : Graph) (b : ℕ) (p : Numbers) (bits : List Bool) (r : ℕ) → plan_of graph b ≡ Ok p

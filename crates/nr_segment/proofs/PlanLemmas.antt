@@ -1,14 +1,11 @@
 -- What the numbers of a plan keep to.
-use Rattle.std.proofs.Common.{◌≡◌, ℕ, suc, zero, ◌+◌, ◌-◌, ◌*◌, ◌/◌, ◌%◌, ◌<◌, ◌≤◌, ◌⊎◌, nat_lt, nat_le, nat_eq, not, Bool, true, false, subst, cond, Option, Some, None, IsSome, unwrap_or, Ok, Err, refl, lit<, lit≤, inl, inr, eq-eqb, arith, ap, ◌∙◌}
-use Rattle.std.proofs.Math.Nat.{mul-le-mul_left, mul-le-mul_right, mul-sub}
-use Rattle.std.proofs.lemmas.Bool.{cases_lt}
+use Rattle.std.proofs.Common.{◌≡◌, ℕ, suc, zero, ◌+◌, ◌-◌, ◌*◌, ◌/◌, ◌%◌, ◌<◌, ◌≤◌, nat_lt, true, cond, Option, Some, None, IsSome, unwrap_or, Ok, refl, arith, ◌∙◌}
+use Rattle.std.proofs.Math.Nat.{lt_of_mul-lt-mul_left, mul-le-mul_right, mul-sub}
 use Rattle.std.proofs.lemmas.Bool.Decides.{nat_tests}
-use Rattle.std.specs.Int.{div_ceil}
 use Rattle.nr_graphpick.specs.Graph.{info_cols_of, cols_of}
 use Rattle.nr_graphpick.specs.declared.Graph.{Graph}
 use Rattle.nr_graphpick.specs.declared.Graph.TheVariants.{One, Two}
 use Rattle.nr_lifting.specs.Sizes.{sizes, is_in, least_size, set_index}
-use Rattle.nr_segment.specs.declared.numbers.SegFault.TheVariants.{Short, Long, Uneven}
 use Rattle.nr_segment.specs.Plan.{check_bits, block_count, total_bits, kdash_of, info_columns, lifting_size, numbers_of, plan_of, Numbers, IsSound}
 use Rattle.nr_segment.proofs.SizeSearchFacts.{least_size-holds, least_size-half, least_size-listed, least_size-some, listed-most, set_index-some}
 
@@ -33,22 +30,15 @@ pub record IsShared (b l c kdash kb cols : ℕ) : Type 0 where
 -- several code blocks: `most` is the largest one, less its CRC, and l is 24
 several : (most b c kdash : ℕ) → 0 < most → 0 < b → b ≤ c * most → 0 < c → c * kdash ≡ b + c * 24
     → (24 < kdash) × (kdash ≤ most + 24)
-several most b c kdash most_some b_some covers some total = (above (cases_lt 24 kdash), below (cases_lt (most + 24) kdash))
-  where
-    above : (24 < kdash) ⊎ (kdash ≤ 24) → 24 < kdash
-    above (inl lt) = lt
-    above (inr le) = absurd (let up : c * kdash ≤ c * 24 = mul-le-mul_left c le in omega arith)
-
-    below : (most + 24 < kdash) ⊎ (kdash ≤ most + 24) → kdash ≤ most + 24
-    below (inl lt) =
-        let more : most + 25 ≤ kdash = omega arith in
-        absurd (let up : c * (most + 25) ≤ c * kdash = mul-le-mul_left c more in omega arith)
-    below (inr le) = le
+several most b c kdash most_some b_some covers some total =
+    let low : 24 < kdash = lt_of_mul-lt-mul_left c (omega arith) in
+    let high : kdash < most + 25 = lt_of_mul-lt-mul_left c (omega arith) in
+    (low, omega arith)
 
 -- all b bits stand in one code block
 one-block : (b kb cols : ℕ) → 24 ≤ b → b ≤ kb * 384 → 4 ≤ kb → kb ≤ cols → cols ≤ 22
     → IsShared b 0 1 ((b + 1 * 0) / 1) kb cols
-one-block b kb cols least spread wide narrow cols_most = grind (arith, several)
+one-block b kb cols least spread wide narrow cols_most = grind arith
 
 -- they are shared out to c code blocks
 several-blocks : (most b c kb cols : ℕ) → 0 < most → 0 < b → 1 < c → c ≤ 344 → b ≤ c * most
@@ -75,7 +65,7 @@ several-blocks most b c kb cols most_some b_some many few covers spread wide nar
 -- with base graph 1
 shared-one : (b : ℕ) → 24 ≤ b → b ≤ 1310744 → total_bits One b % block_count One b ≡ 0
     → IsShared b (check_bits One b) (block_count One b) (kdash_of One b) (info_columns One b) 22
-shared-one b least most even = grind (arith, nat_tests, one-block, least, several-blocks)
+shared-one b least most even = grind (arith, nat_tests, one-block, several-blocks)
 
 -- the columns of base graph 2 are enough for one code block
 columns-two : (b : ℕ) → b ≤ 3840 → b ≤ info_columns Two b * 384
@@ -88,7 +78,7 @@ columns-two-range b = (grind (arith, nat_tests), grind (arith, nat_tests))
 -- with base graph 2
 shared-two : (b : ℕ) → 24 ≤ b → b ≤ 1310744 → total_bits Two b % block_count Two b ≡ 0
     → IsShared b (check_bits Two b) (block_count Two b) (kdash_of Two b) (info_columns Two b) 10
-shared-two b least most even = grind (arith, nat_tests, columns-two-range, one-block, least, columns-two, several-blocks)
+shared-two b least most even = grind (arith, nat_tests, columns-two-range, one-block, columns-two, several-blocks)
 
 -- the bits are shared out so with either base graph
 pub shared : (graph : Graph) (b : ℕ) → 24 ≤ b → b ≤ 1310744 → total_bits graph b % block_count graph b ≡ 0
@@ -157,25 +147,25 @@ sound-numbers graph b least most s =
 -- the numbers of every plan are sound
 pub sound-plan : (graph : Graph) (b : ℕ) (p : Numbers) → plan_of graph b ≡ Ok p → IsSound graph b p
 unfolding plan_of
-sound-plan graph b p planned = grind (arith, nat_tests, nat_eq, sound-numbers, shared)
+sound-plan graph b p planned = grind (arith, nat_tests, sound-numbers, shared)
 
 -- there is a plan where no fault stands
 accepted : (graph : Graph) (b : ℕ) → 24 ≤ b → b ≤ 1310744 → total_bits graph b % block_count graph b ≡ 0
     → plan_of graph b ≡ Ok (numbers_of graph b)
 unfolding plan_of
-accepted graph b least most whole = grind (arith, nat_tests, nat_eq, eq-eqb)
+accepted graph b least most whole = grind (arith, nat_tests)
 
 -- Zc is found where no fault stands
 size-planned : (graph : Graph) (b l c : ℕ) → 24 ≤ b → b ≤ 1310744 → l ≡ check_bits graph b
     → c ≡ block_count graph b → (b + c * l) % c ≡ 0
     → least_size (info_columns graph b) ((b + c * l) / c) ≡ Some (lifting_size graph b)
-size-planned graph b l c least most checks blocks whole = grind (arith, size-found, shared, least)
+size-planned graph b l c least most checks blocks whole = grind (arith, size-found, shared)
 
 -- so there is a size
 pub some-size : (graph : Graph) (b l c kb : ℕ) → 24 ≤ b → b ≤ 1310744 → l ≡ check_bits graph b
     → c ≡ block_count graph b → (b + c * l) % c ≡ 0 → kb ≡ info_columns graph b
     → IsSome (least_size kb ((b + c * l) / c))
-some-size graph b l c kb least most checks blocks whole is_kb = grind (arith, size-planned, least)
+some-size graph b l c kb least most checks blocks whole is_kb = grind (arith, size-planned)
 
 -- and it has a set index
 pub some-set : (kb need z : ℕ) → least_size kb need ≡ Some z → IsSome (set_index z)
@@ -187,4 +177,4 @@ pub planned-numbers : (graph : Graph) (b l c kb z set : ℕ) → 24 ≤ b → b 
     → least_size kb ((b + c * l) / c) ≡ Some z → set_index z ≡ Some set
     → plan_of graph b ≡ Ok (record { l = l; c = c; kdash = (b + c * l) / c; kb = kb; z = z; set = set; k = info_cols_of graph * z; n = (cols_of graph - 2) * z })
 unfolding numbers_of
-planned-numbers graph b l c kb z set least most checks blocks whole is_kb is_z is_set = grind (arith, size-planned, least, unwrap_or, accepted)
+planned-numbers graph b l c kb z set least most checks blocks whole is_kb is_z is_set = grind (arith, size-planned, accepted)

@@ -1,6 +1,7 @@
 -- The search for the least lifting size.
-use Rattle.std.proofs.Common.{◌≡◌, ℕ, ◌*◌, ◌<◌, ◌≤◌, ◌&&◌, ◌||◌, ◌⊎◌, nat_lt, Bool, true, false, cond, nat_le, Some, IsSome, is_some, List, [], ◌∷◌, find, nat_eq, refl, inl, inr, arith, rules, ap, ◌∙◌, sym}
+use Rattle.std.proofs.Common.{◌≡◌, ℕ, ◌*◌, ◌<◌, ◌≤◌, ◌&&◌, ◌⊎◌, nat_lt, Bool, true, false, cond, nat_le, Some, IsSome, is_some, List, [], ◌∷◌, find, refl, arith}
 use Rattle.std.proofs.Math.Nat.{mul-le-mul_right}
+use Rattle.std.proofs.lemmas.Bool.{leb-false}
 use Rattle.std.proofs.lemmas.Bool.Decides.{nat_tests}
 use Rattle.std.specs.List.{list_all}
 use Rattle.nr_lifting.specs.Sizes.{sizes, is_in, least_size, set_index, climbs}
@@ -8,28 +9,21 @@ use Rattle.nr_lifting.specs.Sizes.{sizes, is_in, least_size, set_index, climbs}
 -- what a search finds passes the test
 find-passes : (test : ℕ → Bool) (xs : List ℕ) (z : ℕ) → find test xs ≡ Some z → test z ≡ true
 find-passes test [] z found = cc
-find-passes test (x ∷ xs) z found = grind (arith, find-passes test xs z, find)
+find-passes test (x ∷ xs) z found = grind (arith, find-passes test xs z)
 
 -- what a search finds is in the list
 find-listed : (test : ℕ → Bool) (xs : List ℕ) (z : ℕ) → find test xs ≡ Some z → is_in z xs ≡ true
 find-listed test [] z found = cc
-find-listed test (x ∷ xs) z found = grind (arith, nat_tests, find-listed test xs z, find)
+find-listed test (x ∷ xs) z found = grind (arith, nat_tests, find-listed test xs z)
 
 -- a number of a list is its first one or is among the later ones
 listed-cases : (z x : ℕ) (xs : List ℕ) → is_in z (x ∷ xs) ≡ true → (x ≡ z) ⊎ (is_in z xs ≡ true)
-listed-cases z x xs listed = grind (arith, nat_tests, nat_eq)
+listed-cases z x xs listed = grind (arith, nat_tests)
 
 -- a search finds something where a number of the list passes
 find-some : (test : ℕ → Bool) (xs : List ℕ) (z : ℕ) → is_in z xs ≡ true → test z ≡ true → IsSome (find test xs)
 find-some test [] z listed passes = cc
-find-some test (x ∷ xs) z listed passes =
-    go (test x) refl (listed-cases z x xs listed) (λ later. find-some test xs z later passes)
-  where
-    go : (b : Bool) → test x ≡ b → (x ≡ z) ⊎ (is_in z xs ≡ true) → (is_in z xs ≡ true → IsSome (find test xs))
-        → IsSome (cond b (Some x) (find test xs))
-    go true is which later = search rules
-    go false is (inl same) later = let passes : test x ≡ true = ap test same ∙ passes in cc
-    go false is (inr listed) later = later listed
+find-some test (x ∷ xs) z listed passes = grind (arith, listed-cases, find-some test xs z)
 
 -- what holds of each number of a list holds of one
 all-listed : (test : ℕ → Bool) (xs : List ℕ) (z : ℕ) → list_all test xs ≡ true → is_in z xs ≡ true → test z ≡ true
@@ -42,26 +36,20 @@ find-half : (kb need before : ℕ) (xs : List ℕ) (z : ℕ) → 4 ≤ kb → cl
 unfolding climbs
 find-half kb need before [] z wide climb low found = cc
 find-half kb need before (x ∷ xs) z wide climb low found =
-    go (nat_le need (kb * x)) refl (step before x xs climb) (λ next low. find-half kb need x xs z wide next low) found
+    go x xs (nat_le need (kb * x)) refl climb (λ next low. find-half kb need x xs z wide next low) found
   where
-    step : (before x : ℕ) (xs : List ℕ) → climbs before (x ∷ xs) ≡ true → (x ≤ 2 * before) × (climbs x xs ≡ true)
-    step before x xs climb = split (nat_lt before x) (nat_le x (2 * before)) refl climb
-      where
-        split : (a b : Bool) → nat_le x (2 * before) ≡ b → ((a && b) && climbs x xs) ≡ true
-            → (x ≤ 2 * before) × (climbs x xs ≡ true)
-        split true true is climb = (grind (arith, nat_tests), climb)
-        split true false is climb = cc
-        split false b is climb = cc
+    step : (x : ℕ) (more : Bool) → (nat_lt before x && nat_le x (2 * before) && more) ≡ true → (x ≤ 2 * before) × (more ≡ true)
+    step x more climb = grind (arith, nat_tests)
 
-    go : (b : Bool) → nat_le need (kb * x) ≡ b → (x ≤ 2 * before) × (climbs x xs ≡ true)
+    go : (x : ℕ) (xs : List ℕ) (b : Bool) → nat_le need (kb * x) ≡ b → (nat_lt before x && nat_le x (2 * before) && climbs x xs) ≡ true
         → (climbs x xs ≡ true → kb * x < need → find (λ size. nat_le need (kb * size)) xs ≡ Some z → 2 * z < need)
         → cond b (Some x) (find (λ size. nat_le need (kb * size)) xs) ≡ Some z → 2 * z < need
-    go true is next later found =
+    go x xs true is climb later found =
         let same : x ≡ z = cc in
+        let next = step x (climbs x xs) climb in
         let wider : 4 * before ≤ kb * before = mul-le-mul_right before wide in
         omega arith
-    go false is next later found =
-        let low : kb * x < need = grind (arith, nat_tests) in later next.1 low found
+    go x xs false is climb later found = later (step x (climbs x xs) climb).1 (leb-false need (kb * x) is) found
 
 -- the least size holds what it is asked to hold
 pub least_size-holds : (kb need z : ℕ) → least_size kb need ≡ Some z → need ≤ kb * z

@@ -1,7 +1,6 @@
 -- The share of one more code block stands behind those before.
-use Rattle.std.proofs.lemmas.Bool.Decides.{nat_tests}
 use Rattle.std.proofs.lemmas.Grind.{common_steps}
-use Rattle.std.proofs.Common.{◌≡◌, ℕ, ◌+◌, ◌-◌, ◌<◌, ◌++◌, List, [], ◌∷◌, Bool, length, map, take, drop, get_or, flat_map, append-nil, length-append, arith, ap, sym, ◌∙◌}
+use Rattle.std.proofs.Common.{◌≡◌, ℕ, ◌+◌, ◌-◌, ◌<◌, ◌++◌, List, Bool, length, map, take, drop, get_or, flat_map, append-nil, length-append, arith, ap, ◌∙◌}
 use Rattle.std.proofs.lemmas.Grind.{flat_map-append}
 use Rattle.std.proofs.lemmas.List.{length-take-le, map_more, take_all}
 use Rattle.nr_segment.proofs.CodeBlockLemmas.{share-inside}
@@ -11,7 +10,7 @@ use Rattle.nr_segment.proofs.code_block.join.Goals as goal
 one-more : {A : Type 0} (f : A → List Bool) (s : ℕ) (xs : List A) (i : ℕ) (x : A) (before all piece : List Bool) → i < length xs → x ≡ get_or xs i x
     → before ≡ flat_map (take s) (map f (take i xs)) → piece ≡ take s (drop 0 (f x)) → all ≡ before ++ piece
     → all ≡ flat_map (take s) (map f (take (i + 1) xs))
-one-more f s xs i x before all piece within is so_far is_piece is_all = grind (arith, common_steps, nat_tests, flat_map, append-nil, flat_map-append, map_more)
+one-more f s xs i x before all piece within is so_far is_piece is_all = grind (arith, common_steps, append-nil, flat_map-append, map_more)
 
 pub extend-requires : goal.extend-requires
 extend-requires c = grind (arith, share-inside, length-take-le)

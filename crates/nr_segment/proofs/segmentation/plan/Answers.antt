@@ -1,15 +1,15 @@
 -- `smallest` and `set_of` find something, and the numbers are the plan's.
 use Rattle.std.proofs.Common.{arith}
-use Rattle.std.proofs.Common.{Some, is_some, ap, ◌∙◌, sym}
+use Rattle.std.proofs.Common.{Some, ap, ◌∙◌, sym}
 use Rattle.nr_lifting.specs.Sizes.{set_index}
 use Rattle.nr_segment.proofs.PlanLemmas.{some-size, some-set, planned-numbers, sound-plan}
 use Rattle.nr_segment.proofs.segmentation.plan.Goals as goal
 
 pub unwrap-size-requires : goal.unwrap-size-requires
-unwrap-size-requires c = grind (arith, is_some, some-size)
+unwrap-size-requires c = grind (arith, some-size)
 
 pub unwrap-requires : goal.unwrap-requires
-unwrap-requires c = grind (arith, is_some, some-set)
+unwrap-requires c = grind (arith, some-set)
 
 pub invariant_of-result : goal.invariant_of-result
 invariant_of-result c =
