@@ -1,3 +1,4 @@
+use Rattle.std.proofs.Common.{rules}
 use Rattle.std.proofs.Common.{◌+◌, ◌%◌, replicate, ◌∙◌, arith}
 use Rattle.nr_bitvec.specs.Packed.{place}
 use Rattle.nr_lifting.proofs.LaneViewFacts.{place-zeros}
@@ -19,8 +20,7 @@ pub join_twice-requires-clause-ring_clear : goal.join_twice-requires-clause-ring
 join_twice-requires-clause-ring_clear c = λ t _. place-zeros 12 t
 
 pub ring_lane-requires-clause-ring : goal.ring_lane-requires-clause-ring
-ring_lane-requires-clause-ring c =
-    ring-gains c.args.size c.join_twice.new.ring (replicate 12 0) c.args.words.now (zero_ring c.args.size 12) c.join_twice.ensures.joined
+ring_lane-requires-clause-ring c = search (rules, ring-gains, zero_ring)
 
 pub returns-clause-rotated : goal.returns-clause-rotated
 returns-clause-rotated c = λ t below.

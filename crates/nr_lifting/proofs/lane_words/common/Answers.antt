@@ -1,12 +1,11 @@
+use Rattle.std.proofs.Common.{rules}
 use Rattle.std.proofs.Common.{refl, arith}
 use Rattle.nr_lifting.proofs.LaneBitFacts.{made_next, common_all, common_bit, common_clear}
 use Rattle.nr_lifting.proofs.lane_words.common.Goals as goal
 
 -- the next word is made
 pub loop-i-preserved : goal.loop-i-preserved
-loop-i-preserved c =
-    made_next _ _ _ _ _ _ c.loop-i.invariant (omega arith) refl (λ j short.
-    common_bit _ _ c.loop-i.i j _ _ (c.loop-i.invariant.kept _ (omega arith)) refl short)
+loop-i-preserved c = search (rules, made_next, common_bit)
 
 pub returns : goal.returns
 returns c = record {

@@ -1,12 +1,11 @@
+use Rattle.std.proofs.Common.{rules}
 use Rattle.std.proofs.Common.{◌+◌, ◌*◌, refl, arith}
 use Rattle.nr_lifting.specs.Rings.{is_set}
 use Rattle.nr_lifting.proofs.LaneBitFacts.{counted_all, counted_more, marked-le}
 use Rattle.nr_lifting.proofs.lane_words.lane_count.Goals as goal
 
 pub overflow_add-count : goal.overflow_add-count
-overflow_add-count c =
-    let more = counted_more c.loop-i.i c.loop-i.count _ c.args.lane.now refl (omega arith) c.loop-i.invariant in
-    omega (arith, more, marked-le (is_set c.args.lane.now) (64 * (c.loop-i.i + 1)))
+overflow_add-count c = search (rules, counted_more, marked-le)
 
 -- the bits of the next word are counted
 pub loop-i-preserved : goal.loop-i-preserved

@@ -1,3 +1,4 @@
+use Rattle.std.proofs.Common.{rules}
 use Rattle.std.proofs.Common.{replicate, arith}
 use Rattle.nr_lifting.proofs.LaneViewFacts.{place-zeros}
 use Rattle.nr_lifting.proofs.DoubledLaneFacts.{block_within, cleared_bits, rings_set, zero_ring}
@@ -7,9 +8,7 @@ pub index_mut-requires : goal.index_mut-requires
 index_mut-requires c = omega (arith, block_within c.self.invariant c.self.view_is c.args.j c.requires)
 
 pub invariant_of-self : goal.invariant_of-self
-invariant_of-self c =
-    rings_set c.self.inside.size c.self.invariant.some c.self.inside.mask c.self.inside.rings.items c.args.j (replicate 12 0) c.self.invariant
-    (block_within c.self.invariant c.self.view_is c.args.j c.requires) (zero_ring _ 12) ((λ t _. place-zeros 12 t))
+invariant_of-self c = search (rules, rings_set, block_within, zero_ring, place-zeros)
 
 pub returns-clause-cleared : goal.returns-clause-cleared
 returns-clause-cleared c =
