@@ -1,6 +1,6 @@
 -- Counts that are kept plane by plane: lanes that are taken off them, those that are exactly one, and planes that are made.
-use Rattle.std.proofs.Common.{◌≡◌, ℕ, zero, suc, ◌+◌, ◌-◌, ◌*◌, ◌%◌, ◌^◌, ◌<◌, ◌≤◌, ◌&&◌, not, min, List, [], get_or, refl, sym, ap, ◌∙◌, arith}
-use Rattle.std.proofs.Math.Nat.{mul_comm}
+use Rattle.std.proofs.Common.{◌≡◌, ℕ, zero, suc, ◌+◌, ◌-◌, ◌*◌, ◌%◌, ◌^◌, ◌<◌, ◌≤◌, ◌&&◌, not, min, List, [], get_or, refl, ap, arith}
+use Rattle.std.proofs.Math.Nat.{add_comm, mul_comm}
 use Rattle.std.proofs.lemmas.Bool.{cases_eq}
 use Rattle.std.proofs.lemmas.Nat.{mod-pow-add}
 use Rattle.std.proofs.lemmas.Nat.Bits.{bit_at_or}
@@ -36,17 +36,8 @@ joined_words i any word lane before is t below = grind (arith, cases_eq, bit_at_
 pub digits_more : (k n : ℕ) (next D : ℕ → ℕ) → digits_below k D ≡ n % 2 ^ k → ((b : ℕ) → b < k → next b ≡ D b) → next k ≡ bit_at n k
     → digits_below (k + 1) next ≡ n % 2 ^ (k + 1)
 digits_more k n next D before same here =
-    below-next k next
-    ∙ ap (λ m. m + 2 ^ k * next k) (below-same k next D same ∙ before)
-    ∙ ap (λ m. n % 2 ^ k + 2 ^ k * m) here
-    ∙ swap (n % 2 ^ k) (2 ^ k) (bit_at n k)
-    ∙ sym (ap (λ m. n % 2 ^ m) (next_is k) ∙ mod-pow-add n 1 k)
-  where
-    swap : (a p x : ℕ) → a + p * x ≡ x * p + a
-    swap a p x = ap (λ m. a + m) (mul_comm p x) ∙ omega arith
-
-    next_is : (k : ℕ) → k + 1 ≡ 1 + k
-    next_is k = omega arith
+    let split : n % 2 ^ (k + 1) ≡ n % 2 ^ k + 2 ^ k * bit_at n k = rw (add_comm k 1, mod-pow-add n 1 k) (omega (arith, mul_comm (2 ^ k) (bit_at n k))) in
+    omega (arith, below-next k next, below-same k next D same, before, ap (λ m. 2 ^ k * m) here, split)
 
 pub zero_digits : (n : ℕ) (D : ℕ → ℕ) → ((k : ℕ) → D k ≡ 0) → digits_below n D ≡ 0
 zero_digits zero D none = refl

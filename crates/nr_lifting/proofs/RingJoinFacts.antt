@@ -35,14 +35,11 @@ module _ (z i word : ℕ) (ws : List ℕ) (kept : word ≡ get_or ws i 0) where
   pub carries_more : word < 2 ^ 64 → Carries z (i + 1) ws (word / 2 ^ 1 / 2 ^ (63 - z % 64))
   carries_more fits = record {
     low = λ j h.
-        let from = 1 + (63 - z % 64 + j) in
+        let from = 63 - z % 64 + j in
         let t = 64 * (z / 64 + (i + 1)) + j in
-        let there : 64 * i + from ≡ t - z = omega (arith, h) in
-        bit_at_shr (word / 2 ^ 1) (63 - z % 64) j ∙ bit_at_shr word 1 (63 - z % 64 + j)
-        ∙ word_bit i from word ws kept (omega (arith, h)) ∙ ap (place ws) there ∙ sym (moved-high z ws t (omega arith));
-    high = λ j h.
-        bit_at_shr (word / 2 ^ 1) (63 - z % 64) j ∙ bit_at_shr word 1 (63 - z % 64 + j)
-        ∙ bit_at_above word 64 (1 + (63 - z % 64 + j)) fits (omega (arith, h));
+        let there : 64 * i + (1 + from) ≡ t - z = omega (arith, h) in
+        omega (arith, bit_at_shr (word / 2 ^ 1) (63 - z % 64) j, bit_at_shr word 1 from, word_bit i (1 + from) word ws kept (omega (arith, h)), ap (place ws) there, moved-high z ws t (omega arith));
+    high = λ j h. omega (arith, bit_at_shr (word / 2 ^ 1) (63 - z % 64) j, bit_at_shr word 1 (63 - z % 64 + j), bit_at_above word 64 (1 + (63 - z % 64 + j)) fits (omega (arith, h)));
   }
 
   pub moved_word : (past : ℕ) → Carries z i ws past → (j : ℕ) → j < 64

@@ -1,6 +1,4 @@
 use Rattle.std.proofs.Common.{rules}
-use Rattle.std.proofs.Common.{◌+◌, ◌*◌, ap, ◌∙◌, arith}
-use Rattle.nr_bitvec.specs.Packed.{place}
 use Rattle.nr_lifting.proofs.RotationFacts.{ring-rotated}
 use Rattle.nr_lifting.proofs.doubled_lanes.ring_word.Goals as goal
 

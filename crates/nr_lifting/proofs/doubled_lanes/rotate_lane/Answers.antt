@@ -1,5 +1,5 @@
 use Rattle.std.proofs.Common.{rules}
-use Rattle.std.proofs.Common.{◌+◌, ◌%◌, replicate, ◌∙◌, arith}
+use Rattle.std.proofs.Common.{◌+◌, ◌%◌, ◌∙◌, arith}
 use Rattle.nr_bitvec.specs.Packed.{place}
 use Rattle.nr_lifting.proofs.LaneViewFacts.{place-zeros}
 use Rattle.nr_lifting.proofs.DoubledLaneFacts.{zero_ring}

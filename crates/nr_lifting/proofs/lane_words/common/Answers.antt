@@ -1,5 +1,5 @@
 use Rattle.std.proofs.Common.{rules}
-use Rattle.std.proofs.Common.{refl, arith}
+use Rattle.std.proofs.Common.{arith}
 use Rattle.nr_lifting.proofs.LaneBitFacts.{made_next, common_all, common_bit, common_clear}
 use Rattle.nr_lifting.proofs.lane_words.common.Goals as goal
 

@@ -1,5 +1,5 @@
 use Rattle.std.proofs.Common.{rules}
-use Rattle.std.proofs.Common.{refl, arith}
+use Rattle.std.proofs.Common.{arith}
 use Rattle.nr_lifting.proofs.LaneBitFacts.{made_next, word_bit}
 use Rattle.nr_lifting.proofs.LaneWordFacts.{ring_low}
 use Rattle.nr_lifting.proofs.RingJoinFacts.{once_all}

@@ -1,5 +1,5 @@
 use Rattle.std.proofs.Common.{rules}
-use Rattle.std.proofs.Common.{refl, arith}
+use Rattle.std.proofs.Common.{arith}
 use Rattle.nr_lifting.proofs.LaneWordFacts.{written_clear, written_more}
 use Rattle.nr_lifting.proofs.ring_spans.mask_of.Goals as goal
 

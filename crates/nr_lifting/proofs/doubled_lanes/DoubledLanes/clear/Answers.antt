@@ -1,5 +1,5 @@
 use Rattle.std.proofs.Common.{rules}
-use Rattle.std.proofs.Common.{replicate, arith}
+use Rattle.std.proofs.Common.{arith}
 use Rattle.nr_lifting.proofs.LaneViewFacts.{place-zeros}
 use Rattle.nr_lifting.proofs.DoubledLaneFacts.{block_within, cleared_bits, rings_set, zero_ring}
 use Rattle.nr_lifting.proofs.doubled_lanes.DoubledLanes.clear.Goals as goal
