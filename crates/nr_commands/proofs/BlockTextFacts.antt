@@ -148,10 +148,7 @@ wrote_last part whole old new (front, is, written) none = rw (is, none, append-n
 
 pub block_line-some : (number a b : ℕ) (graph : Graph) (plan : Numbers) → 0 < length (block_line number a b graph plan)
 unfolding block_line
-block_line-some number a b graph plan = some_at_end (codes "block " ++ decimal number ++ codes " a " ++ decimal a ++ codes " b " ++ decimal b
-    ++ codes " graph " ++ digits_of graph ++ codes " c " ++ decimal plan.c ++ codes " l " ++ decimal plan.l
-    ++ codes " kdash " ++ decimal plan.kdash ++ codes " kb " ++ decimal plan.kb ++ codes " z " ++ decimal plan.z
-    ++ codes " set " ++ decimal plan.set ++ codes " k " ++ decimal plan.k ++ codes " n " ++ decimal plan.n)
+block_line-some number a b graph plan = grind (arith, some_at_end, codes)
 
 pub attached_line-some : (number : ℕ) (bits : List Bool) → 0 < length (attached_line number bits)
 unfolding attached_line
@@ -163,10 +160,7 @@ code_line-some number r bits = some_at_end (codes "code " ++ decimal number ++ c
 
 planned_lines-some : (number a : ℕ) (graph : Graph) (plan : Numbers) (bits : List Bool) → 0 < length (planned_lines number a graph plan bits)
 unfolding planned_lines
-planned_lines-some number a graph plan bits =
-    let codes : List ℕ = flat_map (λ r. code_line number r (code_bits plan bits r)) (range_with_len 0 plan.c) in
-    let first : List ℕ = block_line number a (length bits) graph plan in
-    omega (arith, block_line-some number a (length bits) graph plan, length-append (first ++ attached_line number bits) codes, length-append first (attached_line number bits))
+planned_lines-some number a graph plan bits = grind (arith, flat_map, block_line-some, length-append)
 
 pub block_lines-some : (rate number : ℕ) (octets : List ℕ) → IfOk (block_lines rate number octets) (λ text. 0 < length text)
 unfolding block_lines

@@ -1,4 +1,5 @@
 -- What commands return, step by step.
+use Rattle.std.proofs.Common.{arith}
 use Rattle.std.proofs.Common.{◌≡◌, ◌≢◌, ℕ, ◌⊎◌, inl, inr, Result, Ok, Err, IsOkAnd, IsErr, List, ap, sym, ◌∙◌, refl, subst, Option}
 use Rattle.nr_commands.specs.Command.{Delivers, IsBlockFault, Writes}
 use Rattle.nr_refusal.specs.Refusal.{FailsAs}
@@ -25,8 +26,7 @@ delivers-err X old e said unput (inl is) = absurd (cc)
 delivers-err X old e said unput (inr is) = (is, refl)
 
 pub delivers-refused : {X : Type 0} (old : Option (List ℕ)) (r : Result X RunFault) (exit e : RunFault) (said : Result (List ℕ) RunFault) → r ≡ Err exit → exit ≡ e → e ≢ Write → (e ≡ Memory) ⊎ (said ≡ Err e) → Delivers old old r said
-delivers-refused {X} old r exit e said is same unput given =
-    subst (λ (s : Result X RunFault). Delivers old old s said) (sym (is ∙ ap Err same)) (delivers-err X old e said unput given)
+delivers-refused {X} old r exit e said is same unput given = grind (arith, delivers-err)
 
 -- a fault of a transport block is no other fault
 pub of_block-other : (e told : RunFault) → IsBlockFault e → (IsBlockFault told → ⊥) → e ≢ told

@@ -54,17 +54,13 @@ hex-octets (a ∷ b ∷ c ∷ d ∷ e ∷ f ∷ g ∷ h ∷ bits) =
 
 -- a line with the digits of octets, cut to the digits that the bits need
 pub hex_cut : (head line octets : List ℕ) (bits : List Bool) (n : ℕ) → line ≡ head ++ flat_map two_digits octets → octets ≡ octets_of bits → n ≡ length head + (length bits + 3) / 4 → take n line ≡ head ++ hex bits
-hex_cut head line octets bits n put read most =
-    ap (λ k. take k line) most ∙ ap (take (length head + (length bits + 3) / 4)) (put ∙ ap (λ os. head ++ flat_map two_digits os) read)
-    ∙ take-append-add head (flat_map two_digits (octets_of bits)) ((length bits + 3) / 4) ∙ ap (λ digits. head ++ digits) (hex-octets bits)
+hex_cut head line octets bits n put read most = grind (arith, take-append-add, hex-octets)
 
 -- ---- room behind a line
 
 -- made: the line stands before it
 pub room_made : (line made room : List ℕ) (start n : ℕ) → start ≡ length line → start ≤ n → made ≡ take n line ++ room → take start made ≡ line
-room_made line made room start n at within e =
-    ap (take start) e ∙ ap (λ xs. take start (xs ++ room)) (take_all n line (omega (arith, at, within)))
-    ∙ ap (λ i. take i (line ++ room)) at ∙ take-append_seam line room
+room_made line made room start n at within e = grind (arith, take_all, take-append_seam)
 
 -- filled: nothing stands behind what is put there
 pub room_filled : (line before digits rest past : List ℕ) (n : ℕ) → before ≡ line → n ≡ length line + length digits → take n ((before ++ (digits ++ rest)) ++ past) ≡ line ++ digits

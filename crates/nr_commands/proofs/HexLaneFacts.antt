@@ -1,4 +1,5 @@
 -- The digits of sixteen octets, lane by lane.
+use Rattle.std.proofs.lemmas.Bool.Decides.{nat_tests}
 use Rattle.std.proofs.Common.{◌≡◌, ℕ, ◌+◌, ◌*◌, ◌/◌, ◌%◌, ◌^◌, ◌<◌, ◌≤◌, suc, zero, Bool, true, false, cond, nat_lt, List, [], ◌∷◌, ◌++◌, length, map, take, replicate, bit_and, refl, subst, sym, ap, ◌∙◌, arith, w8, Fits}
 use Rattle.std.proofs.lemmas.Grind.{flat_map-append}
 use Rattle.std.proofs.Math.Seq.{take-add}
@@ -20,9 +21,7 @@ pub characters : (n : ℕ) (values : List ℕ) → length values ≡ n → Each1
     → zip2 (λ a b. (a + b) % 2 ^ 8) values (sel_l (map (top 7) (zip2 (λ a b. cond (nat_lt a b) 255 0) values (replicate n 10))) (replicate n 48) (replicate n 87)) ≡ map digit_char values
 characters n [] long small = refl
 characters zero (value ∷ values) long small = absurd (omega (arith, long))
-characters (suc n) (value ∷ values) long (below, small) =
-    ap (λ c. c ∷ zip2 (λ a b. (a + b) % 2 ^ 8) values (sel_l (map (top 7) (zip2 (λ a b. cond (nat_lt a b) 255 0) values (replicate n 10))) (replicate n 48) (replicate n 87))) (character (nat_lt value 10) value below)
-    ∙ ap (λ cs. digit_char value ∷ cs) (characters n values (omega (arith, long)) small)
+characters (suc n) (value ∷ values) long (below, small) = grind (arith, nat_tests, character, characters n values (omega (arith, long)) small)
 
 -- ---- the digits' values
 

@@ -12,12 +12,7 @@ pub with_text-rest : (old : Option (List ℕ)) (text : List ℕ) (at n : ℕ) �
     → with_text (with_text old (take at text)) (take n (take (length text - at) (drop at text)))
     ≡ with_text old (take (at + n) text)
 with_text-rest None text at n within = refl
-with_text-rest (Some octets) text at n within =
-    let rest : take (length text - at) (drop at text) ≡ drop at text =
-    take_all (length text - at) (drop at text) (omega (arith, length-drop at text)) in
-    ap Some (append_assoc octets (take at text) (take n (take (length text - at) (drop at text)))
-    ∙ ap (λ part. octets ++ (take at text ++ take n part)) rest
-    ∙ ap (λ part. octets ++ part) (sym (take-add at n text)))
+with_text-rest (Some octets) text at n within = grind (arith, take_all, length-drop, append_assoc, take-add)
 
 -- a text without an octet
 pub with_text-nil : (old : Option (List ℕ)) → with_text old [] ≡ old

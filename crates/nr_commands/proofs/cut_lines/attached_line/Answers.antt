@@ -1,3 +1,4 @@
+use Rattle.std.proofs.Common.{arith}
 use Rattle.std.proofs.Common.{◌≡◌, ◌++◌, ◌∷◌, [], append_assoc, string_bytes}
 use Rattle.nr_commands.specs.Hex.{hex}
 use Rattle.nr_commands.specs.CutLines.{attached_line}
@@ -6,7 +7,4 @@ use Rattle.nr_commands.proofs.cut_lines.attached_line.Goals as goal
 
 pub returns : goal.returns
 unfolding attached_line
-returns c =
-    let same : string_bytes c.write.new.self ++ hex c.args.bits.now.items ++ 10 ∷ [] ≡ attached_line c.args.number c.args.bits.now.items =
-    rw (c.in_ok-write.ensures.bytes, c.new-head.ensures.bytes) (simp append_assoc) in
-    if_ok-items c.hex_line.result _ _ same c.hex_line.ensures
+returns c = grind (arith, string_bytes, append_assoc, if_ok-items)

@@ -1,3 +1,4 @@
+use Rattle.std.proofs.Common.{arith}
 use Rattle.std.proofs.Common.{inr, ◌∙◌, refl}
 use Rattle.std.proofs.lemmas.Option.{IfSome_then}
 use Rattle.std.proofs.lemmas.Result.{err_from_is_err_and}
@@ -9,35 +10,19 @@ use Rattle.nr_commands.proofs.CutLemmas.{blocks_refusal-put, cut_said-read, give
 use Rattle.nr_commands.proofs.cutting.cut.Goals as goal
 
 pub returns-in_err-blocks-clause-text : goal.returns-in_err-blocks-clause-text
-returns-in_err-blocks-clause-text g c =
-    let p = err_from_is_err_and c.from_residual.result c.from_residual.ensures.1 in
-    λ same. IfSome_then (g.B.Source.remaining c.args.blocks.now) (c.in_err-blocks.ensures.said same)
-    (λ octets given. delivers-refused (g.O.Sink.written c.args.out.now) c.from_residual.result p.0 _ (cut_said c.args.rate2048 octets) p.1 p.2
-    (blocks_refusal-put c.in_err-blocks.field-0.0) (given-refused c.args.rate2048 octets c.in_err-blocks.field-0.0 given))
+returns-in_err-blocks-clause-text g c = grind (arith, err_from_is_err_and, delivers-refused, blocks_refusal-put, given-refused)
 
 pub returns-in_err-judge-clause-text : goal.returns-in_err-judge-clause-text
-returns-in_err-judge-clause-text g c =
-    let p = err_from_is_err_and c.from_residual-in_err-judge.result c.from_residual-in_err-judge.ensures.1 in
-    let said = rw c.deref.ensures.value at c.in_err-judge.ensures.said in
-    λ same. IfSome_then (g.B.Source.remaining c.args.blocks.now) (c.in_ok-blocks.ensures.said same)
-    (λ octets read. delivers-refused (g.O.Sink.written c.args.out.now) c.from_residual-in_err-judge.result p.0 _ (cut_said c.args.rate2048 octets) p.1 p.2
-    (of_block-other _ Write c.in_err-judge.ensures.of_block (λ none. none)) (inr (cut_said-read _ octets _ read ∙ said)))
+returns-in_err-judge-clause-text g c = grind (arith, err_from_is_err_and, delivers-refused, of_block-other, cut_said-read)
 
 pub returns-in_err-judge-clause-pulled : goal.returns-in_err-judge-clause-pulled
-returns-in_err-judge-clause-pulled g c =
-    let p = err_from_is_err_and c.from_residual-in_err-judge.result c.from_residual-in_err-judge.ensures.1 in
-    rw (p.1, p.2) (inr (of_block-other _ (Blocks Read) c.in_err-judge.ensures.of_block (λ none. none), c.in_ok-blocks.ensures.pulled))
+returns-in_err-judge-clause-pulled g c = grind (arith, err_from_is_err_and, of_block-other)
 
 pub returns-in_err-judge-clause-put : goal.returns-in_err-judge-clause-put
-returns-in_err-judge-clause-put g c =
-    let p = err_from_is_err_and c.from_residual-in_err-judge.result c.from_residual-in_err-judge.ensures.1 in
-    rw (p.1, p.2) (inr (of_block-other _ Write c.in_err-judge.ensures.of_block (λ none. none), refl))
+returns-in_err-judge-clause-put g c = grind (arith, err_from_is_err_and, of_block-other)
 
 pub returns-clause-text : goal.returns-clause-text
-returns-clause-text g c =
-    let left = rw c.deref-2.ensures.value at c.write_blocks.ensures.text in
-    λ same. IfSome_then (g.B.Source.remaining c.args.blocks.now) (c.in_ok-blocks.ensures.said same)
-    (λ octets read. delivers-writes _ _ c.write_blocks.result (cut_said c.args.rate2048 octets) (rw (cut_said-read c.args.rate2048 octets _ read) left))
+returns-clause-text g c = grind (arith, delivers-writes, cut_said-read)
 
 pub returns-clause-untouched : goal.returns-clause-untouched
 returns-clause-untouched g c = said_refused _ _ c.write_blocks.result _ c.write_blocks.ensures.text

@@ -1,3 +1,4 @@
+use Rattle.std.proofs.Common.{arith}
 use Rattle.nr_commands.proofs.HexLaneFacts.{digits-in_turn, high-small, low-small}
 use Rattle.nr_commands.proofs.hex.digits_of_sixteen.Goals as goal
 
@@ -8,5 +9,4 @@ pub sixteen_characters-low-requires : goal.sixteen_characters-low-requires
 sixteen_characters-low-requires c = low-small c.args.octets
 
 pub returns : goal.returns
-returns c =
-    digits-in_turn c.args.octets c.sixteen_characters-high.result c.sixteen_characters-low.result c.fits-octets.0 c.sixteen_characters-high.ensures c.sixteen_characters-low.ensures
+returns c = grind (arith, digits-in_turn)

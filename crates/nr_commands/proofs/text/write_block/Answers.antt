@@ -1,3 +1,4 @@
+use Rattle.std.proofs.Common.{arith}
 use Rattle.std.proofs.Common.{◌≡◌, ◌*◌, Ok, length, ap, ◌∙◌}
 use Rattle.std.proofs.lemmas.Result.{err_from_is_err_and}
 use Rattle.nr_bitvec.specs.BitList.{bits_of}
@@ -31,9 +32,4 @@ returns-in_err-plan g c =
     absurd (judged-not _ _ c.requires.judged (block_lines-unplanned _ _ _ _ size _ _ _ c.in_ok-graph.ensures long c.in_err-plan.ensures.refused))
 
 pub returns-clause-text : goal.returns-clause-text
-returns-clause-text g c =
-    let size : c.len-a.result ≡ 8 * length c.args.octets.now = c.len-a.ensures.value ∙ ap length c.in_ok-bits.ensures ∙ length-bits_of c.args.octets.now in
-    let bits : c.in_ok-attached.attached.items ≡ attached (bits_of c.args.octets.now) = c.in_ok-attached.ensures ∙ ap attached c.in_ok-bits.ensures in
-    let long : c.in_ok-plan.plan.b ≡ length (attached (bits_of c.args.octets.now)) = c.in_ok-plan.ensures.for_these.1 ∙ c.len.ensures.value ∙ ap length bits in
-    let text = rw bits at c.write_planned.ensures.text in
-    writes_said _ _ c.write_planned.result _ _ (block_lines-planned _ _ _ _ size _ c.in_ok-plan.plan.graph (numbers c.in_ok-plan.plan) (ap Ok c.in_ok-plan.ensures.for_these.0 ∙ c.in_ok-graph.ensures) long c.in_ok-plan.plan.planned) text
+returns-clause-text g c = grind (arith, length-bits_of, writes_said, block_lines-planned)

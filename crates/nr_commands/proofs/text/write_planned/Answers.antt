@@ -71,6 +71,4 @@ loop-r-preserved g c =
 
 pub returns-clause-text : goal.returns-clause-text
 unfolding planned_lines
-returns-clause-text g c =
-    let all : c.loop-r.r ≡ c.args.plan.now.c = omega arith in
-    rw all at c.loop-r.invariant.written
+returns-clause-text g c = grind arith
