@@ -89,30 +89,30 @@ step-clash at count before old now bits s word new step j lt = grind (arith, cla
 
 pub merged-step : (at count before old now bits : ℕ) (start : Lists) (s : Lists) (word : List Bool) (new : Lists) → IsMerged at start word s → IsStep at count before old now bits s word new
     → IsMerged (at + count) start word new
-merged-step at count before old now bits start s word new merged step = record {
+merged-step at count before old now bits start s word new so_far step = record {
   below = λ p h. elim (cases_lt p at) [
-    | inl low ↦ rw (step.put_heard.before p low, step.put_value.before p low, step.put_marks.before p low) (merged.below p low)
-    | inr from ↦ step-in at count before old now bits s word new step p from h ∙ ap (λ (t : Bool × Bool × Bool). after_hearing t (bit word p)) (merged.beyond p from)
+    | inl low ↦ rw (step.put_heard.before p low, step.put_value.before p low, step.put_marks.before p low) (so_far.below p low)
+    | inr from ↦ step-in at count before old now bits s word new step p from h ∙ ap (λ (t : Bool × Bool × Bool). after_hearing t (bit word p)) (so_far.beyond p from)
   ];
-  beyond = λ p h. rw (step.put_heard.after p h, step.put_value.after p h, step.put_marks.after p h) (merged.beyond p (omega (arith, h)));
+  beyond = λ p h. rw (step.put_heard.after p h, step.put_value.after p h, step.put_marks.after p h) (so_far.beyond p (omega (arith, h)));
   quiet = λ e.
       let parts = or_parts s.clash (not (bit_and (bit_and now before) (bit_xor old bits) == 0)) (sym step.clash ∙ e) in
       let zero : bit_and (bit_and now before) (bit_xor old bits) ≡ 0 = eqb-true _ 0 (not-false (bit_and (bit_and now before) (bit_xor old bits) == 0) parts.1) in
-      let first = merged.quiet parts.0 in
+      let first = so_far.quiet parts.0 in
       (first.0, λ p h. elim (cases_lt p at) [ inl low ↦ first.1 p low | inr from ↦ none zero p from h ]);
   silent = λ e f.
-      step.clash ∙ or_from s.clash (not (bit_and (bit_and now before) (bit_xor old bits) == 0)) (merged.silent e (λ p h. f p (omega (arith, h))))
+      step.clash ∙ or_from s.clash (not (bit_and (bit_and now before) (bit_xor old bits) == 0)) (so_far.silent e (λ p h. f p (omega (arith, h))))
       (not_from_true (bit_and (bit_and now before) (bit_xor old bits) == 0) (eq-eqb (bit_and (bit_and now before) (bit_xor old bits)) 0
       (word-zero (bit_and (bit_and now before) (bit_xor old bits)) (and_lt 64 (bit_and now before) (bit_xor old bits) (and_lt 64 now before step.now_fits step.before_fits) (xor_lt 64 old bits step.old_fits step.bits_fits)) (clear f))));
-  heard_long = step.heard_long ∙ merged.heard_long;
-  value_long = step.value_long ∙ merged.value_long;
-  marks_long = step.marks_long ∙ merged.marks_long;
+  heard_long = step.heard_long ∙ so_far.heard_long;
+  value_long = step.value_long ∙ so_far.value_long;
+  marks_long = step.marks_long ∙ so_far.marks_long;
 }
   where
     none : bit_and (bit_and now before) (bit_xor old bits) ≡ 0 → (p : ℕ) → at ≤ p → p < at + count → clashes_at (at_position start p) (bit word p) ≡ false
     none zero p from below =
         let e : at + (p - at) ≡ p = omega (arith, from) in
-        ap (λ (t : Bool × Bool × Bool). clashes_at t (bit word p)) (sym (merged.beyond p from))
+        ap (λ (t : Bool × Bool × Bool). clashes_at t (bit word p)) (sym (so_far.beyond p from))
         ∙ ap (λ q. clashes_at (at_position s q) (bit word q)) (sym e)
         ∙ sym (step-clash at count before old now bits s word new step (p - at) (omega (arith, from, below, step.few)))
         ∙ zero-none (bit_and (bit_and now before) (bit_xor old bits)) (p - at) zero
@@ -120,7 +120,7 @@ merged-step at count before old now bits start s word new merged step = record {
     clear : ((p : ℕ) → p < at + count → clashes_at (at_position start p) (bit word p) ≡ false) → (j : ℕ) → j < 64 → on (bit_and (bit_and now before) (bit_xor old bits)) j ≡ false
     clear f j lt =
         step-clash at count before old now bits s word new step j lt ∙ elim (cases_lt j count) [
-          | inl low ↦ ap (λ (t : Bool × Bool × Bool). clashes_at t (bit word (at + j))) (merged.beyond (at + j) (omega arith)) ∙ f (at + j) (omega (arith, low))
+          | inl low ↦ ap (λ (t : Bool × Bool × Bool). clashes_at t (bit word (at + j))) (so_far.beyond (at + j) (omega arith)) ∙ f (at + j) (omega (arith, low))
           | inr high ↦ ap (λ m. (m && bit s.heard (at + j)) && (bit s.value (at + j) ⊕ bit word (at + j))) (get_or_past s.marks (at + j) false (step.whole j lt high))
         ]
 
@@ -130,24 +130,24 @@ idle h v n b e = grind arith
 -- no position from `at` to `next` is marked, so nothing changes there
 pub merged-idle : (at next now : ℕ) (start s : Lists) (word : List Bool) → at ≤ next → next ≤ at + 64 → now ≡ 0
     → ((j : ℕ) → j < 64 → on now j ≡ bit s.marks (at + j)) → IsMerged at start word s → IsMerged next start word s
-merged-idle at next now start s word up few none reads merged = record {
+merged-idle at next now start s word up few none reads so_far = record {
   below = λ p h. elim (cases_lt p at) [
-    | inl low ↦ merged.below p low
-    | inr from ↦ merged.beyond p from ∙ idle (bit start.heard p) (bit start.value p) (bit start.marks p) (bit word p) (unmarked p from h)
+    | inl low ↦ so_far.below p low
+    | inr from ↦ so_far.beyond p from ∙ idle (bit start.heard p) (bit start.value p) (bit start.marks p) (bit word p) (unmarked p from h)
   ];
-  beyond = λ p h. merged.beyond p (omega (arith, h, up));
+  beyond = λ p h. so_far.beyond p (omega (arith, h, up));
   quiet = λ e.
-      let first = merged.quiet e in
+      let first = so_far.quiet e in
       (first.0, λ p h. elim (cases_lt p at) [ inl low ↦ first.1 p low | inr from ↦ ap (λ m. clashing (bit start.heard p) (bit start.value p) m (bit word p)) (unmarked p from h) ]);
-  silent = λ e f. merged.silent e (λ p h. f p (omega (arith, h, up)));
-  heard_long = merged.heard_long;
-  value_long = merged.value_long;
-  marks_long = merged.marks_long;
+  silent = λ e f. so_far.silent e (λ p h. f p (omega (arith, h, up)));
+  heard_long = so_far.heard_long;
+  value_long = so_far.value_long;
+  marks_long = so_far.marks_long;
 }
   where
     unmarked : (p : ℕ) → at ≤ p → p < next → bit start.marks p ≡ false
     unmarked p from below =
-        ap (λ (t : Bool × Bool × Bool). t.2) (sym (merged.beyond p from))
+        ap (λ (t : Bool × Bool × Bool). t.2) (sym (so_far.beyond p from))
         ∙ sym (read-at s.marks at now p reads from (omega (arith, below, few)))
         ∙ zero-none now (p - at) none
 
