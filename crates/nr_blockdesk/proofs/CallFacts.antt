@@ -1,7 +1,7 @@
 -- What calls on sixteen processes leave of each of them.
 use Rattle.std.proofs.lemmas.Bool.Decides.{nat_tests}
 use Rattle.std.proofs.Common.{arith}
-use Rattle.std.proofs.Common.{◌≡◌, ℕ, ◌<◌, Bool, false, cond, Ok, Err, Option, Some, None, Result, option_map, List, [], ◌∷◌, ◌++◌, length, filter, get_or, replicate, IsOk, OnErr, OnOk, IfOk, refl, sym, ap, subst, ◌∙◌}
+use Rattle.std.proofs.Common.{◌≡◌, ℕ, ◌<◌, Bool, false, cond, Ok, Err, Option, Some, None, Result, List, [], ◌∷◌, ◌++◌, length, filter, get_or, replicate, IsOk, OnErr, OnOk, IfOk, refl, sym, ap, subst, ◌∙◌}
 use Rattle.std.proofs.lemmas.Bool.{cases_eq, cond-false, eq-eqb, ne_eqb}
 use Rattle.std.proofs.lemmas.List.{get_or-replicate, get_or-set_same, get_or-set_other}
 use Rattle.nr_shifttable.specs.Accepted.{Entries}
@@ -25,7 +25,7 @@ module _ (table : Entries) (settings : Settings) (p : ℕ) where
   round-more round (c ∷ calls) call = round-more (after_call table settings p round c) calls call
 
   call-apart : (round : Option Round) (call : Call) → is_on p call ≡ false → after_call table settings p round call ≡ round
-  call-apart round call off = grind (arith, nat_tests, cond-false, option_map)
+  call-apart round call off = grind (arith, nat_tests, cond-false)
 
   own-step : (round : Option Round) (call : Call) (calls : List Call)
       → ((r : Option Round) → round_from table settings p r calls ≡ round_from table settings p r (filter (is_on p) calls))
@@ -121,7 +121,7 @@ module _ (s t : ProcessesView) (p : ℕ) (x : Reception) (calls : List Call) (lo
   take-refused e had takes = grind (arith, nat_tests, round-taken, stays, cases_eq, eq-eqb, call-apart, ne_eqb)
 
   take-answers : (answer : Outcome) → TakesAt s t p x (Ok answer) → answer_after s p (calls ++ take p x ∷ []) ≡ Some (verdict answer)
-  take-answers answer takes = grind (arith, round-taken, option_map, round-more, after-taken)
+  take-answers answer takes = grind (arith, round-taken, round-more, after-taken)
 
 pub take-after : (s t : ProcessesView) (p : ℕ) (x : Reception) (result : Result Outcome DeskFault) → length s.places ≡ 16 → p < 16
     → TakesAt s t p x result → OnErr result (t ≡ s) → HadMemory result

@@ -157,7 +157,7 @@ candidate-only sound plain blocks codes link records peelers bits is desk all ma
 -- what the peeler of a code block has, wherever it is read
 pub peeler-at : (link : Link) (records : List HeardBits) (peelers : List Peeling) → IsDesk link records peelers → (r : ℕ) (d : Peeling)
     → r < link.plan.c → get_or peelers r d ≡ peeling_of link peelers r
-peeler-at link records peelers desk r d block = grind (arith, get_or_default, none-of)
+peeler-at link records peelers desk r d block = grind (arith, get_or_default)
 
 pub peeler-size : (link : Link) (records : List HeardBits) (peelers : List Peeling) → IsDesk link records peelers → (r : ℕ) (d : Peeling)
     → r < link.plan.c → (checks_for (get_or peelers r d)).size ≡ word_size link.graph link.plan
@@ -224,7 +224,7 @@ started-tied sound link s p is start s-is = record {
 
 pub desk-new : PlansAreSound → (link : Link) (S : List HeardBits) (P : List Peeling) → IsLink link → length S ≡ link.plan.c → length P ≡ link.plan.c
     → All (λ s. s ≡ record_of (word_size link.graph link.plan) []) S → All (IsStarted link.table link.graph link.plan) P → IsDesk link S P
-desk-new sound link S P is stores peelers empty started = search (rules, started-tied, none-of)
+desk-new sound link S P is stores peelers empty started = search (rules, started-tied)
 
 -- nothing was received yet
 pub record-new : (link : Link) (S : List HeardBits) → length S ≡ link.plan.c → All (λ s. s ≡ record_of (word_size link.graph link.plan) []) S

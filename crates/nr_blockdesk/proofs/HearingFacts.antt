@@ -119,8 +119,16 @@ pub done-more : (b : Circular) (tx : Tx) (pieces : ℕ → List Heard) (S₀ S :
     → HearsPart b tx (pieces k) (heard_of S₀ k) (get_or P₀ k d) (heard_of (set S r t) k) (get_or (set P r q) k d)
 done-more b tx pieces S₀ S P₀ P r part s t p q in-S in-P part-is s-is p-is hears done later later_p k d below = ⊎_elim
     (λ (e : k ≡ r).
-    rw (e, get_or-set_same S r t nothing in-S, get_or-set_same P r q d in-P, ← part-is, ← later r (omega arith), ← later_p r d (omega arith),
-    ← get_or_read S r s in-S s-is nothing, ← get_or_read P r p in-P p-is d) hears)
+    rw (
+      e,
+      get_or-set_same S r t nothing in-S,
+      get_or-set_same P r q d in-P,
+      ← part-is,
+      ← later r (omega arith),
+      ← later_p r d (omega arith),
+      ← get_or_read S r s in-S s-is nothing,
+      ← get_or_read P r p in-P p-is d,
+    ) hears)
     (λ (e : k ≢ r). rw (get_or-set_other S r k t nothing e, get_or-set_other P r k q d e) (done k d (omega (arith, below, e))))
     (cases_eq k r)
   where

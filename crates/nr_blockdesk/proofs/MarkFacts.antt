@@ -54,8 +54,13 @@ piece-heards marks bits lengths r together inside =
     (λ k below.
     let low : k < e = omega (arith, below, one) in
     let none : 0 + (start + k) ≡ start + k = omega arith in
-    rw (heard-at marks bits start e k low, get_or-take e (drop start all) k heard.Erased low, get_or-drop start all k heard.Erased,
-    heard-at marks bits 0 (length marks) (start + k) (omega (arith, low, most, together)), none) refl)
+    rw (
+      heard-at marks bits start e k low,
+      get_or-take e (drop start all) k heard.Erased low,
+      get_or-drop start all k heard.Erased,
+      heard-at marks bits 0 (length marks) (start + k) (omega (arith, low, most, together)),
+      none,
+    ) refl)
 
 -- lists whose marks and bits are these places
 pub heards-are : (marks bits : List Bool) (places : List Heard) → length marks ≡ length places

@@ -92,10 +92,10 @@ piece-part_masks parts owners t tx heard r rv qm together block =
     long = length-take-le e (drop start heard) (omega (arith, length-drop start heard, most, together))
 
     outside : (m : ℕ) → m < length heard → ((start ≤ m) × (m < start + e) → ⊥) → f m ≡ None
-    outside m within out = grind (arith, nat_tests, f, eqb-true, start, e)
+    outside m within out = grind (arith, nat_tests, eqb-true)
 
     inside : (k : ℕ) → k < e → f (0 + start + k) ≡ g (0 + k)
-    inside k below = grind (arith, nat_tests, start, eq-eqb, long, get_or-take, e, get_or-drop)
+    inside k below = grind (arith, nat_tests, eq-eqb, long, get_or-take, get_or-drop)
 
 -- the peeler that stands for none
 abbrev pub none-of : Link → Peeling
@@ -152,8 +152,12 @@ all-taken parts owners matched link tx es heard S S' P P' is desk said whole man
         let long = (desk.tied r block).long in
         let before : heard_of S r ≡ record_of (length (heard_of S r).first) (hearings link list r) =
         rw long (ap (λ (l : List HeardBits). heard_of l r) of.same ∙ record-at link list r block) in
-        rw (record-at link (list ++ x ∷ []) r block, hearings-more link list x r,
-        hearings-part_masks parts owners matched link tx es heard r is (tx-from link x es said) whole block, ← long) ((hears r (none-of link) block).recorded (hearings link list r) before)
+        rw (
+          record-at link (list ++ x ∷ []) r block,
+          hearings-more link list x r,
+          hearings-part_masks parts owners matched link tx es heard r is (tx-from link x es said) whole block,
+          ← long,
+        ) ((hears r (none-of link) block).recorded (hearings link list r) before)
 
 -- and stores and peelers belong together again
 pub desk-taken : (link : Link) (tx : Tx) (lengths : List ℕ) (heard : List Heard) (S S' : List HeardBits) (P P' : List Peeling)
@@ -162,7 +166,7 @@ desk-taken link tx lengths heard S S' P P' desk stores peelers hears = grind ari
 
 -- nothing that is said of a reception is `Memory`
 pub reception-never_memory : (c : ℕ) (x : Reception) → reception_said_of c x ≡ Err fault.Memory → ⊥
-reception-never_memory c x = grind (arith, nat_tests, never-bind, x, tx-never_memory, never-demanded)
+reception-never_memory c x = grind (arith, nat_tests, never-bind, tx-never_memory, never-demanded)
 
 -- the parts, of the receiver's own lists
 pub parts-are : (link : Link) (tx : Tx) (es es' : List ℕ) (heard : List Heard) (S S₁ S' : List HeardBits) (P P₁ P' : List Peeling)

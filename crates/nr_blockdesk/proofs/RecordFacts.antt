@@ -37,7 +37,7 @@ own w p o = grind arith
 -- what a place tells of code block r fits its word, where the place agrees with the word of its own code block q
 place-tells : (w : ℕ → ℕ → Bool) (q r p : ℕ) (h : Heard) → agrees h (w q p) ≡ true
     → holds_if (fits (w r)) (cond (q == r) (option_map (λ b. (p, b)) (heard_bit h)) None) ≡ true
-place-tells w q r p h true-there = grind (arith, nat_tests, holds_if, own, agrees-is, eqb-true)
+place-tells w q r p h true-there = grind (arith, nat_tests, own, agrees-is, eqb-true)
 
 place-part_masks : (w : ℕ → ℕ → Bool) (q p : ℕ) (h : Heard)
     → holds_if (fits (w q)) (cond (q == q) (option_map (λ b. (p, b)) (heard_bit h)) None) ≡ true → agrees h (w q p) ≡ true
@@ -170,7 +170,7 @@ place-below n p own o inside = grind (arith, nat_tests)
 below-in : AcceptedAreMatched → SentBitsAreAt → (link : Link) (r : ℕ) (x : Reception) → IsLink link → IsAccepted link x
     → list_all (is_below (word_size link.graph link.plan)) (hearings_in link r x) ≡ true
 unfolding hearings_in
-below-in matched at link r x is accepted = grind (arith, nat_tests, given_all, range_all, holds_if, place-below, placed)
+below-in matched at link r x is accepted = grind (arith, nat_tests, given_all, range_all, place-below, placed)
 
 below-all : AcceptedAreMatched → SentBitsAreAt → (link : Link) (list : List Reception) (r : ℕ) → IsLink link
     → All (IsAccepted link) list → list_all (is_below (word_size link.graph link.plan)) (hearings link list r) ≡ true

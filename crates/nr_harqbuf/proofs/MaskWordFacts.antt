@@ -110,7 +110,7 @@ agrees-always heard value word at h v w agreed fits_h fits_v fits_w reads_h read
     and_from agreed (bit_and h (bit_xor v w) == 0) so_far (eq-eqb (bit_and h (bit_xor v w)) 0 (word-zero (bit_and h (bit_xor v w)) (and_lt 64 h (bit_xor v w) fits_h (xor_lt 64 v w fits_v fits_w)) none))
   where
     none : (j : ℕ) → j < 64 → on (bit_and h (bit_xor v w)) j ≡ false
-    none j lt = grind (arith, differs-at, on, no-sum)
+    none j lt = grind (arith, differs-at, no-sum)
 
 -- no position is marked past the end
 pub agrees-all : (heard value word : List Bool) (k : ℕ) (agreed : Bool) → length heard ≤ k

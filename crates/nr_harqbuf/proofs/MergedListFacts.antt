@@ -77,10 +77,18 @@ step-in at count before old now bits s word new step p from below =
     let v : on old (p - at) ≡ bit s.value p = read-at s.value at old p step.reads_old from here in
     let n : on now (p - at) ≡ bit s.marks p = read-at s.marks at now p step.reads_now from here in
     let b : on bits (p - at) ≡ bit word p = read-at word at bits p step.reads_bits from here in
-    rw (put-in s.heard new.heard at count (bit_or before now) p step.put_heard from below, on-or before now (p - at),
-    put-in s.value new.value at count (bit_xor old (bit_and (bit_and now (bit_not w64 before)) (bit_xor old bits))) p step.put_value from below,
-    value-word before old now bits (p - at) step.before_fits j,
-    put-in s.marks new.marks at count (bit_and now (bit_not w64 before)) p step.put_marks from below, news-word before now (p - at) step.before_fits j, h, v, n, b) refl
+    rw (
+      put-in s.heard new.heard at count (bit_or before now) p step.put_heard from below,
+      on-or before now (p - at),
+      put-in s.value new.value at count (bit_xor old (bit_and (bit_and now (bit_not w64 before)) (bit_xor old bits))) p step.put_value from below,
+      value-word before old now bits (p - at) step.before_fits j,
+      put-in s.marks new.marks at count (bit_and now (bit_not w64 before)) p step.put_marks from below,
+      news-word before now (p - at) step.before_fits j,
+      h,
+      v,
+      n,
+      b,
+    ) refl
 
 -- a clash at a position of the word
 step-clash : (at count before old now bits : ℕ) (s : Lists) (word : List Bool) (new : Lists) → IsStep at count before old now bits s word new
@@ -157,7 +165,7 @@ record_in s = record { first = kept s.heard s.value; clash = s.clash }
 
 -- the bit kept at a position whose mark is h and whose bit is v, received with mark n and bit b
 first_bits : (h v n b : Bool) → cond (h || n) (Some (merged_bit h v n b)) None ≡ cond (is_heard (cond h (Some v) None)) (cond h (Some v) None) (cond n (Some b) None)
-first_bits h v n b = grind (arith, merged_bit)
+first_bits h v n b = grind arith
 
 clash_bits : (h v n b : Bool) → (n && differs (cond h (Some v) None) b) ≡ clashing h v n b
 clash_bits h v n b = grind arith
@@ -195,7 +203,7 @@ merged-done old bits new k m whole = rw (firsts, clash) refl
     long = length-kept old.heard old.value
 
     first : (p : ℕ) → p < length old.heard → kept_at new.heard new.value p ≡ first_merged (record_in old) old.marks bits p
-    first p lt = grind (arith, at_position, after_hearing, first_bits, kept-at)
+    first p lt = grind (arith, first_bits, kept-at)
 
     firsts : kept new.heard new.value ≡ map (first_merged (record_in old) old.marks bits) (range_with_len 0 count)
     firsts = fill_by_all (first_merged (record_in old) old.marks bits) (kept new.heard new.value) count None (length-kept new.heard new.value ∙ m.heard_long ∙ sym long)

@@ -76,7 +76,7 @@ module _ (heard value : List Bool) (at count before old now low bits : ℕ) (few
     (reads : (j : ℕ) → j < 64 → on before j ≡ bit heard (at + j)) (reads_old : (j : ℕ) → j < 64 → on old j ≡ bit value (at + j)) (lows : (j : ℕ) → j < count → bit_at low j ≡ bit_at now j) where
   -- the word of clashes at a position
   clash-at : (p : ℕ) → at ≤ p → p < at + count → on (bit_and (bit_and low before) (bit_xor old bits)) (p - at) ≡ clashing (bit heard p) (bit value p) (on now (p - at)) (on bits (p - at))
-  clash-at p from below = grind (arith, nat_tests, on, read-at, clash-word)
+  clash-at p from below = grind (arith, nat_tests, read-at, clash-word)
 
   -- no clash: nothing that the word says contradicts what was said
   pub quiet-agrees : bit_and (bit_and low before) (bit_xor old bits) ≡ 0 → (p : ℕ) (b : Bool) → word_says at count now bits p b ≡ true → says heard value p (not b) ≡ false

@@ -55,4 +55,4 @@ loop-r-preserved c =
 
 pub returns : goal.returns
 unfolding sent_of
-returns c = grind (arith, slice_index_or, front_sent)
+returns c = grind arith
