@@ -1,19 +1,18 @@
 -- The text of `audit`, line by line.
 use Rattle.std.proofs.lemmas.Bool.Decides.{nat_tests}
-use Rattle.std.proofs.Common.{◌≡◌, ℕ, ◌+◌, ◌<◌, ◌==◌, Bool, true, false, List, [], ◌∷◌, ◌++◌, All, length, take, get_or, ap, sym, arith, length-append, cond}
+use Rattle.std.proofs.Common.{◌≡◌, ℕ, ◌+◌, ◌<◌, ◌==◌, false, List, [], ◌∷◌, ◌++◌, All, length, take, get_or, sym, arith, length-append}
 use Rattle.std.proofs.lemmas.Grind.{flat_map-append}
-use Rattle.std.proofs.lemmas.List.{append-nil, take_more}
+use Rattle.std.proofs.lemmas.List.{take_more}
 use Rattle.std.proofs.lemmas.List.Elements.{filter-append}
 use Rattle.nr_crcattach.specs.Attachment.{attached_length}
 use Rattle.nr_bitvec.specs.Bit.{bit}
 use Rattle.nr_harqbuf.specs.Record.{HeardBits}
-use Rattle.nr_ldpcenc.specs.Rows.{Checks, block_checks}
-use Rattle.nr_segment.specs.Plan.{word_size, PlansAreSound}
-use Rattle.nr_peel.specs.Peeling.{IsPeeled, Peeling, checks_for, gained_in, unknown_in}
+use Rattle.nr_segment.specs.Plan.{PlansAreSound}
+use Rattle.nr_peel.specs.Peeling.{IsPeeled, Peeling, gained_in, unknown_in}
 use Rattle.nr_blockdesk.specs.Explains.{Reception}
 use Rattle.nr_blockdesk.specs.Heard.{heard_of, heard_record}
 use Rattle.nr_blockdesk.specs.Link.{IsLink, Link}
-use Rattle.nr_blockdesk.specs.Outcome.{fixed, given, left}
+use Rattle.nr_blockdesk.specs.Outcome.{given, left}
 use Rattle.nr_blockdesk.specs.Receiving.{ReceiverView}
 use Rattle.nr_blockdesk.specs.Sent.{SenderView}
 use Rattle.nr_linkcommands.specs.AuditText.{audit_of}
@@ -44,19 +43,12 @@ pub record IsPeelerOf (link : Link) (s : HeardBits) (p : Peeling) : Type 0 where
   pub positions : (k : ℕ) → bit p.given k ≡ given link s k
   pub peeled : IsPeeled p
 
-same_checks : (link : Link) (s : HeardBits) (p : Peeling) → IsPeelerOf link s p → checks_for p ≡ block_checks link.table link.graph link.plan
-same_checks link s p of = grind arith
-
--- what it knows is what is fixed
-known_fixed : (link : Link) (s : HeardBits) (p : Peeling) → IsPeelerOf link s p → (k : ℕ) → bit p.known k ≡ fixed link s k
-known_fixed link s p of k = grind (arith, same_checks)
-
 -- what it gained are the steps, and what it does not know is not fixed
 pub gained-steps : (link : Link) (s : HeardBits) (p : Peeling) → IsPeelerOf link s p → gained_in p.known p.given ≡ steps_of link s
-gained-steps link s p of = grind (arith, known_fixed, same_checks)
+gained-steps link s p of = grind (arith)
 
 pub unknown-unfixed : (link : Link) (s : HeardBits) (p : Peeling) → IsPeelerOf link s p → unknown_in p.known ≡ unfixed link s
-unknown-unfixed link s p of = grind (arith, known_fixed, same_checks)
+unknown-unfixed link s p of = grind (arith)
 
 -- what is received of a process with one transmission more: its own, and that of another process
 pub received-next : (p : ℕ) (sender : SenderView) (xs : List Transmission) (i : ℕ) (x none : Transmission) → i < length xs → x ≡ get_or xs i none

@@ -2,24 +2,16 @@
 use Rattle.std.proofs.Common.{arith}
 use Rattle.std.proofs.Common.{◌≡◌, ◌≢◌, ℕ, ◌+◌, ◌⊎◌, ⊎_elim, Option, IfSome, Result, Ok, Err, IsErrAnd, IfErr, IfOk, List, length, sym, subst}
 use Rattle.std.proofs.lemmas.Option.{IfSome_then}
-use Rattle.nr_shifttable.specs.Accepted.{Entries, table_said}
-use Rattle.nr_shifttable.specs.declared.fault.TableFault.{TableFault}
-use Rattle.nr_shifttable.specs.declared.fault.TableFault.TheVariants as table_fault
 use Rattle.nr_files.specs.Blocks.{blocks_said}
 use Rattle.nr_commands.specs.Command.{IsBlockFault}
-use Rattle.nr_commands.specs.Faults.{blocks_refusal, schedule_refusal, settings_refusal, table_refusal}
+use Rattle.nr_commands.specs.Faults.{schedule_refusal}
 use Rattle.nr_linkcommands.specs.Inputs.{AreInputsOf, Given, HaveNoFault, IsFoundIn, OfSaid, Says, senders_from}
 use Rattle.nr_files.specs.Schedule.{schedule_said}
-use Rattle.nr_files.specs.Settings.{settings_said}
-use Rattle.nr_files.specs.declared.blocks.BlocksFault.{BlocksFault}
-use Rattle.nr_files.specs.declared.blocks.BlocksFault.TheVariants as blocks_fault
 use Rattle.nr_commands.specs.declared.fault.RunFault.{RunFault}
 use Rattle.nr_commands.specs.declared.fault.RunFault.TheVariants as faults
 use Rattle.nr_files.specs.declared.schedule.ScheduleFault.{ScheduleFault}
 use Rattle.nr_files.specs.declared.schedule.ScheduleFault.TheVariants as schedule_fault
-use Rattle.nr_files.specs.declared.settings.SettingsFault.{SettingsFault}
-use Rattle.nr_files.specs.declared.settings.SettingsFault.TheVariants as settings_fault
-use Rattle.nr_linkcommands.proofs.InputLemmas.{by_blocks, by_schedule, by_settings, by_table}
+use Rattle.nr_linkcommands.proofs.InputLemmas.{by_schedule}
 
 -- a count that rises exactly where this fault is returned did not rise
 pub kept : {E : Type 0} (told e : E) (old new : ℕ) → e ≢ told → ((e ≡ told) × (new ≡ old + 1)) ⊎ ((e ≢ told) × (new ≡ old)) → new ≡ old
@@ -29,6 +21,7 @@ kept told e old new other fails = ⊎_elim (λ rose. absurd (other rose.0)) (λ 
 of_said : {X E : Type 0} (P : X → Type 0) (said : List ℕ → Result X E) (x : X) (file : Option (List ℕ)) → Says said (Ok x) file → P x → OfSaid said file P
 of_said P said x file is holds = IfSome_then file is (λ octets same. subst (λ r. IfOk r P) (sym same) holds)
 
+-- the fault of the schedule file
 pub found_schedule : {X : Type 0} (blocks : List (List ℕ)) (r : Result X RunFault) (e : ScheduleFault) (t s b d : Option (List ℕ)) (old new : ℕ) → IsErrAnd r (λ told. told ≡ schedule_refusal e) → ((e ≡ schedule_fault.Read) × (new ≡ old + 1)) ⊎ ((e ≢ schedule_fault.Read) × (new ≡ old)) → Says blocks_said (Ok blocks) b → (new ≡ old → IfSome d (λ octets. (e ≡ schedule_fault.Memory) ⊎ (schedule_said (length blocks) octets ≡ Err e))) → IfErr r (λ fault. IsFoundIn fault t s b d)
 found_schedule blocks r e t s b d old new at fails before said = grind (arith, by_schedule, of_said, kept)
 

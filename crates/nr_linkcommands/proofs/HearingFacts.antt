@@ -1,7 +1,7 @@
 -- What is received of a transmission, place by place and word by word.
 use Rattle.std.proofs.Common.{rules}
 use Rattle.std.proofs.lemmas.Bool.Decides.{nat_tests}
-use Rattle.std.proofs.Common.{◌≡◌, ℕ, ◌+◌, ◌-◌, ◌%◌, ◌^◌, ◌<◌, ◌==◌, not, Bool, false, List, ◌++◌, length, map, ap, ◌∙◌, arith, length-append}
+use Rattle.std.proofs.Common.{◌≡◌, ℕ, ◌+◌, ◌-◌, ◌^◌, ◌<◌, ◌==◌, not, Bool, false, List, ◌++◌, length, map, ap, ◌∙◌, arith, length-append}
 use Rattle.std.specs.Int.{bit_at, bit_not, w64}
 use Rattle.std.specs.Int.RustNames.{bit_xor}
 use Rattle.std.specs.List.{range_with_len}
@@ -13,8 +13,7 @@ use Rattle.nr_bitvec.proofs.PackedListFacts.{bit-low_first, length-low_first}
 use Rattle.nr_bitvec.proofs.PlaceFacts.{same_from_bits}
 use Rattle.nr_bitvec.specs.Bit.{◌⊕◌, bit}
 use Rattle.nr_bitvec.specs.BitList.{low_first}
-use Rattle.nr_blockdesk.specs.Marks.{heards, heards_from, place_heard}
-use Rattle.nr_blockdesk.specs.ReceiverLaws.{arrived_bit}
+use Rattle.nr_blockdesk.specs.Marks.{heards, heards_from}
 use Rattle.nr_files.specs.Erasures.{erased_of, is_named}
 use Rattle.nr_linkcommands.specs.Hearing.{heard_through}
 use Rattle.nr_files.specs.declared.erasure.Erasure.{Erasure}

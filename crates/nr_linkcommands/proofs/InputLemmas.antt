@@ -1,7 +1,6 @@
 -- What the four files of a command over a schedule say, step by step.
 use Rattle.std.proofs.Common.{arith}
-use Rattle.std.proofs.Common.{◌≡◌, ◌≢◌, ℕ, ◌+◌, ◌<◌, ◌≤◌, ◌⊎◌, inl, inr, Option, None, Some, IfSome, Result, Ok, Err, IsErrOf, IsErrAnd, IfErr, IsOk, List, [], ◌∷◌, ◌++◌, length, drop, get_or, ap, sym, refl, subst, append_assoc, ⊎_elim}
-use Rattle.std.proofs.lemmas.List.{append-nil, drop_all}
+use Rattle.std.proofs.Common.{◌≡◌, ◌≢◌, ℕ, ◌+◌, ◌<◌, ◌⊎◌, inl, inr, Option, None, Some, IfSome, Result, Ok, Err, IsErrOf, IsErrAnd, IfErr, List, [], ◌∷◌, ◌++◌, length, drop, get_or, ap, sym, refl, subst, append_assoc, ⊎_elim}
 use Rattle.std.proofs.lemmas.Option.{IfSome_then}
 use Rattle.nr_refusal.specs.Refusal.{◌>>=◌}
 use Rattle.nr_shifttable.specs.Accepted.{Entries, table_said}
@@ -10,7 +9,7 @@ use Rattle.nr_shifttable.specs.declared.fault.TableFault.TheVariants as table_fa
 use Rattle.nr_files.specs.Blocks.{blocks_said}
 use Rattle.nr_commands.specs.Command.{IsBlockFault, Writes}
 use Rattle.nr_commands.specs.Faults.{blocks_refusal, schedule_refusal, settings_refusal, table_refusal}
-use Rattle.nr_linkcommands.specs.Inputs.{HasNoFault, OfFour, Says, files_said, sender_said, senders_from}
+use Rattle.nr_linkcommands.specs.Inputs.{OfFour, Says, files_said, sender_said, senders_from}
 use Rattle.nr_transmission.specs.declared.fault.DeskFault.{DeskFault}
 use Rattle.nr_files.specs.Schedule.{Timetable, schedule_said}
 use Rattle.nr_files.specs.Settings.{settings_said}

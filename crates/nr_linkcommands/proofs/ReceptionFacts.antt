@@ -1,21 +1,19 @@
 -- What is received of a sender's transmissions: each reception is accepted, and without flips the sender's block
 -- explains it.
-use Rattle.std.proofs.Common.{◌≡◌, ℕ, ◌<◌, Bool, true, false, Result, Ok, Err, IsOk, List, [], ◌∷◌, All, length, ap, sym, subst, refl, ◌∙◌, arith}
+use Rattle.std.proofs.Common.{◌≡◌, ℕ, Bool, true, Result, Ok, Err, IsOk, List, [], ◌∷◌, All, length, ap, sym, subst, refl, ◌∙◌, arith}
 use Rattle.std.specs.List.{list_all}
 use Rattle.std.proofs.lemmas.Bool.Decides.{nat_tests}
 use Rattle.std.proofs.lemmas.List.Elements.{All-append, All-cons, All-head, All-nil, All-tail}
 use Rattle.std.proofs.lemmas.List.Folds.{list_all-append}
 use Rattle.std.proofs.lemmas.List.FromFn.{get_or-map-range_with_len, length-map-range_with_len}
-use Rattle.nr_bitvec.specs.Bit.{◌⊕◌, bit}
 use Rattle.nr_refusal.specs.Refusal.{◌>>=◌}
-use Rattle.nr_blockdesk.specs.Explains.{IsAccepted, Reception, agrees, all_agree, explains, heard_at, reception, reception_said}
+use Rattle.nr_blockdesk.specs.Explains.{IsAccepted, Reception, all_agree, explains, reception, reception_said}
 use Rattle.nr_blockdesk.specs.Link.{Link}
-use Rattle.nr_blockdesk.specs.ReceiverLaws.{arrived_bit}
 use Rattle.nr_blockdesk.specs.Sent.{AcceptedSendAll, SenderView, sent, sent_said, tx_said}
 use Rattle.nr_transmission.specs.declared.fault.DeskFault.{DeskFault}
 use Rattle.nr_blockdesk.specs.declared.heard.Heard.{Heard}
 use Rattle.nr_transmission.specs.declared.tx.Tx.{Tx}
-use Rattle.nr_files.specs.Erasures.{erased_of, is_named}
+use Rattle.nr_files.specs.Erasures.{erased_of}
 use Rattle.nr_linkcommands.specs.Hearing.{arrives_at, heard_through}
 use Rattle.nr_linkcommands.specs.RunText.{received, received_if, received_of}
 use Rattle.nr_linkcommands.specs.SafeRuns.{OnlyErases}

@@ -1,11 +1,11 @@
 -- What each slot has received of the round that its process is in, one transmission after the other.
 use Rattle.nr_files.proofs.RoundFacts.{round-more}
-use Rattle.std.proofs.Common.{◌≡◌, ℕ, ◌+◌, ◌-◌, ◌<◌, ◌≤◌, ◌==◌, All, Bool, true, false, not, cond, Option, None, Some, List, [], ◌∷◌, ◌++◌, length, take, drop, set, replicate, slice_get, get_or, ap, sym, subst, refl, ◌∙◌, arith, append_assoc, length-append, IfSome}
+use Rattle.std.proofs.Common.{◌≡◌, ℕ, ◌+◌, ◌-◌, ◌<◌, ◌≤◌, All, Bool, true, false, cond, Option, None, Some, List, [], ◌∷◌, ◌++◌, length, take, drop, set, slice_get, get_or, sym, subst, refl, ◌∙◌, arith, append_assoc, IfSome}
 use Rattle.std.proofs.Math.ListN.{length-set}
 use Rattle.std.proofs.lemmas.Bool.{cases_eq}
 use Rattle.std.proofs.lemmas.Bool.Decides.{nat_tests}
 use Rattle.std.proofs.lemmas.Grind.{get_or-set_at}
-use Rattle.std.proofs.lemmas.List.{get_or-replicate, get_or-set_other, length-replicate}
+use Rattle.std.proofs.lemmas.List.{get_or-set_other}
 use Rattle.std.proofs.lemmas.List.Elements.{All-head}
 use Rattle.nr_blockdesk.specs.Explains.{Reception}
 use Rattle.nr_blockdesk.specs.Link.{Link}
@@ -23,7 +23,6 @@ use Rattle.nr_files.specs.declared.schedule.Transmission.{Transmission}
 use Rattle.nr_linkcommands.proofs.LastRoundFacts.{holds-round}
 use Rattle.nr_linkcommands.proofs.RoundTextFacts.{received-more, turns-turn}
 use Rattle.nr_linkcommands.proofs.RunLineFacts.{has_received, received-few}
-use Rattle.nr_linkcommands.proofs.RunOutcomeFacts.{outcome_line-some}
 
 -- a round is no longer than the transmissions
 since_fresh-few : (xs : List Transmission) → length (since_fresh xs) ≤ length xs

@@ -4,7 +4,7 @@ use Rattle.std.specs.List.{filter, range_with_len}
 use Rattle.std.proofs.lemmas.Bool.Decides.{nat_tests}
 use Rattle.std.proofs.lemmas.List.Elements.{filter-append}
 use Rattle.nr_blockdesk.specs.Sent.{SenderView}
-use Rattle.nr_linkcommands.specs.RoundTexts.{LinesAreOwn, Piece, Words, is_about, last_rounds, round_lines, turn_lines, turns}
+use Rattle.nr_linkcommands.specs.RoundTexts.{LinesAreOwn, Piece, Words, is_about, last_rounds, round_lines, turns}
 use Rattle.nr_files.specs.Rounds.{of_process, round_of}
 use Rattle.nr_files.specs.declared.schedule.Transmission.{Transmission}
 use Rattle.nr_files.proofs.RoundFacts.{of_process-more}

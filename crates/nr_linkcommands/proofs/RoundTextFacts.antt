@@ -1,7 +1,6 @@
 -- The text over the rounds of processes, one transmission after the other.
 use Rattle.std.proofs.Common.{◌≡◌, ℕ, All, ◌+◌, ◌-◌, ◌<◌, ◌≤◌, Bool, true, false, cond, List, [], ◌∷◌, ◌++◌, length, take, drop, get_or, ap, sym, refl, ◌∙◌, arith, append_assoc, length-append, length-drop, take_all}
 use Rattle.std.specs.Prelude.{◌==◌}
-use Rattle.std.proofs.lemmas.Bool.Decides.{nat_tests}
 use Rattle.std.proofs.lemmas.Grind.{flat_map-append}
 use Rattle.std.proofs.lemmas.List.{append-nil, drop_more, take_more}
 use Rattle.std.proofs.lemmas.List.Elements.{All-filter, All-tail}
@@ -9,10 +8,9 @@ use Rattle.std.specs.List.{list_any}
 use Rattle.nr_blockdesk.specs.Sent.{SenderView}
 use Rattle.nr_linkcommands.specs.RunText.{received, received_of, round_counted, rounds_counted}
 use Rattle.nr_linkcommands.specs.RoundTexts.{Words, pieces_joined, turn_lines, turns}
-use Rattle.nr_files.specs.Rounds.{continued, ended_by, ended_rounds, of_process, round_of, since_fresh}
+use Rattle.nr_files.specs.Rounds.{ended_by, ended_rounds, of_process, round_of, since_fresh}
 use Rattle.nr_linkcommands.specs.declared.run_command.totals.Totals.{Totals}
 use Rattle.nr_files.specs.declared.schedule.Transmission.{Transmission}
-use Rattle.nr_files.proofs.RoundFacts.{round-more}
 
 -- the transmissions before the next one
 pub taken-more : {X : Type 0} (xs : List X) (i : ℕ) (x : X) → i < length xs → x ≡ get_or xs i x → take (i + 1) xs ≡ take i xs ++ x ∷ []

@@ -1,23 +1,21 @@
 -- How transport blocks end: their lines, and their totals.
 use Rattle.std.proofs.Common.{◌≡◌, ℕ, zero, suc, ◌+◌, ◌<◌, ◌≤◌, ◌==◌, Bool, true, false, not, cond, Option, None, Some, List, [], length, codes, ap, sym, refl, ◌∙◌, arith, length-append}
 use Rattle.std.specs.Prelude.{count_by}
-use Rattle.std.specs.List.{find, list_all, range_with_len}
+use Rattle.std.specs.List.{list_all, range_with_len}
 use Rattle.std.proofs.lemmas.Bool.{true≢false}
 use Rattle.std.proofs.lemmas.List.{map-id}
 use Rattle.std.proofs.lemmas.List.FromFn.{get_or-map-range_with_len, sum_by-map-range_with_len_more}
 use Rattle.std.proofs.lemmas.List.Sums.{sum_by-cons}
-use Rattle.std.proofs.lemmas.Bool.Decides.{nat_tests}
 use Rattle.nr_harqbuf.specs.Record.{HeardBits, record_of}
 use Rattle.nr_segment.specs.Plan.{word_size}
-use Rattle.nr_blockdesk.specs.Explains.{Reception, explains}
+use Rattle.nr_blockdesk.specs.Explains.{Reception}
 use Rattle.nr_blockdesk.specs.Heard.{heard_record, hearings}
-use Rattle.nr_blockdesk.specs.Link.{IsLink, Link}
-use Rattle.nr_blockdesk.specs.Outcome.{all_fixed, blocks_of, fixed, left, open_still, outcome_of, verdict_on}
-use Rattle.nr_blockdesk.specs.ReceiverLaws.{NothingIsOpen}
+use Rattle.nr_blockdesk.specs.Link.{Link}
+use Rattle.nr_blockdesk.specs.Outcome.{all_fixed, fixed, left, open_still, verdict_on}
 use Rattle.nr_blockdesk.specs.Sent.{SenderView}
 use Rattle.nr_linkcommands.specs.Ends.{IsWithin}
 use Rattle.nr_linkcommands.specs.RunLines.{contradiction_line, delivered_line, last_line, left_line, open_line, outcome_line, unfixed_blocks}
-use Rattle.nr_linkcommands.specs.RunText.{counted, no_totals, open_counted, rounds_counted, run_ends, text_of_run, totals_from}
+use Rattle.nr_linkcommands.specs.RunText.{no_totals, rounds_counted, run_ends, text_of_run, totals_from}
 use Rattle.nr_files.specs.Rounds.{all_rounds}
 use Rattle.nr_files.specs.Schedule.{Timetable}
 use Rattle.nr_linkcommands.specs.declared.run_command.totals.Totals.{Totals}

@@ -1,6 +1,6 @@
 -- What a run and an audit use of a schedule that was read. Each transmission is of its round's block, and where no
 -- processes are named, the rounds at the end are the blocks.
-use Rattle.std.proofs.Common.{◌≡◌, ℕ, ◌+◌, ◌-◌, ◌<◌, Bool, true, false, cond, Option, Some, List, [], ◌∷◌, All, length, take, drop, slice_get, get_or, ap, sym, subst, refl, ◌∙◌, arith}
+use Rattle.std.proofs.Common.{◌≡◌, ℕ, ◌+◌, ◌-◌, Bool, true, false, Option, Some, List, [], ◌∷◌, All, length, take, drop, slice_get, get_or, ap, sym, subst, refl, ◌∙◌, arith}
 use Rattle.std.specs.Prelude.{◌==◌}
 use Rattle.std.proofs.lemmas.Bool.Decides.{nat_tests}
 use Rattle.std.proofs.lemmas.Grind.{get_or_after_one}
@@ -10,7 +10,7 @@ use Rattle.nr_blockdesk.specs.Sent.{SenderView}
 use Rattle.nr_linkcommands.specs.Ends.{AllHold, AreOfRounds, HoldRounds, HoldsIf, HoldsSlot, HoldsRound, IsOfRound, empty_slot}
 use Rattle.nr_files.specs.Rounds.{IsOfBlock, round_of}
 use Rattle.nr_linkcommands.specs.RunText.{own, received}
-use Rattle.nr_files.specs.Schedule.{EachGoesOn, HasBlock, IsPlaced, IsTimetable, Timetable, fresh_block}
+use Rattle.nr_files.specs.Schedule.{EachGoesOn, IsPlaced, IsTimetable, Timetable, fresh_block}
 use Rattle.nr_linkcommands.specs.declared.run_command.slot.Slot.{Slot}
 use Rattle.nr_files.specs.declared.schedule.Transmission.{Transmission}
 use Rattle.nr_files.proofs.BlockRoundFacts.{blocks_are_rounds}
