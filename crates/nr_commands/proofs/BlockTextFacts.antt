@@ -1,5 +1,5 @@
 -- The lines of blocks, and of their code blocks, one by one.
-use Rattle.std.proofs.Common.{◌≡◌, ℕ, zero, suc, ◌+◌, ◌-◌, ◌*◌, ◌<◌, ◌≤◌, length-append, Bool, Option, Vec, Global, Result, Ok, Err, IfOk, IsOk, IsOkAnd, subst, codes, List, [], ◌∷◌, ◌++◌, length, map, flat_map, drop, get_or, ap, sym, ◌∙◌, refl, arith, append_assoc}
+use Rattle.std.proofs.Common.{◌≡◌, ℕ, zero, suc, ◌+◌, ◌-◌, ◌*◌, ◌<◌, ◌≤◌, length-append, Bool, Option, Vec, Global, Result, Ok, Err, IfOk, IsOk, IsOkAnd, codes, List, [], ◌∷◌, ◌++◌, length, map, flat_map, drop, get_or, ap, sym, ◌∙◌, refl, arith, append_assoc}
 use Rattle.std.proofs.lemmas.List.{drop_more, drop_all, append-nil, flat_map_more, length-map}
 use Rattle.nr_files.proofs.RefusalFacts.{holds_then, with_front, with_front-more, with_front-none}
 use Rattle.std.proofs.Math.ListN.{get_or-map}
@@ -7,14 +7,12 @@ use Rattle.std.specs.List.{range_with_len}
 use Rattle.nr_commands.specs.declared.fault.RunFault.{RunFault}
 use Rattle.nr_commands.specs.declared.fault.RunFault.TheVariants as fault
 use Rattle.nr_transmission.specs.declared.fault.DeskFault.TheVariants as desk
-use Rattle.nr_bitvec.specs.BitList.{bits_of, octet_bits}
+use Rattle.nr_bitvec.specs.BitList.{bits_of}
 use Rattle.nr_graphpick.specs.Graph.{picked}
 use Rattle.nr_graphpick.specs.declared.Graph.{Graph}
 use Rattle.nr_segment.specs.Plan.{Numbers, plan_of}
 use Rattle.nr_crcattach.specs.Attachment.{attached}
 use Rattle.nr_refusal.specs.Refusal.{◌>>=◌, with_fault}
-use Rattle.nr_graphpick.specs.Graph.{digits_of}
-use Rattle.nr_segment.specs.CodeBlock.{code_bits}
 use Rattle.std.specs.Fmt.{decimal}
 use Rattle.std.proofs.lemmas.Grind.{flat_map-append}
 use Rattle.nr_commands.specs.Command.{Stops, Writes}

@@ -10,34 +10,22 @@ use Rattle.nr_shifttable.specs.declared.fault.TableFault.TheVariants as table_fa
 use Rattle.nr_commands.specs.CheckLines.{graph_line}
 use Rattle.nr_commands.specs.CheckText.{check_said, graph_lines, table_lines}
 use Rattle.nr_commands.specs.Faults.{table_refusal}
-use Rattle.nr_refusal.specs.Refusal.{◌>>=◌, with_fault}
-use Rattle.nr_commands.specs.declared.fault.RunFault.TheVariants.{Memory, Table, Write}
+use Rattle.nr_commands.specs.declared.fault.RunFault.TheVariants.{Memory, Write}
 use Rattle.nr_commands.proofs.WrittenLemmas.{some_at_end}
 
--- a refused table file is a refused command
-check_said-refused : (text : List ℕ) (e : TableFault) → table_said text ≡ Err e → check_said text ≡ Err (Table e)
-unfolding check_said
-check_said-refused text e is = ap (λ r. with_fault Table r >>= λ table. Ok (table_lines table)) is
-
--- the lines of an accepted table
-check_said-read : (text : List ℕ) (table : Entries) → table_said text ≡ Ok table → check_said text ≡ Ok (table_lines table)
-unfolding check_said
-check_said-read text table is = ap (λ r. with_fault Table r >>= λ table. Ok (table_lines table)) is
-
 -- a fault of the file is the command's; the source did not fail
-given-refused : (text : List ℕ) (e : TableFault) → (e ≡ table_fault.Memory) ⊎ (table_said text ≡ Err e) → (table_refusal e ≡ Memory) ⊎ (check_said text ≡ Err (table_refusal e))
-given-refused text e (inl is) = inl (ap table_refusal is)
-given-refused text table_fault.Memory (inr is) = inl refl
-given-refused text e (inr is) = inr (check_said-refused text e is)
-
 pub given-table-refused : {X : Type 0} (r : Result X TableFault) (text : List ℕ) (e : TableFault) → (IsErrOf r table_fault.Read → ⊥) → IsErrOf r table_fault.Read ⊎ ((e ≡ table_fault.Memory) ⊎ (table_said text ≡ Err e)) → (table_refusal e ≡ Memory) ⊎ (check_said text ≡ Err (table_refusal e))
+unfolding check_said
 given-table-refused r text e sound (inl read) = absurd (sound read)
-given-table-refused r text e sound (inr given) = given-refused text e given
+given-table-refused r text e sound (inr (inl is)) = inl (ap table_refusal is)
+given-table-refused r text table_fault.Memory sound (inr (inr is)) = inl refl
+given-table-refused r text e sound (inr (inr is)) = inr (rw is refl)
 
 -- a table of a source that did not fail is what the file says
 pub given-table-read : {X : Type 0} (r : Result X TableFault) (text : List ℕ) (table : Entries) → (IsErrOf r table_fault.Read → ⊥) → IsErrOf r table_fault.Read ⊎ (table_said text ≡ Ok table) → check_said text ≡ Ok (table_lines table)
+unfolding check_said
 given-table-read r text table sound (inl read) = absurd (sound read)
-given-table-read r text table sound (inr is) = check_said-read text table is
+given-table-read r text table sound (inr is) = rw is refl
 
 -- a fault of the table file tells of no failed put, and of a failed pull where it is Read
 pub table_refusal-put : (e : TableFault) → table_refusal e ≢ Write

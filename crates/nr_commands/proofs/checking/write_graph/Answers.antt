@@ -1,5 +1,4 @@
-use Rattle.std.proofs.Common.{◌≡◌, true, false, sym, arith}
-use Rattle.nr_shifttable.specs.Accepted.{has_graph}
+use Rattle.std.proofs.Common.{arith}
 use Rattle.nr_commands.proofs.CheckLemmas.{graph_lines-line, graph_lines-none, graph_line-some}
 use Rattle.nr_commands.proofs.WrittenLemmas.{with_text-nil}
 use Rattle.nr_commands.proofs.checking.write_graph.Goals as goal

@@ -1,9 +1,6 @@
 use Rattle.std.proofs.Common.{arith}
-use Rattle.std.proofs.Common.{inr, ◌∙◌, refl}
-use Rattle.std.proofs.lemmas.Option.{IfSome_then}
 use Rattle.std.proofs.lemmas.Result.{err_from_is_err_and}
-use Rattle.nr_commands.specs.CutText.{cut_said}
-use Rattle.nr_commands.specs.declared.fault.RunFault.TheVariants.{Blocks, Write}
+use Rattle.nr_commands.specs.declared.fault.RunFault.TheVariants.{Blocks}
 use Rattle.nr_files.specs.declared.blocks.BlocksFault.TheVariants.{Read}
 use Rattle.nr_commands.proofs.CommandLemmas.{delivers-refused, delivers-writes, of_block-other, said_refused, writes-told}
 use Rattle.nr_commands.proofs.CutLemmas.{blocks_refusal-put, cut_said-read, given-refused}

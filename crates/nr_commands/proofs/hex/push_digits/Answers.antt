@@ -1,5 +1,4 @@
-use Rattle.std.proofs.Common.{◌≡◌, ◌+◌, ◌*◌, ◌≤◌, ◌++◌, length, ap, ◌∙◌, arith}
-use Rattle.std.specs.Vec.{vec_len}
+use Rattle.std.proofs.Common.{arith}
 use Rattle.nr_commands.proofs.HexDigitFacts.{room_made, room_filled}
 use Rattle.nr_commands.proofs.hex.push_digits.Goals as goal
 

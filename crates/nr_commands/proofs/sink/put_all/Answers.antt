@@ -1,6 +1,4 @@
 use Rattle.std.proofs.Common.{arith}
-use Rattle.std.proofs.Common.{rules, ◌∙◌, ap, length, ◌-◌, take, drop}
-use Rattle.nr_commands.specs.Written.{with_text}
 use Rattle.nr_commands.proofs.WrittenLemmas.{with_text-rest}
 use Rattle.nr_commands.proofs.sink.put_all.Goals as goal
 

@@ -1,9 +1,8 @@
 use Rattle.std.proofs.Common.{arith}
-use Rattle.std.proofs.Common.{◌≡◌, ◌*◌, Ok, length, ap, ◌∙◌}
+use Rattle.std.proofs.Common.{◌≡◌, ◌*◌, length, ap, ◌∙◌}
 use Rattle.std.proofs.lemmas.Result.{err_from_is_err_and}
 use Rattle.nr_bitvec.specs.BitList.{bits_of}
 use Rattle.nr_crcattach.specs.Attachment.{attached}
-use Rattle.nr_segment.specs.CodeBlock.{numbers}
 use Rattle.nr_bitvec.proofs.OctetListFacts.{length-bits_of}
 use Rattle.nr_commands.proofs.BlockTextFacts.{block_lines-planned, block_lines-some, block_lines-unpicked, block_lines-unplanned, judged-not, judged_none}
 use Rattle.nr_commands.proofs.CommandLemmas.{writes_said}
