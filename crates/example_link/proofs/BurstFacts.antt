@@ -13,9 +13,7 @@ use Rattle.example_link.specs.declared.delivery.Attempt.{Attempt}
 
 -- a place for each bit
 long : (x : Attempt) (sent : List Bool) → length sent ≡ x.tx.g → length (zip (marks x) sent) ≡ length sent
-long x sent whole =
-    let marked = length-map-range_with_len (is_lost x) 0 x.tx.g in
-    omega (arith, length-zip (marks x) sent, marked, whole)
+long x sent whole = grind (arith, length-map-range_with_len, length-zip)
 
 -- a place more
 pub heard-more : (x : Attempt) (sent : List Bool) (m : ℕ) (old new : List Heard) (lost b : Bool) (value : Heard) → length sent ≡ x.tx.g → m < length sent
@@ -34,5 +32,4 @@ heard-more x sent m old new lost b value whole inside so_far pushed is at_mark a
 -- all of them
 pub heard-all : (x : Attempt) (sent : List Bool) (m : ℕ) (heard : List Heard) → length sent ≡ x.tx.g → length sent ≤ m
     → heard ≡ map arrived_at (take m (zip (marks x) sent)) → heard ≡ heard_in x sent
-heard-all x sent m heard whole done so_far =
-    so_far ∙ ap (map arrived_at) (take_all m (zip (marks x) sent) (omega (arith, long x sent whole)))
+heard-all x sent m heard whole done so_far = grind (arith, take_all, long)

@@ -47,9 +47,7 @@ given-err e result said is why = subst (λ r. Gives fault.Memory verdict r said)
 
 -- what a sender says of the link and of its block, and the fault of one that is refused
 made-of : (sender : SenderView) (block : List Bool) (r : Result Link DeskFault) → (r >>= λ link. Ok (record { link = link; block = block })) ≡ Ok sender → (r ≡ Ok sender.link) × (sender.block ≡ block)
-made-of sender block (Ok link) is =
-    let same : record { link = link; block = block } ≡ sender = cc in
-    (ap (λ (s : SenderView). Ok s.link) same, ap (λ (s : SenderView). s.block) (sym same))
+made-of sender block (Ok link) is = grind arith
 made-of sender block (Err e) is = absurd (cc)
 
 pub sender-made : (table : Entries) (settings : Settings) (block : List Bool) (sender : SenderView) → sending_said table settings block ≡ Ok sender → (link_said table settings (length block) ≡ Ok sender.link) × (sender.block ≡ block)
@@ -62,8 +60,7 @@ unmade-of block e (Err d) is = let same : d ≡ e = cc in ap Err same
 -- what a round says where its block is refused, where a reception is, and where none is
 pub said-unlinked : (table : Entries) (settings : Settings) (block : List Bool) (attempts : List Attempt) (e : DeskFault) → link_said table settings (length block) ≡ Err e → round_said table settings block attempts ≡ Err e
 unfolding round_said
-said-unlinked table settings block attempts e is =
-    ap (λ (r : Result Link DeskFault). r >>= λ link. (taken_said link (arrivals link block attempts) >>= λ all. Ok (outcome_of link (arrivals link block attempts)))) is
+said-unlinked table settings block attempts e is = grind arith
 
 pub said-unmade : (table : Entries) (settings : Settings) (block : List Bool) (attempts : List Attempt) (e : DeskFault) → (e ≡ fault.Memory) ⊎ (sending_said table settings block ≡ Err e) → (e ≡ fault.Memory) ⊎ (round_said table settings block attempts ≡ Err e)
 said-unmade table settings block attempts e (inl is) = inl is
@@ -72,9 +69,7 @@ said-unmade table settings block attempts e (inr is) = inr (said-unlinked table 
 said-linked : (table : Entries) (settings : Settings) (block : List Bool) (attempts : List Attempt) (link : Link) (taken : Result (Unit {0}) DeskFault) → link_said table settings (length block) ≡ Ok link → taken_said link (arrivals link block attempts) ≡ taken
     → round_said table settings block attempts ≡ (taken >>= λ all. Ok (outcome_of link (arrivals link block attempts)))
 unfolding round_said
-said-linked table settings block attempts link taken is all =
-    ap (λ (r : Result Link DeskFault). r >>= λ link. (taken_said link (arrivals link block attempts) >>= λ all. Ok (outcome_of link (arrivals link block attempts)))) is
-    ∙ ap (λ (r : Result (Unit {0}) DeskFault). r >>= λ all. Ok (outcome_of link (arrivals link block attempts))) all
+said-linked table settings block attempts link taken is all = grind arith
 
 -- a receiver takes all of an accepted list, and stops at the first reception that is refused
 taken-all : (link : Link) (xs : List Reception) → All (IsAccepted link) xs → taken_said link xs ≡ Ok tt
@@ -105,48 +100,22 @@ arrivals-more link block xs i d inside =
 arrivals-split : (link : Link) (block : List Bool) (xs : List Attempt) (i : ℕ) (d : Attempt) → i < length xs → (ys : List Reception) × (arrivals link block xs ≡ arrivals link block (take i xs) ++ arrival link block (get_or xs i d) ∷ ys)
 arrivals-split link block [] i d inside = absurd (omega (arith, inside))
 arrivals-split link block (x ∷ xs) zero d inside = (arrivals link block xs, refl)
-arrivals-split link block (x ∷ xs) (suc i) d inside =
-    let rest = arrivals-split link block xs i d (omega (arith, inside)) in
-    (rest.0, ap (λ ys. arrival link block x ∷ ys) rest.1)
+arrivals-split link block (x ∷ xs) (suc i) d inside = grind (arith, arrivals-split link block xs i d (omega (arith, inside)))
 
 -- a process that has just begun
 pub heard-none : (s t : ProcessesView) (p a : ℕ) (link : Link) (answer : Outcome) → p < 16 → length s.places ≡ 16 → BeginsAt s t p a → link_said s.table s.settings a ≡ Ok link → verdict answer ≡ outcome_of link [] → HasHeard link [] t p answer
-heard-none s t p a link answer low many begins said is =
-    let same : begins.receiver.link ≡ link = same-ok begins.receiver.link link (sym begins.said ∙ said) in
-    record {
-      receiver = begins.receiver;
-      has = ap (λ (v : ProcessesView). process v p) begins.has ∙ get_or-set_same s.places p (Some begins.receiver) None (omega (arith, low, many));
-      linked = same;
-      heard = subst (λ (l : Link). IsRecordOf l [] begins.receiver.heard) same begins.empty;
-      outcome = is;
-      many = ap (λ (v : ProcessesView). length v.places) begins.has ∙ length-set s.places p (Some begins.receiver) ∙ many;
-    }
+heard-none s t p a link answer low many begins said is = grind (arith, same-ok, get_or-set_same, length-set)
 
 same-some : {X : Type 0} (x y : X) → Some x ≡ Some y → x ≡ y
 same-some x y is = cc
 
 -- a process that has received one transmission more
 pub heard-more : (s t : ProcessesView) (p : ℕ) (link : Link) (list : List Reception) (x y : Reception) (before answer : Outcome) → p < 16 → x ≡ y → HasHeard link list s p before → TakesAt s t p x (Ok answer) → HasHeard link (list ++ y ∷ []) t p answer
-heard-more s t p link list x y before answer low is had takes =
-    let one : takes.before ≡ had.receiver = same-some takes.before had.receiver (sym takes.had ∙ had.has) in
-    let same : takes.before.link ≡ link = ap (λ (r : ReceiverView). r.link) one ∙ had.linked in
-    let record_before : IsRecordOf takes.before.link list takes.before.heard =
-    subst (λ (l : Link). IsRecordOf l list takes.before.heard) (sym same)
-    (subst (λ (r : ReceiverView). IsRecordOf link list r.heard) (sym one) had.heard) in
-    subst (λ v. HasHeard link (list ++ v ∷ []) t p answer) is
-    (record {
-      receiver = takes.after;
-      has = ap (λ (v : ProcessesView). process v p) takes.has ∙ get_or-set_same s.places p (Some takes.after) None (omega (arith, low, had.many));
-      linked = takes.takes.link ∙ same;
-      heard = subst (λ (l : Link). IsRecordOf l (list ++ x ∷ []) takes.after.heard) same (takes.takes.heard list record_before);
-      outcome = takes.takes.outcome list record_before ∙ ap (λ (l : Link). outcome_of l (list ++ x ∷ [])) same;
-      many = ap (λ (v : ProcessesView). length v.places) takes.has ∙ length-set s.places p (Some takes.after) ∙ had.many;
-    })
+heard-more s t p link list x y before answer low is had takes = grind (arith, same-some, get_or-set_same, length-set)
 
 -- a process that has received what arrived in all attempts
 pub heard-all : (link : Link) (block : List Bool) (attempts : List Attempt) (i : ℕ) (s : ProcessesView) (p : ℕ) (answer : Outcome) → length attempts ≤ i → HasHeard link (arrivals link block (take i attempts)) s p answer → HasHeard link (arrivals link block attempts) s p answer
-heard-all link block attempts i s p answer done had =
-    subst (λ xs. HasHeard link (arrivals link block xs) s p answer) (take_all i attempts done) had
+heard-all link block attempts i s p answer done had = grind (arith, take_all)
 
 -- it has begun
 pub heard-begun : (s : ProcessesView) (p : ℕ) (link : Link) (list : List Reception) (answer : Outcome) → HasHeard link list s p answer → IsTrue (is_some (process s p))
@@ -154,11 +123,7 @@ heard-begun s p link list answer had = subst (λ (o : Option ReceiverView). IsTr
 
 -- the fault of a reception that it refuses
 pub refused-take : (s t : ProcessesView) (p : ℕ) (link : Link) (list : List Reception) (x y : Reception) (before : Outcome) (e : DeskFault) → x ≡ y → HasHeard link list s p before → TakesAt s t p x (Err e) → (e ≡ fault.Memory) ⊎ (reception_said link y ≡ Err e)
-refused-take s t p link list x y before e is had takes =
-    let one : takes.before ≡ had.receiver = same-some takes.before had.receiver (sym takes.had ∙ had.has) in
-    let same : takes.before.link ≡ link = ap (λ (r : ReceiverView). r.link) one ∙ had.linked in
-    subst (λ v. (e ≡ fault.Memory) ⊎ (reception_said link v ≡ Err e)) is
-    (subst (λ (l : Link). (e ≡ fault.Memory) ⊎ (reception_said l x ≡ Err e)) same takes.takes.refused)
+refused-take s t p link list x y before e is had takes = grind (arith, same-some)
 
 -- the bits that a sender sends, and the fault of a transmission that it refuses
 sent-of : (r : Result (List ℕ) DeskFault) (bits sent : List Bool) → (r >>= λ lengths. Ok sent) ≡ Ok bits → IsOk r × (bits ≡ sent)
@@ -166,22 +131,18 @@ sent-of (Ok lengths) bits sent is = let same : sent ≡ bits = cc in (refl, sym 
 sent-of (Err e) bits sent is = absurd (cc)
 
 pub sent-bits : AcceptedSendAll → (link : Link) (tx : Tx) (own block bits : List Bool) → own ≡ block → sent_said link tx own ≡ Ok bits → (length bits ≡ tx.g) × (bits ≡ sent link tx block)
-sent-bits all link tx own block bits same said =
-    let both = sent-of (tx_said link tx) bits (sent link tx own) said in
-    (ap length both.1 ∙ all link tx own both.0, both.1 ∙ ap (sent link tx) same)
+sent-bits all link tx own block bits same said = grind (arith, sent-of)
 
 -- what a process takes up is what arrives
 pub taken-up : AcceptedSendAll → (link : Link) (x : Attempt) (own block bits : List Bool) (heard places : List Heard) → own ≡ block → sent_said link x.tx own ≡ Ok bits → heard ≡ heard_in x bits → places ≡ heard → reception x.tx places ≡ arrival link block x
-taken-up all link x own block bits heard places same said is read =
-    ap (reception x.tx) (read ∙ is ∙ ap (heard_in x) (sent-bits all link x.tx own block bits same said).1)
+taken-up all link x own block bits heard places same said is read = grind (arith, sent-bits)
 
 unsent-of : (r : Result (List ℕ) DeskFault) (bits : List Bool) (e : DeskFault) → ◌≡◌ {A = Result (List Bool) DeskFault} (r >>= λ lengths. Ok bits) (Err e) → r ≡ Err e
 unsent-of (Ok lengths) bits e is = absurd (cc)
 unsent-of (Err d) bits e is = let same : d ≡ e = cc in ap Err same
 
 unsent : (link : Link) (x : Reception) (own : List Bool) (e : DeskFault) → sent_said link x.tx own ≡ Err e → reception_said link x ≡ Err e
-unsent link x own e said =
-    ap (λ (r : Result (List ℕ) DeskFault). r >>= λ lengths. (demanded fault.Length (nat_eq (length x.heard) x.tx.g) >>= λ whole. Ok lengths)) (unsent-of (tx_said link x.tx) (sent link x.tx own) e said)
+unsent link x own e said = grind (arith, nat_eq, unsent-of)
 
 -- what a round says where a reception is refused
 module _ (table : Entries) (settings : Settings) (block : List Bool) (attempts : List Attempt) (i : ℕ) (d : Attempt) (link : Link) (s : ProcessesView) (p : ℕ) (answer : Outcome) where
@@ -201,9 +162,7 @@ module _ (table : Entries) (settings : Settings) (block : List Bool) (attempts :
 
 -- accepted attempts are marked transmissions that both ends accept
 marked-one : (link : Link) (x : Reception) → IsAccepted link x → IsOk (tx_said link x.tx)
-marked-one link x accepted =
-    let said = bind-ok (tx_said link x.tx) _ accepted.0 accepted.1 in
-    subst IsOk (sym said.1) refl
+marked-one link x accepted = grind (arith, bind-ok)
 
 marked-all : (link : Link) (block : List Bool) (xs : List Attempt) → All (IsAccepted link) (arrivals link block xs) → All (IsMarked link) (map with_marks xs)
 marked-all link block [] all = All-nil (IsMarked link)

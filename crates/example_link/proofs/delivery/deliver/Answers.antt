@@ -15,12 +15,7 @@ returns-in_err-sender-clause-said c =
     (said-unmade c.args.table.now c.args.settings c.args.block.now.items c.args.attempts.now c.in_err-sender.field-0.0 c.in_err-sender.ensures.said)
 
 pub loop-attempt-init : goal.loop-attempt-init
-loop-attempt-init c = λ link said.
-    let none = c.new-processes.ensures.none in
-    heard-none c.new-processes.result c.begin.new.self c.args.p c.len.result link outcome.Open c.requires.place
-    (ap (λ (s : ProcessesView). length s.places) none) c.in_ok-begin.ensures.begins
-    (ap (λ (s : ProcessesView). link_said s.table s.settings c.len.result) none ∙ ap (link_said c.args.table.now c.args.settings) c.len.ensures.value ∙ said)
-    (sym (c.nothing_is_open.ensures link (c.links_are_sound.ensures c.args.table.now c.args.settings (length c.args.block.now.items) link c.requires.accepted said)))
+loop-attempt-init c = grind (arith, heard-none)
 
 pub returns-in_err-sent-clause-said : goal.returns-in_err-sent-clause-said
 returns-in_err-sent-clause-said c =
