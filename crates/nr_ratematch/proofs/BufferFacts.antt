@@ -177,15 +177,7 @@ round-place b rv k ok version =
 -- a buffer of at least one and at most N bits
 circular-plan : (graph : Graph) (n : ℕ) (p : Numbers) (lbrm : Option ℕ) → IsSound graph n p → 0 < buffer_size p lbrm
     → buffer_size p lbrm ≤ p.n → IsCircular (circular_of graph p lbrm)
-circular-plan graph n p lbrm sound some within = record {
-  some = some;
-  within = subst (λ most. buffer_size p lbrm ≤ most) sound.coded within;
-  size_some = sound.size_some;
-  size_most = sound.size_most;
-  unpunctured = sound.unpunctured;
-  held = sound.held;
-  columns = sound.columns;
-}
+circular-plan graph n p lbrm sound some within = grind arith
 
 -- N is not zero
 coded-bits : (graph : Graph) (n : ℕ) (p : Numbers) → IsSound graph n p → 0 < p.n

@@ -22,10 +22,7 @@ halves keep a b n s skips inside =
 turned-is : (keep : ℕ → Bool) (a b n s : ℕ) → Skips keep a b n → s ≤ n
     → filter keep (map (λ j. (s + j) % n) (range_with_len 0 n))
     ≡ filter keep (range_with_len s (n - s)) ++ map (index_of a (b - a)) (range_with_len 0 (rank a b s))
-turned-is keep a b n s skips inside =
-    ap (filter keep) (range_turned s n inside)
-    ∙ filter-append keep (range_with_len s (n - s)) (range_with_len 0 s)
-    ∙ ap (λ xs. filter keep (range_with_len s (n - s)) ++ xs) (filter-range keep a b n s skips inside)
+turned-is keep a b n s skips inside = grind (arith, range_turned, filter-append, filter-range)
 
 -- how many kept numbers stand from s on
 length-rest : (keep : ℕ → Bool) (a b n s : ℕ) → Skips keep a b n → s ≤ n

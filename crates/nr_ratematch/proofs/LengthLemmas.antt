@@ -1,6 +1,6 @@
 -- The lengths of the code blocks: what the shares are together, and what the faults leave.
-use Rattle.std.proofs.Common.{◌≡◌, ℕ, suc, zero, ◌+◌, ◌-◌, ◌*◌, ◌/◌, ◌%◌, ◌<◌, ◌≤◌, ◌⊎◌, inl, inr, Bool, true, false, not, ◌&&◌, nat_le, nat_eq, cond, List, map, sum, refl, sym, ◌∙◌, ap, subst, arith}
-use Rattle.std.specs.Prelude.{Ok, Err, count_by}
+use Rattle.std.proofs.Common.{◌≡◌, ℕ, suc, zero, ◌+◌, ◌-◌, ◌*◌, ◌/◌, ◌%◌, ◌<◌, ◌≤◌, ◌⊎◌, inl, inr, Bool, true, false, nat_le, nat_eq, cond, List, map, sum, refl, sym, ◌∙◌, ap, subst, arith}
+use Rattle.std.specs.Prelude.{Ok, count_by}
 use Rattle.std.specs.Int.{div_ceil}
 use Rattle.std.specs.List.{range_with_len}
 use Rattle.std.proofs.Math.Nat.{div-add-mod, mul-mod_right}
@@ -10,7 +10,6 @@ use Rattle.std.proofs.lemmas.List.{map-id}
 use Rattle.std.proofs.lemmas.List.Elements.{All-from_get_or, All-map}
 use Rattle.std.proofs.lemmas.List.FromFn.{sum_by-map-range_with_len_more, length-map-range_with_len}
 use Rattle.nr_ratematch.specs.Lengths.{scheduled_count, is_order, share_of, length_of, lengths_of, lengths_said, IsShared}
-use Rattle.nr_ratematch.specs.declared.fault.RmFault.TheVariants.{Order, Layers, Total, Ragged, NoneScheduled}
 
 -- one code block more
 count_more : (is_on : ℕ → Bool) (r : ℕ) → scheduled_count is_on (r + 1) ≡ scheduled_count is_on r + cond (is_on r) 1 0
@@ -67,9 +66,7 @@ share_more all unit s j inside = go (cases_lt j (all - s % all))
 -- the first n lengths together
 shares-sum : (is_on : ℕ → Bool) (c unit s n : ℕ) → n ≤ c
     → sum (map (length_of is_on c unit s) (range_with_len 0 n)) ≡ unit * share_sum (scheduled_count is_on c) s (scheduled_count is_on n)
-shares-sum is_on c unit s zero inside =
-    let none : share_sum (scheduled_count is_on c) s 0 ≡ 0 = omega arith in
-    sym (ap (λ k. unit * k) none ∙ omega arith)
+shares-sum is_on c unit s zero inside = grind arith
 shares-sum is_on c unit s (suc n) inside =
     subst (λ k. sum (map (length_of is_on c unit s) (range_with_len 0 k)) ≡ unit * share_sum (scheduled_count is_on c) s (scheduled_count is_on k))
     next (sum_by-map-range_with_len_more (λ (x : ℕ). x) (length_of is_on c unit s) 0 n n (omega arith)
@@ -82,17 +79,12 @@ shares-sum is_on c unit s (suc n) inside =
     go : (b : Bool) → is_on n ≡ b
         → unit * share_sum (scheduled_count is_on c) s (scheduled_count is_on n) + length_of is_on c unit s n
         ≡ unit * share_sum (scheduled_count is_on c) s (scheduled_count is_on (n + 1))
-    go true on =
-        let below = count_below is_on n c (omega arith) on in
-        rw (on, count_yes is_on n on) (share_more (scheduled_count is_on c) unit s (scheduled_count is_on n) below)
+    go true on = grind (arith, count_below, count_yes, share_more)
     go false off = rw (off, count_no is_on n off) (omega arith)
 
 -- all of them together
 all-shares : (all unit s : ℕ) → 0 < all → unit * share_sum all s all ≡ unit * s
-all-shares all unit s some =
-    let split = div-add-mod s all in
-    let whole : share_sum all s all ≡ s = omega arith in
-    ap (λ k. unit * k) whole
+all-shares all unit s some = grind (arith, div-add-mod)
 
 -- the value of the code for a scheduled code block, and for another
 pub length_on : (is_on : ℕ → Bool) (c unit s r : ℕ) → is_on r ≡ true
@@ -137,32 +129,7 @@ record IsAnswered (is_on : ℕ → Bool) (c g qm nl : ℕ) (lengths : List ℕ) 
 
 answered : (is_on : ℕ → Bool) (c g qm nl : ℕ) (lengths : List ℕ) → lengths_said is_on c g qm nl ≡ Ok lengths → IsAnswered is_on c g qm nl lengths
 unfolding lengths_said
-answered is_on c g qm nl lengths said =
-    go (is_order qm) (nat_le 1 nl && nat_le nl 4) (nat_le 1 g && nat_le g 4194304) (nat_eq (g % (nl * qm)) 0) (nat_eq (scheduled_count is_on c) 0) refl refl refl refl refl said
-  where
-    go : (order layers total whole none : Bool) → is_order qm ≡ order → (nat_le 1 nl && nat_le nl 4) ≡ layers
-        → (nat_le 1 g && nat_le g 4194304) ≡ total → nat_eq (g % (nl * qm)) 0 ≡ whole
-        → nat_eq (scheduled_count is_on c) 0 ≡ none
-        → cond (not order) (Err Order) (cond (not layers) (Err Layers) (cond (not total) (Err Total) (cond (not whole) (Err Ragged) (cond none (Err NoneScheduled) (Ok (lengths_of is_on c g qm nl)))))) ≡ Ok lengths
-        → IsAnswered is_on c g qm nl lengths
-    go false layers total whole none is_o is_l is_t is_w is_n said = cc
-    go true false total whole none is_o is_l is_t is_w is_n said = cc
-    go true true false whole none is_o is_l is_t is_w is_n said = cc
-    go true true true false none is_o is_l is_t is_w is_n said = cc
-    go true true true true true is_o is_l is_t is_w is_n said = cc
-    go true true true true false is_o is_l is_t is_w is_n said =
-        let layered = and_parts (nat_le 1 nl) (nat_le nl 4) is_l in
-        let totalled = and_parts (nat_le 1 g) (nat_le g 4194304) is_t in
-        let low = layered.0 in
-        let high = totalled.1 in
-        record {
-          order = is_o;
-          layers = grind (arith, nat_tests);
-          few = grind (arith, nat_tests);
-          whole = grind (arith, nat_tests);
-          some = grind (arith, nat_tests);
-          are = cc;
-        }
+answered is_on c g qm nl lengths said = grind (arith, nat_tests, nat_eq, and_parts)
 
 order-some : (qm : ℕ) → is_order qm ≡ true → 0 < qm
 order-some zero order = cc

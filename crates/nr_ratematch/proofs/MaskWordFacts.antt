@@ -1,4 +1,6 @@
 -- The words of a mask: their bits are its marks.
+use Rattle.std.proofs.lemmas.Bool.Decides.{nat_tests}
+use Rattle.std.proofs.Common.{rules}
 use Rattle.std.proofs.Common.{◌≡◌, ℕ, zero, suc, ◌+◌, ◌-◌, ◌*◌, ◌/◌, ◌%◌, ◌^◌, ◌<◌, ◌≤◌, ◌==◌, Bool, true, false, List, [], ◌∷◌, length, take, drop, get_or, refl, ap, sym, ◌∙◌, arith}
 use Rattle.std.specs.Prelude.{slice_index}
 use Rattle.std.specs.Int.{bit_at, from_bool}
@@ -23,12 +25,7 @@ word_of-at bits at b h is = ap mask_word_of (drop_more bits at b h ∙ ap (λ x.
 
 -- the bit at a place that one less than `at` has
 pub word_of-next : (bits : List Bool) (at word low : ℕ) → 0 < at → at ≤ length bits → word ≡ mask_word_of (drop at bits) → low ≡ from_bool (get_or bits (at - 1) false) → 2 * word + low ≡ mask_word_of (drop (at - 1) bits)
-word_of-next bits at word low some inside so_far is =
-    let back : at - 1 + 1 ≡ at = omega arith in
-    let first : mask_word_of (drop (at - 1) bits) ≡ from_bool (get_or bits (at - 1) false) + 2 * mask_word_of (drop (at - 1 + 1) bits) =
-    word_of-at bits (at - 1) (get_or bits (at - 1) false) (omega arith) (get_or_default bits (at - 1) false (get_or bits (at - 1) false) (omega arith)) in
-    let rest : mask_word_of (drop (at - 1 + 1) bits) ≡ word = ap (λ n. mask_word_of (drop n bits)) back ∙ sym so_far in
-    omega (arith, first, rest, is)
+word_of-next bits at word low some inside so_far is = search (rules, word_of-at, get_or_default)
 
 -- the number has at most one bit more
 pub low_bit : (b : Bool) → from_bool b ≤ 1
@@ -42,9 +39,7 @@ word_of-end bits = sym (ap mask_word_of (drop_all (length bits) bits (omega arit
 
 -- while a bit of at most 64 is left, the number has room for it
 pub word_of-room : (bits : List Bool) (at word : ℕ) → 0 < at → at ≤ length bits → length bits ≤ 64 → word ≡ mask_word_of (drop at bits) → word < 2 ^ 63
-word_of-room bits at word some inside few is =
-    let short : length (drop at bits) ≤ 63 = omega (arith, length-drop at bits) in
-    omega (arith, word_of-small (drop at bits), pow_mono short)
+word_of-room bits at word some inside few is = grind (arith, length-drop, word_of-small, pow_mono)
 
 -- bit j of the number is bit j of those that it was made of
 first_bit : (b : Bool) (n : ℕ) → (bit_at (from_bool b + 2 * n) 0 == 1) ≡ b
@@ -59,9 +54,7 @@ pub word_of-bit : (bits : List Bool) (j : ℕ) → (bit_at (mask_word_of bits) j
 unfolding mask_word_of
 word_of-bit [] j = rw (bit_at-zero j) refl
 word_of-bit (b ∷ bits) zero = first_bit b (mask_word_of bits)
-word_of-bit (b ∷ bits) (suc j) =
-    ap (λ n. n == 1) (bit_at-suc (from_bool b + 2 * mask_word_of bits) j ∙ ap (λ n. bit_at n j) (halved b (mask_word_of bits)))
-    ∙ word_of-bit bits j
+word_of-bit (b ∷ bits) (suc j) = grind (arith, nat_tests, bit_at-suc, halved, word_of-bit bits j)
 
 -- six words, each by itself
 pub six-words : {a b c d e f s t u v w x : ℕ} → a ≡ s → b ≡ t → c ≡ u → d ≡ v → e ≡ w → f ≡ x → a ∷ b ∷ c ∷ d ∷ e ∷ f ∷ [] ≡ s ∷ t ∷ u ∷ v ∷ w ∷ x ∷ []

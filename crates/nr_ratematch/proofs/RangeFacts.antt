@@ -1,5 +1,5 @@
 -- Ranges of numbers: turned round, cut in two, and without those that a test drops between two others.
-use Rattle.std.proofs.Common.{◌≡◌, ℕ, zero, suc, ◌+◌, ◌-◌, ◌%◌, ◌<◌, ◌≤◌, min, Bool, true, false, cond, List, [], ◌∷◌, ◌++◌, length, map, filter, sym, ap, subst, ◌∙◌, inl, inr, arith}
+use Rattle.std.proofs.Common.{◌≡◌, ℕ, zero, suc, ◌+◌, ◌-◌, ◌%◌, ◌<◌, ◌≤◌, min, Bool, true, false, cond, List, [], ◌∷◌, ◌++◌, length, map, filter, sym, ap, subst, ◌∙◌, arith}
 use Rattle.std.specs.List.{range_with_len}
 use Rattle.std.proofs.Math.Nat.{add-mod_right, mod-eq_of_lt}
 use Rattle.std.proofs.lemmas.Bool.{cases_lt}
@@ -10,36 +10,15 @@ use Rattle.nr_ratematch.specs.Rounds.{index_of}
 
 -- the remainder where the quotient is one
 pub mod_once : (n m : ℕ) → m ≤ n → n < m + m → n % m ≡ n - m
-mod_once n m high low =
-    let whole : n ≡ (n - m) + m = omega arith in
-    ap (λ k. k % m) whole ∙ add-mod_right (n - m) m ∙ mod-eq_of_lt (omega arith)
+mod_once n m high low = grind (arith, nat_tests, add-mod_right, mod-eq_of_lt)
 
 -- one of two cases
 pub below_or_not : (i n : ℕ) {T : Type 0} → (i < n → T) → (n ≤ i → T) → T
-below_or_not i n below above =
-    elim (cases_lt i n) [
-      | inl less ↦ below less
-      | inr more ↦ above more
-    ]
+below_or_not i n below above = grind (arith, nat_tests, cases_lt)
 
 -- a range in two parts
 pub range_split : (s n : ℕ) → s ≤ n → range_with_len 0 n ≡ range_with_len 0 s ++ range_with_len s (n - s)
-range_split s n inside =
-    let front = range_with_len 0 s in
-    let rest = range_with_len s (n - s) in
-    let long : length (range_with_len 0 n) ≡ n = length-range_with_len 0 n in
-    let front_long : length (range_with_len 0 s) ≡ s = length-range_with_len 0 s in
-    let rest_long : length (range_with_len s (n - s)) ≡ n - s = length-range_with_len s (n - s) in
-    let both = length-append front rest in
-    same_lists (range_with_len 0 n) (front ++ rest) (omega arith) (λ k d below.
-    get_or-range_with_len 0 n k d (omega arith)
-    ∙ below_or_not k s
-    (λ low. sym (get_or_append_left front rest d k (omega arith) ∙ get_or-range_with_len 0 s k d low))
-    (λ high.
-    let here : s + (k - s) ≡ 0 + k = omega arith in
-    sym (get_or-append_right front rest s k d front_long high
-    ∙ get_or-range_with_len s (n - s) (k - s) d (omega arith)
-    ∙ here)))
+range_split s n inside = grind (arith, length-range_with_len, length-append, same_lists, get_or-range_with_len, below_or_not, get_or_append_left, get_or-append_right)
 
 -- a range turned round, from s on
 pub range_turned : (s n : ℕ) → s ≤ n
@@ -93,10 +72,7 @@ filter-kept keep a b m is_kept here more =
 -- one number more, which is dropped
 filter-dropped : (keep : ℕ → Bool) (a b m : ℕ) → keep m ≡ false → rank a b (m + 1) ≡ rank a b m
     → kept a b m ++ cond (keep m) (m ∷ []) [] ≡ kept a b (m + 1)
-filter-dropped keep a b m is_dropped same =
-    ap (λ c. kept a b m ++ cond c (m ∷ []) []) is_dropped
-    ∙ append-nil (kept a b m)
-    ∙ ap (λ r. map (index_of a (b - a)) (range_with_len 0 r)) (sym same)
+filter-dropped keep a b m is_dropped same = grind (arith, append-nil)
 
 pub index-low : (front skip i : ℕ) → i < front → index_of front skip i ≡ i
 index-low front skip i low = grind (arith, nat_tests)
@@ -107,26 +83,12 @@ index-high front skip i high = grind (arith, nat_tests)
 -- one number more
 filter-step : (keep : ℕ → Bool) (a b n m : ℕ) → Skips keep a b n → m < n
     → kept a b m ++ cond (keep m) (m ∷ []) [] ≡ kept a b (m + 1)
-filter-step keep a b n m skips inside =
-    let order = skips.order in
-    below_or_not m a
-    (λ low.
-    let here : rank a b m ≡ m = omega arith in
-    filter-kept keep a b m (skips.before m low)
-    (index-low a (b - a) (rank a b m) (omega arith) ∙ here) (omega arith))
-    (λ high. below_or_not m b
-    (λ low. filter-dropped keep a b m (skips.within m high low) (omega arith))
-    (λ past.
-    let here : rank a b m + (b - a) ≡ m = omega arith in
-    filter-kept keep a b m (skips.after m past inside)
-    (index-high a (b - a) (rank a b m) (omega arith) ∙ here) (omega arith)))
+filter-step keep a b n m skips inside = grind (arith, below_or_not, filter-kept, index-low, filter-dropped, index-high)
 
 -- the test keeps these
 pub filter-range : (keep : ℕ → Bool) (a b n m : ℕ) → Skips keep a b n → m ≤ n
     → filter keep (range_with_len 0 m) ≡ map (index_of a (b - a)) (range_with_len 0 (rank a b m))
-filter-range keep a b n zero skips inside =
-    let none : rank a b 0 ≡ 0 = omega arith in
-    sym (ap (λ r. map (index_of a (b - a)) (range_with_len 0 r)) none)
+filter-range keep a b n zero skips inside = grind arith
 filter-range keep a b n (suc m) skips inside =
     let next : m + 1 ≡ suc m = omega arith in
     let same : ℕ → ℕ = λ i. i in

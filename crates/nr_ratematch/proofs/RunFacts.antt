@@ -22,8 +22,7 @@ turned-more first k n count =
 
 -- the place after a run
 pub turned-next : (first k n count at next : ℕ) → at ≡ (first + k % count) % count → next ≡ (at + n) % count → next ≡ (first + (k + n) % count) % count
-turned-next first k n count at next here after =
-    after ∙ ap (λ m. (m + n) % count) here ∙ sym (turned-more first k n count)
+turned-next first k n count at next here after = grind (arith, turned-more)
 
 -- no bit is selected yet
 pub selected-none : (b : Circular) (word old : List Bool) (rv : ℕ) → old ≡ old ++ selected b word rv 0
@@ -46,10 +45,7 @@ run-places round b rv at k n position gives here inside places j below =
 -- they are positions of the codeword
 pub run-inside : (b : Circular) (rv k n position long : ℕ) → 0 < n → ((m : ℕ) → IsSent b (place_of b rv m)) → long ≡ cols_of b.graph * b.z
     → ((j : ℕ) → j < n → place_of b rv (k + j) ≡ position + j) → position + n ≤ long
-run-inside b rv k n position long some sent e places =
-    let coded : place_of b rv (k + (n - 1)) < cols_of b.graph * b.z = (sent (k + (n - 1))).coded in
-    let last : place_of b rv (k + (n - 1)) ≡ position + (n - 1) = places (n - 1) (omega (arith, some)) in
-    omega (arith, some, coded, last, e)
+run-inside b rv k n position long some sent e places = grind arith
 
 -- a round's run, or the first part of one
 pub run-is : (round : BufferCycle) (b : Circular) (word : List Bool) (rv at k most n position : ℕ) → 0 < n → n ≤ most → GivesPlaces round b rv → ((m : ℕ) → IsSent b (place_of b rv m))
@@ -85,5 +81,4 @@ selected-run b word rv k n position run =
 -- a run more
 pub run_more : (b : Circular) (word old items new : List Bool) (rv k n position : ℕ) → items ≡ old ++ selected b word rv k → new ≡ items ++ take n (drop position word)
     → IsRun b word rv k n position → new ≡ old ++ selected b word rv (k + n)
-run_more b word old items new rv k n position taken put run =
-    put ∙ ap (λ l. l ++ take n (drop position word)) taken ∙ append_assoc old (selected b word rv k) (take n (drop position word)) ∙ ap (λ l. old ++ l) (sym (selected-run b word rv k n position run))
+run_more b word old items new rv k n position taken put run = grind (arith, append_assoc, selected-run)

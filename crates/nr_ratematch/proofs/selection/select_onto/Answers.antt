@@ -1,20 +1,11 @@
-use Rattle.std.proofs.Common.{◌≡◌, ◌+◌, ◌-◌, ◌%◌, ◌<◌, ◌≤◌, length, ap, ◌∙◌, arith}
+use Rattle.std.proofs.Common.{rules}
+use Rattle.std.proofs.Common.{◌-◌, ◌≤◌, length, ap, ◌∙◌, arith}
 use Rattle.std.proofs.Math.Nat.{mod-eq_of_lt, mod-lt}
 use Rattle.nr_ratematch.proofs.RunFacts.{IsRun, run-is, run_more, selected-none, turned-next}
 use Rattle.nr_ratematch.proofs.selection.select_onto.Goals as goal
 
 pub loop-k-init : goal.loop-k-init
-loop-k-init c =
-    let some : 0 < c.round-round.result.count = c.round-round.result.some in
-    let none : 0 % c.round-round.result.count ≡ 0 = mod-eq_of_lt some in
-    let start : c.round-round.result.first ≡ c.round-round.result.first + 0 % c.round-round.result.count = omega (arith, none) in
-    record {
-      taken = selected-none c.args.buffer.now c.args.word.now c.args.bits.now.items c.args.rv;
-      room = omega arith;
-      here = ap (λ n. n % c.round-round.result.count) start;
-      inside = mod-lt c.round-round.result.first some;
-      below = omega arith;
-    }
+loop-k-init c = search (rules, mod-eq_of_lt, selected-none, mod-lt)
 
 pub extend_range-requires-clause-inside : goal.extend_range-requires-clause-inside
 extend_range-requires-clause-inside c =

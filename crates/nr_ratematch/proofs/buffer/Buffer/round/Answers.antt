@@ -1,3 +1,4 @@
+use Rattle.std.proofs.Common.{arith}
 use Rattle.nr_ratematch.proofs.BufferFacts.{round-place, place-sent}
 use Rattle.nr_ratematch.proofs.buffer.Buffer.round.Goals as goal
 
@@ -7,5 +8,4 @@ returns-clause-places c = λ k.
     (round-place _ c.args.rv k c.self.invariant c.requires)
 
 pub returns-clause-sent : goal.returns-clause-sent
-returns-clause-sent c = λ k.
-    rw (← c.self.view_is) (place-sent _ c.args.rv k c.self.invariant c.requires)
+returns-clause-sent c = grind (arith, place-sent)
