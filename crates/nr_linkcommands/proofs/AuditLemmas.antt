@@ -45,10 +45,10 @@ pub record IsPeelerOf (link : Link) (s : HeardBits) (p : Peeling) : Type 0 where
 
 -- what it gained are the steps, and what it does not know is not fixed
 pub gained-steps : (link : Link) (s : HeardBits) (p : Peeling) → IsPeelerOf link s p → gained_in p.known p.given ≡ steps_of link s
-gained-steps link s p of = grind (arith)
+gained-steps link s p of = grind arith
 
 pub unknown-unfixed : (link : Link) (s : HeardBits) (p : Peeling) → IsPeelerOf link s p → unknown_in p.known ≡ unfixed link s
-unknown-unfixed link s p of = grind (arith)
+unknown-unfixed link s p of = grind arith
 
 -- what is received of a process with one transmission more: its own, and that of another process
 pub received-next : (p : ℕ) (sender : SenderView) (xs : List Transmission) (i : ℕ) (x none : Transmission) → i < length xs → x ≡ get_or xs i none
