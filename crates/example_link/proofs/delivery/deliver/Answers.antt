@@ -1,9 +1,7 @@
-use Rattle.std.proofs.Common.{◌≡◌, ◌+◌, Err, List, length, take, ap, sym, subst, ◌∙◌, arith}
+use Rattle.std.proofs.Common.{◌≡◌, ◌+◌, Err, List, take, ap, sym, subst, ◌∙◌, arith}
 use Rattle.std.proofs.lemmas.Result.{err_from_is_err_and}
 use Rattle.nr_blockdesk.specs.Explains.{Reception}
-use Rattle.nr_blockdesk.specs.Link.{Link, link_said}
-use Rattle.nr_blockdesk.specs.Processing.{ProcessesView}
-use Rattle.nr_blockdesk.specs.declared.outcome.Outcome.TheVariants as outcome
+use Rattle.nr_blockdesk.specs.Link.{Link}
 use Rattle.example_link.specs.Delivery.{arrivals}
 use Rattle.example_link.proofs.RoundFacts.{HasHeard, arrivals-more, given-err, heard-all, heard-begun, heard-more, heard-none, no-contradiction, refused-take, said-all, said-unmade, said-unsent, said-untaken, same-ok, sender-made, sent-bits, sent-one, taken-up}
 use Rattle.example_link.proofs.delivery.deliver.Goals as goal
